@@ -1,0 +1,25 @@
+-- What the calls of `Cursor` and `Out` say.
+use Rattle.std.specs.Prelude.{◌≡◌, ℕ, List, ◌++◌, Result, Ok, Err}
+use Rattle.ff_xdr.specs.declared.error.XdrError.{XdrError}
+use Rattle.ff_xdr.specs.declared.error.NoMemory.{NoMemory}
+use Rattle.ff_xdr.specs.Reading.{Read}
+
+-- a slice, and the place from which on it is read
+pub record Place : Type 0 where
+  pub bytes : List ℕ
+  pub at : ℕ
+
+-- A call read what `read` says: at a value the cursor stands behind it, at a refusal where it stood.
+abbrev pub Gives : {X M : Type 0} → (X → M) → Place → Result X XdrError → Place → Read M → Type 0
+Gives view old (Ok x) new read = (read ≡ Ok (view x, new.at)) × (new.bytes ≡ old.bytes)
+Gives view old (Err e) new read = (read ≡ Err e) × (new ≡ old)
+
+-- A call appended this text; at an error all is as before.
+abbrev pub Puts : List ℕ → Result (Unit {0}) NoMemory → List ℕ → List ℕ → Type 0
+Puts old (Ok x) new text = new ≡ old ++ text
+Puts old (Err e) new text = new ≡ old
+
+-- A call appended this text; at an error it may have appended a part of it.
+abbrev pub Grows : List ℕ → Result (Unit {0}) NoMemory → List ℕ → List ℕ → Type 0
+Grows old (Ok x) new text = new ≡ old ++ text
+Grows old (Err e) new text = (part : List ℕ) × (new ≡ old ++ part)

@@ -1,0 +1,50 @@
+//! Why bytes are not in a form, and want of memory.
+
+use std::alloc::{AllocError, AllocFailed};
+
+/// Why bytes are refused (RFC 4506).
+#[derive(Clone, Copy, Debug, PartialEq, Eq)]
+pub enum XdrWhy {
+    /// The slice ends before the item does.
+    Short,
+    /// A padding byte is not zero (RFC 4506, section 3).
+    Pad,
+    /// A flag is neither 0 nor 1 (RFC 4506, section 4.4).
+    NotBool,
+    /// A number is none of the enum's or the union's (RFC 4506, sections 4.3 and 4.15).
+    NotEnum,
+    /// A length passes its maximum (RFC 4506, sections 4.10 and 4.13).
+    TooLong,
+    /// A text is not UTF-8.
+    NotUtf8,
+    /// Bytes are left behind the last item.
+    Rest,
+}
+
+/// A refusal: the first byte that no value of the form has there, counted from the slice's start,
+/// and the reason.
+///
+/// The place is the slice's end for `Short`, the bad byte for `Pad`, the first byte of the word for
+/// `NotBool`, `NotEnum` and `TooLong`, the first byte of the bad sequence for `NotUtf8`, and the
+/// first byte that is left for `Rest`.
+#[derive(Clone, Copy, Debug, PartialEq, Eq)]
+pub struct XdrError {
+    pub place: usize,
+    pub why: XdrWhy,
+}
+
+/// Memory was wanted and not there.
+#[derive(Clone, Copy, Debug, PartialEq, Eq)]
+pub struct NoMemory;
+
+impl From<AllocError> for NoMemory {
+    fn from(_e: AllocError) -> NoMemory {
+        NoMemory
+    }
+}
+
+impl<T: Drop> From<AllocFailed<T>> for NoMemory {
+    fn from(_e: AllocFailed<T>) -> NoMemory {
+        NoMemory
+    }
+}
