@@ -8,8 +8,8 @@ IsBytes bytes = (i : ℕ) → slice_index bytes i < 256
 
 -- the text stands in the bytes from one place to the other
 pub record Stands (bytes : List ℕ) (at : ℕ) (text : List ℕ) (to : ℕ) : Type 0 where
-  pub text : take (length text) (drop at bytes) ≡ text
-  pub to : to ≡ at + length text
+  pub stands : take (length text) (drop at bytes) ≡ text
+  pub ends : to ≡ at + length text
   pub within : to ≤ length bytes
 
 -- Whatever stands before a spelling and behind it, reading gives the value and takes exactly its bytes.
