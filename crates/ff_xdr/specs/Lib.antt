@@ -2,3 +2,4 @@ pub mod Form
 pub mod Reading
 pub mod Calls
 pub mod Laws
+pub mod Answers

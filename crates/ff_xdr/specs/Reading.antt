@@ -122,10 +122,15 @@ reading NoCase bytes at = do
   n ← number_at w32 bytes at
   refused at NotEnum
 
--- nothing but the value, up to the end of the bytes
+-- nothing is left behind the place
+abbrev pub rest_of : List ℕ → ℕ → Result (Unit {0}) XdrError
+rest_of bytes at = if nat_lt at (length bytes) then Err (record { place = at; why = Rest }) else Ok tt
+
+-- a value and nothing behind it, up to the end of the bytes
 abbrev pub whole : {M : Type 0} → List ℕ → Read M → Result M XdrError
-whole bytes (Ok v) = if v.1 == length bytes then Ok v.0 else Err (record { place = v.1; why = Rest })
-whole bytes (Err e) = Err e
+whole bytes read = do
+  v ← read
+  rest_of bytes v.1 >>= λ nothing. Ok v.0
 
 -- the body of the arm with a number that is known from outside
 abbrev pub reading_case : (form : Form) → ℕ → List ℕ → ℕ → Read (Value form)

@@ -1,8 +1,16 @@
 //! XDR (RFC 4506): reading accepts exactly what a value spells.
 #![tactic(auto)]
 
+mod cursor;
+mod data;
 mod error;
 mod laws;
+mod out;
+mod slices;
+mod text;
 
+pub use cursor::Cursor;
+pub use data::Data;
 pub use error::{NoMemory, XdrError, XdrWhy};
 pub use laws::{every_arm, every_form};
+pub use out::Out;
