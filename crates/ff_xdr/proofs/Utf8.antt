@@ -1,13 +1,13 @@
 -- Text that stands in part.
-use Rattle.std.proofs.Common.{◌≡◌, ℕ, ◌+◌, ◌<◌, ◌≤◌, Bool, true, false, cond, ltb, List, length, take, drop, get_or, Option, None, Some, Result, Ok, Err, refl, sym, ap, ◌∙◌, arith, min}
-use Rattle.std.specs.Prelude.{◌&&◌, ◌||◌, nat_lt, nat_le, is_none}
+use Rattle.std.proofs.Common.{◌≡◌, ℕ, ◌+◌, ◌<◌, Bool, true, false, cond, ltb, List, length, take, drop, get_or, Result, Ok, Err, refl, ap, arith}
+use Rattle.std.specs.Prelude.{◌&&◌, nat_lt, nat_le, is_none}
 use Rattle.std.specs.Str.{is_utf8, IsUtf8, continuation_len}
 use Rattle.std.specs.Str.Lossy.{utf8_valid_len, utf8_error_len}
 use Rattle.std.proofs.lemmas.Str.{is_utf8-from_IsUtf8, IsUtf8-from_is_utf8}
 use Rattle.std.proofs.lemmas.Bool.{lt-ltb, ltb-true, false≢true}
 use Rattle.std.proofs.lemmas.List.{length-take, length-drop}
 use Rattle.ff_xdr.specs.declared.error.XdrError.{XdrError}
-use Rattle.ff_xdr.specs.declared.error.XdrWhy.TheVariants.{Short, NotUtf8}
+use Rattle.ff_xdr.specs.declared.error.XdrWhy.TheVariants.{Short}
 use Rattle.ff_xdr.specs.Form.{pad_len}
 use Rattle.ff_xdr.specs.Reading.{◌>>=◌, padding_at, length_at, fixed_at, text_at, may_begin_text, refused}
 

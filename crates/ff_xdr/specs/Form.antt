@@ -1,6 +1,6 @@
 -- The grammar of XDR (RFC 4506): one type of forms, and for each form its values, their one spelling,
 -- and which of them have one.
-use Rattle.std.specs.Prelude.{◌≡◌, ℕ, ◌+◌, ◌-◌, ◌%◌, ◌^◌, ◌<◌, ◌≤◌, Bool, true, false, ◌&&◌, ◌||◌, not, List, [], ◌∷◌, ◌++◌, length, replicate, Option, Some, None, IsTrue, ◌⊎◌, nat_eq, nat_lt}
+use Rattle.std.specs.Prelude.{◌≡◌, ℕ, ◌-◌, ◌%◌, ◌^◌, ◌<◌, ◌≤◌, Bool, true, false, ◌&&◌, ◌||◌, not, List, [], ◌++◌, length, replicate, Option, Some, None, IsTrue, ◌⊎◌, nat_eq, nat_lt}
 use Rattle.std.proofs.Common.{inl, inr}
 use Rattle.std.specs.Int.{w32, w64, to_be_bytes}
 use Rattle.std.specs.List.{AllByRecursion, list_any, list_all, flat_map}

@@ -1,6 +1,6 @@
 -- The laws of every form: what was spelled is read again, and what is read is spelled so.
-use Rattle.std.specs.Prelude.{◌≡◌, ℕ, ◌+◌, ◌<◌, ◌≤◌, Bool, true, false, List, ◌++◌, length, take, drop, slice_index, Ok, IsTrue}
-use Rattle.ff_xdr.specs.Form.{Form, Case, NoCase, Value, Fits, spelling, is_sound, spelling_case, arm_of}
+use Rattle.std.specs.Prelude.{◌≡◌, ℕ, ◌+◌, ◌<◌, ◌≤◌, Bool, true, false, List, ◌++◌, length, take, drop, slice_index, Ok}
+use Rattle.ff_xdr.specs.Form.{Form, Case, NoCase, Value, Fits, spelling, spelling_case, arm_of}
 use Rattle.ff_xdr.specs.Reading.{reading, reading_case}
 
 abbrev pub IsBytes : List ℕ → Type 0

@@ -7,12 +7,10 @@ ghost use Rattle.ff_xdr.specs.Laws.{IsReadAgain, IsSpelledSo, IsArmReadAgain, Is
 pub fn every_form()
     ensures again { (form : Form) → IsTrue (is_sound form) → IsReadAgain form }
     ensures spelled { (form : Form) → IsTrue (is_sound form) → IsSpelledSo form }
-{
-}
+{}
 
 /// The same laws of a union whose number is known from outside, as the procedure of a call.
 pub fn every_arm()
     ensures again { (form : Form) → IsTrue (is_sound form) → IsTrue (is_union form) → IsArmReadAgain form }
     ensures spelled { (form : Form) → IsTrue (is_sound form) → IsTrue (is_union form) → IsArmSpelledSo form }
-{
-}
+{}

@@ -19,7 +19,10 @@ fn push_padded(out: &mut Vec<u8>, bytes: &[u8]) -> Result<(), AllocError>
 {
     let mark = out.len();
     out.extend_from_slice(bytes)?;
-    if out.extend_from_slice(&ZEROS[..pad_len(bytes.len())]).is_err() {
+    if out
+        .extend_from_slice(&ZEROS[..pad_len(bytes.len())])
+        .is_err()
+    {
         out.truncate(mark);
         return Err(AllocError);
     }
@@ -72,7 +75,11 @@ impl Out {
     pub fn flag(&mut self, b: bool) -> Result<(), NoMemory>
         ensures { Puts self.old result self.new (spelling Flag b) }
     {
-        if b { self.number32(1) } else { self.number32(0) }
+        if b {
+            self.number32(1)
+        } else {
+            self.number32(0)
+        }
     }
 
     /// Opaque data of a length that both sides know (RFC 4506, section 4.9): the bytes, and zeros up

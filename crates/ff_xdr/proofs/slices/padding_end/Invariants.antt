@@ -1,4 +1,4 @@
-use Rattle.std.proofs.Common.{◌≡◌, ◌+◌, ◌-◌, ◌≤◌, length}
+use Rattle.std.proofs.Common.{◌≡◌, ◌-◌, ◌≤◌, length}
 use Rattle.ff_xdr.specs.Reading.{padding_at}
 use Rattle.ff_xdr.proofs.slices.padding_end.Given as goal
 
