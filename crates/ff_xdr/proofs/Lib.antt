@@ -5,3 +5,4 @@ pub mod SpelledSo
 pub mod Arms
 pub mod Padding
 pub mod Utf8
+pub mod Lists

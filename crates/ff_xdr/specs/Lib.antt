@@ -3,3 +3,4 @@ pub mod Reading
 pub mod Calls
 pub mod Laws
 pub mod Answers
+pub mod Items

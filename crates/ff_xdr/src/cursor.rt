@@ -7,6 +7,7 @@ ghost use Rattle.ff_xdr.specs.Calls.{Place, Gives};
 
 use crate::error::{XdrError, XdrWhy};
 use crate::slices::{fixed_at, flag_at, length_at, number32_at, number64_at, opaque_at};
+use crate::text::text_at;
 use std::marker::Model;
 
 /// Reads a slice from a place on. After a refusal the cursor stands where it stood.
@@ -33,6 +34,14 @@ impl<'a> Cursor<'a> {
         ensures { result ≡ record { bytes = bytes.now; at = 0 } }
     {
         Cursor { bytes, at: 0 }
+    }
+
+    /// A cursor at a place.
+    pub fn at(bytes: &'a [u8], at: usize) -> Cursor<'a>
+        requires { at ≤ length bytes.now }
+        ensures { result ≡ record { bytes = bytes.now; at = at } }
+    {
+        Cursor { bytes, at }
     }
 
     /// How many bytes were taken.
@@ -104,6 +113,15 @@ impl<'a> Cursor<'a> {
         let (bytes, to) = opaque_at(self.bytes, self.at, max)?;
         self.at = to;
         Ok(bytes)
+    }
+
+    /// A text of at most `max` bytes (RFC 4506, section 4.11). Refused as `opaque`, and as `NotUtf8`.
+    pub fn text(&mut self, max: u32) -> Result<&'a str, XdrError>
+        ensures { Gives (λ s. s.now) self.old result self.new (text_at max self.old.bytes self.old.at) }
+    {
+        let (text, to) = text_at(self.bytes, self.at, max)?;
+        self.at = to;
+        Ok(text)
     }
 
     /// The length of a list or of opaque data, at most `max` (RFC 4506, sections 4.10 and 4.13).

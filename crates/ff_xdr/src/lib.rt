@@ -4,13 +4,18 @@
 mod cursor;
 mod data;
 mod error;
+mod items;
 mod laws;
 mod out;
+mod place;
 mod slices;
 mod text;
+mod wire;
 
 pub use cursor::Cursor;
 pub use data::Data;
+pub use items::Items;
 pub use error::{NoMemory, XdrError, XdrWhy};
 pub use laws::{every_arm, every_form};
 pub use out::Out;
+pub use wire::{Message, Wire};

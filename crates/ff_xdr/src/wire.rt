@@ -1,0 +1,116 @@
+//! What every message type has: a form, a meaning, and reading and writing by them.
+
+ghost use Rattle.std.specs.Prelude.{◌↔◌, IsTrue, ◌≡◌};
+ghost use Rattle.ff_xdr.specs.Form.{Form, Value, Fits, spelling, Number32, Number64, Flag};
+ghost use Rattle.ff_xdr.specs.Reading.{reading};
+ghost use Rattle.ff_xdr.specs.Calls.{Gives, Grows, Puts};
+
+use crate::cursor::Cursor;
+use crate::error::{NoMemory, XdrError};
+use crate::out::Out;
+
+/// A type whose values are messages, or parts of messages.
+pub trait Message {
+    /// The grammar of its messages.
+    ghost form: { Form };
+
+    /// The plain value of a message: numbers, flags, byte lists and lists of plain values.
+    ghost meaning: { Self → Value form };
+}
+
+/// A message that is read from a slice and written to an `Out`.
+pub trait Wire<'a>: Message + Sized {
+    /// Reads a message from the cursor's place on. What is read borrows from the cursor's slice.
+    /// A refusal names the first byte that no message has there, and leaves the cursor as it was.
+    fn read(cursor: &mut Cursor<'a>) -> Result<Self, XdrError>
+        ensures { Gives Self.meaning cursor.old result cursor.new (reading Self.form cursor.old.bytes cursor.old.at) };
+
+    /// Appends the message's spelling. At an error a part of it may stand in `out`.
+    fn put(&self, out: &mut Out) -> Result<(), NoMemory>
+        requires { Fits Self.form (Self.meaning self.now) }
+        ensures { Grows out.old result out.new (spelling Self.form (Self.meaning self.now)) };
+
+    /// The message has a spelling: every length is within its form's maximum.
+    fn fits(&self) -> bool
+        ensures { IsTrue result ↔ Fits Self.form (Self.meaning self.now) };
+
+    /// Appends the message's spelling, or nothing.
+    final fn write(&self, out: &mut Out) -> Result<(), NoMemory>
+        requires { Fits Self.form (Self.meaning self.now) }
+        ensures { Puts out.old result out.new (spelling Self.form (Self.meaning self.now)) }
+    {
+        let mark = out.len();
+        match self.put(out) {
+            Ok(()) => Ok(()),
+            Err(e) => {
+                out.truncate(mark);
+                Err(e)
+            }
+        }
+    }
+}
+
+impl Message for u32 {
+    ghost form = { Number32 };
+
+    ghost meaning = { λ n. n };
+}
+
+impl<'a> Wire<'a> for u32 {
+    fn read(cursor: &mut Cursor<'a>) -> Result<u32, XdrError> {
+        cursor.number32()
+    }
+
+    fn put(&self, out: &mut Out) -> Result<(), NoMemory> {
+        out.number32(*self)?;
+        Ok(())
+    }
+
+    fn fits(&self) -> bool {
+        let _n = *self;
+        true
+    }
+}
+
+impl Message for u64 {
+    ghost form = { Number64 };
+
+    ghost meaning = { λ n. n };
+}
+
+impl<'a> Wire<'a> for u64 {
+    fn read(cursor: &mut Cursor<'a>) -> Result<u64, XdrError> {
+        cursor.number64()
+    }
+
+    fn put(&self, out: &mut Out) -> Result<(), NoMemory> {
+        out.number64(*self)?;
+        Ok(())
+    }
+
+    fn fits(&self) -> bool {
+        let _n = *self;
+        true
+    }
+}
+
+impl Message for bool {
+    ghost form = { Flag };
+
+    ghost meaning = { λ b. b };
+}
+
+impl<'a> Wire<'a> for bool {
+    fn read(cursor: &mut Cursor<'a>) -> Result<bool, XdrError> {
+        cursor.flag()
+    }
+
+    fn put(&self, out: &mut Out) -> Result<(), NoMemory> {
+        out.flag(*self)?;
+        Ok(())
+    }
+
+    fn fits(&self) -> bool {
+        true
+    }
+}
