@@ -1,7 +1,8 @@
 //! What every message type has: a form, a meaning, and reading and writing by them.
 
-ghost use Rattle.std.specs.Prelude.{◌↔◌, IsTrue, ◌≡◌};
-ghost use Rattle.ff_xdr.specs.Form.{Form, Value, Fits, spelling, Number32, Number64, Flag};
+ghost use Rattle.std.specs.Prelude.{◌↔◌, IsTrue};
+ghost use Rattle.ff_xdr.specs.Form.{Form, Value, Fits, spelling, Number32, Number64, Flag, Optional};
+ghost use Rattle.std.specs.Option.{option_map};
 ghost use Rattle.ff_xdr.specs.Reading.{reading};
 ghost use Rattle.ff_xdr.specs.Calls.{Gives, Grows, Puts};
 
@@ -112,5 +113,46 @@ impl<'a> Wire<'a> for bool {
 
     fn fits(&self) -> bool {
         true
+    }
+}
+
+// Optional data (RFC 4506, section 4.19).
+impl<T: Message> Message for Option<T> {
+    ghost form = { Optional T.form };
+
+    ghost meaning = { λ o. option_map T.meaning o };
+}
+
+impl<'a, T: Wire<'a>> Wire<'a> for Option<T> {
+    fn read(cursor: &mut Cursor<'a>) -> Result<Option<T>, XdrError> {
+        let mut fork = cursor.fork();
+        if !fork.flag()? {
+            *cursor = fork;
+            return Ok(None);
+        }
+        let value = T::read(&mut fork)?;
+        *cursor = fork;
+        Ok(Some(value))
+    }
+
+    fn put(&self, out: &mut Out) -> Result<(), NoMemory> {
+        match self {
+            None => {
+                out.flag(false)?;
+                Ok(())
+            }
+            Some(value) => {
+                out.flag(true)?;
+                value.put(out)?;
+                Ok(())
+            }
+        }
+    }
+
+    fn fits(&self) -> bool {
+        match self {
+            None => true,
+            Some(value) => value.fits(),
+        }
     }
 }
