@@ -1,0 +1,144 @@
+//! The readers and writers of `std::io` as sources and sinks.
+ghost use Rattle.std.specs.Prelude.{◌≡◌, ◌↔◌, ℕ, ◌<◌, ◌≤◌, length, None, Err, IsOk, IfOk};
+ghost use Rattle.rpc_record.specs.Stream.{counted};
+
+use crate::{Failed, Sink, Source};
+use std::io::{ErrorKind, Read, Write};
+use std::marker::Model;
+
+/// A reader of `std::io` as a source. It doesn't tell what is left. Clauses see it as its count of
+/// faults.
+#[derive(Drop)]
+pub struct StdSource<R: Read + Drop> {
+    reader: R,
+    faults: u64,
+}
+
+impl<R: Read + Drop> Model for StdSource<R> {
+    ghost Value = { ℕ };
+
+    ghost view = { λ source. source.faults };
+}
+
+impl<R: Read + Drop> StdSource<R> {
+    /// A source that reads from `reader`.
+    pub fn new(reader: R) -> StdSource<R>
+        ensures { result ≡ 0 }
+    {
+        StdSource { reader, faults: 0 }
+    }
+}
+
+impl<R: Read + Drop> Source for StdSource<R> {
+    ghost faults = { λ source. source };
+
+    ghost left = { λ _. None };
+
+    /// Reads once, again where a signal interrupts it. An error of the reader's is a fault, but for
+    /// one of kind `OutOfMemory`, which is `Failed::NoMemory`.
+    fn read(&mut self, piece: &mut [u8]) -> Result<usize, Failed> {
+        let outcome = read_piece(&mut self.reader, piece);
+        count(outcome, &mut self.faults)
+    }
+}
+
+/// A writer of `std::io` as a sink. It doesn't tell what it holds. Clauses see it as its count of
+/// faults.
+#[derive(Drop)]
+pub struct StdSink<W: Write + Drop> {
+    writer: W,
+    faults: u64,
+}
+
+impl<W: Write + Drop> Model for StdSink<W> {
+    ghost Value = { ℕ };
+
+    ghost view = { λ sink. sink.faults };
+}
+
+impl<W: Write + Drop> StdSink<W> {
+    /// A sink that writes to `writer`.
+    pub fn new(writer: W) -> StdSink<W>
+        ensures { result ≡ 0 }
+    {
+        StdSink { writer, faults: 0 }
+    }
+}
+
+impl<W: Write + Drop> Sink for StdSink<W> {
+    ghost faults = { λ sink. sink };
+
+    ghost held = { λ _. None };
+
+    /// Writes once, again where a signal interrupts it, and flushes, so that no buffer keeps what was
+    /// taken. An error of the writer's is a fault, but for one of kind `OutOfMemory`, which is
+    /// `Failed::NoMemory`. So is a writer that takes nothing of a piece that isn't empty.
+    fn write(&mut self, piece: &[u8]) -> Result<usize, Failed> {
+        let outcome = write_piece(&mut self.writer, piece);
+        count(outcome, &mut self.faults)
+    }
+}
+
+/// The outcome, with a fault counted.
+fn count(outcome: Result<usize, Failed>, faults: &mut u64) -> Result<usize, Failed>
+    ensures same { result ≡ outcome }
+    ensures counted { faults.new ≡ counted result faults.old }
+{
+    if outcome == Err(Failed::Fault) {
+        *faults = faults.saturating_add(1);
+    }
+    outcome
+}
+
+fn read_piece<R: Read>(reader: &mut R, piece: &mut [u8]) -> Result<usize, Failed>
+    ensures { IfOk result (λ n. n ≤ length piece.new) }
+{
+    for _ in 0..u64::MAX {
+        match reader.read(piece) {
+            Ok(count) => return Ok(count),
+            Err(error) => retry(error.kind())?,
+        }
+    }
+    Err(Failed::Fault)
+}
+
+fn write_piece<W: Write>(writer: &mut W, piece: &[u8]) -> Result<usize, Failed>
+    ensures within { IfOk result (λ n. n ≤ length piece.now) }
+    ensures takes { IfOk result (λ n. 0 < length piece.now → 0 < n) }
+{
+    for _ in 0..u64::MAX {
+        match writer.write(piece) {
+            Ok(0) if !piece.is_empty() => return Err(Failed::Fault),
+            Ok(count) => {
+                flush(writer)?;
+                return Ok(count);
+            }
+            Err(error) => retry(error.kind())?,
+        }
+    }
+    Err(Failed::Fault)
+}
+
+fn flush<W: Write>(writer: &mut W) -> Result<(), Failed> {
+    for _ in 0..u64::MAX {
+        match writer.flush() {
+            Ok(()) => return Ok(()),
+            Err(error) => retry(error.kind())?,
+        }
+    }
+    Err(Failed::Fault)
+}
+
+/// `Ok` for an error after which the call is tried again, or why the call failed.
+fn retry(kind: ErrorKind) -> Result<(), Failed>
+    ensures again { IsOk result ↔ (kind ≡ ErrorKind.Interrupted) }
+    ensures memory { (result ≡ Err Failed.NoMemory) ↔ (kind ≡ ErrorKind.OutOfMemory) }
+{
+    if kind == ErrorKind::Interrupted {
+        Ok(())
+    } else if kind == ErrorKind::OutOfMemory {
+        Err(Failed::NoMemory)
+    } else {
+        Err(Failed::Fault)
+    }
+}
