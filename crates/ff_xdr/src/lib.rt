@@ -14,8 +14,8 @@ mod wire;
 
 pub use cursor::Cursor;
 pub use data::Data;
-pub use items::Items;
 pub use error::{NoMemory, XdrError, XdrWhy};
+pub use items::Items;
 pub use laws::{every_arm, every_form};
 pub use out::Out;
 pub use wire::{Message, Wire};

@@ -44,9 +44,12 @@ fattr3 = Then fattr3_owner (Then fattr3_size fattr3_times)
 
 abbrev pub fattr3_value : Fattr3 → Value fattr3
 fattr3_value a = (
-    (file_type_number a.kind, (a.mode, (a.nlink, (a.uid, a.gid)))),
-    ((a.size, (a.used, (specdata3_value a.rdev, (a.fsid, a.fileid)))),
-    (time3_value a.atime, (time3_value a.mtime, time3_value a.ctime))))
+  (file_type_number a.kind, (a.mode, (a.nlink, (a.uid, a.gid)))),
+  (
+    (a.size, (a.used, (specdata3_value a.rdev, (a.fsid, a.fileid)))),
+    (time3_value a.atime, (time3_value a.mtime, time3_value a.ctime)),
+  ),
+)
 
 -- wcc_attr: size, mtime, ctime
 abbrev pub wcc_attr : Form

@@ -1,5 +1,6 @@
 -- The numbers of NFSv3's enums (RFC 1813).
-use Rattle.std.specs.Prelude.{ℕ, List, [], ◌∷◌, ◌==◌, if◌then◌else◌}
+use Rattle.std.specs.Prelude.{◌≡◌, ℕ, Bool, true, false, List, [], ◌∷◌, Option, Some, None, nat_eq, ◌==◌, if◌then◌else◌}
+use Rattle.std.specs.List.{list_any}
 use Rattle.ff_xdr.specs.Form.{Form, Enum}
 use Rattle.nfs3_wire.specs.declared.enums.FileType.{FileType}
 use Rattle.nfs3_wire.specs.declared.enums.FileType.TheVariants.{Regular, Directory}
@@ -49,5 +50,13 @@ stat_number stat.ServerFault = 10006
 stat_number stat.Jukebox = 10008
 
 -- the statuses of a refused call, all but OK
+abbrev pub refusals : List ℕ
+refusals = 2 ∷ 5 ∷ 13 ∷ 17 ∷ 20 ∷ 21 ∷ 22 ∷ 27 ∷ 28 ∷ 63 ∷ 70 ∷ 10001 ∷ 10002 ∷ 10004 ∷ 10006 ∷ 10008 ∷ []
+
 abbrev pub refusal : Form
-refusal = Enum (2 ∷ 5 ∷ 13 ∷ 17 ∷ 20 ∷ 21 ∷ 22 ∷ 27 ∷ 28 ∷ 63 ∷ 70 ∷ 10001 ∷ 10002 ∷ 10004 ∷ 10006 ∷ 10008 ∷ [])
+refusal = Enum refusals
+
+-- the refusal with this number, where there is one
+abbrev pub IsRefusal : ℕ → Option Stat3 → Type 0
+IsRefusal number (Some status) = (stat_number status ≡ number) × (list_any (nat_eq number) refusals ≡ true)
+IsRefusal number None = list_any (nat_eq number) refusals ≡ false

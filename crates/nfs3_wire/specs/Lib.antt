@@ -1,2 +1,5 @@
 pub mod Enums
 pub mod Attributes
+pub mod Calls
+pub mod Replies
+pub mod Found

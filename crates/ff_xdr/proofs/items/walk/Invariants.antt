@@ -7,5 +7,5 @@ use Rattle.ff_xdr.proofs.items.walk.Given as goal
 abbrev pub invariant-loop : goal.invariant-loop
 invariant-loop g l =
     (l.cursor.bytes ≡ l.initial.cursor.bytes) × ((front : List (Value g.T.Message.form))
-      × (with_front front (many_at (λ place. reading g.T.Message.form l.initial.cursor.bytes place) (l.count - l.counter) l.cursor.at)
-        ≡ many_at (λ place. reading g.T.Message.form l.initial.cursor.bytes place) l.count l.initial.cursor.at))
+    × (with_front front (many_at (λ place. reading g.T.Message.form l.initial.cursor.bytes place) (l.count - l.counter) l.cursor.at)
+    ≡ many_at (λ place. reading g.T.Message.form l.initial.cursor.bytes place) l.count l.initial.cursor.at))
