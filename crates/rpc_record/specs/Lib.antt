@@ -1,1 +1,5 @@
 pub mod Stream
+pub mod Rpc
+pub mod Calls
+pub mod Replies
+pub mod Status

@@ -1,14 +1,23 @@
-//! Sources and sinks of bytes, whose contracts say what a call did and count the faults of the
-//! other side.
+//! Streams of bytes, and RPC calls and replies (RFC 5531).
 #![tactic(auto)]
 
+mod auth;
+mod auth_wire;
+mod call;
+mod call_wire;
 mod memory;
+mod reply;
+mod reply_wire;
+mod status;
 mod standard;
 mod stream;
 mod sure;
 #[cfg(test)]
 mod tests;
 
+pub use auth::{AUTH_NONE, AUTH_SYS, Auth, AuthSys, MAX_BODY};
+pub use call::{Call, CallFault};
+pub use reply::{Reply, ReplyBody};
 pub use memory::{MemorySink, MemorySource};
 pub use standard::{StdSink, StdSource};
 pub use stream::{Failed, Sink, Source};

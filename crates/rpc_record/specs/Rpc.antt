@@ -1,0 +1,49 @@
+-- RPC messages (RFC 5531, sections 8 and 9).
+use Rattle.std.specs.Prelude.{◌≡◌, ℕ, ◌<◌, ◌≤◌, List, [], ◌∷◌, ◌++◌, length, drop, Option, Some, None, Result, Ok, Err, nat_lt, ◌==◌, if◌then◌else◌, ◌⊎◌, map}
+use Rattle.std.proofs.Common.{inl, inr}
+use Rattle.std.specs.Int.{w32}
+use Rattle.ff_xdr.specs.declared.error.XdrError.{XdrError}
+use Rattle.ff_xdr.specs.Form.{Form, Nothing, Number32, Enum, Opaque, Items, Then, Case, NoCase, Value, Fits, spelling}
+use Rattle.ff_xdr.specs.Reading.{◌>>=◌, number_at, reading, rest_of}
+use Rattle.ff_xdr.specs.Items.{contents}
+use Rattle.rpc_record.specs.declared.auth.Auth.{Auth}
+use Rattle.rpc_record.specs.declared.auth.AuthSys.{AuthSys}
+
+-- opaque_auth: a flavor and a body of at most 400 bytes (section 8.2)
+abbrev pub opaque_auth : Form
+opaque_auth = Then Number32 (Opaque 400)
+
+-- an opaque_auth, without where its bytes lie
+pub record Proof : Type 0 where
+  pub flavor : ℕ
+  pub body : List ℕ
+
+abbrev pub plain_auth : Auth → Proof
+plain_auth a = record { flavor = a.flavor; body = a.body.now }
+
+abbrev pub proof_value : Proof → Value opaque_auth
+proof_value p = (p.flavor, p.body)
+
+abbrev pub proof_of : Value opaque_auth → Proof
+proof_of (flavor, body) = record { flavor = flavor; body = body }
+
+-- authsys_parms: stamp, machine name, uid, gid, gids (appendix A)
+abbrev pub authsys_parms : Form
+authsys_parms = Then Number32 (Then (Opaque 255) (Then Number32 (Then Number32 (Items 16 Number32))))
+
+-- who calls
+pub record Credential : Type 0 where
+  pub stamp : ℕ
+  pub machine : List ℕ
+  pub uid : ℕ
+  pub gid : ℕ
+  pub gids : List ℕ
+
+abbrev pub plain_credential : AuthSys → Credential
+plain_credential a = record { stamp = a.stamp; machine = a.machine.now; uid = a.uid; gid = a.gid; gids = contents Number32 (λ n. n) a.gids.place }
+
+abbrev pub credential_value : Credential → Value authsys_parms
+credential_value c = (c.stamp, (c.machine, (c.uid, (c.gid, c.gids))))
+
+abbrev pub credential_of : Value authsys_parms → Credential
+credential_of (stamp, (machine, (uid, (gid, gids)))) = record { stamp = stamp; machine = machine; uid = uid; gid = gid; gids = gids }
