@@ -1,5 +1,5 @@
 -- The status of a reply in its parts.
-use Rattle.std.specs.Prelude.{◌⊎◌}
+use Rattle.std.specs.Prelude.{ℕ, Bool, true, false, List, ◌⊎◌}
 use Rattle.std.proofs.Common.{inl, inr}
 use Rattle.ff_xdr.specs.Form.{Form, Case, NoCase, Value}
 use Rattle.rpc_record.specs.declared.status.AcceptStat.{AcceptStat}
@@ -9,7 +9,7 @@ use Rattle.rpc_record.specs.declared.status.RejectStat.TheVariants as reject
 use Rattle.rpc_record.specs.declared.status.Status.{Status}
 use Rattle.rpc_record.specs.declared.status.Status.TheVariants as status
 use Rattle.rpc_record.specs.Rpc.{proof_value, plain_auth}
-use Rattle.rpc_record.specs.Replies.{accept_stat, accepted_reply, rejected_reply}
+use Rattle.rpc_record.specs.Replies.{accept_stat, accepted_reply, rejected_reply, no_proof, Reply, Success, ProgUnavail, ProgMismatch, ProcUnavail, GarbageArgs, SystemErr, RpcMismatch, AuthError}
 
 abbrev pub accept_value : AcceptStat → Value accept_stat
 accept_value accept.Success = inl tt
@@ -30,3 +30,24 @@ reply_stat = Case 0 accepted_reply (Case 1 rejected_reply NoCase)
 abbrev pub stat_value : Status → Value reply_stat
 stat_value (status.Accepted verf stat) = inl (proof_value (plain_auth verf), accept_value stat)
 stat_value (status.Denied stat) = inr (inl (reject_value stat))
+
+-- the status is a success, behind which results stand
+abbrev pub is_success : Status → Bool
+is_success (status.Accepted verf accept.Success) = true
+is_success (status.Accepted verf accept.ProgUnavail) = false
+is_success (status.Accepted verf (accept.ProgMismatch low high)) = false
+is_success (status.Accepted verf accept.ProcUnavail) = false
+is_success (status.Accepted verf accept.GarbageArgs) = false
+is_success (status.Accepted verf accept.SystemErr) = false
+is_success (status.Denied stat) = false
+
+-- the reply of a status and the results behind it
+abbrev pub reply_of : ℕ → Status → List ℕ → Reply
+reply_of xid (status.Accepted verf accept.Success) results = record { xid = xid; verf = plain_auth verf; body = Success results }
+reply_of xid (status.Accepted verf accept.ProgUnavail) results = record { xid = xid; verf = plain_auth verf; body = ProgUnavail }
+reply_of xid (status.Accepted verf (accept.ProgMismatch low high)) results = record { xid = xid; verf = plain_auth verf; body = ProgMismatch low high }
+reply_of xid (status.Accepted verf accept.ProcUnavail) results = record { xid = xid; verf = plain_auth verf; body = ProcUnavail }
+reply_of xid (status.Accepted verf accept.GarbageArgs) results = record { xid = xid; verf = plain_auth verf; body = GarbageArgs }
+reply_of xid (status.Accepted verf accept.SystemErr) results = record { xid = xid; verf = plain_auth verf; body = SystemErr }
+reply_of xid (status.Denied (reject.RpcMismatch low high)) results = record { xid = xid; verf = no_proof; body = RpcMismatch low high }
+reply_of xid (status.Denied (reject.AuthError stat)) results = record { xid = xid; verf = no_proof; body = AuthError stat }

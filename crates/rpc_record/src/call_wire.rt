@@ -21,7 +21,7 @@ fn word_of(bytes: &[u8], at: usize) -> u32
 }
 
 /// The bytes from a place on.
-fn rest(bytes: &[u8], at: usize) -> &[u8]
+pub fn rest(bytes: &[u8], at: usize) -> &[u8]
     requires { at ≤ length bytes.now }
     ensures { result.now ≡ drop at bytes.now }
 {

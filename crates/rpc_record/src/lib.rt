@@ -8,8 +8,8 @@ mod call_wire;
 mod memory;
 mod reply;
 mod reply_wire;
-mod status;
 mod standard;
+mod status;
 mod stream;
 mod sure;
 #[cfg(test)]
@@ -17,8 +17,8 @@ mod tests;
 
 pub use auth::{AUTH_NONE, AUTH_SYS, Auth, AuthSys, MAX_BODY};
 pub use call::{Call, CallFault};
-pub use reply::{Reply, ReplyBody};
 pub use memory::{MemorySink, MemorySource};
+pub use reply::{Reply, ReplyBody};
 pub use standard::{StdSink, StdSource};
 pub use stream::{Failed, Sink, Source};
 pub use sure::{SureSink, SureSource};

@@ -1,13 +1,15 @@
 //! Reading and writing of replies.
 
 ghost use Rattle.std.specs.Prelude.{◌≡◌, ◌↔◌, [], IsTrue};
-
-
-
-ghost use Rattle.rpc_record.specs.Replies.{accept_stat, rejected_reply};
-ghost use Rattle.rpc_record.specs.Status.{accept_value, reject_value, reply_stat, stat_value};
+ghost use Rattle.ff_xdr.specs.Form.{spelling, Fits};
+ghost use Rattle.ff_xdr.specs.Reading.{reading};
+ghost use Rattle.ff_xdr.specs.Calls.{Gives, Grows, Puts};
+ghost use Rattle.rpc_record.specs.Replies.{accept_stat, rejected_reply, reply_header, header_value, plain_reply, plain_body, reply_bytes, ReplyFits, reply_at, results_of, status_value, Finds};
+ghost use Rattle.rpc_record.specs.Rpc.{plain_auth};
+ghost use Rattle.rpc_record.specs.Status.{accept_value, reject_value, reply_stat, stat_value, reply_of, is_success};
 
 use crate::auth::{AUTH_NONE, Auth};
+use crate::call_wire::rest;
 use crate::reply::{Reply, ReplyBody};
 use crate::status::{AcceptStat, RejectStat, Status};
 use ff_xdr::{Cursor, Message, NoMemory, Out, Wire, XdrError, XdrWhy};
@@ -208,5 +210,137 @@ fn no_verifier() -> Auth<'static>
     Auth {
         flavor: AUTH_NONE,
         body: &[],
+    }
+}
+
+/// The reply of a status and the results behind it.
+fn reply_of<'a>(xid: u32, status: Status<'a>, results: &'a [u8]) -> Reply<'a>
+    ensures { plain_reply result ≡ reply_of xid status.entry results.entry.now }
+{
+    let (verf, body) = match status {
+        Status::Accepted(verf, AcceptStat::Success) => (verf, ReplyBody::Success(results)),
+        Status::Accepted(verf, AcceptStat::ProgUnavail) => (verf, ReplyBody::ProgUnavail),
+        Status::Accepted(verf, AcceptStat::ProgMismatch { low, high }) => {
+            (verf, ReplyBody::ProgMismatch { low, high })
+        }
+        Status::Accepted(verf, AcceptStat::ProcUnavail) => (verf, ReplyBody::ProcUnavail),
+        Status::Accepted(verf, AcceptStat::GarbageArgs) => (verf, ReplyBody::GarbageArgs),
+        Status::Accepted(verf, AcceptStat::SystemErr) => (verf, ReplyBody::SystemErr),
+        Status::Denied(RejectStat::RpcMismatch { low, high }) => {
+            (no_verifier(), ReplyBody::RpcMismatch { low, high })
+        }
+        Status::Denied(RejectStat::AuthError(stat)) => (no_verifier(), ReplyBody::AuthError(stat)),
+    };
+    Reply { xid, verf, body }
+}
+
+/// The header of a reply: the transaction's number and the status.
+fn read_header<'a>(cursor: &mut Cursor<'a>) -> Result<(u32, Status<'a>), XdrError>
+    ensures { Gives (λ h. (h.0, (1, stat_value h.1))) cursor.old result cursor.new (reading reply_header cursor.old.bytes cursor.old.at) }
+{
+    let mut fork = cursor.fork();
+    let xid = fork.number32()?;
+    let place = fork.place();
+    if fork.number32()? != 1 {
+        return Err(not_enum(place));
+    }
+    let status = Status::read(&mut fork)?;
+    *cursor = fork;
+    Ok((xid, status))
+}
+
+/// The status is a success.
+fn is_success(status: &Status<'_>) -> bool
+    ensures { result ≡ is_success status.now }
+{
+    matches!(status, Status::Accepted(_, AcceptStat::Success))
+}
+
+/// The status of a reply's body.
+fn status_of<'a>(verf: Auth<'a>, body: ReplyBody<'a>) -> Status<'a>
+    ensures { stat_value result ≡ status_value (plain_auth verf.entry) (plain_body body.entry) }
+{
+    match body {
+        ReplyBody::Success(_) => Status::Accepted(verf, AcceptStat::Success),
+        ReplyBody::ProgUnavail => Status::Accepted(verf, AcceptStat::ProgUnavail),
+        ReplyBody::ProgMismatch { low, high } => {
+            Status::Accepted(verf, AcceptStat::ProgMismatch { low, high })
+        }
+        ReplyBody::ProcUnavail => Status::Accepted(verf, AcceptStat::ProcUnavail),
+        ReplyBody::GarbageArgs => Status::Accepted(verf, AcceptStat::GarbageArgs),
+        ReplyBody::SystemErr => Status::Accepted(verf, AcceptStat::SystemErr),
+        ReplyBody::RpcMismatch { low, high } => {
+            Status::Denied(RejectStat::RpcMismatch { low, high })
+        }
+        ReplyBody::AuthError(stat) => Status::Denied(RejectStat::AuthError(stat)),
+    }
+}
+
+/// The results of a success; of another body none.
+fn results_of<'a>(body: &ReplyBody<'a>) -> &'a [u8]
+    ensures { result.now ≡ results_of (plain_body body.now) }
+{
+    match body {
+        ReplyBody::Success(results) => results,
+        _ => &[],
+    }
+}
+
+impl<'a> Reply<'a> {
+    fn put(&self, out: &mut Out) -> Result<(), NoMemory>
+        requires { ReplyFits (plain_reply self.now) }
+        ensures { Grows out.old result out.new (reply_bytes (plain_reply self.now)) }
+    {
+        out.number32(self.xid)?;
+        out.number32(1)?;
+        status_of(self.verf, self.body).put(out)?;
+        out.raw(results_of(&self.body))?;
+        Ok(())
+    }
+
+    /// The reply has a spelling that says all of it: the verifier's body has at most 400 bytes, and
+    /// where the bytes have no place for a verifier it is of flavor 0 and without bytes.
+    pub fn fits(&self) -> bool
+        ensures { IsTrue result ↔ ReplyFits (plain_reply self.now) }
+    {
+        let _xid = self.xid;
+        if !status_of(self.verf, self.body).fits() {
+            return false;
+        }
+        match self.body {
+            ReplyBody::RpcMismatch { .. } => self.verf.flavor == 0 && self.verf.body.is_empty(),
+            ReplyBody::AuthError(_) => self.verf.flavor == 0 && self.verf.body.is_empty(),
+            _ => true,
+        }
+    }
+
+    /// Reads a record as a reply, all the bytes. Results of a success stay in them. A refusal names
+    /// the first byte that no reply has there.
+    #[tactic(auto, unfolding(crate::specs::Replies::reply_at), using(crate::proofs::Replies::with_status_is))]
+    pub fn read(message: &'a [u8]) -> Result<Reply<'a>, XdrError>
+        ensures { Finds result (reply_at message.now) }
+    {
+        let mut cursor = Cursor::new(message);
+        let (xid, status) = read_header(&mut cursor)?;
+        let reply = reply_of(xid, status, rest(message, cursor.place()));
+        if !is_success(&status) {
+            cursor.finish()?;
+        }
+        Ok(reply)
+    }
+
+    /// Appends the reply's record, or nothing.
+    pub fn write(&self, out: &mut Out) -> Result<(), NoMemory>
+        requires { ReplyFits (plain_reply self.now) }
+        ensures { Puts out.old result out.new (reply_bytes (plain_reply self.now)) }
+    {
+        let mark = out.len();
+        match self.put(out) {
+            Ok(()) => Ok(()),
+            Err(e) => {
+                out.truncate(mark);
+                Err(e)
+            }
+        }
     }
 }
