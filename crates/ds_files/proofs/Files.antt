@@ -43,3 +43,12 @@ times-written f tick at false [] = refl
 times-written f tick at false (b ∷ bs) = refl
 times-written f tick at true [] = refl
 times-written f tick at true (b ∷ bs) = refl
+
+-- a write of no bytes is the same at every place
+pub written_none : (f : FileState) (tick : Tick) (at to : ℕ) (synced : Bool) (bs : List ℕ) → length bs ≡ 0 → written f tick at synced bs ≡ written f tick to synced bs
+written_none f tick at to synced [] e = none_by_case synced
+  where
+    none_by_case : (synced : Bool) → written f tick at synced [] ≡ written f tick to synced []
+    none_by_case true = refl
+    none_by_case false = refl
+written_none f tick at to synced (b ∷ bs) e = absurd (omega arith)

@@ -1,2 +1,9 @@
 pub mod File
 pub mod Kept
+pub mod Server
+pub mod Answer
+pub mod Heads
+pub mod Effects
+pub mod Receive
+pub mod Records
+pub mod Posts

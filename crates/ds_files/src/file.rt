@@ -125,7 +125,7 @@ impl Model for DataFile {
 impl DataFile {
     /// An empty file. No memory is taken.
     ///
-    /// The mode is the permission bits (RFC 1813, section 2.6). The tick is every time of the file.
+    /// The mode is the permission bits (RFC 1813, section 2.5). The tick is every time of the file.
     pub fn new(alloc: Global, owner: u32, group: u32, mode: u32, tick: Tick) -> DataFile
         ensures { result ≡ new_file owner group mode tick }
     {

@@ -9,7 +9,7 @@ pub struct Tick {
     pub count: u32,
 }
 
-/// The times of a file (RFC 1813, section 2.6): of the last access, of the last change of the bytes,
+/// The times of a file (RFC 1813, section 2.5): of the last access, of the last change of the bytes,
 /// and of the last change of the bytes or the attributes.
 #[derive(Clone, Copy, Debug, PartialEq, Eq)]
 pub struct Times {

@@ -1,0 +1,59 @@
+-- A data server by its numbers and its files.
+use Rattle.std.specs.Prelude.{◌≡◌, ℕ, ◌+◌, ◌-◌, ◌≤◌, List, length, Option, Some, None, max, not, nat_lt, ◌==◌, if◌then◌else◌, slice_get}
+use Rattle.rpc_record.specs.Rpc.{Credential}
+use Rattle.nfs3_wire.specs.declared.enums.Stat3.{Stat3}
+use Rattle.nfs3_wire.specs.declared.enums.Stat3.TheVariants as stat
+use Rattle.std.specs.Option.{option_map}
+use Rattle.ff_xdr.specs.Form.{Fits, Optional}
+use Rattle.nfs3_wire.specs.Enums.{refusal, stat_number}
+use Rattle.nfs3_wire.specs.declared.attributes.Fattr3.{Fattr3}
+use Rattle.nfs3_wire.specs.Attributes.{fattr3, fattr3_value}
+use Rattle.ds_files.specs.declared.head.Head.{Head}
+use Rattle.ds_files.specs.declared.object.Place.{Place}
+use Rattle.ds_files.specs.declared.object.Place.TheVariants as place
+use Rattle.ds_files.specs.File.{FileState, shown}
+use Rattle.ds_files.specs.Server.{ServerState, total_size, max_total, max_file, max_ticks, may_write, Object, Missing, Root, File}
+
+abbrev pub state_of : Head → List FileState → ServerState
+state_of h files = record { number = h.number; boot = h.boot; count = h.count; root = h.root; files = files }
+
+-- what holds of every data server
+pub record IsServer (h : Head) (files : List FileState) : Type 0 where
+  pub total : h.total ≡ total_size files
+  pub bounded : h.total ≤ max_total
+  pub ticks : h.count ≤ max_ticks
+
+-- the object is at this place
+abbrev pub IsAt : List FileState → Place → Object → Type 0
+IsAt files (place.Missing status) object = object ≡ Missing status
+IsAt files place.Root object = object ≡ Root
+IsAt files (place.File index) object = (f : FileState) × (slice_get files index ≡ Some f) × (object ≡ File index f)
+
+-- the refusal of a write for want of room or of ticks, by the sizes alone
+abbrev pub size_refusal : ℕ → ℕ → ℕ → ℕ → ℕ → Option Stat3
+size_refusal total count size offset len =
+    if len == 0 then None
+    else (if nat_lt max_file (offset + len) then Some stat.Fbig
+    else (if nat_lt max_total (total - size + max size (offset + len)) then Some stat.NoSpc
+    else (if count == max_ticks then Some stat.Jukebox else None)))
+
+-- the refusals of a WRITE on a file in their order, by the sizes alone
+abbrev pub sized_refusal : ℕ → ℕ → FileState → ℕ → ℕ → List ℕ → Credential → Option Stat3
+sized_refusal total ticks f offset count bytes cred =
+    if not (may_write f cred) then Some stat.Acces
+    else (if not (count == length bytes) then Some stat.Inval
+    else size_refusal total ticks (length (shown f)) offset (length bytes))
+
+-- the status is one of a refusal
+abbrev pub Refuses : Stat3 → Type 0
+Refuses status = Fits refusal (stat_number status)
+
+-- what a place that names nothing is answered is a refusal
+abbrev pub MissingRefuses : Place → Type 0
+MissingRefuses (place.Missing status) = Refuses status
+MissingRefuses place.Root = Unit {0}
+MissingRefuses (place.File index) = Unit {0}
+
+-- the attributes have a spelling
+abbrev pub AttributesFit : Option Fattr3 → Type 0
+AttributesFit attributes = Fits (Optional fattr3) (option_map fattr3_value attributes)

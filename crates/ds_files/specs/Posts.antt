@@ -1,0 +1,18 @@
+-- What a step of a data server does to what is put out.
+use Rattle.std.specs.Prelude.{◌≡◌, ◌++◌}
+use Rattle.ds_files.specs.declared.entry.NodeId.{NodeId}
+use Rattle.ds_files.specs.declared.outbox.Outbox.{Outbox}
+use Rattle.ds_files.specs.Server.{ServerState}
+use Rattle.ds_files.specs.Receive.{Outcome}
+use Rattle.ds_files.specs.Records.{sent_to}
+
+-- the server and what was put out are as the outcome says: its entries, and its reply to the node
+pub record Acts (outcome : Outcome) (node : NodeId) (server : ServerState) (old new : Outbox) : Type 0 where
+  pub state : server ≡ outcome.server
+  pub entries : new.entries.items ≡ old.entries.items ++ outcome.entries
+  pub sends : new.sends.items ≡ old.sends.items ++ sent_to node outcome.reply
+
+-- nothing was put out
+pub record IsAsBefore (old new : Outbox) : Type 0 where
+  pub entries : new.entries.items ≡ old.entries.items
+  pub sends : new.sends.items ≡ old.sends.items

@@ -1,0 +1,90 @@
+-- What a data server makes of a record (RFC 5531, section 9, and RFC 1813): the order of its refusals.
+use Rattle.std.specs.Prelude.{ℕ, List, [], Option, Some, None, Result, Ok, Err, not, ◌==◌, if◌then◌else◌}
+use Rattle.ff_xdr.specs.declared.error.XdrError.{XdrError}
+use Rattle.ff_xdr.specs.Form.{Value, has_arm, spelling_case}
+use Rattle.ff_xdr.specs.Reading.{reading, reading_case, whole}
+use Rattle.rpc_record.specs.declared.call.CallFault.{CallFault}
+use Rattle.rpc_record.specs.declared.call.CallFault.TheVariants.{NotACall, RpcVersion, Bad}
+use Rattle.rpc_record.specs.Rpc.{Credential, credential_of, authsys_parms}
+use Rattle.rpc_record.specs.Calls as rpc
+use Rattle.rpc_record.specs.Replies as rpc_reply
+use Rattle.nfs3_wire.specs.Calls.{Call, calls, call_of}
+use Rattle.nfs3_wire.specs.Replies.{replies, reply_value}
+use Rattle.ds_files.specs.declared.entry.Entry.{Entry}
+use Rattle.ds_files.specs.Server.{ServerState, Step, step_of}
+
+-- nothing, a refusal, or a call with its credential
+pub data Received : Type 0 where
+  Silent : Received
+  Refused : (reply : rpc_reply.Reply) → Received
+  Asked : (xid : ℕ) (call : Call) (cred : Credential) → Received
+
+-- a reply with no verifier, which is how a data server replies
+abbrev pub replies_with : ℕ → rpc_reply.Body → rpc_reply.Reply
+replies_with xid body = record { xid = xid; verf = rpc_reply.no_proof; body = body }
+
+abbrev pub refuses : ℕ → rpc_reply.Body → Received
+refuses xid body = Refused (replies_with xid body)
+
+-- the credential of a call that names no caller
+abbrev pub nobody : Credential
+nobody = record { stamp = 0; machine = []; uid = 65534; gid = 65534; gids = [] }
+
+-- the arguments in their form, with no bytes behind them; else GARBAGE_ARGS
+abbrev pub with_args : ℕ → Credential → Result (Value calls) XdrError → Received
+with_args xid cred (Ok v) = Asked xid (call_of v) cred
+with_args xid cred (Err e) = refuses xid rpc_reply.GarbageArgs
+
+abbrev pub asked : rpc.Call → Credential → Received
+asked c cred = with_args c.xid cred (whole c.args (reading_case calls c.procedure c.args 0))
+
+-- the AUTH_SYS body in its form, with no bytes behind it; else AUTH_ERROR AUTH_BADCRED 1
+abbrev pub with_cred : rpc.Call → Result (Value authsys_parms) XdrError → Received
+with_cred c (Ok v) = asked c (credential_of v)
+with_cred c (Err e) = refuses c.xid (rpc_reply.AuthError 1)
+
+-- NULL asks for no credential; any other procedure for AUTH_SYS 1, else AUTH_ERROR AUTH_TOOWEAK 5
+abbrev pub authenticated : rpc.Call → Received
+authenticated c =
+    if c.procedure == 0 then asked c nobody
+    else (if not (c.cred.flavor == 1) then refuses c.xid (rpc_reply.AuthError 5)
+    else with_cred c (whole c.cred.body (reading authsys_parms c.cred.body 0)))
+
+-- program 100003, version 3, a procedure that is built, and then the credential
+abbrev pub dispatched : rpc.Call → Received
+dispatched c =
+    if not (c.program == 100003) then refuses c.xid rpc_reply.ProgUnavail
+    else (if not (c.version == 3) then refuses c.xid (rpc_reply.ProgMismatch 3 3)
+    else (if not (has_arm c.procedure calls) then refuses c.xid rpc_reply.ProcUnavail
+    else authenticated c))
+
+-- no call: nothing; another RPC version than 2: RPC_MISMATCH; a header out of its form: GARBAGE_ARGS
+abbrev pub with_call : Result rpc.Call CallFault → Received
+with_call (Ok c) = dispatched c
+with_call (Err NotACall) = Silent
+with_call (Err (RpcVersion xid)) = refuses xid (rpc_reply.RpcMismatch 2 2)
+with_call (Err (Bad xid e)) = refuses xid rpc_reply.GarbageArgs
+
+abbrev pub received : List ℕ → Received
+received bytes = with_call (rpc.call_at bytes)
+
+-- what a record does: the server after it, the entries, and the bytes of the reply where there is one
+pub record Outcome : Type 0 where
+  pub server : ServerState
+  pub entries : List Entry
+  pub reply : Option (List ℕ)
+
+abbrev pub success_bytes : ℕ → Step → List ℕ
+success_bytes xid t = rpc_reply.reply_bytes (replies_with xid (rpc_reply.Success (spelling_case replies (reply_value t.reply))))
+
+abbrev pub outcome_of_step : ℕ → Step → Outcome
+outcome_of_step xid t = record { server = t.server; entries = t.entries; reply = Some (success_bytes xid t) }
+
+abbrev pub outcome_by : ServerState → Received → Outcome
+outcome_by s Silent = record { server = s; entries = []; reply = None }
+outcome_by s (Refused r) = record { server = s; entries = []; reply = Some (rpc_reply.reply_bytes r) }
+outcome_by s (Asked xid call cred) = outcome_of_step xid (step_of s call cred)
+
+-- the rule of a data server on records
+abbrev pub outcome_of : ServerState → List ℕ → Outcome
+outcome_of s bytes = outcome_by s (received bytes)

@@ -1,0 +1,69 @@
+//! Handles, and the refusals of a call.
+
+ghost use Rattle.std.specs.Prelude.{◌≡◌, ◌≤◌, IfSome};
+ghost use Rattle.ds_files.specs.Server.{named, object_of, max_total};
+ghost use Rattle.ds_files.specs.Heads.{IsAt, size_refusal, Refuses, MissingRefuses};
+
+use crate::file::{DataFile, MAX_FILE};
+use crate::object::Place;
+use nfs3_wire::Stat3;
+
+/// The most bytes that the files of a data server show together.
+pub const MAX_TOTAL: u64 = 268_435_456;
+
+/// The most ticks that are given in one boot.
+pub const MAX_TICKS: u32 = 999_999_999;
+
+/// The root's fileid; the files have the numbers behind it.
+const ROOT: u64 = 1;
+
+/// Where the object with this fileid is.
+fn named(files: &[DataFile], fileid: u64) -> Place
+    ensures at { IsAt files.now result (named files.now fileid) }
+    ensures status { MissingRefuses result }
+{
+    if fileid == ROOT {
+        return Place::Root;
+    }
+    if fileid < ROOT || fileid - 2 >= files.len() as u64 {
+        return Place::Missing(Stat3::Stale);
+    }
+    Place::File((fileid - 2) as usize)
+}
+
+/// Where the object that a handle names is.
+pub fn place_of(files: &[DataFile], handle: &[u8]) -> Place
+    ensures at { IsAt files.now result (object_of files.now handle.now) }
+    ensures status { MissingRefuses result }
+{
+    match handle {
+        [a, b, c, d, e, f, g, h] => named(
+            files,
+            u64::from_be_bytes([*a, *b, *c, *d, *e, *f, *g, *h]),
+        ),
+        _ => Place::Missing(Stat3::BadHandle),
+    }
+}
+
+/// Why a write of so many bytes at a place is refused for want of room or of ticks: the file would
+/// be too long, the files together would, or no tick is left.
+pub fn size_refusal(total: u64, count: u32, size: u64, offset: u64, length: u64) -> Option<Stat3>
+    requires part { size ≤ total }
+    requires bounded { total ≤ max_total }
+    ensures exact { result ≡ size_refusal total count size offset length }
+    ensures status { IfSome result Refuses }
+{
+    if length == 0 {
+        return None;
+    }
+    if length > MAX_FILE || offset > MAX_FILE - length {
+        return Some(Stat3::Fbig);
+    }
+    if total - size + size.max(offset + length) > MAX_TOTAL {
+        return Some(Stat3::NoSpc);
+    }
+    if count == MAX_TICKS {
+        return Some(Stat3::Jukebox);
+    }
+    None
+}

@@ -1,0 +1,153 @@
+//! A data server.
+
+ghost use Rattle.std.specs.Prelude.{◌≡◌, IfOk, OnOk, OnErr};
+ghost use Rattle.rpc_record.specs.Rpc.{plain_credential};
+ghost use Rattle.nfs3_wire.specs.Calls.{plain_call};
+ghost use Rattle.ds_files.specs.Server.{preset_server, step_of};
+ghost use Rattle.ds_files.specs.Effects.{answer_of};
+ghost use Rattle.ds_files.specs.Receive.{outcome_of, outcome_of_step};
+ghost use Rattle.ds_files.specs.Posts.{Acts, IsAsBefore};
+
+use crate::answer::Answer3;
+use crate::entry::NodeId;
+use crate::file::DataFile;
+use crate::head::Head;
+use crate::outbox::Outbox;
+use crate::post::{encode, post, success, take_back};
+use crate::reading::read_answer;
+use crate::receive::receive;
+use crate::received::Received;
+use crate::stored::StoredReply;
+use crate::tick::{Tick, Times};
+use crate::writing::{write_answer, write_change};
+use ff_xdr::NoMemory;
+use nfs3_wire::Call3;
+use rpc_record::AuthSys;
+use std::alloc::Global;
+use std::marker::Model;
+
+/// A data server of NFSv3: a root and its files.
+#[derive(Drop)]
+pub struct DataServer {
+    alloc: Global,
+    head: Head,
+    files: Vec<DataFile>,
+}
+
+impl Model for DataServer {
+    ghost use Rattle.ds_files.specs.Server.{ServerState};
+    ghost use Rattle.ds_files.specs.Heads.{state_of, IsServer};
+
+    ghost Value = { ServerState };
+
+    ghost view = { λ d. state_of d.head d.files.items };
+
+    ghost invariant = { λ d. IsServer d.head d.files.items };
+}
+
+impl DataServer {
+    /// Number 1 in its first boot, with one empty file: fileid 2, owner and group 65,536, mode 0640,
+    /// made at the first tick.
+    pub fn preset(alloc: Global) -> Result<DataServer, NoMemory>
+        ensures { IfOk result (λ server. server ≡ preset_server) }
+    {
+        let start = Tick { boot: 1, count: 0 };
+        let first = Tick { boot: 1, count: 1 };
+        let file = DataFile::new(alloc, 65_536, 65_536, 0o640, first);
+        let mut files = Vec::new(alloc);
+        files.push(file)?;
+        let root = Times {
+            atime: start,
+            mtime: first,
+            ctime: first,
+        };
+        let head = Head {
+            number: 1,
+            boot: 1,
+            count: 1,
+            root,
+            total: 0,
+        };
+        Ok(DataServer { alloc, head, files })
+    }
+
+    /// What a call is answered; the server stays.
+    fn answer(&self, call: &Call3<'_>, cred: &AuthSys<'_>) -> Result<Answer3, NoMemory>
+        ensures { IfOk result (λ answer. answer ≡ answer_of (step_of self.now (plain_call call.now) (plain_credential cred.now))) }
+    {
+        match call {
+            Call3::Null => Ok(Answer3::new(StoredReply::Null, Vec::new(self.alloc))),
+            Call3::Read(args) => read_answer(self.alloc, &self.head, &self.files, args, cred),
+            Call3::Write(args) => write_answer(self.alloc, &self.head, &self.files, args, cred),
+        }
+    }
+
+    /// What a call changes. At an error nothing has changed.
+    fn change(&mut self, call: &Call3<'_>, cred: &AuthSys<'_>) -> Result<(), NoMemory>
+        ensures ok { OnOk result (self.new ≡ (step_of self.old (plain_call call.now) (plain_credential cred.now)).server) }
+        ensures err { OnErr result (self.new ≡ self.old) }
+    {
+        match call {
+            Call3::Null => Ok(()),
+            Call3::Read(_) => Ok(()),
+            Call3::Write(args) => write_change(&mut self.head, &mut self.files, args, cred),
+        }
+    }
+
+    /// Does a call by a credential, by the rule of a data server. Refusals are answers, and change
+    /// nothing. At an error nothing has changed.
+    pub fn apply(&mut self, call: &Call3<'_>, cred: &AuthSys<'_>) -> Result<Answer3, NoMemory>
+        ensures answer { IfOk result (λ answer. answer ≡ answer_of (step_of self.old (plain_call call.now) (plain_credential cred.now))) }
+        ensures ok { OnOk result (self.new ≡ (step_of self.old (plain_call call.now) (plain_credential cred.now)).server) }
+        ensures err { OnErr result (self.new ≡ self.old) }
+    {
+        let answer = self.answer(call, cred)?;
+        self.change(call, cred)?;
+        Ok(answer)
+    }
+
+    /// Answers a call by a credential with the number `xid` to a node. At an error nothing has changed.
+    fn serve(
+        &mut self,
+        node: NodeId,
+        xid: u32,
+        call: &Call3<'_>,
+        cred: &AuthSys<'_>,
+        out: &mut Outbox,
+    ) -> Result<(), NoMemory>
+        ensures ok { OnOk result (Acts (outcome_of_step xid (step_of self.old (plain_call call.now) (plain_credential cred.now))) node self.new out.old out.new) }
+        ensures err { OnErr result ((self.new ≡ self.old) × IsAsBefore out.old out.new) }
+    {
+        let (sends, entries) = (out.sends.len(), out.entries.len());
+        let answer = self.answer(call, cred)?;
+        let bytes = success(self.alloc, xid, &answer)?;
+        post(out, node, bytes, answer.into_entries())?;
+        if let Err(error) = self.change(call, cred) {
+            take_back(out, sends, entries);
+            return Err(error);
+        }
+        Ok(())
+    }
+
+    /// Takes a record from a node, and puts out the reply to it and the entries of the step. Nothing
+    /// is put out for a record that is no call. At an error all is as before.
+    pub fn on_record(
+        &mut self,
+        from: NodeId,
+        message: &[u8],
+        out: &mut Outbox,
+    ) -> Result<(), NoMemory>
+        ensures ok { OnOk result (Acts (outcome_of self.old message.now) from self.new out.old out.new) }
+        ensures err { OnErr result ((self.new ≡ self.old) × IsAsBefore out.old out.new) }
+    {
+        match receive(message) {
+            Received::Silent => Ok(()),
+            Received::Refused(reply) => {
+                let bytes = encode(self.alloc, &reply)?;
+                post(out, from, bytes, Vec::new(self.alloc))?;
+                Ok(())
+            }
+            Received::Asked { xid, call, cred } => self.serve(from, xid, &call, &cred, out),
+        }
+    }
+}
