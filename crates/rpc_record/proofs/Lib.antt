@@ -1,1 +1,4 @@
 pub mod Replies
+pub mod Records
+pub mod CallLaws
+pub mod ReplyLaws

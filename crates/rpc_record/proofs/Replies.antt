@@ -1,11 +1,10 @@
 -- A reply by its status.
-use Rattle.std.proofs.Common.{◌≡◌, ℕ, Bool, true, false, cond, List, drop, Result, Ok, Err, refl}
-use Rattle.ff_xdr.specs.declared.error.XdrError.{XdrError}
+use Rattle.std.proofs.Common.{◌≡◌, ℕ, cond, List, drop, Ok, refl}
 use Rattle.rpc_record.specs.declared.status.AcceptStat.TheVariants as accept
 use Rattle.rpc_record.specs.declared.status.RejectStat.TheVariants as reject
 use Rattle.rpc_record.specs.declared.status.Status.{Status}
 use Rattle.rpc_record.specs.declared.status.Status.TheVariants as status
-use Rattle.rpc_record.specs.Replies.{Reply, with_status, ended}
+use Rattle.rpc_record.specs.Replies.{with_status, ended}
 use Rattle.rpc_record.specs.Status.{stat_value, is_success, reply_of}
 
 pub with_status_is : (xid : ℕ) (bytes : List ℕ) (at : ℕ) (s : Status)

@@ -2,7 +2,7 @@
 use Rattle.std.specs.Prelude.{◌≡◌, ℕ, List, ◌++◌, length, take, drop, Result, Ok, Err, nat_lt, ◌==◌, if◌then◌else◌}
 use Rattle.std.specs.Int.{w32, from_be_bytes}
 use Rattle.ff_xdr.specs.declared.error.XdrError.{XdrError}
-use Rattle.ff_xdr.specs.Form.{Form, Number32, Then, Value, Fits, spelling, word}
+use Rattle.ff_xdr.specs.Form.{Form, Number32, Then, Value, spelling, word}
 use Rattle.ff_xdr.specs.Reading.{Read, number_at, reading}
 use Rattle.rpc_record.specs.declared.call.Call.{Call as DeclaredCall}
 use Rattle.rpc_record.specs.declared.call.CallFault.{CallFault}

@@ -3,3 +3,4 @@ pub mod Rpc
 pub mod Calls
 pub mod Replies
 pub mod Status
+pub mod Laws

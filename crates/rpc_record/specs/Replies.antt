@@ -1,9 +1,9 @@
 -- RPC replies (RFC 5531, section 9).
-use Rattle.std.specs.Prelude.{◌≡◌, ℕ, List, [], ◌∷◌, ◌++◌, drop, Result, Ok, Err, ◌⊎◌}
+use Rattle.std.specs.Prelude.{◌≡◌, ℕ, List, [], ◌∷◌, ◌++◌, drop, Result, Ok, Err}
 use Rattle.std.proofs.Common.{inl, inr}
 use Rattle.ff_xdr.specs.declared.error.XdrError.{XdrError}
 use Rattle.ff_xdr.specs.Form.{Form, Nothing, Number32, Enum, Then, Case, NoCase, Value, Fits, spelling}
-use Rattle.ff_xdr.specs.Reading.{◌>>=◌, Read, reading, rest_of}
+use Rattle.ff_xdr.specs.Reading.{◌>>=◌, reading, rest_of}
 use Rattle.rpc_record.specs.declared.reply.ReplyBody.{ReplyBody}
 use Rattle.rpc_record.specs.declared.reply.ReplyBody.TheVariants as declared
 use Rattle.rpc_record.specs.declared.reply.Reply.{Reply as DeclaredReply}

@@ -1,10 +1,6 @@
 -- RPC messages (RFC 5531, sections 8 and 9).
-use Rattle.std.specs.Prelude.{◌≡◌, ℕ, ◌<◌, ◌≤◌, List, [], ◌∷◌, ◌++◌, length, drop, Option, Some, None, Result, Ok, Err, nat_lt, ◌==◌, if◌then◌else◌, ◌⊎◌, map}
-use Rattle.std.proofs.Common.{inl, inr}
-use Rattle.std.specs.Int.{w32}
-use Rattle.ff_xdr.specs.declared.error.XdrError.{XdrError}
-use Rattle.ff_xdr.specs.Form.{Form, Nothing, Number32, Enum, Opaque, Items, Then, Case, NoCase, Value, Fits, spelling}
-use Rattle.ff_xdr.specs.Reading.{◌>>=◌, number_at, reading, rest_of}
+use Rattle.std.specs.Prelude.{ℕ, List}
+use Rattle.ff_xdr.specs.Form.{Form, Number32, Opaque, Items, Then, Value}
 use Rattle.ff_xdr.specs.Items.{contents}
 use Rattle.rpc_record.specs.declared.auth.Auth.{Auth}
 use Rattle.rpc_record.specs.declared.auth.AuthSys.{AuthSys}

@@ -1,5 +1,5 @@
 -- The status of a reply in its parts.
-use Rattle.std.specs.Prelude.{ℕ, Bool, true, false, List, ◌⊎◌}
+use Rattle.std.specs.Prelude.{ℕ, Bool, true, false, List}
 use Rattle.std.proofs.Common.{inl, inr}
 use Rattle.ff_xdr.specs.Form.{Form, Case, NoCase, Value}
 use Rattle.rpc_record.specs.declared.status.AcceptStat.{AcceptStat}

@@ -5,6 +5,7 @@ mod auth;
 mod auth_wire;
 mod call;
 mod call_wire;
+mod laws;
 mod memory;
 mod reply;
 mod reply_wire;
@@ -17,6 +18,7 @@ mod tests;
 
 pub use auth::{AUTH_NONE, AUTH_SYS, Auth, AuthSys, MAX_BODY};
 pub use call::{Call, CallFault};
+pub use laws::every_message;
 pub use memory::{MemorySink, MemorySource};
 pub use reply::{Reply, ReplyBody};
 pub use standard::{StdSink, StdSource};
