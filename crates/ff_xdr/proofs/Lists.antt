@@ -1,13 +1,12 @@
 -- Reading values one after the other, as a loop does.
-use Rattle.std.proofs.Common.{◌≡◌, ℕ, zero, suc, ◌+◌, ◌-◌, ◌<◌, ◌≤◌, Bool, true, false, List, [], ◌∷◌, ◌++◌, length, Result, Ok, Err, is_ok, refl, sym, ap, ◌∙◌, append_assoc, arith}
+use Rattle.std.proofs.Common.{◌≡◌, ℕ, zero, suc, Bool, true, false, List, [], ◌∷◌, ◌++◌, length, Ok, Err, is_ok, refl, sym, ap, ◌∙◌, append_assoc}
 use Rattle.std.proofs.lemmas.Bool.{false≢true}
-use Rattle.std.proofs.lemmas.List.{append-nil}
 use Rattle.ff_xdr.specs.declared.error.XdrError.{XdrError}
 use Rattle.ff_xdr.specs.Reading.{Read, ◌>>=◌, many_at, reading}
 use Rattle.std.specs.Borrow.{Bor}
 use Rattle.std.specs.Prelude.{IsTrue, ◌&&◌}
 use Rattle.ff_xdr.specs.declared.place.ItemsPlace.{ItemsPlace}
-use Rattle.ff_xdr.specs.declared.place.ItemsPlace.TheVariants.{InBytes, Made}
+use Rattle.ff_xdr.specs.declared.place.ItemsPlace.TheVariants.{InBytes}
 use Rattle.ff_xdr.specs.Form.{Form, Value}
 use Rattle.ff_xdr.specs.Items.{values_of, contents, is_list}
 

@@ -1,5 +1,5 @@
 -- The values of a list, wherever they are.
-use Rattle.std.specs.Prelude.{◌≡◌, ℕ, ◌^◌, Bool, List, [], length, map, Result, Ok, Err, is_ok, nat_lt, nat_le, ◌&&◌}
+use Rattle.std.specs.Prelude.{◌≡◌, ◌^◌, Bool, List, [], length, map, Result, Ok, Err, is_ok, nat_lt, nat_le, ◌&&◌}
 use Rattle.ff_xdr.specs.declared.error.XdrError.{XdrError}
 use Rattle.ff_xdr.specs.declared.place.ItemsPlace.{ItemsPlace}
 use Rattle.ff_xdr.specs.declared.place.ItemsPlace.TheVariants.{InBytes, Made}

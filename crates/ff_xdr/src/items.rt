@@ -1,6 +1,6 @@
 //! Lists of values that stay in their bytes (RFC 4506, section 4.13).
 
-ghost use Rattle.std.specs.Prelude.{◌≡◌, ◌↔◌, ◌<◌, ◌≤◌, ◌^◌, IsTrue, length, map, Ok, Some};
+ghost use Rattle.std.specs.Prelude.{◌≡◌, ◌↔◌, ◌<◌, ◌≤◌, ◌^◌, IsTrue, length, map, Ok, Some, ⊤};
 ghost use Rattle.std.specs.Iterator.{YieldsFirstBy, item_count};
 ghost use Rattle.std.specs.List.{AllByRecursion};
 ghost use Rattle.ff_xdr.specs.Form.{Fits, spelling};
@@ -23,6 +23,10 @@ pub struct Items<'a, T: Message> {
 }
 
 impl<'a, T: Message> Clone for Items<'a, T> {
+    ghost is_clone = { λ x y. y ≡ x };
+
+    ghost is_infallible = { λ _. ⊤ };
+
     fn clone(&self) -> Result<Items<'a, T>, AllocError> {
         Ok(*self)
     }
@@ -121,6 +125,10 @@ pub struct ItemsIter<'a, T: Message> {
 }
 
 impl<'a, T: Message> Clone for ItemsIter<'a, T> {
+    ghost is_clone = { λ x y. y ≡ x };
+
+    ghost is_infallible = { λ _. ⊤ };
+
     fn clone(&self) -> Result<ItemsIter<'a, T>, AllocError> {
         Ok(*self)
     }

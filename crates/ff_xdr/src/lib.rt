@@ -9,6 +9,8 @@ mod laws;
 mod out;
 mod place;
 mod slices;
+#[cfg(test)]
+mod tests;
 mod text;
 mod wire;
 

@@ -1,5 +1,7 @@
 //! Where the values of a list are.
 
+ghost use Rattle.std.specs.Prelude.{◌≡◌, ⊤};
+
 use std::alloc::AllocError;
 
 /// Where the values of a list are.
@@ -15,6 +17,10 @@ pub enum ItemsPlace<'a, T> {
 }
 
 impl<'a, T> Clone for ItemsPlace<'a, T> {
+    ghost is_clone = { λ x y. y ≡ x };
+
+    ghost is_infallible = { λ _. ⊤ };
+
     fn clone(&self) -> Result<ItemsPlace<'a, T>, AllocError> {
         Ok(*self)
     }

@@ -1,5 +1,5 @@
-use Rattle.std.proofs.Common.{◌≡◌, ◌-◌, ◌∙◌, ◌++◌, ◌∷◌, [], Ok, arith}
-use Rattle.ff_xdr.specs.Reading.{many_at, reading}
+use Rattle.std.proofs.Common.{◌≡◌, ◌∙◌, ◌++◌, ◌∷◌, [], Ok, arith}
+use Rattle.ff_xdr.specs.Reading.{reading}
 use Rattle.ff_xdr.proofs.Lists.{goes_on}
 use Rattle.ff_xdr.proofs.items.walk.Goals as goal
 
