@@ -1,0 +1,45 @@
+-- What a line that is read shows of its parts.
+use Rattle.std.proofs.Common.{◌≡◌, ◌≤◌, ℕ, List, [], ◌∷◌, length, cond, ◌==◌, Bool, true, false, Option, Some, None, codes, refl, arith}
+use Rattle.std.specs.Prelude.{option_map}
+use Rattle.std.proofs.lemmas.Bool.Decides.{nat_tests}
+use Rattle.ff_cluster.specs.declared.line.Setup.{Setup}
+use Rattle.ff_cluster.specs.declared.line.Setup.TheVariants.{Bare}
+use Rattle.ff_cluster.specs.Digits.{bytes_of_digits}
+use Rattle.ff_cluster.specs.Line.{EventValue, Deliver, LineValue, Nothing, SetupLine, EventLine, line_at, words_at, setup_at, event_at, behind, short_record, max_record, ◌>>=◌}
+
+-- the steps of a `do` that gave a value
+bind_some : {A B : Type 0} (o : Option A) (f : A → Option B) (y : B) → (o >>= f) ≡ Some y → (x : A) × (o ≡ Some x) × (f x ≡ Some y)
+bind_some None f y h = cc
+bind_some (Some x) f y h = (x, refl, h)
+
+event_some : (o : Option EventValue) (e : EventValue) → option_map EventLine o ≡ Some (EventLine e) → o ≡ Some e
+event_some None e h = cc
+event_some (Some d) e h = cc
+
+setup_none : {P : Type 0} (o : Option Setup) (e : EventValue) → option_map SetupLine o ≡ Some (EventLine e) → P
+setup_none None e h = cc
+setup_none (Some s) e h = cc
+
+short_bytes : (bytes few : List ℕ) → short_record bytes ≡ Some few → length few ≤ max_record
+short_bytes bytes few h = grind (arith, nat_tests)
+
+event_short : (text bytes : List ℕ) → event_at text ≡ Some (Deliver bytes) → length bytes ≤ max_record
+event_short text bytes h =
+    let one = bind_some (behind (codes "deliver ") text) _ (Deliver bytes) h in
+    let two = bind_some (bytes_of_digits one.0) _ (Deliver bytes) one.2 in
+    let three = bind_some (short_record two.0) _ (Deliver bytes) two.2 in
+    let same : three.0 ≡ bytes = let e = three.2 in cc in
+    rw same at (short_bytes two.0 three.0 three.1)
+
+words_short : (setup : Option Setup) (text bytes : List ℕ) → words_at setup text ≡ Some (EventLine (Deliver bytes)) → length bytes ≤ max_record
+words_short None text bytes h = setup_none (setup_at text) (Deliver bytes) h
+words_short (Some Bare) text bytes h = event_short text bytes (event_some (event_at text) (Deliver bytes) h)
+
+cond_words : (b : Bool) (o : Option LineValue) (e : EventValue) → cond b (Some Nothing) o ≡ Some (EventLine e) → o ≡ Some (EventLine e)
+cond_words true o e h = cc
+cond_words false o e h = h
+
+-- the record of a line is not too long
+pub deliver_short : (setup : Option Setup) (text bytes : List ℕ) → line_at setup text ≡ Some (EventLine (Deliver bytes)) → length bytes ≤ max_record
+deliver_short setup [] bytes h = cc
+deliver_short setup (c ∷ rest) bytes h = words_short setup (c ∷ rest) bytes (cond_words (c == 35) _ _ h)

@@ -1,0 +1,5 @@
+pub mod Digits
+pub mod Print
+pub mod Line
+pub mod Prints
+pub mod Lines
