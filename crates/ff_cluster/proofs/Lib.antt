@@ -2,3 +2,4 @@ pub mod Spelling
 pub mod Distinct
 pub mod ScriptWords
 pub mod LineLemmas
+pub mod Deliveries

@@ -7,6 +7,7 @@ pub mod lines;
 mod lines_law;
 pub mod print;
 mod print_law;
+pub mod world;
 
 #[cfg(test)]
 mod lines_tests;
