@@ -1,5 +1,4 @@
 -- The attributes of objects (RFC 1813, section 2.5).
-use Rattle.std.specs.Prelude.{ℕ, List, Option, Bool, ◌⊎◌}
 use Rattle.std.proofs.Common.{inl, inr}
 use Rattle.std.specs.Option.{option_map}
 use Rattle.ff_xdr.specs.Form.{Form, Number32, Number64, Optional, Then, Case, NoCase, Nothing, Value}

@@ -1,5 +1,5 @@
 -- The calls of NFSv3 (RFC 1813, section 3.3), without where their bytes lie.
-use Rattle.std.specs.Prelude.{◌≡◌, ℕ, List, ◌⊎◌}
+use Rattle.std.specs.Prelude.{ℕ, List}
 use Rattle.std.proofs.Common.{inl, inr}
 use Rattle.ff_xdr.specs.Form.{Form, Nothing, Number32, Number64, Opaque, Then, Case, NoCase, Value}
 use Rattle.nfs3_wire.specs.declared.enums.StableHow.{StableHow}

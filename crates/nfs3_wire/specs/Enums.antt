@@ -1,5 +1,5 @@
 -- The numbers of NFSv3's enums (RFC 1813).
-use Rattle.std.specs.Prelude.{◌≡◌, ℕ, Bool, true, false, List, [], ◌∷◌, Option, Some, None, nat_eq, ◌==◌, if◌then◌else◌}
+use Rattle.std.specs.Prelude.{◌≡◌, ℕ, true, false, List, [], ◌∷◌, Option, Some, None, nat_eq, ◌==◌, if◌then◌else◌}
 use Rattle.std.specs.List.{list_any}
 use Rattle.ff_xdr.specs.Form.{Form, Enum}
 use Rattle.nfs3_wire.specs.declared.enums.FileType.{FileType}

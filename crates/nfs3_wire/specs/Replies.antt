@@ -1,5 +1,5 @@
 -- The results of NFSv3 (RFC 1813, section 3.3), without where their bytes lie. Each begins with its status.
-use Rattle.std.specs.Prelude.{◌≡◌, ℕ, List, Option, Bool, ◌⊎◌}
+use Rattle.std.specs.Prelude.{ℕ, List, Option, Bool}
 use Rattle.std.proofs.Common.{inl, inr}
 use Rattle.std.specs.Option.{option_map}
 use Rattle.ff_xdr.specs.Form.{Form, Nothing, Number32, Number64, Flag, Opaque, Optional, Then, Case, NoCase, Value}

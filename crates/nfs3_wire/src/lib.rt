@@ -5,6 +5,8 @@ mod attributes;
 mod call;
 mod enums;
 mod reply;
+#[cfg(test)]
+mod tests;
 
 pub use attributes::{Fattr3, Sattr3, SetTime, Specdata3, Time3, WccAttr, WccData};
 pub use call::{Call3, MAX_DATA, MAX_HANDLE, ReadArgs, WriteArgs, is_built, read_call, write_call};
