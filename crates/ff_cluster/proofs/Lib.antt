@@ -3,3 +3,4 @@ pub mod Distinct
 pub mod ScriptWords
 pub mod LineLemmas
 pub mod Deliveries
+pub mod PlayLemmas

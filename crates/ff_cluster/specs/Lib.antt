@@ -5,3 +5,5 @@ pub mod Prints
 pub mod Lines
 pub mod World
 pub mod Script
+pub mod Writing
+pub mod Player

@@ -5,13 +5,14 @@ pub mod digits;
 pub mod line;
 pub mod lines;
 mod lines_law;
-pub mod print;
-mod print_law;
-pub mod world;
-
 #[cfg(test)]
 mod lines_tests;
+mod player;
+pub mod print;
+mod print_law;
 #[cfg(test)]
 mod trace_tests;
+pub mod world;
+mod writing;
 
 fn main() {}
