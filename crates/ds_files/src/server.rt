@@ -72,6 +72,14 @@ impl DataServer {
         Ok(DataServer { alloc, head, files })
     }
 
+    /// As `preset`, with one tick left.
+    #[cfg(test)]
+    pub(crate) fn at_last_tick(alloc: Global) -> Result<DataServer, NoMemory> {
+        let mut server = DataServer::preset(alloc)?;
+        server.head.count = 999_999_998;
+        Ok(server)
+    }
+
     /// What a call is answered; the server stays.
     fn answer(&self, call: &Call3<'_>, cred: &AuthSys<'_>) -> Result<Answer3, NoMemory>
         ensures { IfOk result (λ answer. answer ≡ answer_of (step_of self.now (plain_call call.now) (plain_credential cred.now))) }
