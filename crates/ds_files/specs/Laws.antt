@@ -1,5 +1,5 @@
 -- The laws of a data server's rule.
-use Rattle.std.specs.Prelude.{◌≡◌, ◌≢◌, ℕ, ◌+◌, ◌≤◌, Bool, true, false, List, [], Some, count_by, slice_get}
+use Rattle.std.specs.Prelude.{◌≡◌, ◌≢◌, ℕ, ◌+◌, ◌≤◌, Bool, true, false, [], Some, count_by, slice_get}
 use Rattle.rpc_record.specs.Rpc.{Credential}
 use Rattle.nfs3_wire.specs.Calls.{Call}
 use Rattle.nfs3_wire.specs.Replies.{Reply, Null, ReadDone, ReadRefused, WriteDone, WriteRefused}
