@@ -4,3 +4,7 @@ pub mod Places
 pub mod Attributes
 pub mod Changes
 pub mod CallsAgain
+pub mod Objects
+pub mod Owners
+pub mod Harmless
+pub mod Timed

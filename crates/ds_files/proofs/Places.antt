@@ -67,11 +67,11 @@ pub refusal_is : (h : Head) (files : List FileState) (index : ℕ) (f : FileStat
     → sized_refusal h.total h.count f offset count bytes cred ≡ write_refusal (state_of h files) index f offset count how bytes cred
 refusal_is h files index f offset count how bytes cred k e = rw (room_is h files index f offset how bytes k e) refl
 
-stops : {A : Type 0} (b : Bool) (x : A) (r : Option A) → cond b (Some x) r ≡ None → (b ≡ false) × (r ≡ None)
+pub stops : {A : Type 0} (b : Bool) (x : A) (r : Option A) → cond b (Some x) r ≡ None → (b ≡ false) × (r ≡ None)
 stops true x r e = absurd cc
 stops false x r e = (refl, e)
 
-not_false : (b : Bool) → not b ≡ false → b ≡ true
+pub not_false : (b : Bool) → not b ≡ false → b ≡ true
 not_false true e = refl
 not_false false e = absurd cc
 

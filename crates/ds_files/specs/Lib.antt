@@ -7,3 +7,4 @@ pub mod Effects
 pub mod Receive
 pub mod Records
 pub mod Posts
+pub mod Laws

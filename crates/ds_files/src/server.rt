@@ -5,7 +5,8 @@ ghost use Rattle.rpc_record.specs.Rpc.{plain_credential};
 ghost use Rattle.nfs3_wire.specs.Calls.{plain_call};
 ghost use Rattle.ds_files.specs.Server.{preset_server, step_of};
 ghost use Rattle.ds_files.specs.Effects.{answer_of};
-ghost use Rattle.ds_files.specs.Receive.{outcome_of, outcome_of_step};
+ghost use Rattle.ds_files.specs.Receive.{received, outcome_of, outcome_of_step};
+ghost use Rattle.ds_files.specs.Laws.{IsRefusal, IsTurnedAway};
 ghost use Rattle.ds_files.specs.Posts.{Acts, IsAsBefore};
 
 use crate::answer::Answer3;
@@ -71,6 +72,14 @@ impl DataServer {
         Ok(DataServer { alloc, head, files })
     }
 
+    /// As `preset`, with one tick left.
+    #[cfg(test)]
+    pub(crate) fn at_last_tick(alloc: Global) -> Result<DataServer, NoMemory> {
+        let mut server = DataServer::preset(alloc)?;
+        server.head.count = 999_999_998;
+        Ok(server)
+    }
+
     /// What a call is answered; the server stays.
     fn answer(&self, call: &Call3<'_>, cred: &AuthSys<'_>) -> Result<Answer3, NoMemory>
         ensures { IfOk result (λ answer. answer ≡ answer_of (step_of self.now (plain_call call.now) (plain_credential cred.now))) }
@@ -100,6 +109,7 @@ impl DataServer {
         ensures answer { IfOk result (λ answer. answer ≡ answer_of (step_of self.old (plain_call call.now) (plain_credential cred.now))) }
         ensures ok { OnOk result (self.new ≡ (step_of self.old (plain_call call.now) (plain_credential cred.now)).server) }
         ensures err { OnErr result (self.new ≡ self.old) }
+        ensures refused { IfOk result (λ answer. IsRefusal answer.reply → self.new ≡ self.old) }
     {
         let answer = self.answer(call, cred)?;
         self.change(call, cred)?;
@@ -130,7 +140,8 @@ impl DataServer {
     }
 
     /// Takes a record from a node, and puts out the reply to it and the entries of the step. Nothing
-    /// is put out for a record that is no call. At an error all is as before.
+    /// is put out for a record that is no call. A record that is refused changes nothing and makes no
+    /// entry. At an error all is as before.
     pub fn on_record(
         &mut self,
         from: NodeId,
@@ -139,6 +150,7 @@ impl DataServer {
     ) -> Result<(), NoMemory>
         ensures ok { OnOk result (Acts (outcome_of self.old message.now) from self.new out.old out.new) }
         ensures err { OnErr result ((self.new ≡ self.old) × IsAsBefore out.old out.new) }
+        ensures turned_away { IsTurnedAway self.old (received message.now) → (self.new ≡ self.old) × (out.new.entries.items ≡ out.old.entries.items) }
     {
         match receive(message) {
             Received::Silent => Ok(()),

@@ -1,4 +1,11 @@
-use super::{DataFile, Tick};
+ghost use Rattle.std.specs.Prelude.{◌<◌};
+
+use super::{Cred, DataFile, DataServer, Entry, MirrorId, NodeId, Outbox, Tick};
+use ff_xdr::Items;
+use nfs3_wire::{Call3, Reply3, StableHow, WriteArgs, WriteReply};
+use rpc_record::AuthSys;
+use std::alloc::Global;
+use std::process::Abort;
 use std::test::Fail;
 
 fn tick(count: u32) -> Tick {
@@ -33,5 +40,680 @@ fn a_synced_write_shows_over_the_pending_ones(rt: HostRuntime) -> Result<(), Fai
     assert_eq!(rt; file.size(), 7);
     assert_eq!(rt; file.times().mtime, tick(3));
     assert_eq!(rt; (file.owner(), file.group(), file.mode()), (7, 8, 0o640));
+    Ok(())
+}
+
+/// What a name in a table stands for: bytes in hexadecimal.
+fn meaning(name: &str) -> &str {
+    match name {
+        // a call with the number 7, as far as the program
+        "call" => "00000007 00000000 00000002",
+        "nfs" => "000186a3 00000003",
+        "null" => "00000000",
+        "read" => "00000006",
+        "write" => "00000007",
+        // two flavors that name no caller, and callers on the machine "c1"
+        "none" => "00000000 00000000",
+        "gss" => "00000006 00000000",
+        "root" => "00000001 00000018 00000000 00000002 63310000 00000000 00000000 00000000",
+        "owner" => "00000001 00000018 00000000 00000002 63310000 00010000 00010000 00000000",
+        "stranger" => "00000001 00000018 00000000 00000002 63310000 00010001 00010001 00000000",
+        "member" => "00000001 00000018 00000000 00000002 63310000 00010001 00010000 00000000",
+        "member2" => {
+            "00000001 00000020 00000000 00000002 63310000 00010001 00010001 00000002 00000005 00010000"
+        }
+        // the empty verifier
+        "verf" => "00000000 00000000",
+        // handles, the first place of a file, stabilities, data
+        "dir" => "00000008 00000000 00000001",
+        "file" => "00000008 00000000 00000002",
+        "first" => "00000000 00000000",
+        "unstable" => "00000000",
+        "data_sync" => "00000001",
+        "file_sync" => "00000002",
+        "AB" => "00000002 41420000",
+        // replies to the call 7
+        "success" => "00000007 00000001 00000000 00000000 00000000 00000000",
+        "prog_unavail" => "00000007 00000001 00000000 00000000 00000000 00000001",
+        "prog_mismatch" => {
+            "00000007 00000001 00000000 00000000 00000000 00000002 00000003 00000003"
+        }
+        "proc_unavail" => "00000007 00000001 00000000 00000000 00000000 00000003",
+        "garbage_args" => "00000007 00000001 00000000 00000000 00000000 00000004",
+        "rpc_mismatch" => "00000007 00000001 00000001 00000000 00000002 00000002",
+        "bad_cred" => "00000007 00000001 00000001 00000001 00000001",
+        "too_weak" => "00000007 00000001 00000001 00000001 00000005",
+        // statuses
+        "ok" => "00000000",
+        "acces" => "0000000d",
+        "inval" => "00000016",
+        "fbig" => "0000001b",
+        "stale" => "00000046",
+        "bad_handle" => "00002711",
+        "jukebox" => "00002718",
+        // attributes: none, or those that follow
+        "no_attr" => "00000000",
+        "attr" => "00000001",
+        // of the root, whole
+        "dir_attr" => {
+            "00000002 000001ed 00000002 00000000 00000000 00000000 00001000 00000000 00001000 00000000 00000000 00000000 00000001 00000000 00000001 00000001 00000000 00000001 00000001 00000001 00000001"
+        }
+        // of the file, up to its size, and from its size up to its last write
+        "who" => "00000001 000001a0 00000001 00010000 00010000",
+        "where" => "00000000 00000000 00000000 00000001 00000000 00000002 00000001 00000001",
+        // its size, of so many bytes, two times
+        "2_bytes" => "00000000 00000002 00000000 00000002",
+        "3_bytes" => "00000000 00000003 00000000 00000003",
+        "6_bytes" => "00000000 00000006 00000000 00000006",
+        "all_bytes" => "00000000 04000000 00000000 04000000",
+        // of the file, whole, while it is empty
+        "empty" => {
+            "00000001 000001a0 00000001 00010000 00010000 00000000 00000000 00000000 00000000 00000000 00000000 00000000 00000001 00000000 00000002 00000001 00000001 00000001 00000001 00000001 00000001"
+        }
+        // of the file, the last two times once the writes took these ticks
+        "tick2" => "00000001 00000002 00000001 00000002",
+        "tick3" => "00000001 00000003 00000001 00000003",
+        "tick4" => "00000001 00000004 00000001 00000004",
+        "tick5" => "00000001 00000005 00000001 00000005",
+        "tick6" => "00000001 00000006 00000001 00000006",
+        "tick7" => "00000001 00000007 00000001 00000007",
+        "last_tick" => "00000001 3b9ac9ff 00000001 3b9ac9ff",
+        // no attributes before a WRITE, and the verifier of the first boot
+        "before" => "00000000",
+        "boot" => "00000000 00000001",
+        _ => name,
+    }
+}
+
+/// The value of a digit of hexadecimal.
+fn digit(c: u8) -> u8
+    ensures { result < 16 }
+{
+    match c {
+        b'0'..=b'9' => c - b'0',
+        b'a'..=b'f' => c - b'a' + 10,
+        _ => 0,
+    }
+}
+
+/// Adds bytes that are written in hexadecimal, or so many zeros as stand behind a star.
+fn add_word(rt: &impl Abort, bytes: &mut Vec<u8>, word: &str) -> Result<(), Fail> {
+    if let Some(zeros) = word.strip_prefix("*") {
+        let count: usize = zeros.parse()?;
+        for _ in 0..count {
+            bytes.push(0)?;
+        }
+        return Ok(());
+    }
+    let mut pairs = word.as_bytes().chunks_exact(2);
+    for pair in &mut pairs {
+        if let [high, low] = pair {
+            bytes.push(digit(*high) * 16 + digit(*low))?;
+        }
+    }
+    assert_eq!(rt; pairs.remainder().len(), 0, "half a byte in {word}");
+    Ok(())
+}
+
+/// The bytes that a line of a table stands for.
+fn bytes_of(rt: &impl Abort, alloc: Global, line: &str) -> Result<Vec<u8>, Fail> {
+    let mut bytes = Vec::new(alloc);
+    for name in line.split_whitespace() {
+        for word in meaning(name).split_whitespace() {
+            add_word(rt, &mut bytes, word)?;
+        }
+    }
+    Ok(bytes)
+}
+
+/// As much of a reply as a failed test is to print.
+fn front(bytes: &[u8]) -> &[u8] {
+    &bytes[..bytes.len().min(256)]
+}
+
+/// An entry as a table writes it.
+fn line_of(alloc: Global, entry: &Entry) -> Result<String, Fail> {
+    match entry {
+        Entry::Applied {
+            mirror,
+            cred,
+            at,
+            bytes,
+        } => {
+            let MirrorId { server, fileid } = *mirror;
+            let Cred(uid) = *cred;
+            let bytes = bytes.bytes();
+            if bytes.len() > 8 {
+                return Ok(format!(in alloc;
+                    "applied {server}.{fileid} {uid} {at} {} bytes",
+                    bytes.len()
+                )?);
+            }
+            Ok(format!(in alloc; "applied {server}.{fileid} {uid} {at} {bytes:?}")?)
+        }
+        Entry::Committed { mirror } => {
+            let MirrorId { server, fileid } = *mirror;
+            Ok(format!(in alloc; "committed {server}.{fileid}")?)
+        }
+        _ => Ok(format!(in alloc; "{entry:?}")?),
+    }
+}
+
+/// A server that is asked by the lines of a table, and what its last answer put out.
+#[derive(Drop)]
+struct Bench {
+    alloc: Global,
+    server: DataServer,
+    out: Outbox,
+    // the reply was compared, and so many entries
+    answered: bool,
+    entered: usize,
+}
+
+impl Bench {
+    fn new(alloc: Global, server: DataServer) -> Bench {
+        Bench {
+            alloc,
+            server,
+            out: Outbox::new(alloc),
+            answered: true,
+            entered: 0,
+        }
+    }
+
+    /// All that the last answer put out was compared.
+    fn end(&self, rt: &impl Abort, line: &str) {
+        assert!(rt; self.answered, "before {line}");
+        assert_eq!(rt; self.out.entries.len(), self.entered, "before {line}");
+    }
+
+    /// Sends a record.
+    fn ask(&mut self, message: &[u8]) -> Result<(), Fail> {
+        self.out = Outbox::new(self.alloc);
+        self.answered = false;
+        self.entered = 0;
+        self.server
+            .on_record(NodeId::Client(0), message, &mut self.out)?;
+        Ok(())
+    }
+
+    /// Compares the reply, or that there is none where these bytes are none.
+    fn compare_reply(&mut self, rt: &impl Abort, reply: &[u8], line: &str) {
+        let sends = self.out.sends.as_slice();
+        match sends.first() {
+            Some((node, bytes)) => {
+                assert_eq!(rt; *node, NodeId::Client(0), "{line}");
+                assert_eq!(rt; front(bytes.bytes()), front(reply), "{line}");
+                assert!(rt; bytes.bytes() == reply, "{line}");
+                assert_eq!(rt; sends.len(), 1, "{line}");
+            }
+            None => assert_eq!(rt; reply.len(), 0, "{line}"),
+        }
+        self.answered = true;
+    }
+
+    /// Compares the next entry.
+    fn compare_entry(&mut self, rt: &impl Abort, line: &str) -> Result<(), Fail> {
+        let entry = self
+            .out
+            .entries
+            .as_slice()
+            .get(self.entered)
+            .ok_or("no entry")?;
+        let entry = line_of(self.alloc, entry)?;
+        assert_eq!(rt; entry.as_str(), line);
+        self.entered = self.entered.saturating_add(1);
+        Ok(())
+    }
+
+    /// Does a line of a table.
+    fn line(&mut self, rt: &impl Abort, line: &str) -> Result<(), Fail> {
+        if let Some(words) = line.strip_prefix(">") {
+            self.end(rt, line);
+            let message = bytes_of(rt, self.alloc, words)?;
+            self.ask(&message)?;
+        } else if let Some(words) = line.strip_prefix("<") {
+            let reply = bytes_of(rt, self.alloc, words)?;
+            self.compare_reply(rt, &reply, line);
+        } else if let Some(entry) = line.strip_prefix("+ ") {
+            self.compare_entry(rt, entry)?;
+        } else {
+            self.end(rt, line);
+        }
+        Ok(())
+    }
+
+    /// Does the lines of a table: '>' sends a record, '<' is the whole reply and '+' an entry. Any other
+    /// line says what follows.
+    fn table(&mut self, rt: &impl Abort, table: &str) -> Result<(), Fail> {
+        for line in table.lines() {
+            self.line(rt, line)?;
+        }
+        self.end(rt, "the end");
+        Ok(())
+    }
+}
+
+/// Records that are refused before their call is looked at. The server stays as it was made.
+const ORDER: &str = "\
+no call: fewer than eight bytes
+>
+<
+> 000000
+<
+> 00000007 000000
+<
+no call: a second word other than 0, also with another RPC version
+> 00000007 00000001 00000000 00000000 00000000 00000000
+<
+> 00000007 00000002 00000002 nfs null none verf
+<
+> 00000007 00000001 00000003
+<
+the header ends before the RPC version
+> 00000007 00000000
+< garbage_args
+> 00000007 00000000 000000
+< garbage_args
+another RPC version, also with a header that is cut
+> 00000007 00000000 00000003 nfs null none verf
+< rpc_mismatch
+> 00000007 00000000 00000001
+< rpc_mismatch
+the header is cut, also of another program
+> call nfs null none 00000000
+< garbage_args
+> call 000186a4 00000003 null none 00000000
+< garbage_args
+a credential and a verifier have 400 bytes at the most
+> call nfs null 00000000 00000190 *400 verf
+< success
+> call nfs null 00000000 00000191 *404 verf
+< garbage_args
+> call nfs null none 00000000 00000190 *400
+< success
+> call nfs null none 00000000 00000191 *404
+< garbage_args
+a credential's padding is not zero
+> call nfs null 00000000 00000002 63310001 verf
+< garbage_args
+another program, also in another version
+> call 000186a4 00000003 null none verf
+< prog_unavail
+> call 000186a4 00000002 null none verf
+< prog_unavail
+another version, also with a procedure that is not built
+> call 000186a3 00000002 null none verf
+< prog_mismatch
+> call 000186a3 00000004 null none verf
+< prog_mismatch
+> call 000186a3 00000004 00000001 owner verf file
+< prog_mismatch
+a procedure that is not built, also by a flavor that names no caller
+> call nfs 00000001 owner verf file
+< proc_unavail
+> call nfs 00000002 owner verf file
+< proc_unavail
+> call nfs 00000008 owner verf file
+< proc_unavail
+> call nfs 00000015 owner verf file
+< proc_unavail
+> call nfs ffffffff owner verf file
+< proc_unavail
+> call nfs 00000001 none verf file
+< proc_unavail
+NULL is answered whatever the credential is, and takes no arguments
+> call nfs null none verf
+< success
+> call nfs null gss verf
+< success
+> call nfs null 00000001 00000000 verf
+< success
+> call nfs null owner verf 00000000
+< garbage_args
+a flavor that names no caller, also with a body out of form
+> call nfs read none verf file first 00000002
+< too_weak
+> call nfs write gss verf file first 00000002 file_sync AB
+< too_weak
+> call nfs read 00000000 00000004 00000000 verf file first 00000002
+< too_weak
+the body of AUTH_SYS is cut, also with arguments that are cut
+> call nfs read 00000001 00000000 verf file first 00000002
+< bad_cred
+> call nfs read 00000001 00000014 00000000 00000002 63310000 00010000 00010000 verf file first 00000002
+< bad_cred
+> call nfs read 00000001 00000014 00000000 00000002 63310000 00010000 00010000 verf file
+< bad_cred
+the body of AUTH_SYS has four bytes too many
+> call nfs read 00000001 0000001c 00000000 00000002 63310000 00010000 00010000 00000000 00000000 verf file first 00000002
+< bad_cred
+a machine's name has 255 bytes at the most, and zeros behind them
+> call nfs read 00000001 00000114 00000000 000000ff *256 00010000 00010000 00000000 verf file first 00000002
+< success ok attr empty 00000000 00000001 00000000
+> call nfs read 00000001 00000114 00000000 00000100 *256 00010000 00010000 00000000 verf file first 00000002
+< bad_cred
+> call nfs read 00000001 00000018 00000000 00000002 63310001 00010000 00010000 00000000 verf file first 00000002
+< bad_cred
+a caller is in 16 groups at the most
+> call nfs read 00000001 00000054 00000000 00000000 00010000 00010000 00000010 *64 verf file first 00000002
+< success ok attr empty 00000000 00000001 00000000
+> call nfs read 00000001 00000058 00000000 00000000 00010000 00010000 00000011 *68 verf file first 00000002
+< bad_cred
+the arguments of READ are cut, or have four bytes behind them
+> call nfs read owner verf
+< garbage_args
+> call nfs read owner verf file first
+< garbage_args
+> call nfs read owner verf file first 00000002 00000000
+< garbage_args
+the arguments of WRITE are cut, or have four bytes behind them
+> call nfs write owner verf file first 00000002 file_sync
+< garbage_args
+> call nfs write owner verf file first 00000002 file_sync 00000002
+< garbage_args
+> call nfs write owner verf file first 00000002 file_sync AB 00000000
+< garbage_args
+a handle has 64 bytes at the most
+> call nfs read owner verf 00000040 *64 first 00000002
+< success bad_handle no_attr
+> call nfs read owner verf 00000041 *68 first 00000002
+< garbage_args
+> call nfs write owner verf 00000041 *68 first 00000002 file_sync AB
+< garbage_args
+no stability has the number 3
+> call nfs write owner verf file first 00000002 00000003 AB
+< garbage_args
+the padding of the data is not zero
+> call nfs write owner verf file first 00000002 file_sync 00000002 41420001
+< garbage_args
+the data of a WRITE are 1,048,576 bytes at the most
+> call nfs write owner verf file first 00100001 file_sync 00100001
+< garbage_args
+> call nfs write owner verf file first 00100001 file_sync 00100001 *1048580
+< garbage_args
+the arguments are cut, and the handle is none
+> call nfs read owner verf 00000007 00000000 00000200 first
+< garbage_args
+the file is as it was made
+> call nfs read owner verf file first 00000002
+< success ok attr empty 00000000 00000001 00000000
+";
+
+/// The first write and the read of it, word by word.
+const EXCHANGE: &str = "\
+> 00000007 00000000 00000002 000186a3 00000003 00000007 00000001 00000018 00000000 00000002 63310000 00010000 00010000 00000000 00000000 00000000 00000008 00000000 00000002 00000000 00000000 00000002 00000002 00000002 41420000
+< 00000007 00000001 00000000 00000000 00000000 00000000 00000000 00000000 00000001 00000001 000001a0 00000001 00010000 00010000 00000000 00000002 00000000 00000002 00000000 00000000 00000000 00000001 00000000 00000002 00000001 00000001 00000001 00000002 00000001 00000002 00000002 00000002 00000000 00000001
++ applied 1.2 65536 0 [65, 66]
++ committed 1.2
+> 00000008 00000000 00000002 000186a3 00000003 00000006 00000001 00000018 00000000 00000002 63310000 00010000 00010000 00000000 00000000 00000000 00000008 00000000 00000002 00000000 00000000 00000002
+< 00000008 00000001 00000000 00000000 00000000 00000000 00000000 00000001 00000001 000001a0 00000001 00010000 00010000 00000000 00000002 00000000 00000002 00000000 00000000 00000000 00000001 00000000 00000002 00000001 00000001 00000001 00000002 00000001 00000002 00000002 00000001 00000002 41420000
+";
+
+/// Who may do what with which object.
+const OBJECTS: &str = "\
+a handle has not eight bytes, also by a stranger
+> call nfs read owner verf 00000007 00000000 00000200 first 00000002
+< success bad_handle no_attr
+> call nfs read owner verf 00000009 00000000 00000000 02000000 first 00000002
+< success bad_handle no_attr
+> call nfs read stranger verf 00000000 first 00000002
+< success bad_handle no_attr
+> call nfs write owner verf 00000007 00000000 00000200 first 00000002 file_sync AB
+< success bad_handle before no_attr
+> call nfs write owner verf 00000009 00000000 00000000 02000000 first 00000002 file_sync AB
+< success bad_handle before no_attr
+> call nfs write stranger verf 00000000 first 00000003 file_sync AB
+< success bad_handle before no_attr
+a handle names nothing, also by a stranger
+> call nfs read owner verf 00000008 00000000 00000000 first 00000002
+< success stale no_attr
+> call nfs read owner verf 00000008 00000000 00000003 first 00000002
+< success stale no_attr
+> call nfs read stranger verf 00000008 ffffffff ffffffff first 00000002
+< success stale no_attr
+> call nfs write owner verf 00000008 00000000 00000000 first 00000002 file_sync AB
+< success stale before no_attr
+> call nfs write owner verf 00000008 00000000 00000003 first 00000002 file_sync AB
+< success stale before no_attr
+> call nfs write stranger verf 00000008 ffffffff ffffffff first 00000003 file_sync AB
+< success stale before no_attr
+the root is no file, also for a stranger
+> call nfs read owner verf dir first 00000002
+< success inval attr dir_attr
+> call nfs read stranger verf dir first 00000002
+< success inval attr dir_attr
+> call nfs read root verf dir first 00000002
+< success inval attr dir_attr
+> call nfs write root verf dir first 00000002 file_sync AB
+< success inval before attr dir_attr
+> call nfs write stranger verf dir first 00000002 file_sync AB
+< success inval before attr dir_attr
+a stranger does nothing with the file, also with a count that differs and with no bytes
+> call nfs read stranger verf file first 00000002
+< success acces attr empty
+> call nfs write stranger verf file first 00000002 file_sync AB
+< success acces before attr empty
+> call nfs write stranger verf file first 00000003 file_sync AB
+< success acces before attr empty
+> call nfs write stranger verf file first 00000000 file_sync 00000000
+< success acces before attr empty
+> call nfs write stranger verf file ffffffff ffffffff 00000002 file_sync AB
+< success acces before attr empty
+a member of the group reads, and does not write
+> call nfs read member verf file first 00000002
+< success ok attr empty 00000000 00000001 00000000
+> call nfs read member2 verf file first 00000002
+< success ok attr empty 00000000 00000001 00000000
+> call nfs write member verf file first 00000002 file_sync AB
+< success acces before attr empty
+> call nfs write member2 verf file first 00000002 file_sync AB
+< success acces before attr empty
+uid 0 writes and reads
+> call nfs write root verf file first 00000002 unstable AB
+< success ok before attr who 2_bytes where tick2 00000002 unstable boot
++ applied 1.2 0 0 [65, 66]
+> call nfs read root verf file first 00000002
+< success ok attr who 2_bytes where tick2 00000002 00000001 00000002 41420000
+the root's times stay
+> call nfs read root verf dir first 00000002
+< success inval attr dir_attr
+";
+
+/// Writes and reads by the owner, one after the other.
+const BYTES: &str = "\
+a write that need not be stable is read
+> call nfs write owner verf file first 00000002 unstable AB
+< success ok before attr who 2_bytes where tick2 00000002 unstable boot
++ applied 1.2 65536 0 [65, 66]
+> call nfs read owner verf file first 00000002
+< success ok attr who 2_bytes where tick2 00000002 00000001 00000002 41420000
+a write of no bytes takes no tick, and commits the file where it is to be stable
+> call nfs write owner verf file first 00000000 unstable 00000000
+< success ok before attr who 2_bytes where tick2 00000000 unstable boot
+> call nfs write owner verf file first 00000000 data_sync 00000000
+< success ok before attr who 2_bytes where tick2 00000000 file_sync boot
++ committed 1.2
+> call nfs write owner verf file first 00000000 file_sync 00000000
+< success ok before attr who 2_bytes where tick2 00000000 file_sync boot
++ committed 1.2
+> call nfs write owner verf file ffffffff ffffffff 00000000 unstable 00000000
+< success ok before attr who 2_bytes where tick2 00000000 unstable boot
+> call nfs write owner verf file ffffffff ffffffff 00000000 file_sync 00000000
+< success ok before attr who 2_bytes where tick2 00000000 file_sync boot
++ committed 1.2
+what a write overlaps is written over
+> call nfs write owner verf file 00000000 00000001 00000002 data_sync 00000002 43440000
+< success ok before attr who 3_bytes where tick3 00000002 file_sync boot
++ applied 1.2 65536 1 [67, 68]
++ committed 1.2
+> call nfs read owner verf file first 00000003
+< success ok attr who 3_bytes where tick3 00000003 00000001 00000003 41434400
+zeros stand in a gap
+> call nfs write owner verf file 00000000 00000005 00000001 unstable 00000001 45000000
+< success ok before attr who 6_bytes where tick4 00000001 unstable boot
++ applied 1.2 65536 5 [69]
+> call nfs read owner verf file first ffffffff
+< success ok attr who 6_bytes where tick4 00000006 00000001 00000006 41434400 00450000
+a stable write stands over the pending ones
+> call nfs write owner verf file 00000000 00000004 00000002 file_sync 00000002 46470000
+< success ok before attr who 6_bytes where tick5 00000002 file_sync boot
++ applied 1.2 65536 4 [70, 71]
++ committed 1.2
+> call nfs read owner verf file first ffffffff
+< success ok attr who 6_bytes where tick5 00000006 00000001 00000006 41434400 46470000
+a READ in the middle, up to the end, at the end and past it
+> call nfs read owner verf file 00000000 00000001 00000002
+< success ok attr who 6_bytes where tick5 00000002 00000000 00000002 43440000
+> call nfs read owner verf file 00000000 00000004 00000002
+< success ok attr who 6_bytes where tick5 00000002 00000001 00000002 46470000
+> call nfs read owner verf file 00000000 00000005 00000002
+< success ok attr who 6_bytes where tick5 00000001 00000001 00000001 47000000
+> call nfs read owner verf file 00000000 00000006 00000002
+< success ok attr who 6_bytes where tick5 00000000 00000001 00000000
+> call nfs read owner verf file 00000000 00000007 00000002
+< success ok attr who 6_bytes where tick5 00000000 00000001 00000000
+> call nfs read owner verf file ffffffff ffffffff ffffffff
+< success ok attr who 6_bytes where tick5 00000000 00000001 00000000
+a READ of no bytes, before the end and at it
+> call nfs read owner verf file first 00000000
+< success ok attr who 6_bytes where tick5 00000000 00000000 00000000
+> call nfs read owner verf file 00000000 00000006 00000000
+< success ok attr who 6_bytes where tick5 00000000 00000001 00000000
+a count that differs from the data's length, also past the longest that a file may be
+> call nfs write owner verf file first 00000003 file_sync AB
+< success inval before attr who 6_bytes where tick5
+> call nfs write owner verf file first 00000001 file_sync AB
+< success inval before attr who 6_bytes where tick5
+> call nfs write owner verf file first 00000000 file_sync AB
+< success inval before attr who 6_bytes where tick5
+> call nfs write owner verf file first 00000001 file_sync 00000000
+< success inval before attr who 6_bytes where tick5
+> call nfs write owner verf file ffffffff ffffffff 00000003 file_sync AB
+< success inval before attr who 6_bytes where tick5
+a write past the longest that a file may be
+> call nfs write owner verf file 00000000 04000000 00000001 file_sync 00000001 48000000
+< success fbig before attr who 6_bytes where tick5
+> call nfs write owner verf file 00000000 03ffffff 00000002 file_sync 00000002 48480000
+< success fbig before attr who 6_bytes where tick5
+> call nfs write owner verf file ffffffff ffffffff 00000001 unstable 00000001 48000000
+< success fbig before attr who 6_bytes where tick5
+> call nfs write root verf file ffffffff fffffffe 00000002 unstable 00000002 48480000
+< success fbig before attr who 6_bytes where tick5
+the last byte that a file may have
+> call nfs write owner verf file 00000000 03ffffff 00000001 unstable 00000001 48000000
+< success ok before attr who all_bytes where tick6 00000001 unstable boot
++ applied 1.2 65536 67108863 [72]
+> call nfs read owner verf file 00000000 03ffffff 00000002
+< success ok attr who all_bytes where tick6 00000001 00000001 00000001 48000000
+> call nfs write owner verf file 00000000 04000000 00000001 file_sync 00000001 48000000
+< success fbig before attr who all_bytes where tick6
+one READ gives 1,048,576 bytes at the most
+> call nfs read owner verf file first ffffffff
+< success ok attr who all_bytes where tick6 00100000 00000000 00100000 41434400 46470000 *1048568
+> call nfs read owner verf file 00000000 03f00001 ffffffff
+< success ok attr who all_bytes where tick6 000fffff 00000001 000fffff *1048574 4800
+and one WRITE has as many
+> call nfs write owner verf file first 00100000 unstable 00100000 *1048576
+< success ok before attr who all_bytes where tick7 00100000 unstable boot
++ applied 1.2 65536 0 1048576 bytes
+> call nfs read owner verf file first 00000004
+< success ok attr who all_bytes where tick7 00000004 00000000 00000004 00000000
+";
+
+/// The last tick of a boot, and calls once none is left.
+const LAST_TICK: &str = "\
+the last tick
+> call nfs write owner verf file first 00000002 unstable AB
+< success ok before attr who 2_bytes where last_tick 00000002 unstable boot
++ applied 1.2 65536 0 [65, 66]
+none is left
+> call nfs write owner verf file first 00000002 file_sync 00000002 43440000
+< success jukebox before attr who 2_bytes where last_tick
+> call nfs write root verf file 00000000 03ffffff 00000001 unstable 00000001 43000000
+< success jukebox before attr who 2_bytes where last_tick
+what is refused for another cause
+> call nfs write stranger verf file first 00000002 file_sync AB
+< success acces before attr who 2_bytes where last_tick
+> call nfs write owner verf file first 00000003 file_sync AB
+< success inval before attr who 2_bytes where last_tick
+> call nfs write owner verf file 00000000 04000000 00000001 file_sync 00000001 48000000
+< success fbig before attr who 2_bytes where last_tick
+what takes no tick
+> call nfs write owner verf file first 00000000 file_sync 00000000
+< success ok before attr who 2_bytes where last_tick 00000000 file_sync boot
++ committed 1.2
+> call nfs read owner verf file first 00000002
+< success ok attr who 2_bytes where last_tick 00000002 00000001 00000002 41420000
+";
+
+#[test]
+fn records_are_answered_by_the_tables(rt: HostRuntime) -> Result<(), Fail> {
+    for table in [ORDER, EXCHANGE, OBJECTS, BYTES] {
+        let mut bench = Bench::new(rt.alloc(), DataServer::preset(rt.alloc())?);
+        bench.table(&rt, table)?;
+    }
+    let mut bench = Bench::new(rt.alloc(), DataServer::at_last_tick(rt.alloc())?);
+    bench.table(&rt, LAST_TICK)
+}
+
+#[test]
+fn a_call_that_is_cut_does_nothing(rt: HostRuntime) -> Result<(), Fail> {
+    let alloc = rt.alloc();
+    let write = bytes_of(
+        &rt,
+        alloc,
+        "call nfs write owner verf file first 00000002 file_sync AB",
+    )?;
+    let read = bytes_of(&rt, alloc, "call nfs read owner verf file first 00000002")?;
+    let refusal = bytes_of(&rt, alloc, "garbage_args")?;
+    let nothing = bytes_of(
+        &rt,
+        alloc,
+        "success ok attr empty 00000000 00000001 00000000",
+    )?;
+    let mut bench = Bench::new(alloc, DataServer::preset(alloc)?);
+    assert_eq!(rt; write.len(), 100);
+    for n in 0..write.len() {
+        let line = format!(in alloc; "cut at {n}")?;
+        bench.ask(&write[..n])?;
+        bench.compare_reply(&rt, if n < 8 { &[] } else { &refusal }, &line);
+        bench.end(&rt, &line);
+        bench.ask(&read)?;
+        bench.compare_reply(&rt, &nothing, &line);
+        bench.end(&rt, &line);
+    }
+    Ok(())
+}
+
+#[test]
+fn a_call_is_applied(rt: HostRuntime) -> Result<(), Fail> {
+    let alloc = rt.alloc();
+    let mut server = DataServer::preset(alloc)?;
+    let cred = AuthSys {
+        stamp: 0,
+        machine: b"c1",
+        uid: 65_536,
+        gid: 65_536,
+        gids: Items::made(&[]),
+    };
+    let call = Call3::Write(WriteArgs {
+        file: &[0, 0, 0, 0, 0, 0, 0, 2],
+        offset: 0,
+        count: 2,
+        stable: StableHow::FileSync,
+        bytes: b"AB",
+    });
+    let answer = server.apply(&call, &cred)?;
+    match answer.reply() {
+        Reply3::Write(WriteReply::Done(done)) => {
+            assert_eq!(rt;
+                (done.count, done.committed, done.verifier),
+                (2, StableHow::FileSync, 1)
+            );
+        }
+        _ => assert!(rt; false),
+    }
+    assert_eq!(rt; answer.entries().len(), 2);
     Ok(())
 }
