@@ -4,3 +4,5 @@ pub mod ScriptWords
 pub mod LineLemmas
 pub mod Deliveries
 pub mod PlayLemmas
+pub mod ReplayLemmas
+pub mod ScriptLemmas

@@ -7,3 +7,4 @@ pub mod World
 pub mod Script
 pub mod Writing
 pub mod Player
+pub mod Replay

@@ -10,6 +10,7 @@ mod lines_tests;
 mod player;
 pub mod print;
 mod print_law;
+mod replay;
 #[cfg(test)]
 mod trace_tests;
 pub mod world;
