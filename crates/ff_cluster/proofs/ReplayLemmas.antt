@@ -49,10 +49,11 @@ pub owes_again : (a b c : Option (List ℕ)) (t u v : List ℕ) → Owes a t b u
 owes_again None b c t u v one two = owes_none b c u v one two
 owes_again (Some held) None c t u v one two = let no : Some (held ++ one.0) ≡ None = sym one.1 in absurd (cc)
 owes_again (Some held) (Some h) c t u v one two =
-    let same : h ≡ held ++ one.0 = some_is one.1 in
-    ( one.0 ++ two.0
-    , two.1 ∙ ap (λ x. Some (x ++ two.0)) same ∙ ap (λ x. Some x) (append_assoc held one.0 two.0)
-    , append_assoc one.0 two.0 v ∙ ap (λ x. one.0 ++ x) two.2 ∙ one.2 )
+    let same : h ≡ held ++ one.0 = some_is one.1 in (
+      one.0 ++ two.0,
+      two.1 ∙ ap (λ x. Some (x ++ two.0)) same ∙ ap (λ x. Some x) (append_assoc held one.0 two.0),
+      append_assoc one.0 two.0 v ∙ ap (λ x. one.0 ++ x) two.2 ∙ one.2,
+    )
 
 -- a sink that owed a text, and was then written this of it
 pub owes_wrote : (a b c : Option (List ℕ)) (t u : List ℕ) (x : Unit {0}) → Owes a t b u → WritesText b u (Ok x) c → Wrote a t c
@@ -68,10 +69,11 @@ owes_took None None c t u one two = two
 owes_took None (Some h) c t u one two = absurd (cc)
 owes_took (Some held) None c t u one two = let no : Some (held ++ one.0) ≡ None = sym one.1 in absurd (cc)
 owes_took (Some held) (Some h) c t u one two =
-    let same : h ≡ held ++ one.0 = some_is one.1 in
-    ( one.0 ++ two.0
-    , record { rest = two.1.rest; whole = append_assoc one.0 two.0 two.1.rest ∙ ap (λ y. one.0 ++ y) two.1.whole ∙ one.2 }
-    , two.2 ∙ ap (λ y. Some (y ++ two.0)) same ∙ ap (λ y. Some y) (append_assoc held one.0 two.0) )
+    let same : h ≡ held ++ one.0 = some_is one.1 in (
+      one.0 ++ two.0,
+      record { rest = two.1.rest; whole = append_assoc one.0 two.0 two.1.rest ∙ ap (λ y. one.0 ++ y) two.1.whole ∙ one.2 },
+      two.2 ∙ ap (λ y. Some (y ++ two.0)) same ∙ ap (λ y. Some y) (append_assoc held one.0 two.0),
+    )
 
 -- what a write of a beginning took
 pub wrote_took : (b c : Option (List ℕ)) (u rest : List ℕ) (r : Result (Unit {0}) Failed) → WritesText b u r c → Took b (u ++ rest) c
@@ -89,9 +91,10 @@ pub front_on : (s : ReplayState) (left line : List ℕ) (lines : List (List ℕ)
     → (bad_ahead s left ≡ (script_of (s.number + 1) (setup_of p.stage) lines).bad)
     × (journal_ahead s left ≡ p.entries ++ journal (world_of p.stage) (script_of (s.number + 1) (setup_of p.stage) lines).events)
 front_on s left line lines p at is =
-    let step = line_on s.number s.player.stage line lines p is in
-    ( ap (λ ls. (script_of s.number (setup_of s.player.stage) ls).bad) at ∙ step.0
-    , ap (λ ls. journal (world_of s.player.stage) (script_of s.number (setup_of s.player.stage) ls).events) at ∙ step.1 )
+    let step = line_on s.number s.player.stage line lines p is in (
+      ap (λ ls. (script_of s.number (setup_of s.player.stage) ls).bad) at ∙ step.0,
+      ap (λ ls. journal (world_of s.player.stage) (script_of s.number (setup_of s.player.stage) ls).events) at ∙ step.1,
+    )
 
 pub text_on : (trace : List ℕ) (es js : List Entry) → trace ++ print (es ++ js) ≡ (trace ++ print es) ++ print js
 text_on trace es js = ap (λ t. trace ++ t) (print_append es js) ∙ sym (append_assoc trace (print es) (print js))
@@ -128,9 +131,10 @@ moves s mid left rest held line cut takes =
 pub bad_on : (s : ReplayState) (left line : List ℕ) (lines : List (List ℕ)) (n : ℕ) → script_lines s.room (s.held ++ left) ≡ line ∷ lines → played s.player.stage line ≡ None → n ≡ s.number
     → (bad_ahead s left ≡ Some n) × (s.player.trace ≡ text_ahead s left)
 bad_on s left line lines n at is number =
-    let script : script_ahead s left ≡ record { events = []; bad = Some s.number } = ap (λ ls. script_of s.number (setup_of s.player.stage) ls) at ∙ line_bad s.number s.player.stage line lines is in
-    ( ap (λ (x : Script). x.bad) script ∙ sym (ap (λ k. Some k) number)
-    , sym (append-nil s.player.trace) ∙ sym (ap (λ (x : Script). s.player.trace ++ print (journal (world_of s.player.stage) x.events)) script) )
+    let script : script_ahead s left ≡ record { events = []; bad = Some s.number } = ap (λ ls. script_of s.number (setup_of s.player.stage) ls) at ∙ line_bad s.number s.player.stage line lines is in (
+      ap (λ (x : Script). x.bad) script ∙ sym (ap (λ k. Some k) number),
+      sym (append-nil s.player.trace) ∙ sym (ap (λ (x : Script). s.player.trace ++ print (journal (world_of s.player.stage) x.events)) script),
+    )
 
 -- the first line is played in part
 pub part_on : (s : ReplayState) (left line : List ℕ) (lines : List (List ℕ)) (new : PlayerState) → script_lines s.room (s.held ++ left) ≡ line ∷ lines → HasBegun s.player line new
@@ -138,12 +142,13 @@ pub part_on : (s : ReplayState) (left line : List ℕ) (lines : List (List ℕ))
 part_on s left line lines new at begun =
     let p = begun.line_is in
     let js = journal (world_of p.stage) (script_of (s.number + 1) (setup_of p.stage) lines).events in
-    let front = front_on s left line lines p at begun.is in
-    ( begun.begins.rest ++ print js
-    , ap (λ t. t ++ (begun.begins.rest ++ print js)) begun.trace
-      ∙ append_assoc s.player.trace begun.part (begun.begins.rest ++ print js)
-      ∙ ap (λ t. s.player.trace ++ t) (sym (append_assoc begun.part begun.begins.rest (print js)) ∙ ap (λ t. t ++ print js) begun.begins.whole ∙ sym (print_append p.entries js))
-      ∙ sym (ap (λ es. s.player.trace ++ print es) front.1) )
+    let front = front_on s left line lines p at begun.is in (
+      begun.begins.rest ++ print js,
+      ap (λ t. t ++ (begun.begins.rest ++ print js)) begun.trace
+          ∙ append_assoc s.player.trace begun.part (begun.begins.rest ++ print js)
+          ∙ ap (λ t. s.player.trace ++ t) (sym (append_assoc begun.part begun.begins.rest (print js)) ∙ ap (λ t. t ++ print js) begun.begins.whole ∙ sym (print_append p.entries js))
+          ∙ sym (ap (λ es. s.player.trace ++ print es) front.1),
+    )
 
 pub owes_part : (held : Option (List ℕ)) (text trace rest : List ℕ) → trace ++ rest ≡ text → OwesPart held text held trace
 owes_part held text trace rest is = (rest, owes_as held held text text text (trace ++ rest) refl (sym is) (owes_same held text))
@@ -160,10 +165,11 @@ took_more (Some h) new text more took =
 pub none_on : (s : ReplayState) (left : List ℕ) → script_lines s.room (s.held ++ left) ≡ []
     → (bad_ahead s left ≡ None) × (s.player.trace ≡ text_ahead s left) × (journal_ahead s left ≡ [])
 none_on s left at =
-    let ahead = ap (λ ls. journal (world_of s.player.stage) (script_of s.number (setup_of s.player.stage) ls).events) at in
-    ( ap (λ ls. (script_of s.number (setup_of s.player.stage) ls).bad) at
-    , sym (append-nil s.player.trace) ∙ sym (ap (λ es. s.player.trace ++ print es) ahead)
-    , ahead )
+    let ahead = ap (λ ls. journal (world_of s.player.stage) (script_of s.number (setup_of s.player.stage) ls).events) at in (
+      ap (λ ls. (script_of s.number (setup_of s.player.stage) ls).bad) at,
+      sym (append-nil s.player.trace) ∙ sym (ap (λ es. s.player.trace ++ print es) ahead),
+      ahead,
+    )
 
 -- ---- what a step did, by what the reading of a line did
 
@@ -180,11 +186,12 @@ pub read_over : (left held left' : Option (List ℕ)) (s : ReplayState) (line he
 read_over None held left' s line held1 count small is read = read
 read_over (Some b) held left' s line held1 count small is read =
     let over = script_over s.room (s.held ++ b) read.0 in
-    let none = none_on s b over.0 in
-    ( none.0
-    , omega (arith, over.1)
-    , (let same : s.player.count ≡ capped (s.player.count + 0) = omega (arith, small) in is ∙ same ∙ sym (ap (λ es. capped (s.player.count + length es)) none.2))
-    , owes_all held (text_ahead s b) s.player.trace none.1 )
+    let none = none_on s b over.0 in (
+      none.0,
+      omega (arith, over.1),
+      (let same : s.player.count ≡ capped (s.player.count + 0) = omega (arith, small) in is ∙ same ∙ sym (ap (λ es. capped (s.player.count + length es)) none.2)),
+      owes_all held (text_ahead s b) s.player.trace none.1,
+    )
 
 pub read_last : (left held left' : Option (List ℕ)) (s new : ReplayState) (line held1 : List ℕ) (end : ReplayEnd) → ReadsLine s.room s.held left (Ok End) line held1 left' → PlaysLast line (after s held1) end new
     → Steps left held s (Ok (Some end)) left' held new
@@ -193,15 +200,16 @@ read_last (Some b) held left' s new [] held1 end read plays =
     let none = none_on s b (script_end s.room (s.held ++ b) read.cut).1 in
     let short : over_ahead s b ≡ 0 = (let empty = ap (λ (bs : List ℕ). length bs) (script_end s.room (s.held ++ b) read.cut).0 in omega (arith, empty)) in
     subst (λ e. Stops b held s e left' held new) (sym plays.0)
-      (none.0, short, read.none_left, owes_all held (text_ahead s b) new.player.trace (ap (λ (n : ReplayState). n.player.trace) plays.1 ∙ none.1))
+    (none.0, short, read.none_left, owes_all held (text_ahead s b) new.player.trace (ap (λ (n : ReplayState). n.player.trace) plays.1 ∙ none.1))
 read_last (Some b) held left' s new (c ∷ rest) held1 Done read plays =
     let last = script_last s.room (s.held ++ b) (c ∷ rest) read.cut (λ e. absurd (cc)) in
     let p = plays.line_is in
-    let front = front_on s b (c ∷ rest) [] p last.0 plays.is in
-    ( front.0
-    , omega (arith, last.2)
-    , read.none_left
-    , owes_all held (text_ahead s b) new.player.trace (plays.trace ∙ sym (append-nil (s.player.trace ++ print p.entries)) ∙ sym (text_on s.player.trace p.entries []) ∙ sym (ap (λ es. s.player.trace ++ print es) front.1)) )
+    let front = front_on s b (c ∷ rest) [] p last.0 plays.is in (
+      front.0,
+      omega (arith, last.2),
+      read.none_left,
+      owes_all held (text_ahead s b) new.player.trace (plays.trace ∙ sym (append-nil (s.player.trace ++ print p.entries)) ∙ sym (text_on s.player.trace p.entries []) ∙ sym (ap (λ es. s.player.trace ++ print es) front.1)),
+    )
 read_last (Some b) held left' s new (c ∷ rest) held1 (BadLine n) read plays =
     let last = script_last s.room (s.held ++ b) (c ∷ rest) read.cut (λ e. absurd (cc)) in
     let bad = bad_on s b (c ∷ rest) [] n last.0 plays.1 plays.0 in
@@ -299,9 +307,9 @@ finishes_err (Some a) held s (Some b) held1 s1 left2 held2 s2 r e (Err g) f is s
 -- what is to be written is a beginning at least
 stops_part : (a : List ℕ) (held left2 held2 : Option (List ℕ)) (s s2 : ReplayState) (end : ReplayEnd) → Stops a held s end left2 held2 s2 → OwesPart held (text_ahead s a) held2 s2.player.trace
 stops_part a held left2 held2 s s2 Done stops = whole held held2 _ _ stops.3
- where
-  whole : (old new : Option (List ℕ)) (t u : List ℕ) → Owes old t new u → OwesPart old t new u
-  whole old new t u owes = ([], subst (λ x. Owes old t new x) (sym (append-nil u)) owes)
+  where
+    whole : (old new : Option (List ℕ)) (t u : List ℕ) → Owes old t new u → OwesPart old t new u
+    whole old new t u owes = ([], subst (λ x. Owes old t new x) (sym (append-nil u)) owes)
 stops_part a held left2 held2 s s2 (BadLine n) stops = ([], subst (λ x. Owes held (text_ahead s a) held2 x) (sym (append-nil s2.player.trace)) stops.1)
 stops_part a held left2 held2 s s2 (Limit n) stops = ([], subst (λ x. Owes held (text_ahead s a) held2 x) (sym (append-nil s2.player.trace)) stops.3)
 stops_part a held left2 held2 s s2 ReadFault stops = stops
@@ -316,14 +324,14 @@ pub finished : (left held left2 held2 held3 : Option (List ℕ)) (s s2 : ReplayS
 finished None held left2 held2 held3 s s2 r end f x is ok finishes wrote = tt
 finished (Some a) held left2 held2 held3 s s2 r end f x is ok finishes wrote =
     stopped end (subst (λ q. Finishes (Some a) held s q left2 held2 s2) is finishes) (subst (λ q. WritesText held2 s2.player.trace q held3) ok wrote)
- where
-  stopped : (e : ReplayEnd) → Stops a held s e left2 held2 s2 → WritesText held2 s2.player.trace (Ok x) held3 → Stopped a held s e left2 held3
-  stopped Done stops w = (stops.0, stops.1, stops.2, owes_wrote held held2 held3 _ _ x stops.3 w)
-  stopped (BadLine n) stops w = (stops.0, owes_wrote held held2 held3 _ _ x stops.1 w)
-  stopped (Limit n) stops w = (stops.0, stops.1, stops.2, owes_wrote held held2 held3 _ _ x stops.3 w)
-  stopped ReadFault stops w = took_part held held2 held3 _ _ (Ok x) stops w
-  stopped WriteFault stops w = absurd stops
-  stopped NoMemory stops w = took_part held held2 held3 _ _ (Ok x) stops w
+  where
+    stopped : (e : ReplayEnd) → Stops a held s e left2 held2 s2 → WritesText held2 s2.player.trace (Ok x) held3 → Stopped a held s e left2 held3
+    stopped Done stops w = (stops.0, stops.1, stops.2, owes_wrote held held2 held3 _ _ x stops.3 w)
+    stopped (BadLine n) stops w = (stops.0, owes_wrote held held2 held3 _ _ x stops.1 w)
+    stopped (Limit n) stops w = (stops.0, stops.1, stops.2, owes_wrote held held2 held3 _ _ x stops.3 w)
+    stopped ReadFault stops w = took_part held held2 held3 _ _ (Ok x) stops w
+    stopped WriteFault stops w = absurd stops
+    stopped NoMemory stops w = took_part held held2 held3 _ _ (Ok x) stops w
 
 pub finished_err : (left held left2 held2 held3 : Option (List ℕ)) (s s2 : ReplayState) (r : Result ReplayEnd Failed) (end : ReplayEnd) (f : Result (Unit {0}) Failed) (q : Result ReplayEnd Failed) (e : Failed) → r ≡ Ok end → q ≡ Err e
     → Finishes left held s r left2 held2 s2 → WritesText held2 s2.player.trace f held3 → Finished left held s q left2 held3
@@ -336,14 +344,14 @@ finished_err (Some a) held left2 held2 held3 s s2 r end f (Err y) e is so finish
 pub faults_err : (end : ReplayEnd) (r : Result ReplayEnd Failed) (q : Result ReplayEnd Failed) (e : Failed) (old new : ℕ) → r ≡ Ok end → q ≡ Err e → LinesFaults r old new → SourceFaults q old new
 faults_err end r (Ok y) e old new is so counts = absurd (cc)
 faults_err end r (Err y) e old new is so counts = either end (subst (λ x. LinesFaults x old new) is counts)
- where
-  either : (x : ReplayEnd) → EndFaults x old new → (new ≡ old) ⊎ (new ≡ one_more old)
-  either Done h = inl h
-  either (BadLine n) h = inl h
-  either (Limit n) h = inl h
-  either ReadFault h = inr h
-  either WriteFault h = absurd h
-  either NoMemory h = inl h
+  where
+    either : (x : ReplayEnd) → EndFaults x old new → (new ≡ old) ⊎ (new ≡ one_more old)
+    either Done h = inl h
+    either (BadLine n) h = inl h
+    either (Limit n) h = inl h
+    either ReadFault h = inr h
+    either WriteFault h = absurd h
+    either NoMemory h = inl h
 
 -- after all steps, from the last of them
 pub faults_after : (end : ReplayEnd) (r : Result (Option ReplayEnd) Failed) (old mid new : ℕ) → r ≡ Ok (Some end) → mid ≡ old → StepFaults r mid new → EndFaults end old new

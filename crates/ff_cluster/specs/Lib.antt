@@ -8,3 +8,4 @@ pub mod Script
 pub mod Writing
 pub mod Player
 pub mod Replay
+pub mod Run

@@ -10,7 +10,8 @@ mod lines_tests;
 mod player;
 pub mod print;
 mod print_law;
-mod replay;
+pub mod replay;
+pub mod run;
 #[cfg(test)]
 mod trace_tests;
 pub mod world;

@@ -19,7 +19,7 @@ fn put_number(number: u64, out: &mut Out) -> Result<(), NoMemory>
 }
 
 /// Appends a text and a number.
-fn put_numbered(text: &[u8], number: u64, out: &mut Out) -> Result<(), NoMemory>
+pub fn put_numbered(text: &[u8], number: u64, out: &mut Out) -> Result<(), NoMemory>
     ensures { Grows out.old result out.new (text.now ++ decimal number) }
 {
     out.raw(text)?;

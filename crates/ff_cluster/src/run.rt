@@ -1,0 +1,124 @@
+//! The top call.
+
+ghost use Rattle.std.specs.Prelude.{◌≡◌, ◌++◌, map, OnOk};
+ghost use Rattle.std.specs.String.{string_bytes};
+ghost use Rattle.rpc_record.specs.Stream.{counted};
+ghost use Rattle.ff_cluster.specs.declared.run.Outcome.{Outcome as AnOutcome};
+ghost use Rattle.ff_cluster.specs.Writing.{WritesText};
+ghost use Rattle.ff_cluster.specs.Run.{is_replay, status_of, note_of, numbered, Did, DidRead, did_write, Says};
+
+use crate::print::put_numbered;
+use crate::replay::{ReplayEnd, replay};
+use crate::writing::write_all;
+use ff_xdr::{NoMemory, Out};
+use rpc_record::{Failed, Sink, Source};
+use std::alloc::Global;
+
+/// What the program did.
+#[derive(Clone, Copy, Debug, PartialEq, Eq)]
+pub enum Outcome {
+    /// Nothing: its words are no command.
+    Usage,
+    /// It ran a script, which ended so.
+    Ended(ReplayEnd),
+}
+
+impl Outcome {
+    /// The status that the program ends with.
+    pub fn status(self) -> u8
+        ensures { result ≡ status_of self }
+    {
+        match self {
+            Outcome::Usage => 2,
+            Outcome::Ended(ReplayEnd::Done) => 0,
+            Outcome::Ended(ReplayEnd::BadLine(_)) => 3,
+            Outcome::Ended(ReplayEnd::ReadFault) => 4,
+            Outcome::Ended(ReplayEnd::WriteFault) => 5,
+            Outcome::Ended(ReplayEnd::NoMemory) => 8,
+            Outcome::Ended(ReplayEnd::Limit(_)) => 9,
+        }
+    }
+
+    /// Writes the line that says it, and nothing where all went well.
+    fn tell<E: Sink>(self, alloc: Global, notes: &mut E) -> Result<(), Failed>
+        ensures told { WritesText (E.held notes.old) (note_of self) result (E.held notes.new) }
+        ensures faults { E.faults notes.new ≡ counted result (E.faults notes.old) }
+    {
+        match self {
+            Outcome::Usage => write_all(notes, b"usage\n"),
+            Outcome::Ended(ReplayEnd::Done) => Ok(()),
+            Outcome::Ended(ReplayEnd::BadLine(number)) => tell_number(
+                alloc, b"line ", number, notes,
+            ),
+            Outcome::Ended(ReplayEnd::ReadFault) => write_all(notes, b"read fault\n"),
+            Outcome::Ended(ReplayEnd::WriteFault) => write_all(notes, b"write fault\n"),
+            Outcome::Ended(ReplayEnd::NoMemory) => write_all(notes, b"no memory\n"),
+            Outcome::Ended(ReplayEnd::Limit(count)) => tell_number(alloc, b"limit ", count, notes),
+        }
+    }
+}
+
+/// Writes a line of a word and a number. Nothing is written where there is no memory for the line.
+fn tell_number<E: Sink>(
+    alloc: Global,
+    word: &[u8],
+    number: u64,
+    notes: &mut E,
+) -> Result<(), Failed>
+    ensures told { WritesText (E.held notes.old) (numbered word.now number) result (E.held notes.new) }
+    ensures faults { E.faults notes.new ≡ counted result (E.faults notes.old) }
+{
+    let mut line = Out::new(alloc);
+    if put_note(&mut line, word, number).is_err() {
+        return Err(Failed::NoMemory);
+    }
+    write_all(notes, line.bytes())
+}
+
+/// Appends a line of a word and a number.
+fn put_note(line: &mut Out, word: &[u8], number: u64) -> Result<(), NoMemory>
+    ensures { OnOk result (line.new ≡ line.old ++ numbered word.now number) }
+{
+    put_numbered(word, number, line)?;
+    line.raw(b"\n")
+}
+
+/// The words behind the program's name are those of the command that runs a script.
+fn asks_replay(words: &[String]) -> bool
+    ensures { result ≡ is_replay (map string_bytes words.now) }
+{
+    match words {
+        [word] => word.as_bytes() == b"replay".as_slice(),
+        _ => false,
+    }
+}
+
+/// Runs the program: `words` are those behind its name, `source` its standard input, `sink` its
+/// standard output and `notes` its standard error. The status is 0 where the script was run to its
+/// end, 2 where the words are no command, 3 where a line is outside the grammar, 4 where the source
+/// failed, 5 where the sink or the notes did, 8 where memory was wanted, and 9 where the script is
+/// longer than 64 MiB.
+pub fn run<S: Source, K: Sink, E: Sink>(
+    alloc: Global,
+    words: &[String],
+    source: &mut S,
+    sink: &mut K,
+    notes: &mut E,
+) -> u8
+    ensures { (outcome : AnOutcome)
+        × Did (is_replay (map string_bytes words.now)) outcome (S.left source.old) (K.held sink.old) (S.left source.new) (K.held sink.new)
+        × DidRead outcome (S.faults source.old) (S.faults source.new)
+        × (K.faults sink.new ≡ did_write outcome (K.faults sink.old))
+        × Says outcome result (E.held notes.old) (E.held notes.new) (E.faults notes.old) (E.faults notes.new) }
+{
+    let outcome = if asks_replay(words) {
+        Outcome::Ended(replay(alloc, source, sink))
+    } else {
+        Outcome::Usage
+    };
+    match outcome.tell(alloc, notes) {
+        Ok(()) => outcome.status(),
+        Err(Failed::Fault) => 5,
+        Err(Failed::NoMemory) => 8,
+    }
+}
