@@ -1,4 +1,5 @@
-use crate::{Ended, LineBuffer, line_laws};
+use crate::lines::{Ended, LineBuffer};
+use crate::lines_law::line_laws;
 use rpc_record::{Failed, MemorySource, SureSource};
 use std::test::Fail;
 

@@ -13,8 +13,32 @@ mod print_law;
 pub mod replay;
 pub mod run;
 #[cfg(test)]
+mod run_tests;
+#[cfg(test)]
 mod trace_tests;
 pub mod world;
 mod writing;
 
-fn main() {}
+use rpc_record::{StdSink, StdSource};
+use run::run;
+use std::process::ExitCode;
+use std::{env, io};
+
+/// The words behind the program's name.
+fn words(rt: &HostRuntime) -> io::Result<Vec<String>> {
+    let mut words = Vec::new(rt.alloc());
+    for word in env::args(rt)?.skip(1) {
+        words.push(word)?;
+    }
+    Ok(words)
+}
+
+/// Runs the program on the standard input and output, with its notes on the standard error. Words that
+/// are not UTF-8 are no command.
+fn main(rt: HostRuntime) -> ExitCode {
+    let mut source = StdSource::new(rt.stdin());
+    let mut sink = StdSink::new(rt.stdout());
+    let mut notes = StdSink::new(rt.stderr());
+    let words = words(&rt).unwrap_or(Vec::new(rt.alloc()));
+    ExitCode::from(run(rt.alloc(), &words, &mut source, &mut sink, &mut notes))
+}

@@ -1,8 +1,9 @@
 //! Lines of a script, and a journal's text.
 
-use crate::{
-    Cred, Digits, Entry, Event, Line, MirrorId, NodeId, Setup, parse_line, put_entry, put_hex,
-};
+use crate::digits::{Digits, put_hex};
+use crate::line::{Event, Line, Setup, parse_line};
+use crate::print::put_entry;
+use ds_files::{Cred, Entry, MirrorId, NodeId};
 use ff_xdr::{Data, Out};
 use std::alloc::Global;
 use std::str;
