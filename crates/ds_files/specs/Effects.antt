@@ -9,7 +9,7 @@ use Rattle.nfs3_wire.specs.Replies.{WriteDone}
 use Rattle.ds_files.specs.declared.entry.MirrorId.{MirrorId}
 use Rattle.ds_files.specs.File.{FileState, written}
 use Rattle.ds_files.specs.Answer.{Answer}
-use Rattle.ds_files.specs.Server.{Step, write_step, write_file, object_of, wcc_of, file_attributes, is_synced, stability_of, applied_entries, committed_entries, count_after, read_reply, read_file, read_refusal}
+use Rattle.ds_files.specs.Server.{Step, write_step, write_file, object_of, changed, file_attributes, is_synced, stability_of, applied_entries, committed_entries, count_after, read_reply, read_file, read_refusal}
 use Rattle.ds_files.specs.Heads.{state_of, sized_refusal, IsServer}
 
 -- the step of a WRITE
@@ -26,7 +26,7 @@ done_answer h fileid f a uid =
     let file = written f (record { boot = h.boot; count = h.count + 1 }) a.offset (is_synced a.stable) a.bytes.now in
     let mirror : MirrorId = record { server = h.number; fileid = fileid } in
     record {
-      reply = WriteDone (wcc_of (Some (file_attributes fileid file))) (length a.bytes.now) (stability_of (is_synced a.stable)) h.boot;
+      reply = WriteDone (changed (file_attributes fileid f) (file_attributes fileid file)) (length a.bytes.now) (stability_of (is_synced a.stable)) h.boot;
       entries = applied_entries mirror uid a.offset a.bytes.now ++ committed_entries mirror (is_synced a.stable);
     }
 

@@ -10,6 +10,7 @@ use Rattle.nfs3_wire.specs.declared.enums.Stat3.{Stat3}
 use Rattle.nfs3_wire.specs.declared.enums.Stat3.TheVariants as stat
 use Rattle.nfs3_wire.specs.declared.attributes.Time3.{Time3}
 use Rattle.nfs3_wire.specs.declared.attributes.Fattr3.{Fattr3}
+use Rattle.nfs3_wire.specs.declared.attributes.WccAttr.{WccAttr}
 use Rattle.nfs3_wire.specs.declared.attributes.WccData.{WccData}
 use Rattle.nfs3_wire.specs.Calls.{Call}
 use Rattle.nfs3_wire.specs.Calls as calls
@@ -97,9 +98,17 @@ file_attributes fileid f = record {
   ctime = time_of f.times.ctime;
 }
 
--- attributes after an operation and none from before it
-abbrev pub wcc_of : Option Fattr3 → WccData
-wcc_of after = record { before = None; after = after }
+-- what is said of an object from before an operation, and after it (RFC 1813, section 2.6)
+abbrev pub wcc_attr_of : Fattr3 → WccAttr
+wcc_attr_of a = record { size = a.size; mtime = a.mtime; ctime = a.ctime }
+
+abbrev pub changed : Fattr3 → Fattr3 → WccData
+changed before after = record { before = Some (wcc_attr_of before); after = Some after }
+
+-- the same where the object stays as it is, or there is none
+abbrev pub unchanged : Option Fattr3 → WccData
+unchanged None = record { before = None; after = None }
+unchanged (Some a) = changed a a
 
 -- ---- handles: the fileid as eight bytes
 
@@ -229,17 +238,17 @@ write_done s index f offset how bytes uid =
     let file = written f (next_tick s) offset (is_synced how) bytes in
     record {
       server = record { number = s.number; boot = s.boot; count = count_after s.count bytes; root = s.root; files = slice_set s.files index file };
-      reply = WriteDone (wcc_of (Some (file_attributes (index + 2) file))) (length bytes) (stability_of (is_synced how)) s.boot;
+      reply = WriteDone (changed (file_attributes (index + 2) f) (file_attributes (index + 2) file)) (length bytes) (stability_of (is_synced how)) s.boot;
       entries = applied_entries (mirror_of s index) uid offset bytes ++ committed_entries (mirror_of s index) (is_synced how);
     }
 
 abbrev pub write_file : ServerState → ℕ → FileState → ℕ → StableHow → List ℕ → ℕ → Option Stat3 → Step
-write_file s index f offset how bytes uid (Some status) = stays s (WriteRefused status (wcc_of (Some (file_attributes (index + 2) f))))
+write_file s index f offset how bytes uid (Some status) = stays s (WriteRefused status (unchanged (Some (file_attributes (index + 2) f))))
 write_file s index f offset how bytes uid None = write_done s index f offset how bytes uid
 
 abbrev pub write_step : ServerState → Object → ℕ → ℕ → StableHow → List ℕ → Credential → Step
-write_step s (Missing status) offset count how bytes cred = stays s (WriteRefused status (wcc_of None))
-write_step s Root offset count how bytes cred = stays s (WriteRefused stat.Inval (wcc_of (Some (root_attributes s.root))))
+write_step s (Missing status) offset count how bytes cred = stays s (WriteRefused status (unchanged None))
+write_step s Root offset count how bytes cred = stays s (WriteRefused stat.Inval (unchanged (Some (root_attributes s.root))))
 write_step s (File index f) offset count how bytes cred = write_file s index f offset how bytes cred.uid (write_refusal s index f offset count how bytes cred)
 
 -- The rule: what a call by this credential does.

@@ -3,11 +3,11 @@
 ghost use Rattle.std.specs.Prelude.{◌≡◌, IfSome};
 ghost use Rattle.ds_files.specs.Heads.{Refuses};
 ghost use Rattle.rpc_record.specs.Rpc.{plain_credential};
-ghost use Rattle.ds_files.specs.Server.{time_of, root_attributes, file_attributes, wcc_of, allows, is_member, may_read, may_write, read_refusal, is_synced, stability_of};
+ghost use Rattle.ds_files.specs.Server.{time_of, root_attributes, file_attributes, changed, unchanged, allows, is_member, may_read, may_write, read_refusal, is_synced, stability_of};
 
 use crate::file::DataFile;
 use crate::tick::{Tick, Times};
-use nfs3_wire::{Fattr3, FileType, Specdata3, StableHow, Stat3, Time3, WccData};
+use nfs3_wire::{Fattr3, FileType, Specdata3, StableHow, Stat3, Time3, WccAttr, WccData};
 use rpc_record::AuthSys;
 
 /// The owner may read (`mode`, RFC 1813, section 2.5).
@@ -80,13 +80,31 @@ pub fn file_attributes(fileid: u64, file: &DataFile) -> Fattr3
     }
 }
 
-/// Attributes after an operation, and none from before it.
-pub fn wcc_of(after: Option<Fattr3>) -> WccData
-    ensures { result ≡ wcc_of after }
+/// What is said of an object from before an operation, and after it (RFC 1813, section 2.6).
+pub fn changed(before: &Fattr3, after: Fattr3) -> WccData
+    ensures { result ≡ changed before.now after }
 {
+    let before = WccAttr {
+        size: before.size,
+        mtime: before.mtime,
+        ctime: before.ctime,
+    };
     WccData {
-        before: None,
-        after,
+        before: Some(before),
+        after: Some(after),
+    }
+}
+
+/// The same where the object stays as it is, or there is none.
+pub fn unchanged(attributes: Option<Fattr3>) -> WccData
+    ensures { result ≡ unchanged attributes }
+{
+    match attributes {
+        None => WccData {
+            before: None,
+            after: None,
+        },
+        Some(attributes) => changed(&attributes, attributes),
     }
 }
 

@@ -118,8 +118,14 @@ fn meaning(name: &str) -> &str {
         "tick6" => "00000001 00000006 00000001 00000006",
         "tick7" => "00000001 00000007 00000001 00000007",
         "last_tick" => "00000001 3b9ac9ff 00000001 3b9ac9ff",
-        // no attributes before a WRITE, and the verifier of the first boot
-        "before" => "00000000",
+        // from before a WRITE, of the root, of the file while it is empty, and the file's sizes
+        "dir_before" => "00000000 00001000 00000001 00000001 00000001 00000001",
+        "empty_before" => "00000000 00000000 00000001 00000001 00000001 00000001",
+        "2_long" => "00000000 00000002",
+        "3_long" => "00000000 00000003",
+        "6_long" => "00000000 00000006",
+        "all_long" => "00000000 04000000",
+        // the verifier of the first boot
         "boot" => "00000000 00000001",
         _ => name,
     }
@@ -443,7 +449,7 @@ the file is as it was made
 /// The first write and the read of it, word by word.
 const EXCHANGE: &str = "\
 > 00000007 00000000 00000002 000186a3 00000003 00000007 00000001 00000018 00000000 00000002 63310000 00010000 00010000 00000000 00000000 00000000 00000008 00000000 00000002 00000000 00000000 00000002 00000002 00000002 41420000
-< 00000007 00000001 00000000 00000000 00000000 00000000 00000000 00000000 00000001 00000001 000001a0 00000001 00010000 00010000 00000000 00000002 00000000 00000002 00000000 00000000 00000000 00000001 00000000 00000002 00000001 00000001 00000001 00000002 00000001 00000002 00000002 00000002 00000000 00000001
+< 00000007 00000001 00000000 00000000 00000000 00000000 00000000 00000001 00000000 00000000 00000001 00000001 00000001 00000001 00000001 00000001 000001a0 00000001 00010000 00010000 00000000 00000002 00000000 00000002 00000000 00000000 00000000 00000001 00000000 00000002 00000001 00000001 00000001 00000002 00000001 00000002 00000002 00000002 00000000 00000001
 + applied 1.2 65536 0 [65, 66]
 + committed 1.2
 > 00000008 00000000 00000002 000186a3 00000003 00000006 00000001 00000018 00000000 00000002 63310000 00010000 00010000 00000000 00000000 00000000 00000008 00000000 00000002 00000000 00000000 00000002
@@ -460,11 +466,11 @@ a handle has not eight bytes, also by a stranger
 > call nfs read stranger verf 00000000 first 00000002
 < success bad_handle no_attr
 > call nfs write owner verf 00000007 00000000 00000200 first 00000002 file_sync AB
-< success bad_handle before no_attr
+< success bad_handle no_attr no_attr
 > call nfs write owner verf 00000009 00000000 00000000 02000000 first 00000002 file_sync AB
-< success bad_handle before no_attr
+< success bad_handle no_attr no_attr
 > call nfs write stranger verf 00000000 first 00000003 file_sync AB
-< success bad_handle before no_attr
+< success bad_handle no_attr no_attr
 a handle names nothing, also by a stranger
 > call nfs read owner verf 00000008 00000000 00000000 first 00000002
 < success stale no_attr
@@ -473,11 +479,11 @@ a handle names nothing, also by a stranger
 > call nfs read stranger verf 00000008 ffffffff ffffffff first 00000002
 < success stale no_attr
 > call nfs write owner verf 00000008 00000000 00000000 first 00000002 file_sync AB
-< success stale before no_attr
+< success stale no_attr no_attr
 > call nfs write owner verf 00000008 00000000 00000003 first 00000002 file_sync AB
-< success stale before no_attr
+< success stale no_attr no_attr
 > call nfs write stranger verf 00000008 ffffffff ffffffff first 00000003 file_sync AB
-< success stale before no_attr
+< success stale no_attr no_attr
 the root is no file, also for a stranger
 > call nfs read owner verf dir first 00000002
 < success inval attr dir_attr
@@ -486,32 +492,32 @@ the root is no file, also for a stranger
 > call nfs read root verf dir first 00000002
 < success inval attr dir_attr
 > call nfs write root verf dir first 00000002 file_sync AB
-< success inval before attr dir_attr
+< success inval attr dir_before attr dir_attr
 > call nfs write stranger verf dir first 00000002 file_sync AB
-< success inval before attr dir_attr
+< success inval attr dir_before attr dir_attr
 a stranger does nothing with the file, also with a count that differs and with no bytes
 > call nfs read stranger verf file first 00000002
 < success acces attr empty
 > call nfs write stranger verf file first 00000002 file_sync AB
-< success acces before attr empty
+< success acces attr empty_before attr empty
 > call nfs write stranger verf file first 00000003 file_sync AB
-< success acces before attr empty
+< success acces attr empty_before attr empty
 > call nfs write stranger verf file first 00000000 file_sync 00000000
-< success acces before attr empty
+< success acces attr empty_before attr empty
 > call nfs write stranger verf file ffffffff ffffffff 00000002 file_sync AB
-< success acces before attr empty
+< success acces attr empty_before attr empty
 a member of the group reads, and does not write
 > call nfs read member verf file first 00000002
 < success ok attr empty 00000000 00000001 00000000
 > call nfs read member2 verf file first 00000002
 < success ok attr empty 00000000 00000001 00000000
 > call nfs write member verf file first 00000002 file_sync AB
-< success acces before attr empty
+< success acces attr empty_before attr empty
 > call nfs write member2 verf file first 00000002 file_sync AB
-< success acces before attr empty
+< success acces attr empty_before attr empty
 uid 0 writes and reads
 > call nfs write root verf file first 00000002 unstable AB
-< success ok before attr who 2_bytes where tick2 00000002 unstable boot
+< success ok attr empty_before attr who 2_bytes where tick2 00000002 unstable boot
 + applied 1.2 0 0 [65, 66]
 > call nfs read root verf file first 00000002
 < success ok attr who 2_bytes where tick2 00000002 00000001 00000002 41420000
@@ -524,40 +530,40 @@ the root's times stay
 const BYTES: &str = "\
 a write that need not be stable is read
 > call nfs write owner verf file first 00000002 unstable AB
-< success ok before attr who 2_bytes where tick2 00000002 unstable boot
+< success ok attr empty_before attr who 2_bytes where tick2 00000002 unstable boot
 + applied 1.2 65536 0 [65, 66]
 > call nfs read owner verf file first 00000002
 < success ok attr who 2_bytes where tick2 00000002 00000001 00000002 41420000
 a write of no bytes takes no tick, and commits the file where it is to be stable
 > call nfs write owner verf file first 00000000 unstable 00000000
-< success ok before attr who 2_bytes where tick2 00000000 unstable boot
+< success ok attr 2_long tick2 attr who 2_bytes where tick2 00000000 unstable boot
 > call nfs write owner verf file first 00000000 data_sync 00000000
-< success ok before attr who 2_bytes where tick2 00000000 file_sync boot
+< success ok attr 2_long tick2 attr who 2_bytes where tick2 00000000 file_sync boot
 + committed 1.2
 > call nfs write owner verf file first 00000000 file_sync 00000000
-< success ok before attr who 2_bytes where tick2 00000000 file_sync boot
+< success ok attr 2_long tick2 attr who 2_bytes where tick2 00000000 file_sync boot
 + committed 1.2
 > call nfs write owner verf file ffffffff ffffffff 00000000 unstable 00000000
-< success ok before attr who 2_bytes where tick2 00000000 unstable boot
+< success ok attr 2_long tick2 attr who 2_bytes where tick2 00000000 unstable boot
 > call nfs write owner verf file ffffffff ffffffff 00000000 file_sync 00000000
-< success ok before attr who 2_bytes where tick2 00000000 file_sync boot
+< success ok attr 2_long tick2 attr who 2_bytes where tick2 00000000 file_sync boot
 + committed 1.2
 what a write overlaps is written over
 > call nfs write owner verf file 00000000 00000001 00000002 data_sync 00000002 43440000
-< success ok before attr who 3_bytes where tick3 00000002 file_sync boot
+< success ok attr 2_long tick2 attr who 3_bytes where tick3 00000002 file_sync boot
 + applied 1.2 65536 1 [67, 68]
 + committed 1.2
 > call nfs read owner verf file first 00000003
 < success ok attr who 3_bytes where tick3 00000003 00000001 00000003 41434400
 zeros stand in a gap
 > call nfs write owner verf file 00000000 00000005 00000001 unstable 00000001 45000000
-< success ok before attr who 6_bytes where tick4 00000001 unstable boot
+< success ok attr 3_long tick3 attr who 6_bytes where tick4 00000001 unstable boot
 + applied 1.2 65536 5 [69]
 > call nfs read owner verf file first ffffffff
 < success ok attr who 6_bytes where tick4 00000006 00000001 00000006 41434400 00450000
 a stable write stands over the pending ones
 > call nfs write owner verf file 00000000 00000004 00000002 file_sync 00000002 46470000
-< success ok before attr who 6_bytes where tick5 00000002 file_sync boot
+< success ok attr 6_long tick4 attr who 6_bytes where tick5 00000002 file_sync boot
 + applied 1.2 65536 4 [70, 71]
 + committed 1.2
 > call nfs read owner verf file first ffffffff
@@ -582,32 +588,32 @@ a READ of no bytes, before the end and at it
 < success ok attr who 6_bytes where tick5 00000000 00000001 00000000
 a count that differs from the data's length, also past the longest that a file may be
 > call nfs write owner verf file first 00000003 file_sync AB
-< success inval before attr who 6_bytes where tick5
+< success inval attr 6_long tick5 attr who 6_bytes where tick5
 > call nfs write owner verf file first 00000001 file_sync AB
-< success inval before attr who 6_bytes where tick5
+< success inval attr 6_long tick5 attr who 6_bytes where tick5
 > call nfs write owner verf file first 00000000 file_sync AB
-< success inval before attr who 6_bytes where tick5
+< success inval attr 6_long tick5 attr who 6_bytes where tick5
 > call nfs write owner verf file first 00000001 file_sync 00000000
-< success inval before attr who 6_bytes where tick5
+< success inval attr 6_long tick5 attr who 6_bytes where tick5
 > call nfs write owner verf file ffffffff ffffffff 00000003 file_sync AB
-< success inval before attr who 6_bytes where tick5
+< success inval attr 6_long tick5 attr who 6_bytes where tick5
 a write past the longest that a file may be
 > call nfs write owner verf file 00000000 04000000 00000001 file_sync 00000001 48000000
-< success fbig before attr who 6_bytes where tick5
+< success fbig attr 6_long tick5 attr who 6_bytes where tick5
 > call nfs write owner verf file 00000000 03ffffff 00000002 file_sync 00000002 48480000
-< success fbig before attr who 6_bytes where tick5
+< success fbig attr 6_long tick5 attr who 6_bytes where tick5
 > call nfs write owner verf file ffffffff ffffffff 00000001 unstable 00000001 48000000
-< success fbig before attr who 6_bytes where tick5
+< success fbig attr 6_long tick5 attr who 6_bytes where tick5
 > call nfs write root verf file ffffffff fffffffe 00000002 unstable 00000002 48480000
-< success fbig before attr who 6_bytes where tick5
+< success fbig attr 6_long tick5 attr who 6_bytes where tick5
 the last byte that a file may have
 > call nfs write owner verf file 00000000 03ffffff 00000001 unstable 00000001 48000000
-< success ok before attr who all_bytes where tick6 00000001 unstable boot
+< success ok attr 6_long tick5 attr who all_bytes where tick6 00000001 unstable boot
 + applied 1.2 65536 67108863 [72]
 > call nfs read owner verf file 00000000 03ffffff 00000002
 < success ok attr who all_bytes where tick6 00000001 00000001 00000001 48000000
 > call nfs write owner verf file 00000000 04000000 00000001 file_sync 00000001 48000000
-< success fbig before attr who all_bytes where tick6
+< success fbig attr all_long tick6 attr who all_bytes where tick6
 one READ gives 1,048,576 bytes at the most
 > call nfs read owner verf file first ffffffff
 < success ok attr who all_bytes where tick6 00100000 00000000 00100000 41434400 46470000 *1048568
@@ -615,7 +621,7 @@ one READ gives 1,048,576 bytes at the most
 < success ok attr who all_bytes where tick6 000fffff 00000001 000fffff *1048574 4800
 and one WRITE has as many
 > call nfs write owner verf file first 00100000 unstable 00100000 *1048576
-< success ok before attr who all_bytes where tick7 00100000 unstable boot
+< success ok attr all_long tick6 attr who all_bytes where tick7 00100000 unstable boot
 + applied 1.2 65536 0 1048576 bytes
 > call nfs read owner verf file first 00000004
 < success ok attr who all_bytes where tick7 00000004 00000000 00000004 00000000
@@ -625,23 +631,23 @@ and one WRITE has as many
 const LAST_TICK: &str = "\
 the last tick
 > call nfs write owner verf file first 00000002 unstable AB
-< success ok before attr who 2_bytes where last_tick 00000002 unstable boot
+< success ok attr empty_before attr who 2_bytes where last_tick 00000002 unstable boot
 + applied 1.2 65536 0 [65, 66]
 none is left
 > call nfs write owner verf file first 00000002 file_sync 00000002 43440000
-< success jukebox before attr who 2_bytes where last_tick
+< success jukebox attr 2_long last_tick attr who 2_bytes where last_tick
 > call nfs write root verf file 00000000 03ffffff 00000001 unstable 00000001 43000000
-< success jukebox before attr who 2_bytes where last_tick
+< success jukebox attr 2_long last_tick attr who 2_bytes where last_tick
 what is refused for another cause
 > call nfs write stranger verf file first 00000002 file_sync AB
-< success acces before attr who 2_bytes where last_tick
+< success acces attr 2_long last_tick attr who 2_bytes where last_tick
 > call nfs write owner verf file first 00000003 file_sync AB
-< success inval before attr who 2_bytes where last_tick
+< success inval attr 2_long last_tick attr who 2_bytes where last_tick
 > call nfs write owner verf file 00000000 04000000 00000001 file_sync 00000001 48000000
-< success fbig before attr who 2_bytes where last_tick
+< success fbig attr 2_long last_tick attr who 2_bytes where last_tick
 what takes no tick
 > call nfs write owner verf file first 00000000 file_sync 00000000
-< success ok before attr who 2_bytes where last_tick 00000000 file_sync boot
+< success ok attr 2_long last_tick attr who 2_bytes where last_tick 00000000 file_sync boot
 + committed 1.2
 > call nfs read owner verf file first 00000002
 < success ok attr who 2_bytes where last_tick 00000002 00000001 00000002 41420000

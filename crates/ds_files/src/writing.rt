@@ -5,7 +5,7 @@ ghost use Rattle.rpc_record.specs.Rpc.{plain_credential};
 ghost use Rattle.nfs3_wire.specs.Replies.{WriteRefused, WriteDone};
 ghost use Rattle.ds_files.specs.File.{shown, written};
 ghost use Rattle.ds_files.specs.Answer.{reply_of};
-ghost use Rattle.ds_files.specs.Server.{file_attributes, wcc_of, applied_entries, committed_entries, is_synced, max_total, max_file};
+ghost use Rattle.ds_files.specs.Server.{file_attributes, unchanged, applied_entries, committed_entries, is_synced, max_total, max_file};
 ghost use Rattle.ds_files.specs.Heads.{IsServer, state_of, sized_refusal, Refuses, AttributesFit};
 ghost use Rattle.ds_files.specs.Effects.{step_of_write, answer_of, AnswersFile, done_answer, head_after, ChangesFile};
 
@@ -16,7 +16,8 @@ use crate::head::Head;
 use crate::judge::{place_of, size_refusal};
 use crate::object::Place;
 use crate::rules::{
-    file_attributes, is_synced, may_write, root_attributes, stability_of, time_of, wcc_of,
+    changed, file_attributes, is_synced, may_write, root_attributes, stability_of, time_of,
+    unchanged,
 };
 use crate::stored::StoredReply;
 use crate::tick::Tick;
@@ -91,12 +92,12 @@ fn next_tick(head: &Head) -> Tick
 }
 
 /// The answer of a WRITE that is refused.
-fn refused(alloc: Global, status: Stat3, after: Option<Fattr3>) -> Answer3
+fn refused(alloc: Global, status: Stat3, attributes: Option<Fattr3>) -> Answer3
     requires status { Refuses status }
-    requires after { AttributesFit after }
-    ensures { result ≡ record { reply = WriteRefused status (wcc_of after); entries = [] } }
+    requires attributes { AttributesFit attributes }
+    ensures { result ≡ record { reply = WriteRefused status (unchanged attributes); entries = [] } }
 {
-    let wcc = wcc_of(after);
+    let wcc = unchanged(attributes);
     let reply = WriteReply::Refused { status, wcc };
     Answer3::new(StoredReply::Write(reply), Vec::new(alloc))
 }
@@ -150,8 +151,9 @@ fn done(
     };
     let entries = write_entries(alloc, mirror, uid, args.offset, args.bytes, synced)?;
     let tick = next_tick(head);
+    let before = file_attributes(fileid, file);
     let after = attributes_after(fileid, file, tick, args.offset, synced, args.bytes);
-    let wcc = wcc_of(Some(after));
+    let wcc = changed(&before, after);
     let reply = WriteReply::Done(WriteOk {
         wcc,
         count: args.count,

@@ -1,0 +1,287 @@
+//! Runs of the program over memory. The records stand as NFSv3 has them (RFC 1813), word by word.
+
+ghost use Rattle.std.specs.Prelude.{◌≡◌, ◌≤◌, None, length, IfOk};
+ghost use Rattle.rpc_record.specs.Stream.{counted, Reads};
+
+use crate::replay::ReplayEnd;
+use crate::run::{Outcome, run};
+use rpc_record::{Failed, MemorySink, MemorySource, Source, SureSink};
+use std::alloc::Global;
+use std::test::Fail;
+
+/// A FILE_SYNC WRITE of "AB" at offset 0 by uid 65536, and its reply.
+const WRITE: &str =
+    "000000070000000000000002000186a3000000030000000700000001000000180000000000000002633100000001000000010000000000000000000000000000000000080000000000000002000000000000000000000002000000020000000241420000";
+
+const WRITTEN: &str =
+    "00000007000000010000000000000000000000000000000000000000000000010000000000000000000000010000000100000001000000010000000100000001000001a00000000100010000000100000000000000000002000000000000000200000000000000000000000000000001000000000000000200000001000000010000000100000002000000010000000200000002000000020000000000000001";
+
+/// A READ of 2 bytes at offset 0 by uid 65536, and its reply.
+const READ: &str =
+    "000000080000000000000002000186a3000000030000000600000001000000180000000000000002633100000001000000010000000000000000000000000000000000080000000000000002000000000000000000000002";
+
+const BYTES: &str =
+    "000000080000000100000000000000000000000000000000000000000000000100000001000001a00000000100010000000100000000000000000002000000000000000200000000000000000000000000000001000000000000000200000001000000010000000100000002000000010000000200000002000000010000000241420000";
+
+/// The WRITE by uid 65537, and by uid 0.
+const BY_A_STRANGER: &str =
+    "000000070000000000000002000186a3000000030000000700000001000000180000000000000002633100000001000100010001000000000000000000000000000000080000000000000002000000000000000000000002000000020000000241420000";
+
+const BY_ROOT: &str =
+    "000000070000000000000002000186a3000000030000000700000001000000180000000000000002633100000000000000010000000000000000000000000000000000080000000000000002000000000000000000000002000000020000000241420000";
+
+/// What a run came to.
+#[derive(Drop)]
+struct Record {
+    status: u8,
+    sink: MemorySink,
+    notes: MemorySink,
+}
+
+/// The calls of the source, the sink and the notes that fail.
+#[derive(Clone, Copy)]
+struct Failing {
+    source: u64,
+    sink: u64,
+    notes: u64,
+}
+
+/// No call fails: there is none of number 0.
+const NONE: Failing = Failing {
+    source: 0,
+    sink: 0,
+    notes: 0,
+};
+
+fn ran(alloc: Global, words: &[&str], script: &str, failing: Failing) -> Result<Record, Fail> {
+    let mut said = Vec::new(alloc);
+    for word in words {
+        said.push(String::from_str(alloc, word)?)?;
+    }
+    let mut source = MemorySource::new(
+        script.as_bytes().to_vec(alloc)?,
+        vec![in alloc; failing.source]?,
+    );
+    let mut sink = MemorySink::new(alloc, vec![in alloc; failing.sink]?);
+    let mut notes = MemorySink::new(alloc, vec![in alloc; failing.notes]?);
+    let status = run(alloc, &said, &mut source, &mut sink, &mut notes);
+    Ok(Record {
+        status,
+        sink,
+        notes,
+    })
+}
+
+#[test]
+fn nothing_is_printed_of_no_script(rt: HostRuntime) -> Result<(), Fail> {
+    let ended = ran(rt.alloc(), &["replay"], "", NONE)?;
+    assert_eq!(rt; ended.status, 0);
+    assert_eq!(rt; ended.sink.bytes(), b"".as_slice());
+    assert_eq!(rt; ended.notes.bytes(), b"".as_slice());
+    Ok(())
+}
+
+#[test]
+fn a_write_and_a_read_are_printed(rt: HostRuntime) -> Result<(), Fail> {
+    let script = format!(in rt.alloc(); "bare\ndeliver {WRITE}\n\n# again\ndeliver {READ}")?;
+    let wanted = format!(in rt.alloc();
+        "packet 1 c0 d1 {WRITE}\ndelivered 1\napplied d1.2 65536 0 4142\ncommitted d1.2\npacket 2 d1 c0 {WRITTEN}\npacket 3 c0 d1 {READ}\ndelivered 3\npacket 4 d1 c0 {BYTES}\n"
+    )?;
+    let ended = ran(rt.alloc(), &["replay"], script.as_str(), NONE)?;
+    assert_eq!(rt; ended.status, 0);
+    assert_eq!(rt; ended.sink.bytes(), wanted.as_bytes());
+    assert_eq!(rt; ended.notes.bytes(), b"".as_slice());
+    Ok(())
+}
+
+#[test]
+fn a_stranger_writes_nothing(rt: HostRuntime) -> Result<(), Fail> {
+    let script = format!(in rt.alloc(); "bare\ndeliver {BY_A_STRANGER}\n")?;
+    let ended = ran(rt.alloc(), &["replay"], script.as_str(), NONE)?;
+    let printed = ended.sink.bytes();
+    let before = format!(in rt.alloc();
+        "packet 1 c0 d1 {BY_A_STRANGER}\ndelivered 1\npacket 2 d1 c0 000000070000000100000000000000000000000000000000\
+0000000d000000000000000100000001000001a0000000010001000000010000"
+    )?;
+    assert_eq!(rt; ended.status, 0);
+    assert!(rt; printed.starts_with(before.as_bytes()));
+    Ok(())
+}
+
+#[test]
+fn root_writes(rt: HostRuntime) -> Result<(), Fail> {
+    let script = format!(in rt.alloc(); "bare\ndeliver {BY_ROOT}\n")?;
+    let ended = ran(rt.alloc(), &["replay"], script.as_str(), NONE)?;
+    let wanted = format!(in rt.alloc();
+        "packet 1 c0 d1 {BY_ROOT}\ndelivered 1\napplied d1.2 0 0 4142\ncommitted d1.2\npacket 2 d1 c0 {WRITTEN}\n"
+    )?;
+    assert_eq!(rt; ended.status, 0);
+    assert_eq!(rt; ended.sink.bytes(), wanted.as_bytes());
+    Ok(())
+}
+
+#[test]
+fn a_line_outside_the_grammar_ends_the_run(rt: HostRuntime) -> Result<(), Fail> {
+    let table = [
+        ("deliver 00", "line 1\n"),
+        ("bare\nbare\n", "line 2\n"),
+        ("# a\n\nbare\n deliver 00\n", "line 4\n"),
+        ("bare\ndeliver 0\n", "line 2\n"),
+        ("bare\ndeliver 0G\n", "line 2\n"),
+        ("bare\ndeliver 00\r\n", "line 2\n"),
+        ("bare\nrestart\n", "line 2\n"),
+    ];
+    for (script, note) in table {
+        let ended = ran(rt.alloc(), &["replay"], script, NONE)?;
+        assert_eq!(rt; ended.status, 3);
+        assert_eq!(rt; ended.notes.bytes(), note.as_bytes());
+    }
+    let ended = ran(
+        rt.alloc(),
+        &["replay"],
+        "bare\ndeliver 00\nno\ndeliver 01\n",
+        NONE,
+    )?;
+    assert_eq!(rt; ended.status, 3);
+    assert_eq!(rt;
+        ended.sink.bytes(),
+        b"packet 1 c0 d1 00\ndelivered 1\n".as_slice()
+    );
+    assert_eq!(rt; ended.notes.bytes(), b"line 3\n".as_slice());
+    Ok(())
+}
+
+#[test]
+fn words_that_are_no_command(rt: HostRuntime) -> Result<(), Fail> {
+    let table: [&[&str]; 6] = [
+        &[],
+        &[""],
+        &["replay", "twice"],
+        &["Replay"],
+        &["replay "],
+        &["replay", "replay"],
+    ];
+    for words in table {
+        let ended = ran(rt.alloc(), words, "no script", NONE)?;
+        assert_eq!(rt; ended.status, 2);
+        assert_eq!(rt; ended.sink.bytes(), b"".as_slice());
+        assert_eq!(rt; ended.notes.bytes(), b"usage\n".as_slice());
+    }
+    let untold = ran(
+        rt.alloc(),
+        &["replay", "twice"],
+        "",
+        Failing { notes: 1, ..NONE },
+    )?;
+    assert_eq!(rt; untold.status, 5);
+    assert_eq!(rt; untold.notes.bytes(), b"".as_slice());
+    Ok(())
+}
+
+#[test]
+fn faults_end_a_run(rt: HostRuntime) -> Result<(), Fail> {
+    let script = format!(in rt.alloc(); "bare\ndeliver {WRITE}\n")?;
+    let trace = format!(in rt.alloc();
+        "packet 1 c0 d1 {WRITE}\ndelivered 1\napplied d1.2 65536 0 4142\ncommitted d1.2\npacket 2 d1 c0 {WRITTEN}\n"
+    )?;
+    let table = [
+        (Failing { source: 1, ..NONE }, 4, "", "read fault\n"),
+        (
+            Failing { source: 2, ..NONE },
+            4,
+            trace.as_str(),
+            "read fault\n",
+        ),
+        (Failing { source: 3, ..NONE }, 0, trace.as_str(), ""),
+        (Failing { sink: 1, ..NONE }, 5, "", "write fault\n"),
+        (Failing { sink: 2, ..NONE }, 0, trace.as_str(), ""),
+        (
+            Failing {
+                sink: 1,
+                notes: 1,
+                ..NONE
+            },
+            5,
+            "",
+            "",
+        ),
+        (
+            Failing {
+                source: 2,
+                notes: 1,
+                ..NONE
+            },
+            5,
+            trace.as_str(),
+            "",
+        ),
+        (
+            Failing {
+                source: 2,
+                sink: 1,
+                ..NONE
+            },
+            5,
+            "",
+            "write fault\n",
+        ),
+    ];
+    for (failing, status, printed, note) in table {
+        let ended = ran(rt.alloc(), &["replay"], script.as_str(), failing)?;
+        assert_eq!(rt; ended.status, status);
+        assert_eq!(rt; ended.sink.bytes(), printed.as_bytes());
+        assert_eq!(rt; ended.notes.bytes(), note.as_bytes());
+    }
+    Ok(())
+}
+
+/// A source of comments that never ends. Each is as long as a piece.
+#[derive(Drop)]
+struct Comments;
+
+impl Source for Comments {
+    ghost faults = { λ _. 0 };
+
+    ghost left = { λ _. None };
+
+    fn read(&mut self, piece: &mut [u8]) -> Result<usize, Failed>
+        ensures within { IfOk result (λ n. n ≤ length piece.new) }
+        ensures told { Reads None piece.new result None }
+        ensures faults { 0 ≡ counted result 0 }
+    {
+        piece.fill(b'#');
+        if let Some(last) = piece.last_mut() {
+            *last = b'\n';
+        }
+        Ok(piece.len())
+    }
+}
+
+#[test]
+fn a_script_is_too_long(rt: HostRuntime) -> Result<(), Fail> {
+    let words = vec![in rt.alloc(); String::from_str(rt.alloc(), "replay")?]?;
+    let mut sink = SureSink::new(rt.alloc());
+    let mut notes = SureSink::new(rt.alloc());
+    let status = run(rt.alloc(), &words, &mut Comments, &mut sink, &mut notes);
+    assert_eq!(rt; status, 9);
+    assert_eq!(rt; sink.bytes(), b"".as_slice());
+    assert_eq!(rt; notes.bytes(), b"limit 0\n".as_slice());
+    Ok(())
+}
+
+#[test]
+fn statuses(rt: HostRuntime) -> Result<(), Fail> {
+    let table = [
+        (Outcome::Usage, 2),
+        (Outcome::Ended(ReplayEnd::Done), 0),
+        (Outcome::Ended(ReplayEnd::BadLine(7)), 3),
+        (Outcome::Ended(ReplayEnd::ReadFault), 4),
+        (Outcome::Ended(ReplayEnd::WriteFault), 5),
+        (Outcome::Ended(ReplayEnd::NoMemory), 8),
+        (Outcome::Ended(ReplayEnd::Limit(7)), 9),
+    ];
+    for (outcome, status) in table {
+        assert_eq!(rt; outcome.status(), status);
+    }
+    Ok(())
+}
