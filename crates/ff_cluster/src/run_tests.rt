@@ -237,6 +237,54 @@ fn faults_end_a_run(rt: HostRuntime) -> Result<(), Fail> {
     Ok(())
 }
 
+/// A script of so many READs, each of which is answered.
+fn reads(alloc: Global, count: u32) -> Result<String, Fail> {
+    let mut script = String::from_str(alloc, "bare\n")?;
+    for _ in 0..count {
+        script.push_str("deliver ")?;
+        script.push_str(READ)?;
+        script.push_str("\n")?;
+    }
+    Ok(script)
+}
+
+#[test]
+fn a_fault_leaves_a_beginning(rt: HostRuntime) -> Result<(), Fail> {
+    let script = reads(rt.alloc(), 2_000)?;
+    let whole = ran(rt.alloc(), &["replay"], script.as_str(), NONE)?;
+    assert_eq!(rt; whole.status, 0);
+    let mut printed = 0;
+    for call in 1..=5 {
+        let unread = ran(
+            rt.alloc(),
+            &["replay"],
+            script.as_str(),
+            Failing {
+                source: call,
+                ..NONE
+            },
+        )?;
+        assert_eq!(rt; unread.status, 4);
+        assert_eq!(rt; unread.notes.bytes(), b"read fault\n".as_slice());
+        assert!(rt; whole.sink.bytes().starts_with(unread.sink.bytes()));
+        assert!(rt; call == 1 || unread.sink.bytes().len() > printed);
+        printed = unread.sink.bytes().len();
+    }
+    for call in 1..=5 {
+        let unwritten = ran(
+            rt.alloc(),
+            &["replay"],
+            script.as_str(),
+            Failing { sink: call, ..NONE },
+        )?;
+        assert_eq!(rt; unwritten.status, 5);
+        assert_eq!(rt; unwritten.notes.bytes(), b"write fault\n".as_slice());
+        assert!(rt; whole.sink.bytes().starts_with(unwritten.sink.bytes()));
+        assert!(rt; unwritten.sink.bytes().len() >= (call as usize - 1) * 65_536);
+    }
+    Ok(())
+}
+
 /// A source of comments that never ends. Each is as long as a piece.
 #[derive(Drop)]
 struct Comments;
