@@ -18,7 +18,7 @@ arm_apart (Case number body others) n (inr v) union away = arm_apart others n v 
 arm_apart NoCase n v union away = absurd v
 arm_apart _ n v union away = absurd (false≢true union)
 
-arm_again_where : (form : Form) → IsTrue (is_sound form) → IsTrue (is_union form) → (v : Value form) (bytes : List ℕ) (at to : ℕ) → Fits form v → Stands bytes at (spelling_case form v) to
+pub arm_again_where : (form : Form) → IsTrue (is_sound form) → IsTrue (is_union form) → (v : Value form) (bytes : List ℕ) (at to : ℕ) → Fits form v → Stands bytes at (spelling_case form v) to
     → reading_case form (arm_of form v) bytes at ≡ Ok (v, to)
 arm_again_where (Case number body others) sound union (inl v) bytes at to fits s =
     let here : eqb number number ≡ true = eq-eqb number number refl in

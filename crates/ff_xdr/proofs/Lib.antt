@@ -6,3 +6,7 @@ pub mod Arms
 pub mod Padding
 pub mod Utf8
 pub mod Lists
+pub mod Sequences
+pub mod Seen
+pub mod Refusals
+pub mod ArmRefusals

@@ -36,7 +36,7 @@ pub passed : {A : Type 0} (b : Bool) (d : XdrError) (r : Result A XdrError) (y :
 passed true d r y e = (refl, e)
 passed false d r y e = absurd cc
 
-abbrev done : {A : Type 0} → A → Result A XdrError
+abbrev pub done : {A : Type 0} → A → Result A XdrError
 done x = Ok x
 
 pub ok_is : {A : Type 0} (x y : A) → done x ≡ done y → x ≡ y

@@ -1,7 +1,11 @@
--- The laws of every form: what was spelled is read again, and what is read is spelled so.
-use Rattle.std.specs.Prelude.{◌≡◌, ℕ, ◌+◌, ◌<◌, ◌≤◌, Bool, true, false, List, ◌++◌, length, take, drop, slice_index, Ok}
+-- The laws of every form: what was spelled is read again, what is read is spelled so, and what is refused
+-- has no value.
+use Rattle.std.specs.Prelude.{◌≡◌, ℕ, ◌+◌, ◌<◌, ◌≤◌, Bool, true, false, List, ◌++◌, length, take, drop, slice_index, Result, Ok, Err}
+use Rattle.ff_xdr.specs.declared.error.XdrError.{XdrError}
+use Rattle.ff_xdr.specs.declared.error.XdrWhy.{XdrWhy}
+use Rattle.ff_xdr.specs.declared.error.XdrWhy.TheVariants.{Short, Pad, NotBool, NotEnum, TooLong, NotUtf8, Rest}
 use Rattle.ff_xdr.specs.Form.{Form, Case, NoCase, Value, Fits, spelling, spelling_case, arm_of}
-use Rattle.ff_xdr.specs.Reading.{reading, reading_case}
+use Rattle.ff_xdr.specs.Reading.{reading, reading_case, whole}
 
 abbrev pub IsBytes : List ℕ → Type 0
 IsBytes bytes = (i : ℕ) → slice_index bytes i < 256
@@ -36,3 +40,72 @@ IsArmReadAgain form = (v : Value form) (front rest : List ℕ) → Fits form v
 abbrev pub IsArmSpelledSo : Form → Type 0
 IsArmSpelledSo form = (n : ℕ) (bytes : List ℕ) (at : ℕ) (v : Value form) (to : ℕ) → IsBytes bytes → at ≤ length bytes
     → reading_case form n bytes at ≡ Ok (v, to) → (arm_of form v ≡ n) × Fits form v × Stands bytes at (spelling_case form v) to
+
+-- How many bytes the refused item has from the refused place on: none where the bytes end, a byte of
+-- padding or of what is left over, a word (RFC 4506, section 3), and of a text the longest sequence
+-- that UTF-8 has (RFC 3629, section 3).
+abbrev pub width_of : XdrWhy → ℕ
+width_of Short = 0
+width_of Pad = 1
+width_of NotBool = 4
+width_of NotEnum = 4
+width_of TooLong = 4
+width_of NotUtf8 = 4
+width_of Rest = 1
+
+-- the place behind the refused item
+abbrev pub behind : XdrError → ℕ
+behind e = e.place + width_of e.why
+
+-- what is refused as short is refused at the end of the bytes
+abbrev pub EndsShort : {A : Type 0} → (List ℕ → Result A XdrError) → Type 0
+EndsShort read = (bytes : List ℕ) (e : XdrError) → read bytes ≡ Err e → e.why ≡ Short → e.place ≡ length bytes
+
+-- Any other refusal stands whatever follows the refused item: other bytes that are the same up to there
+-- are refused at the same place for the same reason.
+abbrev pub StopsThere : {A : Type 0} → (List ℕ → Result A XdrError) → Type 0
+StopsThere read = (bytes other : List ℕ) (e : XdrError) → read bytes ≡ Err e → ¬ (e.why ≡ Short)
+    → take (behind e) bytes ≡ take (behind e) other → read other ≡ Err e
+
+abbrev pub IsShortAtEnd : Form → Type 0
+IsShortAtEnd form = (at : ℕ) → EndsShort (λ bytes. reading form bytes at)
+
+abbrev pub IsRefusedThere : Form → Type 0
+IsRefusedThere form = (at : ℕ) → StopsThere (λ bytes. reading form bytes at)
+
+-- Where a reading is refused and the bytes do not end, no value has the refused item there, whatever
+-- follows the value.
+abbrev pub HasNoneThere : Form → Type 0
+HasNoneThere form = (bytes : List ℕ) (at : ℕ) (e : XdrError) → at ≤ length bytes → reading form bytes at ≡ Err e → ¬ (e.why ≡ Short)
+    → (v : Value form) (rest : List ℕ) → Fits form v → ¬ (take (behind e) (take at bytes ++ spelling form v ++ rest) ≡ take (behind e) bytes)
+
+-- Where a reading is refused, for the end of the bytes too, no value stands whole.
+abbrev pub HasNoneWhole : Form → Type 0
+HasNoneWhole form = (bytes : List ℕ) (at : ℕ) (e : XdrError) → reading form bytes at ≡ Err e
+    → (v : Value form) (to : ℕ) → Fits form v → ¬ (Stands bytes at (spelling form v) to)
+
+-- The same of a value and nothing behind it, up to the end of the bytes.
+abbrev pub IsWholeShortAtEnd : Form → Type 0
+IsWholeShortAtEnd form = (at : ℕ) → EndsShort (λ bytes. whole bytes (reading form bytes at))
+
+abbrev pub IsWholeRefusedThere : Form → Type 0
+IsWholeRefusedThere form = (at : ℕ) → StopsThere (λ bytes. whole bytes (reading form bytes at))
+
+abbrev pub HasNoWholeThere : Form → Type 0
+HasNoWholeThere form = (bytes : List ℕ) (at : ℕ) (e : XdrError) → at ≤ length bytes → whole bytes (reading form bytes at) ≡ Err e → ¬ (e.why ≡ Short)
+    → (v : Value form) → Fits form v → ¬ (take (behind e) (take at bytes ++ spelling form v) ≡ take (behind e) bytes)
+
+-- The same of a union whose number is known from outside.
+abbrev pub IsArmShortAtEnd : Form → Type 0
+IsArmShortAtEnd form = (n at : ℕ) → EndsShort (λ bytes. reading_case form n bytes at)
+
+abbrev pub IsArmRefusedThere : Form → Type 0
+IsArmRefusedThere form = (n at : ℕ) → StopsThere (λ bytes. reading_case form n bytes at)
+
+abbrev pub HasNoArmThere : Form → Type 0
+HasNoArmThere form = (n : ℕ) (bytes : List ℕ) (at : ℕ) (e : XdrError) → at ≤ length bytes → reading_case form n bytes at ≡ Err e → ¬ (e.why ≡ Short)
+    → (v : Value form) (rest : List ℕ) → Fits form v → arm_of form v ≡ n → ¬ (take (behind e) (take at bytes ++ spelling_case form v ++ rest) ≡ take (behind e) bytes)
+
+abbrev pub HasNoArmWhole : Form → Type 0
+HasNoArmWhole form = (n : ℕ) (bytes : List ℕ) (at : ℕ) (e : XdrError) → reading_case form n bytes at ≡ Err e
+    → (v : Value form) (to : ℕ) → Fits form v → arm_of form v ≡ n → ¬ (Stands bytes at (spelling_case form v) to)
