@@ -90,7 +90,7 @@ long_takes bytes at n to fits le e = number_takes w64 (2 ^ 64) wide64 bytes at n
 
 -- ---- paddings
 
-zero_stands : (bytes : List ℕ) (at : ℕ) → at < length bytes → get_or bytes at 0 ≡ 0 → Stands bytes at (0 ∷ []) (at + 1)
+pub zero_stands : (bytes : List ℕ) (at : ℕ) → at < length bytes → get_or bytes at 0 ≡ 0 → Stands bytes at (0 ∷ []) (at + 1)
 zero_stands bytes at lt e =
     record {
       stands = ap (λ (t : List ℕ). take 1 t) (drop_more bytes at 0 lt) ∙ ap (λ (b : ℕ). b ∷ []) e;
@@ -194,7 +194,7 @@ may_begin-utf8 : (n : ℕ) (text : List ℕ) → is_utf8 text ≡ true → may_b
 unfolding may_begin_text
 may_begin-utf8 n text e = rw e refl
 
-utf8-may_begin : (n : ℕ) (text : List ℕ) → length text ≡ n → may_begin_text n text ≡ true → is_utf8 text ≡ true
+pub utf8-may_begin : (n : ℕ) (text : List ℕ) → length text ≡ n → may_begin_text n text ≡ true → is_utf8 text ≡ true
 unfolding may_begin_text
 utf8-may_begin n text len e =
     let short : ltb (length text) n ≡ false = le-ltb _ _ (omega (arith, len)) in

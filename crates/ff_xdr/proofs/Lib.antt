@@ -10,3 +10,5 @@ pub mod Sequences
 pub mod Seen
 pub mod Refusals
 pub mod ArmRefusals
+pub mod Begun
+pub mod FirstFault

@@ -42,6 +42,12 @@ done x = Ok x
 pub ok_is : {A : Type 0} (x y : A) → done x ≡ done y → x ≡ y
 ok_is x y e = cc
 
+abbrev failed : {A : Type 0} → XdrError → Result A XdrError
+failed e = Err e
+
+pub err_is : {A : Type 0} (d e : XdrError) → failed {A = A} d ≡ failed {A = A} e → e ≡ d
+err_is d e is = cc
+
 -- no text stands everywhere
 pub stands_nothing : (bytes : List ℕ) (at : ℕ) → at ≤ length bytes → Stands bytes at [] at
 stands_nothing bytes at le = record { stands = refl; ends = omega arith; within = le }

@@ -12,7 +12,7 @@ use Rattle.ff_xdr.specs.Laws.{Stands, behind, EndsShort, StopsThere, IsShortAtEn
 use Rattle.ff_xdr.specs.Reading.{Read, ◌>>=◌, number_at, fixed_at, length_at, flag_at, reading, many_at, optional_at, case_at, refused, whole}
 use Rattle.ff_xdr.proofs.Again.{again, again_where, sound_case}
 use Rattle.ff_xdr.proofs.Seen.{Seen, Took, end_of, seen_from, seen_value, seen_refusal, seen_test, seen_bind, seen_number, seen_fixed, seen_length, seen_opaque, seen_flag, seen_text, word_ends, same_byte}
-use Rattle.ff_xdr.proofs.Places.{done, stands_between}
+use Rattle.ff_xdr.proofs.Places.{done, err_is, stands_between}
 use Rattle.ff_xdr.proofs.Sequences.{take_less}
 
 -- a value of the form begins with a whole word, which is read before all else
@@ -134,29 +134,23 @@ none_whole form sound = λ bytes at e is v to fits stands. not_both (reading for
 
 -- ---- a value and nothing behind it
 
-abbrev failed : {A : Type 0} → XdrError → Result A XdrError
-failed e = Err e
-
-err_is : {A : Type 0} (d e : XdrError) → failed {A = A} d ≡ failed {A = A} e → d ≡ e
-err_is d e is = cc
-
 -- what stands behind a value is refused, or there is nothing
 abbrev rest_by : Bool → ℕ → Result (Unit {0}) XdrError
 rest_by t at = cond t (Err (record { place = at; why = Rest })) (Ok tt)
 
 -- a value was refused, or read with bytes left over
-record LeavesRest {M : Type 0} (bytes : List ℕ) (r : Read M) (e : XdrError) : Type 0 where
-  value : M × ℕ
-  read : r ≡ Ok value
-  left : value.1 < length bytes
-  refusal : e ≡ record { place = value.1; why = Rest }
+pub record LeavesRest {M : Type 0} (bytes : List ℕ) (r : Read M) (e : XdrError) : Type 0 where
+  pub value : M × ℕ
+  pub read : r ≡ Ok value
+  pub left : value.1 < length bytes
+  pub refusal : e ≡ record { place = value.1; why = Rest }
 
-whole_cases : {M : Type 0} (bytes : List ℕ) (r : Read M) (e : XdrError) → whole bytes r ≡ Err e → (r ≡ Err e) ⊎ LeavesRest bytes r e
-whole_cases bytes (Err d) e is = inl (ap Err (err_is d e is))
+pub whole_cases : {M : Type 0} (bytes : List ℕ) (r : Read M) (e : XdrError) → whole bytes r ≡ Err e → (r ≡ Err e) ⊎ LeavesRest bytes r e
+whole_cases bytes (Err d) e is = inl (ap Err (sym (err_is d e is)))
 whole_cases {M} bytes (Ok x) e is = by_case (ltb x.1 (length bytes)) refl is
   where
     by_case : (t : Bool) → ltb x.1 (length bytes) ≡ t → (rest_by t x.1 >>= λ nothing. Ok x.0) ≡ Err e → (done x ≡ Err e) ⊎ LeavesRest bytes (Ok x) e
-    by_case true left is = inr (record { value = x; read = refl; left = ltb-true _ _ left; refusal = sym (err_is (record { place = x.1; why = Rest }) e is) })
+    by_case true left is = inr (record { value = x; read = refl; left = ltb-true _ _ left; refusal = err_is (record { place = x.1; why = Rest }) e is })
     by_case false left is = absurd cc
 
 pub whole_short_at_end : (form : Form) → IsTrue (is_sound form) → IsWholeShortAtEnd form

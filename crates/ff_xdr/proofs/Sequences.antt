@@ -91,7 +91,7 @@ up_to_most t (suc m) k lt le text =
           ]
     ]
 
-valid_front : (t : List ℕ) → IsUtf8 (take (utf8_valid_len t) t)
+pub valid_front : (t : List ℕ) → IsUtf8 (take (utf8_valid_len t) t)
 unfolding utf8_valid_len
 valid_front t = up_to_front t (length t)
 

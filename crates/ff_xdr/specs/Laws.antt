@@ -1,10 +1,10 @@
 -- The laws of every form: what was spelled is read again, what is read is spelled so, and what is refused
 -- has no value.
-use Rattle.std.specs.Prelude.{◌≡◌, ℕ, ◌+◌, ◌<◌, ◌≤◌, Bool, true, false, List, ◌++◌, length, take, drop, slice_index, Result, Ok, Err}
+use Rattle.std.specs.Prelude.{◌≡◌, ℕ, ◌+◌, ◌-◌, ◌<◌, ◌≤◌, Bool, true, false, ◌&&◌, ◌||◌, List, [], ◌++◌, length, take, drop, slice_index, Result, Ok, Err, IsTrue}
 use Rattle.ff_xdr.specs.declared.error.XdrError.{XdrError}
 use Rattle.ff_xdr.specs.declared.error.XdrWhy.{XdrWhy}
 use Rattle.ff_xdr.specs.declared.error.XdrWhy.TheVariants.{Short, Pad, NotBool, NotEnum, TooLong, NotUtf8, Rest}
-use Rattle.ff_xdr.specs.Form.{Form, Case, NoCase, Value, Fits, spelling, spelling_case, arm_of}
+use Rattle.ff_xdr.specs.Form.{Form, Enum, Optional, Then, Items, Case, NoCase, Value, Fits, spelling, spelling_case, arm_of, has_arm}
 use Rattle.ff_xdr.specs.Reading.{reading, reading_case, whole}
 
 abbrev pub IsBytes : List ℕ → Type 0
@@ -84,6 +84,33 @@ abbrev pub HasNoneWhole : Form → Type 0
 HasNoneWhole form = (bytes : List ℕ) (at : ℕ) (e : XdrError) → reading form bytes at ≡ Err e
     → (v : Value form) (to : ℕ) → Fits form v → ¬ (Stands bytes at (spelling form v) to)
 
+-- the arms of a union end here
+abbrev pub is_end : Form → Bool
+is_end NoCase = true
+is_end _ = false
+
+-- each part of the form has a value: an enum has a number, and a union an arm
+abbrev pub is_filled : Form → Bool
+is_filled (Enum []) = false
+is_filled (Optional each) = is_filled each
+is_filled (Then first second) = is_filled first && is_filled second
+is_filled (Items max each) = is_filled each
+is_filled (Case number body others) = is_filled body && (is_end others || is_filled others)
+is_filled NoCase = false
+is_filled _ = true
+
+-- a value of the form begins with the bytes from one place up to the other
+pub record Begins (form : Form) (bytes : List ℕ) (at to : ℕ) : Type 0 where
+  pub value : Value form
+  pub fits : Fits form value
+  pub begins : Stands bytes at (take (to - at) (spelling form value)) to
+
+-- Up to the refused place some value of the form has these bytes: no earlier byte is at fault. What
+-- stands of an item that is short is not looked into.
+abbrev pub IsFirstFault : Form → Type 0
+IsFirstFault form = (bytes : List ℕ) (at : ℕ) (e : XdrError) → IsBytes bytes → at ≤ length bytes → reading form bytes at ≡ Err e → ¬ (e.why ≡ Short)
+    → Begins form bytes at e.place
+
 -- The same of a value and nothing behind it, up to the end of the bytes.
 abbrev pub IsWholeShortAtEnd : Form → Type 0
 IsWholeShortAtEnd form = (at : ℕ) → EndsShort (λ bytes. whole bytes (reading form bytes at))
@@ -94,6 +121,10 @@ IsWholeRefusedThere form = (at : ℕ) → StopsThere (λ bytes. whole bytes (rea
 abbrev pub HasNoWholeThere : Form → Type 0
 HasNoWholeThere form = (bytes : List ℕ) (at : ℕ) (e : XdrError) → at ≤ length bytes → whole bytes (reading form bytes at) ≡ Err e → ¬ (e.why ≡ Short)
     → (v : Value form) → Fits form v → ¬ (take (behind e) (take at bytes ++ spelling form v) ≡ take (behind e) bytes)
+
+abbrev pub IsFirstWholeFault : Form → Type 0
+IsFirstWholeFault form = (bytes : List ℕ) (at : ℕ) (e : XdrError) → IsBytes bytes → at ≤ length bytes → whole bytes (reading form bytes at) ≡ Err e → ¬ (e.why ≡ Short)
+    → Begins form bytes at e.place
 
 -- The same of a union whose number is known from outside.
 abbrev pub IsArmShortAtEnd : Form → Type 0
@@ -109,3 +140,14 @@ HasNoArmThere form = (n : ℕ) (bytes : List ℕ) (at : ℕ) (e : XdrError) → 
 abbrev pub HasNoArmWhole : Form → Type 0
 HasNoArmWhole form = (n : ℕ) (bytes : List ℕ) (at : ℕ) (e : XdrError) → reading_case form n bytes at ≡ Err e
     → (v : Value form) (to : ℕ) → Fits form v → arm_of form v ≡ n → ¬ (Stands bytes at (spelling_case form v) to)
+
+-- a value of the arm with this number begins with the bytes from one place up to the other
+pub record BeginsArm (form : Form) (n : ℕ) (bytes : List ℕ) (at to : ℕ) : Type 0 where
+  pub value : Value form
+  pub fits : Fits form value
+  pub arm : arm_of form value ≡ n
+  pub begins : Stands bytes at (take (to - at) (spelling_case form value)) to
+
+abbrev pub IsFirstArmFault : Form → Type 0
+IsFirstArmFault form = (n : ℕ) (bytes : List ℕ) (at : ℕ) (e : XdrError) → IsTrue (has_arm n form) → IsBytes bytes → at ≤ length bytes → reading_case form n bytes at ≡ Err e → ¬ (e.why ≡ Short)
+    → BeginsArm form n bytes at e.place

@@ -1,5 +1,6 @@
 use Rattle.ff_xdr.proofs.Arms.{arm_again, arm_spelled}
 use Rattle.ff_xdr.proofs.ArmRefusals.{arm_short_at_end, arm_refused_there, no_arm_there, no_arm_whole}
+use Rattle.ff_xdr.proofs.FirstFault.{first_arm_fault}
 use Rattle.ff_xdr.proofs.laws.every_arm.Goals as goal
 
 pub returns-clause-again : goal.returns-clause-again
@@ -19,3 +20,6 @@ returns-clause-none c = no_arm_there
 
 pub returns-clause-cut : goal.returns-clause-cut
 returns-clause-cut c = no_arm_whole
+
+pub returns-clause-least : goal.returns-clause-least
+returns-clause-least c = first_arm_fault
