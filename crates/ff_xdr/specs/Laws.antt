@@ -73,13 +73,13 @@ IsShortAtEnd form = (at : ℕ) → EndsShort (λ bytes. reading form bytes at)
 abbrev pub IsRefusedThere : Form → Type 0
 IsRefusedThere form = (at : ℕ) → StopsThere (λ bytes. reading form bytes at)
 
--- Where a reading is refused and the bytes do not end, no value has the refused item there, whatever
+-- Where a reading is refused, and not as short, no value has the refused item there, whatever
 -- follows the value.
 abbrev pub HasNoneThere : Form → Type 0
 HasNoneThere form = (bytes : List ℕ) (at : ℕ) (e : XdrError) → at ≤ length bytes → reading form bytes at ≡ Err e → ¬ (e.why ≡ Short)
     → (v : Value form) (rest : List ℕ) → Fits form v → ¬ (take (behind e) (take at bytes ++ spelling form v ++ rest) ≡ take (behind e) bytes)
 
--- Where a reading is refused, for the end of the bytes too, no value stands whole.
+-- Where a reading is refused, as short too, no value stands whole.
 abbrev pub HasNoneWhole : Form → Type 0
 HasNoneWhole form = (bytes : List ℕ) (at : ℕ) (e : XdrError) → reading form bytes at ≡ Err e
     → (v : Value form) (to : ℕ) → Fits form v → ¬ (Stands bytes at (spelling form v) to)
