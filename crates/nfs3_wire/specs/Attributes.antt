@@ -7,9 +7,9 @@ use Rattle.nfs3_wire.specs.declared.attributes.Specdata3.{Specdata3}
 use Rattle.nfs3_wire.specs.declared.attributes.Fattr3.{Fattr3}
 use Rattle.nfs3_wire.specs.declared.attributes.WccAttr.{WccAttr}
 use Rattle.nfs3_wire.specs.declared.attributes.WccData.{WccData}
-use Rattle.nfs3_wire.specs.declared.attributes.SetTime.{SetTime}
-use Rattle.nfs3_wire.specs.declared.attributes.SetTime.TheVariants.{Keep, Server, Client}
-use Rattle.nfs3_wire.specs.declared.attributes.Sattr3.{Sattr3}
+use Rattle.nfs3_wire.specs.declared.setting.SetTime.{SetTime}
+use Rattle.nfs3_wire.specs.declared.setting.SetTime.TheVariants.{Keep, Server, Client}
+use Rattle.nfs3_wire.specs.declared.setting.Sattr3.{Sattr3}
 use Rattle.nfs3_wire.specs.Enums.{file_type, file_type_number}
 
 -- nfstime3: seconds, nanoseconds
@@ -18,6 +18,9 @@ time3 = Then Number32 Number32
 
 abbrev pub time3_value : Time3 → Value time3
 time3_value t = (t.seconds, t.nanos)
+
+abbrev pub time3_of : Value time3 → Time3
+time3_of (seconds, nanos) = record { seconds = seconds; nanos = nanos }
 
 -- specdata3: two numbers of a device
 abbrev pub specdata3 : Form
@@ -73,9 +76,19 @@ set_time_value Keep = inl tt
 set_time_value Server = inr (inl tt)
 set_time_value (Client t) = inr (inr (inl (time3_value t)))
 
+abbrev pub set_time_of : Value set_time → SetTime
+set_time_of (inl nothing) = Keep
+set_time_of (inr (inl nothing)) = Server
+set_time_of (inr (inr (inl t))) = Client (time3_of t)
+set_time_of (inr (inr (inr none))) = absurd none
+
 -- sattr3: mode, uid, gid, size where they are to be set, then the two times
 abbrev pub sattr3 : Form
 sattr3 = Then (Optional Number32) (Then (Optional Number32) (Then (Optional Number32) (Then (Optional Number64) (Then set_time set_time))))
 
 abbrev pub sattr3_value : Sattr3 → Value sattr3
 sattr3_value s = (s.mode, (s.uid, (s.gid, (s.size, (set_time_value s.atime, set_time_value s.mtime)))))
+
+abbrev pub sattr3_of : Value sattr3 → Sattr3
+sattr3_of (mode, (uid, (gid, (size, (atime, mtime))))) =
+    record { mode = mode; uid = uid; gid = gid; size = size; atime = set_time_of atime; mtime = set_time_of mtime }

@@ -4,127 +4,34 @@ ghost use Rattle.std.specs.Prelude.{◌≡◌, ◌↔◌, IsTrue};
 ghost use Rattle.ff_xdr.specs.Form.{Fits, spelling_case, arm_of, has_arm};
 ghost use Rattle.ff_xdr.specs.Reading.{reading_case, whole};
 ghost use Rattle.ff_xdr.specs.Calls.{Puts};
-ghost use Rattle.nfs3_wire.specs.Calls.{calls, read_args, read_args_value, write_args, write_args_value, call_value, plain_call};
+ghost use Rattle.nfs3_wire.specs.Calls.{calls, call_value, plain_call};
 ghost use Rattle.nfs3_wire.specs.Found.{Finds};
 
-use crate::enums::StableHow;
-use ff_xdr::{Cursor, Message, NoMemory, Out, Wire, XdrError};
-
-/// The longest handle, in bytes (RFC 1813, section 2.4, `NFS3_FHSIZE`).
-pub const MAX_HANDLE: u32 = 64;
-
-/// The most data in one READ or WRITE, in bytes.
-pub const MAX_DATA: u32 = 1_048_576;
-
-/// The arguments of READ, `READ3args` (RFC 1813, section 3.3.6).
-#[derive(Clone, Copy, Debug)]
-pub struct ReadArgs<'a> {
-    /// The file's handle, at most 64 bytes.
-    pub file: &'a [u8],
-    /// From which byte on.
-    pub offset: u64,
-    /// How many bytes at the most.
-    pub count: u32,
-}
-
-impl<'a> Message for ReadArgs<'a> {
-    ghost form = { read_args };
-
-    ghost meaning = { read_args_value };
-}
-
-impl<'a> Wire<'a> for ReadArgs<'a> {
-    fn read(cursor: &mut Cursor<'a>) -> Result<ReadArgs<'a>, XdrError> {
-        let mut fork = cursor.fork();
-        let file = fork.opaque(MAX_HANDLE)?;
-        let offset = fork.number64()?;
-        let count = fork.number32()?;
-        *cursor = fork;
-        Ok(ReadArgs {
-            file,
-            offset,
-            count,
-        })
-    }
-
-    fn put(&self, out: &mut Out) -> Result<(), NoMemory> {
-        out.opaque(self.file)?;
-        out.number64(self.offset)?;
-        out.number32(self.count)?;
-        Ok(())
-    }
-
-    fn fits(&self) -> bool {
-        let _offset = self.offset;
-        let _count = self.count;
-        self.file.len() <= 64
-    }
-}
-
-/// The arguments of WRITE, `WRITE3args` (RFC 1813, section 3.3.7).
-#[derive(Clone, Copy, Debug)]
-pub struct WriteArgs<'a> {
-    /// The file's handle, at most 64 bytes.
-    pub file: &'a [u8],
-    /// From which byte on.
-    pub offset: u64,
-    /// How many bytes are to be written.
-    pub count: u32,
-    /// How stable they are to be before the answer.
-    pub stable: StableHow,
-    /// The bytes, at most 1,048,576.
-    pub bytes: &'a [u8],
-}
-
-impl<'a> Message for WriteArgs<'a> {
-    ghost form = { write_args };
-
-    ghost meaning = { write_args_value };
-}
-
-impl<'a> Wire<'a> for WriteArgs<'a> {
-    fn read(cursor: &mut Cursor<'a>) -> Result<WriteArgs<'a>, XdrError> {
-        let mut fork = cursor.fork();
-        let file = fork.opaque(MAX_HANDLE)?;
-        let offset = fork.number64()?;
-        let count = fork.number32()?;
-        let stable = StableHow::read(&mut fork)?;
-        let bytes = fork.opaque(MAX_DATA)?;
-        *cursor = fork;
-        Ok(WriteArgs {
-            file,
-            offset,
-            count,
-            stable,
-            bytes,
-        })
-    }
-
-    fn put(&self, out: &mut Out) -> Result<(), NoMemory> {
-        out.opaque(self.file)?;
-        out.number64(self.offset)?;
-        out.number32(self.count)?;
-        self.stable.put(out)?;
-        out.opaque(self.bytes)?;
-        Ok(())
-    }
-
-    fn fits(&self) -> bool {
-        let _offset = self.offset;
-        let _count = self.count;
-        self.file.len() <= 64 && self.stable.fits() && self.bytes.len() <= 1_048_576
-    }
-}
+use crate::args::{CommitArgs, ReadArgs, WriteArgs};
+use crate::meta_args::{CreateArgs, FsInfoArgs, GetAttrArgs, LookupArgs, SetAttrArgs};
+use ff_xdr::{Cursor, NoMemory, Out, Wire, XdrError};
 
 /// A call of a procedure that is built.
 #[derive(Clone, Copy, Debug)]
 pub enum Call3<'a> {
     /// Do nothing (RFC 1813, section 3.3.0).
     Null,
+    /// Get the attributes of an object (RFC 1813, section 3.3.1).
+    GetAttr(GetAttrArgs<'a>),
+    /// Set attributes of an object (RFC 1813, section 3.3.2).
+    SetAttr(SetAttrArgs<'a>),
+    /// Look up a name in a directory (RFC 1813, section 3.3.3).
+    Lookup(LookupArgs<'a>),
     /// Read from a file (RFC 1813, section 3.3.6).
     Read(ReadArgs<'a>),
     /// Write to a file (RFC 1813, section 3.3.7).
     Write(WriteArgs<'a>),
+    /// Create a file (RFC 1813, section 3.3.8).
+    Create(CreateArgs<'a>),
+    /// Get what a file system can do (RFC 1813, section 3.3.19).
+    FsInfo(FsInfoArgs<'a>),
+    /// Make what was written to a file stable (RFC 1813, section 3.3.21).
+    Commit(CommitArgs<'a>),
 }
 
 impl<'a> Call3<'a> {
@@ -134,8 +41,14 @@ impl<'a> Call3<'a> {
     {
         match self {
             Call3::Null => 0,
+            Call3::GetAttr(_) => 1,
+            Call3::SetAttr(_) => 2,
+            Call3::Lookup(_) => 3,
             Call3::Read(_) => 6,
             Call3::Write(_) => 7,
+            Call3::Create(_) => 8,
+            Call3::FsInfo(_) => 19,
+            Call3::Commit(_) => 21,
         }
     }
 
@@ -145,8 +58,14 @@ impl<'a> Call3<'a> {
     {
         match self {
             Call3::Null => true,
+            Call3::GetAttr(args) => args.fits(),
+            Call3::SetAttr(args) => args.fits(),
+            Call3::Lookup(args) => args.fits(),
             Call3::Read(args) => args.fits(),
             Call3::Write(args) => args.fits(),
+            Call3::Create(args) => args.fits(),
+            Call3::FsInfo(args) => args.fits(),
+            Call3::Commit(args) => args.fits(),
         }
     }
 }
@@ -155,11 +74,11 @@ impl<'a> Call3<'a> {
 pub fn is_built(procedure: u32) -> bool
     ensures { result ≡ has_arm procedure calls }
 {
-    matches!(procedure, 0 | 6 | 7)
+    matches!(procedure, 0 | 1 | 2 | 3 | 6 | 7 | 8 | 19 | 21)
 }
 
-/// Reads the arguments of a procedure that is built, all the bytes. The data of a WRITE stay in them.
-/// A refusal names the first byte that no arguments have there.
+/// Reads the arguments of a procedure that is built, all the bytes. Names and the
+/// data of a WRITE stay in them. A refusal names the first byte that no arguments have there.
 pub fn read_call(procedure: u32, args: &[u8]) -> Result<Call3<'_>, XdrError>
     requires { IsTrue (has_arm procedure calls) }
     ensures { Finds (λ call. call_value (plain_call call)) result (whole args.now (reading_case calls procedure args.now 0)) }
@@ -167,8 +86,14 @@ pub fn read_call(procedure: u32, args: &[u8]) -> Result<Call3<'_>, XdrError>
     let mut cursor = Cursor::new(args);
     let call = match procedure {
         0 => Call3::Null,
+        1 => Call3::GetAttr(GetAttrArgs::read(&mut cursor)?),
+        2 => Call3::SetAttr(SetAttrArgs::read(&mut cursor)?),
+        3 => Call3::Lookup(LookupArgs::read(&mut cursor)?),
         6 => Call3::Read(ReadArgs::read(&mut cursor)?),
         7 => Call3::Write(WriteArgs::read(&mut cursor)?),
+        8 => Call3::Create(CreateArgs::read(&mut cursor)?),
+        19 => Call3::FsInfo(FsInfoArgs::read(&mut cursor)?),
+        21 => Call3::Commit(CommitArgs::read(&mut cursor)?),
         _ => unreachable!(),
     };
     cursor.finish()?;
@@ -182,7 +107,13 @@ pub fn write_call(call: &Call3<'_>, out: &mut Out) -> Result<(), NoMemory>
 {
     match call {
         Call3::Null => Ok(()),
+        Call3::GetAttr(args) => args.write(out),
+        Call3::SetAttr(args) => args.write(out),
+        Call3::Lookup(args) => args.write(out),
         Call3::Read(args) => args.write(out),
         Call3::Write(args) => args.write(out),
+        Call3::Create(args) => args.write(out),
+        Call3::FsInfo(args) => args.write(out),
+        Call3::Commit(args) => args.write(out),
     }
 }

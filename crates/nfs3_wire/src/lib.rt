@@ -1,14 +1,26 @@
 //! NFSv3 (RFC 1813): the forms of calls and replies, exactly.
 #![tactic(auto)]
 
+mod args;
 mod attributes;
 mod call;
 mod enums;
+mod fsinfo;
+mod meta_args;
+mod meta_results;
 mod reply;
+mod results;
+mod setting;
 #[cfg(test)]
 mod tests;
 
-pub use attributes::{Fattr3, Sattr3, SetTime, Specdata3, Time3, WccAttr, WccData};
-pub use call::{Call3, MAX_DATA, MAX_HANDLE, ReadArgs, WriteArgs, is_built, read_call, write_call};
+pub use args::{CommitArgs, MAX_DATA, MAX_HANDLE, MAX_NAME, ReadArgs, WriteArgs};
+pub use attributes::{Fattr3, Specdata3, Time3, WccAttr, WccData};
+pub use call::{Call3, is_built, read_call, write_call};
 pub use enums::{FileType, StableHow, Stat3};
-pub use reply::{ReadOk, ReadReply, Reply3, WriteOk, WriteReply, read_reply, write_reply};
+pub use fsinfo::{FsInfoOk, FsInfoReply};
+pub use meta_args::{CreateArgs, CreateHow, FsInfoArgs, GetAttrArgs, LookupArgs, SetAttrArgs};
+pub use meta_results::{CreateOk, CreateReply, GetAttrReply, LookupOk, LookupReply, SetAttrReply};
+pub use reply::{Reply3, read_reply, write_reply};
+pub use results::{CommitOk, CommitReply, ReadOk, ReadReply, WriteOk, WriteReply};
+pub use setting::{Sattr3, SetTime};

@@ -4,227 +4,35 @@ ghost use Rattle.std.specs.Prelude.{◌≡◌, ◌↔◌, IsTrue};
 ghost use Rattle.ff_xdr.specs.Form.{Fits, spelling_case, arm_of, has_arm};
 ghost use Rattle.ff_xdr.specs.Reading.{reading_case, whole};
 ghost use Rattle.ff_xdr.specs.Calls.{Puts};
-ghost use Rattle.nfs3_wire.specs.Replies.{replies, read_ok, read_ok_value, write_ok, write_ok_value, read_result, read_reply_value, write_result, write_reply_value, reply_value, plain_reply};
+ghost use Rattle.nfs3_wire.specs.Replies.{replies, reply_value, plain_reply};
 ghost use Rattle.nfs3_wire.specs.Found.{Finds};
 
-use crate::attributes::{Fattr3, WccData};
-use crate::call::MAX_DATA;
-use crate::enums::{StableHow, Stat3};
-use ff_xdr::{Cursor, Message, NoMemory, Out, Wire, XdrError};
-
-/// The result of a READ that was done, `READ3resok` (RFC 1813, section 3.3.6).
-#[derive(Clone, Copy, Debug)]
-pub struct ReadOk<'a> {
-    pub attributes: Option<Fattr3>,
-    /// How many bytes were read.
-    pub count: u32,
-    /// The last of them is the file's last byte.
-    pub eof: bool,
-    /// The bytes, at most 1,048,576.
-    pub bytes: &'a [u8],
-}
-
-impl<'a> Message for ReadOk<'a> {
-    ghost form = { read_ok };
-
-    ghost meaning = { read_ok_value };
-}
-
-impl<'a> Wire<'a> for ReadOk<'a> {
-    fn read(cursor: &mut Cursor<'a>) -> Result<ReadOk<'a>, XdrError> {
-        let mut fork = cursor.fork();
-        let attributes = Option::<Fattr3>::read(&mut fork)?;
-        let count = fork.number32()?;
-        let eof = fork.flag()?;
-        let bytes = fork.opaque(MAX_DATA)?;
-        *cursor = fork;
-        Ok(ReadOk {
-            attributes,
-            count,
-            eof,
-            bytes,
-        })
-    }
-
-    fn put(&self, out: &mut Out) -> Result<(), NoMemory> {
-        self.attributes.put(out)?;
-        out.number32(self.count)?;
-        out.flag(self.eof)?;
-        out.opaque(self.bytes)?;
-        Ok(())
-    }
-
-    fn fits(&self) -> bool {
-        let _count = self.count;
-        self.attributes.fits() && self.bytes.len() <= 1_048_576
-    }
-}
-
-/// The result of a READ.
-#[derive(Clone, Copy, Debug)]
-pub enum ReadReply<'a> {
-    Done(ReadOk<'a>),
-    /// `READ3resfail`: a status other than OK.
-    Refused {
-        status: Stat3,
-        attributes: Option<Fattr3>,
-    },
-}
-
-impl<'a> Message for ReadReply<'a> {
-    ghost form = { read_result };
-
-    ghost meaning = { read_reply_value };
-}
-
-impl<'a> Wire<'a> for ReadReply<'a> {
-    fn read(cursor: &mut Cursor<'a>) -> Result<ReadReply<'a>, XdrError> {
-        let mut fork = cursor.fork();
-        if fork.number32()? == 0 {
-            let done = ReadOk::read(&mut fork)?;
-            *cursor = fork;
-            return Ok(ReadReply::Done(done));
-        }
-        let mut fork = cursor.fork();
-        let status = Stat3::read(&mut fork)?;
-        let attributes = Option::<Fattr3>::read(&mut fork)?;
-        *cursor = fork;
-        Ok(ReadReply::Refused { status, attributes })
-    }
-
-    fn put(&self, out: &mut Out) -> Result<(), NoMemory> {
-        match self {
-            ReadReply::Done(done) => {
-                out.number32(0)?;
-                done.put(out)?;
-                Ok(())
-            }
-            ReadReply::Refused { status, attributes } => {
-                status.put(out)?;
-                attributes.put(out)?;
-                Ok(())
-            }
-        }
-    }
-
-    fn fits(&self) -> bool {
-        match self {
-            ReadReply::Done(done) => done.fits(),
-            ReadReply::Refused { status, attributes } => status.fits() && attributes.fits(),
-        }
-    }
-}
-
-/// The result of a WRITE that was done, `WRITE3resok` (RFC 1813, section 3.3.7).
-#[derive(Clone, Copy, Debug)]
-pub struct WriteOk {
-    pub wcc: WccData,
-    /// How many bytes were written.
-    pub count: u32,
-    /// How stable they are.
-    pub committed: StableHow,
-    /// The eight bytes of the write verifier, as one number.
-    pub verifier: u64,
-}
-
-impl Message for WriteOk {
-    ghost form = { write_ok };
-
-    ghost meaning = { write_ok_value };
-}
-
-impl<'a> Wire<'a> for WriteOk {
-    fn read(cursor: &mut Cursor<'a>) -> Result<WriteOk, XdrError> {
-        let mut fork = cursor.fork();
-        let wcc = WccData::read(&mut fork)?;
-        let count = fork.number32()?;
-        let committed = StableHow::read(&mut fork)?;
-        let verifier = fork.number64()?;
-        *cursor = fork;
-        Ok(WriteOk {
-            wcc,
-            count,
-            committed,
-            verifier,
-        })
-    }
-
-    fn put(&self, out: &mut Out) -> Result<(), NoMemory> {
-        self.wcc.put(out)?;
-        out.number32(self.count)?;
-        self.committed.put(out)?;
-        out.number64(self.verifier)?;
-        Ok(())
-    }
-
-    fn fits(&self) -> bool {
-        let _count = self.count;
-        let _verifier = self.verifier;
-        self.wcc.fits() && self.committed.fits()
-    }
-}
-
-/// The result of a WRITE.
-#[derive(Clone, Copy, Debug)]
-pub enum WriteReply {
-    Done(WriteOk),
-    /// `WRITE3resfail`: a status other than OK.
-    Refused { status: Stat3, wcc: WccData },
-}
-
-impl Message for WriteReply {
-    ghost form = { write_result };
-
-    ghost meaning = { write_reply_value };
-}
-
-impl<'a> Wire<'a> for WriteReply {
-    fn read(cursor: &mut Cursor<'a>) -> Result<WriteReply, XdrError> {
-        let mut fork = cursor.fork();
-        if fork.number32()? == 0 {
-            let done = WriteOk::read(&mut fork)?;
-            *cursor = fork;
-            return Ok(WriteReply::Done(done));
-        }
-        let mut fork = cursor.fork();
-        let status = Stat3::read(&mut fork)?;
-        let wcc = WccData::read(&mut fork)?;
-        *cursor = fork;
-        Ok(WriteReply::Refused { status, wcc })
-    }
-
-    fn put(&self, out: &mut Out) -> Result<(), NoMemory> {
-        match self {
-            WriteReply::Done(done) => {
-                out.number32(0)?;
-                done.put(out)?;
-                Ok(())
-            }
-            WriteReply::Refused { status, wcc } => {
-                status.put(out)?;
-                wcc.put(out)?;
-                Ok(())
-            }
-        }
-    }
-
-    fn fits(&self) -> bool {
-        match self {
-            WriteReply::Done(done) => done.fits(),
-            WriteReply::Refused { status, wcc } => status.fits() && wcc.fits(),
-        }
-    }
-}
+use crate::fsinfo::FsInfoReply;
+use crate::meta_results::{CreateReply, GetAttrReply, LookupReply, SetAttrReply};
+use crate::results::{CommitReply, ReadReply, WriteReply};
+use ff_xdr::{Cursor, NoMemory, Out, Wire, XdrError};
 
 /// The result of a procedure that is built.
 #[derive(Clone, Copy, Debug)]
 pub enum Reply3<'a> {
     /// RFC 1813, section 3.3.0.
     Null,
+    /// RFC 1813, section 3.3.1.
+    GetAttr(GetAttrReply),
+    /// RFC 1813, section 3.3.2.
+    SetAttr(SetAttrReply),
+    /// RFC 1813, section 3.3.3.
+    Lookup(LookupReply<'a>),
     /// RFC 1813, section 3.3.6.
     Read(ReadReply<'a>),
     /// RFC 1813, section 3.3.7.
     Write(WriteReply),
+    /// RFC 1813, section 3.3.8.
+    Create(CreateReply<'a>),
+    /// RFC 1813, section 3.3.19.
+    FsInfo(FsInfoReply),
+    /// RFC 1813, section 3.3.21.
+    Commit(CommitReply),
 }
 
 impl<'a> Reply3<'a> {
@@ -234,8 +42,14 @@ impl<'a> Reply3<'a> {
     {
         match self {
             Reply3::Null => 0,
+            Reply3::GetAttr(_) => 1,
+            Reply3::SetAttr(_) => 2,
+            Reply3::Lookup(_) => 3,
             Reply3::Read(_) => 6,
             Reply3::Write(_) => 7,
+            Reply3::Create(_) => 8,
+            Reply3::FsInfo(_) => 19,
+            Reply3::Commit(_) => 21,
         }
     }
 
@@ -246,14 +60,20 @@ impl<'a> Reply3<'a> {
     {
         match self {
             Reply3::Null => true,
+            Reply3::GetAttr(reply) => reply.fits(),
+            Reply3::SetAttr(reply) => reply.fits(),
+            Reply3::Lookup(reply) => reply.fits(),
             Reply3::Read(reply) => reply.fits(),
             Reply3::Write(reply) => reply.fits(),
+            Reply3::Create(reply) => reply.fits(),
+            Reply3::FsInfo(reply) => reply.fits(),
+            Reply3::Commit(reply) => reply.fits(),
         }
     }
 }
 
-/// Reads the result of a procedure that is built, all the bytes. The data of a READ stay in them. A
-/// refusal names the first byte that no result has there.
+/// Reads the result of a procedure that is built, all the bytes. Handles and the
+/// data of a READ stay in them. A refusal names the first byte that no result has there.
 pub fn read_reply(procedure: u32, bytes: &[u8]) -> Result<Reply3<'_>, XdrError>
     requires { IsTrue (has_arm procedure replies) }
     ensures { Finds (λ reply. reply_value (plain_reply reply)) result (whole bytes.now (reading_case replies procedure bytes.now 0)) }
@@ -261,8 +81,14 @@ pub fn read_reply(procedure: u32, bytes: &[u8]) -> Result<Reply3<'_>, XdrError>
     let mut cursor = Cursor::new(bytes);
     let reply = match procedure {
         0 => Reply3::Null,
+        1 => Reply3::GetAttr(GetAttrReply::read(&mut cursor)?),
+        2 => Reply3::SetAttr(SetAttrReply::read(&mut cursor)?),
+        3 => Reply3::Lookup(LookupReply::read(&mut cursor)?),
         6 => Reply3::Read(ReadReply::read(&mut cursor)?),
         7 => Reply3::Write(WriteReply::read(&mut cursor)?),
+        8 => Reply3::Create(CreateReply::read(&mut cursor)?),
+        19 => Reply3::FsInfo(FsInfoReply::read(&mut cursor)?),
+        21 => Reply3::Commit(CommitReply::read(&mut cursor)?),
         _ => unreachable!(),
     };
     cursor.finish()?;
@@ -276,7 +102,13 @@ pub fn write_reply(reply: &Reply3<'_>, out: &mut Out) -> Result<(), NoMemory>
 {
     match reply {
         Reply3::Null => Ok(()),
+        Reply3::GetAttr(reply) => reply.write(out),
+        Reply3::SetAttr(reply) => reply.write(out),
+        Reply3::Lookup(reply) => reply.write(out),
         Reply3::Read(reply) => reply.write(out),
         Reply3::Write(reply) => reply.write(out),
+        Reply3::Create(reply) => reply.write(out),
+        Reply3::FsInfo(reply) => reply.write(out),
+        Reply3::Commit(reply) => reply.write(out),
     }
 }
