@@ -232,7 +232,7 @@ fn read_handle<'a>(cursor: &mut Cursor<'a>) -> Result<Option<&'a [u8]>, XdrError
 /// Appends a handle where there is one. At an error a part of it may stand in `out`.
 fn put_handle(file: Option<&[u8]>, out: &mut Out) -> Result<(), NoMemory>
     requires { Fits (Optional handle) (option_map (λ file. file.now) file) }
-    ensures { Grows out.old result out.new (spelling (Optional handle) (option_map (λ file. file.now) file)) }
+    ensures { Grows out.old result out.new (spelling (Optional handle) (option_map (λ file. file.now) file.entry)) }
 {
     match file {
         None => {
