@@ -16,7 +16,7 @@ pub const MAX_NAME: u32 = 4_294_967_295;
 pub const MAX_DATA: u32 = 1_048_576;
 
 /// The arguments of READ, `READ3args` (RFC 1813, section 3.3.6).
-#[derive(Clone, Copy, Debug)]
+#[derive(Clone, Copy, Debug, PartialEq, Eq)]
 pub struct ReadArgs<'a> {
     /// The file's handle, at most 64 bytes.
     pub file: &'a [u8],
@@ -61,7 +61,7 @@ impl<'a> Wire<'a> for ReadArgs<'a> {
 }
 
 /// The arguments of WRITE, `WRITE3args` (RFC 1813, section 3.3.7).
-#[derive(Clone, Copy, Debug)]
+#[derive(Clone, Copy, Debug, PartialEq, Eq)]
 pub struct WriteArgs<'a> {
     /// The file's handle, at most 64 bytes.
     pub file: &'a [u8],
@@ -116,7 +116,7 @@ impl<'a> Wire<'a> for WriteArgs<'a> {
 }
 
 /// The arguments of COMMIT, `COMMIT3args` (RFC 1813, section 3.3.21).
-#[derive(Clone, Copy, Debug)]
+#[derive(Clone, Copy, Debug, PartialEq, Eq)]
 pub struct CommitArgs<'a> {
     /// The file's handle, at most 64 bytes.
     pub file: &'a [u8],

@@ -148,7 +148,7 @@ impl<'a> Wire<'a> for FsInfoOk {
 }
 
 /// The result of an FSINFO (RFC 1813, section 3.3.19).
-#[derive(Clone, Copy, Debug)]
+#[derive(Clone, Copy, Debug, PartialEq, Eq)]
 pub enum FsInfoReply {
     Done(FsInfoOk),
     /// `FSINFO3resfail`: a status other than OK, and the attributes of the root.

@@ -4,11 +4,15 @@
 mod args;
 mod attributes;
 mod call;
+#[cfg(test)]
+mod call_tests;
 mod enums;
 mod fsinfo;
 mod meta_args;
 mod meta_results;
 mod reply;
+#[cfg(test)]
+mod reply_tests;
 mod results;
 mod setting;
 #[cfg(test)]

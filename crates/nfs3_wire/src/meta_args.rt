@@ -10,7 +10,7 @@ use crate::setting::Sattr3;
 use ff_xdr::{Cursor, Message, NoMemory, Out, Wire, XdrError};
 
 /// The arguments of GETATTR, `GETATTR3args` (RFC 1813, section 3.3.1).
-#[derive(Clone, Copy, Debug)]
+#[derive(Clone, Copy, Debug, PartialEq, Eq)]
 pub struct GetAttrArgs<'a> {
     /// The object's handle, at most 64 bytes.
     pub file: &'a [u8],
@@ -41,7 +41,7 @@ impl<'a> Wire<'a> for GetAttrArgs<'a> {
 }
 
 /// The arguments of SETATTR, `SETATTR3args` (RFC 1813, section 3.3.2).
-#[derive(Clone, Copy, Debug)]
+#[derive(Clone, Copy, Debug, PartialEq, Eq)]
 pub struct SetAttrArgs<'a> {
     /// The object's handle, at most 64 bytes.
     pub file: &'a [u8],
@@ -84,7 +84,7 @@ impl<'a> Wire<'a> for SetAttrArgs<'a> {
 }
 
 /// The arguments of LOOKUP, `LOOKUP3args` (RFC 1813, section 3.3.3).
-#[derive(Clone, Copy, Debug)]
+#[derive(Clone, Copy, Debug, PartialEq, Eq)]
 pub struct LookupArgs<'a> {
     /// The directory's handle, at most 64 bytes.
     pub directory: &'a [u8],
@@ -182,7 +182,7 @@ impl<'a> Wire<'a> for CreateHow {
 }
 
 /// The arguments of CREATE, `CREATE3args` (RFC 1813, section 3.3.8).
-#[derive(Clone, Copy, Debug)]
+#[derive(Clone, Copy, Debug, PartialEq, Eq)]
 pub struct CreateArgs<'a> {
     /// The directory's handle, at most 64 bytes.
     pub directory: &'a [u8],
@@ -225,7 +225,7 @@ impl<'a> Wire<'a> for CreateArgs<'a> {
 }
 
 /// The arguments of FSINFO, `FSINFO3args` (RFC 1813, section 3.3.19).
-#[derive(Clone, Copy, Debug)]
+#[derive(Clone, Copy, Debug, PartialEq, Eq)]
 pub struct FsInfoArgs<'a> {
     /// The root's handle, at most 64 bytes.
     pub root: &'a [u8],

@@ -14,7 +14,7 @@ use crate::enums::Stat3;
 use ff_xdr::{Cursor, Message, NoMemory, Out, Wire, XdrError};
 
 /// The result of a GETATTR (RFC 1813, section 3.3.1).
-#[derive(Clone, Copy, Debug)]
+#[derive(Clone, Copy, Debug, PartialEq, Eq)]
 pub enum GetAttrReply {
     /// `GETATTR3resok`.
     Done(Fattr3),
@@ -65,7 +65,7 @@ impl<'a> Wire<'a> for GetAttrReply {
 }
 
 /// The result of a SETATTR (RFC 1813, section 3.3.2).
-#[derive(Clone, Copy, Debug)]
+#[derive(Clone, Copy, Debug, PartialEq, Eq)]
 pub enum SetAttrReply {
     /// `SETATTR3resok`: the attributes of the object before and after.
     Done(WccData),
@@ -118,7 +118,7 @@ impl<'a> Wire<'a> for SetAttrReply {
 }
 
 /// The result of a LOOKUP that was done, `LOOKUP3resok` (RFC 1813, section 3.3.3).
-#[derive(Clone, Copy, Debug)]
+#[derive(Clone, Copy, Debug, PartialEq, Eq)]
 pub struct LookupOk<'a> {
     /// The handle of the object that was found, at most 64 bytes.
     pub file: &'a [u8],
@@ -161,7 +161,7 @@ impl<'a> Wire<'a> for LookupOk<'a> {
 }
 
 /// The result of a LOOKUP (RFC 1813, section 3.3.3).
-#[derive(Clone, Copy, Debug)]
+#[derive(Clone, Copy, Debug, PartialEq, Eq)]
 pub enum LookupReply<'a> {
     Done(LookupOk<'a>),
     /// `LOOKUP3resfail`: a status other than OK, and the attributes of the directory.
@@ -248,7 +248,7 @@ fn put_handle(file: Option<&[u8]>, out: &mut Out) -> Result<(), NoMemory>
 }
 
 /// The result of a CREATE that was done, `CREATE3resok` (RFC 1813, section 3.3.8).
-#[derive(Clone, Copy, Debug)]
+#[derive(Clone, Copy, Debug, PartialEq, Eq)]
 pub struct CreateOk<'a> {
     /// The handle of the file, at most 64 bytes, where it is known.
     pub file: Option<&'a [u8]>,
@@ -295,7 +295,7 @@ impl<'a> Wire<'a> for CreateOk<'a> {
 }
 
 /// The result of a CREATE (RFC 1813, section 3.3.8).
-#[derive(Clone, Copy, Debug)]
+#[derive(Clone, Copy, Debug, PartialEq, Eq)]
 pub enum CreateReply<'a> {
     Done(CreateOk<'a>),
     /// `CREATE3resfail`: a status other than OK, and the attributes of the directory before and after.

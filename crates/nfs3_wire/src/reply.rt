@@ -13,7 +13,7 @@ use crate::results::{CommitReply, ReadReply, WriteReply};
 use ff_xdr::{Cursor, NoMemory, Out, Wire, XdrError};
 
 /// The result of a procedure that is built.
-#[derive(Clone, Copy, Debug)]
+#[derive(Clone, Copy, Debug, PartialEq, Eq)]
 pub enum Reply3<'a> {
     /// RFC 1813, section 3.3.0.
     Null,

@@ -8,7 +8,7 @@ use crate::enums::{StableHow, Stat3};
 use ff_xdr::{Cursor, Message, NoMemory, Out, Wire, XdrError};
 
 /// The result of a READ that was done, `READ3resok` (RFC 1813, section 3.3.6).
-#[derive(Clone, Copy, Debug)]
+#[derive(Clone, Copy, Debug, PartialEq, Eq)]
 pub struct ReadOk<'a> {
     pub attributes: Option<Fattr3>,
     /// How many bytes were read.
@@ -56,7 +56,7 @@ impl<'a> Wire<'a> for ReadOk<'a> {
 }
 
 /// The result of a READ.
-#[derive(Clone, Copy, Debug)]
+#[derive(Clone, Copy, Debug, PartialEq, Eq)]
 pub enum ReadReply<'a> {
     Done(ReadOk<'a>),
     /// `READ3resfail`: a status other than OK.
@@ -111,7 +111,7 @@ impl<'a> Wire<'a> for ReadReply<'a> {
 }
 
 /// The result of a WRITE that was done, `WRITE3resok` (RFC 1813, section 3.3.7).
-#[derive(Clone, Copy, Debug)]
+#[derive(Clone, Copy, Debug, PartialEq, Eq)]
 pub struct WriteOk {
     pub wcc: WccData,
     /// How many bytes were written.
@@ -160,7 +160,7 @@ impl<'a> Wire<'a> for WriteOk {
 }
 
 /// The result of a WRITE.
-#[derive(Clone, Copy, Debug)]
+#[derive(Clone, Copy, Debug, PartialEq, Eq)]
 pub enum WriteReply {
     Done(WriteOk),
     /// `WRITE3resfail`: a status other than OK.
@@ -212,7 +212,7 @@ impl<'a> Wire<'a> for WriteReply {
 }
 
 /// The result of a COMMIT that was done, `COMMIT3resok` (RFC 1813, section 3.3.21).
-#[derive(Clone, Copy, Debug)]
+#[derive(Clone, Copy, Debug, PartialEq, Eq)]
 pub struct CommitOk {
     /// The attributes of the file before and after.
     pub wcc: WccData,
@@ -248,7 +248,7 @@ impl<'a> Wire<'a> for CommitOk {
 }
 
 /// The result of a COMMIT (RFC 1813, section 3.3.21).
-#[derive(Clone, Copy, Debug)]
+#[derive(Clone, Copy, Debug, PartialEq, Eq)]
 pub enum CommitReply {
     Done(CommitOk),
     /// `COMMIT3resfail`: a status other than OK, and the attributes of the file before and after.
