@@ -1,5 +1,4 @@
 -- The arguments of NFSv3's calls (RFC 1813, section 3.3).
-use Rattle.std.specs.Prelude.{Option, Some, None}
 use Rattle.std.proofs.Common.{inl, inr}
 use Rattle.std.specs.Option.{option_map}
 use Rattle.ff_xdr.specs.Form.{Form, Number32, Number64, Opaque, Optional, Then, Case, NoCase, Value}

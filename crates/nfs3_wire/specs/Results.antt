@@ -1,5 +1,4 @@
 -- The results of NFSv3's procedures (RFC 1813, section 3.3). Each begins with its status.
-use Rattle.std.specs.Prelude.{Option}
 use Rattle.std.proofs.Common.{inl, inr}
 use Rattle.std.specs.Option.{option_map}
 use Rattle.ff_xdr.specs.Form.{Form, Number32, Number64, Flag, Opaque, Optional, Then, Case, Value}
