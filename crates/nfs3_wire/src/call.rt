@@ -77,8 +77,9 @@ pub fn is_built(procedure: u32) -> bool
     matches!(procedure, 0 | 1 | 2 | 3 | 6 | 7 | 8 | 19 | 21)
 }
 
-/// Reads the arguments of a procedure that is built, all the bytes. Names and the
-/// data of a WRITE stay in them. A refusal names the first byte that no arguments have there.
+/// Reads the arguments of a procedure that is built, all the bytes. Handles, names
+/// and the data of a WRITE are slices of them. A refusal names the first byte that no arguments have
+/// there.
 pub fn read_call(procedure: u32, args: &[u8]) -> Result<Call3<'_>, XdrError>
     requires { IsTrue (has_arm procedure calls) }
     ensures { Finds (λ call. call_value (plain_call call)) result (whole args.now (reading_case calls procedure args.now 0)) }

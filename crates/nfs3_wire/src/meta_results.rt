@@ -16,7 +16,7 @@ use ff_xdr::{Cursor, Message, NoMemory, Out, Wire, XdrError};
 /// The result of a GETATTR (RFC 1813, section 3.3.1).
 #[derive(Clone, Copy, Debug, PartialEq, Eq)]
 pub enum GetAttrReply {
-    /// `GETATTR3resok`.
+    /// `GETATTR3resok`: the attributes of the object.
     Done(Fattr3),
     /// A status other than OK, and nothing more.
     Refused(Stat3),
@@ -69,7 +69,7 @@ impl<'a> Wire<'a> for GetAttrReply {
 pub enum SetAttrReply {
     /// `SETATTR3resok`: the attributes of the object before and after.
     Done(WccData),
-    /// `SETATTR3resfail`: a status other than OK, and the same.
+    /// `SETATTR3resfail`: a status other than OK, and the attributes of the object before and after.
     Refused { status: Stat3, wcc: WccData },
 }
 

@@ -73,7 +73,7 @@ impl<'a> Reply3<'a> {
 }
 
 /// Reads the result of a procedure that is built, all the bytes. Handles and the
-/// data of a READ stay in them. A refusal names the first byte that no result has there.
+/// data of a READ are slices of them. A refusal names the first byte that no result has there.
 pub fn read_reply(procedure: u32, bytes: &[u8]) -> Result<Reply3<'_>, XdrError>
     requires { IsTrue (has_arm procedure replies) }
     ensures { Finds (λ reply. reply_value (plain_reply reply)) result (whole bytes.now (reading_case replies procedure bytes.now 0)) }

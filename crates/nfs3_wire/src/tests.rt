@@ -107,7 +107,7 @@ fn bytes_of(alloc: Global, parts: &[&[u32]]) -> Result<Vec<u8>, AllocError> {
     Ok(bytes)
 }
 
-/// What reading answers to bytes that end too early, and to bytes that go on.
+/// A refusal at this place.
 fn refused(place: usize, why: XdrWhy) -> Option<XdrError> {
     Some(XdrError { place, why })
 }
