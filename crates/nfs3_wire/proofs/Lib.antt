@@ -1,0 +1,4 @@
+pub mod NotRest
+pub mod WholeCases
+pub mod CallsOfValues
+pub mod RepliesOfValues

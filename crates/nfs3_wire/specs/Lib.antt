@@ -5,3 +5,4 @@ pub mod Calls
 pub mod Results
 pub mod Replies
 pub mod Found
+pub mod Laws

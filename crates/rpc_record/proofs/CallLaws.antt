@@ -23,7 +23,7 @@ call_header = Then Number32 (Then Number32 (Then Number32 call_body))
 
 -- ---- words
 
-number_is : (bytes : List ℕ) (at : ℕ) → at + 4 ≤ length bytes → number_at w32 bytes at ≡ Ok (word_of bytes at, at + 4)
+pub number_is : (bytes : List ℕ) (at : ℕ) → at + 4 ≤ length bytes → number_at w32 bytes at ≡ Ok (word_of bytes at, at + 4)
 unfolding number_at word_of
 number_is bytes at le =
     let room : ltb (length bytes) (at + 4) ≡ false = le-ltb _ _ le in
@@ -38,7 +38,7 @@ number_short bytes at lt =
 -- ---- the tests of a call
 
 -- what a record is, and what reading it as a call gives
-data Kind (bytes : List ℕ) : Type 0 where
+pub data Kind (bytes : List ℕ) : Type 0 where
   Cut : length bytes < 8 → call_at bytes ≡ Err NotACall → Kind bytes
   Other : 8 ≤ length bytes → word_of bytes 4 ≢ 0 → call_at bytes ≡ Err NotACall → Kind bytes
   Headless : length bytes < 12 → (e : XdrError) → 8 ≤ length bytes → word_of bytes 4 ≡ 0 → call_at bytes ≡ Err (Bad (word_of bytes 0) e) → Kind bytes
@@ -65,7 +65,7 @@ is_call bytes le e =
     let call : eqb (word_of bytes 4) 0 ≡ true = eq-eqb _ _ e in
     rw (room, call) refl
 
-is_headless : (bytes : List ℕ) → 8 ≤ length bytes → word_of bytes 4 ≡ 0 → length bytes < 12 → call_at bytes ≡ Err (Bad (word_of bytes 0) (record { place = length bytes; why = Short }))
+pub is_headless : (bytes : List ℕ) → 8 ≤ length bytes → word_of bytes 4 ≡ 0 → length bytes < 12 → call_at bytes ≡ Err (Bad (word_of bytes 0) (record { place = length bytes; why = Short }))
 is_headless bytes le e lt =
     let short = number_short bytes 8 lt in
     is_call bytes le e ∙ ap (λ (r : Read ℕ). with_version (word_of bytes 0) bytes r) short
@@ -78,13 +78,13 @@ is_stranger bytes le e ne =
     let other : eqb (word_of bytes 8) 2 ≡ false = ne_eqb _ _ ne in
     is_versioned bytes le e ∙ ap (λ (b : Bool). cond b (body_at (word_of bytes 0) bytes 12) (Err (RpcVersion (word_of bytes 0)))) other
 
-is_ours : (bytes : List ℕ) → 12 ≤ length bytes → word_of bytes 4 ≡ 0 → word_of bytes 8 ≡ 2 → call_at bytes ≡ with_body (word_of bytes 0) bytes (reading call_body bytes 12)
+pub is_ours : (bytes : List ℕ) → 12 ≤ length bytes → word_of bytes 4 ≡ 0 → word_of bytes 8 ≡ 2 → call_at bytes ≡ with_body (word_of bytes 0) bytes (reading call_body bytes 12)
 unfolding body_at
 is_ours bytes le e two =
     let same : eqb (word_of bytes 8) 2 ≡ true = eq-eqb _ _ two in
     is_versioned bytes le e ∙ ap (λ (b : Bool). cond b (body_at (word_of bytes 0) bytes 12) (Err (RpcVersion (word_of bytes 0)))) same
 
-kind_of : (bytes : List ℕ) → Kind bytes
+pub kind_of : (bytes : List ℕ) → Kind bytes
 kind_of bytes =
     elim (cases_lt (length bytes) 8) [
       | inl cut ↦ Cut cut (is_cut bytes cut)
@@ -162,7 +162,7 @@ written_kind : (xid : ℕ) (rest : List ℕ) → xid < 2 ^ 32 → let bytes = (w
 unfolding word word_of
 written_kind xid rest lt = (omega arith, from_be_bytes-to_be_bytes_4 xid lt, refl, refl)
 
-length_front : (xid : ℕ) → length (word xid ++ (word 0 ++ word 2)) ≡ 12
+pub length_front : (xid : ℕ) → length (word xid ++ (word 0 ++ word 2)) ≡ 12
 unfolding word
 length_front xid = refl
 

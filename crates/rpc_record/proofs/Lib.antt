@@ -2,3 +2,6 @@ pub mod Replies
 pub mod Records
 pub mod CallLaws
 pub mod ReplyLaws
+pub mod CallRefusals
+pub mod ReplyRefusals
+pub mod FirstFaults

@@ -12,7 +12,7 @@ use Rattle.rpc_record.specs.Replies.{Reply, Body, Success, ProgUnavail, ProgMism
 use Rattle.rpc_record.specs.Laws.{IsReplyReadAgain, IsReplySpelledSo}
 use Rattle.rpc_record.proofs.Records.{all_again, all_spelled, whole_is}
 
-abbrev status : Form
+abbrev pub status : Form
 status = Case 0 accepted_reply (Case 1 rejected_reply NoCase)
 
 -- ---- what was written
@@ -96,7 +96,7 @@ says xid bytes at (inr (inl (inr (inr none)))) r e = absurd none
 says xid bytes at (inr (inr none)) r e = absurd none
 
 -- the second word is 1
-one_is : (n : ℕ) → (eqb n 1 || false) ≡ true → n ≡ 1
+pub one_is : (n : ℕ) → (eqb n 1 || false) ≡ true → n ≡ 1
 one_is n e =
     elim (or_cases (eqb n 1) false e) [
       | inl same ↦ eqb-true n 1 same

@@ -1,5 +1,8 @@
 use Rattle.rpc_record.proofs.CallLaws.{call_again, call_spelled, no_call, another_version}
 use Rattle.rpc_record.proofs.ReplyLaws.{reply_again, reply_spelled}
+use Rattle.rpc_record.proofs.CallRefusals.{bad_call, call_short, call_stops}
+use Rattle.rpc_record.proofs.ReplyRefusals.{reply_short, reply_stops}
+use Rattle.rpc_record.proofs.FirstFaults.{call_least, reply_least}
 use Rattle.rpc_record.proofs.laws.every_message.Goals as goal
 
 pub returns-clause-call_again : goal.returns-clause-call_again
@@ -19,3 +22,24 @@ returns-clause-reply_again c = reply_again c.every_form.ensures.again
 
 pub returns-clause-reply_spelled : goal.returns-clause-reply_spelled
 returns-clause-reply_spelled c = reply_spelled c.every_form.ensures.spelled
+
+pub returns-clause-bad_call : goal.returns-clause-bad_call
+returns-clause-bad_call c = bad_call
+
+pub returns-clause-call_short : goal.returns-clause-call_short
+returns-clause-call_short c = call_short c.every_form.ensures.short
+
+pub returns-clause-call_stops : goal.returns-clause-call_stops
+returns-clause-call_stops c = call_stops c.every_form.ensures.stops
+
+pub returns-clause-reply_short : goal.returns-clause-reply_short
+returns-clause-reply_short c = reply_short c.every_form.ensures.short
+
+pub returns-clause-reply_stops : goal.returns-clause-reply_stops
+returns-clause-reply_stops c = reply_stops c.every_form.ensures.stops
+
+pub returns-clause-call_least : goal.returns-clause-call_least
+returns-clause-call_least c = call_least c.every_form.ensures.spelled c.every_form.ensures.least
+
+pub returns-clause-reply_least : goal.returns-clause-reply_least
+returns-clause-reply_least c = reply_least c.every_form.ensures.spelled c.every_form.ensures.least
