@@ -1,0 +1,19 @@
+//! What every part of the cluster speaks of: machines, mirrors, moments, the entries of the journal,
+//! and what is done to a data file.
+#![tactic(auto)]
+
+mod change;
+mod entry;
+mod ids;
+mod laws;
+mod outbox;
+mod piece;
+mod tick;
+
+pub use change::{Changes, NewTime};
+pub use entry::Entry;
+pub use ids::{Cred, FileId, Mirror, MirrorId, NodeId};
+pub use laws::{commits, guards, overlays, stable_times, ticks, writes};
+pub use outbox::Outbox;
+pub use piece::{Piece, Pieces};
+pub use tick::{Tick, Times};
