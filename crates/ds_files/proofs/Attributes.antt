@@ -3,11 +3,11 @@ use Rattle.std.proofs.Common.{◌≡◌, ℕ, zero, suc, ◌+◌, ◌<◌, Bool,
 use Rattle.std.proofs.lemmas.Bool.{false≢true, eq-eqb}
 use Rattle.std.proofs.lemmas.List.{nil_from_length}
 use Rattle.nfs3_wire.specs.declared.attributes.Fattr3.{Fattr3}
-use Rattle.ds_files.specs.declared.tick.Tick.{Tick}
-use Rattle.ds_files.specs.File.{FileState, shown, written}
+use Rattle.cluster_model.specs.declared.tick.Tick.{Tick}
+use Rattle.cluster_model.specs.File.{FileState, shown, written}
 use Rattle.ds_files.specs.Server.{file_attributes, time_of}
-use Rattle.ds_files.proofs.Overlays.{length-overlay}
-use Rattle.ds_files.proofs.Files.{shown-written}
+use Rattle.cluster_model.proofs.Placing.{length-overlay}
+use Rattle.cluster_model.proofs.Files.{shown-written}
 
 -- a write of no bytes leaves them
 pub attributes_none : (fileid : ℕ) (f : FileState) (tick : Tick) (at : ℕ) (synced : Bool) (bs : List ℕ) → length bs ≡ 0 → file_attributes fileid (written f tick at synced bs) ≡ file_attributes fileid f

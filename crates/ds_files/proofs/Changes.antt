@@ -1,20 +1,22 @@
 -- What a write changes keeps what holds of every server.
 use Rattle.std.proofs.Common.{◌≡◌, ◌≢◌, ℕ, ◌+◌, ◌-◌, ◌<◌, ◌≤◌, List, [], ◌∷◌, length, get_or, set, Some, None, Result, Ok, Err, max, refl, sym, ap, subst, ◌∙◌, arith}
 use Rattle.std.specs.Prelude.{OnOk, OnErr}
-use Rattle.std.proofs.lemmas.List.{set-get_or}
+use Rattle.std.proofs.lemmas.List.{set-get_or, length-set}
 use Rattle.std.proofs.lemmas.List.Sums.{sum_by-set}
 use Rattle.std.proofs.lemmas.Option.{slice_get_read}
 use Rattle.nfs3_wire.specs.declared.enums.Stat3.{Stat3}
 use Rattle.rpc_record.specs.declared.auth.AuthSys.{AuthSys}
 use Rattle.rpc_record.specs.Rpc.{plain_credential}
-use Rattle.nfs3_wire.specs.declared.call.WriteArgs.{WriteArgs}
+use Rattle.nfs3_wire.specs.declared.args.WriteArgs.{WriteArgs}
 use Rattle.ds_files.specs.declared.head.Head.{Head}
-use Rattle.ds_files.specs.File.{FileState, shown, written, overlay}
-use Rattle.ds_files.specs.Server.{max_total, max_ticks, write_file, is_synced, count_after}
+use Rattle.cluster_model.specs.Content.{overlay}
+use Rattle.cluster_model.specs.File.{FileState, shown, written}
+use Rattle.ds_files.specs.Server.{max_total, max_ticks}
+use Rattle.ds_files.specs.Steps.{write_file, is_synced, count_after}
 use Rattle.ds_files.specs.Heads.{IsServer, state_of, sized_refusal}
 use Rattle.ds_files.specs.Effects.{head_after, ChangesFile}
-use Rattle.ds_files.proofs.Overlays.{length-overlay}
-use Rattle.ds_files.proofs.Files.{shown-written}
+use Rattle.cluster_model.proofs.Placing.{length-overlay}
+use Rattle.cluster_model.proofs.Files.{shown-written}
 use Rattle.ds_files.proofs.Places.{IsGranted, granted, size_le_total, same_file}
 
 -- the size of a file after a write that is granted leaves room for all
@@ -64,6 +66,7 @@ module _ (h : Head) (files : List FileState) (index : ℕ) (f : FileState) (a : 
       record {
         total = omega (arith, one, old, total, part);
         bounded = bounded_after file made;
+        named = k.named ∙ sym (length-set files index file);
         ticks = ticks_after h.total h.count (length (shown f)) a.offset a.count a.bytes.now k.ticks (granted h.total h.count f a.offset a.count a.bytes.now (plain_credential cred) none);
       }
 

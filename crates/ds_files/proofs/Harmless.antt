@@ -1,34 +1,70 @@
 -- A refusal changes nothing.
 use Rattle.std.proofs.Common.{◌≡◌, ℕ, List, [], ◌++◌, Option, Some, None, Result, Ok, Err, refl, sym, ap, ◌∙◌, subst, append-nil}
 use Rattle.std.specs.Prelude.{OnOk, OnErr}
+use Rattle.std.proofs.lemmas.Bool.{cond_both}
 use Rattle.rpc_record.specs.Rpc.{Credential}
 use Rattle.nfs3_wire.specs.declared.enums.StableHow.{StableHow}
 use Rattle.nfs3_wire.specs.declared.enums.Stat3.{Stat3}
-use Rattle.nfs3_wire.specs.Calls.{Call, Null, Read, Write}
-use Rattle.ds_files.specs.declared.entry.Entry.{Entry}
-use Rattle.ds_files.specs.declared.entry.NodeId.{NodeId}
-use Rattle.ds_files.specs.declared.outbox.Outbox.{Outbox}
-use Rattle.ds_files.specs.File.{FileState}
+use Rattle.nfs3_wire.specs.declared.setting.Sattr3.{Sattr3}
+use Rattle.nfs3_wire.specs.Calls.{Call, Null, GetAttr, SetAttr, Lookup, Read, Write, Create, FsInfo, Commit}
+use Rattle.cluster_model.specs.declared.entry.Entry.{Entry}
+use Rattle.cluster_model.specs.declared.ids.NodeId.{NodeId}
+use Rattle.cluster_model.specs.declared.outbox.Outbox.{Outbox}
+use Rattle.cluster_model.specs.File.{FileState}
 use Rattle.ds_files.specs.Answer.{Answer}
 use Rattle.ds_files.specs.Effects.{answer_of}
 use Rattle.ds_files.specs.Posts.{Acts, IsAsBefore}
-use Rattle.ds_files.specs.Server.{ServerState, Step, Object, step_of, write_step, write_file, write_refusal}
+use Rattle.ds_files.specs.Server.{ServerState, Object, File, may_write}
+use Rattle.ds_files.specs.Steps.{Step, step_of, write_step, write_file, write_refusal, set_step, set_file, set_refusal, create_step, create_in, creation, Creation, NotMade, IsThere, Makes, commit_step, commit_done}
 use Rattle.ds_files.specs.Receive.{Received, Silent, Refused, Asked, outcome_by, outcome_of_step}
-use Rattle.ds_files.specs.Laws.{IsRefusal, HasNoEffect, IsTurnedAway}
+use Rattle.ds_files.specs.Laws.{IsRefusal, IsQuery, HasNoEffect, IsTurnedAway}
 use Rattle.ds_files.proofs.Objects.{at_object}
 
 abbrev IsHarmless : ServerState → Step → Type 0
 IsHarmless s t = IsRefusal t.reply → HasNoEffect s t
 
-at_refusal : (s : ServerState) (index : ℕ) (f : FileState) (offset : ℕ) (how : StableHow) (bytes : List ℕ) (uid : ℕ) (refusal : Option Stat3) → IsHarmless s (write_file s index f offset how bytes uid refusal)
-at_refusal s index f offset how bytes uid (Some status) h = (refl, refl)
-at_refusal s index f offset how bytes uid None h = absurd h
+write_at : (s : ServerState) (index : ℕ) (f : FileState) (offset : ℕ) (how : StableHow) (bytes : List ℕ) (uid : ℕ) (refusal : Option Stat3) → IsHarmless s (write_file s index f offset how bytes uid refusal)
+write_at s index f offset how bytes uid (Some status) h = (refl, refl)
+write_at s index f offset how bytes uid None h = absurd h
+
+set_at : (s : ServerState) (index : ℕ) (f : FileState) (a : Sattr3) (refusal : Option Stat3) → IsHarmless s (set_file s index f a refusal)
+set_at s index f a (Some status) h = (refl, refl)
+set_at s index f a None h = absurd h
+
+create_at : (s : ServerState) (name : List ℕ) (cred : Credential) (made : Creation) → IsHarmless s (create_in s name cred made)
+create_at s name cred (NotMade status) h = (refl, refl)
+create_at s name cred (IsThere index) h = absurd h
+create_at s name cred (Makes a) h = absurd h
+
+commit_at : (s : ServerState) (index : ℕ) (f : FileState) (cred : Credential) → IsHarmless s (commit_step s (File index f) cred)
+commit_at s index f cred = cond_both (may_write f cred) (commit_done s index f) _ (λ (t : Step). IsHarmless s t) (λ may h. absurd h) (λ not_ h. (refl, refl))
 
 pub refusals : (s : ServerState) (call : Call) (cred : Credential) → IsRefusal (step_of s call cred).reply → HasNoEffect s (step_of s call cred)
 refusals s Null cred h = (refl, refl)
+refusals s (GetAttr handle) cred h = (refl, refl)
+refusals s (SetAttr handle a guard) cred h =
+    at_object s.files (λ (o : Object). IsHarmless s (set_step s o a guard cred)) (λ status h. (refl, refl)) (λ h. (refl, refl)) (λ index f e. set_at s index f a (set_refusal s.count f a guard cred)) handle h
+refusals s (Lookup handle name) cred h = (refl, refl)
 refusals s (Read handle offset count) cred h = (refl, refl)
 refusals s (Write handle offset count how bytes) cred h =
-    at_object s.files (λ (o : Object). IsHarmless s (write_step s o offset count how bytes cred)) (λ status h. (refl, refl)) (λ h. (refl, refl)) (λ index f e. at_refusal s index f offset how bytes cred.uid (write_refusal s index f offset count how bytes cred)) handle h
+    at_object s.files (λ (o : Object). IsHarmless s (write_step s o offset count how bytes cred)) (λ status h. (refl, refl)) (λ h. (refl, refl)) (λ index f e. write_at s index f offset how bytes cred.uid (write_refusal s index f offset count how bytes cred)) handle h
+refusals s (Create handle name manner) cred h =
+    at_object s.files (λ (o : Object). IsHarmless s (create_step s o name manner cred)) (λ status h. (refl, refl)) (create_at s name cred (creation s.count s.names name manner cred)) (λ index f e h. (refl, refl)) handle h
+refusals s (FsInfo handle) cred h = (refl, refl)
+refusals s (Commit handle offset count) cred h =
+    at_object s.files (λ (o : Object). IsHarmless s (commit_step s o cred)) (λ status h. (refl, refl)) (λ h. (refl, refl)) (λ index f e. commit_at s index f cred) handle h
+
+-- a call that only asks changes nothing
+pub queries : (s : ServerState) (call : Call) (cred : Credential) → IsQuery call → HasNoEffect s (step_of s call cred)
+queries s Null cred h = (refl, refl)
+queries s (GetAttr handle) cred h = (refl, refl)
+queries s (SetAttr handle a guard) cred h = absurd h
+queries s (Lookup handle name) cred h = (refl, refl)
+queries s (Read handle offset count) cred h = (refl, refl)
+queries s (Write handle offset count how bytes) cred h = absurd h
+queries s (Create handle name manner) cred h = absurd h
+queries s (FsInfo handle) cred h = (refl, refl)
+queries s (Commit handle offset count) cred h = absurd h
 
 -- nor does a record that is turned away
 pub turned_away : (s : ServerState) (received : Received) → IsTurnedAway s received → ((outcome_by s received).server ≡ s) × ((outcome_by s received).entries ≡ [])

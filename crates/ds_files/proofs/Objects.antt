@@ -5,7 +5,7 @@ use Rattle.std.specs.Int.{w64, from_be_bytes}
 use Rattle.std.proofs.lemmas.Bool.{cond_both}
 use Rattle.nfs3_wire.specs.declared.enums.Stat3.{Stat3}
 use Rattle.nfs3_wire.specs.declared.enums.Stat3.TheVariants as stat
-use Rattle.ds_files.specs.File.{FileState}
+use Rattle.cluster_model.specs.File.{FileState}
 use Rattle.ds_files.specs.Server.{Object, Missing, Root, File, file_at, named, object_of}
 
 -- What holds of a call whatever object its handle names: of none, of the root, and of each file.

@@ -8,14 +8,16 @@ use Rattle.std.proofs.lemmas.List.Sums.{sum_by-set, get_or-le-sum_by}
 use Rattle.rpc_record.specs.Rpc.{Credential}
 use Rattle.nfs3_wire.specs.declared.enums.StableHow.{StableHow}
 use Rattle.nfs3_wire.specs.declared.enums.Stat3.TheVariants as stat
-use Rattle.ds_files.specs.declared.tick.Tick.{Tick}
+use Rattle.cluster_model.specs.declared.tick.Tick.{Tick}
 use Rattle.ds_files.specs.declared.head.Head.{Head}
 use Rattle.ds_files.specs.declared.object.Place.TheVariants as place
-use Rattle.ds_files.specs.File.{FileState, shown, written, overlay}
-use Rattle.ds_files.specs.Server.{file_at, named, total_size, room_refusal, write_refusal, files_after, next_tick, is_synced, may_write, max_total, max_file, max_ticks}
+use Rattle.cluster_model.specs.Content.{overlay}
+use Rattle.cluster_model.specs.File.{FileState, shown, written}
+use Rattle.ds_files.specs.Server.{file_at, named, total_size, next_tick, may_write, max_total, max_file, max_ticks}
+use Rattle.ds_files.specs.Steps.{room_refusal, write_refusal, files_after, is_synced}
 use Rattle.ds_files.specs.Heads.{IsAt, IsServer, state_of, size_refusal, sized_refusal}
-use Rattle.ds_files.proofs.Overlays.{length-overlay}
-use Rattle.ds_files.proofs.Files.{shown-written}
+use Rattle.cluster_model.proofs.Placing.{length-overlay}
+use Rattle.cluster_model.proofs.Files.{shown-written}
 
 -- what a file is in the code and in the rule
 pub found : (files : List FileState) (index : ℕ) → index < length files → IsAt files (place.File index) (file_at index (slice_get files index))

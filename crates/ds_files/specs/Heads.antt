@@ -1,5 +1,5 @@
 -- A data server by its numbers and its files.
-use Rattle.std.specs.Prelude.{◌≡◌, ℕ, ◌+◌, ◌-◌, ◌≤◌, List, length, Option, Some, None, max, not, nat_lt, ◌==◌, if◌then◌else◌, slice_get}
+use Rattle.std.specs.Prelude.{◌≡◌, ℕ, ◌+◌, ◌-◌, ◌<◌, ◌≤◌, List, length, Option, Some, None, max, not, nat_lt, ◌==◌, if◌then◌else◌, slice_get}
 use Rattle.rpc_record.specs.Rpc.{Credential}
 use Rattle.nfs3_wire.specs.declared.enums.Stat3.{Stat3}
 use Rattle.nfs3_wire.specs.declared.enums.Stat3.TheVariants as stat
@@ -11,17 +11,19 @@ use Rattle.nfs3_wire.specs.Attributes.{fattr3, fattr3_value}
 use Rattle.ds_files.specs.declared.head.Head.{Head}
 use Rattle.ds_files.specs.declared.object.Place.{Place}
 use Rattle.ds_files.specs.declared.object.Place.TheVariants as place
-use Rattle.ds_files.specs.File.{FileState, shown}
-use Rattle.ds_files.specs.Server.{ServerState, total_size, max_total, max_file, max_ticks, may_write, Object, Missing, Root, File}
+use Rattle.cluster_model.specs.File.{FileState, shown}
+use Rattle.ds_files.specs.Server.{ServerState, total_size, max_total, max_file, max_ticks, may_write, Object, Missing, Root, File, said_of, file_attributes}
+use Rattle.ds_files.specs.Steps.{tick_refusal}
 
 abbrev pub state_of : Head → List FileState → ServerState
-state_of h files = record { number = h.number; boot = h.boot; count = h.count; root = h.root; files = files }
+state_of h files = record { number = h.number; boot = h.boot; count = h.count; root = h.root; names = h.names; files = files }
 
 -- what holds of every data server
 pub record IsServer (h : Head) (files : List FileState) : Type 0 where
   pub total : h.total ≡ total_size files
   pub bounded : h.total ≤ max_total
   pub ticks : h.count ≤ max_ticks
+  pub named : length h.names ≡ length files
 
 -- the object is at this place
 abbrev pub IsAt : List FileState → Place → Object → Type 0
@@ -35,7 +37,7 @@ size_refusal total count size offset len =
     if len == 0 then None
     else (if nat_lt max_file (offset + len) then Some stat.Fbig
     else (if nat_lt max_total (total - size + max size (offset + len)) then Some stat.NoSpc
-    else (if count == max_ticks then Some stat.Jukebox else None)))
+    else tick_refusal count))
 
 -- the refusals of a WRITE on a file in their order, by the sizes alone
 abbrev pub sized_refusal : ℕ → ℕ → FileState → ℕ → ℕ → List ℕ → Credential → Option Stat3
@@ -57,3 +59,17 @@ MissingRefuses (place.File index) = Unit {0}
 -- the attributes have a spelling
 abbrev pub AttributesFit : Option Fattr3 → Type 0
 AttributesFit attributes = Fits (Optional fattr3) (option_map fattr3_value attributes)
+
+-- what is said of the object at a place
+abbrev pub Says : Head → List FileState → Place → Option Fattr3 → Type 0
+Says h files at attributes = (object : Object) → IsAt files at object → attributes ≡ said_of (state_of h files) object
+
+-- the attributes of the file at an index
+abbrev pub IsSaidAt : List FileState → ℕ → Fattr3 → Type 0
+IsSaidAt files index attributes = (f : FileState) → slice_get files index ≡ Some f → attributes ≡ file_attributes (index + 2) f
+
+-- a place that the files have
+abbrev pub IsWithin : List FileState → Place → Type 0
+IsWithin files (place.Missing status) = Unit {0}
+IsWithin files place.Root = Unit {0}
+IsWithin files (place.File index) = index < length files

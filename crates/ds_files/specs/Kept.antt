@@ -1,27 +1,34 @@
--- Words of the private functions, and what holds of the fields behind a file.
-use Rattle.std.specs.Prelude.{◌≡◌, ℕ, ◌+◌, ◌-◌, ◌≤◌, List, [], ◌∷◌, ◌++◌, length, replicate}
-use Rattle.std.specs.List.{AllByRecursion}
-use Rattle.ds_files.specs.declared.file.TheConstants.{MAX_FILE}
-use Rattle.ds_files.specs.declared.tick.Tick.{Tick}
-use Rattle.ds_files.specs.declared.tick.Times.{Times}
-use Rattle.ds_files.specs.File.{Pending, overlay_all}
+-- What a restart keeps of each file, on its way.
+use Rattle.std.specs.Prelude.{◌≡◌, ◌≢◌, ℕ, ◌+◌, ◌<◌, ◌≤◌, List, [], ◌∷◌, ◌++◌, length, Option, Some, None, slice_get}
+use Rattle.cluster_model.specs.declared.piece.Piece.{Piece}
+use Rattle.cluster_model.specs.Content.{survived, pieces_of}
+use Rattle.cluster_model.specs.File.{FileState, shown}
+use Rattle.data_file.specs.Kept.{kept_bytes, crashed}
 
--- zeros at the end, up to a length
-abbrev pub padded : List ℕ → ℕ → List ℕ
-padded xs n = xs ++ replicate (n - length xs) 0
+-- what the disk of a file has, by what was kept for it
+abbrev pub disk_of : FileState → Option (List ℕ) → List ℕ
+disk_of f kept = kept_bytes f.content.stable kept
 
--- each of the writes ends at the length, or before it
-abbrev pub EndWithin : ℕ → List Pending → Type 0
-EndWithin n ws = AllByRecursion (λ w. w.at + length w.bytes ≤ n) ws
+-- each file's disk has no more bytes than the file shows
+pub record AreBounded (files : List FileState) (kept : List (Option (List ℕ))) : Type 0 where
+  pub size : length kept ≡ length files
+  pub each : (i : ℕ) (f : FileState) (k : Option (List ℕ)) → slice_get files i ≡ Some f → slice_get kept i ≡ Some k → length (disk_of f k) ≤ length (shown f)
 
--- the cache is what the pending writes make of the stable bytes, and it is the longest there is
-pub record IsCached (stable : List ℕ) (pending : List Pending) (cache : List ℕ) : Type 0 where
-  pub exact : cache ≡ overlay_all stable pending
-  pub ends : EndWithin (length cache) pending
-  pub grown : length stable ≤ length cache
-  pub bounded : length cache ≤ MAX_FILE
+-- each file's disk has what these pieces have brought to it
+abbrev pub AreKept : List FileState → List Piece → List (Option (List ℕ)) → Type 0
+AreKept files pieces kept = (i : ℕ) (f : FileState) (k : Option (List ℕ)) → slice_get files i ≡ Some f → slice_get kept i ≡ Some k → disk_of f k ≡ (survived f.content (pieces_of (i + 2) pieces)).stable
 
--- the times after a write of bytes
-abbrev pub times_after : Times → Tick → List ℕ → Times
-times_after times tick [] = times
-times_after times tick (b ∷ bytes) = record times { mtime = tick; ctime = tick }
+-- one piece more
+pub record KeepsPiece (files : List FileState) (piece : Piece) (old new : List (Option (List ℕ))) : Type 0 where
+  pub bounded : AreBounded files new
+  pub kept : (pieces : List Piece) → AreKept files pieces old → AreKept files (pieces ++ piece ∷ []) new
+
+-- the file that a piece is of
+abbrev pub IsOf : List FileState → Piece → Option ℕ → Type 0
+IsOf files piece (Some index) = (index < length files) × (piece.fileid ≡ index + 2)
+IsOf files piece None = (index : ℕ) → index < length files → piece.fileid ≢ index + 2
+
+-- all files after a restart that left these disks
+abbrev pub all_crashed : List FileState → List (Option (List ℕ)) → List FileState
+all_crashed (f ∷ files) (k ∷ kept) = crashed f (disk_of f k) ∷ all_crashed files kept
+all_crashed _ _ = []

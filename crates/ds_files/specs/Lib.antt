@@ -1,6 +1,7 @@
-pub mod File
-pub mod Kept
 pub mod Server
+pub mod Steps
+pub mod Restart
+pub mod Kept
 pub mod Answer
 pub mod Heads
 pub mod Effects

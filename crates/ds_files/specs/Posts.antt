@@ -1,7 +1,7 @@
 -- What a step of a data server does to what is put out.
 use Rattle.std.specs.Prelude.{◌≡◌, ◌++◌}
-use Rattle.ds_files.specs.declared.entry.NodeId.{NodeId}
-use Rattle.ds_files.specs.declared.outbox.Outbox.{Outbox}
+use Rattle.cluster_model.specs.declared.ids.NodeId.{NodeId}
+use Rattle.cluster_model.specs.declared.outbox.Outbox.{Outbox}
 use Rattle.ds_files.specs.Server.{ServerState}
 use Rattle.ds_files.specs.Receive.{Outcome}
 use Rattle.ds_files.specs.Records.{sent_to}

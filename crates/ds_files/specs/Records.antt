@@ -6,7 +6,7 @@ use Rattle.rpc_record.specs.declared.auth.AuthSys.{AuthSys}
 use Rattle.rpc_record.specs.Rpc.{authsys_parms, credential_value, plain_credential}
 use Rattle.rpc_record.specs.Replies.{plain_reply, ReplyFits}
 use Rattle.nfs3_wire.specs.Calls.{plain_call}
-use Rattle.ds_files.specs.declared.entry.NodeId.{NodeId}
+use Rattle.cluster_model.specs.declared.ids.NodeId.{NodeId}
 use Rattle.ds_files.specs.declared.received.Received.{Received as DeclaredReceived}
 use Rattle.ds_files.specs.declared.received.Received.TheVariants as declared
 use Rattle.ds_files.specs.Receive.{Received, Silent, Refused, Asked}

@@ -1,38 +1,46 @@
--- The rule of a data server for NULL, READ and WRITE (RFC 1813, sections 3.3.0, 3.3.6 and 3.3.7).
-use Rattle.std.specs.Prelude.{ℕ, ◌+◌, ◌-◌, Bool, true, false, ◌&&◌, ◌||◌, not, List, [], ◌∷◌, ◌++◌, length, take, drop, sum_by, Option, Some, None, min, nat_lt, nat_le, ◌==◌, if◌then◌else◌, slice_get, slice_set, bit_and}
+-- A data server: its objects, their attributes and handles, and who may do what (RFC 1813, section 2).
+use Rattle.std.specs.Prelude.{ℕ, ◌+◌, ◌-◌, Bool, ◌&&◌, ◌||◌, not, List, [], ◌∷◌, length, codes, sum_by, position, Option, Some, None, nat_lt, ◌==◌, if◌then◌else◌, slice_get, bit_and}
+use Rattle.std.specs.Str.{bytes_eq}
 use Rattle.std.specs.List.{list_any}
+use Rattle.std.specs.Option.{option_map}
 use Rattle.std.specs.Int.{w64, from_be_bytes}
+use Rattle.ff_xdr.specs.Form.{long}
 use Rattle.rpc_record.specs.Rpc.{Credential}
 use Rattle.nfs3_wire.specs.declared.enums.FileType.TheVariants.{Regular, Directory}
-use Rattle.nfs3_wire.specs.declared.enums.StableHow.{StableHow}
-use Rattle.nfs3_wire.specs.declared.enums.StableHow.TheVariants.{Unstable, DataSync, FileSync}
 use Rattle.nfs3_wire.specs.declared.enums.Stat3.{Stat3}
 use Rattle.nfs3_wire.specs.declared.enums.Stat3.TheVariants as stat
 use Rattle.nfs3_wire.specs.declared.attributes.Time3.{Time3}
 use Rattle.nfs3_wire.specs.declared.attributes.Fattr3.{Fattr3}
 use Rattle.nfs3_wire.specs.declared.attributes.WccAttr.{WccAttr}
 use Rattle.nfs3_wire.specs.declared.attributes.WccData.{WccData}
-use Rattle.nfs3_wire.specs.Calls.{Call}
-use Rattle.nfs3_wire.specs.Calls as calls
-use Rattle.nfs3_wire.specs.Replies.{Reply, ReadDone, ReadRefused, WriteDone, WriteRefused}
-use Rattle.nfs3_wire.specs.Replies as replies
-use Rattle.ds_files.specs.declared.tick.Tick.{Tick}
-use Rattle.ds_files.specs.declared.tick.Times.{Times}
-use Rattle.ds_files.specs.declared.entry.MirrorId.{MirrorId}
-use Rattle.ds_files.specs.declared.entry.Entry.{Entry}
-use Rattle.ds_files.specs.declared.entry.Entry.TheVariants.{Applied, Committed}
-use Rattle.ds_files.specs.File.{FileState, shown, written, new_file}
+use Rattle.cluster_model.specs.declared.tick.Tick.{Tick}
+use Rattle.cluster_model.specs.declared.tick.Times.{Times}
+use Rattle.cluster_model.specs.File.{FileState, shown, new_file, all_at}
 
 -- A data server: its number, its boot number, how many ticks it gave in this boot, the root's times, and
--- its files. The root has fileid 1, the files have 2, 3, and so on.
+-- its files with their names in the root, in the order in which they were made. The root has fileid 1, the
+-- files have 2, 3, and so on.
 pub record ServerState : Type 0 where
   pub number : ℕ
   pub boot : ℕ
   pub count : ℕ
   pub root : Times
+  pub names : List (List ℕ)
   pub files : List FileState
 
--- number 1, boot 1, and one empty file of user and group 65,536, mode 0640, made at the first tick
+-- a root and no files
+abbrev pub new_server : ℕ → ℕ → ServerState
+new_server number boot = record {
+  number = number;
+  boot = boot;
+  count = 0;
+  root = all_at (record { boot = boot; count = 0 });
+  names = [];
+  files = [];
+}
+
+-- Number 1, boot 1, and one empty file m1 of user and group 65,536, mode 0640, made at the first tick: so
+-- mtime and ctime of the root are that tick too.
 abbrev pub preset_server : ServerState
 preset_server =
     let start : Tick = record { boot = 1; count = 0 } in
@@ -42,10 +50,11 @@ preset_server =
       boot = 1;
       count = 1;
       root = record { atime = start; mtime = first; ctime = first };
+      names = codes "m1" ∷ [];
       files = new_file 65536 65536 416 first ∷ [];
     }
 
--- the limits of a server: data in one READ, all files together, ticks in one boot
+-- the limits of a server: data in one READ, all files together, one file, a name, ticks in one boot, boots
 abbrev pub max_read : ℕ
 max_read = 1048576
 
@@ -55,8 +64,14 @@ max_total = 268435456
 abbrev pub max_file : ℕ
 max_file = 67108864
 
+abbrev pub max_name : ℕ
+max_name = 255
+
 abbrev pub max_ticks : ℕ
 max_ticks = 999999999
+
+abbrev pub max_boot : ℕ
+max_boot = 4294967295
 
 -- ---- attributes
 
@@ -145,114 +160,31 @@ may_read f cred = cred.uid == 0 || (cred.uid == f.owner && allows f.mode 256) ||
 abbrev pub may_write : FileState → Credential → Bool
 may_write f cred = cred.uid == 0 || (cred.uid == f.owner && allows f.mode 128)
 
--- ---- READ
+-- the attributes of what a handle names: none where it names nothing
+abbrev pub said_of : ServerState → Object → Option Fattr3
+said_of s (Missing status) = None
+said_of s Root = Some (root_attributes s.root)
+said_of s (File index f) = Some (file_attributes (index + 2) f)
 
-abbrev pub read_refusal : FileState → Credential → Option Stat3
-read_refusal f cred = if may_read f cred then None else Some stat.Acces
+-- the index of the file with a name in the root
+abbrev pub index_of : List (List ℕ) → List ℕ → Option ℕ
+index_of names name = position (bytes_eq name) names
 
--- at most `count` bytes of those that are shown, and whether they end where the file does
-abbrev pub bytes_read : FileState → ℕ → ℕ → List ℕ
-bytes_read f offset count = take (min count max_read) (drop offset (shown f))
+-- the attributes of the file at an index
+abbrev pub said_at : List FileState → ℕ → Option Fattr3
+said_at files index = option_map (file_attributes (index + 2)) (slice_get files index)
 
-abbrev pub read_done : ℕ → FileState → ℕ → ℕ → Reply
-read_done index f offset count =
-    let bytes = bytes_read f offset count in
-    ReadDone (Some (file_attributes (index + 2) f)) (length bytes) (nat_le (length (shown f)) (offset + length bytes)) bytes
-
-abbrev pub read_file : ℕ → FileState → ℕ → ℕ → Option Stat3 → Reply
-read_file index f offset count (Some status) = ReadRefused status (Some (file_attributes (index + 2) f))
-read_file index f offset count None = read_done index f offset count
-
--- a READ never changes the server
-abbrev pub read_reply : ServerState → Object → ℕ → ℕ → Credential → Reply
-read_reply s (Missing status) offset count cred = ReadRefused status None
-read_reply s Root offset count cred = ReadRefused stat.Inval (Some (root_attributes s.root))
-read_reply s (File index f) offset count cred = read_file index f offset count (read_refusal f cred)
-
--- ---- WRITE
+-- the handle of the file at an index
+abbrev pub handle_of : ℕ → List ℕ
+handle_of index = long (index + 2)
 
 -- the shown bytes of all files together
 abbrev pub total_size : List FileState → ℕ
 total_size files = sum_by (λ f. length (shown f)) files
 
-abbrev pub is_synced : StableHow → Bool
-is_synced Unstable = false
-is_synced DataSync = true
-is_synced FileSync = true
+-- the tick that was given last, and the one that the next change takes
+abbrev pub clock : ServerState → Tick
+clock s = record { boot = s.boot; count = s.count }
 
-abbrev pub stability_of : Bool → StableHow
-stability_of false = Unstable
-stability_of true = FileSync
-
--- the tick that the next change takes
 abbrev pub next_tick : ServerState → Tick
 next_tick s = record { boot = s.boot; count = s.count + 1 }
-
--- the files after a write to one of them
-abbrev pub files_after : ServerState → ℕ → FileState → ℕ → StableHow → List ℕ → List FileState
-files_after s index f offset how bytes = slice_set s.files index (written f (next_tick s) offset (is_synced how) bytes)
-
--- what a write of at least one byte is refused for, once its caller and its arguments are good
-abbrev pub room_refusal : ServerState → ℕ → FileState → ℕ → StableHow → List ℕ → Option Stat3
-room_refusal s index f offset how [] = None
-room_refusal s index f offset how (b ∷ bytes) =
-    if nat_lt max_file (offset + length (b ∷ bytes)) then Some stat.Fbig
-    else (if nat_lt max_total (total_size (files_after s index f offset how (b ∷ bytes))) then Some stat.NoSpc
-    else (if s.count == max_ticks then Some stat.Jukebox else None))
-
--- the refusals of a WRITE on a file, in their order
-abbrev pub write_refusal : ServerState → ℕ → FileState → ℕ → ℕ → StableHow → List ℕ → Credential → Option Stat3
-write_refusal s index f offset count how bytes cred =
-    if not (may_write f cred) then Some stat.Acces
-    else (if not (count == length bytes) then Some stat.Inval
-    else room_refusal s index f offset how bytes)
-
-abbrev pub mirror_of : ServerState → ℕ → MirrorId
-mirror_of s index = record { server = s.number; fileid = index + 2 }
-
--- the entries of a write: it was applied, where it has bytes; and the file was committed, where it is synced
-abbrev pub applied_entries : MirrorId → ℕ → ℕ → List ℕ → List Entry
-applied_entries mirror uid at [] = []
-applied_entries mirror uid at (b ∷ bytes) = Applied mirror (record { 0 = uid }) at (b ∷ bytes) ∷ []
-
-abbrev pub committed_entries : MirrorId → Bool → List Entry
-committed_entries mirror false = []
-committed_entries mirror true = Committed mirror ∷ []
-
--- one step: the server after it, the answer, and the entries of the journal
-pub record Step : Type 0 where
-  pub server : ServerState
-  pub reply : Reply
-  pub entries : List Entry
-
-abbrev pub stays : ServerState → Reply → Step
-stays s reply = record { server = s; reply = reply; entries = [] }
-
--- a write takes a tick only where it has bytes
-abbrev pub count_after : ℕ → List ℕ → ℕ
-count_after count [] = count
-count_after count (b ∷ bytes) = count + 1
-
-abbrev pub write_done : ServerState → ℕ → FileState → ℕ → StableHow → List ℕ → ℕ → Step
-write_done s index f offset how bytes uid =
-    let file = written f (next_tick s) offset (is_synced how) bytes in
-    record {
-      server = record { number = s.number; boot = s.boot; count = count_after s.count bytes; root = s.root; files = slice_set s.files index file };
-      reply = WriteDone (changed (file_attributes (index + 2) f) (file_attributes (index + 2) file)) (length bytes) (stability_of (is_synced how)) s.boot;
-      entries = applied_entries (mirror_of s index) uid offset bytes ++ committed_entries (mirror_of s index) (is_synced how);
-    }
-
-abbrev pub write_file : ServerState → ℕ → FileState → ℕ → StableHow → List ℕ → ℕ → Option Stat3 → Step
-write_file s index f offset how bytes uid (Some status) = stays s (WriteRefused status (unchanged (Some (file_attributes (index + 2) f))))
-write_file s index f offset how bytes uid None = write_done s index f offset how bytes uid
-
-abbrev pub write_step : ServerState → Object → ℕ → ℕ → StableHow → List ℕ → Credential → Step
-write_step s (Missing status) offset count how bytes cred = stays s (WriteRefused status (unchanged None))
-write_step s Root offset count how bytes cred = stays s (WriteRefused stat.Inval (unchanged (Some (root_attributes s.root))))
-write_step s (File index f) offset count how bytes cred = write_file s index f offset how bytes cred.uid (write_refusal s index f offset count how bytes cred)
-
--- The rule: what a call by this credential does.
-abbrev pub step_of : ServerState → Call → Credential → Step
-step_of s calls.Null cred = stays s replies.Null
-step_of s (calls.Read handle offset count) cred = stays s (read_reply s (object_of s.files handle) offset count cred)
-step_of s (calls.Write handle offset count how bytes) cred = write_step s (object_of s.files handle) offset count how bytes cred

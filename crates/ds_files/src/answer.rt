@@ -5,9 +5,9 @@ ghost use Rattle.ff_xdr.specs.Form.{Fits};
 ghost use Rattle.nfs3_wire.specs.Replies.{replies, reply_value, plain_reply};
 ghost use Rattle.ds_files.specs.Answer.{reply_of};
 
-use crate::entry::Entry;
 use crate::stored::StoredReply;
-use nfs3_wire::{ReadOk, ReadReply, Reply3};
+use cluster_model::Entry;
+use nfs3_wire::{CreateOk, CreateReply, LookupOk, LookupReply, ReadOk, ReadReply, Reply3};
 use std::marker::Model;
 
 /// What a data server answers to a call, and the entries of that step.
@@ -45,6 +45,23 @@ impl Answer3 {
     {
         match &self.reply {
             StoredReply::Null => Reply3::Null,
+            StoredReply::GetAttr(reply) => Reply3::GetAttr(*reply),
+            StoredReply::SetAttr(reply) => Reply3::SetAttr(*reply),
+            StoredReply::LookupDone {
+                file,
+                attributes,
+                directory,
+            } => Reply3::Lookup(LookupReply::Done(LookupOk {
+                file: file.as_slice(),
+                attributes: *attributes,
+                directory: *directory,
+            })),
+            StoredReply::LookupRefused { status, directory } => {
+                Reply3::Lookup(LookupReply::Refused {
+                    status: *status,
+                    directory: *directory,
+                })
+            }
             StoredReply::ReadDone {
                 attributes,
                 count,
@@ -61,6 +78,21 @@ impl Answer3 {
                 attributes: *attributes,
             }),
             StoredReply::Write(reply) => Reply3::Write(*reply),
+            StoredReply::CreateDone {
+                file,
+                attributes,
+                wcc,
+            } => Reply3::Create(CreateReply::Done(CreateOk {
+                file: Some(file.as_slice()),
+                attributes: *attributes,
+                wcc: *wcc,
+            })),
+            StoredReply::CreateRefused { status, wcc } => Reply3::Create(CreateReply::Refused {
+                status: *status,
+                wcc: *wcc,
+            }),
+            StoredReply::FsInfo(reply) => Reply3::FsInfo(*reply),
+            StoredReply::Commit(reply) => Reply3::Commit(*reply),
         }
     }
 

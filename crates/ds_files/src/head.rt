@@ -1,9 +1,10 @@
-//! The numbers of a data server.
+//! A data server without its files.
 
-use crate::tick::Times;
+use crate::names::Names;
+use cluster_model::Times;
 
 /// All of a data server but its files.
-#[derive(Clone, Copy)]
+#[derive(Drop)]
 pub struct Head {
     pub number: u32,
     pub boot: u32,
@@ -11,6 +12,8 @@ pub struct Head {
     pub count: u32,
     /// The root's times.
     pub root: Times,
+    /// The files' names in the root, in the files' order.
+    pub names: Names,
     /// The shown bytes of all files together.
     pub total: u64,
 }

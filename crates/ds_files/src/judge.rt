@@ -1,12 +1,14 @@
 //! Handles, and the refusals of a call.
 
-ghost use Rattle.std.specs.Prelude.{◌≡◌, ◌≤◌, IfSome};
-ghost use Rattle.ds_files.specs.Server.{named, object_of, max_total};
-ghost use Rattle.ds_files.specs.Heads.{IsAt, size_refusal, Refuses, MissingRefuses};
+ghost use Rattle.std.specs.Prelude.{◌≡◌, ◌<◌, ◌≤◌, IfSome, Some, length};
+ghost use Rattle.ds_files.specs.Server.{named, object_of, max_total, said_at};
+ghost use Rattle.ds_files.specs.Heads.{IsAt, IsWithin, size_refusal, Refuses, MissingRefuses, Says, IsSaidAt, AttributesFit};
 
-use crate::file::{DataFile, MAX_FILE};
+use crate::head::Head;
 use crate::object::Place;
-use nfs3_wire::Stat3;
+use crate::rules::{file_attributes, root_attributes, tick_refusal};
+use data_file::{DataFile, MAX_FILE};
+use nfs3_wire::{Fattr3, Stat3};
 
 /// The most bytes that the files of a data server show together.
 pub const MAX_TOTAL: u64 = 268_435_456;
@@ -21,6 +23,7 @@ const ROOT: u64 = 1;
 fn named(files: &[DataFile], fileid: u64) -> Place
     ensures at { IsAt files.now result (named files.now fileid) }
     ensures status { MissingRefuses result }
+    ensures within { IsWithin files.now result }
 {
     if fileid == ROOT {
         return Place::Root;
@@ -35,6 +38,7 @@ fn named(files: &[DataFile], fileid: u64) -> Place
 pub fn place_of(files: &[DataFile], handle: &[u8]) -> Place
     ensures at { IsAt files.now result (object_of files.now handle.now) }
     ensures status { MissingRefuses result }
+    ensures within { IsWithin files.now result }
 {
     match handle {
         [a, b, c, d, e, f, g, h] => named(
@@ -42,6 +46,39 @@ pub fn place_of(files: &[DataFile], handle: &[u8]) -> Place
             u64::from_be_bytes([*a, *b, *c, *d, *e, *f, *g, *h]),
         ),
         _ => Place::Missing(Stat3::BadHandle),
+    }
+}
+
+/// The attributes of the file at an index.
+pub fn attributes_at(files: &[DataFile], index: usize) -> Fattr3
+    requires { index < length files.now }
+    ensures exact { IsSaidAt files.now index result }
+    ensures said { Some result ≡ said_at files.now index }
+{
+    file_attributes(index as u64 + 2, &files[index])
+}
+
+/// The same, where there may be none.
+pub fn said_at(files: &[DataFile], index: usize) -> Option<Fattr3>
+    ensures exact { result ≡ said_at files.now index }
+    ensures fits { AttributesFit result }
+{
+    if index >= files.len() {
+        return None;
+    }
+    Some(attributes_at(files, index))
+}
+
+/// The attributes of the object at a place: none where it names nothing.
+pub fn said_of(head: &Head, files: &[DataFile], place: Place) -> Option<Fattr3>
+    requires { IsWithin files.now place }
+    ensures says { Says head.now files.now place result }
+    ensures fits { AttributesFit result }
+{
+    match place {
+        Place::Missing(_) => None,
+        Place::Root => Some(root_attributes(head.root)),
+        Place::File(index) => Some(attributes_at(files, index)),
     }
 }
 
@@ -62,8 +99,5 @@ pub fn size_refusal(total: u64, count: u32, size: u64, offset: u64, length: u64)
     if total - size + size.max(offset + length) > MAX_TOTAL {
         return Some(Stat3::NoSpc);
     }
-    if count == MAX_TICKS {
-        return Some(Stat3::Jukebox);
-    }
-    None
+    tick_refusal(count)
 }

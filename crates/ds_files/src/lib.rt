@@ -2,31 +2,36 @@
 #![tactic(auto)]
 
 mod answer;
-mod entry;
-mod file;
+mod committing;
+mod creating;
+mod creation;
 mod head;
 mod judge;
 mod laws;
+mod looking;
+mod names;
 mod object;
-mod outbox;
-mod overlay;
 mod post;
 mod reading;
 mod receive;
 mod received;
+mod restarting;
 mod rules;
 mod server;
+mod setting;
 mod stored;
-mod tick;
 mod writing;
 
 pub use answer::Answer3;
-pub use entry::{Cred, Entry, MirrorId, NodeId};
-pub use file::{DataFile, MAX_FILE};
-pub use laws::{refusals, strangers, ticks};
-pub use outbox::Outbox;
-pub use server::DataServer;
-pub use tick::{Tick, Times};
+pub use cluster_model::{Cred, Entry, MirrorId, NodeId, Outbox, Piece, Tick, Times};
+pub use laws::{effects, entries, refusals, restarts, strangers, ticks};
+pub use server::{DataServer, RestartFault};
 
+#[cfg(test)]
+mod meta_tests;
+#[cfg(test)]
+mod restart_tests;
+#[cfg(test)]
+mod tables;
 #[cfg(test)]
 mod tests;

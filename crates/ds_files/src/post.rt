@@ -8,9 +8,8 @@ ghost use Rattle.ds_files.specs.Receive.{replies_with};
 ghost use Rattle.ds_files.specs.Records.{sent_to};
 
 use crate::answer::Answer3;
-use crate::entry::{Entry, NodeId};
-use crate::outbox::Outbox;
 use crate::receive::replies_with;
+use cluster_model::{Entry, NodeId, Outbox};
 use ff_xdr::{Data, NoMemory, Out};
 use nfs3_wire::write_reply;
 use rpc_record::{Reply, ReplyBody};

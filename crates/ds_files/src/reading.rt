@@ -3,17 +3,17 @@
 ghost use Rattle.std.specs.Prelude.{◌≡◌, ◌+◌, ◌<◌, ◌^◌, [], length, IfOk};
 ghost use Rattle.rpc_record.specs.Rpc.{plain_credential};
 ghost use Rattle.nfs3_wire.specs.Replies.{ReadRefused};
-ghost use Rattle.ds_files.specs.Server.{read_done};
+ghost use Rattle.ds_files.specs.Steps.{read_done};
 ghost use Rattle.ds_files.specs.Heads.{Refuses, AttributesFit};
 ghost use Rattle.ds_files.specs.Effects.{ReadsFile, read_answer_of};
 
 use crate::answer::Answer3;
-use crate::file::DataFile;
 use crate::head::Head;
 use crate::judge::place_of;
 use crate::object::Place;
 use crate::rules::{file_attributes, read_refusal, root_attributes};
 use crate::stored::StoredReply;
+use data_file::DataFile;
 use ff_xdr::{Data, NoMemory};
 use nfs3_wire::{Fattr3, MAX_DATA, ReadArgs, Stat3};
 use rpc_record::AuthSys;

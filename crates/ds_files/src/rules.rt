@@ -3,10 +3,12 @@
 ghost use Rattle.std.specs.Prelude.{◌≡◌, IfSome};
 ghost use Rattle.ds_files.specs.Heads.{Refuses};
 ghost use Rattle.rpc_record.specs.Rpc.{plain_credential};
-ghost use Rattle.ds_files.specs.Server.{time_of, root_attributes, file_attributes, changed, unchanged, allows, is_member, may_read, may_write, read_refusal, is_synced, stability_of};
+ghost use Rattle.ds_files.specs.Server.{time_of, root_attributes, file_attributes, changed, unchanged, allows, is_member, may_read, may_write};
+ghost use Rattle.ds_files.specs.Steps.{read_refusal, is_synced, stability_of, tick_refusal};
 
-use crate::file::DataFile;
-use crate::tick::{Tick, Times};
+use crate::judge::MAX_TICKS;
+use cluster_model::{Tick, Times};
+use data_file::DataFile;
 use nfs3_wire::{Fattr3, FileType, Specdata3, StableHow, Stat3, Time3, WccAttr, WccData};
 use rpc_record::AuthSys;
 
@@ -179,4 +181,12 @@ pub fn stability_of(synced: bool) -> StableHow
     } else {
         StableHow::Unstable
     }
+}
+
+/// No tick is left for a change.
+pub fn tick_refusal(count: u32) -> Option<Stat3>
+    ensures exact { result ≡ tick_refusal count }
+    ensures status { IfSome result Refuses }
+{
+    (count == MAX_TICKS).then_some(Stat3::Jukebox)
 }

@@ -1,31 +1,60 @@
 //! A data server.
 
-ghost use Rattle.std.specs.Prelude.{◌≡◌, IfOk, OnOk, OnErr};
+ghost use Rattle.std.specs.Prelude.{◌≡◌, ◌≤◌, ◌↔◌, IfOk, OnOk, OnErr, Some, None, Err};
 ghost use Rattle.rpc_record.specs.Rpc.{plain_credential};
 ghost use Rattle.nfs3_wire.specs.Calls.{plain_call};
-ghost use Rattle.ds_files.specs.Server.{preset_server, step_of};
+ghost use Rattle.ds_files.specs.Server.{new_server, preset_server, max_boot};
+ghost use Rattle.ds_files.specs.Steps.{step_of};
+ghost use Rattle.ds_files.specs.Restart.{restart_of};
 ghost use Rattle.ds_files.specs.Effects.{answer_of};
 ghost use Rattle.ds_files.specs.Receive.{received, outcome_of, outcome_of_step};
 ghost use Rattle.ds_files.specs.Laws.{IsRefusal, IsTurnedAway};
 ghost use Rattle.ds_files.specs.Posts.{Acts, IsAsBefore};
 
 use crate::answer::Answer3;
-use crate::entry::NodeId;
-use crate::file::DataFile;
+use crate::committing::{commit_answer, commit_change};
+use crate::creating::{create_answer, create_change};
 use crate::head::Head;
-use crate::outbox::Outbox;
+use crate::looking::{fsinfo_answer, getattr_answer, lookup_answer};
+use crate::names::Names;
 use crate::post::{encode, post, success, take_back};
 use crate::reading::read_answer;
 use crate::receive::receive;
 use crate::received::Received;
+use crate::restarting::restart_server;
+use crate::setting::{set_answer, set_change};
 use crate::stored::StoredReply;
-use crate::tick::{Tick, Times};
 use crate::writing::{write_answer, write_change};
+use cluster_model::{NodeId, Outbox, Piece, Tick, Times};
+use data_file::DataFile;
 use ff_xdr::NoMemory;
 use nfs3_wire::Call3;
 use rpc_record::AuthSys;
-use std::alloc::Global;
+use std::alloc::{AllocError, Global};
 use std::marker::Model;
+
+/// The last boot number.
+const LAST_BOOT: u32 = u32::MAX;
+
+/// Why a restart is refused.
+#[derive(Clone, Copy, Debug, PartialEq, Eq)]
+pub enum RestartFault {
+    /// The boot number is the last that there is.
+    BootsSpent,
+    /// Memory was wanted.
+    NoMemory,
+}
+
+impl From<AllocError> for RestartFault {
+    ghost use Rattle.std.specs.Prelude.{◌≡◌};
+    ghost use Rattle.ds_files.specs.declared.server.RestartFault.TheVariants.{NoMemory};
+
+    ghost from_gives = { λ _ e. e ≡ NoMemory };
+
+    fn from(_: AllocError) -> RestartFault {
+        RestartFault::NoMemory
+    }
+}
 
 /// A data server of NFSv3: a root and its files.
 #[derive(Drop)]
@@ -47,8 +76,35 @@ impl Model for DataServer {
 }
 
 impl DataServer {
-    /// Number 1 in its first boot, with one empty file: fileid 2, owner and group 65,536, mode 0640,
-    /// made at the first tick.
+    /// A root and no files, by the server's number and its boot number, which is at least 1. Takes no
+    /// memory.
+    pub fn new(alloc: Global, number: u32, boot: u32) -> DataServer
+        requires { 1 ≤ boot }
+        ensures { result ≡ new_server number boot }
+    {
+        let start = Tick { boot, count: 0 };
+        let root = Times {
+            atime: start,
+            mtime: start,
+            ctime: start,
+        };
+        let head = Head {
+            number,
+            boot,
+            count: 0,
+            root,
+            names: Names::new(alloc),
+            total: 0,
+        };
+        DataServer {
+            alloc,
+            head,
+            files: Vec::new(alloc),
+        }
+    }
+
+    /// Number 1 in its first boot, with one empty file: name `m1`, fileid 2, owner and group 65,536, mode
+    /// 0640, made at the first tick.
     pub fn preset(alloc: Global) -> Result<DataServer, NoMemory>
         ensures { IfOk result (λ server. server ≡ preset_server) }
     {
@@ -62,11 +118,14 @@ impl DataServer {
             mtime: first,
             ctime: first,
         };
+        let mut names = Names::new(alloc);
+        names.add(b"m1")?;
         let head = Head {
             number: 1,
             boot: 1,
             count: 1,
             root,
+            names,
             total: 0,
         };
         Ok(DataServer { alloc, head, files })
@@ -86,8 +145,16 @@ impl DataServer {
     {
         match call {
             Call3::Null => Ok(Answer3::new(StoredReply::Null, Vec::new(self.alloc))),
+            Call3::GetAttr(args) => {
+                Ok(getattr_answer(self.alloc, &self.head, &self.files, args))
+            }
+            Call3::SetAttr(args) => set_answer(self.alloc, &self.head, &self.files, args, cred),
+            Call3::Lookup(args) => Ok(lookup_answer(self.alloc, &self.head, &self.files, args)),
             Call3::Read(args) => read_answer(self.alloc, &self.head, &self.files, args, cred),
             Call3::Write(args) => write_answer(self.alloc, &self.head, &self.files, args, cred),
+            Call3::Create(args) => create_answer(self.alloc, &self.head, &self.files, args, cred),
+            Call3::FsInfo(args) => Ok(fsinfo_answer(self.alloc, &self.head, &self.files, args)),
+            Call3::Commit(args) => commit_answer(self.alloc, &self.head, &self.files, args, cred),
         }
     }
 
@@ -97,9 +164,20 @@ impl DataServer {
         ensures err { OnErr result (self.new ≡ self.old) }
     {
         match call {
-            Call3::Null => Ok(()),
-            Call3::Read(_) => Ok(()),
+            Call3::SetAttr(args) => {
+                set_change(&mut self.head, &mut self.files, args, cred);
+                Ok(())
+            }
             Call3::Write(args) => write_change(&mut self.head, &mut self.files, args, cred),
+            Call3::Create(args) => {
+                create_change(self.alloc, &mut self.head, &mut self.files, args, cred)
+            }
+            Call3::Commit(args) => commit_change(&self.head, &mut self.files, args, cred),
+            Call3::Null
+            | Call3::GetAttr(_)
+            | Call3::Lookup(_)
+            | Call3::Read(_)
+            | Call3::FsInfo(_) => Ok(()),
         }
     }
 
@@ -136,6 +214,20 @@ impl DataServer {
             take_back(out, sends, entries);
             return Err(error);
         }
+        Ok(())
+    }
+
+    /// Starts again, in the next boot. These pieces of the pending writes had reached the disk, in this
+    /// order; all else that was not stable is gone. At an error nothing has changed.
+    pub fn restart(&mut self, pieces: &[Piece]) -> Result<(), RestartFault>
+        ensures ok { OnOk result (restart_of self.old pieces.now ≡ Some self.new) }
+        ensures spent { result ≡ Err RestartFault.BootsSpent ↔ restart_of self.old pieces.now ≡ None }
+        ensures err { OnErr result (self.new ≡ self.old) }
+    {
+        if self.head.boot == LAST_BOOT {
+            return Err(RestartFault::BootsSpent);
+        }
+        restart_server(self.alloc, &mut self.head, &mut self.files, pieces)?;
         Ok(())
     }
 

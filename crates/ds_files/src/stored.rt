@@ -1,12 +1,25 @@
 //! A result that owns its bytes.
 
 use ff_xdr::Data;
-use nfs3_wire::{Fattr3, Stat3, WriteReply};
+use nfs3_wire::{
+    CommitReply, Fattr3, FsInfoReply, GetAttrReply, SetAttrReply, Stat3, WccData, WriteReply,
+};
 
-/// A result as `Reply3` is, with the data of a READ in a vector of its own.
+/// A result as `Reply3` is, with handles and the data of a READ of its own.
 #[derive(Debug, Drop)]
 pub enum StoredReply {
     Null,
+    GetAttr(GetAttrReply),
+    SetAttr(SetAttrReply),
+    LookupDone {
+        file: [u8; 8],
+        attributes: Option<Fattr3>,
+        directory: Option<Fattr3>,
+    },
+    LookupRefused {
+        status: Stat3,
+        directory: Option<Fattr3>,
+    },
     ReadDone {
         attributes: Option<Fattr3>,
         count: u32,
@@ -18,4 +31,15 @@ pub enum StoredReply {
         attributes: Option<Fattr3>,
     },
     Write(WriteReply),
+    CreateDone {
+        file: [u8; 8],
+        attributes: Option<Fattr3>,
+        wcc: WccData,
+    },
+    CreateRefused {
+        status: Stat3,
+        wcc: WccData,
+    },
+    FsInfo(FsInfoReply),
+    Commit(CommitReply),
 }

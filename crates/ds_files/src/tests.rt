@@ -1,304 +1,9 @@
-ghost use Rattle.std.specs.Prelude.{◌<◌};
-
-use super::{Cred, DataFile, DataServer, Entry, MirrorId, NodeId, Outbox, Tick};
+use crate::DataServer;
+use crate::tables::{Bench, bytes_of};
 use ff_xdr::Items;
 use nfs3_wire::{Call3, Reply3, StableHow, WriteArgs, WriteReply};
 use rpc_record::AuthSys;
-use std::alloc::Global;
-use std::process::Abort;
 use std::test::Fail;
-
-fn tick(count: u32) -> Tick {
-    Tick { boot: 1, count }
-}
-
-#[test]
-fn a_gap_shows_zeros(rt: HostRuntime) -> Result<(), Fail> {
-    let mut file = DataFile::new(rt.alloc(), 7, 8, 0o640, tick(0));
-    assert_eq!(rt; file.size(), 0);
-    file.write(tick(1), 3, false, b"de")?;
-    assert_eq!(rt; file.size(), 5);
-    assert_eq!(rt; file.read(0, 100), b"\0\0\0de".as_slice());
-    assert_eq!(rt; file.read(4, 1), b"e".as_slice());
-    assert_eq!(rt; file.read(5, 1).len(), 0);
-    assert_eq!(rt; file.read(u64::MAX, u32::MAX).len(), 0);
-    assert_eq!(rt; file.times().atime, tick(0));
-    assert_eq!(rt; file.times().mtime, tick(1));
-    assert_eq!(rt; file.times().ctime, tick(1));
-    Ok(())
-}
-
-#[test]
-fn a_synced_write_shows_over_the_pending_ones(rt: HostRuntime) -> Result<(), Fail> {
-    let mut file = DataFile::new(rt.alloc(), 7, 8, 0o640, tick(0));
-    file.write(tick(1), 0, false, b"abcdef")?;
-    file.write(tick(2), 2, true, b"XY")?;
-    assert_eq!(rt; file.read(0, 100), b"abXYef".as_slice());
-    file.write(tick(3), 5, false, b"Z!")?;
-    file.write(tick(4), 90, true, b"")?;
-    assert_eq!(rt; file.read(1, 6), b"bXYeZ!".as_slice());
-    assert_eq!(rt; file.size(), 7);
-    assert_eq!(rt; file.times().mtime, tick(3));
-    assert_eq!(rt; (file.owner(), file.group(), file.mode()), (7, 8, 0o640));
-    Ok(())
-}
-
-/// What a name in a table stands for: bytes in hexadecimal.
-fn meaning(name: &str) -> &str {
-    match name {
-        // a call with the number 7, as far as the program
-        "call" => "00000007 00000000 00000002",
-        "nfs" => "000186a3 00000003",
-        "null" => "00000000",
-        "read" => "00000006",
-        "write" => "00000007",
-        // two flavors that name no caller, and callers on the machine "c1"
-        "none" => "00000000 00000000",
-        "gss" => "00000006 00000000",
-        "root" => "00000001 00000018 00000000 00000002 63310000 00000000 00000000 00000000",
-        "owner" => "00000001 00000018 00000000 00000002 63310000 00010000 00010000 00000000",
-        "stranger" => "00000001 00000018 00000000 00000002 63310000 00010001 00010001 00000000",
-        "member" => "00000001 00000018 00000000 00000002 63310000 00010001 00010000 00000000",
-        "member2" => {
-            "00000001 00000020 00000000 00000002 63310000 00010001 00010001 00000002 00000005 00010000"
-        }
-        // the empty verifier
-        "verf" => "00000000 00000000",
-        // handles, the first place of a file, stabilities, data
-        "dir" => "00000008 00000000 00000001",
-        "file" => "00000008 00000000 00000002",
-        "first" => "00000000 00000000",
-        "unstable" => "00000000",
-        "data_sync" => "00000001",
-        "file_sync" => "00000002",
-        "AB" => "00000002 41420000",
-        // replies to the call 7
-        "success" => "00000007 00000001 00000000 00000000 00000000 00000000",
-        "prog_unavail" => "00000007 00000001 00000000 00000000 00000000 00000001",
-        "prog_mismatch" => {
-            "00000007 00000001 00000000 00000000 00000000 00000002 00000003 00000003"
-        }
-        "proc_unavail" => "00000007 00000001 00000000 00000000 00000000 00000003",
-        "garbage_args" => "00000007 00000001 00000000 00000000 00000000 00000004",
-        "rpc_mismatch" => "00000007 00000001 00000001 00000000 00000002 00000002",
-        "bad_cred" => "00000007 00000001 00000001 00000001 00000001",
-        "too_weak" => "00000007 00000001 00000001 00000001 00000005",
-        // statuses
-        "ok" => "00000000",
-        "acces" => "0000000d",
-        "inval" => "00000016",
-        "fbig" => "0000001b",
-        "stale" => "00000046",
-        "bad_handle" => "00002711",
-        "jukebox" => "00002718",
-        // attributes: none, or those that follow
-        "no_attr" => "00000000",
-        "attr" => "00000001",
-        // of the root, whole
-        "dir_attr" => {
-            "00000002 000001ed 00000002 00000000 00000000 00000000 00001000 00000000 00001000 00000000 00000000 00000000 00000001 00000000 00000001 00000001 00000000 00000001 00000001 00000001 00000001"
-        }
-        // of the file, up to its size, and from its size up to its last write
-        "who" => "00000001 000001a0 00000001 00010000 00010000",
-        "where" => "00000000 00000000 00000000 00000001 00000000 00000002 00000001 00000001",
-        // its size, of so many bytes, two times
-        "2_bytes" => "00000000 00000002 00000000 00000002",
-        "3_bytes" => "00000000 00000003 00000000 00000003",
-        "6_bytes" => "00000000 00000006 00000000 00000006",
-        "all_bytes" => "00000000 04000000 00000000 04000000",
-        // of the file, whole, while it is empty
-        "empty" => {
-            "00000001 000001a0 00000001 00010000 00010000 00000000 00000000 00000000 00000000 00000000 00000000 00000000 00000001 00000000 00000002 00000001 00000001 00000001 00000001 00000001 00000001"
-        }
-        // of the file, the last two times once the writes took these ticks
-        "tick2" => "00000001 00000002 00000001 00000002",
-        "tick3" => "00000001 00000003 00000001 00000003",
-        "tick4" => "00000001 00000004 00000001 00000004",
-        "tick5" => "00000001 00000005 00000001 00000005",
-        "tick6" => "00000001 00000006 00000001 00000006",
-        "tick7" => "00000001 00000007 00000001 00000007",
-        "last_tick" => "00000001 3b9ac9ff 00000001 3b9ac9ff",
-        // from before a WRITE, of the root, of the file while it is empty, and the file's sizes
-        "dir_before" => "00000000 00001000 00000001 00000001 00000001 00000001",
-        "empty_before" => "00000000 00000000 00000001 00000001 00000001 00000001",
-        "2_long" => "00000000 00000002",
-        "3_long" => "00000000 00000003",
-        "6_long" => "00000000 00000006",
-        "all_long" => "00000000 04000000",
-        // the verifier of the first boot
-        "boot" => "00000000 00000001",
-        _ => name,
-    }
-}
-
-/// The value of a digit of hexadecimal.
-fn digit(c: u8) -> u8
-    ensures { result < 16 }
-{
-    match c {
-        b'0'..=b'9' => c - b'0',
-        b'a'..=b'f' => c - b'a' + 10,
-        _ => 0,
-    }
-}
-
-/// Adds bytes that are written in hexadecimal, or so many zeros as stand behind a star.
-fn add_word(rt: &impl Abort, bytes: &mut Vec<u8>, word: &str) -> Result<(), Fail> {
-    if let Some(zeros) = word.strip_prefix("*") {
-        let count: usize = zeros.parse()?;
-        for _ in 0..count {
-            bytes.push(0)?;
-        }
-        return Ok(());
-    }
-    let mut pairs = word.as_bytes().chunks_exact(2);
-    for pair in &mut pairs {
-        if let [high, low] = pair {
-            bytes.push(digit(*high) * 16 + digit(*low))?;
-        }
-    }
-    assert_eq!(rt; pairs.remainder().len(), 0, "half a byte in {word}");
-    Ok(())
-}
-
-/// The bytes that a line of a table stands for.
-fn bytes_of(rt: &impl Abort, alloc: Global, line: &str) -> Result<Vec<u8>, Fail> {
-    let mut bytes = Vec::new(alloc);
-    for name in line.split_whitespace() {
-        for word in meaning(name).split_whitespace() {
-            add_word(rt, &mut bytes, word)?;
-        }
-    }
-    Ok(bytes)
-}
-
-/// As much of a reply as a failed test is to print.
-fn front(bytes: &[u8]) -> &[u8] {
-    &bytes[..bytes.len().min(256)]
-}
-
-/// An entry as a table writes it.
-fn line_of(alloc: Global, entry: &Entry) -> Result<String, Fail> {
-    match entry {
-        Entry::Applied {
-            mirror,
-            cred,
-            at,
-            bytes,
-        } => {
-            let MirrorId { server, fileid } = *mirror;
-            let Cred(uid) = *cred;
-            let bytes = bytes.bytes();
-            if bytes.len() > 8 {
-                return Ok(format!(in alloc;
-                    "applied {server}.{fileid} {uid} {at} {} bytes",
-                    bytes.len()
-                )?);
-            }
-            Ok(format!(in alloc; "applied {server}.{fileid} {uid} {at} {bytes:?}")?)
-        }
-        Entry::Committed { mirror } => {
-            let MirrorId { server, fileid } = *mirror;
-            Ok(format!(in alloc; "committed {server}.{fileid}")?)
-        }
-        _ => Ok(format!(in alloc; "{entry:?}")?),
-    }
-}
-
-/// A server that is asked by the lines of a table, and what its last answer put out.
-#[derive(Drop)]
-struct Bench {
-    alloc: Global,
-    server: DataServer,
-    out: Outbox,
-    // the reply was compared, and so many entries
-    answered: bool,
-    entered: usize,
-}
-
-impl Bench {
-    fn new(alloc: Global, server: DataServer) -> Bench {
-        Bench {
-            alloc,
-            server,
-            out: Outbox::new(alloc),
-            answered: true,
-            entered: 0,
-        }
-    }
-
-    /// All that the last answer put out was compared.
-    fn end(&self, rt: &impl Abort, line: &str) {
-        assert!(rt; self.answered, "before {line}");
-        assert_eq!(rt; self.out.entries.len(), self.entered, "before {line}");
-    }
-
-    /// Sends a record.
-    fn ask(&mut self, message: &[u8]) -> Result<(), Fail> {
-        self.out = Outbox::new(self.alloc);
-        self.answered = false;
-        self.entered = 0;
-        self.server
-            .on_record(NodeId::Client(0), message, &mut self.out)?;
-        Ok(())
-    }
-
-    /// Compares the reply, or that there is none where these bytes are none.
-    fn compare_reply(&mut self, rt: &impl Abort, reply: &[u8], line: &str) {
-        let sends = self.out.sends.as_slice();
-        match sends.first() {
-            Some((node, bytes)) => {
-                assert_eq!(rt; *node, NodeId::Client(0), "{line}");
-                assert_eq!(rt; front(bytes.bytes()), front(reply), "{line}");
-                assert!(rt; bytes.bytes() == reply, "{line}");
-                assert_eq!(rt; sends.len(), 1, "{line}");
-            }
-            None => assert_eq!(rt; reply.len(), 0, "{line}"),
-        }
-        self.answered = true;
-    }
-
-    /// Compares the next entry.
-    fn compare_entry(&mut self, rt: &impl Abort, line: &str) -> Result<(), Fail> {
-        let entry = self
-            .out
-            .entries
-            .as_slice()
-            .get(self.entered)
-            .ok_or("no entry")?;
-        let entry = line_of(self.alloc, entry)?;
-        assert_eq!(rt; entry.as_str(), line);
-        self.entered = self.entered.saturating_add(1);
-        Ok(())
-    }
-
-    /// Does a line of a table.
-    fn line(&mut self, rt: &impl Abort, line: &str) -> Result<(), Fail> {
-        if let Some(words) = line.strip_prefix(">") {
-            self.end(rt, line);
-            let message = bytes_of(rt, self.alloc, words)?;
-            self.ask(&message)?;
-        } else if let Some(words) = line.strip_prefix("<") {
-            let reply = bytes_of(rt, self.alloc, words)?;
-            self.compare_reply(rt, &reply, line);
-        } else if let Some(entry) = line.strip_prefix("+ ") {
-            self.compare_entry(rt, entry)?;
-        } else {
-            self.end(rt, line);
-        }
-        Ok(())
-    }
-
-    /// Does the lines of a table: '>' sends a record, '<' is the whole reply and '+' an entry. Any other
-    /// line says what follows.
-    fn table(&mut self, rt: &impl Abort, table: &str) -> Result<(), Fail> {
-        for line in table.lines() {
-            self.line(rt, line)?;
-        }
-        self.end(rt, "the end");
-        Ok(())
-    }
-}
 
 /// Records that are refused before their call is looked at. The server stays as it was made.
 const ORDER: &str = "\
@@ -353,20 +58,40 @@ another version, also with a procedure that is not built
 < prog_mismatch
 > call 000186a3 00000004 null none verf
 < prog_mismatch
-> call 000186a3 00000004 00000001 owner verf file
+> call 000186a3 00000004 00000004 owner verf file
 < prog_mismatch
 a procedure that is not built, also by a flavor that names no caller
-> call nfs 00000001 owner verf file
+> call nfs #4 owner verf file
 < proc_unavail
-> call nfs 00000002 owner verf file
+> call nfs #5 owner verf file
 < proc_unavail
-> call nfs 00000008 owner verf file
+> call nfs #9 owner verf file
 < proc_unavail
-> call nfs 00000015 owner verf file
+> call nfs #10 owner verf file
 < proc_unavail
-> call nfs ffffffff owner verf file
+> call nfs #11 owner verf file
 < proc_unavail
-> call nfs 00000001 none verf file
+> call nfs #12 owner verf file
+< proc_unavail
+> call nfs #13 owner verf file
+< proc_unavail
+> call nfs #14 owner verf file
+< proc_unavail
+> call nfs #15 owner verf file
+< proc_unavail
+> call nfs #16 owner verf file
+< proc_unavail
+> call nfs #17 owner verf file
+< proc_unavail
+> call nfs #18 owner verf file
+< proc_unavail
+> call nfs #20 owner verf file
+< proc_unavail
+> call nfs #22 owner verf file
+< proc_unavail
+> call nfs #4294967295 owner verf file
+< proc_unavail
+> call nfs #4 none verf file
 < proc_unavail
 NULL is answered whatever the credential is, and takes no arguments
 > call nfs null none verf
@@ -379,6 +104,10 @@ NULL is answered whatever the credential is, and takes no arguments
 < garbage_args
 a flavor that names no caller, also with a body out of form
 > call nfs read none verf file first 00000002
+< too_weak
+> call nfs getattr none verf file
+< too_weak
+> call nfs fsinfo gss verf dir 00000000
 < too_weak
 > call nfs write gss verf file first 00000002 file_sync AB
 < too_weak
@@ -426,6 +155,24 @@ a handle has 64 bytes at the most
 > call nfs read owner verf 00000041 *68 first 00000002
 < garbage_args
 > call nfs write owner verf 00000041 *68 first 00000002 file_sync AB
+< garbage_args
+the arguments of the others are cut, or have four bytes behind them
+> call nfs getattr owner verf file 00000000
+< garbage_args
+> call nfs setattr root verf file no_sattr
+< garbage_args
+> call nfs lookup owner verf dir
+< garbage_args
+> call nfs create root verf dir 'x exclusive 00000000
+< garbage_args
+> call nfs fsinfo owner verf
+< garbage_args
+> call nfs commit owner verf file first
+< garbage_args
+no time is set in a fourth way, and no file is made in one
+> call nfs setattr root verf file keep keep keep keep keep 00000003 no_guard
+< garbage_args
+> call nfs create root verf dir 'x 00000003 no_sattr
 < garbage_args
 no stability has the number 3
 > call nfs write owner verf file first 00000002 00000003 AB

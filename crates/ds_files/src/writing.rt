@@ -3,15 +3,14 @@
 ghost use Rattle.std.specs.Prelude.{◌≡◌, ◌+◌, ◌-◌, ◌≤◌, ◌<◌, ◌^◌, ◌++◌, [], length, IfSome, IfOk, OnOk, OnErr};
 ghost use Rattle.rpc_record.specs.Rpc.{plain_credential};
 ghost use Rattle.nfs3_wire.specs.Replies.{WriteRefused, WriteDone};
-ghost use Rattle.ds_files.specs.File.{shown, written};
+ghost use Rattle.cluster_model.specs.File.{shown, written};
 ghost use Rattle.ds_files.specs.Answer.{reply_of};
-ghost use Rattle.ds_files.specs.Server.{file_attributes, unchanged, applied_entries, committed_entries, is_synced, max_total, max_file};
+ghost use Rattle.ds_files.specs.Server.{file_attributes, unchanged, max_total, max_file};
+ghost use Rattle.ds_files.specs.Steps.{applied_entries, committed_entries, is_synced};
 ghost use Rattle.ds_files.specs.Heads.{IsServer, state_of, sized_refusal, Refuses, AttributesFit};
 ghost use Rattle.ds_files.specs.Effects.{step_of_write, answer_of, AnswersFile, done_answer, head_after, ChangesFile};
 
 use crate::answer::Answer3;
-use crate::entry::{Cred, Entry, MirrorId};
-use crate::file::DataFile;
 use crate::head::Head;
 use crate::judge::{place_of, size_refusal};
 use crate::object::Place;
@@ -20,7 +19,8 @@ use crate::rules::{
     unchanged,
 };
 use crate::stored::StoredReply;
-use crate::tick::Tick;
+use cluster_model::{Cred, Entry, MirrorId, Tick};
+use data_file::DataFile;
 use ff_xdr::{Data, NoMemory};
 use nfs3_wire::{Fattr3, Stat3, WriteArgs, WriteOk, WriteReply};
 use rpc_record::AuthSys;
@@ -81,7 +81,7 @@ fn write_entries(
 }
 
 /// The tick that the next change takes.
-fn next_tick(head: &Head) -> Tick
+pub fn next_tick(head: &Head) -> Tick
     requires { head.now.count < 2 ^ 32 - 1 }
     ensures { result ≡ record { boot = head.now.boot; count = head.now.count + 1 } }
 {
@@ -209,7 +209,7 @@ pub fn write_answer(
 }
 
 /// Puts the bytes of a WRITE that is done.
-#[tactic(auto, using(crate::proofs::Files::written_none))]
+#[tactic(auto, using(cluster_model::proofs::Files::written_none))]
 fn put(file: &mut DataFile, tick: Tick, args: &WriteArgs<'_>) -> Result<(), NoMemory>
     requires { 0 < length args.now.bytes.now → args.now.offset + length args.now.bytes.now ≤ max_file }
     ensures ok { OnOk result (file.new ≡ written file.old tick args.now.offset (is_synced args.now.stable) args.now.bytes.now) }
@@ -225,22 +225,17 @@ fn put(file: &mut DataFile, tick: Tick, args: &WriteArgs<'_>) -> Result<(), NoMe
     Ok(())
 }
 
-/// The numbers after a WRITE of so many bytes, by the file's size before it and after it.
-fn head_after(head: &Head, before: u64, after: u64, bytes: &[u8]) -> Head
-    requires part { before ≤ head.now.total }
-    requires bounded { head.now.total - before + after ≤ max_total }
-    requires ticks { head.now.count < 2 ^ 32 - 1 }
-    ensures { result ≡ head_after head.now before after bytes.now }
+/// Counts a WRITE of the bytes, by the file's size before it and after it.
+fn count_write(head: &mut Head, before: u64, after: u64, bytes: &[u8])
+    requires part { before ≤ head.old.total }
+    requires bounded { head.old.total - before + after ≤ max_total }
+    requires ticks { head.old.count < 2 ^ 32 - 1 }
+    ensures { head.new ≡ head_after head.old before after bytes.now }
 {
-    Head {
-        count: if bytes.is_empty() {
-            head.count
-        } else {
-            head.count + 1
-        },
-        total: head.total - before + after,
-        ..*head
+    if !bytes.is_empty() {
+        head.count += 1;
     }
+    head.total = head.total - before + after;
 }
 
 /// Does a WRITE on a file. At an error nothing has changed.
@@ -262,7 +257,7 @@ fn file_change(
         None => {
             let before = file.size();
             put(file, next_tick(head), args)?;
-            *head = head_after(head, before, file.size(), args.bytes);
+            count_write(head, before, file.size(), args.bytes);
             Ok(())
         }
     }

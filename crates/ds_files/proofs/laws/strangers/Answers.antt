@@ -1,4 +1,4 @@
-use Rattle.ds_files.proofs.Owners.{strangers}
+use Rattle.ds_files.proofs.Kept.{strangers}
 use Rattle.ds_files.proofs.laws.strangers.Goals as goal
 
 pub returns : goal.returns

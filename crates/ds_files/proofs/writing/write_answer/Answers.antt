@@ -1,7 +1,8 @@
 use Rattle.std.proofs.Common.{sym, ap, ◌∙◌}
 use Rattle.std.proofs.lemmas.Result.{IfOk-weaker}
 use Rattle.rpc_record.specs.Rpc.{plain_credential}
-use Rattle.ds_files.specs.Server.{Object, write_step, write_file}
+use Rattle.ds_files.specs.Server.{Object}
+use Rattle.ds_files.specs.Steps.{write_step, write_file}
 use Rattle.ds_files.specs.Heads.{state_of}
 use Rattle.ds_files.specs.Effects.{answer_of}
 use Rattle.ds_files.proofs.Places.{refusal_is}

@@ -1,0 +1,54 @@
+-- A restart is the rule's.
+use Rattle.std.proofs.Common.{◌≡◌, ℕ, suc, ◌+◌, ◌≤◌, List, [], ◌∷◌, length, Option, Some, refl, sym, ap, ◌∙◌, arith}
+use Rattle.std.specs.Prelude.{slice_get}
+use Rattle.std.proofs.lemmas.List.Sums.{sum_by-cons}
+use Rattle.cluster_model.specs.declared.piece.Piece.{Piece}
+use Rattle.cluster_model.specs.Content.{survived, pieces_of}
+use Rattle.cluster_model.specs.File.{FileState, shown}
+use Rattle.data_file.specs.Kept.{crashed}
+use Rattle.ds_files.specs.declared.head.Head.{Head}
+use Rattle.ds_files.specs.Heads.{IsServer}
+use Rattle.ds_files.specs.Server.{total_size}
+use Rattle.ds_files.specs.Restart.{files_restarted}
+use Rattle.ds_files.specs.Kept.{disk_of, AreBounded, AreKept, all_crashed}
+use Rattle.ds_files.proofs.Keeping.{length-all_crashed}
+
+-- what was kept is what the rule keeps, from any fileid on
+all_from : (n : ℕ) (files : List FileState) (kept : List (Option (List ℕ))) (pieces : List Piece) → length kept ≡ length files
+    → ((i : ℕ) (f : FileState) (k : Option (List ℕ)) → slice_get files i ≡ Some f → slice_get kept i ≡ Some k → disk_of f k ≡ (survived f.content (pieces_of (i + n) pieces)).stable)
+    → all_crashed files kept ≡ files_restarted n files pieces
+all_from n [] [] pieces size h = refl
+all_from n [] (k ∷ kept) pieces size h = absurd (omega arith)
+all_from n (f ∷ files) [] pieces size h = absurd (omega arith)
+all_from n (f ∷ files) (k ∷ kept) pieces size h =
+    let number : 0 + n ≡ n = omega arith in
+    let first : disk_of f k ≡ (survived f.content (pieces_of n pieces)).stable = h 0 f k refl refl ∙ ap (λ m. (survived f.content (pieces_of m pieces)).stable) number in
+    let others = all_from (n + 1) files kept pieces (omega arith) (λ i g m there found. let next : suc i + n ≡ i + (n + 1) = omega arith in h (suc i) g m there found ∙ ap (λ m'. (survived g.content (pieces_of m' pieces)).stable) next) in
+    rw (first, others) refl
+
+pub all_restarted : (files : List FileState) (kept : List (Option (List ℕ))) (pieces : List Piece) → AreBounded files kept → AreKept files pieces kept → all_crashed files kept ≡ files_restarted 2 files pieces
+all_restarted files kept pieces bounded are = all_from 2 files kept pieces bounded.size are
+
+-- no file shows more
+fewer : (files : List FileState) (kept : List (Option (List ℕ))) → ((i : ℕ) (f : FileState) (k : Option (List ℕ)) → slice_get files i ≡ Some f → slice_get kept i ≡ Some k → length (disk_of f k) ≤ length (shown f))
+    → total_size (all_crashed files kept) ≤ total_size files
+fewer [] kept h = omega arith
+fewer (f ∷ files) [] h = omega arith
+fewer (f ∷ files) (k ∷ kept) h =
+    let first : length (disk_of f k) ≤ length (shown f) = h 0 f k refl refl in
+    let others = fewer files kept (λ i g m there found. h (suc i) g m there found) in
+    let old : total_size (f ∷ files) ≡ length (shown f) + total_size files = sum_by-cons (λ (g : FileState). length (shown g)) f files in
+    let new : total_size (all_crashed (f ∷ files) (k ∷ kept)) ≡ length (disk_of f k) + total_size (all_crashed files kept) = sum_by-cons (λ (g : FileState). length (shown g)) (crashed f (disk_of f k)) (all_crashed files kept) in
+    omega (arith, first, others, old, new)
+
+pub fewer_bytes : (files : List FileState) (kept : List (Option (List ℕ))) → AreBounded files kept → total_size (all_crashed files kept) ≤ total_size files
+fewer_bytes files kept bounded = fewer files kept bounded.each
+
+-- what holds of every server holds after a restart
+pub keeps : (h : Head) (files : List FileState) (kept : List (Option (List ℕ))) (total : ℕ) → IsServer h files → AreBounded files kept → total ≡ total_size (all_crashed files kept)
+    → IsServer (record h { boot = h.boot + 1; count = 0; total = total }) (all_crashed files kept)
+keeps h files kept total k bounded is =
+    let old = k.total in
+    let most = k.bounded in
+    let less = fewer_bytes files kept bounded in
+    record { total = is; bounded = omega (arith, old, most, less, is); ticks = omega arith; named = k.named ∙ sym (length-all_crashed files kept bounded.size) }

@@ -1,9 +1,0 @@
-use Rattle.std.proofs.Common.{arith}
-use Rattle.std.proofs.lemmas.Grind.{common_steps}
-use Rattle.ds_files.proofs.Overlays.{overlay_grown}
-use Rattle.ds_files.proofs.overlay.overlay_onto.Goals as goal
-
-pub returns-clause-ok : goal.returns-clause-ok
-returns-clause-ok c =
-    let e = overlay_grown c.args.old.now.items c.args.at c.args.bytes.now (grind (arith, common_steps)) in
-    grind (arith, common_steps)
