@@ -1,12 +1,15 @@
 -- How a line is cut off bytes that come in pieces, and the lines of a script.
-use Rattle.std.proofs.Common.{◌≡◌, ◌≢◌, ℕ, zero, suc, ◌+◌, ◌-◌, ◌<◌, ◌≤◌, Bool, true, false, cond, List, [], ◌∷◌, ◌++◌, length, take, drop, min, slice_range, get_or, Option, Some, None, Ok, refl, sym, ap, ◌∙◌, arith, ⊎_elim, leb, eqb}
+use Rattle.std.proofs.Common.{◌≡◌, ◌≢◌, ℕ, zero, suc, ◌+◌, ◌-◌, ◌<◌, ◌≤◌, Bool, true, false, cond, List, [], ◌∷◌, ◌++◌, length, take, drop, min, nat_lt, slice_range, get_or, Option, Some, None, Result, Ok, Err, refl, sym, ap, subst, ◌∙◌, arith, ⊎_elim, leb, eqb}
 use Rattle.std.proofs.Math.Dec.{leb-suc-suc}
-use Rattle.std.proofs.lemmas.List.{append-nil, append_assoc, length-append, length-take, drop-take, drop-drop}
-use Rattle.std.proofs.lemmas.Bool.{cases_eq, eq-eqb, eqb-true, ne_eqb, le-leb, lt-leb, cond-true, cond-false}
+use Rattle.std.proofs.lemmas.List.{append-nil, append_assoc, length-append, length-take, drop-take, drop-drop, take-append-drop}
+use Rattle.std.proofs.lemmas.Bool.{cases_eq, eq-eqb, eqb-true, ne_eqb, le-leb, lt-leb, lt-ltb, cond-true, cond-false}
 use Rattle.memchr.specs.Find.{IsFirstByte, is_byte}
+use Rattle.rpc_record.specs.declared.stream.Failed.{Failed}
+use Rattle.rpc_record.specs.Stream.{Reads}
+use Rattle.rpc_record.specs.declared.stream.Failed.TheVariants.{Fault, NoMemory}
 use Rattle.ff_cluster.specs.declared.lines.Ended.{Ended}
 use Rattle.ff_cluster.specs.declared.lines.Ended.TheVariants.{Newline, End, Over as RanOver}
-use Rattle.ff_cluster.specs.Lines.{Cut, Line, Last, Over, onto, cut_line, onto_first, onto_ended, lines_of, ended_lines, script_lines, Keeps, ReadsLine, IsWithin, Refills, Takes}
+use Rattle.ff_cluster.specs.Lines.{Cut, Line, Last, Over, onto, cut_line, onto_first, onto_ended, lines_of, ended_lines, script_lines, Drawn, Keeps, ReadsLine, IsWithin, Refills, Takes}
 
 -- these bytes in front of the line
 abbrev pub before : List ℕ → Cut → Cut
@@ -271,7 +274,7 @@ script_last (suc n) (b ∷ bs) line is some =
       whole.1,
     )
 
-over_lines : (n : ℕ) (bs : List ℕ) → cut_line n bs ≡ Over → ended_lines (take n bs) ≡ []
+pub over_lines : (n : ℕ) (bs : List ℕ) → cut_line n bs ≡ Over → ended_lines (take n bs) ≡ []
 unfolding ended_lines
 over_lines n [] is = absurd (cc (cut_nil n))
 over_lines zero (b ∷ bs) is = refl
@@ -288,94 +291,190 @@ unfolding script_lines
 script_over n bs is =
     let beyond = over_length n bs is in (cond-false (leb (length bs) n) _ _ (lt-leb (length bs) n beyond) ∙ over_lines n bs is, beyond)
 
--- What is so before each piece: the line so far is the front of the bytes, and they are cut as the rest is, behind it.
-pub record Begins (budget : ℕ) (all line held : List ℕ) (left : Option (List ℕ)) : Type 0 where
-  pub keeps : Keeps all line held left
-  pub cut : cut_line budget all ≡ before line (cut_line (budget - length line) (held ++ keeps.rest))
+-- ---- filling a buffer
+
+pub empty_range : (bs : List ℕ) (start end : ℕ) → end ≤ start → slice_range bs start end ≡ []
+empty_range bs start end none = let none : end - start ≡ 0 = omega arith in ap (λ k. take k (drop start bs)) none
+
+pub refills_held : (held : List ℕ) (left : Option (List ℕ)) → Refills held left (Ok true) held left
+refills_held held None = refl
+refills_held held (Some rest) = record { drawn = record { front = []; rest = rest; told = refl; whole = refl }; kept = sym (append-nil held) }
+
+pub refills_read : (held new : List ℕ) (left left' : Option (List ℕ)) (piece : List ℕ) (count : ℕ) → held ≡ [] → new ≡ take count piece → 0 < length piece → Reads left piece (Ok count) left' → Refills held left (Ok (nat_lt 0 count)) new left'
+refills_read held new None left' piece count none now some read = read
+refills_read held new (Some rest) left' piece zero none now some read =
+    let end = read.at_end refl some in (none, now, end, read.rest ∙ ap (λ bs. Some bs) end)
+refills_read held new (Some rest) left' piece (suc n) none now some read =
+    let keeps : Keeps held rest [] new left' = record {
+      drawn = record { front = take (suc n) rest; rest = drop (suc n) rest; told = read.rest; whole = take-append-drop (suc n) rest };
+      kept = now ∙ read.same ∙ ap (λ bs. bs ++ take (suc n) rest) (sym none);
+    } in
+    subst (λ (b : Bool). Refills held (Some rest) (Ok b) new left') (sym (lt-ltb 0 (suc n) (omega arith))) keeps
+
+-- The lines that end in a newline, of bytes within the budget, by the first cut.
+pub ended_line : (n : ℕ) (bs line rest : List ℕ) → cut_line n bs ≡ Line line rest → ended_lines (take n bs) ≡ line ∷ ended_lines (take (n - (length line + 1)) rest)
+unfolding ended_lines
+ended_line n [] line rest is = absurd (cc (cut_nil n))
+ended_line zero (b ∷ bs) line rest is = absurd (cc (cut_zero b bs))
+ended_line (suc n) (b ∷ bs) line rest is =
+    ⊎_elim
+    (λ newline.
+    let first : Line [] bs ≡ Line line rest = sym (cut_newline n b bs newline) ∙ is in
+    let empty : [] ≡ line = cc in
+    let behind : bs ≡ rest = cc in
+    let none : 0 ≡ length line = ap length empty in
+    let room : n ≡ suc n - (length line + 1) = omega arith in
+    cond-true (eqb b 10) _ _ (eq-eqb b 10 newline) ∙ ap (λ l. l ∷ ended_lines (take n bs)) empty
+    ∙ ap (λ r. line ∷ ended_lines (take n r)) behind ∙ ap (λ k. line ∷ ended_lines (take k rest)) room)
+    (λ other.
+    let parts = onto-line b (cut_line n bs) line rest (sym (cut_other n b bs other) ∙ is) in
+    let one_more : length line ≡ suc (length parts.0) = ap length parts.2 in
+    let room : n - (length parts.0 + 1) ≡ suc n - (length line + 1) = omega arith in
+    cond-false (eqb b 10) _ _ (ne_eqb b 10 other) ∙ ap (onto_ended b) (ended_line n bs parts.0 rest parts.1)
+    ∙ ap (λ l. l ∷ ended_lines (take (n - (length parts.0 + 1)) rest)) (sym parts.2) ∙ ap (λ k. line ∷ ended_lines (take k rest)) room)
+    (cases_eq b 10)
+
+pub ended_last : (n : ℕ) (bs line : List ℕ) → cut_line n bs ≡ Last line → ended_lines (take n bs) ≡ []
+unfolding ended_lines
+ended_last zero [] line is = refl
+ended_last (suc n) [] line is = refl
+ended_last zero (b ∷ bs) line is = absurd (cc (cut_zero b bs))
+ended_last (suc n) (b ∷ bs) line is =
+    ⊎_elim
+    (λ newline. absurd (cc (cut_newline n b bs newline)))
+    (λ other.
+    let parts = onto-last b (cut_line n bs) line (sym (cut_other n b bs other) ∙ is) in
+    cond-false (eqb b 10) _ _ (ne_eqb b 10 other) ∙ ap (onto_ended b) (ended_last n bs parts.0 parts.1))
+    (cases_eq b 10)
+
+-- What is so before each piece: the line so far is the front of the bytes, and has no newline.
+pub record Begins (budget : ℕ) (old first line held : List ℕ) (left : Option (List ℕ)) : Type 0 where
+  pub keeps : Keeps old first line held left
+  pub cut : cut_line budget line ≡ Last line
 
 abbrev pub Begun : ℕ → List ℕ → Option (List ℕ) → List ℕ → List ℕ → Option (List ℕ) → Type 0
-Begun budget held None line held' left' = left' ≡ None
-Begun budget held (Some left) line held' left' = Begins budget (held ++ left) line held' left'
+Begun budget old None line held left = left ≡ None
+Begun budget old (Some first) line held left = Begins budget old first line held left
 
-pub begun_at_first : (budget : ℕ) (held : List ℕ) (left : Option (List ℕ)) → Begun budget held left [] held left
-begun_at_first budget held None = refl
-begun_at_first budget held (Some rest) =
-    let room : budget ≡ budget - 0 = omega arith in record {
-      keeps = record { rest = rest; told = refl; kept = refl };
-      cut = ap (λ k. cut_line k (held ++ rest)) room;
-    }
+pub begun_at_first : (budget : ℕ) (old : List ℕ) (first : Option (List ℕ)) → Begun budget old first [] old first
+begun_at_first budget old None = refl
+begun_at_first budget old (Some first) = record {
+  keeps = record { drawn = record { front = []; rest = first; told = refl; whole = refl }; kept = sym (append-nil old) };
+  cut = cut_nil budget;
+}
 
--- After a piece was read: `old` and `before` are what was held and left at first.
+-- What the source gave at first and then.
+pub drawn_again : (first left : List ℕ) (left1 left2 : Option (List ℕ)) (one : Drawn first left1) → left1 ≡ Some left → (two : Drawn left left2) → (both : Drawn first left2) × (both.front ≡ one.front ++ two.front)
+drawn_again first left left1 left2 one is two =
+    let same : left ≡ one.rest = some_list (sym is ∙ one.told) in (
+      record {
+        front = one.front ++ two.front;
+        rest = two.rest;
+        told = two.told;
+        whole = append_assoc one.front two.front two.rest ∙ ap (λ bs. one.front ++ bs) (two.whole ∙ same) ∙ one.whole;
+      },
+      refl,
+    )
+  where
+    some_list : {x y : List ℕ} → Some x ≡ Some y → x ≡ y
+    some_list e = cc
+
+-- after a piece was read
 pub begun_refilled : (budget : ℕ) (old : List ℕ) (first : Option (List ℕ)) (line held : List ℕ) (left : Option (List ℕ)) (held' : List ℕ) (left' : Option (List ℕ))
     → Begun budget old first line held left → Refills held left (Ok true) held' left' → Begun budget old first line held' left'
 begun_refilled budget old None line held None held' left' begun read = read
 begun_refilled budget old None line held (Some rest) held' left' begun read = absurd (cc)
-begun_refilled budget old (Some first) line held None held' left' begun read = absurd (cc (begun.keeps.told))
+begun_refilled budget old (Some first) line held None held' left' begun read = absurd (cc (begun.keeps.drawn.told))
 begun_refilled budget old (Some first) line held (Some rest) held' left' begun read =
-    let rest_is : rest ≡ begun.keeps.rest = cc (begun.keeps.told) in
-    let same : held' ++ read.rest ≡ held ++ begun.keeps.rest = read.kept ∙ ap (λ bs. held ++ bs) rest_is in record {
-      keeps = record { rest = read.rest; told = read.told; kept = ap (λ bs. line ++ bs) same ∙ begun.keeps.kept };
-      cut = begun.cut ∙ ap (λ bs. before line (cut_line (budget - length line) bs)) (sym same);
+    let one = begun.keeps.drawn in
+    let both = drawn_again first rest (Some rest) left' one refl read.drawn in
+    let kept : line ++ held' ≡ old ++ (one.front ++ read.drawn.front) =
+    ap (λ bs. line ++ bs) read.kept ∙ sym (append_assoc line held read.drawn.front) ∙ ap (λ bs. bs ++ read.drawn.front) begun.keeps.kept ∙ append_assoc old one.front read.drawn.front in record {
+      keeps = record { drawn = both.0; kept = kept ∙ ap (λ bs. old ++ bs) (sym both.1) };
+      cut = begun.cut;
     }
 
-pub reads_last : (budget : ℕ) (old : List ℕ) (first : Option (List ℕ)) (line held : List ℕ) (left : Option (List ℕ)) (held' : List ℕ) (left' : Option (List ℕ))
-    → Begun budget old first line held left → Refills held left (Ok false) held' left' → held' ≡ [] → ReadsLine budget old first (Ok End) line held' left'
-reads_last budget old None line held None held' left' begun read empty = read
-reads_last budget old None line held (Some rest) held' left' begun read empty = absurd (cc)
-reads_last budget old (Some first) line held None held' left' begun read empty = absurd (cc (begun.keeps.told))
-reads_last budget old (Some first) line held (Some rest) held' left' begun read empty =
-    let rest_is : begun.keeps.rest ≡ rest = cc (begun.keeps.told) in
-    let none : held ++ begun.keeps.rest ≡ [] = ap (λ bs. held ++ bs) rest_is ∙ read.0 in record {
-      cut = begun.cut ∙ ap (λ bs. before line (cut_line (budget - length line) bs)) none ∙ ap (before line) (cut_nil (budget - length line))
-          ∙ before-last line [] ∙ ap Last (append-nil line);
-      none_held = empty;
-      none_left = read.1;
+-- the source failed, or has no more
+none_left : (line old front : List ℕ) (held : List ℕ) → held ≡ [] → line ++ held ≡ old ++ front → line ≡ old ++ front
+none_left line old front held none kept = sym (append-nil line) ∙ ap (λ bs. line ++ bs) (sym none) ∙ kept
+
+pub reads_fault : (budget : ℕ) (old : List ℕ) (first : Option (List ℕ)) (line held : List ℕ) (left : Option (List ℕ)) (held' : List ℕ) (left' : Option (List ℕ)) (r : Result Bool Failed) (e : Failed) (q : Result Ended Failed) (f : Failed)
+    → r ≡ Err e → q ≡ Err f → Begun budget old first line held left → Refills held left r held' left' → ReadsLine budget old first q line held' left'
+reads_fault budget old first line held left held' left' (Ok b) e q f is so begun read = absurd (cc)
+reads_fault budget old first line held left held' left' (Err d) e (Ok ended) f is so begun read = absurd (cc)
+reads_fault budget old None line held None held' left' (Err d) e (Err g) f is so begun read = read
+reads_fault budget old None line held (Some rest) held' left' (Err d) e (Err g) f is so begun read = absurd (cc)
+reads_fault budget old (Some first) line held None held' left' (Err d) e (Err g) f is so begun read = absurd (cc (begun.keeps.drawn.told))
+reads_fault budget old (Some first) line held (Some rest) held' left' (Err d) e (Err g) f is so begun read = at g
+  where
+    keeps : Keeps old first line held' left'
+    keeps = record {
+      drawn = record {
+        front = begun.keeps.drawn.front;
+        rest = begun.keeps.drawn.rest;
+        told = read.2 ∙ begun.keeps.drawn.told;
+        whole = begun.keeps.drawn.whole;
+      };
+      kept = ap (λ bs. line ++ bs) (read.1 ∙ sym read.0) ∙ begun.keeps.kept;
     }
+
+    at : (h : Failed) → ReadsLine budget old (Some first) (Err h) line held' left'
+    at Fault = record { keeps = keeps; none_held = read.1; cut = begun.cut }
+    at NoMemory = keeps
+
+pub reads_last : (budget : ℕ) (old : List ℕ) (first : Option (List ℕ)) (line held : List ℕ) (left : Option (List ℕ)) (held' : List ℕ) (left' : Option (List ℕ))
+    → Begun budget old first line held left → Refills held left (Ok false) held' left' → ReadsLine budget old first (Ok End) line held' left'
+reads_last budget old None line held None held' left' begun read = read
+reads_last budget old None line held (Some rest) held' left' begun read = absurd (cc)
+reads_last budget old (Some first) line held None held' left' begun read = absurd (cc (begun.keeps.drawn.told))
+reads_last budget old (Some first) line held (Some rest) held' left' begun read =
+    let one = begun.keeps.drawn in
+    let rest_is : one.rest ≡ rest = cc (one.told) in
+    let all : one.front ≡ first = sym (append-nil one.front) ∙ ap (λ bs. one.front ++ bs) (sym (rest_is ∙ read.2)) ∙ one.whole in
+    let line_is : line ≡ old ++ first = none_left line old one.front held read.0 begun.keeps.kept ∙ ap (λ bs. old ++ bs) all in record {
+      cut = ap (cut_line budget) (sym line_is) ∙ begun.cut;
+      none_held = read.1;
+      none_left = read.3;
+    }
+
+-- the cut of the line so far and what is held
+cut_on : (budget room : ℕ) (line held : List ℕ) → room ≡ budget - length line → cut_line budget line ≡ Last line → cut_line budget (line ++ held) ≡ before line (cut_line room held)
+cut_on budget room line held room_is whole = cut_more-last budget line held line whole ∙ ap (λ k. before line (cut_line k held)) (sym room_is)
 
 -- After a line was looked for in what is held.
 pub reads_line : (budget room : ℕ) (old : List ℕ) (first : Option (List ℕ)) (line held : List ℕ) (left : Option (List ℕ)) (ended : Ended) (held' line' : List ℕ)
     → room ≡ budget - length line → Begun budget old first line held left → Takes room held line (Ok (Some ended)) held' line'
     → ReadsLine budget old first (Ok ended) line' held' left
 reads_line budget room old None line held left ended held' line' room_is begun takes = begun
-reads_line budget room old (Some first) line held left Newline held' line' room_is begun takes =
-    let rest : List ℕ = begun.keeps.rest in record {
-      rest = rest;
-      told = begun.keeps.told;
-      cut = begun.cut ∙ ap (λ k. before line (cut_line k (held ++ rest))) (sym room_is)
-          ∙ ap (before line) (cut_more-line room held rest takes.0 held' takes.2) ∙ before-line line takes.0 (held' ++ rest)
-          ∙ ap (λ l. Line l (held' ++ rest)) (sym takes.1);
-    }
+reads_line budget room old (Some first) line held left Newline held' line' room_is begun takes = record {
+  drawn = begun.keeps.drawn;
+  cut = ap (cut_line budget) (sym begun.keeps.kept) ∙ cut_on budget room line held room_is begun.cut
+      ∙ ap (before line) takes.2 ∙ before-line line takes.0 held' ∙ ap (λ l. Line l held') (sym takes.1);
+}
 reads_line budget room old (Some first) line held left End held' line' room_is begun takes = absurd takes
-reads_line budget room old (Some first) line held left RanOver held' line' room_is begun takes =
-    let rest : List ℕ = begun.keeps.rest in
-    let cut : cut_line budget (old ++ first) ≡ Over =
-    begun.cut ∙ ap (λ k. before line (cut_line k (held ++ rest))) (sym room_is)
-    ∙ ap (before line) (cut_more-over room held rest takes.0) ∙ before-over line in (
-      cut,
-      record {
-        rest = rest;
-        told = begun.keeps.told;
-        kept = ap (λ l. l ++ (held' ++ rest)) takes.2 ∙ ap (λ h. line ++ (h ++ rest)) takes.1 ∙ begun.keeps.kept;
-      },
-    )
+reads_line budget room old (Some first) line held left RanOver held' line' room_is begun takes = record {
+  keeps = record { drawn = begun.keeps.drawn; kept = ap (λ l. l ++ held') takes.2 ∙ ap (λ h. line ++ h) takes.1 ∙ begun.keeps.kept };
+  cut = ap (cut_line budget) (sym begun.keeps.kept) ∙ cut_on budget room line held room_is begun.cut ∙ ap (before line) takes.0 ∙ before-over line;
+}
 
-begun_moved : (budget room : ℕ) (all line held : List ℕ) (left : Option (List ℕ)) → room ≡ budget - length line → Begins budget all line held left → cut_line room held ≡ Last held
-    → Begins budget all (line ++ held) [] left
-begun_moved budget room all line held left room_is begun whole =
-    let rest : List ℕ = begun.keeps.rest in
-    let size : length (line ++ held) ≡ length line + length held = length-append line held in
-    let less : room - length held ≡ budget - length (line ++ held) = omega arith in record {
-      keeps = record { rest = rest; told = begun.keeps.told; kept = append_assoc line held rest ∙ begun.keeps.kept };
-      cut = begun.cut ∙ ap (λ k. before line (cut_line k (held ++ rest))) (sym room_is)
-          ∙ ap (before line) (cut_more-last room held rest held whole) ∙ sym (before-append line held (cut_line (room - length held) rest))
-          ∙ ap (λ k. before (line ++ held) (cut_line k rest)) less;
-    }
+-- there was no memory for the line
+pub reads_none : (budget room : ℕ) (old : List ℕ) (first : Option (List ℕ)) (line held : List ℕ) (left : Option (List ℕ)) (held' line' : List ℕ) (r : Result (Option Ended) Failed) (e : Failed) (q : Result Ended Failed) (f : Failed)
+    → r ≡ Err e → q ≡ Err f → f ≡ e → Begun budget old first line held left → Takes room held line r held' line' → ReadsLine budget old first q line' held' left
+reads_none budget room old first line held left held' line' (Ok o) e q f is so same begun takes = absurd (cc)
+reads_none budget room old first line held left held' line' (Err d) e (Ok ended) f is so same begun takes = absurd (cc)
+reads_none budget room old None line held left held' line' (Err d) e (Err g) f is so same begun takes = begun
+reads_none budget room old (Some first) line held left held' line' (Err d) e (Err Fault) f is so same begun takes =
+    let no : Fault ≡ NoMemory = cc (is, so, same, takes.0) in absurd (cc)
+reads_none budget room old (Some first) line held left held' line' (Err d) e (Err NoMemory) f is so same begun takes =
+    record { drawn = begun.keeps.drawn; kept = ap (λ l. l ++ held') takes.2 ∙ ap (λ h. line ++ h) takes.1 ∙ begun.keeps.kept }
 
 pub begun_taken : (budget room : ℕ) (old : List ℕ) (first : Option (List ℕ)) (line held : List ℕ) (left : Option (List ℕ)) (held' line' : List ℕ)
     → room ≡ budget - length line → Begun budget old first line held left → Takes room held line (Ok None) held' line' → Begun budget old first line' held' left
 begun_taken budget room old None line held left held' line' room_is begun takes = begun
-begun_taken budget room old (Some first) line held left held' line' room_is begun takes =
-    rw (takes.2, takes.1) (begun_moved budget room (old ++ first) line held left room_is begun takes.0)
+begun_taken budget room old (Some first) line held left held' line' room_is begun takes = rw (takes.2, takes.1) record {
+  keeps = record { drawn = begun.keeps.drawn; kept = append-nil (line ++ held) ∙ begun.keeps.kept };
+  cut = cut_on budget room line held room_is begun.cut ∙ ap (before line) takes.0 ∙ before-last line held;
+}
 
 pub is_within : (budget room : ℕ) (line held : List ℕ) (ended : Ended) (held' line' : List ℕ) → room ≡ budget - length line → length line ≤ budget
     → Takes room held line (Ok (Some ended)) held' line' → IsWithin budget ended line'

@@ -1,20 +1,22 @@
 -- What a line of a script does to a player, and how a journal's text is printed.
-use Rattle.std.proofs.Common.{◌≡◌, ℕ, ◌+◌, ◌-◌, ◌<◌, ◌≤◌, ◌^◌, min, Bool, true, false, List, [], ◌∷◌, ◌++◌, length, take, drop, Option, Some, None, Result, Ok, Err, refl, sym, ap, subst, ◌∙◌, arith, ◌==◌, if◌then◌else◌}
+use Rattle.std.proofs.Common.{◌≡◌, ℕ, Bool, true, false, List, [], ◌∷◌, ◌++◌, take, drop, Option, Some, None, Result, Ok, Err, refl, sym, ap, subst, ◌∙◌, ◌==◌, if◌then◌else◌}
 use Rattle.std.specs.Option.{option_map}
 use Rattle.std.proofs.lemmas.List.{append-nil, append_assoc, take-append-drop}
 use Rattle.ff_xdr.specs.declared.error.NoMemory.{NoMemory}
-use Rattle.ds_files.specs.declared.entry.Entry.{Entry}
+use Rattle.cluster_model.specs.declared.entry.Entry.{Entry}
 use Rattle.ff_cluster.specs.declared.line.Setup.{Setup}
 use Rattle.ff_cluster.specs.declared.line.Setup.TheVariants.{Bare}
 use Rattle.ff_cluster.specs.declared.line.Line.{Line}
 use Rattle.ff_cluster.specs.declared.line.Line.TheVariants as line
 use Rattle.ff_cluster.specs.declared.line.Event.{Event}
-use Rattle.ff_cluster.specs.Line.{EventValue, LineValue, EventLine, SetupLine, Nothing, setup_at, line_at, line_value, event_value}
-use Rattle.ff_cluster.specs.Print.{print, line_of}
-use Rattle.ff_cluster.specs.World.{WorldState, preset_world, world_step}
-use Rattle.ff_cluster.specs.Script.{Played, played, played_by, setup_of, world_of}
+use Rattle.ff_cluster.specs.Line.{EventLine, SetupLine, Nothing, setup_at, event_at, line_at, line_value, event_value}
+use Rattle.cluster_model.specs.Event.{EventValue}
+use Rattle.cluster_model.specs.Print.{print, line_of}
+use Rattle.ff_cluster.specs.declared.player.Played.{Played as Outcome}
+use Rattle.ff_cluster.specs.World.{WorldState, WorldValue, preset_world, world_step, Occurs}
+use Rattle.ff_cluster.specs.Script.{Played, played, played_by, played_step, entries_by, setup_of, world_of}
 use Rattle.ff_cluster.specs.Writing.{Begins, PrintsText}
-use Rattle.ff_cluster.specs.Player.{PlayerState, capped, HasPlayed, HasBegun, Plays, Happens}
+use Rattle.ff_cluster.specs.Player.{PlayerState, player_of, GoesFrom, HasBegun, Does}
 
 pub print_append : (xs ys : List Entry) → print (xs ++ ys) ≡ print xs ++ print ys
 print_append [] ys = refl
@@ -36,71 +38,81 @@ pub prints_in_part : (old new : List ℕ) (i : ℕ) (xs : List Entry) (r : Resul
 prints_in_part old new i xs (Ok x) e is at = absurd (cc)
 prints_in_part old new i xs (Err y) e is at = (print (take i xs), begins_take i xs, at)
 
--- an event whose entries are printed in part
-pub happens_in_part : (old new : PlayerState) (world : WorldState) (event : EventValue) (entries : List Entry) (printed : Result (Unit {0}) NoMemory) (e : NoMemory) (r : Result Bool NoMemory) (y : NoMemory)
-    → printed ≡ Err e → r ≡ Err y → old.stage ≡ Some world → entries ≡ (world_step world event).entries → PrintsText old.trace (print entries) printed new.trace → Happens old event r new
-happens_in_part old new world event entries (Ok x) e r y is failed at steps prints = absurd (cc)
-happens_in_part old new world event entries (Err z) e (Ok b) y is failed at steps prints = absurd (cc)
-happens_in_part old new world event entries (Err z) e (Err w) y is failed at steps prints =
-    let all : entries ≡ (world_step (world_of old.stage) event).entries = steps ∙ ap (λ s. (world_step (world_of s) event).entries) (sym at) in
-    (prints.0, subst (λ es. Begins prints.0 (print es)) all prints.1, prints.2)
+-- ---- an event whose entries are printed in part
 
--- what a line says is what it does
+begun_in_part : (old new : PlayerState) (w : WorldState) (next : WorldValue) (event : EventValue) (entries : List Entry) (printed : Result (Unit {0}) NoMemory) (e : NoMemory)
+    → printed ≡ Err e → old.stage ≡ Some w → Occurs w event [] next entries → PrintsText old.trace (print entries) printed new.trace → HasBegun old (played_step (world_step (world_of old.stage) event)) new
+begun_in_part old new w next event entries (Ok x) e failed at occurs prints = absurd (cc)
+begun_in_part old new w next event entries (Err z) e failed at occurs prints =
+    let all : entries ≡ entries_by (played_step (world_step (world_of old.stage) event)) =
+    occurs.entries ∙ sym (ap (λ s. entries_by (played_step (world_step (world_of s) event))) at ∙ ap (λ o. entries_by (played_step o)) occurs.is) in record {
+      part = prints.0;
+      begins = subst (λ es. Begins prints.0 (print es)) all prints.1;
+      trace = prints.2;
+    }
+
+pub happens_in_part : (old new : PlayerState) (stage : Option WorldValue) (trace : List ℕ) (w next : WorldValue) (event : EventValue) (entries : List Entry) (printed : Result (Unit {0}) NoMemory) (e : NoMemory) (r : Result Outcome NoMemory) (y : NoMemory)
+    → player_of stage trace ≡ old → stage ≡ Some w → printed ≡ Err e → r ≡ Err y → (w.spent ≡ None → Occurs w.world event [] next entries) → PrintsText trace (print entries) printed new.trace
+    → old.spent ≡ None → Does old (played_step (world_step (world_of old.stage) event)) r new
+happens_in_part old new stage trace w next event entries printed e (Ok x) y view is failed so occurs prints fresh = absurd (cc)
+happens_in_part old new stage trace w next event entries printed e (Err z) y view is failed so occurs prints fresh =
+    let at : old.stage ≡ Some w.world = sym (ap (λ (p : PlayerState). p.stage) view) ∙ ap (λ s. (player_of s trace).stage) is in
+    let not_spent : w.spent ≡ None = sym (ap (λ s. (player_of s trace).spent) is) ∙ ap (λ (p : PlayerState). p.spent) view ∙ fresh in
+    let trace_is : trace ≡ old.trace = sym (ap (λ s. (player_of s trace).trace) is) ∙ ap (λ (p : PlayerState). p.trace) view in
+    begun_in_part old new w.world next event entries printed e failed at (occurs not_spent) (subst (λ t. PrintsText t (print entries) printed new.trace) trace_is prints)
+
+-- what a view says of its trace
+pub trace_of_view : (old : PlayerState) (stage : Option WorldValue) (trace : List ℕ) (w : WorldValue) → player_of stage trace ≡ old → stage ≡ Some w → trace ≡ old.trace
+trace_of_view old stage trace w view is = sym (ap (λ s. (player_of s trace).trace) is) ∙ ap (λ (p : PlayerState). p.trace) view
+
+-- an event whose entries are printed
+pub happens_all : (old : PlayerState) (stage : Option WorldValue) (trace : List ℕ) (w next : WorldValue) (event : EventValue) (entries : List Entry) (out : List ℕ)
+    → player_of stage trace ≡ old → stage ≡ Some w → (w.spent ≡ None → Occurs w.world event [] next entries) → out ≡ trace ++ print entries
+    → old.spent ≡ None → GoesFrom old (played_step (world_step (world_of old.stage) event)) (record { stage = Some next.world; spent = next.spent; trace = out })
+happens_all old stage trace w next event entries out view is occurs prints fresh =
+    let at : old.stage ≡ Some w.world = sym (ap (λ (p : PlayerState). p.stage) view) ∙ ap (λ s. (player_of s trace).stage) is in
+    let not_spent : w.spent ≡ None = sym (ap (λ s. (player_of s trace).spent) is) ∙ ap (λ (p : PlayerState). p.spent) view ∙ fresh in
+    let here = occurs not_spent in
+    let text : out ≡ old.trace ++ print here.step.entries = prints ∙ ap (λ t. t ++ print entries) (trace_of_view old stage trace w view is) ∙ ap (λ es. old.trace ++ print es) here.entries in
+    let make : WorldValue → List ℕ → PlayerState = λ n t. record { stage = Some n.world; spent = n.spent; trace = t } in
+    record {
+      stage = Some here.step.world;
+      entries = here.step.entries;
+      is = ap (λ s. played_step (world_step (world_of s) event)) at ∙ ap played_step here.is;
+      now = ap (λ n. make n out) here.world ∙ ap (λ t. make (record { world = here.step.world; spent = None }) t) text;
+    }
+
+pub begins_none : (old new : PlayerState) (does : Played) → new.trace ≡ old.trace → HasBegun old does new
+begins_none old new does same = record { part = []; begins = begins_nothing _; trace = same ∙ sym (append-nil old.trace) }
+
+-- ---- a line, by what it says
+
 pub said : (old : PlayerState) (text : List ℕ) (says : Option Line) (setup : Option Setup) → setup ≡ setup_of old.stage → option_map line_value says ≡ line_at setup text
     → played old.stage text ≡ played_by old.stage (option_map line_value says)
 said old text says setup chosen parsed = ap (played_by old.stage) (sym (parsed ∙ ap (λ s. line_at s text) chosen))
 
-capped_more : (n : ℕ) → n < 2 ^ 64 → n ≡ capped (n + 0)
-capped_more n small = omega (arith, small)
-
-pub plays_nothing : (old : PlayerState) (text : List ℕ) (says : Option Line) (setup : Option Setup) → old.count < 2 ^ 64 → setup ≡ setup_of old.stage
-    → option_map line_value says ≡ line_at setup text → says ≡ Some line.Nothing → HasPlayed old text old
-plays_nothing old text says setup small chosen parsed is = record {
-  line_is = record { stage = old.stage; entries = [] };
+pub plays_nothing : (old : PlayerState) (text : List ℕ) (says : Option Line) (setup : Option Setup) → old.spent ≡ None → setup ≡ setup_of old.stage
+    → option_map line_value says ≡ line_at setup text → says ≡ Some line.Nothing → GoesFrom old (played old.stage text) old
+plays_nothing old text says setup fresh chosen parsed is = record {
+  stage = old.stage;
+  entries = [];
   is = said old text says setup chosen parsed ∙ ap (λ s. played_by old.stage (option_map line_value s)) is;
-  stage = refl;
-  count = capped_more old.count small;
-  trace = sym (append-nil old.trace);
+  now = ap (λ o. record { stage = old.stage; spent = o; trace = old.trace }) fresh ∙ ap (λ t. record { stage = old.stage; spent = None; trace = t }) (sym (append-nil old.trace));
 }
 
-pub plays_setup : (old new : PlayerState) (text : List ℕ) (says : Option Line) (setup : Option Setup) (which : Setup) → old.count < 2 ^ 64 → setup ≡ setup_of old.stage
-    → option_map line_value says ≡ line_at setup text → says ≡ Some (line.Setup which) → new ≡ record { stage = Some preset_world; count = old.count; trace = old.trace } → HasPlayed old text new
-plays_setup old new text says setup which small chosen parsed is now = record {
-  line_is = record { stage = Some preset_world; entries = [] };
+pub plays_setup : (old new : PlayerState) (text : List ℕ) (says : Option Line) (setup : Option Setup) (which : Setup) → setup ≡ setup_of old.stage
+    → option_map line_value says ≡ line_at setup text → says ≡ Some (line.Setup which) → new ≡ record { stage = Some preset_world; spent = None; trace = old.trace } → GoesFrom old (played old.stage text) new
+plays_setup old new text says setup which chosen parsed is now = record {
+  stage = Some preset_world;
+  entries = [];
   is = said old text says setup chosen parsed ∙ ap (λ s. played_by old.stage (option_map line_value s)) is;
-  stage = ap (λ (p : PlayerState). p.stage) now;
-  count = ap (λ (p : PlayerState). p.count) now ∙ capped_more old.count small;
-  trace = ap (λ (p : PlayerState). p.trace) now ∙ sym (append-nil old.trace);
+  now = now ∙ ap (λ t. record { stage = Some preset_world; spent = None; trace = t }) (sym (append-nil old.trace));
 }
 
-pub begins_setup : (old new : PlayerState) (text : List ℕ) (says : Option Line) (setup : Option Setup) (which : Setup) (r : Result Bool NoMemory) (y : NoMemory) → r ≡ Err y → setup ≡ setup_of old.stage
-    → option_map line_value says ≡ line_at setup text → says ≡ Some (line.Setup which) → new.trace ≡ old.trace → Plays old text r new
-begins_setup old new text says setup which (Ok b) y failed chosen parsed is same = absurd (cc)
-begins_setup old new text says setup which (Err z) y failed chosen parsed is same = record {
-  line_is = record { stage = Some preset_world; entries = [] };
-  is = said old text says setup chosen parsed ∙ ap (λ s. played_by old.stage (option_map line_value s)) is;
-  part = [];
-  begins = begins_nothing [];
-  trace = same ∙ sym (append-nil old.trace);
-}
-
-pub plays_event : (old new : PlayerState) (text : List ℕ) (says : Option Line) (setup : Option Setup) (event : Event) (r : Result Bool NoMemory) → setup ≡ setup_of old.stage
-    → option_map line_value says ≡ line_at setup text → says ≡ Some (line.Event event) → Happens old (event_value event) r new → Plays old text r new
-plays_event old new text says setup event (Ok true) chosen parsed is happens = record {
-  line_is = let step = world_step (world_of old.stage) (event_value event) in record { stage = Some step.world; entries = step.entries };
-  is = said old text says setup chosen parsed ∙ ap (λ s. played_by old.stage (option_map line_value s)) is;
-  stage = happens.0;
-  count = happens.1;
-  trace = happens.2;
-}
-plays_event old new text says setup event (Ok false) chosen parsed is happens = absurd happens
-plays_event old new text says setup event (Err e) chosen parsed is happens = record {
-  line_is = let step = world_step (world_of old.stage) (event_value event) in record { stage = Some step.world; entries = step.entries };
-  is = said old text says setup chosen parsed ∙ ap (λ s. played_by old.stage (option_map line_value s)) is;
-  part = happens.0;
-  begins = happens.1;
-  trace = happens.2;
-}
+pub plays_event : (old new : PlayerState) (text : List ℕ) (says : Option Line) (setup : Option Setup) (event : Event) (r : Result Outcome NoMemory) → setup ≡ setup_of old.stage
+    → option_map line_value says ≡ line_at setup text → says ≡ Some (line.Event event) → Does old (played_step (world_step (world_of old.stage) (event_value event))) r new → Does old (played old.stage text) r new
+plays_event old new text says setup event r chosen parsed is does =
+    subst (λ p. Does old p r new) (sym (said old text says setup chosen parsed ∙ ap (λ s. played_by old.stage (option_map line_value s)) is)) does
 
 -- no event is read before the setup
 pub event_after_setup : (stage : Option Setup) (text : List ℕ) (says : Option Line) (event : Event) → option_map line_value says ≡ line_at stage text → says ≡ Some (line.Event event) → stage ≡ Some Bare
@@ -115,3 +127,25 @@ event_after_setup None text says event parsed is = absurd (none_is text event (s
     none_is : (text : List ℕ) (event : Event) → line_at None text ≡ Some (EventLine (event_value event)) → ⊥
     none_is [] event h = absurd (cc)
     none_is (c ∷ rest) event h = not_setup (c == 35) (setup_at (c ∷ rest)) event h
+
+-- a setup's line is read before any setup
+pub setup_first : (stage : Option Setup) (text : List ℕ) (says : Option Line) (which : Setup) → option_map line_value says ≡ line_at stage text → says ≡ Some (line.Setup which) → stage ≡ None
+setup_first None text says which parsed is = refl
+setup_first (Some Bare) text says which parsed is = absurd (none_is text which (sym parsed ∙ ap (option_map line_value) is))
+  where
+    not_event : (comment : Bool) (event : Option EventValue) (which : Setup) → (if comment then Some Nothing else option_map EventLine event) ≡ Some (SetupLine which) → ⊥
+    not_event true event which h = absurd (cc)
+    not_event false None which h = absurd (cc)
+    not_event false (Some event) which h = absurd (cc)
+
+    none_is : (text : List ℕ) (which : Setup) → line_at (Some Bare) text ≡ Some (SetupLine which) → ⊥
+    none_is [] which h = absurd (cc)
+    none_is (c ∷ rest) which h = not_event (c == 35) (event_at (c ∷ rest)) which h
+
+-- and then nothing is spent
+pub fresh_before : (old : PlayerState) (stage : Option WorldValue) (trace : List ℕ) → player_of stage trace ≡ old → setup_of old.stage ≡ None → old.spent ≡ None
+fresh_before old None trace view none = sym (ap (λ (p : PlayerState). p.spent) view)
+fresh_before old (Some w) trace view none =
+    let at : Some w.world ≡ old.stage = ap (λ (p : PlayerState). p.stage) view in
+    let some : Some Bare ≡ None = ap setup_of at ∙ none in
+    absurd (cc (some))

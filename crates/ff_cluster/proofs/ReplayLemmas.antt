@@ -1,26 +1,27 @@
 -- How a run of a script goes on from line to line.
-use Rattle.std.proofs.Common.{◌⊎◌, inl, inr, ◌≡◌, ◌≢◌, ℕ, ◌+◌, ◌-◌, ◌<◌, ◌≤◌, ◌^◌, min, Bool, true, false, List, [], ◌∷◌, ◌++◌, length, Option, Some, None, Result, Ok, Err, refl, sym, ap, subst, ◌∙◌, arith}
-use Rattle.std.proofs.lemmas.List.{append-nil, append_assoc, length-append}
+use Rattle.std.specs.Prelude.{⊤}
+use Rattle.std.proofs.Common.{◌⊎◌, inl, inr, ◌≡◌, ℕ, ◌+◌, ◌-◌, Bool, true, false, List, [], ◌∷◌, ◌++◌, length, take, Option, Some, None, Result, Ok, Err, refl, sym, ap, subst, ◌∙◌, arith, ⊎_elim}
+use Rattle.std.proofs.lemmas.List.{append-nil, append_assoc}
 use Rattle.rpc_record.specs.declared.stream.Failed.{Failed}
+use Rattle.rpc_record.specs.declared.stream.Failed.TheVariants.{Fault, NoMemory as Wanted}
 use Rattle.rpc_record.specs.Stream.{one_more}
-use Rattle.ds_files.specs.declared.entry.Entry.{Entry}
+use Rattle.cluster_model.specs.declared.entry.Entry.{Entry}
 use Rattle.ff_cluster.specs.declared.lines.Ended.TheVariants.{Newline, End, Over as RanOver}
 use Rattle.ff_cluster.specs.declared.replay.ReplayEnd.{ReplayEnd}
 use Rattle.ff_cluster.specs.declared.replay.ReplayEnd.TheVariants.{Done, BadLine, ReadFault, WriteFault, NoMemory, Limit}
-use Rattle.ff_cluster.specs.Lines.{Line, Last, Over, cut_line, script_lines, ReadsLine, CutsLine, CutsLast, Keeps}
-use Rattle.ff_cluster.specs.Print.{print}
-use Rattle.ff_cluster.specs.World.{WorldState, journal}
-use Rattle.ff_cluster.specs.Script.{Script, script_of, script, journal_of, trace_of, max_script, Played, played, setup_of, world_of}
-use Rattle.ff_cluster.specs.Writing.{Begins, WritesText}
-use Rattle.ff_cluster.specs.Player.{PlayerState, capped, HasPlayed, HasBegun}
-use Rattle.ff_cluster.specs.Replay.{ReplayState, script_ahead, journal_ahead, bad_ahead, text_ahead, count_ahead, over_ahead, Owes, OwesPart, Took, Wrote, GoesOn, Stops, Steps, TakesLine, RefusesLine, PlaysLine, PlaysLast, PlaysEnded, EndsLine, EndsInPart, Finishes, Stopped, Finished, EndFaults, StepFaults, LinesFaults, SourceFaults, ReadFaults, write_faults, TookAll, TookPart, Replays}
-use Rattle.ff_cluster.proofs.LineLemmas.{script_line, line_length, script_end, script_last, script_over}
+use Rattle.ff_cluster.specs.Lines.{Line, Over, cut_line, ended_lines, script_lines, Drawn, ReadsLine, CutsLine}
+use Rattle.cluster_model.specs.Print.{print}
+use Rattle.ff_cluster.specs.Script.{script, run_of_script, journal_of, trace_of, ended_script, ended_run, ended_trace, max_script, played, count_of}
+use Rattle.ff_cluster.specs.Writing.{WritesText}
+use Rattle.ff_cluster.specs.Player.{PlayerState, GoesFrom, HasBegun}
+use Rattle.ff_cluster.specs.Replay.{IsPastLimit, Ends, HasRead, TookAll, TookPart, TookOfRead, Traces, Leaves, Replays, ReadFaults, write_faults, ReplayState, lines_by, run_from, Prospect, prospect, lines_ahead, ahead, text_ahead, Owes, OwesPart, Took, GoesOn, OwesRead, Passes, Stops, Steps, Finishes, EndFaults, StepFaults, LinesFaults, SourceFaults, TakesLine, RefusesLine, PassesLimit, PlaysLast, PlaysEnded}
+use Rattle.ff_cluster.proofs.LineLemmas.{cut_more-line, cut_more-over, script_line, line_length, script_end, script_last, script_over, over_lines, last_length, ended_line, ended_last}
 use Rattle.ff_cluster.proofs.PlayLemmas.{print_append}
-use Rattle.ff_cluster.proofs.ScriptLemmas.{line_on, line_bad}
+use Rattle.ff_cluster.proofs.ScriptLemmas.{goes_first, outside_first, limited_first, entries_first}
 
 -- the run has gone on for some steps
 abbrev pub Went : Option (List ℕ) → Option (List ℕ) → ReplayState → Option (List ℕ) → Option (List ℕ) → ReplayState → Type 0
-Went None held old left' held' new = left' ≡ None
+Went None held old left' held' new = ⊤
 Went (Some left) held old left' held' new = GoesOn left held old left' held' new
 
 -- ---- what a sink owes
@@ -55,290 +56,440 @@ owes_again (Some held) (Some h) c t u v one two =
       append_assoc one.0 two.0 v ∙ ap (λ x. one.0 ++ x) two.2 ∙ one.2,
     )
 
--- a sink that owed a text, and was then written this of it
-pub owes_wrote : (a b c : Option (List ℕ)) (t u : List ℕ) (x : Unit {0}) → Owes a t b u → WritesText b u (Ok x) c → Wrote a t c
-owes_wrote None None c t u x one two = two
-owes_wrote None (Some h) c t u x one two = absurd (cc)
-owes_wrote (Some held) None c t u x one two = let no : Some (held ++ one.0) ≡ None = sym one.1 in absurd (cc)
-owes_wrote (Some held) (Some h) c t u x one two =
-    let same : h ≡ held ++ one.0 = some_is one.1 in
-    two ∙ ap (λ y. Some (y ++ u)) same ∙ ap (λ y. Some y) (append_assoc held one.0 u ∙ ap (λ y. held ++ y) one.2)
+owes_part : (held : Option (List ℕ)) (text trace rest : List ℕ) → trace ++ rest ≡ text → OwesPart held text held trace
+owes_part held text trace rest is = (rest, owes_as held held text text text (trace ++ rest) refl (sym is) (owes_same held text))
 
-pub owes_took : (a b c : Option (List ℕ)) (t u : List ℕ) → Owes a t b u → Took b u c → Took a t c
-owes_took None None c t u one two = two
-owes_took None (Some h) c t u one two = absurd (cc)
-owes_took (Some held) None c t u one two = let no : Some (held ++ one.0) ≡ None = sym one.1 in absurd (cc)
-owes_took (Some held) (Some h) c t u one two =
-    let same : h ≡ held ++ one.0 = some_is one.1 in (
-      one.0 ++ two.0,
-      record { rest = two.1.rest; whole = append_assoc one.0 two.0 two.1.rest ∙ ap (λ y. one.0 ++ y) two.1.whole ∙ one.2 },
-      two.2 ∙ ap (λ y. Some (y ++ two.0)) same ∙ ap (λ y. Some y) (append_assoc held one.0 two.0),
-    )
+owes_all : (held : Option (List ℕ)) (text trace : List ℕ) → trace ≡ text → Owes held text held trace
+owes_all held text trace is = owes_as held held text text text trace refl (sym is) (owes_same held text)
 
--- what a write of a beginning took
-pub wrote_took : (b c : Option (List ℕ)) (u rest : List ℕ) (r : Result (Unit {0}) Failed) → WritesText b u r c → Took b (u ++ rest) c
-wrote_took None c u rest r wrote = wrote
-wrote_took (Some h) c u rest (Ok x) wrote = (u, record { rest = rest; whole = refl }, wrote)
-wrote_took (Some h) c u rest (Err e) wrote =
-    (wrote.0, record { rest = wrote.1.rest ++ rest; whole = sym (append_assoc wrote.0 wrote.1.rest rest) ∙ ap (λ y. y ++ rest) wrote.1.whole }, wrote.2)
+-- what is owed is a part of itself
+whole_part : (old new : Option (List ℕ)) (t u : List ℕ) → Owes old t new u → OwesPart old t new u
+whole_part old new t u owes = ([], subst (λ x. Owes old t new x) (sym (append-nil u)) owes)
 
--- ---- a line at the front
+-- a sink that has taken a beginning owes a beginning
+took_owes : (held new : Option (List ℕ)) (text more : List ℕ) → Took held text new → OwesPart held (text ++ more) new []
+took_owes None new text more took = ([], took)
+took_owes (Some h) new text more took = (took.1.rest ++ more, (took.0, took.2, sym (append_assoc took.0 took.1.rest more) ∙ ap (λ t. t ++ more) took.1.whole))
+
+-- A write of what was owed: all of it, or a beginning.
+wrote_owes : (b c : Option (List ℕ)) (u rest : List ℕ) (x : Unit {0}) → WritesText b u (Ok x) c → Owes b (u ++ rest) c rest
+wrote_owes None c u rest x wrote = wrote
+wrote_owes (Some h) c u rest x wrote = (u, wrote, refl)
+
+wrote_all : (a b c : Option (List ℕ)) (t u : List ℕ) (x : Unit {0}) → Owes a t b u → WritesText b u (Ok x) c → Owes a t c []
+wrote_all a b c t u x owes wrote = owes_again a b c t u [] owes (subst (λ y. Owes b y c []) (append-nil u) (wrote_owes b c u [] x wrote))
+
+wrote_first : (a b c : Option (List ℕ)) (t u : List ℕ) (x : Unit {0}) → OwesPart a t b u → WritesText b u (Ok x) c → OwesPart a t c []
+wrote_first a b c t u x owes wrote = (owes.0, owes_again a b c t (u ++ owes.0) owes.0 owes.1 (wrote_owes b c u owes.0 x wrote))
+
+broke_off : (b c : Option (List ℕ)) (u rest : List ℕ) (e : Failed) → WritesText b u (Err e) c → OwesPart b (u ++ rest) c []
+broke_off None c u rest e wrote = ([], wrote)
+broke_off (Some h) c u rest e wrote =
+    (wrote.1.rest ++ rest, (wrote.0, wrote.2, sym (append_assoc wrote.0 wrote.1.rest rest) ∙ ap (λ y. y ++ rest) wrote.1.whole))
+
+wrote_part : (a b c : Option (List ℕ)) (t u : List ℕ) (e : Failed) → OwesPart a t b u → WritesText b u (Err e) c → OwesPart a t c []
+wrote_part a b c t u e owes wrote =
+    let part = broke_off b c u owes.0 e wrote in (part.0, owes_again a b c t (u ++ owes.0) part.0 owes.1 part.1)
+
+wrote_some : (a b c : Option (List ℕ)) (t u : List ℕ) (r : Result (Unit {0}) Failed) → OwesPart a t b u → WritesText b u r c → OwesPart a t c []
+wrote_some a b c t u (Ok x) owes wrote = wrote_first a b c t u x owes wrote
+wrote_some a b c t u (Err e) owes wrote = wrote_part a b c t u e owes wrote
+
+part_again : (a b c : Option (List ℕ)) (t u v : List ℕ) → Owes a t b u → OwesPart b u c v → OwesPart a t c v
+part_again a b c t u v one two = (two.0, owes_again a b c t u (v ++ two.0) one two.1)
+
+-- ---- the lines at the front
+
+lines_line : (all : Bool) (n : ℕ) (bs line rest : List ℕ) → cut_line n bs ≡ Line line rest → lines_by all n bs ≡ line ∷ lines_by all (n - (length line + 1)) rest
+lines_line true n bs line rest cut = script_line n bs line rest cut
+lines_line false n bs line rest cut = ended_line n bs line rest cut
 
 abbrev pub after : ReplayState → List ℕ → ReplayState
 after s held = record { player = s.player; held = held; room = s.room; number = s.number }
 
-pub front_on : (s : ReplayState) (left line : List ℕ) (lines : List (List ℕ)) (p : Played) → script_lines s.room (s.held ++ left) ≡ line ∷ lines → played s.player.stage line ≡ Some p
-    → (bad_ahead s left ≡ (script_of (s.number + 1) (setup_of p.stage) lines).bad)
-    × (journal_ahead s left ≡ p.entries ++ journal (world_of p.stage) (script_of (s.number + 1) (setup_of p.stage) lines).events)
-front_on s left line lines p at is =
-    let step = line_on s.number s.player.stage line lines p is in (
-      ap (λ ls. (script_of s.number (setup_of s.player.stage) ls).bad) at ∙ step.0,
-      ap (λ ls. journal (world_of s.player.stage) (script_of s.number (setup_of s.player.stage) ls).events) at ∙ step.1,
-    )
-
-pub text_on : (trace : List ℕ) (es js : List Entry) → trace ++ print (es ++ js) ≡ (trace ++ print es) ++ print js
+text_on : (trace : List ℕ) (es js : List Entry) → trace ++ print (es ++ js) ≡ (trace ++ print es) ++ print js
 text_on trace es js = ap (λ t. trace ++ t) (print_append es js) ∙ sym (append_assoc trace (print es) (print js))
 
-pub count_on : (n : ℕ) (es js : List Entry) → capped (n + length (es ++ js)) ≡ capped (capped (n + length es) + length js)
-count_on n es js = omega (arith, length-append es js)
+-- what was cut off what the source gave is cut off whatever stands behind it
+cut_on : (s : ReplayState) (front more line held : List ℕ) → cut_line s.room (s.held ++ front) ≡ Line line held → cut_line s.room (s.held ++ (front ++ more)) ≡ Line line (held ++ more)
+cut_on s front more line held cut = ap (cut_line s.room) (sym (append_assoc s.held front more)) ∙ cut_more-line s.room (s.held ++ front) more line held cut
 
 -- the run went past a line, and what it comes to is the same
-pub record Moves (left : List ℕ) (old : ReplayState) (rest : List ℕ) (new : ReplayState) : Type 0 where
-  pub bad : bad_ahead new rest ≡ bad_ahead old left
-  pub count : count_ahead new rest ≡ count_ahead old left
-  pub over : over_ahead new rest ≡ over_ahead old left
-  pub text : text_ahead new rest ≡ text_ahead old left
-
-pub moves : (s mid : ReplayState) (left rest held line : List ℕ) → cut_line s.room (s.held ++ left) ≡ Line line (held ++ rest) → TakesLine (length line + 1) line (after s held) mid → Moves left s rest mid
-moves s mid left rest held line cut takes =
-    let p = takes.player.line_is in
-    let lines = script_lines (s.room - (length line + 1)) (held ++ rest) in
-    let long = line_length s.room (s.held ++ left) line (held ++ rest) cut in
+moves : (s mid : ReplayState) (held line front : List ℕ) → cut_line s.room (s.held ++ front) ≡ Line line held → TakesLine (length line + 1) line (after s held) mid
+    → (all : Bool) (more : List ℕ) → (ahead all mid more ≡ ahead all s (front ++ more)) × (text_ahead all mid more ≡ text_ahead all s (front ++ more))
+moves s mid held line front cut takes all more =
+    let goes = takes.player in
+    let whole = cut_on s front more line held cut in
+    let lines = lines_by all (s.room - (length line + 1)) (held ++ more) in
+    let at : lines_ahead all s (front ++ more) ≡ line ∷ lines = lines_line all s.room (s.held ++ (front ++ more)) line (held ++ more) whole in
+    let long = line_length s.room (s.held ++ (front ++ more)) line (held ++ more) whole in
     let room : mid.room ≡ s.room - (length line + 1) = omega (arith, takes.room) in
-    let front = front_on s left line lines p (script_line s.room (s.held ++ left) line (held ++ rest) cut) takes.player.is in
-    let at : script_lines mid.room (mid.held ++ rest) ≡ lines = (λ i. script_lines (room i) (takes.held i ++ rest)) in
-    let script : script_ahead mid rest ≡ script_of (s.number + 1) (setup_of p.stage) lines = (λ i. script_of (takes.number i) (setup_of (takes.player.stage i)) (at i)) in
-    let js = journal (world_of p.stage) (script_of (s.number + 1) (setup_of p.stage) lines).events in
-    let ahead : journal_ahead mid rest ≡ js = (λ i. journal (world_of (takes.player.stage i)) (script i).events) in
-    record {
-      bad = ap (λ (x : Script). x.bad) script ∙ sym front.0;
-      count = (λ i. capped (takes.player.count i + length (ahead i))) ∙ sym (count_on s.player.count p.entries js) ∙ sym (ap (λ es. capped (s.player.count + length es)) front.1);
-      over = omega (arith, takes.room, long.0, long.1, ap (λ (h : List ℕ). length (h ++ rest)) takes.held);
-      text = (λ i. takes.player.trace i ++ print (ahead i)) ∙ sym (text_on s.player.trace p.entries js) ∙ sym (ap (λ es. s.player.trace ++ print es) front.1);
-    }
-
--- the first line is outside the grammar
-pub bad_on : (s : ReplayState) (left line : List ℕ) (lines : List (List ℕ)) (n : ℕ) → script_lines s.room (s.held ++ left) ≡ line ∷ lines → played s.player.stage line ≡ None → n ≡ s.number
-    → (bad_ahead s left ≡ Some n) × (s.player.trace ≡ text_ahead s left)
-bad_on s left line lines n at is number =
-    let script : script_ahead s left ≡ record { events = []; bad = Some s.number } = ap (λ ls. script_of s.number (setup_of s.player.stage) ls) at ∙ line_bad s.number s.player.stage line lines is in (
-      ap (λ (x : Script). x.bad) script ∙ sym (ap (λ k. Some k) number),
-      sym (append-nil s.player.trace) ∙ sym (ap (λ (x : Script). s.player.trace ++ print (journal (world_of s.player.stage) x.events)) script),
+    let now : lines_ahead all mid more ≡ lines = (λ i. lines_by all (room i) (takes.held i ++ more)) in
+    let over : length (mid.held ++ more) - mid.room ≡ length (s.held ++ (front ++ more)) - s.room = omega (arith, takes.room, long.0, long.1, ap (λ (h : List ℕ). length (h ++ more)) takes.held) in
+    let first = goes_first s.number s.player.stage goes.stage line lines goes.entries (length (s.held ++ (front ++ more)) - s.room) goes.is in
+    let js = (run_from (s.number + 1) goes.stage lines).entries in
+    let here : ahead all mid more ≡ prospect (s.number + 1) goes.stage lines (length (s.held ++ (front ++ more)) - s.room) = (λ i. prospect (takes.number i) (goes.now i).stage (now i) (over i)) in
+    let text : text_ahead all mid more ≡ (s.player.trace ++ print goes.entries) ++ print js = (λ i. (goes.now i).trace ++ print (run_from (takes.number i) (goes.now i).stage (now i)).entries) in (
+      here ∙ sym first.0 ∙ sym (ap (λ ls. prospect s.number s.player.stage ls (length (s.held ++ (front ++ more)) - s.room)) at),
+      text ∙ sym (text_on s.player.trace goes.entries js)
+          ∙ sym (ap (λ (es : List Entry). s.player.trace ++ print es) (ap (λ ls. (run_from s.number s.player.stage ls).entries) at ∙ first.1)),
     )
 
--- the first line is played in part
-pub part_on : (s : ReplayState) (left line : List ℕ) (lines : List (List ℕ)) (new : PlayerState) → script_lines s.room (s.held ++ left) ≡ line ∷ lines → HasBegun s.player line new
-    → (rest : List ℕ) × (new.trace ++ rest ≡ text_ahead s left)
-part_on s left line lines new at begun =
-    let p = begun.line_is in
-    let js = journal (world_of p.stage) (script_of (s.number + 1) (setup_of p.stage) lines).events in
-    let front = front_on s left line lines p at begun.is in (
+-- the first line is played
+goes_at : (all : Bool) (s : ReplayState) (bytes line : List ℕ) (new : PlayerState) → lines_ahead all s bytes ≡ line ∷ [] → GoesFrom s.player (played s.player.stage line) new
+    → ((ahead all s bytes).bad ≡ None) × ((ahead all s bytes).past ≡ false) × (new.trace ≡ text_ahead all s bytes)
+goes_at all s bytes line new at goes =
+    let first = goes_first s.number s.player.stage goes.stage line [] goes.entries 0 goes.is in
+    let p : prospect s.number s.player.stage (lines_ahead all s bytes) 0 ≡ prospect (s.number + 1) goes.stage [] 0 = ap (λ ls. prospect s.number s.player.stage ls 0) at ∙ first.0 in
+    let es : (run_from s.number s.player.stage (lines_ahead all s bytes)).entries ≡ goes.entries = ap (λ ls. (run_from s.number s.player.stage ls).entries) at ∙ first.1 ∙ append-nil goes.entries in (
+      ap (λ (q : Prospect). q.bad) p,
+      ap (λ (q : Prospect). q.past) p,
+      ap (λ (q : PlayerState). q.trace) goes.now ∙ sym (ap (λ (x : List Entry). s.player.trace ++ print x) es),
+    )
+
+-- it is outside the grammar
+bad_at : (all : Bool) (s new : ReplayState) (bytes line : List ℕ) (lines : List (List ℕ)) (n : ℕ) → lines_ahead all s bytes ≡ line ∷ lines → RefusesLine n line s new
+    → ((ahead all s bytes).bad ≡ Some n) × ((ahead all s bytes).past ≡ false) × (new.player.trace ≡ text_ahead all s bytes)
+bad_at all s new bytes line lines n at refuses =
+    let first = outside_first s.number s.player.stage line lines refuses.1 in
+    let p = ap (λ ls. prospect s.number s.player.stage ls 0) at in
+    let es : (run_from s.number s.player.stage (lines_ahead all s bytes)).entries ≡ [] = ap (λ ls. (run_from s.number s.player.stage ls).entries) at ∙ first.2 in (
+      ap (λ (q : Prospect). q.bad) p ∙ first.0 ∙ sym (ap (λ k. Some k) refuses.0),
+      ap (λ (q : Prospect). q.past) p ∙ first.1,
+      ap (λ (q : PlayerState). q.trace) refuses.2 ∙ sym (append-nil s.player.trace) ∙ sym (ap (λ (x : List Entry). s.player.trace ++ print x) es),
+    )
+
+-- its event would pass a limit
+limit_at : (all : Bool) (s new : ReplayState) (bytes line : List ℕ) (lines : List (List ℕ)) (count : ℕ) → lines_ahead all s bytes ≡ line ∷ lines → PassesLimit count line s new
+    → ((ahead all s bytes).past ≡ true) × (count ≡ (ahead all s bytes).count) × (new.player.trace ≡ text_ahead all s bytes)
+limit_at all s new bytes line lines count at passes =
+    let first = limited_first s.number s.player.stage line lines passes.1.is in
+    let p = ap (λ ls. prospect s.number s.player.stage ls 0) at in
+    let es : (run_from s.number s.player.stage (lines_ahead all s bytes)).entries ≡ [] = ap (λ ls. (run_from s.number s.player.stage ls).entries) at ∙ first.1 in
+    let none : length (run_from s.number s.player.stage (lines_ahead all s bytes)).entries ≡ 0 = ap (λ (x : List Entry). length x) es in (
+      ap (λ (q : Prospect). q.past) p ∙ first.0,
+      omega (arith, passes.0, passes.1.count, none),
+      passes.1.trace ∙ sym (append-nil s.player.trace) ∙ sym (ap (λ (x : List Entry). s.player.trace ++ print x) es),
+    )
+
+-- it is played in part
+part_at : (all : Bool) (s : ReplayState) (bytes line : List ℕ) (lines : List (List ℕ)) (new : PlayerState) → lines_ahead all s bytes ≡ line ∷ lines → HasBegun s.player (played s.player.stage line) new
+    → (rest : List ℕ) × (new.trace ++ rest ≡ text_ahead all s bytes)
+part_at all s bytes line lines new at begun =
+    let first = entries_first s.number s.player.stage line lines (played s.player.stage line) refl in
+    let js = first.0 in
+    let es = ap (λ ls. (run_from s.number s.player.stage ls).entries) at ∙ first.1 in (
       begun.begins.rest ++ print js,
       ap (λ t. t ++ (begun.begins.rest ++ print js)) begun.trace
           ∙ append_assoc s.player.trace begun.part (begun.begins.rest ++ print js)
-          ∙ ap (λ t. s.player.trace ++ t) (sym (append_assoc begun.part begun.begins.rest (print js)) ∙ ap (λ t. t ++ print js) begun.begins.whole ∙ sym (print_append p.entries js))
-          ∙ sym (ap (λ es. s.player.trace ++ print es) front.1),
+          ∙ ap (λ t. s.player.trace ++ t) (sym (append_assoc begun.part begun.begins.rest (print js)) ∙ ap (λ t. t ++ print js) begun.begins.whole ∙ sym (print_append _ js))
+          ∙ sym (ap (λ (x : List Entry). s.player.trace ++ print x) es),
     )
-
-pub owes_part : (held : Option (List ℕ)) (text trace rest : List ℕ) → trace ++ rest ≡ text → OwesPart held text held trace
-owes_part held text trace rest is = (rest, owes_as held held text text text (trace ++ rest) refl (sym is) (owes_same held text))
-
-pub owes_all : (held : Option (List ℕ)) (text trace : List ℕ) → trace ≡ text → Owes held text held trace
-owes_all held text trace is = owes_as held held text text text trace refl (sym is) (owes_same held text)
-
-pub took_more : (held new : Option (List ℕ)) (text more : List ℕ) → Took held text new → Took held (text ++ more) new
-took_more None new text more took = took
-took_more (Some h) new text more took =
-    (took.0, record { rest = took.1.rest ++ more; whole = sym (append_assoc took.0 took.1.rest more) ∙ ap (λ t. t ++ more) took.1.whole }, took.2)
 
 -- no line is left
-pub none_on : (s : ReplayState) (left : List ℕ) → script_lines s.room (s.held ++ left) ≡ []
-    → (bad_ahead s left ≡ None) × (s.player.trace ≡ text_ahead s left) × (journal_ahead s left ≡ [])
-none_on s left at =
-    let ahead = ap (λ ls. journal (world_of s.player.stage) (script_of s.number (setup_of s.player.stage) ls).events) at in (
-      ap (λ ls. (script_of s.number (setup_of s.player.stage) ls).bad) at,
-      sym (append-nil s.player.trace) ∙ sym (ap (λ es. s.player.trace ++ print es) ahead),
-      ahead,
+none_at : (all : Bool) (s : ReplayState) (bytes : List ℕ) → lines_ahead all s bytes ≡ []
+    → ((ahead all s bytes).bad ≡ None) × ((ahead all s bytes).past ≡ false) × (count_of s.player.stage ≡ (ahead all s bytes).count) × (s.player.trace ≡ text_ahead all s bytes)
+none_at all s bytes at =
+    let p = ap (λ ls. prospect s.number s.player.stage ls 0) at in
+    let es : (run_from s.number s.player.stage (lines_ahead all s bytes)).entries ≡ [] = ap (λ ls. (run_from s.number s.player.stage ls).entries) at in
+    let none : length (run_from s.number s.player.stage (lines_ahead all s bytes)).entries ≡ 0 = ap (λ (x : List Entry). length x) es in (
+      ap (λ (q : Prospect). q.bad) p,
+      ap (λ (q : Prospect). q.past) p,
+      omega (arith, none),
+      sym (append-nil s.player.trace) ∙ sym (ap (λ (x : List Entry). s.player.trace ++ print x) es),
     )
+
+-- what is owed is of what the source gave, or of all
+of_front : (left : List ℕ) (held held' left' : Option (List ℕ)) (s : ReplayState) (owed : List ℕ) (drawn : Drawn left left') → Owes held (text_ahead false s drawn.front) held' owed → OwesRead left held s left' held' owed
+of_front left held held' left' s owed drawn owes = record {
+  front = drawn.front;
+  gave = record { rest = drawn.rest; told = drawn.told; whole = drawn.whole };
+  text = inl (whole_part held held' _ owed owes);
+}
+
+of_all : (left : List ℕ) (held held' left' : Option (List ℕ)) (s : ReplayState) (owed : List ℕ) → left' ≡ Some [] → Owes held (text_ahead true s left) held' owed → OwesRead left held s left' held' owed
+of_all left held held' left' s owed none owes = record {
+  front = left;
+  gave = record { rest = []; told = none; whole = append-nil left };
+  text = inr (refl, whole_part held held' _ owed owes);
+}
 
 -- ---- what a step did, by what the reading of a line did
 
-pub read_fault : (left held left' : Option (List ℕ)) (s : ReplayState) (e : Failed) (line held1 : List ℕ) → ReadsLine s.room s.held left (Err e) line held1 left' → Steps left held s (Ok (Some ReadFault)) left' held (after s held1)
-read_fault None held left' s e line held1 read = read
-read_fault (Some b) held left' s e line held1 read = owes_part held (text_ahead s b) s.player.trace (print (journal_ahead s b)) refl
+pub read_fault : (left held left' : Option (List ℕ)) (s : ReplayState) (line held1 : List ℕ) → ReadsLine s.room s.held left (Err Fault) line held1 left' → Steps left held s (Ok (Some ReadFault)) left' held (after s held1)
+read_fault None held left' s line held1 read = tt
+read_fault (Some b) held left' s line held1 read =
+    let drawn = read.keeps.drawn in
+    let line_is : line ≡ s.held ++ drawn.front = sym (append-nil line) ∙ ap (λ h. line ++ h) (sym read.none_held) ∙ read.keeps.kept in
+    let at : lines_ahead false s drawn.front ≡ [] = ap (λ bs. ended_lines (take s.room bs)) (sym line_is) ∙ ended_last s.room line line read.cut in
+    let none = none_at false s drawn.front at in
+    let size : length line ≡ length (s.held ++ drawn.front) = ap (λ (bs : List ℕ). length bs) line_is in record {
+      front = drawn.front;
+      gave = record { rest = drawn.rest; told = drawn.told; whole = drawn.whole };
+      good = none.0;
+      within = none.1;
+      short = omega (arith, size, (last_length s.room line line read.cut).1);
+      text = owes_all held (text_ahead false s drawn.front) s.player.trace none.3;
+    }
 
-pub read_memory : (left held left' : Option (List ℕ)) (s : ReplayState) (e : Failed) (line held1 : List ℕ) → ReadsLine s.room s.held left (Err e) line held1 left' → Steps left held s (Ok (Some NoMemory)) left' held (after s held1)
-read_memory None held left' s e line held1 read = read
-read_memory (Some b) held left' s e line held1 read = owes_part held (text_ahead s b) s.player.trace (print (journal_ahead s b)) refl
+pub read_memory : (left held left' : Option (List ℕ)) (s : ReplayState) (line held1 : List ℕ) → ReadsLine s.room s.held left (Err Wanted) line held1 left' → Steps left held s (Ok (Some NoMemory)) left' held (after s held1)
+read_memory None held left' s line held1 read = tt
+read_memory (Some b) held left' s line held1 read = record {
+  front = read.drawn.front;
+  gave = record { rest = read.drawn.rest; told = read.drawn.told; whole = read.drawn.whole };
+  text = inl (owes_part held (text_ahead false s read.drawn.front) s.player.trace (print (run_from s.number s.player.stage (lines_ahead false s read.drawn.front)).entries) refl);
+}
 
-pub read_over : (left held left' : Option (List ℕ)) (s : ReplayState) (line held1 : List ℕ) (count : ℕ) → s.player.count < 2 ^ 64 → count ≡ s.player.count → ReadsLine s.room s.held left (Ok RanOver) line held1 left'
+pub read_over : (left held left' : Option (List ℕ)) (s : ReplayState) (line held1 : List ℕ) (count : ℕ) → count ≡ count_of s.player.stage → ReadsLine s.room s.held left (Ok RanOver) line held1 left'
     → Steps left held s (Ok (Some (Limit count))) left' held (after s held1)
-read_over None held left' s line held1 count small is read = read
-read_over (Some b) held left' s line held1 count small is read =
-    let over = script_over s.room (s.held ++ b) read.0 in
-    let none = none_on s b over.0 in (
-      none.0,
-      omega (arith, over.1),
-      (let same : s.player.count ≡ capped (s.player.count + 0) = omega (arith, small) in is ∙ same ∙ sym (ap (λ es. capped (s.player.count + length es)) none.2)),
-      owes_all held (text_ahead s b) s.player.trace none.1,
+read_over None held left' s line held1 count is read = tt
+read_over (Some b) held left' s line held1 count is read =
+    let drawn = read.keeps.drawn in
+    let cut : cut_line s.room (s.held ++ b) ≡ Over = ap (λ bs. cut_line s.room (s.held ++ bs)) (sym drawn.whole) ∙ ap (cut_line s.room) (sym (append_assoc s.held drawn.front drawn.rest)) ∙ cut_more-over s.room (s.held ++ drawn.front) drawn.rest read.cut in
+    let over = script_over s.room (s.held ++ b) cut in
+    let none = none_at true s b over.0 in
+    let front = none_at false s drawn.front (over_lines s.room (s.held ++ drawn.front) read.cut) in (
+      inr (none.1, none.0, omega (arith, over.1)),
+      is ∙ none.2,
+      owes_all held (text_ahead true s b) s.player.trace none.3,
+      of_front b held held left' s s.player.trace drawn (owes_all held (text_ahead false s drawn.front) s.player.trace front.3),
     )
 
 pub read_last : (left held left' : Option (List ℕ)) (s new : ReplayState) (line held1 : List ℕ) (end : ReplayEnd) → ReadsLine s.room s.held left (Ok End) line held1 left' → PlaysLast line (after s held1) end new
     → Steps left held s (Ok (Some end)) left' held new
-read_last None held left' s new line held1 end read plays = read
+read_last None held left' s new line held1 end read plays = tt
 read_last (Some b) held left' s new [] held1 end read plays =
-    let none = none_on s b (script_end s.room (s.held ++ b) read.cut).1 in
-    let short : over_ahead s b ≡ 0 = (let empty = ap (λ (bs : List ℕ). length bs) (script_end s.room (s.held ++ b) read.cut).0 in omega (arith, empty)) in
-    subst (λ e. Stops b held s e left' held new) (sym plays.0)
-    (none.0, short, read.none_left, owes_all held (text_ahead s b) new.player.trace (ap (λ (n : ReplayState). n.player.trace) plays.1 ∙ none.1))
+    let ended = script_end s.room (s.held ++ b) read.cut in
+    let none = none_at true s b ended.1 in
+    let short : length (s.held ++ b) - s.room ≡ 0 = (let empty = ap (λ (bs : List ℕ). length bs) ended.0 in omega (arith, empty)) in
+    subst (λ e. Stops b held s e left' held new.player.trace) (sym plays.0)
+    (none.0, none.1, short, read.none_left, owes_all held (text_ahead true s b) new.player.trace (ap (λ (n : ReplayState). n.player.trace) plays.1 ∙ none.3))
 read_last (Some b) held left' s new (c ∷ rest) held1 Done read plays =
     let last = script_last s.room (s.held ++ b) (c ∷ rest) read.cut (λ e. absurd (cc)) in
-    let p = plays.line_is in
-    let front = front_on s b (c ∷ rest) [] p last.0 plays.is in (
-      front.0,
-      omega (arith, last.2),
-      read.none_left,
-      owes_all held (text_ahead s b) new.player.trace (plays.trace ∙ sym (append-nil (s.player.trace ++ print p.entries)) ∙ sym (text_on s.player.trace p.entries []) ∙ sym (ap (λ es. s.player.trace ++ print es) front.1)),
-    )
+    let goes = goes_at true s b (c ∷ rest) new.player last.0 plays in
+    (goes.0, goes.1, omega (arith, last.2), read.none_left, owes_all held (text_ahead true s b) new.player.trace goes.2)
 read_last (Some b) held left' s new (c ∷ rest) held1 (BadLine n) read plays =
     let last = script_last s.room (s.held ++ b) (c ∷ rest) read.cut (λ e. absurd (cc)) in
-    let bad = bad_on s b (c ∷ rest) [] n last.0 plays.1 plays.0 in
-    (bad.0, owes_all held (text_ahead s b) new.player.trace (ap (λ (q : PlayerState). q.trace) plays.2 ∙ bad.1))
+    let bad = bad_at true s new b (c ∷ rest) [] n last.0 plays in
+    let owes = owes_all held (text_ahead true s b) new.player.trace bad.2 in (bad.0, bad.1, owes, of_all b held held left' s new.player.trace read.none_left owes)
+read_last (Some b) held left' s new (c ∷ rest) held1 (Limit count) read plays =
+    let last = script_last s.room (s.held ++ b) (c ∷ rest) read.cut (λ e. absurd (cc)) in
+    let limit = limit_at true s new b (c ∷ rest) [] count last.0 plays in
+    let owes = owes_all held (text_ahead true s b) new.player.trace limit.2 in (inl limit.0, limit.1, owes, of_all b held held left' s new.player.trace read.none_left owes)
 read_last (Some b) held left' s new (c ∷ rest) held1 NoMemory read plays =
     let last = script_last s.room (s.held ++ b) (c ∷ rest) read.cut (λ e. absurd (cc)) in
-    let part = part_on s b (c ∷ rest) [] new.player last.0 plays in
-    owes_part held (text_ahead s b) new.player.trace part.0 part.1
-read_last (Some b) held left' s new (c ∷ rest) held1 (Limit count) read plays = absurd plays
+    let part = part_at true s b (c ∷ rest) [] new.player last.0 plays in record {
+      front = b;
+      gave = record { rest = []; told = read.none_left; whole = append-nil b };
+      text = inr (refl, owes_part held (text_ahead true s b) new.player.trace part.0 part.1);
+    }
 read_last (Some b) held left' s new (c ∷ rest) held1 ReadFault read plays = absurd plays
 read_last (Some b) held left' s new (c ∷ rest) held1 WriteFault read plays = absurd plays
 
+-- the first line of all that is left, and of what the source gave
+first_of : (s : ReplayState) (left line held : List ℕ) (left' : Option (List ℕ)) (cuts : CutsLine s.room s.held left line held left')
+    → lines_ahead true s left ≡ line ∷ script_lines (s.room - (length line + 1)) (held ++ cuts.drawn.rest)
+first_of s left line held left' cuts =
+    let whole : cut_line s.room (s.held ++ left) ≡ Line line (held ++ cuts.drawn.rest) = ap (λ bs. cut_line s.room (s.held ++ bs)) (sym cuts.drawn.whole) ∙ cut_on s cuts.drawn.front cuts.drawn.rest line held cuts.cut in
+    script_line s.room (s.held ++ left) line (held ++ cuts.drawn.rest) whole
+
 pub read_ended : (left held left' held' : Option (List ℕ)) (s new : ReplayState) (line held1 : List ℕ) (r : Result (Option ReplayEnd) Failed) → ReadsLine s.room s.held left (Ok Newline) line held1 left'
     → PlaysEnded held line (after s held1) r held' new → Steps left held s r left' held' new
-read_ended None held left' held' s new line held1 r read plays = read
+read_ended None held left' held' s new line held1 r read plays = tt
 read_ended (Some b) held left' held' s new line held1 (Ok None) read plays =
-    let rest = read.rest in
-    let went = moves s plays.mid b rest held1 line read.cut plays.takes in
-    let lines : script_lines new.room (new.held ++ rest) ≡ script_lines plays.mid.room (plays.mid.held ++ rest) = ap (λ (n : ReplayState). script_lines n.room (n.held ++ rest)) plays.same in
-    let script : script_ahead new rest ≡ script_ahead plays.mid rest = (λ i. script_of (plays.same i).number (setup_of (plays.stage i)) (lines i)) in
-    let ahead : journal_ahead new rest ≡ journal_ahead plays.mid rest = (λ i. journal (world_of (plays.stage i)) (script i).events) in
-    record {
-      rest = rest;
-      told = read.told;
-      bad = ap (λ (x : Script). x.bad) script ∙ went.bad;
-      count = (λ i. capped (plays.count i + length (ahead i))) ∙ went.count;
-      over = ap (λ (n : ReplayState). length (n.held ++ rest) - n.room) plays.same ∙ went.over;
-      text = owes_as held held' _ _ _ _ went.text (ap (λ es. new.player.trace ++ print es) (sym ahead)) (owes_more held held' plays.mid.player.trace new.player.trace (print (journal_ahead plays.mid rest)) plays.text);
+    let mid = plays.mid in
+    let drawn = read.drawn in
+    let went = moves s mid held1 line drawn.front read.cut plays.takes in record {
+      front = drawn.front;
+      gave = record { rest = drawn.rest; told = drawn.told; whole = drawn.whole };
+      fresh = ap (λ (n : ReplayState). n.player.spent) plays.same ∙ ap (λ (p : PlayerState). p.spent) plays.takes.player.now;
+      same = λ all more. ap (λ (n : ReplayState). ahead all n more) plays.same ∙ (went all more).0;
+      text = λ all more.
+          let rest = print (run_from mid.number mid.player.stage (lines_ahead all mid more)).entries in
+          let now : new.player.trace ++ rest ≡ text_ahead all new more = sym (ap (λ (n : ReplayState). new.player.trace ++ print (run_from n.number n.player.stage (lines_ahead all n more)).entries) plays.same) in
+          owes_as held held' _ _ _ _ (went all more).1 now (owes_more held held' mid.player.trace new.player.trace rest plays.text);
     }
 read_ended (Some b) held left' held' s new line held1 (Ok (Some (BadLine n))) read plays =
-    let at = script_line s.room (s.held ++ b) line (held1 ++ read.rest) read.cut in
-    let bad = bad_on s b line _ n at plays.1.1 plays.1.0 in
-    (bad.0, subst (λ h. Owes held (text_ahead s b) h new.player.trace) (sym plays.0) (owes_all held (text_ahead s b) new.player.trace (ap (λ (q : PlayerState). q.trace) plays.1.2 ∙ bad.1)))
+    let bad = bad_at true s new b line _ n (first_of s b line held1 left' read) plays.1 in
+    let front = bad_at false s new read.drawn.front line _ n (ended_line s.room (s.held ++ read.drawn.front) line held1 read.cut) plays.1 in (
+      bad.0,
+      bad.1,
+      subst (λ h. Owes held (text_ahead true s b) h new.player.trace) (sym plays.0) (owes_all held (text_ahead true s b) new.player.trace bad.2),
+      of_front b held held' left' s new.player.trace read.drawn (subst (λ h. Owes held (text_ahead false s read.drawn.front) h new.player.trace) (sym plays.0) (owes_all held (text_ahead false s read.drawn.front) new.player.trace front.2)),
+    )
+read_ended (Some b) held left' held' s new line held1 (Ok (Some (Limit count))) read plays =
+    let limit = limit_at true s new b line _ count (first_of s b line held1 left' read) plays.1 in
+    let front = limit_at false s new read.drawn.front line _ count (ended_line s.room (s.held ++ read.drawn.front) line held1 read.cut) plays.1 in (
+      inl limit.0,
+      limit.1,
+      subst (λ h. Owes held (text_ahead true s b) h new.player.trace) (sym plays.0) (owes_all held (text_ahead true s b) new.player.trace limit.2),
+      of_front b held held' left' s new.player.trace read.drawn (subst (λ h. Owes held (text_ahead false s read.drawn.front) h new.player.trace) (sym plays.0) (owes_all held (text_ahead false s read.drawn.front) new.player.trace front.2)),
+    )
 read_ended (Some b) held left' held' s new line held1 (Ok (Some NoMemory)) read plays =
-    let at = script_line s.room (s.held ++ b) line (held1 ++ read.rest) read.cut in
-    let part = part_on s b line _ new.player at plays.1 in
-    subst (λ h. OwesPart held (text_ahead s b) h new.player.trace) (sym plays.0) (owes_part held (text_ahead s b) new.player.trace part.0 part.1)
+    let drawn = read.drawn in
+    let part = part_at false s drawn.front line _ new.player (ended_line s.room (s.held ++ drawn.front) line held1 read.cut) plays.1 in record {
+      front = drawn.front;
+      gave = record { rest = drawn.rest; told = drawn.told; whole = drawn.whole };
+      text = inl (subst (λ h. OwesPart held (text_ahead false s drawn.front) h new.player.trace) (sym plays.0) (owes_part held (text_ahead false s drawn.front) new.player.trace part.0 part.1));
+    }
 read_ended (Some b) held left' held' s new line held1 (Ok (Some Done)) read plays = absurd plays.1
-read_ended (Some b) held left' held' s new line held1 (Ok (Some (Limit count))) read plays = absurd plays.1
 read_ended (Some b) held left' held' s new line held1 (Ok (Some ReadFault)) read plays = absurd plays.1
 read_ended (Some b) held left' held' s new line held1 (Ok (Some WriteFault)) read plays = absurd plays.1
 read_ended (Some b) held left' held' s new line held1 (Err e) read plays =
-    let went = moves s plays.mid b read.rest held1 line read.cut plays.takes in
-    subst (λ t. Took held t held') went.text (took_more held held' plays.mid.player.trace (print (journal_ahead plays.mid read.rest)) plays.text)
+    let mid = plays.mid in
+    let drawn = read.drawn in
+    let went = moves s mid held1 line drawn.front read.cut plays.takes false [] in
+    let text : text_ahead false mid [] ≡ text_ahead false s drawn.front = went.1 ∙ ap (λ bs. text_ahead false s bs) (append-nil drawn.front) in record {
+      front = drawn.front;
+      gave = record { rest = drawn.rest; told = drawn.told; whole = drawn.whole };
+      text = inl (subst (λ t. OwesPart held t held' []) text (took_owes held held' mid.player.trace _ plays.text));
+    }
 
 -- ---- one step after another
 
-pub goes : (left held : Option (List ℕ)) (s : ReplayState) (left1 held1 : Option (List ℕ)) (s1 : ReplayState) (left2 held2 : Option (List ℕ)) (s2 : ReplayState) (r : Result (Option ReplayEnd) Failed)
-    → r ≡ Ok None → Went left held s left1 held1 s1 → Steps left1 held1 s1 r left2 held2 s2 → Went left held s left2 held2 s2
-goes None held s None held1 s1 left2 held2 s2 r is went steps = steps
-goes None held s (Some b) held1 s1 left2 held2 s2 r is went steps = absurd (cc)
-goes (Some a) held s None held1 s1 left2 held2 s2 r is went steps = let no : Some went.rest ≡ None = sym went.told in absurd (cc)
-goes (Some a) held s (Some b) held1 s1 left2 held2 s2 r is went steps =
-    let same : b ≡ went.rest = some_is went.told in
-    let on : GoesOn b held1 s1 left2 held2 s2 = subst (λ x. Steps (Some b) held1 s1 x left2 held2 s2) is steps in
-    record {
-      rest = on.rest;
-      told = on.told;
-      bad = on.bad ∙ ap (λ x. bad_ahead s1 x) same ∙ went.bad;
-      count = on.count ∙ ap (λ x. count_ahead s1 x) same ∙ went.count;
-      over = on.over ∙ ap (λ x. over_ahead s1 x) same ∙ went.over;
-      text = owes_again held held1 held2 (text_ahead s a) (text_ahead s1 went.rest) (text_ahead s2 on.rest) went.text (subst (λ x. Owes held1 (text_ahead s1 x) held2 (text_ahead s2 on.rest)) same on.text);
+-- what the source gave at first and then
+gave_again : (a b one two : List ℕ) (left1 left2 : Option (List ℕ)) → left1 ≡ Some b → HasRead a one left1 → HasRead b two left2 → HasRead a (one ++ two) left2
+gave_again a b one two left1 left2 is first then =
+    let same : b ≡ first.rest = some_is (sym is ∙ first.told) in record {
+      rest = then.rest;
+      told = then.told;
+      whole = append_assoc one two then.rest ∙ ap (λ bs. one ++ bs) (then.whole ∙ same) ∙ first.whole;
     }
 
-stops_after : (a rest : List ℕ) (held held1 left2 held2 : Option (List ℕ)) (s s1 s2 : ReplayState) (end : ReplayEnd) → bad_ahead s1 rest ≡ bad_ahead s a → count_ahead s1 rest ≡ count_ahead s a → over_ahead s1 rest ≡ over_ahead s a
-    → Owes held (text_ahead s a) held1 (text_ahead s1 rest) → Stops rest held1 s1 end left2 held2 s2 → Stops a held s end left2 held2 s2
-stops_after a rest held held1 left2 held2 s s1 s2 Done bad count over text stops = (sym bad ∙ stops.0, sym over ∙ stops.1, stops.2, owes_again held held1 held2 _ _ _ text stops.3)
-stops_after a rest held held1 left2 held2 s s1 s2 (BadLine n) bad count over text stops = (sym bad ∙ stops.0, owes_again held held1 held2 _ _ _ text stops.1)
-stops_after a rest held held1 left2 held2 s s1 s2 (Limit n) bad count over text stops = (sym bad ∙ stops.0, subst (λ x. 0 < x) over stops.1, stops.2 ∙ count, owes_again held held1 held2 _ _ _ text stops.3)
-stops_after a rest held held1 left2 held2 s s1 s2 ReadFault bad count over text stops = (stops.0, owes_again held held1 held2 _ _ _ text stops.1)
-stops_after a rest held held1 left2 held2 s s1 s2 WriteFault bad count over text stops = absurd stops
-stops_after a rest held held1 left2 held2 s s1 s2 NoMemory bad count over text stops = (stops.0, owes_again held held1 held2 _ _ _ text stops.1)
+-- all that was left then is all that was left at first
+all_of : (a b one : List ℕ) (left1 : Option (List ℕ)) → left1 ≡ Some b → HasRead a one left1 → one ++ b ≡ a
+all_of a b one left1 is first = let same : b ≡ first.rest = some_is (sym is ∙ first.told) in ap (λ bs. one ++ bs) same ∙ first.whole
+
+pub goes : (left held : Option (List ℕ)) (s : ReplayState) (left1 held1 : Option (List ℕ)) (s1 : ReplayState) (left2 held2 : Option (List ℕ)) (s2 : ReplayState) (r : Result (Option ReplayEnd) Failed)
+    → r ≡ Ok None → Went left held s left1 held1 s1 → (s1.player.spent ≡ None → Steps left1 held1 s1 r left2 held2 s2) → Went left held s left2 held2 s2
+goes None held s left1 held1 s1 left2 held2 s2 r is went steps = tt
+goes (Some a) held s None held1 s1 left2 held2 s2 r is went steps = let no : Some went.gave.rest ≡ None = sym went.gave.told in absurd (cc)
+goes (Some a) held s (Some b) held1 s1 left2 held2 s2 r is went steps =
+    let on : GoesOn b held1 s1 left2 held2 s2 = subst (λ x. Steps (Some b) held1 s1 x left2 held2 s2) is (steps went.fresh) in
+    let one = went.front in
+    let two = on.front in record {
+      front = one ++ two;
+      gave = gave_again a b one two (Some b) left2 refl went.gave on.gave;
+      fresh = on.fresh;
+      same = λ all more. on.same all more ∙ went.same all (two ++ more) ∙ ap (λ bs. ahead all s bs) (sym (append_assoc one two more));
+      text = λ all more. owes_again held held1 held2 _ _ _ (subst (λ bs. Owes held (text_ahead all s bs) held1 (text_ahead all s1 (two ++ more))) (sym (append_assoc one two more)) (went.text all (two ++ more))) (on.text all more);
+    }
+
+-- a run broken off, from its start
+owes_after : (a b : List ℕ) (held held1 left2 held2 : Option (List ℕ)) (s s1 : ReplayState) (owed : List ℕ) → GoesOn a held s (Some b) held1 s1 → OwesRead b held1 s1 left2 held2 owed → OwesRead a held s left2 held2 owed
+owes_after a b held held1 left2 held2 s s1 owed went owes =
+    let one = went.front in
+    let whole = all_of a b one (Some b) refl went.gave in record {
+      front = one ++ owes.front;
+      gave = gave_again a b one owes.front (Some b) left2 refl went.gave owes.gave;
+      text = ⊎_elim
+          (λ part. inl (part_again held held1 held2 _ _ owed (went.text false owes.front) part))
+          (λ part. inr (ap (λ bs. one ++ bs) part.0 ∙ whole, part_again held held1 held2 _ _ owed (subst (λ bs. Owes held (text_ahead true s bs) held1 (text_ahead true s1 b)) whole (went.text true b)) part.1))
+          owes.text;
+    }
+
+stops_after : (a b : List ℕ) (held held1 left2 held2 : Option (List ℕ)) (s s1 : ReplayState) (owed : List ℕ) (end : ReplayEnd) → GoesOn a held s (Some b) held1 s1 → Stops b held1 s1 end left2 held2 owed → Stops a held s end left2 held2 owed
+stops_after a b held held1 left2 held2 s s1 owed end went = at end
+  where
+    one : List ℕ
+    one = went.front
+
+    whole : one ++ b ≡ a
+    whole = all_of a b one (Some b) refl went.gave
+
+    same : ahead true s1 b ≡ ahead true s a
+    same = went.same true b ∙ ap (λ bs. ahead true s bs) whole
+
+    text : Owes held (text_ahead true s a) held1 (text_ahead true s1 b)
+    text = subst (λ bs. Owes held (text_ahead true s bs) held1 (text_ahead true s1 b)) whole (went.text true b)
+
+    at : (e : ReplayEnd) → Stops b held1 s1 e left2 held2 owed → Stops a held s e left2 held2 owed
+    at Done stops = (subst (λ (p : Prospect). p.bad ≡ None) same stops.0, subst (λ (p : Prospect). p.past ≡ false) same stops.1, subst (λ (p : Prospect). p.over ≡ 0) same stops.2, stops.3, owes_again held held1 held2 _ _ _ text stops.4)
+    at (BadLine n) stops = (subst (λ (p : Prospect). p.bad ≡ Some n) same stops.0, subst (λ (p : Prospect). p.past ≡ false) same stops.1, owes_again held held1 held2 _ _ _ text stops.2, owes_after a b held held1 left2 held2 s s1 owed went stops.3)
+    at (Limit count) stops = (subst (λ (p : Prospect). Passes p) same stops.0, subst (λ (p : Prospect). count ≡ p.count) same stops.1, owes_again held held1 held2 _ _ _ text stops.2, owes_after a b held held1 left2 held2 s s1 owed went stops.3)
+    at ReadFault stops = record {
+      front = one ++ stops.front;
+      gave = gave_again a b one stops.front (Some b) left2 refl went.gave stops.gave;
+      good = sym (ap (λ (p : Prospect). p.bad) (went.same false stops.front)) ∙ stops.good;
+      within = sym (ap (λ (p : Prospect). p.past) (went.same false stops.front)) ∙ stops.within;
+      short = sym (ap (λ (p : Prospect). p.over) (went.same false stops.front)) ∙ stops.short;
+      text = owes_again held held1 held2 _ _ _ (went.text false stops.front) stops.text;
+    }
+    at WriteFault stops = absurd stops
+    at NoMemory stops = owes_after a b held held1 left2 held2 s s1 owed went stops
 
 pub finishes : (left held : Option (List ℕ)) (s : ReplayState) (left1 held1 : Option (List ℕ)) (s1 : ReplayState) (left2 held2 : Option (List ℕ)) (s2 : ReplayState) (r : Result (Option ReplayEnd) Failed) (end : ReplayEnd)
-    → r ≡ Ok (Some end) → Went left held s left1 held1 s1 → Steps left1 held1 s1 r left2 held2 s2 → Finishes left held s (Ok end) left2 held2 s2
+    → r ≡ Ok (Some end) → Went left held s left1 held1 s1 → (s1.player.spent ≡ None → Steps left1 held1 s1 r left2 held2 s2) → Finishes left held s (Ok end) left2 held2 s2.player.trace
 finishes None held s left1 held1 s1 left2 held2 s2 r end is went steps = tt
-finishes (Some a) held s None held1 s1 left2 held2 s2 r end is went steps = let no : Some went.rest ≡ None = sym went.told in absurd (cc)
+finishes (Some a) held s None held1 s1 left2 held2 s2 r end is went steps = let no : Some went.gave.rest ≡ None = sym went.gave.told in absurd (cc)
 finishes (Some a) held s (Some b) held1 s1 left2 held2 s2 r end is went steps =
-    let same : b ≡ went.rest = some_is went.told in
-    let stops : Stops b held1 s1 end left2 held2 s2 = subst (λ x. Steps (Some b) held1 s1 x left2 held2 s2) is steps in
-    stops_after a went.rest held held1 left2 held2 s s1 s2 end went.bad went.count went.over went.text (subst (λ x. Stops x held1 s1 end left2 held2 s2) same stops)
+    stops_after a b held held1 left2 held2 s s1 s2.player.trace end went (subst (λ x. Steps (Some b) held1 s1 x left2 held2 s2) is (steps went.fresh))
 
-pub finishes_err : (left held : Option (List ℕ)) (s : ReplayState) (left1 held1 : Option (List ℕ)) (s1 : ReplayState) (left2 held2 : Option (List ℕ)) (s2 : ReplayState) (r : Result (Option ReplayEnd) Failed) (e : Failed) (q : Result ReplayEnd Failed) (f : Failed)
-    → r ≡ Err e → q ≡ Err f → Went left held s left1 held1 s1 → Steps left1 held1 s1 r left2 held2 s2 → Finishes left held s q left2 held2 s2
-finishes_err None held s left1 held1 s1 left2 held2 s2 r e q f is so went steps = tt
-finishes_err (Some a) held s left1 held1 s1 left2 held2 s2 r e (Ok end) f is so went steps = absurd (cc)
-finishes_err (Some a) held s None held1 s1 left2 held2 s2 r e (Err g) f is so went steps = let no : Some went.rest ≡ None = sym went.told in absurd (cc)
-finishes_err (Some a) held s (Some b) held1 s1 left2 held2 s2 r e (Err g) f is so went steps =
-    let same : b ≡ went.rest = some_is went.told in
-    let took : Took held1 (text_ahead s1 b) held2 = subst (λ x. Steps (Some b) held1 s1 x left2 held2 s2) is steps in
-    owes_took held held1 held2 (text_ahead s a) (text_ahead s1 went.rest) went.text (subst (λ x. Took held1 (text_ahead s1 x) held2) same took)
+pub finishes_err : (left held : Option (List ℕ)) (s : ReplayState) (left1 held1 : Option (List ℕ)) (s1 : ReplayState) (left2 held2 : Option (List ℕ)) (s2 : ReplayState) (r : Result (Option ReplayEnd) Failed) (e : Failed) (q : Result ReplayEnd Failed) (f : Failed) (owed : List ℕ)
+    → r ≡ Err e → q ≡ Err f → Went left held s left1 held1 s1 → (s1.player.spent ≡ None → Steps left1 held1 s1 r left2 held2 s2) → Finishes left held s q left2 held2 owed
+finishes_err None held s left1 held1 s1 left2 held2 s2 r e q f owed is so went steps = tt
+finishes_err (Some a) held s left1 held1 s1 left2 held2 s2 r e (Ok end) f owed is so went steps = absurd (cc)
+finishes_err (Some a) held s None held1 s1 left2 held2 s2 r e (Err g) f owed is so went steps = let no : Some went.gave.rest ≡ None = sym went.gave.told in absurd (cc)
+finishes_err (Some a) held s (Some b) held1 s1 left2 held2 s2 r e (Err g) f owed is so went steps =
+    owes_after a b held held1 left2 held2 s s1 [] went (subst (λ x. Steps (Some b) held1 s1 x left2 held2 s2) is (steps went.fresh))
+
+-- the run has gone on for no step
+pub went_nowhere : (left held : Option (List ℕ)) (s : ReplayState) → s.player.spent ≡ None → Went left held s left held s
+went_nowhere None held s fresh = tt
+went_nowhere (Some a) held s fresh = record {
+  front = [];
+  gave = record { rest = a; told = refl; whole = refl };
+  fresh = fresh;
+  same = λ all more. refl;
+  text = λ all more. owes_same held (text_ahead all s more);
+}
 
 -- ---- the last writing
 
--- what is to be written is a beginning at least
-stops_part : (a : List ℕ) (held left2 held2 : Option (List ℕ)) (s s2 : ReplayState) (end : ReplayEnd) → Stops a held s end left2 held2 s2 → OwesPart held (text_ahead s a) held2 s2.player.trace
-stops_part a held left2 held2 s s2 Done stops = whole held held2 _ _ stops.3
-  where
-    whole : (old new : Option (List ℕ)) (t u : List ℕ) → Owes old t new u → OwesPart old t new u
-    whole old new t u owes = ([], subst (λ x. Owes old t new x) (sym (append-nil u)) owes)
-stops_part a held left2 held2 s s2 (BadLine n) stops = ([], subst (λ x. Owes held (text_ahead s a) held2 x) (sym (append-nil s2.player.trace)) stops.1)
-stops_part a held left2 held2 s s2 (Limit n) stops = ([], subst (λ x. Owes held (text_ahead s a) held2 x) (sym (append-nil s2.player.trace)) stops.3)
-stops_part a held left2 held2 s s2 ReadFault stops = stops
-stops_part a held left2 held2 s s2 WriteFault stops = absurd stops
-stops_part a held left2 held2 s s2 NoMemory stops = stops
+-- what was read and is owed is written, or a beginning of it
+written : (a : List ℕ) (held left2 held2 held3 : Option (List ℕ)) (s : ReplayState) (owed : List ℕ) (r : Result (Unit {0}) Failed) → OwesRead a held s left2 held2 owed → WritesText held2 owed r held3 → OwesRead a held s left2 held3 []
+written a held left2 held2 held3 s owed r owes wrote = record {
+  front = owes.front;
+  gave = owes.gave;
+  text = ⊎_elim (λ part. inl (wrote_some held held2 held3 _ owed r part wrote)) (λ part. inr (part.0, wrote_some held held2 held3 _ owed r part.1 wrote)) owes.text;
+}
 
-took_part : (a b c : Option (List ℕ)) (t u : List ℕ) (r : Result (Unit {0}) Failed) → OwesPart a t b u → WritesText b u r c → Took a t c
-took_part a b c t u r owes wrote = owes_took a b c t (u ++ owes.0) owes.1 (wrote_took b c u owes.0 r wrote)
-
-pub finished : (left held left2 held2 held3 : Option (List ℕ)) (s s2 : ReplayState) (r : Result ReplayEnd Failed) (end : ReplayEnd) (f : Result (Unit {0}) Failed) (x : Unit {0}) → r ≡ Ok end → f ≡ Ok x
-    → Finishes left held s r left2 held2 s2 → WritesText held2 s2.player.trace f held3 → Finished left held s (Ok end) left2 held3
-finished None held left2 held2 held3 s s2 r end f x is ok finishes wrote = tt
-finished (Some a) held left2 held2 held3 s s2 r end f x is ok finishes wrote =
-    stopped end (subst (λ q. Finishes (Some a) held s q left2 held2 s2) is finishes) (subst (λ q. WritesText held2 s2.player.trace q held3) ok wrote)
+pub finished : (left held left2 held2 held3 : Option (List ℕ)) (s : ReplayState) (r : Result ReplayEnd Failed) (end : ReplayEnd) (f : Result (Unit {0}) Failed) (x : Unit {0}) (owed : List ℕ) → r ≡ Ok end → f ≡ Ok x
+    → Finishes left held s r left2 held2 owed → WritesText held2 owed f held3 → Finishes left held s (Ok end) left2 held3 []
+finished None held left2 held2 held3 s r end f x owed is ok finishes wrote = tt
+finished (Some a) held left2 held2 held3 s r end f x owed is ok finishes wrote =
+    stopped end (subst (λ q. Finishes (Some a) held s q left2 held2 owed) is finishes) (subst (λ q. WritesText held2 owed q held3) ok wrote)
   where
-    stopped : (e : ReplayEnd) → Stops a held s e left2 held2 s2 → WritesText held2 s2.player.trace (Ok x) held3 → Stopped a held s e left2 held3
-    stopped Done stops w = (stops.0, stops.1, stops.2, owes_wrote held held2 held3 _ _ x stops.3 w)
-    stopped (BadLine n) stops w = (stops.0, owes_wrote held held2 held3 _ _ x stops.1 w)
-    stopped (Limit n) stops w = (stops.0, stops.1, stops.2, owes_wrote held held2 held3 _ _ x stops.3 w)
-    stopped ReadFault stops w = took_part held held2 held3 _ _ (Ok x) stops w
+    stopped : (e : ReplayEnd) → Stops a held s e left2 held2 owed → WritesText held2 owed (Ok x) held3 → Stops a held s e left2 held3 []
+    stopped Done stops w = (stops.0, stops.1, stops.2, stops.3, wrote_all held held2 held3 _ _ x stops.4 w)
+    stopped (BadLine n) stops w = (stops.0, stops.1, wrote_all held held2 held3 _ _ x stops.2 w, written a held left2 held2 held3 s owed (Ok x) stops.3 w)
+    stopped (Limit n) stops w = (stops.0, stops.1, wrote_all held held2 held3 _ _ x stops.2 w, written a held left2 held2 held3 s owed (Ok x) stops.3 w)
+    stopped ReadFault stops w = record {
+      front = stops.front;
+      gave = stops.gave;
+      good = stops.good;
+      within = stops.within;
+      short = stops.short;
+      text = wrote_all held held2 held3 _ _ x stops.text w;
+    }
     stopped WriteFault stops w = absurd stops
-    stopped NoMemory stops w = took_part held held2 held3 _ _ (Ok x) stops w
+    stopped NoMemory stops w = written a held left2 held2 held3 s owed (Ok x) stops w
 
-pub finished_err : (left held left2 held2 held3 : Option (List ℕ)) (s s2 : ReplayState) (r : Result ReplayEnd Failed) (end : ReplayEnd) (f : Result (Unit {0}) Failed) (q : Result ReplayEnd Failed) (e : Failed) → r ≡ Ok end → q ≡ Err e
-    → Finishes left held s r left2 held2 s2 → WritesText held2 s2.player.trace f held3 → Finished left held s q left2 held3
-finished_err None held left2 held2 held3 s s2 r end f q e is so finishes wrote = tt
-finished_err (Some a) held left2 held2 held3 s s2 r end f (Ok y) e is so finishes wrote = absurd (cc)
-finished_err (Some a) held left2 held2 held3 s s2 r end f (Err y) e is so finishes wrote =
-    took_part held held2 held3 _ _ f (stops_part a held left2 held2 s s2 end (subst (λ z. Finishes (Some a) held s z left2 held2 s2) is finishes)) wrote
+-- what is owed at each end is of what was read
+stops_read : (a : List ℕ) (held left2 held2 : Option (List ℕ)) (s : ReplayState) (owed : List ℕ) (end : ReplayEnd) → Stops a held s end left2 held2 owed → OwesRead a held s left2 held2 owed
+stops_read a held left2 held2 s owed Done stops = of_all a held held2 left2 s owed stops.3 stops.4
+stops_read a held left2 held2 s owed (BadLine n) stops = stops.3
+stops_read a held left2 held2 s owed (Limit n) stops = stops.3
+stops_read a held left2 held2 s owed ReadFault stops = record { front = stops.front; gave = stops.gave; text = inl (whole_part held held2 _ owed stops.text) }
+stops_read a held left2 held2 s owed WriteFault stops = absurd stops
+stops_read a held left2 held2 s owed NoMemory stops = stops
+
+pub finished_err : (left held left2 held2 held3 : Option (List ℕ)) (s : ReplayState) (r : Result ReplayEnd Failed) (end : ReplayEnd) (f : Result (Unit {0}) Failed) (q : Result ReplayEnd Failed) (e : Failed) (owed : List ℕ) → r ≡ Ok end → q ≡ Err e
+    → Finishes left held s r left2 held2 owed → WritesText held2 owed f held3 → Finishes left held s q left2 held3 []
+finished_err None held left2 held2 held3 s r end f q e owed is so finishes wrote = tt
+finished_err (Some a) held left2 held2 held3 s r end f (Ok y) e owed is so finishes wrote = absurd (cc)
+finished_err (Some a) held left2 held2 held3 s r end f (Err y) e owed is so finishes wrote =
+    written a held left2 held2 held3 s owed f (stops_read a held left2 held2 s owed end (subst (λ z. Finishes (Some a) held s z left2 held2 owed) is finishes)) wrote
 
 -- the count of the source's faults where the last writing failed
 pub faults_err : (end : ReplayEnd) (r : Result ReplayEnd Failed) (q : Result ReplayEnd Failed) (e : Failed) (old new : ℕ) → r ≡ Ok end → q ≡ Err e → LinesFaults r old new → SourceFaults q old new
@@ -360,49 +511,103 @@ faults_after end r old mid new is same counts = subst (λ m. EndFaults end m new
 -- ---- a run from the start
 
 abbrev pub start : ReplayState
-start = record { player = record { stage = None; count = 0; trace = [] }; held = []; room = max_script; number = 1 }
+start = record { player = record { stage = None; spent = None; trace = [] }; held = []; room = max_script; number = 1 }
 
-start_bad : (b : List ℕ) → bad_ahead start b ≡ (script b).bad
+start_bad : (b : List ℕ) → (ahead true start b).bad ≡ (script b).bad
 unfolding script
 start_bad b = refl
 
-start_text : (b : List ℕ) → text_ahead start b ≡ trace_of b
-unfolding trace_of journal_of script
+start_past : (b : List ℕ) → (ahead true start b).past ≡ (run_of_script b).over
+unfolding run_of_script script
+start_past b = refl
+
+start_text : (b : List ℕ) → text_ahead true start b ≡ trace_of b
+unfolding trace_of journal_of run_of_script script
 start_text b = refl
 
-start_count : (b : List ℕ) → count_ahead start b ≡ capped (length (journal_of b))
-unfolding journal_of script
-start_count b = let e : 0 + length (journal_of b) ≡ length (journal_of b) = omega arith in ap (λ n. capped n) e
+start_count : (b : List ℕ) → (ahead true start b).count ≡ length (journal_of b)
+unfolding journal_of run_of_script script
+start_count b = let e : 0 + length (journal_of b) ≡ length (journal_of b) = omega arith in e
 
-pub replayed : (left held left' held' : Option (List ℕ)) (end : ReplayEnd) → Finished left held start (Ok end) left' held' → Replays left held end left' held'
+ended_bad : (b : List ℕ) → (ahead false start b).bad ≡ (ended_script b).bad
+unfolding ended_script
+ended_bad b = refl
+
+ended_past : (b : List ℕ) → (ahead false start b).past ≡ (ended_run b).over
+unfolding ended_run ended_script
+ended_past b = refl
+
+ended_text : (b : List ℕ) → text_ahead false start b ≡ ended_trace b
+unfolding ended_trace ended_run ended_script
+ended_text b = refl
+
+-- a sink that owes nothing has taken all, or a beginning
+took_all : (h t u : List ℕ) (new : Option (List ℕ)) → t ≡ u → Owes (Some h) t new [] → TookAll h u new
+took_all h t u new is owes = owes.1 ∙ ap (λ x. Some (h ++ x)) (sym (append-nil owes.0) ∙ owes.2 ∙ is)
+
+took_part : (h t u : List ℕ) (new : Option (List ℕ)) → t ≡ u → OwesPart (Some h) t new [] → TookPart h u new
+took_part h t u new is owes = let one = owes.1 in (one.0, record { rest = owes.0; whole = one.2 ∙ is }, one.1)
+
+took_read : (b h : List ℕ) (left' held' : Option (List ℕ)) → OwesRead b (Some h) start left' held' [] → TookOfRead b h left' held'
+took_read b h left' held' owes = record {
+  read = owes.front;
+  gave = owes.gave;
+  trace = ⊎_elim (λ part. inl (took_part h _ _ held' (ended_text owes.front) part)) (λ part. inr (part.0, took_part h _ _ held' (start_text b) part.1)) owes.text;
+}
+
+passes_start : (b : List ℕ) → Passes (ahead true start b) → IsPastLimit b
+passes_start b passes =
+    ⊎_elim (λ past. inl (sym (start_past b) ∙ past)) (λ over. inr (sym (start_past b) ∙ over.0, sym (start_bad b) ∙ over.1, omega (arith, over.2))) passes
+
+ends : (b : List ℕ) (held left' held' : Option (List ℕ)) (end : ReplayEnd) → Stops b held start end left' held' [] → Ends b end × Leaves end left'
+ends b held left' held' Done done = ((sym (start_bad b) ∙ done.0, sym (start_past b) ∙ done.1, omega (arith, done.2)), done.3)
+ends b held left' held' (BadLine n) done = ((sym (start_bad b) ∙ done.0, sym (start_past b) ∙ done.1), tt)
+ends b held left' held' (Limit n) done = ((passes_start b done.0, done.1 ∙ start_count b), tt)
+ends b held left' held' ReadFault done = (tt, tt)
+ends b held left' held' WriteFault done = absurd done
+ends b held left' held' NoMemory done = (tt, tt)
+
+traces : (b h : List ℕ) (left' held' : Option (List ℕ)) (end : ReplayEnd) → Stops b (Some h) start end left' held' [] → Traces b h end left' held'
+traces b h left' held' Done done = took_all h _ _ held' (start_text b) done.4
+traces b h left' held' (BadLine n) done = took_all h _ _ held' (start_text b) done.2
+traces b h left' held' (Limit n) done = took_all h _ _ held' (start_text b) done.2
+traces b h left' held' ReadFault done = record {
+  read = done.front;
+  gave = done.gave;
+  short = omega (arith, done.short);
+  good = sym (ended_bad done.front) ∙ done.good;
+  within = sym (ended_past done.front) ∙ done.within;
+  trace = took_all h _ _ held' (ended_text done.front) done.text;
+}
+traces b h left' held' WriteFault done = absurd done
+traces b h left' held' NoMemory done = took_read b h left' held' done
+
+pub replayed : (left held left' held' : Option (List ℕ)) (end : ReplayEnd) → Finishes left held start (Ok end) left' held' [] → Replays left held end left' held'
 replayed None held left' held' end done = tt
-replayed (Some b) None left' held' Done done = ((sym (start_bad b) ∙ done.0, omega (arith, done.1)), done.2)
-replayed (Some b) None left' held' (BadLine n) done = (sym (start_bad b) ∙ done.0, tt)
-replayed (Some b) None left' held' (Limit n) done = ((sym (start_bad b) ∙ done.0, omega (arith, done.1), done.2 ∙ start_count b), tt)
-replayed (Some b) None left' held' ReadFault done = (tt, tt)
-replayed (Some b) None left' held' WriteFault done = absurd done
-replayed (Some b) None left' held' NoMemory done = (tt, tt)
-replayed (Some b) (Some h) left' held' Done done = ((sym (start_bad b) ∙ done.0, omega (arith, done.1)), done.2, subst (λ t. TookAll h t held') (start_text b) done.3)
-replayed (Some b) (Some h) left' held' (BadLine n) done = (sym (start_bad b) ∙ done.0, tt, subst (λ t. TookAll h t held') (start_text b) done.1)
-replayed (Some b) (Some h) left' held' (Limit n) done = ((sym (start_bad b) ∙ done.0, omega (arith, done.1), done.2 ∙ start_count b), tt, subst (λ t. TookAll h t held') (start_text b) done.3)
-replayed (Some b) (Some h) left' held' ReadFault done = (tt, tt, subst (λ t. TookPart h t held') (start_text b) done)
-replayed (Some b) (Some h) left' held' WriteFault done = absurd done
-replayed (Some b) (Some h) left' held' NoMemory done = (tt, tt, subst (λ t. TookPart h t held') (start_text b) done)
+replayed (Some b) None left' held' end done = ends b None left' held' end done
+replayed (Some b) (Some h) left' held' end done = let why = ends b (Some h) left' held' end done in (why.0, why.1, traces b h left' held' end done)
 
 -- the trace could not be written
-pub unwritten : (left held left' held' : Option (List ℕ)) (r : Result ReplayEnd Failed) (e : Failed) → r ≡ Err e → Finished left held start r left' held' → Replays left held WriteFault left' held' × Replays left held NoMemory left' held'
+pub unwritten : (left held left' held' : Option (List ℕ)) (r : Result ReplayEnd Failed) (e : Failed) → r ≡ Err e → Finishes left held start r left' held' [] → Replays left held WriteFault left' held' × Replays left held NoMemory left' held'
 unwritten None held left' held' r e is done = (tt, tt)
 unwritten (Some b) held left' held' (Ok end) e is done = absurd (cc)
 unwritten (Some b) None left' held' (Err y) e is done = ((tt, tt), (tt, tt))
 unwritten (Some b) (Some h) left' held' (Err y) e is done =
-    let took = subst (λ t. TookPart h t held') (start_text b) done in
-    ((tt, tt, took), (tt, tt, took))
+    let took = took_read b h left' held' done in ((tt, tt, took), (tt, tt, took))
 
 -- there was no memory for a run
 pub unstarted : (left held : Option (List ℕ)) → Replays left held NoMemory left held
 unstarted None held = tt
 unstarted (Some b) None = (tt, tt)
-unstarted (Some b) (Some h) = (tt, tt, ([], record { rest = trace_of b; whole = refl }, ap (λ x. Some x) (sym (append-nil h))))
+unstarted (Some b) (Some h) = (
+  tt,
+  tt,
+  record {
+    read = [];
+    gave = record { rest = b; told = refl; whole = refl };
+    trace = inl ([], record { rest = ended_trace []; whole = refl }, ap (λ x. Some x) (sym (append-nil h)));
+  },
+)
 
 -- the counts of faults
 pub sink_faults : (end : ReplayEnd) (old new mid mid' : ℕ) → EndFaults end mid mid' → new ≡ old → new ≡ write_faults end old

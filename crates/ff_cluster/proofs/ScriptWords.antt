@@ -5,7 +5,9 @@ use Rattle.std.proofs.lemmas.Bool.Decides.{nat_tests}
 use Rattle.ff_cluster.specs.declared.line.Setup.{Setup}
 use Rattle.ff_cluster.specs.declared.line.Setup.TheVariants.{Bare}
 use Rattle.ff_cluster.specs.Digits.{bytes_of_digits}
-use Rattle.ff_cluster.specs.Line.{EventValue, Deliver, LineValue, Nothing, SetupLine, EventLine, line_at, words_at, setup_at, event_at, behind, short_record, max_record, ◌>>=◌}
+use Rattle.ff_cluster.specs.Line.{LineValue, Nothing, SetupLine, EventLine, line_at, words_at, setup_at, deliver_at, restart_at, event_at, first_of, behind, short_record, max_record, ◌>>=◌}
+use Rattle.cluster_model.specs.declared.piece.Piece.{Piece}
+use Rattle.cluster_model.specs.Event.{EventValue, Deliver, Restart}
 
 -- the steps of a `do` that gave a value
 bind_some : {A B : Type 0} (o : Option A) (f : A → Option B) (y : B) → (o >>= f) ≡ Some y → (x : A) × (o ≡ Some x) × (f x ≡ Some y)
@@ -23,9 +25,20 @@ setup_none (Some s) e h = cc
 short_bytes : (bytes few : List ℕ) → short_record bytes ≡ Some few → length few ≤ max_record
 short_bytes bytes few h = grind (arith, nat_tests)
 
+-- a restart is no delivery
+no_deliver : (b : Bool) (pieces : Option (List Piece)) (bytes : List ℕ) → cond b (Some (Restart [])) (option_map Restart pieces) ≡ Some (Deliver bytes) → ⊥
+no_deliver true pieces bytes h = cc
+no_deliver false None bytes h = cc
+no_deliver false (Some ps) bytes h = cc
+
+first_deliver : (one two : Option EventValue) (bytes : List ℕ) → first_of one two ≡ Some (Deliver bytes) → (two ≡ Some (Deliver bytes) → ⊥) → one ≡ Some (Deliver bytes)
+first_deliver (Some e) two bytes h never = h
+first_deliver None two bytes h never = absurd (never h)
+
 event_short : (text bytes : List ℕ) → event_at text ≡ Some (Deliver bytes) → length bytes ≤ max_record
 event_short text bytes h =
-    let one = bind_some (behind (codes "deliver ") text) _ (Deliver bytes) h in
+    let delivers = first_deliver (deliver_at text) (restart_at text) bytes h (no_deliver _ _ bytes) in
+    let one = bind_some (behind (codes "deliver ") text) _ (Deliver bytes) delivers in
     let two = bind_some (bytes_of_digits one.0) _ (Deliver bytes) one.2 in
     let three = bind_some (short_record two.0) _ (Deliver bytes) two.2 in
     let same : three.0 ≡ bytes = let e = three.2 in cc in

@@ -13,7 +13,8 @@ use Rattle.hex.specs.Hex.{IsBytes, encode_with, encode_lower, decode_of, decode_
 use Rattle.hex.proofs.HexLemmas.{length-encode_with, decode_of-encode_lower, decode_of-digits, decode_of-ok, decode_of-odd, decode_of-even}
 use Rattle.hex.proofs.Pairs.{cons_byte, decode_pairs-ok_pair}
 use Rattle.std.proofs.lemmas.Slice.Eq.{bytes_eq-Decides}
-use Rattle.ff_cluster.specs.Digits.{is_digit, bytes_of_pairs, bytes_of_digits, text_of_bytes}
+use Rattle.ff_cluster.specs.Digits.{is_digit, bytes_of_pairs, bytes_of_digits}
+use Rattle.cluster_model.specs.Print.{text_of_bytes}
 
 -- the digits of joined bytes
 pub encode_with-append : (t xs ys : List ℕ) → encode_with t (xs ++ ys) ≡ encode_with t xs ++ encode_with t ys

@@ -3,12 +3,7 @@ use Rattle.std.specs.Prelude.{ℕ, Bool, ◌&&◌, ◌||◌, nat_le, List, [], �
 use Rattle.std.specs.List.{list_all}
 use Rattle.std.specs.Result.{result_ok, result_unwrap_or}
 use Rattle.std.specs.Str.{bytes_eq}
-use Rattle.hex.specs.Hex.{encode_lower, decode_of}
-
--- the text of some bytes
-abbrev pub text_of_bytes : List ℕ → List ℕ
-text_of_bytes [] = codes "-"
-text_of_bytes (byte ∷ rest) = encode_lower (byte ∷ rest)
+use Rattle.hex.specs.Hex.{decode_of}
 
 -- a digit: `0` to `9` are 48 to 57, and `a` to `f` are 97 to 102
 abbrev pub is_digit : ℕ → Bool

@@ -1,7 +1,6 @@
 pub mod Digits
-pub mod Print
+pub mod Pieces
 pub mod Line
-pub mod Prints
 pub mod Lines
 pub mod World
 pub mod Script

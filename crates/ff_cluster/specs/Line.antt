@@ -7,11 +7,9 @@ use Rattle.ff_cluster.specs.declared.line.Event.{Event}
 use Rattle.ff_cluster.specs.declared.line.Event.TheVariants as event
 use Rattle.ff_cluster.specs.declared.line.Line.{Line}
 use Rattle.ff_cluster.specs.declared.line.Line.TheVariants as line
+use Rattle.cluster_model.specs.Event.{EventValue, Deliver, Restart}
 use Rattle.ff_cluster.specs.Digits.{bytes_of_digits}
-
--- what happens next
-pub data EventValue : Type 0 where
-  Deliver : List ℕ → EventValue
+use Rattle.ff_cluster.specs.Pieces.{pieces_at}
 
 -- what a line says
 pub data LineValue : Type 0 where
@@ -35,17 +33,32 @@ infixl 10 ◌>>=◌
 abbrev pub ◌>>=◌ : {A B : Type 0} → Option A → (A → Option B) → Option B
 o >>= f = option_and_then f o
 
+-- the first of two that is there
+abbrev pub first_of : {A : Type 0} → Option A → Option A → Option A
+first_of (Some a) other = Some a
+first_of None other = other
+
 -- the line that chooses the setup: `bare`
 abbrev pub setup_at : List ℕ → Option Setup
 setup_at text = if bytes_eq text (codes "bare") then Some Bare else None
 
--- the line of an event: `deliver`, one space and a record
-abbrev pub event_at : List ℕ → Option EventValue
-event_at text = do
+-- `deliver`, one space and a record
+abbrev pub deliver_at : List ℕ → Option EventValue
+deliver_at text = do
   digits ← behind (codes "deliver ") text
   bytes ← bytes_of_digits digits
   few ← short_record bytes
   Some (Deliver few)
+
+-- `restart d1`, alone or with one space and pieces
+abbrev pub restart_at : List ℕ → Option EventValue
+restart_at text =
+    if bytes_eq text (codes "restart d1") then Some (Restart [])
+    else option_map Restart (behind (codes "restart d1 ") text >>= pieces_at)
+
+-- the line of an event
+abbrev pub event_at : List ℕ → Option EventValue
+event_at text = first_of (deliver_at text) (restart_at text)
 
 -- a line of words, by the setup that was chosen
 abbrev pub words_at : Option Setup → List ℕ → Option LineValue
@@ -60,6 +73,7 @@ line_at setup (c ∷ rest) = if c == 35 then Some Nothing else words_at setup (c
 -- what the code's event says
 abbrev pub event_value : Event → EventValue
 event_value (event.Deliver bytes) = Deliver bytes
+event_value (event.Restart pieces) = Restart pieces
 
 -- what the code's line says
 abbrev pub line_value : Line → LineValue

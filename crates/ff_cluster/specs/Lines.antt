@@ -1,7 +1,7 @@
 -- Lines of bytes, each ended by a newline, which is the byte 10, and how they are read within a budget.
 use Rattle.std.specs.Prelude.{◌≡◌, ℕ, zero, suc, ◌+◌, ◌≤◌, ◌==◌, nat_le, Bool, true, false, if◌then◌else◌, List, [], ◌∷◌, ◌++◌, length, take, Option, None, Some, Result, Ok, Err}
 use Rattle.rpc_record.specs.declared.stream.Failed.{Failed}
-use Rattle.rpc_record.specs.declared.stream.Failed.TheVariants.{NoMemory}
+use Rattle.rpc_record.specs.declared.stream.Failed.TheVariants.{Fault, NoMemory}
 use Rattle.ff_cluster.specs.declared.lines.Ended.{Ended}
 use Rattle.ff_cluster.specs.declared.lines.Ended.TheVariants.{Newline, End, Over as RanOver}
 
@@ -47,32 +47,49 @@ ended_lines (b ∷ bs) = if b == 10 then [] ∷ ended_lines bs else onto_ended b
 unfoldable pub script_lines : ℕ → List ℕ → List (List ℕ)
 script_lines budget bytes = if nat_le (length bytes) budget then lines_of bytes else ended_lines (take budget bytes)
 
--- The line was cut off the front of these bytes, and what stands behind it is what is held and what is left.
-pub record CutsLine (budget : ℕ) (all line held : List ℕ) (left : Option (List ℕ)) : Type 0 where
+-- The source gave the front of what it had left.
+pub record Drawn (left : List ℕ) (left' : Option (List ℕ)) : Type 0 where
+  pub front : List ℕ
   pub rest : List ℕ
-  pub told : left ≡ Some rest
-  pub cut : cut_line budget all ≡ Line line (held ++ rest)
+  pub told : left' ≡ Some rest
+  pub whole : front ++ rest ≡ left
 
--- The line is all of these bytes, and nothing is held or left.
-pub record CutsLast (budget : ℕ) (all line held : List ℕ) (left : Option (List ℕ)) : Type 0 where
-  pub cut : cut_line budget all ≡ Last line
-  pub none_held : held ≡ []
-  pub none_left : left ≡ Some []
+-- The line was cut off the bytes that were held and those that the source gave, and what stands behind it is held.
+pub record CutsLine (budget : ℕ) (held left line held' : List ℕ) (left' : Option (List ℕ)) : Type 0 where
+  pub drawn : Drawn left left'
+  pub cut : cut_line budget (held ++ drawn.front) ≡ Line line held'
 
--- No byte of these is lost: they are the line, what is held and what is left.
-pub record Keeps (all line held : List ℕ) (left : Option (List ℕ)) : Type 0 where
-  pub rest : List ℕ
-  pub told : left ≡ Some rest
-  pub kept : line ++ (held ++ rest) ≡ all
+-- The line is all of the bytes, and nothing is held or left.
+pub record CutsLast (budget : ℕ) (held left line held' : List ℕ) (left' : Option (List ℕ)) : Type 0 where
+  pub cut : cut_line budget (held ++ left) ≡ Last line
+  pub none_held : held' ≡ []
+  pub none_left : left' ≡ Some []
+
+-- No byte is lost: those that were held and those that the source gave are the line and what is held.
+pub record Keeps (held left line held' : List ℕ) (left' : Option (List ℕ)) : Type 0 where
+  pub drawn : Drawn left left'
+  pub kept : line ++ held' ≡ held ++ drawn.front
+
+-- The bytes run past the budget with no newline.
+pub record RunsOver (budget : ℕ) (held left line held' : List ℕ) (left' : Option (List ℕ)) : Type 0 where
+  pub keeps : Keeps held left line held' left'
+  pub cut : cut_line budget (held ++ keeps.drawn.front) ≡ Over
+
+-- The source failed: the line so far is all that it gave, within the budget and with no newline.
+pub record BreaksOff (budget : ℕ) (held left line held' : List ℕ) (left' : Option (List ℕ)) : Type 0 where
+  pub keeps : Keeps held left line held' left'
+  pub none_held : held' ≡ []
+  pub cut : cut_line budget line ≡ Last line
 
 -- What reading a line did. A buffer held the first bytes and the source tells that the next are left;
 -- then come the result and the line, and what is held and left afterwards.
 abbrev pub ReadsLine : ℕ → List ℕ → Option (List ℕ) → Result Ended Failed → List ℕ → List ℕ → Option (List ℕ) → Type 0
 ReadsLine budget held None result line held' left' = left' ≡ None
-ReadsLine budget held (Some left) (Ok Newline) line held' left' = CutsLine budget (held ++ left) line held' left'
-ReadsLine budget held (Some left) (Ok End) line held' left' = CutsLast budget (held ++ left) line held' left'
-ReadsLine budget held (Some left) (Ok RanOver) line held' left' = (cut_line budget (held ++ left) ≡ Over) × Keeps (held ++ left) line held' left'
-ReadsLine budget held (Some left) (Err e) line held' left' = Keeps (held ++ left) line held' left'
+ReadsLine budget held (Some left) (Ok Newline) line held' left' = CutsLine budget held left line held' left'
+ReadsLine budget held (Some left) (Ok End) line held' left' = CutsLast budget held left line held' left'
+ReadsLine budget held (Some left) (Ok RanOver) line held' left' = RunsOver budget held left line held' left'
+ReadsLine budget held (Some left) (Err Fault) line held' left' = BreaksOff budget held left line held' left'
+ReadsLine budget held (Some left) (Err NoMemory) line held' left' = Keeps held left line held' left'
 
 -- how much of the budget a line took
 abbrev pub IsWithin : ℕ → Ended → List ℕ → Type 0
@@ -80,12 +97,13 @@ IsWithin budget Newline line = length line + 1 ≤ budget
 IsWithin budget End line = length line ≤ budget
 IsWithin budget RanOver line = length line ≤ budget
 
--- What filling a buffer did that may hold bytes already: it holds some, or there are none, and nothing is lost.
+-- What filling a buffer did that may hold bytes already: it holds some, or there are none, and nothing is lost. The source
+-- is asked only where none was held.
 abbrev pub Refills : List ℕ → Option (List ℕ) → Result Bool Failed → List ℕ → Option (List ℕ) → Type 0
 Refills held None result held' left' = left' ≡ None
-Refills held (Some left) (Ok true) held' left' = Keeps (held ++ left) [] held' left'
-Refills held (Some left) (Ok false) held' left' = (held ++ left ≡ []) × (left' ≡ Some [])
-Refills held (Some left) (Err e) held' left' = Keeps (held ++ left) [] held' left'
+Refills held (Some left) (Ok true) held' left' = Keeps held left [] held' left'
+Refills held (Some left) (Ok false) held' left' = (held ≡ []) × (held' ≡ []) × (left ≡ []) × (left' ≡ Some [])
+Refills held (Some left) (Err e) held' left' = (held ≡ []) × (held' ≡ []) × (left' ≡ Some left)
 
 -- What taking a line from held bytes did, where there was room for so many more: a line and its newline were moved behind
 -- the line's old bytes; or there is no newline within the room; or all was moved.

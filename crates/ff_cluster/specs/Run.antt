@@ -1,10 +1,9 @@
 -- The top call: what the words ask for, what was done, and what is said of it.
-use Rattle.std.specs.Prelude.{◌≡◌, ℕ, Bool, true, false, List, [], ◌∷◌, ◌++◌, codes, decimal, Option, Some, None, Result, Ok, Err}
+use Rattle.std.specs.Prelude.{◌≡◌, ℕ, Bool, true, false, List, [], ◌∷◌, ◌++◌, codes, decimal, Option, Result, Ok, Err}
 use Rattle.std.specs.Str.{bytes_eq}
 use Rattle.rpc_record.specs.declared.stream.Failed.{Failed}
 use Rattle.rpc_record.specs.declared.stream.Failed.TheVariants as failed
 use Rattle.rpc_record.specs.Stream.{counted}
-use Rattle.ff_cluster.specs.declared.replay.ReplayEnd.{ReplayEnd}
 use Rattle.ff_cluster.specs.declared.replay.ReplayEnd.TheVariants.{Done, BadLine, ReadFault, WriteFault, NoMemory, Limit}
 use Rattle.ff_cluster.specs.declared.run.Outcome.{Outcome}
 use Rattle.ff_cluster.specs.declared.run.Outcome.TheVariants.{Usage, Ended}

@@ -1,13 +1,13 @@
 -- What a script says, and the trace of it.
-use Rattle.std.specs.Prelude.{◌≡◌, ℕ, ◌+◌, List, [], ◌∷◌, ◌++◌, length, Option, Some, None}
-use Rattle.std.specs.Option.{option_map}
-use Rattle.ds_files.specs.declared.entry.Entry.{Entry}
+use Rattle.std.specs.Prelude.{ℕ, ◌+◌, List, [], ◌∷◌, take, Option, Some, None}
+use Rattle.cluster_model.specs.declared.entry.Entry.{Entry}
 use Rattle.ff_cluster.specs.declared.line.Setup.{Setup}
 use Rattle.ff_cluster.specs.declared.line.Setup.TheVariants.{Bare}
-use Rattle.ff_cluster.specs.Lines.{script_lines}
-use Rattle.ff_cluster.specs.Line.{LineValue, Nothing, SetupLine, EventLine, EventValue, line_at}
-use Rattle.ff_cluster.specs.Print.{print}
-use Rattle.ff_cluster.specs.World.{WorldState, preset_world, world_step, journal}
+use Rattle.ff_cluster.specs.Lines.{script_lines, ended_lines}
+use Rattle.ff_cluster.specs.Line.{LineValue, Nothing, SetupLine, EventLine, line_at}
+use Rattle.cluster_model.specs.Event.{EventValue}
+use Rattle.cluster_model.specs.Print.{print}
+use Rattle.ff_cluster.specs.World.{WorldState, WorldStep, preset_world, world_step, Run, run_of}
 
 -- the events of the lines before the first that is outside the grammar, and that line's number, from 1
 pub record Script : Type 0 where
@@ -37,13 +37,25 @@ max_script = 67108864
 unfoldable pub script : List ℕ → Script
 script bytes = script_of 1 None (script_lines max_script bytes)
 
--- the journal of a script, and its text
+-- The run of a script, its journal, and its text. A run ends before an event that would pass a limit.
+unfoldable pub run_of_script : List ℕ → Run
+run_of_script bytes = run_of preset_world (script bytes).events
+
 unfoldable pub journal_of : List ℕ → List Entry
-unfolding script
-journal_of bytes = journal preset_world (script bytes).events
+journal_of bytes = (run_of_script bytes).entries
 
 unfoldable pub trace_of : List ℕ → List ℕ
 trace_of bytes = print (journal_of bytes)
+
+-- What the lines say that end in a newline: all that is known of bytes whose source failed behind them.
+unfoldable pub ended_script : List ℕ → Script
+ended_script bytes = script_of 1 None (ended_lines (take max_script bytes))
+
+unfoldable pub ended_run : List ℕ → Run
+ended_run bytes = run_of preset_world (ended_script bytes).events
+
+unfoldable pub ended_trace : List ℕ → List ℕ
+ended_trace bytes = print (ended_run bytes).entries
 
 -- ---- a run, line by line
 
@@ -56,16 +68,33 @@ abbrev pub world_of : Option WorldState → WorldState
 world_of None = preset_world
 world_of (Some w) = w
 
--- the world after a line, and the entries that it adds
-pub record Played : Type 0 where
-  pub stage : Option WorldState
-  pub entries : List Entry
+-- how many entries the journal has
+abbrev pub count_of : Option WorldState → ℕ
+count_of None = 0
+count_of (Some w) = w.count
 
-abbrev pub played_by : Option WorldState → Option LineValue → Option Played
-played_by stage None = None
-played_by stage (Some Nothing) = Some (record { stage = stage; entries = [] })
-played_by stage (Some (SetupLine chosen)) = Some (record { stage = Some preset_world; entries = [] })
-played_by stage (Some (EventLine event)) = Some (record { stage = Some (world_step (world_of stage) event).world; entries = (world_step (world_of stage) event).entries })
+-- What a line does: it is outside the grammar; its event would pass a limit; or the run goes on from another world, with
+-- these entries more.
+pub data Played : Type 0 where
+  Outside : Played
+  Limited : Played
+  Goes : (stage : Option WorldState) (entries : List Entry) → Played
 
-abbrev pub played : Option WorldState → List ℕ → Option Played
+abbrev pub played_step : Option WorldStep → Played
+played_step None = Limited
+played_step (Some step) = Goes (Some step.world) step.entries
+
+abbrev pub played_by : Option WorldState → Option LineValue → Played
+played_by stage None = Outside
+played_by stage (Some Nothing) = Goes stage []
+played_by stage (Some (SetupLine chosen)) = Goes (Some preset_world) []
+played_by stage (Some (EventLine event)) = played_step (world_step (world_of stage) event)
+
+abbrev pub played : Option WorldState → List ℕ → Played
 played stage line = played_by stage (line_at (setup_of stage) line)
+
+-- the entries that it adds
+abbrev pub entries_by : Played → List Entry
+entries_by Outside = []
+entries_by Limited = []
+entries_by (Goes stage entries) = entries

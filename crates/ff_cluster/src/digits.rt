@@ -4,7 +4,8 @@ ghost use Rattle.std.specs.Prelude.{◌≡◌, ◌≤◌, ◌↔◌, [], length,
 ghost use Rattle.std.specs.List.{list_all};
 ghost use Rattle.ff_xdr.specs.Calls.{Puts, Grows};
 ghost use Rattle.hex.specs.Hex.{encode_lower};
-ghost use Rattle.ff_cluster.specs.Digits.{text_of_bytes, is_digit, bytes_of_digits};
+ghost use Rattle.ff_cluster.specs.Digits.{is_digit, bytes_of_digits};
+ghost use Rattle.cluster_model.specs.Print.{text_of_bytes};
 
 use ff_xdr::{NoMemory, Out};
 use std::alloc::Global;

@@ -1,9 +1,10 @@
 //! The lines of a script.
 
 ghost use Rattle.std.specs.Prelude.{◌≡◌, option_map};
-ghost use Rattle.ff_cluster.specs.Line.{line_at, line_value, event_value, event_at, setup_at};
+ghost use Rattle.ff_cluster.specs.Line.{line_at, line_value, event_value, deliver_at, restart_at, event_at, setup_at};
 
 use crate::digits::Digits;
+use crate::pieces::PieceList;
 
 /// The longest record that a line may hold, in bytes.
 pub const MAX_RECORD: usize = 1_179_648;
@@ -20,6 +21,8 @@ pub enum Setup {
 pub enum Event<'a> {
     /// A record arrives.
     Deliver(Digits<'a>),
+    /// The data server starts again, with these pieces of its pending writes on its disk.
+    Restart(PieceList<'a>),
 }
 
 /// What a line of a script says.
@@ -33,13 +36,34 @@ pub enum Line<'a> {
     Event(Event<'a>),
 }
 
-/// An event's line: `deliver`, one space and a record of at most `MAX_RECORD` bytes.
-fn parse_event(line: &[u8]) -> Option<Event<'_>>
-    ensures { option_map event_value result ≡ event_at line.now }
+/// A delivery's line: `deliver`, one space and a record of at most `MAX_RECORD` bytes.
+fn parse_deliver(line: &[u8]) -> Option<Event<'_>>
+    ensures { option_map event_value result ≡ deliver_at line.now }
 {
     let text = line.strip_prefix(b"deliver ")?;
     let digits = Digits::read(text)?;
     (digits.len() <= MAX_RECORD).then_some(Event::Deliver(digits))
+}
+
+/// A restart's line: `restart d1`, alone or with one space and pieces.
+fn parse_restart(line: &[u8]) -> Option<Event<'_>>
+    ensures { option_map event_value result ≡ restart_at line.now }
+{
+    if line == b"restart d1".as_slice() {
+        return Some(Event::Restart(PieceList::none()));
+    }
+    let text = line.strip_prefix(b"restart d1 ")?;
+    Some(Event::Restart(PieceList::read(text)?))
+}
+
+/// An event's line: a delivery's or a restart's.
+fn parse_event(line: &[u8]) -> Option<Event<'_>>
+    ensures { option_map event_value result ≡ event_at line.now }
+{
+    match parse_deliver(line) {
+        Some(event) => Some(event),
+        None => parse_restart(line),
+    }
 }
 
 /// The setup's line: `bare`.

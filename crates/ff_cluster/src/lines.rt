@@ -57,7 +57,7 @@ impl LineBuffer {
     ///
     /// `Ended::End` with an empty line is the end of the bytes. `Ended::Over` is a line that runs past
     /// the budget, and an error one of the source's or of memory: then `line` is its beginning, and no
-    /// byte is lost.
+    /// byte is lost. Where the source failed, `line` has all that was read, and no byte is held.
     pub fn read_line<S: Source>(
         &mut self,
         source: &mut S,

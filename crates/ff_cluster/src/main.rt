@@ -7,6 +7,9 @@ pub mod lines;
 mod lines_law;
 #[cfg(test)]
 mod lines_tests;
+pub mod pieces;
+#[cfg(test)]
+mod pieces_tests;
 mod player;
 pub mod print;
 mod print_law;

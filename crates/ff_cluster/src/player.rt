@@ -1,14 +1,15 @@
 //! A run of a script, line by line.
 
-ghost use Rattle.std.specs.Prelude.{◌≡◌, ◌+◌, ◌<◌, ◌≤◌, ◌^◌, [], None, OnOk, OnErr, IsSome};
+ghost use Rattle.std.specs.Prelude.{◌≡◌, ◌≢◌, ◌≤◌, ◌↔◌, IsTrue, length, [], None, OnOk, OnErr, IsSome};
 ghost use Rattle.rpc_record.specs.Stream.{counted};
 ghost use Rattle.ff_cluster.specs.Line.{event_value};
-ghost use Rattle.ff_cluster.specs.Script.{setup_of};
-ghost use Rattle.ff_cluster.specs.Player.{Plays, Happens, sent_of};
+ghost use Rattle.ff_cluster.specs.Script.{setup_of, world_of, count_of, played, played_step};
+ghost use Rattle.ff_cluster.specs.World.{world_step};
+ghost use Rattle.ff_cluster.specs.Player.{Does, full};
 ghost use Rattle.ff_cluster.specs.Writing.{WritesText};
 
 use crate::line::{Event, Line, Setup, parse_line};
-use crate::world::World;
+use crate::world::{World, WorldFault};
 use crate::writing::{print_entries, write_all};
 use ff_xdr::{NoMemory, Out};
 use rpc_record::{Failed, Sink};
@@ -18,44 +19,63 @@ use std::marker::Model;
 /// The trace is written once it has so many bytes.
 const FULL: usize = 65_536;
 
+/// What a line did.
+#[derive(Clone, Copy, Debug, PartialEq, Eq)]
+pub enum Played {
+    /// It was played.
+    Done,
+    /// Nothing: it is outside the grammar.
+    Outside,
+    /// Its event would pass a limit.
+    Limited,
+}
+
 /// The world that a script has made so far, and the trace that is not yet written.
 #[derive(Drop)]
 pub struct Player {
     alloc: Global,
     stage: Option<World>,
-    count: u64,
     trace: Out,
 }
 
 impl Model for Player {
-    ghost use Rattle.std.specs.Prelude.{◌<◌, ◌^◌};
-    ghost use Rattle.ff_cluster.specs.Player.{PlayerState};
+    ghost use Rattle.ff_cluster.specs.Player.{PlayerState, player_of};
 
     ghost Value = { PlayerState };
 
-    ghost view = { λ p. record { stage = p.stage; count = p.count; trace = p.trace } };
-
-    ghost invariant = { λ p. p.count < 2 ^ 64 };
+    ghost view = { λ p. player_of p.stage p.trace };
 }
 
 impl Player {
     /// Before the first line; takes no memory.
     pub fn new(alloc: Global) -> Player
-        ensures { result ≡ record { stage = None; count = 0; trace = [] } }
+        ensures { result ≡ record { stage = None; spent = None; trace = [] } }
     {
         Player {
             alloc,
             stage: None,
-            count: 0,
             trace: Out::new(alloc),
         }
     }
 
-    /// How many entries the journal has so far. The count stands still at `u64::MAX`.
+    /// Behind the setup's line, where the limits leave so many entries and so many bytes.
+    #[cfg(test)]
+    pub(crate) fn near_limits(alloc: Global, entries: u8, hex: u16) -> Result<Player, NoMemory> {
+        Ok(Player {
+            alloc,
+            stage: Some(World::near_limits(alloc, entries, hex)?),
+            trace: Out::new(alloc),
+        })
+    }
+
+    /// How many entries the journal has so far.
     pub fn count(&self) -> u64
-        ensures { result ≡ self.now.count }
+        ensures { result ≡ count_of self.now.stage }
     {
-        self.count
+        match &self.stage {
+            None => 0,
+            Some(world) => world.count(),
+        }
     }
 
     /// The setup that the script has chosen.
@@ -69,43 +89,48 @@ impl Player {
     }
 
     /// Lets an event happen, and prints its entries.
-    fn happen(&mut self, event: &Event<'_>) -> Result<bool, NoMemory>
-        requires sent { sent_of self.old.stage + 2 < 2 ^ 64 }
+    fn happen(&mut self, event: &Event<'_>) -> Result<Played, NoMemory>
         requires stage { IsSome self.old.stage }
-        ensures plays { Happens self.old (event_value event.now) result self.new }
-        ensures sent { sent_of self.new.stage ≤ sent_of self.old.stage + 2 }
+        ensures does { self.old.spent ≡ None → Does self.old (played_step (world_step (world_of self.old.stage) (event_value event.now))) result self.new }
+        ensures spent { self.old.spent ≢ None → self.new ≡ self.old }
     {
         let mut entries = Vec::new(self.alloc);
-        match &mut self.stage {
+        let happened = match &mut self.stage {
             None => unreachable!(),
-            Some(world) => world.step(event, &mut entries)?,
+            Some(world) => world.step(event, &mut entries),
+        };
+        match happened {
+            Ok(()) => {
+                print_entries(&entries, &mut self.trace)?;
+                Ok(Played::Done)
+            }
+            Err(WorldFault::Limit { .. }) => Ok(Played::Limited),
+            Err(WorldFault::NoMemory) => Err(NoMemory),
         }
-        print_entries(&entries, &mut self.trace)?;
-        self.count = self.count.saturating_add(entries.len() as u64);
-        Ok(true)
     }
 
-    /// Plays a line, and prints the entries that it adds to the journal. `false` is a line outside the
-    /// grammar, and nothing has changed. At an error a beginning of the entries is printed, and the
-    /// player is spent.
-    pub fn play(&mut self, line: &[u8]) -> Result<bool, NoMemory>
-        requires { sent_of self.old.stage + 2 < 2 ^ 64 }
-        ensures plays { Plays self.old line.now result self.new }
-        ensures sent { sent_of self.new.stage ≤ sent_of self.old.stage + 2 }
+    /// Plays a line, and prints the entries that it adds to the journal. At an error a beginning of the
+    /// entries is printed, and the player is not to be used again. A world that is spent stays so, and
+    /// nothing changes.
+    pub fn play(&mut self, line: &[u8]) -> Result<Played, NoMemory>
+        ensures does { self.old.spent ≡ None → Does self.old (played self.old.stage line.now) result self.new }
+        ensures spent { self.old.spent ≢ None → self.new ≡ self.old }
     {
         match parse_line(self.setup(), line) {
-            None => Ok(false),
-            Some(Line::Nothing) => Ok(true),
+            None => Ok(Played::Outside),
+            Some(Line::Nothing) => Ok(Played::Done),
             Some(Line::Setup(Setup::Bare)) => {
                 self.stage = Some(World::bare(self.alloc)?);
-                Ok(true)
+                Ok(Played::Done)
             }
             Some(Line::Event(event)) => self.happen(&event),
         }
     }
 
     /// The trace is long enough to be written.
-    pub fn is_full(&self) -> bool {
+    pub fn is_full(&self) -> bool
+        ensures { IsTrue result ↔ (full ≤ length self.now.trace) }
+    {
         self.trace.len() >= FULL
     }
 
@@ -114,7 +139,7 @@ impl Player {
     pub fn flush<K: Sink>(&mut self, sink: &mut K) -> Result<(), Failed>
         ensures told { WritesText (K.held sink.old) self.old.trace result (K.held sink.new) }
         ensures faults { K.faults sink.new ≡ counted result (K.faults sink.old) }
-        ensures ok { OnOk result (self.new ≡ record { stage = self.old.stage; count = self.old.count; trace = [] }) }
+        ensures ok { OnOk result (self.new ≡ record { stage = self.old.stage; spent = self.old.spent; trace = [] }) }
         ensures err { OnErr result (self.new ≡ self.old) }
     {
         write_all(sink, self.trace.bytes())?;

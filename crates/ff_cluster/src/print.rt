@@ -1,12 +1,12 @@
 //! The text of a journal.
 
-ghost use Rattle.std.specs.Prelude.{◌++◌, codes, decimal};
+ghost use Rattle.std.specs.Prelude.{◌∷◌, ◌++◌, codes, decimal};
+ghost use Rattle.std.specs.List.{flat_map};
 ghost use Rattle.ff_xdr.specs.Calls.{Puts, Grows};
-ghost use Rattle.ff_cluster.specs.Digits.{text_of_bytes};
-ghost use Rattle.ff_cluster.specs.Print.{node_text, mirror_text, line_of};
+ghost use Rattle.cluster_model.specs.Print.{text_of_bytes, node_text, mirror_text, piece_text, pieces_text, line_of};
 
 use crate::digits::put_hex;
-use ds_files::{Cred, Entry, MirrorId, NodeId};
+use cluster_model::{Cred, Entry, MirrorId, NodeId, Piece};
 use ff_xdr::{NoMemory, Out};
 use itoa::Buffer;
 
@@ -112,6 +112,58 @@ fn put_committed(mirror: MirrorId, out: &mut Out) -> Result<(), NoMemory>
     out.raw(b"\n")
 }
 
+/// Appends the line of a mirror's owner.
+fn put_owner(mirror: MirrorId, cred: Cred, out: &mut Out) -> Result<(), NoMemory>
+    ensures { Grows out.old result out.new (line_of (Entry.Owner mirror cred)) }
+{
+    out.raw(b"owner ")?;
+    put_mirror(mirror, out)?;
+    put_numbered(b" ", u64::from(cred.0), out)?;
+    out.raw(b"\n")
+}
+
+/// Appends a piece.
+fn put_piece(piece: Piece, out: &mut Out) -> Result<(), NoMemory>
+    ensures { Grows out.old result out.new (piece_text piece) }
+{
+    put_number(piece.fileid, out)?;
+    put_numbered(b":", u64::from(piece.index), out)?;
+    put_numbered(b":", u64::from(piece.from), out)?;
+    put_numbered(b":", u64::from(piece.count), out)
+}
+
+/// Appends pieces, each behind a comma.
+fn put_more(pieces: &[Piece], out: &mut Out) -> Result<(), NoMemory>
+    ensures { Grows out.old result out.new (flat_map (λ p. 44 ∷ piece_text p) pieces.now) }
+{
+    for piece in pieces {
+        out.raw(b",")?;
+        put_piece(*piece, out)?;
+    }
+    Ok(())
+}
+
+/// Appends pieces, with a comma between two, or `-` for none.
+fn put_pieces(pieces: &[Piece], out: &mut Out) -> Result<(), NoMemory>
+    ensures { Grows out.old result out.new (pieces_text pieces.now) }
+{
+    let Some((first, rest)) = pieces.split_first() else {
+        return out.raw(b"-");
+    };
+    put_piece(*first, out)?;
+    put_more(rest, out)
+}
+
+/// Appends the line of a restart.
+fn put_restarted(server: u32, pieces: &[Piece], out: &mut Out) -> Result<(), NoMemory>
+    ensures { Grows out.old result out.new (line_of (Entry.Restarted server pieces.now)) }
+{
+    put_numbered(b"restarted d", u64::from(server), out)?;
+    out.raw(b" ")?;
+    put_pieces(pieces, out)?;
+    out.raw(b"\n")
+}
+
 /// Appends the line of an entry; at an error it may have appended a part of it.
 fn put_line(entry: &Entry, out: &mut Out) -> Result<(), NoMemory>
     ensures { Grows out.old result out.new (line_of entry.now) }
@@ -131,6 +183,8 @@ fn put_line(entry: &Entry, out: &mut Out) -> Result<(), NoMemory>
             bytes,
         } => put_applied(*mirror, *cred, *at, bytes.bytes(), out),
         Entry::Committed { mirror } => put_committed(*mirror, out),
+        Entry::Owner { mirror, cred } => put_owner(*mirror, *cred, out),
+        Entry::Restarted { server, pieces } => put_restarted(*server, pieces.as_slice(), out),
     }
 }
 

@@ -1,9 +1,9 @@
 //! What is true of every journal.
 
 ghost use Rattle.std.specs.Prelude.{◌≡◌, List};
-ghost use Rattle.ds_files.specs.declared.entry.Entry.{Entry};
-ghost use Rattle.ff_cluster.specs.Print.{print};
-ghost use Rattle.ff_cluster.specs.Prints.{FitsJournal};
+ghost use Rattle.cluster_model.specs.declared.entry.Entry.{Entry};
+ghost use Rattle.cluster_model.specs.Print.{print};
+ghost use Rattle.cluster_model.specs.Prints.{FitsJournal};
 
 /// Different journals have different texts.
 pub fn distinct_prints()

@@ -1,12 +1,12 @@
 //! A run of a script to its end.
 
-ghost use Rattle.std.specs.Prelude.{◌≡◌, ◌+◌, ◌<◌, ◌≤◌, [], None, Ok, OnOk, IfOk, length};
+ghost use Rattle.std.specs.Prelude.{◌≡◌, ◌+◌, ◌<◌, ◌≤◌, [], None, Ok, OnOk, IfOk, IfSome, length};
 ghost use Rattle.rpc_record.specs.Stream.{counted};
 ghost use Rattle.ff_cluster.specs.Script.{max_script};
-ghost use Rattle.ff_cluster.specs.Replay.{Replays, ReadFaults, write_faults, StepFaults, LinesFaults, SourceFaults, Steps, Finishes, Finished, PlaysLine, PlaysLast, PlaysEnded};
+ghost use Rattle.ff_cluster.specs.Replay.{Replays, ReadFaults, write_faults, StepFaults, LinesFaults, SourceFaults, Steps, Finishes, PlaysLine, PlaysLast, PlaysEnded, IsOfLine};
 
 use crate::lines::{Ended, LineBuffer};
-use crate::player::Player;
+use crate::player::{Played, Player};
 use rpc_record::{Failed, Sink, Source};
 use std::alloc::{AllocError, Global};
 use std::marker::Model;
@@ -27,8 +27,8 @@ pub enum ReplayEnd {
     WriteFault,
     /// Memory was wanted.
     NoMemory,
-    /// The script is longer than 64 MiB. The lines that end within that were played, and the journal
-    /// has so many entries.
+    /// The script is longer than 64 MiB, or the journal would pass a limit with the next event. The
+    /// events before that were played, and the journal has so many entries.
     Limit(u64),
 }
 
@@ -43,21 +43,20 @@ struct Playback {
 }
 
 impl Model for Playback {
-    ghost use Rattle.std.specs.Prelude.{◌+◌, ◌*◌, ◌<◌, ◌^◌};
-    ghost use Rattle.ff_cluster.specs.Player.{sent_of};
+    ghost use Rattle.std.specs.Prelude.{◌+◌, ◌<◌, ◌^◌};
     ghost use Rattle.ff_cluster.specs.Replay.{ReplayState};
 
     ghost Value = { ReplayState };
 
     ghost view = { λ r. record { player = r.player; held = r.buffer; room = r.room; number = r.number } };
 
-    ghost invariant = { λ r. (r.number + r.room < 2 ^ 64) × (sent_of r.player.stage + 2 * r.room < 2 ^ 64) };
+    ghost invariant = { λ r. r.number + r.room < 2 ^ 64 };
 }
 
 impl Playback {
     /// Before the first line.
     fn new(alloc: Global) -> Result<Playback, AllocError>
-        ensures { IfOk result (λ run. run ≡ record { player = record { stage = None; count = 0; trace = [] }; held = []; room = max_script; number = 1 }) }
+        ensures { IfOk result (λ run. run ≡ record { player = record { stage = None; spent = None; trace = [] }; held = []; room = max_script; number = 1 }) }
     {
         Ok(Playback {
             alloc,
@@ -68,21 +67,23 @@ impl Playback {
         })
     }
 
-    /// Plays a line, which took so many bytes of the script. An end is a line outside the grammar, or
-    /// want of memory.
+    /// Plays a line, which took so many bytes of the script. An end is a line outside the grammar, an
+    /// event that would pass a limit, or want of memory.
     fn play_line(&mut self, line: &[u8], taken: usize) -> Option<ReplayEnd>
         requires some { 0 < taken }
         requires within { taken ≤ self.old.room }
-        ensures plays { PlaysLine taken line.now self.old result self.new }
+        ensures plays { self.old.player.spent ≡ None → PlaysLine taken line.now self.old result self.new }
+        ensures ends { IfSome result (λ end. IsOfLine end) }
         ensures room { self.new.room < self.old.room }
     {
         self.room -= taken;
         match self.player.play(line) {
-            Ok(true) => {
+            Ok(Played::Done) => {
                 self.number += 1;
                 None
             }
-            Ok(false) => Some(ReplayEnd::BadLine(self.number)),
+            Ok(Played::Outside) => Some(ReplayEnd::BadLine(self.number)),
+            Ok(Played::Limited) => Some(ReplayEnd::Limit(self.player.count())),
             Err(_) => Some(ReplayEnd::NoMemory),
         }
     }
@@ -90,7 +91,8 @@ impl Playback {
     /// Plays the last line, which has no newline, and is no line where it is empty.
     fn play_last(&mut self, line: &[u8]) -> ReplayEnd
         requires within { length line.now ≤ self.old.room }
-        ensures { PlaysLast line.now self.old result self.new }
+        ensures plays { self.old.player.spent ≡ None → PlaysLast line.now self.old result self.new }
+        ensures ends { IsOfLine result }
     {
         if line.is_empty() {
             return ReplayEnd::Done;
@@ -106,7 +108,8 @@ impl Playback {
         sink: &mut K,
     ) -> Result<Option<ReplayEnd>, Failed>
         requires within { length line.now + 1 ≤ self.old.room }
-        ensures told { PlaysEnded (K.held sink.old) line.now self.old result (K.held sink.new) self.new }
+        ensures told { self.old.player.spent ≡ None → PlaysEnded (K.held sink.old) line.now self.old result (K.held sink.new) self.new }
+        ensures ends { IfOk result (λ end. IfSome end (λ e. IsOfLine e)) }
         ensures room { self.new.room < self.old.room }
         ensures writes { K.faults sink.new ≡ counted result (K.faults sink.old) }
     {
@@ -127,7 +130,7 @@ impl Playback {
         sink: &mut K,
         line: &mut Vec<u8>,
     ) -> Result<Option<ReplayEnd>, Failed>
-        ensures told { Steps (S.left source.old) (K.held sink.old) self.old result (S.left source.new) (K.held sink.new) self.new }
+        ensures told { self.old.player.spent ≡ None → Steps (S.left source.old) (K.held sink.old) self.old result (S.left source.new) (K.held sink.new) self.new }
         ensures shrinks { OnOk result (result ≡ Ok None → self.new.room < self.old.room) }
         ensures reads { StepFaults result (S.faults source.old) (S.faults source.new) }
         ensures writes { K.faults sink.new ≡ counted result (K.faults sink.old) }
@@ -148,7 +151,7 @@ impl Playback {
         source: &mut S,
         sink: &mut K,
     ) -> Result<ReplayEnd, Failed>
-        ensures told { Finishes (S.left source.old) (K.held sink.old) self.old result (S.left source.new) (K.held sink.new) self.new }
+        ensures told { self.old.player.spent ≡ None → Finishes (S.left source.old) (K.held sink.old) self.old result (S.left source.new) (K.held sink.new) self.new.player.trace }
         ensures reads { LinesFaults result (S.faults source.old) (S.faults source.new) }
         ensures writes { K.faults sink.new ≡ counted result (K.faults sink.old) }
     {
@@ -166,7 +169,7 @@ impl Playback {
         source: &mut S,
         sink: &mut K,
     ) -> Result<ReplayEnd, Failed>
-        ensures told { Finished (S.left source.old) (K.held sink.old) self.old result (S.left source.new) (K.held sink.new) }
+        ensures told { self.old.player.spent ≡ None → Finishes (S.left source.old) (K.held sink.old) self.old result (S.left source.new) (K.held sink.new) [] }
         ensures reads { SourceFaults result (S.faults source.old) (S.faults source.new) }
         ensures writes { K.faults sink.new ≡ counted result (K.faults sink.old) }
     {
@@ -176,8 +179,9 @@ impl Playback {
     }
 }
 
-/// Runs a script from `source`, line by line, and writes its trace to `sink`: all of it, or at a fault
-/// or for want of memory a beginning of it.
+/// Runs a script from `source`, line by line, and writes its trace to `sink`. Where the source failed,
+/// that is the whole trace of the lines that ended in what it gave; where the sink failed or memory was
+/// wanted, a beginning of it.
 pub fn replay<S: Source, K: Sink>(alloc: Global, source: &mut S, sink: &mut K) -> ReplayEnd
     ensures told { Replays (S.left source.old) (K.held sink.old) result (S.left source.new) (K.held sink.new) }
     ensures reads { ReadFaults result (S.faults source.old) (S.faults source.new) }

@@ -97,7 +97,7 @@ fn asks_replay(words: &[String]) -> bool
 /// standard output and `notes` its standard error. The status is 0 where the script was run to its
 /// end, 2 where the words are no command, 3 where a line is outside the grammar, 4 where the source
 /// failed, 5 where the sink or the notes did, 8 where memory was wanted, and 9 where the script is
-/// longer than 64 MiB.
+/// longer than 64 MiB or its journal would pass a limit.
 pub fn run<S: Source, K: Sink, E: Sink>(
     alloc: Global,
     words: &[String],

@@ -3,8 +3,12 @@
 ghost use Rattle.std.specs.Prelude.{◌≡◌, ◌≤◌, None, length, IfOk};
 ghost use Rattle.rpc_record.specs.Stream.{counted, Reads};
 
+use crate::line::{Line, Setup, parse_line};
+use crate::player::{Played, Player};
 use crate::replay::ReplayEnd;
 use crate::run::{Outcome, run};
+use crate::world::{World, WorldFault};
+use cluster_model::Entry;
 use rpc_record::{Failed, MemorySink, MemorySource, Source, SureSink};
 use std::alloc::Global;
 use std::test::Fail;
@@ -237,6 +241,98 @@ fn faults_end_a_run(rt: HostRuntime) -> Result<(), Fail> {
     Ok(())
 }
 
+#[test]
+fn a_half_line_is_left_out_at_a_fault(rt: HostRuntime) -> Result<(), Fail> {
+    let trace = format!(in rt.alloc();
+        "packet 1 c0 d1 {WRITE}\ndelivered 1\napplied d1.2 65536 0 4142\ncommitted d1.2\npacket 2 d1 c0 {WRITTEN}\n"
+    )?;
+    for half in ["deliver 00", "no line"] {
+        let script = format!(in rt.alloc(); "bare\ndeliver {WRITE}\n{half}")?;
+        let ended = ran(
+            rt.alloc(),
+            &["replay"],
+            script.as_str(),
+            Failing { source: 2, ..NONE },
+        )?;
+        assert_eq!(rt; ended.status, 4);
+        assert_eq!(rt; ended.sink.bytes(), trace.as_bytes());
+        assert_eq!(rt; ended.notes.bytes(), b"read fault\n".as_slice());
+    }
+    Ok(())
+}
+
+/// What the event of a line does to a world; `None` is a line of no event.
+fn met(world: &mut World, line: &str, journal: &mut Vec<Entry>) -> Option<Result<(), WorldFault>> {
+    match parse_line(Some(Setup::Bare), line.as_bytes()) {
+        Some(Line::Event(event)) => Some(world.step(&event, journal)),
+        _ => None,
+    }
+}
+
+#[test]
+fn a_journal_has_so_many_entries(rt: HostRuntime) -> Result<(), Fail> {
+    let stranger = format!(in rt.alloc(); "deliver {BY_A_STRANGER}")?;
+    let mut journal = Vec::new(rt.alloc());
+    let mut world = World::near_limits(rt.alloc(), 2, 9_999)?;
+    for line in [stranger.as_str(), stranger.as_str(), "deliver 00"] {
+        let over = Some(Err(WorldFault::Limit { entries: 399_998 }));
+        assert_eq!(rt; met(&mut world, line, &mut journal), over);
+        assert_eq!(rt; journal.len(), 0);
+        assert_eq!(rt; world.count(), 399_998);
+    }
+    let mut world = World::near_limits(rt.alloc(), 1, 9_999)?;
+    let over = Some(Err(WorldFault::Limit { entries: 399_999 }));
+    assert_eq!(rt; met(&mut world, stranger.as_str(), &mut journal), over);
+    assert_eq!(rt; journal.len(), 0);
+    let mut world = World::near_limits(rt.alloc(), 3, 9_999)?;
+    assert_eq!(rt;
+        met(&mut world, stranger.as_str(), &mut journal),
+        Some(Ok(()))
+    );
+    let over = Some(Err(WorldFault::Limit { entries: 400_000 }));
+    assert_eq!(rt; met(&mut world, "deliver 00", &mut journal), over);
+    assert_eq!(rt; journal.len(), 3);
+    Ok(())
+}
+
+#[test]
+fn a_journal_has_so_many_bytes(rt: HostRuntime) -> Result<(), Fail> {
+    let mut journal = Vec::new(rt.alloc());
+    let mut world = World::near_limits(rt.alloc(), 99, 3)?;
+    assert_eq!(rt; met(&mut world, "deliver 0102", &mut journal), Some(Ok(())));
+    assert_eq!(rt; met(&mut world, "deliver 03", &mut journal), Some(Ok(())));
+    assert_eq!(rt; met(&mut world, "deliver -", &mut journal), Some(Ok(())));
+    let over = Some(Err(WorldFault::Limit { entries: 399_907 }));
+    for line in ["deliver 04", "deliver -"] {
+        assert_eq!(rt; met(&mut world, line, &mut journal), over);
+        assert_eq!(rt; journal.len(), 6);
+    }
+    Ok(())
+}
+
+#[test]
+fn a_player_is_at_a_limit(rt: HostRuntime) -> Result<(), Fail> {
+    let mut player = Player::near_limits(rt.alloc(), 3, 9_999)?;
+    let table: [(&[u8], Played); 5] = [
+        (b"# a", Played::Done),
+        (b"deliver 00", Played::Done),
+        (b"deliver 01", Played::Limited),
+        (b"deliver 02", Played::Limited),
+        (b"bare", Played::Outside),
+    ];
+    for (line, played) in table {
+        assert_eq!(rt; player.play(line), Ok(played));
+    }
+    assert_eq!(rt; player.count(), 399_999);
+    let mut sink = SureSink::new(rt.alloc());
+    assert_eq!(rt; player.flush(&mut sink), Ok(()));
+    assert_eq!(rt;
+        sink.bytes(),
+        b"packet 1 c0 d1 00\ndelivered 1\n".as_slice()
+    );
+    Ok(())
+}
+
 /// A script of so many READs, each of which is answered.
 fn reads(alloc: Global, count: u32) -> Result<String, Fail> {
     let mut script = String::from_str(alloc, "bare\n")?;
@@ -333,5 +429,44 @@ fn statuses(rt: HostRuntime) -> Result<(), Fail> {
     for (outcome, status) in table {
         assert_eq!(rt; outcome.status(), status);
     }
+    Ok(())
+}
+
+/// The WRITE, UNSTABLE, and its reply.
+const UNSTABLE: &str =
+    "000000070000000000000002000186a3000000030000000700000001000000180000000000000002633100000001000000010000000000000000000000000000000000080000000000000002000000000000000000000002000000000000000241420000";
+
+const UNSTABLE_WRITTEN: &str =
+    "00000007000000010000000000000000000000000000000000000000000000010000000000000000000000010000000100000001000000010000000100000001000001a00000000100010000000100000000000000000002000000000000000200000000000000000000000000000001000000000000000200000001000000010000000100000002000000010000000200000002000000000000000000000001";
+
+/// The reply to the READ where the file has one byte, and the times of its making.
+const ONE_BYTE: &str =
+    "000000080000000100000000000000000000000000000000000000000000000100000001000001a000000001000100000001000000000000000000010000000000000001000000000000000000000000000000010000000000000002000000010000000100000001000000010000000100000001000000010000000100000001";
+
+#[test]
+fn a_restart_keeps_a_piece_of_a_write(rt: HostRuntime) -> Result<(), Fail> {
+    let script = format!(in rt.alloc();
+        "bare\ndeliver {UNSTABLE}\nrestart d1 2:0:0:1\ndeliver {READ}\nrestart d1\n"
+    )?;
+    let wanted = format!(in rt.alloc();
+        "packet 1 c0 d1 {UNSTABLE}\ndelivered 1\napplied d1.2 65536 0 4142\npacket 2 d1 c0 {UNSTABLE_WRITTEN}\nrestarted d1 2:0:0:1\npacket 3 c0 d1 {READ}\ndelivered 3\npacket 4 d1 c0 {ONE_BYTE}41000000\nrestarted d1 -\n"
+    )?;
+    let ended = ran(rt.alloc(), &["replay"], script.as_str(), NONE)?;
+    assert_eq!(rt; ended.status, 0);
+    assert_eq!(rt; ended.sink.bytes(), wanted.as_bytes());
+    Ok(())
+}
+
+#[test]
+fn a_restart_of_another_server_is_outside_the_grammar(rt: HostRuntime) -> Result<(), Fail> {
+    let ended = ran(
+        rt.alloc(),
+        &["replay"],
+        "bare\nrestart d1\nrestart d2\n",
+        NONE,
+    )?;
+    assert_eq!(rt; ended.status, 3);
+    assert_eq!(rt; ended.sink.bytes(), b"restarted d1 -\n".as_slice());
+    assert_eq!(rt; ended.notes.bytes(), b"line 3\n".as_slice());
     Ok(())
 }

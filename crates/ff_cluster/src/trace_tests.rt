@@ -3,7 +3,7 @@
 use crate::digits::{Digits, put_hex};
 use crate::line::{Event, Line, Setup, parse_line};
 use crate::print::put_entry;
-use ds_files::{Cred, Entry, MirrorId, NodeId};
+use cluster_model::{Cred, Entry, MirrorId, NodeId};
 use ff_xdr::{Data, Out};
 use std::alloc::Global;
 use std::str;
@@ -18,6 +18,10 @@ fn told<'a>(line: Option<Line<'a>>, alloc: Global) -> Result<String, Fail> {
         Some(Line::Event(Event::Deliver(digits))) => {
             let bytes = digits.decode(alloc)?;
             format!(in alloc; "deliver {:?}", bytes.as_slice())?
+        }
+        Some(Line::Event(Event::Restart(pieces))) => {
+            let pieces = pieces.decode(alloc)?;
+            format!(in alloc; "restart {:?}", pieces.as_slice())?
         }
     };
     Ok(text)

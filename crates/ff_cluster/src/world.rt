@@ -1,15 +1,18 @@
 //! The world of a bare script.
 
-ghost use Rattle.std.specs.Prelude.{◌≡◌, ◌+◌, ◌<◌, ◌≤◌, ◌^◌, List, ◌∷◌, ◌++◌, IfOk, OnOk, OnErr};
+ghost use Rattle.std.specs.Prelude.{◌≡◌, ◌+◌, ◌<◌, ◌≤◌, ◌^◌, List, ◌∷◌, ◌++◌, IfOk, OnOk, OnErr, Ok, Err, Some, None};
+ghost use Rattle.ff_cluster.specs.declared.world.WorldFault.{WorldFault as AFault};
 ghost use Rattle.ff_cluster.specs.Line.{event_value};
-ghost use Rattle.ds_files.specs.declared.entry.Entry.{Entry};
-ghost use Rattle.ds_files.specs.declared.entry.Entry.TheVariants.{Packet, Delivered};
-ghost use Rattle.ds_files.specs.declared.entry.NodeId.TheVariants.{Client, Server};
-ghost use Rattle.ds_files.specs.Receive.{outcome_of};
-ghost use Rattle.ff_cluster.specs.World.{preset_world, world_step, deliver_step, packets_of, sent_by};
+ghost use Rattle.cluster_model.specs.Event.{Deliver, Restart};
+ghost use Rattle.cluster_model.specs.declared.entry.Entry.{Entry};
+ghost use Rattle.cluster_model.specs.declared.entry.Entry.TheVariants.{Packet, Delivered};
+ghost use Rattle.cluster_model.specs.declared.ids.NodeId.TheVariants.{Client, Server};
+ghost use Rattle.ff_cluster.specs.World.{preset_world, Meets, Happens, packets_of, sent_by, within, tally_of, max_entries, max_hex};
+ghost use Rattle.cluster_model.specs.Print.{hex_len, hex_of};
 
 use crate::line::Event;
-use ds_files::{DataServer, Entry, NodeId, Outbox};
+use cluster_model::{Entry, NodeId, Outbox, Pieces};
+use ds_files::{DataServer, RestartFault};
 use ff_xdr::{Data, NoMemory};
 use std::alloc::Global;
 use std::marker::Model;
@@ -17,23 +20,74 @@ use std::marker::Model;
 /// The client that a bare script's records come from.
 const CLIENT: NodeId = NodeId::Client(0);
 
-/// The data server of a bare script.
-const SERVER: NodeId = NodeId::Server(1);
+/// The number of a bare script's data server.
+const NUMBER: u32 = 1;
 
-/// A data server, and the packets that were sent so far.
+/// The data server of a bare script.
+const SERVER: NodeId = NodeId::Server(NUMBER);
+
+/// The most entries of a journal.
+const MAX_ENTRIES: u64 = 400_000;
+
+/// The most bytes that stand in a journal as hexadecimal: 256 MiB.
+const MAX_HEX: u64 = 268_435_456;
+
+/// Why an event did not happen.
+#[derive(Debug, Clone, Copy, PartialEq, Eq)]
+pub enum WorldFault {
+    /// The journal, which has so many entries, would pass a limit with it.
+    Limit { entries: u64 },
+    /// Memory was wanted.
+    NoMemory,
+}
+
+/// A data server, how many packets were sent so far, how many entries the journal has, and how many
+/// bytes stand in it as hexadecimal. A world is spent once an event did not happen.
 #[derive(Drop)]
 pub struct World {
     alloc: Global,
     server: DataServer,
     sent: u64,
+    count: u64,
+    hex: u64,
+    spent: Option<WorldFault>,
 }
 
 impl Model for World {
-    ghost use Rattle.ff_cluster.specs.World.{WorldState};
+    ghost use Rattle.ff_cluster.specs.World.{WorldValue, IsBounded};
 
-    ghost Value = { WorldState };
+    ghost Value = { WorldValue };
 
-    ghost view = { λ w. record { server = w.server; sent = w.sent } };
+    ghost view = { λ w. record { world = record { server = w.server; sent = w.sent; count = w.count; hex = w.hex }; spent = w.spent } };
+
+    ghost invariant = { λ w. IsBounded (record { server = w.server; sent = w.sent; count = w.count; hex = w.hex }) };
+}
+
+/// The sum, where it is within the limit.
+fn add_within(limit: u64, sum: u64, more: usize) -> Option<u64>
+    requires { sum ≤ limit }
+    ensures { result ≡ within limit (sum + more) }
+{
+    let more = more as u64;
+    if more <= limit - sum {
+        Some(sum + more)
+    } else {
+        None
+    }
+}
+
+/// How many bytes stand as hexadecimal in the line of an entry.
+fn hex_bytes(entry: &Entry) -> usize
+    ensures { result ≡ hex_len entry.now }
+{
+    match entry {
+        Entry::Packet { bytes, .. } => bytes.bytes().len(),
+        Entry::Delivered { .. } => 0,
+        Entry::Applied { bytes, .. } => bytes.bytes().len(),
+        Entry::Committed { .. } => 0,
+        Entry::Owner { .. } => 0,
+        Entry::Restarted { .. } => 0,
+    }
 }
 
 /// Adds the packet of a reply, where there is one, and returns how many packets were sent then. At an
@@ -88,61 +142,154 @@ fn push_delivery(
     push_reply(journal, number, sends)
 }
 
+/// How many bytes stand as hexadecimal with these entries, where the limit lets them in.
+fn add_hex(hex: u64, entries: &[Entry]) -> Option<u64>
+    requires { hex ≤ max_hex }
+    ensures { result ≡ within max_hex (hex + hex_of entries.now) }
+{
+    let mut sum = hex;
+    for entry in entries {
+        sum = add_within(MAX_HEX, sum, hex_bytes(entry))?;
+    }
+    Some(sum)
+}
+
+/// How many entries and bytes a journal has with these entries, where the limits let them in.
+fn tally(count: u64, hex: u64, entries: &[Entry]) -> Option<(u64, u64)>
+    requires count { count ≤ max_entries }
+    requires hex { hex ≤ max_hex }
+    ensures { result ≡ tally_of count hex entries.now }
+{
+    let count = add_within(MAX_ENTRIES, count, entries.len())?;
+    let hex = add_hex(hex, entries)?;
+    Some((count, hex))
+}
+
 impl World {
     /// The world of a bare script: a preset data server.
     pub fn bare(alloc: Global) -> Result<World, NoMemory>
-        ensures { IfOk result (λ world. world ≡ preset_world) }
+        ensures { IfOk result (λ world. world ≡ record { world = preset_world; spent = None }) }
     {
         let server = DataServer::preset(alloc)?;
         Ok(World {
             alloc,
             server,
             sent: 0,
+            count: 0,
+            hex: 0,
+            spent: None,
         })
     }
 
-    /// How many packets were sent so far.
-    pub fn sent(&self) -> u64
-        ensures { result ≡ self.now.sent }
-    {
-        self.sent
+    /// As `bare`, where the limits leave so many entries and so many bytes.
+    #[cfg(test)]
+    pub(crate) fn near_limits(alloc: Global, entries: u8, hex: u16) -> Result<World, NoMemory> {
+        let mut world = World::bare(alloc)?;
+        world.count = MAX_ENTRIES - u64::from(entries);
+        world.hex = MAX_HEX - u64::from(hex);
+        Ok(world)
     }
 
-    /// Lets an event happen, and adds its entries to the journal. At an error the journal is as
-    /// before, and the world is spent: it is not to be used again.
-    pub fn step(&mut self, event: &Event<'_>, journal: &mut Vec<Entry>) -> Result<(), NoMemory>
-        requires { self.old.sent + 2 < 2 ^ 64 }
-        ensures world { OnOk result (self.new ≡ (world_step self.old (event_value event.now)).world) }
-        ensures journal { OnOk result (journal.new.items ≡ journal.old.items ++ (world_step self.old (event_value event.now)).entries) }
-        ensures stays { OnErr result (journal.new.items ≡ journal.old.items) }
-        ensures sent { self.new.sent ≤ self.old.sent + 2 }
+    /// How many entries the journal has.
+    pub fn count(&self) -> u64
+        ensures { result ≡ self.now.world.count }
     {
-        let Event::Deliver(digits) = event;
-        let bytes = digits.decode(self.alloc)?;
-        self.deliver(Data::from_vec(bytes), journal)
+        self.count
     }
 
-    /// Hands a record to the data server.
-    fn deliver(&mut self, bytes: Data, journal: &mut Vec<Entry>) -> Result<(), NoMemory>
-        requires { self.old.sent + 2 < 2 ^ 64 }
-        ensures world { OnOk result (self.new ≡ (deliver_step self.old.sent bytes (outcome_of self.old.server bytes)).world) }
-        ensures journal { OnOk result (journal.new.items ≡ journal.old.items ++ (deliver_step self.old.sent bytes (outcome_of self.old.server bytes)).entries) }
-        ensures stays { OnErr result (journal.new.items ≡ journal.old.items) }
-        ensures sent { self.new.sent ≤ self.old.sent + 2 }
+    /// Lets an event happen, and adds its entries to the journal. At an error the journal is as before,
+    /// and the world is spent: it answers each event by that error, and nothing changes.
+    pub fn step(&mut self, event: &Event<'_>, journal: &mut Vec<Entry>) -> Result<(), WorldFault>
+        ensures meets { self.old.spent ≡ None → Meets self.old.world (event_value event.now) journal.old.items result self.new journal.new.items }
+        ensures spent { (fault : AFault) → self.old.spent ≡ Some fault → (result ≡ Err fault) × (self.new ≡ self.old) × (journal.new.items ≡ journal.old.items) }
     {
-        let mut out = Outbox::new(self.alloc);
-        self.server.on_record(CLIENT, bytes.bytes(), &mut out)?;
-        let Outbox { entries, sends } = out;
-        let mark = journal.len();
-        match push_delivery(journal, self.sent, bytes, entries, sends) {
-            Ok(sent) => {
-                self.sent = sent;
-                Ok(())
+        if let Some(fault) = self.spent {
+            return Err(fault);
+        }
+        if let Err(fault) = self.happen(event, journal) {
+            self.spent = Some(fault);
+            return Err(fault);
+        }
+        Ok(())
+    }
+
+    /// Lets an event happen in a world that is not spent. At an error the world is not to be used again.
+    fn happen(&mut self, event: &Event<'_>, journal: &mut Vec<Entry>) -> Result<(), WorldFault>
+        ensures happens { Happens self.old.world (event_value event.now) journal.old.items result self.new.world journal.new.items }
+        ensures spent { self.new.spent ≡ self.old.spent }
+    {
+        match event {
+            Event::Deliver(digits) => {
+                let Ok(bytes) = digits.decode(self.alloc) else {
+                    return Err(WorldFault::NoMemory);
+                };
+                self.deliver(Data::from_vec(bytes), journal)
             }
-            Err(error) => {
-                journal.truncate(mark);
-                Err(error)
+            Event::Restart(pieces) => {
+                let Ok(pieces) = pieces.decode(self.alloc) else {
+                    return Err(WorldFault::NoMemory);
+                };
+                self.restart(Pieces::from_vec(pieces), journal)
             }
         }
+    }
+
+    /// Starts the data server again, which does nothing where its boots are spent. At an error the
+    /// world is not to be used again.
+    fn restart(&mut self, pieces: Pieces, journal: &mut Vec<Entry>) -> Result<(), WorldFault>
+        ensures happens { Happens self.old.world (Restart pieces) journal.old.items result self.new.world journal.new.items }
+        ensures spent { self.new.spent ≡ self.old.spent }
+    {
+        match self.server.restart(pieces.as_slice()) {
+            Err(RestartFault::BootsSpent) => return Ok(()),
+            Err(RestartFault::NoMemory) => return Err(WorldFault::NoMemory),
+            Ok(()) => {}
+        }
+        if self.count == MAX_ENTRIES {
+            return Err(WorldFault::Limit {
+                entries: self.count,
+            });
+        }
+        let entry = Entry::Restarted {
+            server: NUMBER,
+            pieces,
+        };
+        if journal.push(entry).is_err() {
+            return Err(WorldFault::NoMemory);
+        }
+        self.count += 1;
+        Ok(())
+    }
+
+    /// Hands a record to the data server. At an error the world is not to be used again.
+    fn deliver(&mut self, bytes: Data, journal: &mut Vec<Entry>) -> Result<(), WorldFault>
+        ensures happens { Happens self.old.world (Deliver bytes) journal.old.items result self.new.world journal.new.items }
+        ensures spent { self.new.spent ≡ self.old.spent }
+    {
+        let mut out = Outbox::new(self.alloc);
+        if self
+            .server
+            .on_record(CLIENT, bytes.bytes(), &mut out)
+            .is_err()
+        {
+            return Err(WorldFault::NoMemory);
+        }
+        let Outbox { entries, sends } = out;
+        let mut added = Vec::new(self.alloc);
+        let Ok(sent) = push_delivery(&mut added, self.sent, bytes, entries, sends) else {
+            return Err(WorldFault::NoMemory);
+        };
+        let Some((count, hex)) = tally(self.count, self.hex, &added) else {
+            return Err(WorldFault::Limit {
+                entries: self.count,
+            });
+        };
+        if journal.append(&mut added).is_err() {
+            return Err(WorldFault::NoMemory);
+        }
+        self.sent = sent;
+        self.count = count;
+        self.hex = hex;
+        Ok(())
     }
 }

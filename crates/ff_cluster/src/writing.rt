@@ -2,11 +2,11 @@
 
 ghost use Rattle.std.specs.Prelude.{◌≡◌};
 ghost use Rattle.rpc_record.specs.Stream.{counted};
-ghost use Rattle.ff_cluster.specs.Print.{print};
+ghost use Rattle.cluster_model.specs.Print.{print};
 ghost use Rattle.ff_cluster.specs.Writing.{WritesText, PrintsText};
 
 use crate::print::put_entry;
-use ds_files::Entry;
+use cluster_model::Entry;
 use ff_xdr::{NoMemory, Out};
 use rpc_record::{Failed, Sink};
 

@@ -1,4 +1,4 @@
-use Rattle.std.proofs.Common.{◌≡◌, ◌∙◌}
+use Rattle.std.proofs.Common.{◌∙◌}
 use Rattle.std.proofs.lemmas.Result.{err_from_is_err_and}
 use Rattle.ff_cluster.proofs.PlayLemmas.{prints_in_part}
 use Rattle.ff_cluster.proofs.writing.print_entries.Goals as goal

@@ -1,5 +1,5 @@
 use Rattle.std.proofs.Common.{◌≡◌, ◌++◌, take}
-use Rattle.ff_cluster.specs.Print.{print}
+use Rattle.cluster_model.specs.Print.{print}
 use Rattle.ff_cluster.proofs.writing.print_entries.Given as goal
 
 abbrev pub invariant-loop-entry : goal.invariant-loop-entry

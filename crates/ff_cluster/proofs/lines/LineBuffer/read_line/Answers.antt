@@ -1,13 +1,9 @@
-use Rattle.std.proofs.Common.{rules, ◌≡◌, ℕ, ◌-◌, ◌<◌, ◌≤◌, Bool, true, false, List, [], ◌∷◌, length, Option, Ok, refl, subst, arith, IsTrue}
+use Rattle.std.proofs.Common.{rules, ◌≡◌, ◌-◌, ◌<◌, ◌≤◌, Bool, length, Option, Ok, subst, arith}
+use Rattle.std.proofs.lemmas.Result.{err_from_is_err_and}
 use Rattle.ff_cluster.specs.declared.lines.Ended.{Ended}
 use Rattle.ff_cluster.specs.Lines.{Refills, Takes}
-use Rattle.ff_cluster.proofs.LineLemmas.{begun_at_first, begun_refilled, begun_taken, reads_line, reads_last, is_within, taken_length}
+use Rattle.ff_cluster.proofs.LineLemmas.{begun_at_first, begun_refilled, begun_taken, reads_line, reads_last, reads_fault, reads_none, is_within, taken_length}
 use Rattle.ff_cluster.proofs.lines.LineBuffer.read_line.Goals as goal
-
--- no byte is held where the answer is no
-empty_unless : (some : Bool) (held : List ℕ) → (0 < length held → IsTrue some) → some ≡ false → held ≡ []
-empty_unless some [] holds not = refl
-empty_unless some (b ∷ bs) holds not = let is : some ≡ true = holds (omega arith) in absurd (cc)
 
 pub pieces-init : goal.pieces-init
 pieces-init g c = record {
@@ -15,6 +11,21 @@ pieces-init g c = record {
   faults = search rules;
   told = rw c.clear.ensures.items (begun_at_first c.args.budget c.args.self.now (g.S.Source.left c.args.source.now));
 }
+
+pub returns-in_err-refill-clause-told : goal.returns-in_err-refill-clause-told
+returns-in_err-refill-clause-told g c =
+    let left = g.S.Source.left in
+    let p = err_from_is_err_and c.from_residual.result c.from_residual.ensures.1 in
+    reads_fault c.args.budget c.args.self.now (left c.args.source.now) c.pieces.line.items c.pieces.self (left c.pieces.source) c.refill.new.self (left c.refill.new.source) c.refill.result _ c.from_residual.result p.0 c.in_err-refill.was p.1 c.pieces.invariant.told c.refill.ensures.told
+
+pub returns-in_err-ended-clause-told : goal.returns-in_err-ended-clause-told
+returns-in_err-ended-clause-told g c =
+    let left = g.S.Source.left in
+    let line = c.pieces.line in
+    let p = err_from_is_err_and c.from_residual-in_err-ended.result c.from_residual-in_err-ended.ensures.1 in
+    let read = subst (λ (some : Bool). Refills c.pieces.self (left c.pieces.source) (Ok some) c.refill.new.self (left c.refill.new.source)) c.if-branch.true c.in_ok-refill.ensures.told in
+    let begun = begun_refilled c.args.budget c.args.self.now (left c.args.source.now) line.items c.pieces.self (left c.pieces.source) c.refill.new.self (left c.refill.new.source) c.pieces.invariant.told read in
+    reads_none c.args.budget (c.args.budget - c.len.result) c.args.self.now (left c.args.source.now) line.items c.refill.new.self (left c.refill.new.source) c.take_line.new.self c.take_line.new.line.items c.take_line.result _ c.from_residual-in_err-ended.result p.0 c.in_err-ended.was p.1 p.2 begun c.take_line.ensures
 
 pub returns-in-Some-clause-told : goal.returns-in-Some-clause-told
 returns-in-Some-clause-told g c =
@@ -64,5 +75,4 @@ pub returns-clause-told : goal.returns-clause-told
 returns-clause-told g c =
     let left = g.S.Source.left in
     let read = subst (λ (some : Bool). Refills c.pieces.self (left c.pieces.source) (Ok some) c.refill.new.self (left c.refill.new.source)) c.if-branch.false c.in_ok-refill.ensures.told in
-    let empty = empty_unless c.in_ok-refill.field-0 c.refill.new.self c.in_ok-refill.ensures.held.1 c.if-branch.false in
-    reads_last c.args.budget c.args.self.now (left c.args.source.now) c.pieces.line.items c.pieces.self (left c.pieces.source) c.refill.new.self (left c.refill.new.source) c.pieces.invariant.told read empty
+    reads_last c.args.budget c.args.self.now (left c.args.source.now) c.pieces.line.items c.pieces.self (left c.pieces.source) c.refill.new.self (left c.refill.new.source) c.pieces.invariant.told read

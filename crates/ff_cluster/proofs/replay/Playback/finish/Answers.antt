@@ -1,4 +1,3 @@
-use Rattle.std.proofs.Common.{◌≡◌, ◌∙◌, ap, Ok}
 use Rattle.std.proofs.lemmas.Result.{err_from_is_err_and}
 use Rattle.ff_cluster.proofs.ReplayLemmas.{finished, finished_err, faults_err}
 use Rattle.ff_cluster.proofs.replay.Playback.finish.Goals as goal
@@ -6,7 +5,7 @@ use Rattle.ff_cluster.proofs.replay.Playback.finish.Goals as goal
 pub returns-in_err-flush-clause-told : goal.returns-in_err-flush-clause-told
 returns-in_err-flush-clause-told g c =
     let p = err_from_is_err_and c.from_residual-in_err-flush.result c.from_residual-in_err-flush.ensures.1 in
-    finished_err (g.S.Source.left c.args.source.now) (g.K.Sink.held c.args.sink.now) _ _ _ c.args.self.now c.play.new.self c.play.result c.in_ok-end.end c.flush.result c.from_residual-in_err-flush.result p.0 c.in_ok-end.was p.1 c.play.ensures.told (rw (← c.self.view_is) c.flush.ensures.told)
+    λ fresh. finished_err (g.S.Source.left c.args.source.now) (g.K.Sink.held c.args.sink.now) _ _ _ c.args.self.now c.play.result c.in_ok-end.end c.flush.result c.from_residual-in_err-flush.result p.0 c.play.new.self.player.trace c.in_ok-end.was p.1 (c.play.ensures.told fresh) (rw (← c.self.view_is) c.flush.ensures.told)
 
 pub returns-in_err-flush-clause-reads : goal.returns-in_err-flush-clause-reads
 returns-in_err-flush-clause-reads g c =
@@ -15,4 +14,4 @@ returns-in_err-flush-clause-reads g c =
 
 pub returns-clause-told : goal.returns-clause-told
 returns-clause-told g c =
-    finished (g.S.Source.left c.args.source.now) (g.K.Sink.held c.args.sink.now) _ _ _ c.args.self.now c.play.new.self c.play.result c.in_ok-end.end c.flush.result c.in_ok-flush.field-0 c.in_ok-end.was c.in_ok-flush.was c.play.ensures.told (rw (← c.self.view_is) c.flush.ensures.told)
+    λ fresh. finished (g.S.Source.left c.args.source.now) (g.K.Sink.held c.args.sink.now) _ _ _ c.args.self.now c.play.result c.in_ok-end.end c.flush.result c.in_ok-flush.field-0 c.play.new.self.player.trace c.in_ok-end.was c.in_ok-flush.was (c.play.ensures.told fresh) (rw (← c.self.view_is) c.flush.ensures.told)

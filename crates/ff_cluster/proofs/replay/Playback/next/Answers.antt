@@ -1,4 +1,5 @@
-use Rattle.std.proofs.Common.{◌≡◌, ◌<◌, ◌^◌, Result, Ok, Err, subst}
+use Rattle.std.proofs.Common.{Ok, Err, subst}
+use Rattle.rpc_record.specs.declared.stream.Failed.{Failed}
 use Rattle.ff_cluster.specs.declared.lines.Ended.{Ended}
 use Rattle.ff_cluster.specs.Lines.{ReadsLine}
 use Rattle.ff_cluster.proofs.ReplayLemmas.{read_fault, read_memory, read_over, read_last, read_ended}
@@ -6,26 +7,27 @@ use Rattle.ff_cluster.proofs.replay.Playback.next.Goals as goal
 
 pub returns-in-Err-Fault-clause-told : goal.returns-in-Err-Fault-clause-told
 returns-in-Err-Fault-clause-told g c =
-    rw (← c.self.view_is) (read_fault (g.S.Source.left c.args.source.now) (g.K.Sink.held c.args.sink.now) (g.S.Source.left c.read_line.new.source) _ c.in-Err-Fault.field-0 c.read_line.new.line.items c.read_line.new.self c.in-Err-Fault.ensures.told)
+    let read = subst (λ (e : Failed). ReadsLine c.self.inside.room c.self.inside.buffer (g.S.Source.left c.args.source.now) (Err e) c.read_line.new.line.items c.read_line.new.self (g.S.Source.left c.read_line.new.source)) c.in-Err-Fault.field-0-is c.in-Err-Fault.ensures.told in
+    rw (← c.self.view_is) (λ fresh. read_fault (g.S.Source.left c.args.source.now) (g.K.Sink.held c.args.sink.now) (g.S.Source.left c.read_line.new.source) _ c.read_line.new.line.items c.read_line.new.self read)
 
 pub returns-in-Err-NoMemory-clause-told : goal.returns-in-Err-NoMemory-clause-told
 returns-in-Err-NoMemory-clause-told g c =
-    rw (← c.self.view_is) (read_memory (g.S.Source.left c.args.source.now) (g.K.Sink.held c.args.sink.now) (g.S.Source.left c.read_line.new.source) _ c.in-Err-NoMemory.field-0 c.read_line.new.line.items c.read_line.new.self c.in-Err-NoMemory.ensures.told)
+    let read = subst (λ (e : Failed). ReadsLine c.self.inside.room c.self.inside.buffer (g.S.Source.left c.args.source.now) (Err e) c.read_line.new.line.items c.read_line.new.self (g.S.Source.left c.read_line.new.source)) c.in-Err-NoMemory.field-0-is c.in-Err-NoMemory.ensures.told in
+    rw (← c.self.view_is) (λ fresh. read_memory (g.S.Source.left c.args.source.now) (g.K.Sink.held c.args.sink.now) (g.S.Source.left c.read_line.new.source) _ c.read_line.new.line.items c.read_line.new.self read)
 
 pub returns-in-Ok-Over-clause-told : goal.returns-in-Ok-Over-clause-told
 returns-in-Ok-Over-clause-told g c =
     let read = subst (λ (ended : Ended). ReadsLine c.self.inside.room c.self.inside.buffer (g.S.Source.left c.args.source.now) (Ok ended) c.read_line.new.line.items c.read_line.new.self (g.S.Source.left c.read_line.new.source)) c.in-Ok-Over.field-0-is c.in-Ok-Over.ensures.told in
-    let small : c.self.inside.player.count < 2 ^ 64 = rw c.count.ensures at c.count.type_inv in
-    rw (← c.self.view_is) (read_over (g.S.Source.left c.args.source.now) (g.K.Sink.held c.args.sink.now) (g.S.Source.left c.read_line.new.source) _ c.read_line.new.line.items c.read_line.new.self c.count.result small c.count.ensures read)
+    rw (← c.self.view_is) (λ fresh. read_over (g.S.Source.left c.args.source.now) (g.K.Sink.held c.args.sink.now) (g.S.Source.left c.read_line.new.source) _ c.read_line.new.line.items c.read_line.new.self c.count.result c.count.ensures read)
 
 pub returns-in-Ok-End-clause-told : goal.returns-in-Ok-End-clause-told
 returns-in-Ok-End-clause-told g c =
     let read = subst (λ (ended : Ended). ReadsLine c.self.inside.room c.self.inside.buffer (g.S.Source.left c.args.source.now) (Ok ended) c.read_line.new.line.items c.read_line.new.self (g.S.Source.left c.read_line.new.source)) c.in-Ok-End.field-0-is c.in-Ok-End.ensures.told in
-    let plays = rw c.deref.ensures.value at c.play_last.ensures in
-    rw (← c.self.view_is) (read_last (g.S.Source.left c.args.source.now) (g.K.Sink.held c.args.sink.now) (g.S.Source.left c.read_line.new.source) _ c.play_last.new.self c.read_line.new.line.items c.read_line.new.self c.play_last.result read plays)
+    let plays = rw c.deref.ensures.value at c.play_last.ensures.plays in
+    rw (← c.self.view_is) (λ fresh. read_last (g.S.Source.left c.args.source.now) (g.K.Sink.held c.args.sink.now) (g.S.Source.left c.read_line.new.source) _ c.play_last.new.self c.read_line.new.line.items c.read_line.new.self c.play_last.result read (plays fresh))
 
 pub returns-in-Ok-Newline-clause-told : goal.returns-in-Ok-Newline-clause-told
 returns-in-Ok-Newline-clause-told g c =
     let read = subst (λ (ended : Ended). ReadsLine c.self.inside.room c.self.inside.buffer (g.S.Source.left c.args.source.now) (Ok ended) c.read_line.new.line.items c.read_line.new.self (g.S.Source.left c.read_line.new.source)) c.in-Ok-Newline.field-0-is c.in-Ok-Newline.ensures.told in
     let plays = rw c.deref-in-Ok-Newline.ensures.value at c.play_ended.ensures.told in
-    rw (← c.self.view_is) (read_ended (g.S.Source.left c.args.source.now) (g.K.Sink.held c.args.sink.now) (g.S.Source.left c.read_line.new.source) (g.K.Sink.held c.play_ended.new.sink) _ c.play_ended.new.self c.read_line.new.line.items c.read_line.new.self c.play_ended.result read plays)
+    rw (← c.self.view_is) (λ fresh. read_ended (g.S.Source.left c.args.source.now) (g.K.Sink.held c.args.sink.now) (g.S.Source.left c.read_line.new.source) (g.K.Sink.held c.play_ended.new.sink) _ c.play_ended.new.self c.read_line.new.line.items c.read_line.new.self c.play_ended.result read (plays fresh))

@@ -1,10 +1,10 @@
-use Rattle.std.proofs.Common.{◌≡◌, Option, Some, None}
+use Rattle.std.proofs.Common.{◌≡◌, None}
 use Rattle.ff_cluster.proofs.ReplayLemmas.{Went}
 use Rattle.ff_cluster.proofs.replay.Playback.play.Given as goal
 
 abbrev pub invariant-loop-line : goal.invariant-loop-line
 invariant-loop-line g l = record {
-  told : Went (g.S.Source.left l.fn.source) (g.K.Sink.held l.fn.sink) l.fn.self (g.S.Source.left l.source) (g.K.Sink.held l.sink) l.self;
+  told : l.fn.self.player.spent ≡ None → Went (g.S.Source.left l.fn.source) (g.K.Sink.held l.fn.sink) l.fn.self (g.S.Source.left l.source) (g.K.Sink.held l.sink) l.self;
   reads : g.S.Source.faults l.source ≡ g.S.Source.faults l.fn.source;
   writes : g.K.Sink.faults l.sink ≡ g.K.Sink.faults l.fn.sink;
 }
