@@ -470,3 +470,19 @@ fn a_restart_of_another_server_is_outside_the_grammar(rt: HostRuntime) -> Result
     assert_eq!(rt; ended.notes.bytes(), b"line 3\n".as_slice());
     Ok(())
 }
+
+/// A GETATTR whose handle of five bytes has a padding byte of 1: garbage arguments.
+const PADDED: &str =
+    "000000070000000000000002000186a3000000030000000100000001000000180000000000000002633100000001000000010000000000000000000000000000000000050102030405010000";
+
+#[test]
+fn padding_that_is_not_zero_is_garbage(rt: HostRuntime) -> Result<(), Fail> {
+    let script = format!(in rt.alloc(); "bare\ndeliver {PADDED}\n")?;
+    let wanted = format!(in rt.alloc();
+        "packet 1 c0 d1 {PADDED}\ndelivered 1\npacket 2 d1 c0 000000070000000100000000000000000000000000000004\n"
+    )?;
+    let ended = ran(rt.alloc(), &["replay"], script.as_str(), NONE)?;
+    assert_eq!(rt; ended.status, 0);
+    assert_eq!(rt; ended.sink.bytes(), wanted.as_bytes());
+    Ok(())
+}
