@@ -2,9 +2,8 @@ pub mod Spelling
 pub mod Distinct
 pub mod ScriptWords
 pub mod PieceLemmas
-pub mod LineLemmas
 pub mod Deliveries
 pub mod Reboots
 pub mod PlayLemmas
-pub mod ReplayLemmas
 pub mod ScriptLemmas
+pub mod ShowLemmas

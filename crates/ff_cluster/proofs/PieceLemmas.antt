@@ -7,7 +7,7 @@ use Rattle.cluster_model.specs.Print.{joined, piece_text, pieces_text}
 use Rattle.std.proofs.lemmas.Bool.{eq-eqb, eqb-true, ne_eqb, cond-true, cond-false, lt-leb, le-leb, le-ltb, lt-ltb}
 use Rattle.memchr.specs.Find.{IsFirstByte, is_byte}
 use Rattle.cluster_model.specs.declared.piece.Piece.{Piece}
-use Rattle.ff_cluster.specs.Lines.{onto_first}
+use Rattle.line_runs.specs.Lines.{onto_first}
 use Rattle.std.specs.Prelude.{decimal, IfSome, IfNone}
 use Rattle.std.specs.Str.{bytes_eq}
 use Rattle.ff_cluster.specs.Pieces.{◌>>=◌, value_of, number_at, parts, piece_from, piece_at, pieces_from, pieces_at, listed, all_listed, spelled_pieces}

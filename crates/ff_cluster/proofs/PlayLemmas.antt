@@ -12,11 +12,12 @@ use Rattle.ff_cluster.specs.declared.line.Event.{Event}
 use Rattle.ff_cluster.specs.Line.{EventLine, SetupLine, Nothing, setup_at, event_at, line_at, line_value, event_value}
 use Rattle.cluster_model.specs.Event.{EventValue}
 use Rattle.cluster_model.specs.Print.{print, line_of}
-use Rattle.ff_cluster.specs.declared.player.Played.{Played as Outcome}
-use Rattle.ff_cluster.specs.World.{WorldState, WorldValue, preset_world, world_step, Occurs}
-use Rattle.ff_cluster.specs.Script.{Played, played, played_by, played_step, entries_by, setup_of, world_of}
-use Rattle.ff_cluster.specs.Writing.{Begins, PrintsText}
-use Rattle.ff_cluster.specs.Player.{PlayerState, player_of, GoesFrom, HasBegun, Does}
+use Rattle.line_runs.specs.declared.end.Played.{Played as Outcome}
+use Rattle.ff_cluster.specs.World.{WorldState, WorldValue, preset_world, world_step, Occurs, Stays}
+use Rattle.ff_cluster.specs.Script.{Played, played, played_by, played_step, entries_by, setup_of, world_of, count_of}
+use Rattle.line_runs.specs.Writing.{Begins}
+use Rattle.ff_cluster.specs.Writing.{PrintsText}
+use Rattle.ff_cluster.specs.Player.{PlayerValue, value_of, PlayerState, with_trace, GoesFrom, IsLimited, HasBegun, Does}
 
 pub print_append : (xs ys : List Entry) → print (xs ++ ys) ≡ print xs ++ print ys
 print_append [] ys = refl
@@ -51,29 +52,28 @@ begun_in_part old new w next event entries (Err z) e failed at occurs prints =
       trace = prints.2;
     }
 
-pub happens_in_part : (old new : PlayerState) (stage : Option WorldValue) (trace : List ℕ) (w next : WorldValue) (event : EventValue) (entries : List Entry) (printed : Result (Unit {0}) NoMemory) (e : NoMemory) (r : Result Outcome NoMemory) (y : NoMemory)
-    → player_of stage trace ≡ old → stage ≡ Some w → printed ≡ Err e → r ≡ Err y → (w.spent ≡ None → Occurs w.world event [] next entries) → PrintsText trace (print entries) printed new.trace
-    → old.spent ≡ None → Does old (played_step (world_step (world_of old.stage) event)) r new
-happens_in_part old new stage trace w next event entries printed e (Ok x) y view is failed so occurs prints fresh = absurd (cc)
-happens_in_part old new stage trace w next event entries printed e (Err z) y view is failed so occurs prints fresh =
-    let at : old.stage ≡ Some w.world = sym (ap (λ (p : PlayerState). p.stage) view) ∙ ap (λ s. (player_of s trace).stage) is in
-    let not_spent : w.spent ≡ None = sym (ap (λ s. (player_of s trace).spent) is) ∙ ap (λ (p : PlayerState). p.spent) view ∙ fresh in
-    let trace_is : trace ≡ old.trace = sym (ap (λ s. (player_of s trace).trace) is) ∙ ap (λ (p : PlayerState). p.trace) view in
-    begun_in_part old new w.world next event entries printed e failed at (occurs not_spent) (subst (λ t. PrintsText t (print entries) printed new.trace) trace_is prints)
+-- what a view says of the world
+at_world : (old : PlayerValue) (stage : Option WorldValue) (w : WorldValue) → value_of stage ≡ old → stage ≡ Some w → old.stage ≡ Some w.world
+at_world old stage w view is = sym (ap (λ (p : PlayerValue). p.stage) view) ∙ ap (λ s. (value_of s).stage) is
 
--- what a view says of its trace
-pub trace_of_view : (old : PlayerState) (stage : Option WorldValue) (trace : List ℕ) (w : WorldValue) → player_of stage trace ≡ old → stage ≡ Some w → trace ≡ old.trace
-trace_of_view old stage trace w view is = sym (ap (λ s. (player_of s trace).trace) is) ∙ ap (λ (p : PlayerState). p.trace) view
+not_spent : (old : PlayerValue) (stage : Option WorldValue) (w : WorldValue) → value_of stage ≡ old → stage ≡ Some w → old.spent ≡ None → w.spent ≡ None
+not_spent old stage w view is fresh = sym (ap (λ s. (value_of s).spent) is) ∙ ap (λ (p : PlayerValue). p.spent) view ∙ fresh
+
+pub happens_in_part : (old new : PlayerValue) (stage : Option WorldValue) (trace trace' : List ℕ) (w next : WorldValue) (event : EventValue) (entries : List Entry) (printed : Result (Unit {0}) NoMemory) (e : NoMemory) (r : Result Outcome NoMemory) (y : NoMemory)
+    → value_of stage ≡ old → stage ≡ Some w → printed ≡ Err e → r ≡ Err y → (w.spent ≡ None → Occurs w.world event [] next entries) → PrintsText trace (print entries) printed trace'
+    → old.spent ≡ None → Does (with_trace old trace) (played_step (world_step (world_of old.stage) event)) r (with_trace new trace')
+happens_in_part old new stage trace trace' w next event entries printed e (Ok x) y view is failed so occurs prints fresh = absurd (cc)
+happens_in_part old new stage trace trace' w next event entries printed e (Err z) y view is failed so occurs prints fresh =
+    begun_in_part (with_trace old trace) (with_trace new trace') w.world next event entries printed e failed (at_world old stage w view is) (occurs (not_spent old stage w view is fresh)) prints
 
 -- an event whose entries are printed
-pub happens_all : (old : PlayerState) (stage : Option WorldValue) (trace : List ℕ) (w next : WorldValue) (event : EventValue) (entries : List Entry) (out : List ℕ)
-    → player_of stage trace ≡ old → stage ≡ Some w → (w.spent ≡ None → Occurs w.world event [] next entries) → out ≡ trace ++ print entries
-    → old.spent ≡ None → GoesFrom old (played_step (world_step (world_of old.stage) event)) (record { stage = Some next.world; spent = next.spent; trace = out })
-happens_all old stage trace w next event entries out view is occurs prints fresh =
-    let at : old.stage ≡ Some w.world = sym (ap (λ (p : PlayerState). p.stage) view) ∙ ap (λ s. (player_of s trace).stage) is in
-    let not_spent : w.spent ≡ None = sym (ap (λ s. (player_of s trace).spent) is) ∙ ap (λ (p : PlayerState). p.spent) view ∙ fresh in
-    let here = occurs not_spent in
-    let text : out ≡ old.trace ++ print here.step.entries = prints ∙ ap (λ t. t ++ print entries) (trace_of_view old stage trace w view is) ∙ ap (λ es. old.trace ++ print es) here.entries in
+pub happens_all : (old : PlayerValue) (stage : Option WorldValue) (trace out : List ℕ) (w next : WorldValue) (event : EventValue) (entries : List Entry)
+    → value_of stage ≡ old → stage ≡ Some w → (w.spent ≡ None → Occurs w.world event [] next entries) → out ≡ trace ++ print entries
+    → old.spent ≡ None → GoesFrom (with_trace old trace) (played_step (world_step (world_of old.stage) event)) (record { stage = Some next.world; spent = next.spent; trace = out })
+happens_all old stage trace out w next event entries view is occurs prints fresh =
+    let at = at_world old stage w view is in
+    let here = occurs (not_spent old stage w view is fresh) in
+    let text : out ≡ trace ++ print here.step.entries = prints ∙ ap (λ es. trace ++ print es) here.entries in
     let make : WorldValue → List ℕ → PlayerState = λ n t. record { stage = Some n.world; spent = n.spent; trace = t } in
     record {
       stage = Some here.step.world;
@@ -82,37 +82,49 @@ happens_all old stage trace w next event entries out view is occurs prints fresh
       now = ap (λ n. make n out) here.world ∙ ap (λ t. make (record { world = here.step.world; spent = None }) t) text;
     }
 
+-- an event that would pass a limit
+pub happens_not : (old : PlayerValue) (new : PlayerState) (stage : Option WorldValue) (trace : List ℕ) (w next : WorldValue) (event : EventValue) (count : ℕ)
+    → value_of stage ≡ old → stage ≡ Some w → (w.spent ≡ None → Stays w.world event count next) → new.trace ≡ trace
+    → old.spent ≡ None → IsLimited (with_trace old trace) (played_step (world_step (world_of old.stage) event)) count new
+happens_not old new stage trace w next event count view is stays same fresh =
+    let at = at_world old stage w view is in
+    let here = stays (not_spent old stage w view is fresh) in record {
+      is = ap (λ s. played_step (world_step (world_of s) event)) at ∙ ap played_step here.is;
+      count_is = here.told ∙ sym (ap count_of at);
+      trace = same;
+    }
+
 pub begins_none : (old new : PlayerState) (does : Played) → new.trace ≡ old.trace → HasBegun old does new
 begins_none old new does same = record { part = []; begins = begins_nothing _; trace = same ∙ sym (append-nil old.trace) }
 
 -- ---- a line, by what it says
 
-pub said : (old : PlayerState) (text : List ℕ) (says : Option Line) (setup : Option Setup) → setup ≡ setup_of old.stage → option_map line_value says ≡ line_at setup text
+pub said : (old : PlayerValue) (text : List ℕ) (says : Option Line) (setup : Option Setup) → setup ≡ setup_of old.stage → option_map line_value says ≡ line_at setup text
     → played old.stage text ≡ played_by old.stage (option_map line_value says)
 said old text says setup chosen parsed = ap (played_by old.stage) (sym (parsed ∙ ap (λ s. line_at s text) chosen))
 
-pub plays_nothing : (old : PlayerState) (text : List ℕ) (says : Option Line) (setup : Option Setup) → old.spent ≡ None → setup ≡ setup_of old.stage
-    → option_map line_value says ≡ line_at setup text → says ≡ Some line.Nothing → GoesFrom old (played old.stage text) old
-plays_nothing old text says setup fresh chosen parsed is = record {
+pub plays_nothing : (old : PlayerValue) (trace text : List ℕ) (says : Option Line) (setup : Option Setup) → old.spent ≡ None → setup ≡ setup_of old.stage
+    → option_map line_value says ≡ line_at setup text → says ≡ Some line.Nothing → GoesFrom (with_trace old trace) (played old.stage text) (with_trace old trace)
+plays_nothing old trace text says setup fresh chosen parsed is = record {
   stage = old.stage;
   entries = [];
   is = said old text says setup chosen parsed ∙ ap (λ s. played_by old.stage (option_map line_value s)) is;
-  now = ap (λ o. record { stage = old.stage; spent = o; trace = old.trace }) fresh ∙ ap (λ t. record { stage = old.stage; spent = None; trace = t }) (sym (append-nil old.trace));
+  now = ap (λ o. record { stage = old.stage; spent = o; trace = trace }) fresh ∙ ap (λ t. record { stage = old.stage; spent = None; trace = t }) (sym (append-nil trace));
 }
 
-pub plays_setup : (old new : PlayerState) (text : List ℕ) (says : Option Line) (setup : Option Setup) (which : Setup) → setup ≡ setup_of old.stage
-    → option_map line_value says ≡ line_at setup text → says ≡ Some (line.Setup which) → new ≡ record { stage = Some preset_world; spent = None; trace = old.trace } → GoesFrom old (played old.stage text) new
-plays_setup old new text says setup which chosen parsed is now = record {
+pub plays_setup : (old new : PlayerValue) (trace text : List ℕ) (says : Option Line) (setup : Option Setup) (which : Setup) → setup ≡ setup_of old.stage
+    → option_map line_value says ≡ line_at setup text → says ≡ Some (line.Setup which) → new ≡ record { stage = Some preset_world; spent = None } → GoesFrom (with_trace old trace) (played old.stage text) (with_trace new trace)
+plays_setup old new trace text says setup which chosen parsed is now = record {
   stage = Some preset_world;
   entries = [];
   is = said old text says setup chosen parsed ∙ ap (λ s. played_by old.stage (option_map line_value s)) is;
-  now = now ∙ ap (λ t. record { stage = Some preset_world; spent = None; trace = t }) (sym (append-nil old.trace));
+  now = ap (λ n. with_trace n trace) now ∙ ap (λ t. record { stage = Some preset_world; spent = None; trace = t }) (sym (append-nil trace));
 }
 
-pub plays_event : (old new : PlayerState) (text : List ℕ) (says : Option Line) (setup : Option Setup) (event : Event) (r : Result Outcome NoMemory) → setup ≡ setup_of old.stage
-    → option_map line_value says ≡ line_at setup text → says ≡ Some (line.Event event) → Does old (played_step (world_step (world_of old.stage) (event_value event))) r new → Does old (played old.stage text) r new
-plays_event old new text says setup event r chosen parsed is does =
-    subst (λ p. Does old p r new) (sym (said old text says setup chosen parsed ∙ ap (λ s. played_by old.stage (option_map line_value s)) is)) does
+pub plays_event : (old : PlayerValue) (trace : List ℕ) (new : PlayerState) (text : List ℕ) (says : Option Line) (setup : Option Setup) (event : Event) (r : Result Outcome NoMemory) → setup ≡ setup_of old.stage
+    → option_map line_value says ≡ line_at setup text → says ≡ Some (line.Event event) → Does (with_trace old trace) (played_step (world_step (world_of old.stage) (event_value event))) r new → Does (with_trace old trace) (played old.stage text) r new
+plays_event old trace new text says setup event r chosen parsed is does =
+    subst (λ p. Does (with_trace old trace) p r new) (sym (said old text says setup chosen parsed ∙ ap (λ s. played_by old.stage (option_map line_value s)) is)) does
 
 -- no event is read before the setup
 pub event_after_setup : (stage : Option Setup) (text : List ℕ) (says : Option Line) (event : Event) → option_map line_value says ≡ line_at stage text → says ≡ Some (line.Event event) → stage ≡ Some Bare
@@ -143,9 +155,9 @@ setup_first (Some Bare) text says which parsed is = absurd (none_is text which (
     none_is (c ∷ rest) which h = not_event (c == 35) (event_at (c ∷ rest)) which h
 
 -- and then nothing is spent
-pub fresh_before : (old : PlayerState) (stage : Option WorldValue) (trace : List ℕ) → player_of stage trace ≡ old → setup_of old.stage ≡ None → old.spent ≡ None
-fresh_before old None trace view none = sym (ap (λ (p : PlayerState). p.spent) view)
-fresh_before old (Some w) trace view none =
-    let at : Some w.world ≡ old.stage = ap (λ (p : PlayerState). p.stage) view in
+pub fresh_before : (old : PlayerValue) (stage : Option WorldValue) → value_of stage ≡ old → setup_of old.stage ≡ None → old.spent ≡ None
+fresh_before old None view none = sym (ap (λ (p : PlayerValue). p.spent) view)
+fresh_before old (Some w) view none =
+    let at : Some w.world ≡ old.stage = ap (λ (p : PlayerValue). p.stage) view in
     let some : Some Bare ≡ None = ap setup_of at ∙ none in
     absurd (cc (some))

@@ -1,8 +1,15 @@
 -- What the first line of a script does to what the script says.
-use Rattle.std.proofs.Common.{◌≡◌, ℕ, ◌+◌, Bool, true, false, List, [], ◌∷◌, ◌++◌, length, Option, Some, None, refl, ap, subst, ◌∙◌, arith, ◌==◌, if◌then◌else◌}
+use Rattle.std.proofs.Common.{◌≡◌, ℕ, ◌+◌, Bool, true, false, List, [], ◌∷◌, ◌++◌, length, Option, Some, None, Result, Ok, Err, refl, sym, ap, subst, ◌∙◌, arith, ◌==◌, if◌then◌else◌}
 use Rattle.std.specs.Option.{option_map}
-use Rattle.std.proofs.lemmas.List.{length-append}
+use Rattle.std.proofs.lemmas.List.{append_assoc, length-append}
 use Rattle.cluster_model.specs.declared.entry.Entry.{Entry}
+use Rattle.cluster_model.specs.Print.{print}
+use Rattle.ff_xdr.specs.declared.error.NoMemory.{NoMemory}
+use Rattle.line_runs.specs.declared.end.Played.{Played as Outcome}
+use Rattle.line_runs.specs.declared.end.Played.TheVariants as outcome
+use Rattle.line_runs.specs.Writing.{Begins}
+use Rattle.line_runs.specs.Runs.{Course, after_text, IsOutside, Does as TaskDoes}
+use Rattle.ff_cluster.specs.Player.{PlayerValue, PlayerState, with_trace, GoesFrom, HasBegun, Does}
 use Rattle.ff_cluster.specs.declared.line.Setup.{Setup}
 use Rattle.ff_cluster.specs.declared.line.Setup.TheVariants.{Bare}
 use Rattle.ff_cluster.specs.Line.{LineValue, EventLine, SetupLine, Nothing, setup_at, event_at, words_at, line_at}
@@ -10,8 +17,8 @@ use Rattle.cluster_model.specs.Event.{EventValue, Deliver, Restart}
 use Rattle.ds_files.specs.Server.{ServerState}
 use Rattle.ds_files.specs.Restart.{restart_of}
 use Rattle.ff_cluster.specs.World.{WorldState, WorldStep, effect_of, world_step, Run, with_step, run_of, restart_step}
-use Rattle.ff_cluster.specs.Script.{Script, by_line, with_event, script_of, Played, Outside, Limited, Goes, played, played_by, played_step, entries_by, setup_of, world_of, count_of}
-use Rattle.ff_cluster.specs.Replay.{script_from, run_from, prospect}
+use Rattle.ff_cluster.specs.Script.{Script, by_line, with_event, script_of, Played, Outside, Limited, Goes, played, played_by, played_step, entries_by, setup_of, world_of, count_of, script_from, run_from, course_from}
+use Rattle.ff_cluster.proofs.PlayLemmas.{print_append}
 
 -- a setup's line stands only before a setup, and an event's only behind one
 abbrev pub Meets : Option Setup → Option LineValue → Type 0
@@ -82,46 +89,81 @@ by_value number None (Some (EventLine event)) rest met = absurd met
 by_value number (Some w) (Some (EventLine event)) rest met = by_event number w event rest (world_step w event) refl
 
 line_on : (number : ℕ) (stage : Option WorldState) (line : List ℕ) (lines : List (List ℕ)) (p : Played) → played stage line ≡ p
-    → Splits number stage p (λ chosen. script_of (number + 1) chosen lines) (script_from number stage (line ∷ lines)) (run_from number stage (line ∷ lines))
+    → Splits number stage p (λ chosen. script_of (number + 1) chosen lines) (script_from stage number (line ∷ lines)) (run_from stage number (line ∷ lines))
 line_on number stage line lines p is =
-    subst (λ q. Splits number stage q (λ chosen. script_of (number + 1) chosen lines) (script_from number stage (line ∷ lines)) (run_from number stage (line ∷ lines))) is
+    subst (λ q. Splits number stage q (λ chosen. script_of (number + 1) chosen lines) (script_from stage number (line ∷ lines)) (run_from stage number (line ∷ lines))) is
     (by_value number stage (line_at (setup_of stage) line) (λ chosen. script_of (number + 1) chosen lines) (meets (setup_of stage) line))
 
 -- ---- the first line, and what is to come
 
 -- it is played
-pub goes_first : (number : ℕ) (stage next : Option WorldState) (line : List ℕ) (lines : List (List ℕ)) (entries : List Entry) (over : ℕ) → played stage line ≡ Goes next entries
-    → (prospect number stage (line ∷ lines) over ≡ prospect (number + 1) next lines over)
-    × ((run_from number stage (line ∷ lines)).entries ≡ entries ++ (run_from (number + 1) next lines).entries)
-goes_first number stage next line lines entries over is =
+goes_first : (number : ℕ) (stage next : Option WorldState) (line : List ℕ) (lines : List (List ℕ)) (entries : List Entry) → played stage line ≡ Goes next entries
+    → course_from stage number (line ∷ lines) ≡ after_text (print entries) (course_from next (number + 1) lines)
+goes_first number stage next line lines entries is =
     let split = line_on number stage line lines (Goes next entries) is in
-    let es = (run_from (number + 1) next lines).entries in
+    let es = (run_from next (number + 1) lines).entries in
     let count : count_of stage + length (entries ++ es) ≡ count_of next + length es = omega (arith, split.2, length-append entries es) in
-    let whole : prospect number stage (line ∷ lines) over ≡ record { bad = (script_from (number + 1) next lines).bad; past = (run_from (number + 1) next lines).over; count = count_of stage + length (entries ++ es); over = over } =
-    (λ i. record { bad = split.0 i; past = (split.1 i).over; count = count_of stage + length (split.1 i).entries; over = over }) in (
-      whole ∙ ap (λ (n : ℕ). record { bad = (script_from (number + 1) next lines).bad; past = (run_from (number + 1) next lines).over; count = n; over = over }) count,
-      ap (λ (r : Run). r.entries) split.1,
-    )
+    let make : List ℕ → ℕ → Course = λ t n. record { text = t; bad = (script_from next (number + 1) lines).bad; past = (run_from next (number + 1) lines).over; count = n } in
+    let all : course_from stage number (line ∷ lines) ≡ make (print (entries ++ es)) (count_of stage + length (entries ++ es)) =
+    (λ i. record { text = print (split.1 i).entries; bad = split.0 i; past = (split.1 i).over; count = count_of stage + length (split.1 i).entries }) in
+    all ∙ (λ i. make (print_append entries es i) (count i))
 
 -- it is outside the grammar
-pub outside_first : (number : ℕ) (stage : Option WorldState) (line : List ℕ) (lines : List (List ℕ)) → played stage line ≡ Outside
-    → ((script_from number stage (line ∷ lines)).bad ≡ Some number) × ((run_from number stage (line ∷ lines)).over ≡ false) × ((run_from number stage (line ∷ lines)).entries ≡ [])
+outside_first : (number : ℕ) (stage : Option WorldState) (line : List ℕ) (lines : List (List ℕ)) → played stage line ≡ Outside
+    → ((course_from stage number (line ∷ lines)).bad ≡ Some number) × ((course_from stage number (line ∷ lines)).past ≡ false) × ((course_from stage number (line ∷ lines)).text ≡ [])
 outside_first number stage line lines is =
     let split = line_on number stage line lines Outside is in (
       ap (λ (s : Script). s.bad) split,
       ap (λ (s : Script). (run_of (world_of stage) s.events).over) split,
-      ap (λ (s : Script). (run_of (world_of stage) s.events).entries) split,
+      ap (λ (s : Script). print (run_of (world_of stage) s.events).entries) split,
     )
 
 -- its event would pass a limit
-pub limited_first : (number : ℕ) (stage : Option WorldState) (line : List ℕ) (lines : List (List ℕ)) → played stage line ≡ Limited
-    → ((run_from number stage (line ∷ lines)).over ≡ true) × ((run_from number stage (line ∷ lines)).entries ≡ [])
-limited_first number stage line lines is =
-    let split = line_on number stage line lines Limited is in (ap (λ (r : Run). r.over) split, ap (λ (r : Run). r.entries) split)
+limited_first : (number : ℕ) (stage : Option WorldState) (line : List ℕ) (lines : List (List ℕ)) (count : ℕ) → played stage line ≡ Limited → count ≡ count_of stage
+    → ((course_from stage number (line ∷ lines)).past ≡ true) × (count ≡ (course_from stage number (line ∷ lines)).count) × ((course_from stage number (line ∷ lines)).text ≡ [])
+limited_first number stage line lines count is same =
+    let split = line_on number stage line lines Limited is in (
+      ap (λ (r : Run). r.over) split,
+      (let none : length (run_from stage number (line ∷ lines)).entries ≡ 0 = ap (λ (r : Run). length r.entries) split in omega (arith, same, none)),
+      ap (λ (r : Run). print r.entries) split,
+    )
 
--- the entries of a run begin with those of the first line
-pub entries_first : (number : ℕ) (stage : Option WorldState) (line : List ℕ) (lines : List (List ℕ)) (p : Played) → played stage line ≡ p
-    → (more : List Entry) × ((run_from number stage (line ∷ lines)).entries ≡ entries_by p ++ more)
-entries_first number stage line lines Outside is = ([], (outside_first number stage line lines is).2)
-entries_first number stage line lines Limited is = ([], (limited_first number stage line lines is).1)
-entries_first number stage line lines (Goes next entries) is = ((run_from (number + 1) next lines).entries, (goes_first number stage next line lines entries 0 is).1)
+-- the text of the first line begins the text of all
+text_first : (number : ℕ) (stage : Option WorldState) (line : List ℕ) (lines : List (List ℕ)) (p : Played) → played stage line ≡ p
+    → (more : List ℕ) × ((course_from stage number (line ∷ lines)).text ≡ print (entries_by p) ++ more)
+text_first number stage line lines Outside is = ([], (outside_first number stage line lines is).2)
+text_first number stage line lines Limited is = ([], (limited_first number stage line lines (count_of stage) is refl).2)
+text_first number stage line lines (Goes next entries) is =
+    (print (run_from next (number + 1) lines).entries, ap (λ (c : Course). c.text) (goes_first number stage next line lines entries is))
+
+begins_first : (part text more all : List ℕ) → Begins part text → all ≡ text ++ more → Begins part all
+begins_first part text more all begins is = record {
+  rest = begins.rest ++ more;
+  whole = sym (append_assoc part begins.rest more) ∙ ap (λ t. t ++ more) begins.whole ∙ sym is;
+}
+
+-- What a player did with a line is what a task does.
+pub does_task : (old new : PlayerValue) (text text' line : List ℕ) (r : Result Outcome NoMemory) (number : ℕ) → Does (with_trace old text) (played old.stage line) r (with_trace new text')
+    → TaskDoes number line (course_from old.stage number) text r (course_from new.stage (number + 1)) text'
+does_task old new text text' line (Ok outcome.Done) number goes =
+    let stage : new.stage ≡ goes.stage = ap (λ (p : PlayerState). p.stage) goes.now in record {
+      more = print goes.entries;
+      now = ap (λ (p : PlayerState). p.trace) goes.now;
+      same = λ lines. goes_first number old.stage goes.stage line lines goes.entries goes.is
+          ∙ ap (λ s. after_text (print goes.entries) (course_from s (number + 1) lines)) (sym stage);
+    }
+does_task old new text text' line (Ok outcome.Outside) number refuses =
+    (λ lines. outside_first number old.stage line lines refuses.0, ap (λ (p : PlayerState). p.trace) refuses.1)
+does_task old new text text' line (Ok (outcome.Limited count)) number limited =
+    (λ lines. limited_first number old.stage line lines count limited.is limited.count_is, limited.trace)
+does_task old new text text' line (Err e) number begun = record {
+  part = begun.part;
+  now = begun.trace;
+  begins = λ lines.
+      let first = text_first number old.stage line lines (played old.stage line) refl in
+      begins_first begun.part _ first.0 _ begun.begins first.1;
+}
+
+-- after a line that was played nothing is spent
+pub does_fresh : (old new : PlayerState) (p : Played) (r : Result Outcome NoMemory) → r ≡ Ok outcome.Done → Does old p r new → new.spent ≡ None
+does_fresh old new p r is does = ap (λ (n : PlayerState). n.spent) (subst (λ x. Does old p x new) is does).now

@@ -1,10 +1,9 @@
 pub mod Digits
 pub mod Pieces
 pub mod Line
-pub mod Lines
 pub mod World
 pub mod Script
-pub mod Writing
 pub mod Player
-pub mod Replay
 pub mod Run
+pub mod Writing
+pub mod Show

@@ -2,28 +2,31 @@
 use Rattle.std.specs.Prelude.{◌≡◌, ℕ, List, ◌++◌, Option, Some, None, Result, Ok, Err}
 use Rattle.ff_xdr.specs.declared.error.NoMemory.{NoMemory}
 use Rattle.cluster_model.specs.declared.entry.Entry.{Entry}
-use Rattle.ff_cluster.specs.declared.player.Played.{Played as Outcome}
-use Rattle.ff_cluster.specs.declared.player.Played.TheVariants as outcome
+use Rattle.line_runs.specs.declared.end.Played.{Played as Outcome}
+use Rattle.line_runs.specs.declared.end.Played.TheVariants as outcome
+use Rattle.line_runs.specs.Writing.{Begins}
 use Rattle.ff_cluster.specs.declared.world.WorldFault.{WorldFault}
 use Rattle.cluster_model.specs.Print.{print}
 use Rattle.ff_cluster.specs.World.{WorldState, WorldValue}
 use Rattle.ff_cluster.specs.Script.{Played, Outside, Limited, Goes, entries_by, count_of}
-use Rattle.ff_cluster.specs.Writing.{Begins}
 
--- the world so far, what it is spent by, and the text of its journal that is not yet written
+-- the world that a script has made so far, and what it is spent by
+pub record PlayerValue : Type 0 where
+  pub stage : Option WorldState
+  pub spent : Option WorldFault
+
+abbrev pub value_of : Option WorldValue → PlayerValue
+value_of None = record { stage = None; spent = None }
+value_of (Some w) = record { stage = Some w.world; spent = w.spent }
+
+-- the same, with the text of its journal that is not yet written
 pub record PlayerState : Type 0 where
   pub stage : Option WorldState
   pub spent : Option WorldFault
   pub trace : List ℕ
 
--- a player, from the world that its script has made
-abbrev pub player_of : Option WorldValue → List ℕ → PlayerState
-player_of None trace = record { stage = None; spent = None; trace = trace }
-player_of (Some w) trace = record { stage = Some w.world; spent = w.spent; trace = trace }
-
--- the trace is written once it has so many bytes
-abbrev pub full : ℕ
-full = 65536
+abbrev pub with_trace : PlayerValue → List ℕ → PlayerState
+with_trace p trace = record { stage = p.stage; spent = p.spent; trace = trace }
 
 -- the run goes on, and the entries are printed
 pub record GoesFrom (old : PlayerState) (does : Played) (new : PlayerState) : Type 0 where
@@ -33,9 +36,9 @@ pub record GoesFrom (old : PlayerState) (does : Played) (new : PlayerState) : Ty
   pub now : new ≡ record { stage = stage; spent = None; trace = old.trace ++ print entries }
 
 -- the run is at a limit, and all entries so far are printed
-pub record IsLimited (old : PlayerState) (does : Played) (new : PlayerState) : Type 0 where
+pub record IsLimited (old : PlayerState) (does : Played) (count : ℕ) (new : PlayerState) : Type 0 where
   pub is : does ≡ Limited
-  pub count : count_of new.stage ≡ count_of old.stage
+  pub count_is : count ≡ count_of old.stage
   pub trace : new.trace ≡ old.trace
 
 -- memory was wanted, and a beginning of the entries is printed
@@ -49,5 +52,5 @@ pub record HasBegun (old : PlayerState) (does : Played) (new : PlayerState) : Ty
 abbrev pub Does : PlayerState → Played → Result Outcome NoMemory → PlayerState → Type 0
 Does old does (Ok outcome.Done) new = GoesFrom old does new
 Does old does (Ok outcome.Outside) new = (does ≡ Outside) × (new ≡ old)
-Does old does (Ok outcome.Limited) new = IsLimited old does new
+Does old does (Ok (outcome.Limited count)) new = IsLimited old does count new
 Does old does (Err e) new = HasBegun old does new

@@ -1,20 +1,33 @@
 -- The top call: what the words ask for, what was done, and what is said of it.
-use Rattle.std.specs.Prelude.{◌≡◌, ℕ, Bool, true, false, List, [], ◌∷◌, ◌++◌, codes, decimal, Option, Result, Ok, Err}
+use Rattle.std.specs.Prelude.{◌≡◌, ℕ, List, [], ◌∷◌, ◌++◌, codes, decimal, if◌then◌else◌, Option, Some, None, Result, Ok, Err}
 use Rattle.std.specs.Str.{bytes_eq}
 use Rattle.rpc_record.specs.declared.stream.Failed.{Failed}
 use Rattle.rpc_record.specs.declared.stream.Failed.TheVariants as failed
 use Rattle.rpc_record.specs.Stream.{counted}
-use Rattle.ff_cluster.specs.declared.replay.ReplayEnd.TheVariants.{Done, BadLine, ReadFault, WriteFault, NoMemory, Limit}
+use Rattle.line_runs.specs.declared.end.RunEnd.TheVariants.{Done, BadLine, ReadFault, WriteFault, NoMemory, Limit}
 use Rattle.ff_cluster.specs.declared.run.Outcome.{Outcome}
 use Rattle.ff_cluster.specs.declared.run.Outcome.TheVariants.{Usage, Ended}
-use Rattle.ff_cluster.specs.Replay.{Replays, ReadFaults, write_faults}
-use Rattle.ff_cluster.specs.Writing.{WritesText}
+use Rattle.line_runs.specs.Runs.{Coming, Runs, ReadFaults, write_faults}
+use Rattle.line_runs.specs.Writing.{WritesText}
+use Rattle.ff_cluster.specs.Script.{script_course}
+use Rattle.ff_cluster.specs.Show.{show_course}
+use Rattle.ff_cluster.specs.declared.run.Command.{Command}
+use Rattle.ff_cluster.specs.declared.run.Command.TheVariants.{Replay, Show}
 
--- the words behind the program's name that are a command: `replay`
-abbrev pub is_replay : List (List ℕ) → Bool
-is_replay [] = false
-is_replay (word ∷ []) = bytes_eq word (codes "replay")
-is_replay (word ∷ next ∷ rest) = false
+-- the command with this name
+abbrev pub command_named : List ℕ → Option Command
+command_named word = if bytes_eq word (codes "replay") then Some Replay else if bytes_eq word (codes "show") then Some Show else None
+
+-- the words behind the program's name that are a command: its name alone
+abbrev pub command_of : List (List ℕ) → Option Command
+command_of [] = None
+command_of (word ∷ []) = command_named word
+command_of (word ∷ next ∷ rest) = None
+
+-- what the lines of the source come to
+abbrev pub course_of : Command → Coming
+course_of Replay = script_course
+course_of Show = show_course
 
 -- the status that the program ends with
 abbrev pub status_of : Outcome → ℕ
@@ -46,10 +59,10 @@ status_after outcome (Ok x) = status_of outcome
 status_after outcome (Err failed.Fault) = 5
 status_after outcome (Err failed.NoMemory) = 8
 
--- what was done: nothing, since the words are no command; or a script was run, and ended so
-abbrev pub Did : Bool → Outcome → Option (List ℕ) → Option (List ℕ) → Option (List ℕ) → Option (List ℕ) → Type 0
-Did asked Usage left held left' held' = (asked ≡ false) × (left' ≡ left) × (held' ≡ held)
-Did asked (Ended end) left held left' held' = (asked ≡ true) × Replays left held end left' held'
+-- what was done: nothing, since the words are no command; or a command was run over the lines of the source, and ended so
+abbrev pub Did : Option Command → Outcome → Option (List ℕ) → Option (List ℕ) → Option (List ℕ) → Option (List ℕ) → Type 0
+Did asked Usage left held left' held' = (asked ≡ None) × (left' ≡ left) × (held' ≡ held)
+Did asked (Ended end) left held left' held' = (command : Command) × (asked ≡ Some command) × Runs (course_of command) left held end left' held'
 
 -- the source's count of faults, and the sink's
 abbrev pub DidRead : Outcome → ℕ → ℕ → Type 0

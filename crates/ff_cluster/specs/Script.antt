@@ -1,9 +1,9 @@
 -- What a script says, and the trace of it.
-use Rattle.std.specs.Prelude.{ℕ, ◌+◌, List, [], ◌∷◌, take, Option, Some, None}
+use Rattle.std.specs.Prelude.{ℕ, ◌+◌, List, [], ◌∷◌, length, Option, Some, None}
 use Rattle.cluster_model.specs.declared.entry.Entry.{Entry}
 use Rattle.ff_cluster.specs.declared.line.Setup.{Setup}
 use Rattle.ff_cluster.specs.declared.line.Setup.TheVariants.{Bare}
-use Rattle.ff_cluster.specs.Lines.{script_lines, ended_lines}
+use Rattle.line_runs.specs.Runs.{Course, Coming}
 use Rattle.ff_cluster.specs.Line.{LineValue, Nothing, SetupLine, EventLine, line_at}
 use Rattle.cluster_model.specs.Event.{EventValue}
 use Rattle.cluster_model.specs.Print.{print}
@@ -29,35 +29,7 @@ abbrev pub script_of : ℕ → Option Setup → List (List ℕ) → Script
 script_of number setup [] = record { events = []; bad = None }
 script_of number setup (line ∷ lines) = by_line number setup (line_at setup line) (λ chosen. script_of (number + 1) chosen lines)
 
--- the most bytes of a script: 64 MiB
-abbrev pub max_script : ℕ
-max_script = 67108864
-
--- What the bytes of a script say: of one that is too long, its lines that end within the first 64 MiB.
-unfoldable pub script : List ℕ → Script
-script bytes = script_of 1 None (script_lines max_script bytes)
-
--- The run of a script, its journal, and its text. A run ends before an event that would pass a limit.
-unfoldable pub run_of_script : List ℕ → Run
-run_of_script bytes = run_of preset_world (script bytes).events
-
-unfoldable pub journal_of : List ℕ → List Entry
-journal_of bytes = (run_of_script bytes).entries
-
-unfoldable pub trace_of : List ℕ → List ℕ
-trace_of bytes = print (journal_of bytes)
-
--- What the lines say that end in a newline: all that is known of bytes whose source failed behind them.
-unfoldable pub ended_script : List ℕ → Script
-ended_script bytes = script_of 1 None (ended_lines (take max_script bytes))
-
-unfoldable pub ended_run : List ℕ → Run
-ended_run bytes = run_of preset_world (ended_script bytes).events
-
-unfoldable pub ended_trace : List ℕ → List ℕ
-ended_trace bytes = print (ended_run bytes).entries
-
--- ---- a run, line by line
+-- ---- the run of a script
 
 -- the world so far: none before the setup line
 abbrev pub setup_of : Option WorldState → Option Setup
@@ -72,6 +44,29 @@ world_of (Some w) = w
 abbrev pub count_of : Option WorldState → ℕ
 count_of None = 0
 count_of (Some w) = w.count
+
+-- What lines say from this number on, behind those that made this world, and the run of them. A run ends before an event that
+-- would pass a limit.
+abbrev pub script_from : Option WorldState → ℕ → List (List ℕ) → Script
+script_from stage number lines = script_of number (setup_of stage) lines
+
+abbrev pub run_from : Option WorldState → ℕ → List (List ℕ) → Run
+run_from stage number lines = run_of (world_of stage) (script_from stage number lines).events
+
+-- what lines come to: the text of the journal that they add
+abbrev pub course_from : Option WorldState → ℕ → List (List ℕ) → Course
+course_from stage number lines = record {
+  text = print (run_from stage number lines).entries;
+  bad = (script_from stage number lines).bad;
+  past = (run_from stage number lines).over;
+  count = count_of stage + length (run_from stage number lines).entries;
+}
+
+-- what the lines of a script come to
+abbrev pub script_course : Coming
+script_course = course_from None 1
+
+-- ---- a run, line by line
 
 -- What a line does: it is outside the grammar; its event would pass a limit; or the run goes on from another world, with
 -- these entries more.

@@ -3,10 +3,6 @@
 
 pub mod digits;
 pub mod line;
-pub mod lines;
-mod lines_law;
-#[cfg(test)]
-mod lines_tests;
 pub mod pieces;
 #[cfg(test)]
 mod pieces_tests;
@@ -17,6 +13,9 @@ pub mod replay;
 pub mod run;
 #[cfg(test)]
 mod run_tests;
+pub mod show;
+#[cfg(test)]
+mod show_tests;
 #[cfg(test)]
 mod trace_tests;
 pub mod world;

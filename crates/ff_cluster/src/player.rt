@@ -1,61 +1,40 @@
 //! A run of a script, line by line.
 
-ghost use Rattle.std.specs.Prelude.{◌≡◌, ◌≢◌, ◌≤◌, ◌↔◌, IsTrue, length, [], None, OnOk, OnErr, IsSome};
-ghost use Rattle.rpc_record.specs.Stream.{counted};
+ghost use Rattle.std.specs.Prelude.{◌≡◌, ◌≢◌, None, IsSome};
 ghost use Rattle.ff_cluster.specs.Line.{event_value};
-ghost use Rattle.ff_cluster.specs.Script.{setup_of, world_of, count_of, played, played_step};
+ghost use Rattle.ff_cluster.specs.Script.{setup_of, world_of, count_of, course_from, played, played_step};
 ghost use Rattle.ff_cluster.specs.World.{world_step};
-ghost use Rattle.ff_cluster.specs.Player.{Does, full};
-ghost use Rattle.ff_cluster.specs.Writing.{WritesText};
+ghost use Rattle.ff_cluster.specs.Player.{Does, with_trace};
 
 use crate::line::{Event, Line, Setup, parse_line};
 use crate::world::{World, WorldFault};
-use crate::writing::{print_entries, write_all};
+use crate::writing::print_entries;
 use ff_xdr::{NoMemory, Out};
-use rpc_record::{Failed, Sink};
+use line_runs::{LineTask, Played};
 use std::alloc::Global;
 use std::marker::Model;
 
-/// The trace is written once it has so many bytes.
-const FULL: usize = 65_536;
-
-/// What a line did.
-#[derive(Clone, Copy, Debug, PartialEq, Eq)]
-pub enum Played {
-    /// It was played.
-    Done,
-    /// Nothing: it is outside the grammar.
-    Outside,
-    /// Its event would pass a limit.
-    Limited,
-}
-
-/// The world that a script has made so far, and the trace that is not yet written.
+/// The world that a script has made so far.
 #[derive(Drop)]
 pub struct Player {
     alloc: Global,
     stage: Option<World>,
-    trace: Out,
 }
 
 impl Model for Player {
-    ghost use Rattle.ff_cluster.specs.Player.{PlayerState, player_of};
+    ghost use Rattle.ff_cluster.specs.Player.{PlayerValue, value_of};
 
-    ghost Value = { PlayerState };
+    ghost Value = { PlayerValue };
 
-    ghost view = { λ p. player_of p.stage p.trace };
+    ghost view = { λ p. value_of p.stage };
 }
 
 impl Player {
     /// Before the first line; takes no memory.
     pub fn new(alloc: Global) -> Player
-        ensures { result ≡ record { stage = None; spent = None; trace = [] } }
+        ensures { result ≡ record { stage = None; spent = None } }
     {
-        Player {
-            alloc,
-            stage: None,
-            trace: Out::new(alloc),
-        }
+        Player { alloc, stage: None }
     }
 
     /// Behind the setup's line, where the limits leave so many entries and so many bytes.
@@ -64,18 +43,7 @@ impl Player {
         Ok(Player {
             alloc,
             stage: Some(World::near_limits(alloc, entries, hex)?),
-            trace: Out::new(alloc),
         })
-    }
-
-    /// How many entries the journal has so far.
-    pub fn count(&self) -> u64
-        ensures { result ≡ count_of self.now.stage }
-    {
-        match &self.stage {
-            None => 0,
-            Some(world) => world.count(),
-        }
     }
 
     /// The setup that the script has chosen.
@@ -89,9 +57,9 @@ impl Player {
     }
 
     /// Lets an event happen, and prints its entries.
-    fn happen(&mut self, event: &Event<'_>) -> Result<Played, NoMemory>
+    fn happen(&mut self, event: &Event<'_>, text: &mut Out) -> Result<Played, NoMemory>
         requires stage { IsSome self.old.stage }
-        ensures does { self.old.spent ≡ None → Does self.old (played_step (world_step (world_of self.old.stage) (event_value event.now))) result self.new }
+        ensures does { self.old.spent ≡ None → Does (with_trace self.old text.old) (played_step (world_step (world_of self.old.stage) (event_value event.now))) result (with_trace self.new text.new) }
         ensures spent { self.old.spent ≢ None → self.new ≡ self.old }
     {
         let mut entries = Vec::new(self.alloc);
@@ -101,10 +69,10 @@ impl Player {
         };
         match happened {
             Ok(()) => {
-                print_entries(&entries, &mut self.trace)?;
+                print_entries(&entries, text)?;
                 Ok(Played::Done)
             }
-            Err(WorldFault::Limit { .. }) => Ok(Played::Limited),
+            Err(WorldFault::Limit { entries }) => Ok(Played::Limited(entries)),
             Err(WorldFault::NoMemory) => Err(NoMemory),
         }
     }
@@ -112,8 +80,8 @@ impl Player {
     /// Plays a line, and prints the entries that it adds to the journal. At an error a beginning of the
     /// entries is printed, and the player is not to be used again. A world that is spent stays so, and
     /// nothing changes.
-    pub fn play(&mut self, line: &[u8]) -> Result<Played, NoMemory>
-        ensures does { self.old.spent ≡ None → Does self.old (played self.old.stage line.now) result self.new }
+    pub fn play_line(&mut self, line: &[u8], text: &mut Out) -> Result<Played, NoMemory>
+        ensures does { self.old.spent ≡ None → Does (with_trace self.old text.old) (played self.old.stage line.now) result (with_trace self.new text.new) }
         ensures spent { self.old.spent ≢ None → self.new ≡ self.old }
     {
         match parse_line(self.setup(), line) {
@@ -123,27 +91,30 @@ impl Player {
                 self.stage = Some(World::bare(self.alloc)?);
                 Ok(Played::Done)
             }
-            Some(Line::Event(event)) => self.happen(&event),
+            Some(Line::Event(event)) => self.happen(&event, text),
+        }
+    }
+}
+
+impl LineTask for Player {
+    ghost use Rattle.std.proofs.Common.{rules, arith};
+
+    ghost course = { λ player number lines. course_from player.stage number lines };
+
+    ghost fresh = { λ player. player.spent ≡ None };
+
+    ghost entries = { λ player. count_of player.stage };
+
+    fn count(&self) -> u64 {
+        match &self.stage {
+            None => 0,
+            Some(world) => world.count(),
         }
     }
 
-    /// The trace is long enough to be written.
-    pub fn is_full(&self) -> bool
-        ensures { IsTrue result ↔ (full ≤ length self.now.trace) }
-    {
-        self.trace.len() >= FULL
+    fn play(&mut self, line: &[u8], text: &mut Out) -> Result<Played, NoMemory> {
+        self.play_line(line, text)
     }
 
-    /// Writes the trace so far. At an error the sink has taken a beginning of it, and the player is as
-    /// before.
-    pub fn flush<K: Sink>(&mut self, sink: &mut K) -> Result<(), Failed>
-        ensures told { WritesText (K.held sink.old) self.old.trace result (K.held sink.new) }
-        ensures faults { K.faults sink.new ≡ counted result (K.faults sink.old) }
-        ensures ok { OnOk result (self.new ≡ record { stage = self.old.stage; spent = self.old.spent; trace = [] }) }
-        ensures err { OnErr result (self.new ≡ self.old) }
-    {
-        write_all(sink, self.trace.bytes())?;
-        self.trace.truncate(0);
-        Ok(())
-    }
+    ghost ends = { λ player number. Prim.search (rules, arith) };
 }

@@ -4,23 +4,33 @@ ghost use Rattle.std.specs.Prelude.{◌≡◌, ◌++◌, map, OnOk};
 ghost use Rattle.std.specs.String.{string_bytes};
 ghost use Rattle.rpc_record.specs.Stream.{counted};
 ghost use Rattle.ff_cluster.specs.declared.run.Outcome.{Outcome as AnOutcome};
-ghost use Rattle.ff_cluster.specs.Writing.{WritesText};
-ghost use Rattle.ff_cluster.specs.Run.{is_replay, status_of, note_of, numbered, Did, DidRead, did_write, Says};
+ghost use Rattle.line_runs.specs.Writing.{WritesText};
+ghost use Rattle.ff_cluster.specs.Run.{command_named, command_of, status_of, note_of, numbered, Did, DidRead, did_write, Says};
 
 use crate::print::put_numbered;
-use crate::replay::{ReplayEnd, replay};
-use crate::writing::write_all;
+use crate::replay::replay;
+use crate::show::show;
 use ff_xdr::{NoMemory, Out};
+use line_runs::{RunEnd, write_all};
 use rpc_record::{Failed, Sink, Source};
 use std::alloc::Global;
+
+/// What the program is asked to do.
+#[derive(Clone, Copy, Debug, PartialEq, Eq)]
+pub enum Command {
+    /// Run a script, and print its trace.
+    Replay,
+    /// Say what records are.
+    Show,
+}
 
 /// What the program did.
 #[derive(Clone, Copy, Debug, PartialEq, Eq)]
 pub enum Outcome {
     /// Nothing: its words are no command.
     Usage,
-    /// It ran a script, which ended so.
-    Ended(ReplayEnd),
+    /// It ran a command, which ended so.
+    Ended(RunEnd),
 }
 
 impl Outcome {
@@ -30,12 +40,12 @@ impl Outcome {
     {
         match self {
             Outcome::Usage => 2,
-            Outcome::Ended(ReplayEnd::Done) => 0,
-            Outcome::Ended(ReplayEnd::BadLine(_)) => 3,
-            Outcome::Ended(ReplayEnd::ReadFault) => 4,
-            Outcome::Ended(ReplayEnd::WriteFault) => 5,
-            Outcome::Ended(ReplayEnd::NoMemory) => 8,
-            Outcome::Ended(ReplayEnd::Limit(_)) => 9,
+            Outcome::Ended(RunEnd::Done) => 0,
+            Outcome::Ended(RunEnd::BadLine(_)) => 3,
+            Outcome::Ended(RunEnd::ReadFault) => 4,
+            Outcome::Ended(RunEnd::WriteFault) => 5,
+            Outcome::Ended(RunEnd::NoMemory) => 8,
+            Outcome::Ended(RunEnd::Limit(_)) => 9,
         }
     }
 
@@ -46,14 +56,12 @@ impl Outcome {
     {
         match self {
             Outcome::Usage => write_all(notes, b"usage\n"),
-            Outcome::Ended(ReplayEnd::Done) => Ok(()),
-            Outcome::Ended(ReplayEnd::BadLine(number)) => tell_number(
-                alloc, b"line ", number, notes,
-            ),
-            Outcome::Ended(ReplayEnd::ReadFault) => write_all(notes, b"read fault\n"),
-            Outcome::Ended(ReplayEnd::WriteFault) => write_all(notes, b"write fault\n"),
-            Outcome::Ended(ReplayEnd::NoMemory) => write_all(notes, b"no memory\n"),
-            Outcome::Ended(ReplayEnd::Limit(count)) => tell_number(alloc, b"limit ", count, notes),
+            Outcome::Ended(RunEnd::Done) => Ok(()),
+            Outcome::Ended(RunEnd::BadLine(number)) => tell_number(alloc, b"line ", number, notes),
+            Outcome::Ended(RunEnd::ReadFault) => write_all(notes, b"read fault\n"),
+            Outcome::Ended(RunEnd::WriteFault) => write_all(notes, b"write fault\n"),
+            Outcome::Ended(RunEnd::NoMemory) => write_all(notes, b"no memory\n"),
+            Outcome::Ended(RunEnd::Limit(count)) => tell_number(alloc, b"limit ", count, notes),
         }
     }
 }
@@ -83,14 +91,24 @@ fn put_note(line: &mut Out, word: &[u8], number: u64) -> Result<(), NoMemory>
     line.raw(b"\n")
 }
 
-/// The words behind the program's name are those of the command that runs a script.
-fn asks_replay(words: &[String]) -> bool
-    ensures { result ≡ is_replay (map string_bytes words.now) }
+/// What the words behind the program's name ask for. `None` is that they are no command.
+fn asked(words: &[String]) -> Option<Command>
+    ensures { result ≡ command_of (map string_bytes words.now) }
 {
     match words {
-        [word] => word.as_bytes() == b"replay".as_slice(),
-        _ => false,
+        [word] => command_named(word.as_bytes()),
+        _ => None,
     }
+}
+
+/// The command with this name.
+fn command_named(word: &[u8]) -> Option<Command>
+    ensures { result ≡ command_named word.now }
+{
+    if word == b"replay".as_slice() {
+        return Some(Command::Replay);
+    }
+    (word == b"show".as_slice()).then_some(Command::Show)
 }
 
 /// Runs the program: `words` are those behind its name, `source` its standard input, `sink` its
@@ -106,15 +124,15 @@ pub fn run<S: Source, K: Sink, E: Sink>(
     notes: &mut E,
 ) -> u8
     ensures { (outcome : AnOutcome)
-        × Did (is_replay (map string_bytes words.now)) outcome (S.left source.old) (K.held sink.old) (S.left source.new) (K.held sink.new)
+        × Did (command_of (map string_bytes words.now)) outcome (S.left source.old) (K.held sink.old) (S.left source.new) (K.held sink.new)
         × DidRead outcome (S.faults source.old) (S.faults source.new)
         × (K.faults sink.new ≡ did_write outcome (K.faults sink.old))
         × Says outcome result (E.held notes.old) (E.held notes.new) (E.faults notes.old) (E.faults notes.new) }
 {
-    let outcome = if asks_replay(words) {
-        Outcome::Ended(replay(alloc, source, sink))
-    } else {
-        Outcome::Usage
+    let outcome = match asked(words) {
+        Some(Command::Replay) => Outcome::Ended(replay(alloc, source, sink)),
+        Some(Command::Show) => Outcome::Ended(show(alloc, source, sink)),
+        None => Outcome::Usage,
     };
     match outcome.tell(alloc, notes) {
         Ok(()) => outcome.status(),

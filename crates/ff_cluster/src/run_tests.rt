@@ -4,11 +4,12 @@ ghost use Rattle.std.specs.Prelude.{◌≡◌, ◌≤◌, None, length, IfOk};
 ghost use Rattle.rpc_record.specs.Stream.{counted, Reads};
 
 use crate::line::{Line, Setup, parse_line};
-use crate::player::{Played, Player};
-use crate::replay::ReplayEnd;
+use crate::player::Player;
 use crate::run::{Outcome, run};
 use crate::world::{World, WorldFault};
 use cluster_model::Entry;
+use ff_xdr::Out;
+use line_runs::{LineTask, Played, RunEnd};
 use rpc_record::{Failed, MemorySink, MemorySource, Source, SureSink};
 use std::alloc::Global;
 use std::test::Fail;
@@ -316,18 +317,17 @@ fn a_player_is_at_a_limit(rt: HostRuntime) -> Result<(), Fail> {
     let table: [(&[u8], Played); 5] = [
         (b"# a", Played::Done),
         (b"deliver 00", Played::Done),
-        (b"deliver 01", Played::Limited),
-        (b"deliver 02", Played::Limited),
+        (b"deliver 01", Played::Limited(399_999)),
+        (b"deliver 02", Played::Limited(399_999)),
         (b"bare", Played::Outside),
     ];
+    let mut text = Out::new(rt.alloc());
     for (line, played) in table {
-        assert_eq!(rt; player.play(line), Ok(played));
+        assert_eq!(rt; player.play(line, &mut text), Ok(played));
     }
     assert_eq!(rt; player.count(), 399_999);
-    let mut sink = SureSink::new(rt.alloc());
-    assert_eq!(rt; player.flush(&mut sink), Ok(()));
     assert_eq!(rt;
-        sink.bytes(),
+        text.bytes(),
         b"packet 1 c0 d1 00\ndelivered 1\n".as_slice()
     );
     Ok(())
@@ -419,12 +419,12 @@ fn a_script_is_too_long(rt: HostRuntime) -> Result<(), Fail> {
 fn statuses(rt: HostRuntime) -> Result<(), Fail> {
     let table = [
         (Outcome::Usage, 2),
-        (Outcome::Ended(ReplayEnd::Done), 0),
-        (Outcome::Ended(ReplayEnd::BadLine(7)), 3),
-        (Outcome::Ended(ReplayEnd::ReadFault), 4),
-        (Outcome::Ended(ReplayEnd::WriteFault), 5),
-        (Outcome::Ended(ReplayEnd::NoMemory), 8),
-        (Outcome::Ended(ReplayEnd::Limit(7)), 9),
+        (Outcome::Ended(RunEnd::Done), 0),
+        (Outcome::Ended(RunEnd::BadLine(7)), 3),
+        (Outcome::Ended(RunEnd::ReadFault), 4),
+        (Outcome::Ended(RunEnd::WriteFault), 5),
+        (Outcome::Ended(RunEnd::NoMemory), 8),
+        (Outcome::Ended(RunEnd::Limit(7)), 9),
     ];
     for (outcome, status) in table {
         assert_eq!(rt; outcome.status(), status);

@@ -1,0 +1,50 @@
+-- What `show` says of records, and the lines of a source.
+use Rattle.std.proofs.Common.{◌≡◌, ℕ, ◌+◌, Bool, List, [], ◌∷◌, ◌++◌, codes, Option, Some, None, Result, Ok, Err, refl, sym, ap, subst, ◌∙◌}
+use Rattle.std.proofs.lemmas.List.{append-nil}
+use Rattle.ff_xdr.specs.declared.error.NoMemory.{NoMemory}
+use Rattle.ff_xdr.specs.declared.error.XdrError.{XdrError}
+use Rattle.ff_xdr.specs.Form.{Value}
+use Rattle.ff_xdr.specs.Calls.{Puts, Grows}
+use Rattle.ff_xdr.specs.Reading.{reading_case, whole}
+use Rattle.nfs3_wire.specs.Calls.{calls}
+use Rattle.rpc_record.specs.Calls.{Call}
+use Rattle.line_runs.specs.declared.end.Played.{Played}
+use Rattle.line_runs.specs.declared.end.Played.TheVariants as played
+use Rattle.line_runs.specs.Runs.{Course, after_text, Does}
+use Rattle.ff_cluster.specs.Show.{bad_text, read_args, args_text, line_shown, show_from, by_shown, ShowsLine}
+
+puts_grows : (old new text : List ℕ) (r : Result (Unit {0}) NoMemory) → Puts old r new text → Grows old r new text
+puts_grows old new text (Ok x) puts = puts
+puts_grows old new text (Err e) puts = ([], puts ∙ sym (append-nil old))
+
+read_so : (c : Call) (v : Value calls) → whole c.args (reading_case calls c.procedure c.args 0) ≡ Ok v → read_args c ≡ Ok v
+unfolding read_args
+read_so c v is = is
+
+-- arguments in their form
+pub puts_good : (header : ℕ) (c : Call) (v : Value calls) (old new : List ℕ) (r : Result (Unit {0}) NoMemory) → whole c.args (reading_case calls c.procedure c.args 0) ≡ Ok v → Puts old r new (codes "good") → Grows old r new (args_text header (read_args c))
+puts_good header c v old new r is puts = subst (λ x. Grows old r new (args_text header x)) (sym (read_so c v is)) (puts_grows old new (codes "good") r puts)
+
+refused_so : (c : Call) (e : XdrError) → whole c.args (reading_case calls c.procedure c.args 0) ≡ Err e → read_args c ≡ Err e
+unfolding read_args
+refused_so c e is = is
+
+-- arguments that are refused
+pub grows_bad : (header : ℕ) (c : Call) (e : XdrError) (old new : List ℕ) (r : Result (Unit {0}) NoMemory) → whole c.args (reading_case calls c.procedure c.args 0) ≡ Err e → Grows old r new (bad_text (header + e.place) e.why) → Grows old r new (args_text header (read_args c))
+grows_bad header c e old new r is grows = subst (λ x. Grows old r new (args_text header x)) (sym (refused_so c e is)) grows
+
+-- what playing a line did is what a task does
+pub shows_line : (number : ℕ) (line text text' : List ℕ) (r : Result Played NoMemory) → ShowsLine text (line_shown line) r text' → Does number line (show_from number) text r (show_from (number + 1)) text'
+shows_line number line text text' (Ok played.Done) shows = record {
+  more = shows.0;
+  now = shows.2;
+  same = λ lines. ap (λ o. by_shown number o (show_from (number + 1) lines)) shows.1;
+}
+shows_line number line text text' (Ok played.Outside) shows =
+    (λ lines. (ap (λ o. (by_shown number o (show_from (number + 1) lines)).bad) shows.0, ap (λ o. (by_shown number o (show_from (number + 1) lines)).past) shows.0, ap (λ o. (by_shown number o (show_from (number + 1) lines)).text) shows.0), shows.1)
+shows_line number line text text' (Ok (played.Limited count)) shows = absurd shows
+shows_line number line text text' (Err e) shows = record {
+  part = [];
+  now = shows ∙ sym (append-nil text);
+  begins = λ lines. record { rest = (show_from number (line ∷ lines)).text; whole = refl };
+}

@@ -1,0 +1,19 @@
+//! Runs over the lines of a source: each line is played in its turn, and the text that it adds is
+//! written to a sink.
+#![tactic(auto)]
+
+mod end;
+mod lines;
+mod lines_law;
+#[cfg(test)]
+mod lines_tests;
+mod playback;
+mod task;
+mod writing;
+
+pub use end::{Played, RunEnd};
+pub use lines::{Ended, LineBuffer};
+pub use lines_law::line_laws;
+pub use playback::run_lines;
+pub use task::LineTask;
+pub use writing::write_all;

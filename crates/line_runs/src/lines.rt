@@ -1,0 +1,124 @@
+//! Reading lines through a buffer.
+ghost use Rattle.std.specs.Prelude.{◌≡◌, ℕ, ◌+◌, ◌-◌, ◌<◌, ◌≤◌, ◌↔◌, IsTrue, List, [], ◌++◌, length, is_ok, IfOk, IfErr, if◌then◌else◌};
+ghost use Rattle.rpc_record.specs.Stream.{counted};
+ghost use Rattle.line_runs.specs.Lines.{IsWithin, ReadsLine, Refills, Takes};
+
+use memchr::memchr;
+use rpc_record::{Failed, Source};
+use std::alloc::{AllocError, Global};
+use std::marker::Model;
+
+/// How many bytes are asked of a source at once.
+const PIECE: usize = 65_536;
+
+/// How a line ended.
+#[derive(Clone, Copy, Debug, PartialEq, Eq)]
+pub enum Ended {
+    /// In a newline, which was taken.
+    Newline,
+    /// At the end of the bytes, with no newline.
+    End,
+    /// It runs past the budget.
+    Over,
+}
+
+/// The bytes that were read from a source and not yet taken. Clauses see them as a list.
+#[derive(Drop)]
+pub struct LineBuffer {
+    piece: Vec<u8>,
+    start: usize,
+    end: usize,
+}
+
+impl Model for LineBuffer {
+    ghost use Rattle.std.specs.Prelude.{ℕ, ◌<◌, ◌≤◌, List, length, slice_range};
+
+    ghost Value = { List ℕ };
+
+    ghost view = { λ buffer. slice_range buffer.piece.items buffer.start buffer.end };
+
+    ghost invariant = { λ buffer. (buffer.start ≤ buffer.end) × (buffer.end ≤ length buffer.piece.items) × (0 < length buffer.piece.items) };
+}
+
+impl LineBuffer {
+    /// A buffer that holds no byte yet, with its memory from `alloc`.
+    pub fn new(alloc: Global) -> Result<LineBuffer, AllocError>
+        ensures { IfOk result (λ buffer. buffer ≡ []) }
+    {
+        Ok(LineBuffer {
+            piece: vec![in alloc; 0; PIECE]?,
+            start: 0,
+            end: 0,
+        })
+    }
+
+    /// Reads the next line into `line`, without its newline, from the bytes that are held and then from
+    /// `source`. `budget` is how many bytes the line and its newline may have at most.
+    ///
+    /// `Ended::End` with an empty line is the end of the bytes. `Ended::Over` is a line that runs past
+    /// the budget, and an error one of the source's or of memory: then `line` is its beginning, and no
+    /// byte is lost. Where the source failed, `line` has all that was read, and no byte is held.
+    pub fn read_line<S: Source>(
+        &mut self,
+        source: &mut S,
+        budget: usize,
+        line: &mut Vec<u8>,
+    ) -> Result<Ended, Failed>
+        ensures told { ReadsLine budget self.old (S.left source.old) result line.new.items self.new (S.left source.new) }
+        ensures within { IfOk result (λ ended. IsWithin budget ended line.new.items) }
+        ensures faults { S.faults source.new ≡ counted result (S.faults source.old) }
+    {
+        line.clear();
+        'pieces: while self.refill(source)? {
+            if let Some(ended) = self.take_line(budget - line.len(), line)? {
+                return Ok(ended);
+            }
+        }
+        Ok(Ended::End)
+    }
+
+    /// Reads a piece if no byte is held, and returns whether one is held then. None is only at the end.
+    fn refill<S: Source>(&mut self, source: &mut S) -> Result<bool, Failed>
+        ensures held { IfOk result (λ some. IsTrue some ↔ (0 < length self.new)) }
+        ensures told { Refills self.old (S.left source.old) result self.new (S.left source.new) }
+        ensures faults { S.faults source.new ≡ counted result (S.faults source.old) }
+    {
+        if self.start < self.end {
+            return Ok(true);
+        }
+        let count = source.read(&mut self.piece)?;
+        self.start = 0;
+        self.end = count;
+        Ok(count > 0)
+    }
+
+    /// Moves the rest of a line, and its newline, out of the held bytes, where the line may take `room`
+    /// more bytes with its newline. `None` moves all that is held.
+    fn take_line(&mut self, room: usize, line: &mut Vec<u8>) -> Result<Option<Ended>, Failed>
+        ensures { Takes room self.old line.old.items result self.new line.new.items }
+    {
+        let held = &self.piece[self.start..self.end];
+        match memchr(b'\n', held) {
+            Some(at) if at < room => {
+                append(line, &held[..at])?;
+                self.start += at + 1;
+                Ok(Some(Ended::Newline))
+            }
+            Some(_) => Ok(Some(Ended::Over)),
+            None if held.len() <= room => {
+                append(line, held)?;
+                self.start = self.end;
+                Ok(None)
+            }
+            None => Ok(Some(Ended::Over)),
+        }
+    }
+}
+
+/// Puts the bytes behind the line, or leaves it as it is for want of memory.
+fn append(line: &mut Vec<u8>, bytes: &[u8]) -> Result<(), Failed>
+    ensures line { line.new.items ≡ (if is_ok result then line.old.items ++ bytes.now else line.old.items) }
+    ensures memory { IfErr result (λ e. e ≡ Failed.NoMemory) }
+{
+    line.extend_from_slice(bytes).map_err(|_| Failed::NoMemory)
+}

@@ -1,0 +1,221 @@
+//! A run over the lines of a source to its end.
+
+ghost use Rattle.std.specs.Prelude.{◌≡◌, ◌+◌, ◌<◌, ◌≤◌, ◌↔◌, [], None, Ok, OnOk, OnErr, IfOk, IfSome, IsTrue, length};
+ghost use Rattle.rpc_record.specs.Stream.{counted};
+ghost use Rattle.line_runs.specs.Writing.{WritesText};
+ghost use Rattle.line_runs.specs.Runs.{Runs, ReadFaults, write_faults};
+ghost use Rattle.line_runs.specs.Playback.{start, full, stand, StepFaults, LinesFaults, SourceFaults, Steps, Finishes, PlaysLine, PlaysLast, PlaysEnded, IsOfLine};
+
+use crate::end::{Played, RunEnd};
+use crate::lines::{Ended, LineBuffer};
+use crate::task::LineTask;
+use crate::writing::write_all;
+use ff_xdr::Out;
+use rpc_record::{Failed, Sink, Source};
+use std::alloc::{AllocError, Global};
+use std::marker::Model;
+
+/// The most bytes of a source: 64 MiB.
+const MAX_SOURCE: usize = 67_108_864;
+
+/// The text is written once it has so many bytes.
+const FULL: usize = 65_536;
+
+/// A run that is under way, apart from its task.
+#[derive(Drop)]
+struct Playback {
+    text: Out,
+    buffer: LineBuffer,
+    room: usize,
+    number: u64,
+}
+
+impl Model for Playback {
+    ghost use Rattle.std.specs.Prelude.{◌+◌, ◌<◌, ◌^◌};
+    ghost use Rattle.line_runs.specs.Playback.{RunState};
+
+    ghost Value = { RunState };
+
+    ghost view = { λ r. record { text = r.text; held = r.buffer; room = r.room; number = r.number } };
+
+    ghost invariant = { λ r. r.number + r.room < 2 ^ 64 };
+}
+
+impl Playback {
+    /// Before the first line.
+    fn new(alloc: Global) -> Result<Playback, AllocError>
+        ensures { IfOk result (λ run. run ≡ start) }
+    {
+        Ok(Playback {
+            text: Out::new(alloc),
+            buffer: LineBuffer::new(alloc)?,
+            room: MAX_SOURCE,
+            number: 1,
+        })
+    }
+
+    /// The text is long enough to be written.
+    fn is_full(&self) -> bool
+        ensures { IsTrue result ↔ (full ≤ length self.now.text) }
+    {
+        self.text.len() >= FULL
+    }
+
+    /// Writes the text so far. At an error the sink has taken a beginning of it, and the run is as
+    /// before.
+    fn flush<K: Sink>(&mut self, sink: &mut K) -> Result<(), Failed>
+        ensures told { WritesText (K.held sink.old) self.old.text result (K.held sink.new) }
+        ensures faults { K.faults sink.new ≡ counted result (K.faults sink.old) }
+        ensures ok { OnOk result (self.new ≡ record { text = []; held = self.old.held; room = self.old.room; number = self.old.number }) }
+        ensures err { OnErr result (self.new ≡ self.old) }
+    {
+        write_all(sink, self.text.bytes())?;
+        self.text.truncate(0);
+        Ok(())
+    }
+
+    /// Plays a line, which took so many bytes of the source. An end is a line outside the grammar, one
+    /// that would pass a limit, or want of memory.
+    fn play_line<T: LineTask>(&mut self, task: &mut T, line: &[u8], taken: usize) -> Option<RunEnd>
+        requires some { 0 < taken }
+        requires within { taken ≤ self.old.room }
+        ensures plays { T.fresh task.old → PlaysLine taken line.now (stand (T.course task.old) self.old) result (stand (T.course task.new) self.new) }
+        ensures goes_on { T.fresh task.old → result ≡ None → T.fresh task.new }
+        ensures ends { IfSome result (λ end. IsOfLine end) }
+        ensures room { self.new.room < self.old.room }
+    {
+        self.room -= taken;
+        match task.play(line, &mut self.text) {
+            Ok(Played::Done) => {
+                self.number += 1;
+                None
+            }
+            Ok(Played::Outside) => Some(RunEnd::BadLine(self.number)),
+            Ok(Played::Limited(count)) => Some(RunEnd::Limit(count)),
+            Err(_) => Some(RunEnd::NoMemory),
+        }
+    }
+
+    /// Plays the last line, which has no newline, and is no line where it is empty.
+    fn play_last<T: LineTask>(&mut self, task: &mut T, line: &[u8]) -> RunEnd
+        requires within { length line.now ≤ self.old.room }
+        ensures plays { T.fresh task.old → PlaysLast line.now (stand (T.course task.old) self.old) result (stand (T.course task.new) self.new) }
+        ensures ends { IsOfLine result }
+    {
+        if line.is_empty() {
+            return RunEnd::Done;
+        }
+        self.play_line(task, line, line.len())
+            .unwrap_or(RunEnd::Done)
+    }
+
+    /// Plays a line that ended in a newline, and writes the text where it is long. `None` is that there
+    /// may be more lines. An error is one of the sink.
+    fn play_ended<T: LineTask, K: Sink>(
+        &mut self,
+        task: &mut T,
+        line: &[u8],
+        sink: &mut K,
+    ) -> Result<Option<RunEnd>, Failed>
+        requires within { length line.now + 1 ≤ self.old.room }
+        ensures told { T.fresh task.old → PlaysEnded (K.held sink.old) line.now (stand (T.course task.old) self.old) result (K.held sink.new) (stand (T.course task.new) self.new) }
+        ensures goes_on { T.fresh task.old → result ≡ Ok None → T.fresh task.new }
+        ensures ends { IfOk result (λ end. IfSome end (λ e. IsOfLine e)) }
+        ensures room { self.new.room < self.old.room }
+        ensures writes { K.faults sink.new ≡ counted result (K.faults sink.old) }
+    {
+        if let Some(end) = self.play_line(task, line, line.len() + 1) {
+            return Ok(Some(end));
+        }
+        if self.is_full() {
+            self.flush(sink)?;
+        }
+        Ok(None)
+    }
+
+    /// Reads and plays the next line, and writes the text where it is long. `None` is that there may be
+    /// more lines. An error is one of the sink.
+    fn next<T: LineTask, S: Source, K: Sink>(
+        &mut self,
+        task: &mut T,
+        source: &mut S,
+        sink: &mut K,
+        line: &mut Vec<u8>,
+    ) -> Result<Option<RunEnd>, Failed>
+        ensures told { T.fresh task.old → Steps (S.left source.old) (K.held sink.old) (stand (T.course task.old) self.old) result (S.left source.new) (K.held sink.new) (stand (T.course task.new) self.new) }
+        ensures goes_on { T.fresh task.old → result ≡ Ok None → T.fresh task.new }
+        ensures shrinks { OnOk result (result ≡ Ok None → self.new.room < self.old.room) }
+        ensures reads { StepFaults result (S.faults source.old) (S.faults source.new) }
+        ensures writes { K.faults sink.new ≡ counted result (K.faults sink.old) }
+    {
+        let room = self.room;
+        match self.buffer.read_line(source, room, line) {
+            Err(Failed::Fault) => Ok(Some(RunEnd::ReadFault)),
+            Err(Failed::NoMemory) => Ok(Some(RunEnd::NoMemory)),
+            Ok(Ended::Over) => Ok(Some(RunEnd::Limit(task.count()))),
+            Ok(Ended::End) => Ok(Some(self.play_last(task, line))),
+            Ok(Ended::Newline) => self.play_ended(task, line, sink),
+        }
+    }
+
+    /// Plays all lines. The text that is not yet written is the run's. An error is one of the sink.
+    fn play<T: LineTask, S: Source, K: Sink>(
+        &mut self,
+        alloc: Global,
+        task: &mut T,
+        source: &mut S,
+        sink: &mut K,
+    ) -> Result<RunEnd, Failed>
+        ensures told { T.fresh task.old → Finishes (S.left source.old) (K.held sink.old) (stand (T.course task.old) self.old) result (S.left source.new) (K.held sink.new) self.new.text }
+        ensures reads { LinesFaults result (S.faults source.old) (S.faults source.new) }
+        ensures writes { K.faults sink.new ≡ counted result (K.faults sink.old) }
+    {
+        let mut line = Vec::new(alloc);
+        loop {
+            if let Some(end) = self.next(task, source, sink, &mut line)? {
+                return Ok(end);
+            }
+        }
+    }
+
+    /// Plays all lines, and writes the whole text. An error is one of the sink.
+    fn finish<T: LineTask, S: Source, K: Sink>(
+        &mut self,
+        alloc: Global,
+        task: &mut T,
+        source: &mut S,
+        sink: &mut K,
+    ) -> Result<RunEnd, Failed>
+        ensures told { T.fresh task.old → Finishes (S.left source.old) (K.held sink.old) (stand (T.course task.old) self.old) result (S.left source.new) (K.held sink.new) [] }
+        ensures reads { SourceFaults result (S.faults source.old) (S.faults source.new) }
+        ensures writes { K.faults sink.new ≡ counted result (K.faults sink.old) }
+    {
+        let end = self.play(alloc, task, source, sink)?;
+        self.flush(sink)?;
+        Ok(end)
+    }
+}
+
+/// Runs a task over the lines of `source`, one after the other, and writes their text to `sink`. Where
+/// the source failed, that is the whole text of the lines that ended in what it gave; where the sink
+/// failed or memory was wanted, a beginning of it.
+pub fn run_lines<T: LineTask, S: Source, K: Sink>(
+    alloc: Global,
+    task: &mut T,
+    source: &mut S,
+    sink: &mut K,
+) -> RunEnd
+    requires { T.fresh task.old }
+    ensures told { Runs (T.course task.old 1) (S.left source.old) (K.held sink.old) result (S.left source.new) (K.held sink.new) }
+    ensures reads { ReadFaults result (S.faults source.old) (S.faults source.new) }
+    ensures writes { K.faults sink.new ≡ write_faults result (K.faults sink.old) }
+{
+    let Ok(mut run) = Playback::new(alloc) else {
+        return RunEnd::NoMemory;
+    };
+    match run.finish(alloc, task, source, sink) {
+        Ok(end) => end,
+        Err(Failed::Fault) => RunEnd::WriteFault,
+        Err(Failed::NoMemory) => RunEnd::NoMemory,
+    }
+}
