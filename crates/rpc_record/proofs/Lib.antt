@@ -5,3 +5,6 @@ pub mod ReplyLaws
 pub mod CallRefusals
 pub mod ReplyRefusals
 pub mod FirstFaults
+pub mod FrameSteps
+pub mod FrameTakes
+pub mod FrameCalls
