@@ -8,3 +8,6 @@ pub mod FirstFaults
 pub mod FrameSteps
 pub mod FrameTakes
 pub mod FrameCalls
+pub mod FrameRecords
+pub mod FrameReadings
+pub mod FrameRefusals
