@@ -1,14 +1,12 @@
 -- What the calls of `Frames` say.
-use Rattle.std.proofs.Common.{◌≡◌, ℕ, zero, suc, ◌+◌, ◌-◌, ◌<◌, ◌≤◌, min, Bool, true, false, ltb, List, [], ◌∷◌, ◌++◌, length, take, drop, refl, sym, ap, subst, ◌∙◌, append_assoc, arith, Ok, Err, Result, IfOk}
-use Rattle.std.specs.Prelude.{⊤}
+use Rattle.std.proofs.Common.{◌≡◌, ℕ, ◌-◌, ◌<◌, true, ltb, List, [], ◌∷◌, ◌++◌, length, take, drop, refl, sym, ap, subst, ◌∙◌, arith, Err, IfOk}
 use Rattle.std.proofs.lemmas.Bool.{lt-ltb}
-use Rattle.std.proofs.lemmas.List.{length-append, append-nil, length-take, take-append-drop}
+use Rattle.std.proofs.lemmas.List.{append-nil, length-take, take-append-drop}
 use Rattle.rpc_record.specs.declared.frames.Stage.{Stage}
 use Rattle.rpc_record.specs.declared.frames.Stage.TheVariants as stage
-use Rattle.rpc_record.specs.declared.frames.RecordFault.{RecordFault}
 use Rattle.rpc_record.specs.declared.frames.RecordFault.TheVariants as fault
-use Rattle.rpc_record.specs.Frames.{max_fragments, Coming, Header, Body, Part, Front, Open, Whole, TooLong, TooManyFragments, front_from, front_of, HasGiven, StopsAt, Takes, Feeds}
-use Rattle.rpc_record.specs.FramesView.{front_at, IsStage, is_more, resume, resume_part, Steps, Gathers, answers}
+use Rattle.rpc_record.specs.Frames.{max_fragments, Header, Front, Open, Whole, TooLong, TooManyFragments, front_from, front_of, HasGiven, StopsAt, Feeds}
+use Rattle.rpc_record.specs.FramesView.{front_at, IsStage, is_more, resume, resume_part, Gathers, answers}
 use Rattle.rpc_record.proofs.FrameSteps.{is_short, resume_of}
 
 -- the front of no bytes
@@ -99,11 +97,28 @@ answers_ok stage.TooManyFragments taken P p = tt
 pub goes_on_is : (old : List ℕ) (start : Stage) (piece : List ℕ) (taken : ℕ) (new : List ℕ) (end : Stage) (stream : List ℕ) (messages : List (List ℕ)) → Gathers old start piece taken new end → HasGiven stream messages (front_at old start) → IfOk (answers end taken) (λ n. HasGiven (stream ++ take n piece) messages (front_at new end))
 goes_on_is old start piece taken new end stream messages g given =
     answers_ok end taken (λ n. HasGiven (stream ++ take n piece) messages (front_at new end))
-      (given_more stream messages (front_at old start) (take taken piece) (front_at new end) given (taken_is old start piece taken new end g))
+    (given_more stream messages (front_at old start) (take taken piece) (front_at new end) given (taken_is old start piece taken new end g))
 
-pub no_memory_not : (end : Stage) (taken : ℕ) → answers end taken ≡ Err fault.NoMemory → ⊥
-no_memory_not (stage.Header h bytes count) taken e = cc
-no_memory_not (stage.Body h left last) taken e = cc
-no_memory_not stage.Whole taken e = cc
-no_memory_not stage.TooLong taken e = cc
-no_memory_not stage.TooManyFragments taken e = cc
+-- ---- streams that were refused
+
+answers_long : (g : List ℕ) (s : Stage) (taken : ℕ) → front_at g s ≡ TooLong → answers s taken ≡ Err fault.TooLong
+answers_long g (stage.Header h bytes count) taken e = absurd (cc e)
+answers_long g (stage.Body h left last) taken e = absurd (cc e)
+answers_long g stage.Whole taken e = absurd (cc e)
+answers_long g stage.TooLong taken e = refl
+answers_long g stage.TooManyFragments taken e = absurd (cc e)
+
+answers_many : (g : List ℕ) (s : Stage) (taken : ℕ) → front_at g s ≡ TooManyFragments → answers s taken ≡ Err fault.TooManyFragments
+answers_many g (stage.Header h bytes count) taken e = absurd (cc e)
+answers_many g (stage.Body h left last) taken e = absurd (cc e)
+answers_many g stage.Whole taken e = absurd (cc e)
+answers_many g stage.TooLong taken e = absurd (cc e)
+answers_many g stage.TooManyFragments taken e = refl
+
+pub too_long_is : (old : List ℕ) (start : Stage) (piece : List ℕ) (taken : ℕ) (new : List ℕ) (end : Stage) → Gathers old start piece taken new end → front_at old start ≡ TooLong → answers end taken ≡ Err fault.TooLong
+unfolding resume
+too_long_is old start piece taken new end g e = answers_long new end taken (taken_is old start piece taken new end g ∙ ap (λ (f : Front). resume f (take taken piece)) e)
+
+pub too_many_is : (old : List ℕ) (start : Stage) (piece : List ℕ) (taken : ℕ) (new : List ℕ) (end : Stage) → Gathers old start piece taken new end → front_at old start ≡ TooManyFragments → answers end taken ≡ Err fault.TooManyFragments
+unfolding resume
+too_many_is old start piece taken new end g e = answers_many new end taken (taken_is old start piece taken new end g ∙ ap (λ (f : Front). resume f (take taken piece)) e)

@@ -1,18 +1,16 @@
 -- What stands where a stream is read as a record, and where it is refused.
 use Rattle.std.proofs.Common.{◌≡◌, ℕ, zero, suc, ◌+◌, ◌-◌, ◌^◌, ◌<◌, ◌≤◌, Bool, true, false, cond, ltb, List, [], ◌∷◌, ◌++◌, length, take, drop, get_or, refl, sym, ap, subst, ◌∙◌, append_assoc, arith, inl, inr}
-use Rattle.std.specs.Prelude.{⊤}
 use Rattle.std.specs.Int.{w32, from_be_bytes}
 use Rattle.std.proofs.lemmas.Bool.{le-ltb, lt-ltb, cases_lt}
-use Rattle.std.proofs.lemmas.List.{length-append, length-drop, length-take-le, append-nil, take-append-drop, get_or-take, get_or-drop, get_or_past}
+use Rattle.std.proofs.lemmas.List.{length-append, length-take-le, append-nil, take-append-drop, get_or-take, get_or-drop, get_or_past}
 use Rattle.std.proofs.lemmas.Nat.{be_bytes_4}
 use Rattle.ff_xdr.specs.Form.{word}
 use Rattle.ff_xdr.specs.Laws.{IsBytes}
 use Rattle.rpc_record.specs.Calls.{word_of}
-use Rattle.rpc_record.specs.Frames.{max_record, max_fragments, header_word, length_in, is_last, Coming, Header, Body, Part, Front, Open, Whole, TooLong, TooManyFragments, front_from, front_of, behind_header, is_whole, HasGiven}
-use Rattle.rpc_record.specs.FrameLaws.{Fragment, fragment_bytes, stream_of, message_of, AreInner, AreRecord, AreWithin, StandsIn, IsRecordSpelled, IsOpen, HeaderAt, HasLongHeader, HasHeaderTooMany, IsLongJustWhere, IsTooManyJustWhere, with_more, StandsBefore, HasOneReading}
-use Rattle.rpc_record.specs.FramesView.{resume}
-use Rattle.rpc_record.proofs.FrameSteps.{is_short, is_header, after_header, resume_of}
-use Rattle.rpc_record.proofs.FrameRecords.{length_word, word_stands, header_again, through, front_is}
+use Rattle.rpc_record.specs.Frames.{max_record, max_fragments, header_word, length_in, is_last, Header, Body, Part, Open, Whole, TooLong, TooManyFragments, front_from, behind_header}
+use Rattle.rpc_record.specs.FrameLaws.{Fragment, fragment_bytes, stream_of, message_of, AreRecord, IsRecordSpelled}
+use Rattle.rpc_record.proofs.FrameSteps.{is_short, is_header}
+use Rattle.rpc_record.proofs.FrameRecords.{header_again, front_is}
 
 -- ---- words
 
@@ -79,9 +77,9 @@ fragment_first n g bytes m le are e short room =
     let size : length (take len (drop 4 bytes)) ≡ len = length-take-le len (drop 4 bytes) room in
     let header : header_word (length (take len (drop 4 bytes))) (is_last (word_of bytes 0)) ≡ word_of bytes 0 = ap (λ (k : ℕ). header_word k (is_last (word_of bytes 0))) size ∙ header_again (word_of bytes 0) in
     let joined : (word (word_of bytes 0) ++ take len (drop 4 bytes)) ++ drop len (drop 4 bytes) ≡ bytes =
-        append_assoc (word (word_of bytes 0)) (take len (drop 4 bytes)) (drop len (drop 4 bytes))
-        ∙ ap (λ (t : List ℕ). word (word_of bytes 0) ++ t) (take-append-drop len (drop 4 bytes))
-        ∙ sym (begins bytes le are) in
+    append_assoc (word (word_of bytes 0)) (take len (drop 4 bytes)) (drop len (drop 4 bytes))
+    ∙ ap (λ (t : List ℕ). word (word_of bytes 0) ++ t) (take-append-drop len (drop 4 bytes))
+    ∙ sym (begins bytes le are) in
     record {
       one = e;
       short = omega (arith, size, short);

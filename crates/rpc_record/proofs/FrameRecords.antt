@@ -1,17 +1,13 @@
 -- The laws of record marking.
-use Rattle.std.proofs.Common.{◌≡◌, ℕ, zero, suc, ◌+◌, ◌-◌, ◌^◌, ◌<◌, ◌≤◌, Bool, true, false, cond, ltb, leb, List, [], ◌∷◌, ◌++◌, length, take, drop, flat_map, refl, sym, ap, subst, ◌∙◌, append_assoc, arith, inl, inr}
-use Rattle.std.specs.Prelude.{⊤}
-use Rattle.std.specs.Int.{w32, from_be_bytes}
-use Rattle.std.proofs.lemmas.Bool.{le-ltb, lt-ltb, le-leb, lt-leb, leb-true, leb-false, cases_lt}
-use Rattle.std.proofs.lemmas.List.{length-append, length-drop, length-take-le, append-nil, take_at, drop_at, take-append-drop, get_or-drop}
-use Rattle.std.proofs.lemmas.Nat.{from_be_bytes-to_be_bytes_4, be_bytes_4}
+use Rattle.std.proofs.Common.{◌≡◌, ℕ, zero, suc, ◌+◌, ◌^◌, ◌<◌, ◌≤◌, Bool, true, false, cond, ltb, leb, List, [], ◌∷◌, ◌++◌, length, drop, refl, sym, ap, ◌∙◌, append_assoc, arith}
+use Rattle.std.proofs.lemmas.Bool.{le-ltb, le-leb, lt-leb, leb-true}
+use Rattle.std.proofs.lemmas.List.{length-append, append-nil, take_at, drop_at}
+use Rattle.std.proofs.lemmas.Nat.{from_be_bytes-to_be_bytes_4}
 use Rattle.ff_xdr.specs.Form.{word}
-use Rattle.ff_xdr.specs.Laws.{IsBytes}
 use Rattle.rpc_record.specs.Calls.{word_of}
-use Rattle.rpc_record.specs.Frames.{max_record, max_fragments, header_word, length_in, is_last, record_bytes, Coming, Header, Body, Part, Front, Open, Whole, TooLong, TooManyFragments, front_from, front_of, behind_header, is_whole, HasGiven}
-use Rattle.rpc_record.specs.FrameLaws.{Fragment, fragment_bytes, stream_of, message_of, AreInner, AreRecord, AreWithin, IsRecordRead, StandsIn, IsRecordSpelled, IsMarkedRead, IsOpen, HeaderAt, HasLongHeader, HasHeaderTooMany, IsLongJustWhere, IsTooManyJustWhere, with_more, StandsBefore, HasOneReading}
-use Rattle.rpc_record.specs.FramesView.{resume}
-use Rattle.rpc_record.proofs.FrameSteps.{is_short, is_header, after_header, resume_of}
+use Rattle.rpc_record.specs.Frames.{max_record, max_fragments, header_word, length_in, is_last, record_bytes, Whole, front_from, front_of}
+use Rattle.rpc_record.specs.FrameLaws.{Fragment, fragment_bytes, stream_of, message_of, AreInner, AreRecord, IsRecordRead, IsMarkedRead}
+use Rattle.rpc_record.proofs.FrameSteps.{is_header, after_header}
 
 -- ---- words
 

@@ -1,12 +1,11 @@
 -- Where a stream is refused, and that it has one reading.
-use Rattle.std.proofs.Common.{◌≡◌, ℕ, zero, suc, ◌+◌, ◌-◌, ◌^◌, ◌<◌, ◌≤◌, Bool, true, false, ltb, List, [], ◌∷◌, ◌++◌, length, take, drop, refl, sym, ap, subst, ◌∙◌, append_assoc, arith}
-use Rattle.std.specs.Prelude.{⊤}
+use Rattle.std.proofs.Common.{◌≡◌, ℕ, zero, suc, ◌+◌, ◌-◌, ◌^◌, ◌<◌, ◌≤◌, true, false, ltb, List, [], ◌∷◌, ◌++◌, length, take, refl, sym, ap, subst, ◌∙◌, append_assoc, arith}
 use Rattle.std.proofs.lemmas.Bool.{le-ltb, both_ways}
 use Rattle.std.proofs.lemmas.List.{length-append, length-take}
 use Rattle.ff_xdr.specs.Form.{word}
 use Rattle.ff_xdr.specs.Laws.{IsBytes}
 use Rattle.rpc_record.specs.Calls.{word_of}
-use Rattle.rpc_record.specs.Frames.{max_record, max_fragments, length_in, Coming, Header, Part, Front, Open, Whole, TooLong, TooManyFragments, front_from, front_of, is_whole, HasGiven}
+use Rattle.rpc_record.specs.Frames.{max_record, max_fragments, length_in, Front, Open, Whole, TooLong, TooManyFragments, front_from, front_of, is_whole, HasGiven}
 use Rattle.rpc_record.specs.FrameLaws.{Fragment, fragment_bytes, stream_of, message_of, AreInner, AreWithin, IsOpen, HeaderAt, HasLongHeader, HasHeaderTooMany, IsLongJustWhere, IsTooManyJustWhere, with_more, StandsBefore, HasOneReading}
 use Rattle.rpc_record.specs.FramesView.{resume}
 use Rattle.rpc_record.proofs.FrameSteps.{is_short, is_header, resume_of}

@@ -1,11 +1,11 @@
 -- The front of a stream, byte by byte and piece by piece.
-use Rattle.std.proofs.Common.{◌≡◌, ℕ, zero, suc, ◌+◌, ◌-◌, ◌<◌, ◌≤◌, Bool, true, false, cond, ltb, leb, List, [], ◌∷◌, ◌++◌, length, take, drop, set, refl, sym, ap, subst, ◌∙◌, append_assoc, arith, inl, inr}
+use Rattle.std.proofs.Common.{◌≡◌, ℕ, zero, suc, ◌+◌, ◌-◌, ◌<◌, ◌≤◌, Bool, true, false, cond, ltb, List, [], ◌∷◌, ◌++◌, length, take, drop, set, refl, sym, ap, subst, ◌∙◌, append_assoc, arith, inl, inr}
 use Rattle.std.specs.Prelude.{nat_lt, if◌then◌else◌}
 use Rattle.std.specs.Int.{w32, from_be_bytes}
 use Rattle.std.proofs.lemmas.Bool.{le-ltb, lt-ltb, cases_lt}
 use Rattle.std.proofs.lemmas.List.{length-append, append-nil, take_at, drop_at, take_all, take_more_set, length-set, take-append-le, drop-append-le}
 use Rattle.rpc_record.specs.Calls.{word_of}
-use Rattle.rpc_record.specs.Frames.{max_record, max_fragments, length_in, is_last, Coming, Header, Body, Part, Front, Open, Whole, TooLong, TooManyFragments, front_from, front_of, behind_header}
+use Rattle.rpc_record.specs.Frames.{max_record, max_fragments, length_in, is_last, Header, Body, Front, Open, Whole, TooLong, TooManyFragments, front_from, front_of, behind_header}
 use Rattle.rpc_record.specs.FramesView.{settled, behind, resume, resume_part, Steps}
 
 -- ---- headers

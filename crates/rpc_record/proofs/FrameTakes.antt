@@ -1,10 +1,10 @@
 -- What the steps of `Frames` take of a piece.
-use Rattle.std.proofs.Common.{◌≡◌, ◌≢◌, ℕ, zero, suc, ◌+◌, ◌-◌, ◌<◌, ◌≤◌, min, Bool, true, false, List, [], ◌∷◌, ◌++◌, length, take, drop, refl, sym, ap, subst, ◌∙◌, append_assoc, arith, inl, inr, Ok, Err, Result}
-use Rattle.std.proofs.lemmas.List.{length-append, append-nil, length-take-le, take_more, length-drop, drop_all, take_rest, take_at}
+use Rattle.std.proofs.Common.{◌≡◌, ℕ, ◌+◌, ◌-◌, ◌<◌, ◌≤◌, min, Bool, true, List, [], ◌++◌, length, take, drop, refl, sym, ap, subst, ◌∙◌, append_assoc, arith}
+use Rattle.std.proofs.lemmas.List.{append-nil, length-take-le, length-drop, drop_all}
 use Rattle.std.proofs.Math.Seq.{take-add}
 use Rattle.rpc_record.specs.declared.frames.Stage.{Stage}
 use Rattle.rpc_record.specs.declared.frames.Stage.TheVariants as stage
-use Rattle.rpc_record.specs.Frames.{Coming, Header, Body, Part, Front, Open, Whole, TooLong, TooManyFragments, front_of}
+use Rattle.rpc_record.specs.Frames.{Front}
 use Rattle.rpc_record.specs.FramesView.{front_at, IsStage, is_more, settled, resume, Steps, TakesSome, Gathers}
 use Rattle.rpc_record.proofs.FrameSteps.{body_steps}
 
@@ -32,6 +32,7 @@ pub record Underway (old : List ℕ) (start : Stage) (piece : List ℕ) (taken :
   pub stage : IsStage now
   pub added : List ℕ
   pub grows : new ≡ old ++ added
+  pub more : is_more now ≡ true → is_more start ≡ true
 
 pub underway_first : (old : List ℕ) (start : Stage) (piece : List ℕ) → IsStage start → Underway old start piece 0 old start
 underway_first old start piece stands = record {
@@ -40,14 +41,15 @@ underway_first old start piece stands = record {
   stage = stands;
   added = [];
   grows = sym (append-nil old);
+  more = λ e. e;
 }
 
 steps_join : (f g h : Front) (a b : List ℕ) → Steps f a g → Steps g b h → Steps f (a ++ b) h
 steps_join f g h a b first second more = ap (λ (t : List ℕ). resume f t) (append_assoc a b more) ∙ first (b ++ more) ∙ second more
 
 pub underway_more : (old : List ℕ) (start : Stage) (piece : List ℕ) (taken : ℕ) (mid : List ℕ) (now : Stage) (n : ℕ) (new : List ℕ) (end : Stage)
-    → Underway old start piece taken mid now → TakesSome mid now (drop taken piece) n new end → Underway old start piece (taken + n) new end
-underway_more old start piece taken mid now n new end u t =
+    → Underway old start piece taken mid now → is_more now ≡ true → TakesSome mid now (drop taken piece) n new end → Underway old start piece (taken + n) new end
+underway_more old start piece taken mid now n new end u more t =
     let join = steps_join (front_at old start) (front_at mid now) (front_at new end) (take taken piece) (take n (drop taken piece)) u.steps t.steps in
     record {
       within = omega (arith, length-drop taken piece, u.within, t.within);
@@ -55,6 +57,7 @@ underway_more old start piece taken mid now n new end u t =
       stage = t.stage;
       added = u.added ++ t.added;
       grows = t.grows ∙ ap (λ (g : List ℕ). g ++ t.added) u.grows ∙ append_assoc old u.added t.added;
+      more = λ e. u.more more;
     }
 
 pub gathers_from : (old : List ℕ) (start : Stage) (piece : List ℕ) (taken : ℕ) (new : List ℕ) (end : Stage) → Underway old start piece taken new end → (is_more end ≡ true → length piece ≤ taken) → Gathers old start piece taken new end

@@ -1,5 +1,5 @@
 -- Record marking: a stream of bytes as records (RFC 5531, section 11).
-use Rattle.std.specs.Prelude.{◌≡◌, ℕ, zero, suc, ◌+◌, ◌-◌, ◌^◌, ◌<◌, ◌≤◌, nat_lt, nat_le, Bool, true, false, if◌then◌else◌, List, [], ◌∷◌, ◌++◌, length, take, drop, flat_map, Option, Some, None, Result, Ok, Err}
+use Rattle.std.specs.Prelude.{◌≡◌, ℕ, zero, suc, ◌+◌, ◌-◌, ◌^◌, ◌≤◌, nat_lt, nat_le, Bool, true, false, if◌then◌else◌, List, [], ◌∷◌, ◌++◌, length, take, drop, Option, Some, None, Result, Ok, Err}
 use Rattle.ff_xdr.specs.Form.{word}
 use Rattle.rpc_record.specs.declared.frames.RecordFault.{RecordFault}
 use Rattle.rpc_record.specs.declared.frames.RecordFault.TheVariants as fault

@@ -1,10 +1,10 @@
 -- How the fields of `Frames` stand for the front of a stream, and what its steps do.
-use Rattle.std.specs.Prelude.{⊤, ◌≡◌, ℕ, zero, suc, ◌+◌, ◌-◌, ◌<◌, ◌≤◌, nat_lt, Bool, true, false, if◌then◌else◌, List, [], ◌∷◌, ◌++◌, length, take, drop, Result, Ok, Err}
+use Rattle.std.specs.Prelude.{⊤, ◌≡◌, ℕ, ◌+◌, ◌-◌, ◌<◌, ◌≤◌, nat_lt, Bool, true, false, if◌then◌else◌, List, [], ◌++◌, length, take, drop, Result, Ok, Err}
 use Rattle.rpc_record.specs.declared.frames.Stage.{Stage}
 use Rattle.rpc_record.specs.declared.frames.Stage.TheVariants as stage
 use Rattle.rpc_record.specs.declared.frames.RecordFault.{RecordFault}
 use Rattle.rpc_record.specs.declared.frames.RecordFault.TheVariants as fault
-use Rattle.rpc_record.specs.Frames.{max_record, length_in, is_last, Coming, Header, Body, Part, Front, Open, Whole, TooLong, TooManyFragments, front_from, behind_header, StopsAt}
+use Rattle.rpc_record.specs.Frames.{max_record, length_in, is_last, Coming, Header, Body, Front, Open, Whole, TooLong, TooManyFragments, front_from, behind_header}
 
 -- the front that a stage stands for, where these bytes were gathered
 abbrev pub front_at : List ℕ → Stage → Front

@@ -52,8 +52,8 @@ fn feeding_stops_behind_a_record(rt: HostRuntime) -> Result<(), Fail> {
     Ok(())
 }
 
-/// What stands behind so many empty fragments and the first three bytes of this header, and what its
-/// fourth byte is answered.
+/// What stands behind so many empty fragments and the first three bytes of this header, and what
+/// its fourth byte is answered.
 fn fourth_byte(
     alloc: Global,
     fragments: u32,
@@ -100,10 +100,12 @@ fn headers_pass_the_limits(rt: HostRuntime) -> Result<(), Fail> {
 #[test]
 fn a_written_record_is_read(rt: HostRuntime) -> Result<(), Fail> {
     let call = bytes_of(rt.alloc(), &CALL)?;
+    assert_eq!(rt; call.len(), 100);
+    let mut record = bytes_of(rt.alloc(), &[0x8000_0064])?;
+    record.extend_from_slice(&call)?;
     let mut out = Out::new(rt.alloc());
     put_record(&call, &mut out)?;
-    assert_eq!(rt; &out.bytes()[..4], [0x80, 0, 0, 0x64].as_slice());
-    assert_eq!(rt; &out.bytes()[4..], call.as_slice());
+    assert_eq!(rt; out.bytes(), record.as_slice());
     let mut frames = Frames::new(rt.alloc());
     assert_eq!(rt; frames.feed(out.bytes()), Ok(104));
     assert_eq!(rt; frames.take(), Some(call));

@@ -4,7 +4,7 @@ ghost use Rattle.std.specs.Prelude.{◌≡◌, ◌≤◌, ◌<◌, ◌++◌, ◌
 ghost use Rattle.std.specs.Int.{w32, from_be_bytes};
 ghost use Rattle.std.specs.Option.{option_map};
 ghost use Rattle.ff_xdr.specs.Calls.{Puts};
-ghost use Rattle.rpc_record.specs.Frames.{front_of, max_record, record_bytes, HasGiven, Feeds, TakesOut, with_taken, Header, Body, Open};
+ghost use Rattle.rpc_record.specs.Frames.{front_of, max_record, record_bytes, HasGiven, Feeds, TakesOut, with_taken, Header, Open, TooLong, TooManyFragments};
 ghost use Rattle.rpc_record.specs.FramesView.{front_at, is_more, IsStage, settled, behind, Steps, TakesSome, Gathers, answers};
 
 use ff_xdr::{NoMemory, Out};
@@ -42,13 +42,15 @@ impl From<NoMemory> for RecordFault {
 /// Where the record that is gathered stands.
 #[derive(Clone, Copy, Debug)]
 enum Stage {
-    /// A header comes: so many headers may still come, and the first `count` of `bytes` are there, fewer than four.
+    /// A header comes: so many headers may still come, and the first `count` of `bytes` are there,
+    /// fewer than four.
     Header {
         headers: u32,
         bytes: [u8; 4],
         count: usize,
     },
-    /// The bytes of a fragment come: so many headers may come behind it, and so many of its bytes are to come, at least one.
+    /// The bytes of a fragment come: so many headers may come behind it, and so many of its bytes
+    /// are to come, at least one.
     Body {
         headers: u32,
         left: usize,
@@ -92,8 +94,8 @@ fn settled(headers: u32, left: usize, last: bool) -> Stage
     }
 }
 
-/// The stage behind a header, where so many bytes were gathered before it. The header's highest bit is set at a record's
-/// last fragment, and the others are the fragment's length.
+/// The stage behind a header, where so many bytes were gathered before it. The header's highest bit
+/// is set at a record's last fragment, and the others are the fragment's length.
 fn behind_header(headers: u32, gathered: usize, word: u32) -> Stage
     ensures front { (bytes : List ℕ) → length bytes ≡ gathered → front_at bytes result ≡ behind bytes headers word }
     ensures stage { IsStage result }
@@ -136,13 +138,9 @@ fn is_more(stage: Stage) -> bool
     matches!(stage, Stage::Header { .. } | Stage::Body { .. })
 }
 
-/// Takes bytes of a piece: the next of a header, or all that there are of a fragment. Answers how many, and the stage
-/// behind them. At an error nothing was gathered.
-fn step(
-    gathered: &mut Vec<u8>,
-    stage: Stage,
-    piece: &[u8],
-) -> Result<(usize, Stage), NoMemory>
+/// Takes bytes of a piece: the next of a header, or all that there are of a fragment. Answers how
+/// many, and the stage behind them. At an error nothing was gathered.
+fn step(gathered: &mut Vec<u8>, stage: Stage, piece: &[u8]) -> Result<(usize, Stage), NoMemory>
     requires some { 0 < length piece.now }
     requires more { IsTrue (is_more stage) }
     requires stage { IsStage stage }
@@ -154,7 +152,10 @@ fn step(
             headers,
             bytes,
             count,
-        } => Ok((1, header_byte(headers, bytes, count, piece[0], gathered.len()))),
+        } => Ok((
+            1,
+            header_byte(headers, bytes, count, piece[0], gathered.len()),
+        )),
         Stage::Body {
             headers,
             left,
@@ -168,16 +169,14 @@ fn step(
     }
 }
 
-/// Takes bytes of a piece up to its end, to the end of a whole record, or to the end of a header that passes a limit.
-/// Answers how many, and the stage behind them. At an error nothing was gathered.
-fn gather(
-    gathered: &mut Vec<u8>,
-    start: Stage,
-    piece: &[u8],
-) -> Result<(usize, Stage), NoMemory>
+/// Takes bytes of a piece up to its end, to the end of a whole record, or to the end of a header
+/// that passes a limit. Answers how many, and the stage behind them. At an error nothing was
+/// gathered.
+fn gather(gathered: &mut Vec<u8>, start: Stage, piece: &[u8]) -> Result<(usize, Stage), NoMemory>
     requires { IsStage start }
     ensures ok { IfOk result (λ r. Gathers gathered.old.items start piece.now r.0 gathered.new.items r.1) }
     ensures err { OnErr result (gathered.new.items ≡ gathered.old.items) }
+    ensures more { OnErr result (IsTrue (is_more start)) }
 {
     let mark = gathered.len();
     let mut stage = start;
@@ -208,8 +207,8 @@ fn answer(stage: Stage, taken: usize) -> Result<usize, RecordFault>
     }
 }
 
-/// Gathers records of a stream that comes in any pieces, one record after another (RFC 5531, section 11). Clauses see it as
-/// the front of what was fed since the last record was taken.
+/// Gathers records of a stream that comes in any pieces, one record after another (RFC 5531,
+/// section 11). Clauses see it as the front of what was fed since the last record was taken.
 #[derive(Debug, Drop)]
 pub struct Frames {
     gathered: Vec<u8>,
@@ -240,14 +239,17 @@ impl Frames {
         }
     }
 
-    /// Takes the next bytes of the stream, and answers how many: all, or those up to the end of a whole record. Where a
-    /// whole record was not taken out it answers 0.
+    /// Takes the next bytes of the stream, and answers how many: all, or those up to the end of a
+    /// whole record. Where a whole record was not taken out it answers 0.
     ///
-    /// A header that passes a limit is refused at its fourth byte, and from then on every call answers the same error. At
-    /// `NoMemory` nothing was taken, and the same piece may be fed again.
+    /// A header that passes a limit is refused at its fourth byte, and from then on every call
+    /// answers the same error. At `NoMemory` nothing was taken, and the same piece may be fed
+    /// again.
     pub fn feed(&mut self, piece: &[u8]) -> Result<usize, RecordFault>
         ensures told { (fed : List ℕ) → self.old ≡ front_of fed → Feeds fed piece.now result self.new }
         ensures goes_on { (stream : List ℕ) (messages : List (List ℕ)) → HasGiven stream messages self.old → IfOk result (λ n. HasGiven (stream ++ take n piece.now) messages self.new) }
+        ensures too_long { self.old ≡ TooLong → IsErrOf result RecordFault.TooLong }
+        ensures too_many { self.old ≡ TooManyFragments → IsErrOf result RecordFault.TooManyFragments }
         ensures memory { IsErrOf result RecordFault.NoMemory → self.new ≡ self.old }
     {
         let start = self.stage;
@@ -272,8 +274,8 @@ impl Frames {
     }
 }
 
-/// Appends a message as a record of one fragment (RFC 5531, section 11), or nothing. A message has at most `MAX_RECORD`
-/// bytes.
+/// Appends a message as a record of one fragment (RFC 5531, section 11), or nothing. A message has
+/// at most `MAX_RECORD` bytes.
 pub fn put_record(message: &[u8], out: &mut Out) -> Result<(), NoMemory>
     requires { length message.now ≤ max_record }
     ensures { Puts out.old result out.new (record_bytes message.now) }

@@ -6,6 +6,8 @@ mod auth_wire;
 mod call;
 mod call_wire;
 mod frame_law;
+#[cfg(test)]
+mod frame_tests;
 mod frames;
 mod laws;
 mod memory;
@@ -15,8 +17,6 @@ mod standard;
 mod status;
 mod stream;
 mod sure;
-#[cfg(test)]
-mod frame_tests;
 #[cfg(test)]
 mod tests;
 

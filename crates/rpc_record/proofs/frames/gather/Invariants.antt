@@ -1,4 +1,4 @@
-use Rattle.std.proofs.Common.{◌≡◌, ◌-◌, length}
+use Rattle.std.proofs.Common.{◌-◌, length}
 use Rattle.rpc_record.proofs.FrameTakes.{Underway}
 use Rattle.rpc_record.proofs.frames.gather.Given as goal
 

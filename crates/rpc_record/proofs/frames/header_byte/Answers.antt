@@ -1,6 +1,6 @@
-use Rattle.std.proofs.Common.{◌≡◌, ◌<◌, ◌∙◌, List, ℕ, length, arith, ap, sym}
+use Rattle.std.proofs.Common.{◌∙◌, ℕ, arith, ap, sym}
 use Rattle.rpc_record.specs.Frames.{Front}
-use Rattle.rpc_record.specs.FramesView.{front_at, behind, resume}
+use Rattle.rpc_record.specs.FramesView.{behind, resume}
 use Rattle.rpc_record.proofs.FrameSteps.{byte_more, byte_last}
 use Rattle.rpc_record.proofs.frames.header_byte.Goals as goal
 

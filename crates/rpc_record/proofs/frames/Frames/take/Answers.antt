@@ -1,6 +1,6 @@
 use Rattle.std.proofs.Common.{◌≡◌, ◌∙◌, List, ℕ, [], ap, sym, Vec, Global}
 use Rattle.rpc_record.specs.declared.frames.Stage.{Stage}
-use Rattle.rpc_record.specs.Frames.{Front, Whole, front_of}
+use Rattle.rpc_record.specs.Frames.{Whole, front_of}
 use Rattle.rpc_record.specs.FramesView.{front_at}
 use Rattle.rpc_record.proofs.FrameCalls.{front_start, given_taken}
 use Rattle.rpc_record.proofs.frames.Frames.take.Goals as goal
