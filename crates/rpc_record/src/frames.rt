@@ -139,7 +139,8 @@ fn is_more(stage: Stage) -> bool
 }
 
 /// Takes bytes of a piece: the next of a header, or all that there are of a fragment. Answers how
-/// many, and the stage behind them. At an error nothing was gathered.
+/// many, and the stage behind them. Room for the rest of a fragment is made at once, so its bytes are
+/// copied once, however they come. At an error nothing was gathered.
 fn step(gathered: &mut Vec<u8>, stage: Stage, piece: &[u8]) -> Result<(usize, Stage), NoMemory>
     requires some { 0 < length piece.now }
     requires more { IsTrue (is_more stage) }
@@ -162,6 +163,7 @@ fn step(gathered: &mut Vec<u8>, stage: Stage, piece: &[u8]) -> Result<(usize, St
             last,
         } => {
             let count = left.min(piece.len());
+            gathered.reserve(left)?;
             gathered.extend_from_slice(&piece[..count])?;
             Ok((count, settled(headers, left - count, last)))
         }
