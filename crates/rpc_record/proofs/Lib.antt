@@ -5,3 +5,9 @@ pub mod ReplyLaws
 pub mod CallRefusals
 pub mod ReplyRefusals
 pub mod FirstFaults
+pub mod FrameSteps
+pub mod FrameTakes
+pub mod FrameCalls
+pub mod FrameRecords
+pub mod FrameReadings
+pub mod FrameRefusals

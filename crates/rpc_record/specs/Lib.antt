@@ -4,3 +4,6 @@ pub mod Calls
 pub mod Replies
 pub mod Status
 pub mod Laws
+pub mod Frames
+pub mod FramesView
+pub mod FrameLaws

@@ -5,6 +5,10 @@ mod auth;
 mod auth_wire;
 mod call;
 mod call_wire;
+mod frame_law;
+#[cfg(test)]
+mod frame_tests;
+mod frames;
 mod laws;
 mod memory;
 mod reply;
@@ -18,6 +22,8 @@ mod tests;
 
 pub use auth::{AUTH_NONE, AUTH_SYS, Auth, AuthSys, MAX_BODY};
 pub use call::{Call, CallFault};
+pub use frame_law::every_stream;
+pub use frames::{Frames, MAX_FRAGMENTS, MAX_RECORD, RecordFault, put_record};
 pub use laws::every_message;
 pub use memory::{MemorySink, MemorySource};
 pub use reply::{Reply, ReplyBody};

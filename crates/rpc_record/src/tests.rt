@@ -58,7 +58,7 @@ fn sinks_hold_their_bytes(rt: HostRuntime) -> Result<(), Fail> {
 
 /// A call of transaction 7: program 100003, version 3, procedure 7, a user 65536 of the machine `c1`,
 /// no verifier, and 36 bytes of arguments.
-const CALL: [u32; 25] = [
+pub(crate) const CALL: [u32; 25] = [
     7,
     0,
     2,
@@ -87,7 +87,7 @@ const CALL: [u32; 25] = [
 ];
 
 /// The bytes of these words.
-fn bytes_of(alloc: Global, words: &[u32]) -> Result<Vec<u8>, AllocError> {
+pub(crate) fn bytes_of(alloc: Global, words: &[u32]) -> Result<Vec<u8>, AllocError> {
     let mut bytes = Vec::new(alloc);
     for word in words {
         bytes.extend_from_slice(&word.to_be_bytes())?;
