@@ -1,3 +1,4 @@
 pub mod Placing
 pub mod Files
 pub mod Moments
+pub mod MirrorLists

@@ -2,6 +2,7 @@ pub mod Ticks
 pub mod Content
 pub mod File
 pub mod Journal
+pub mod Mirrors
 pub mod Laws
 pub mod Print
 pub mod Prints

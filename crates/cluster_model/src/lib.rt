@@ -6,6 +6,9 @@ mod change;
 mod entry;
 mod ids;
 mod laws;
+mod mirrors;
+#[cfg(test)]
+mod mirrors_tests;
 mod outbox;
 mod piece;
 mod tick;
@@ -14,6 +17,7 @@ pub use change::{Changes, NewTime};
 pub use entry::Entry;
 pub use ids::{Cred, FileId, Mirror, MirrorId, NodeId};
 pub use laws::{commits, guards, overlays, stable_times, ticks, writes};
+pub use mirrors::Mirrors;
 pub use outbox::Outbox;
 pub use piece::{Piece, Pieces};
 pub use tick::{Tick, Times};

@@ -1,0 +1,112 @@
+//! Where the copies of a file are.
+
+ghost use Rattle.std.specs.Prelude.{◌≡◌, true, List, [], ◌∷◌, ◌++◌, length, Some, None, slice_get, if◌then◌else◌};
+ghost use Rattle.cluster_model.specs.Mirrors.{are_mirrors, can_add, has_server, mirrors_in};
+
+use crate::ids::Mirror;
+use std::marker::Model;
+
+/// The live mirrors of a file, in order: at most four, no two on one data server (RFC 8435, section 5.1
+/// speaks of a list of mirrors).
+#[derive(Clone, Copy, Debug, PartialEq, Eq)]
+pub struct Mirrors {
+    items: [Option<Mirror>; 4],
+}
+
+impl Model for Mirrors {
+    ghost use Rattle.std.specs.Prelude.{List};
+    ghost use Rattle.std.proofs.Common.{sym};
+    ghost use Rattle.cluster_model.specs.declared.ids.Mirror.{Mirror};
+
+    ghost Value = { List Mirror };
+
+    ghost use Rattle.cluster_model.specs.Mirrors.{mirrors_in, places_of, AreMirrorsIn};
+
+    ghost view = { λ m. mirrors_in m.items };
+
+    ghost invariant = { λ m. AreMirrorsIn m.items };
+
+    ghost inverse = { λ mirrors. record { items = places_of mirrors } };
+
+    ghost inverse_ok = { λ m h i. record { items = sym h.places_are i } };
+}
+
+impl Mirrors {
+    /// No mirror.
+    pub fn none() -> Mirrors
+        ensures { result ≡ [] }
+    {
+        Mirrors { items: [None; 4] }
+    }
+
+    /// These mirrors, where a file may have them.
+    pub fn of(mirrors: &[Mirror]) -> Option<Mirrors>
+        ensures { result ≡ (if are_mirrors mirrors.now then Some mirrors.now else None) }
+    {
+        let mut all = Mirrors::none();
+        for mirror in mirrors {
+            if !all.add(*mirror) {
+                return None;
+            }
+        }
+        Some(all)
+    }
+
+    /// How many there are.
+    pub fn len(&self) -> usize
+        ensures count { result ≡ length self.now }
+        ensures mirrors { are_mirrors self.now ≡ true }
+    {
+        filled(&self.items)
+    }
+
+    /// The mirror at this place, from 0.
+    pub fn get(&self, place: usize) -> Option<Mirror>
+        ensures { result ≡ slice_get self.now place }
+    {
+        match self.items.get(place) {
+            None => None,
+            Some(item) => *item,
+        }
+    }
+
+    /// The mirror joins at the end, where there is room for it and none is on its server.
+    pub fn add(&mut self, mirror: Mirror) -> bool
+        ensures added { result ≡ can_add self.old mirror }
+        ensures list { self.new ≡ (if result then self.old ++ mirror ∷ [] else self.old) }
+    {
+        let len = filled(&self.items);
+        if len == 4 || has_server(&self.items, mirror.id.server) {
+            return false;
+        }
+        self.items[len] = Some(mirror);
+        true
+    }
+}
+
+/// How many places are filled.
+fn filled(places: &[Option<Mirror>]) -> usize
+    ensures { result ≡ length (mirrors_in places.now) }
+{
+    let mut len = 0;
+    for place in places {
+        if place.is_some() {
+            len += 1;
+        }
+    }
+    len
+}
+
+/// One of the mirrors is on the server.
+fn has_server(places: &[Option<Mirror>], server: u32) -> bool
+    ensures { result ≡ has_server (mirrors_in places.now) server }
+{
+    for place in places {
+        if let Some(mirror) = place
+            && mirror.id.server == server
+        {
+            return true;
+        }
+    }
+    false
+}
