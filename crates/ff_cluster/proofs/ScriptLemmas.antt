@@ -8,8 +8,8 @@ use Rattle.ff_xdr.specs.declared.error.NoMemory.{NoMemory}
 use Rattle.line_runs.specs.declared.end.Played.{Played as Outcome}
 use Rattle.line_runs.specs.declared.end.Played.TheVariants as outcome
 use Rattle.line_runs.specs.Writing.{Begins}
-use Rattle.line_runs.specs.Runs.{Course, after_text, IsOutside, Does as TaskDoes}
-use Rattle.ff_cluster.specs.Player.{PlayerValue, PlayerState, with_trace, GoesFrom, HasBegun, Does}
+use Rattle.line_runs.specs.Runs.{Course, after_text, Does as TaskDoes}
+use Rattle.ff_cluster.specs.Player.{PlayerValue, PlayerState, with_trace, Does}
 use Rattle.ff_cluster.specs.declared.line.Setup.{Setup}
 use Rattle.ff_cluster.specs.declared.line.Setup.TheVariants.{Bare}
 use Rattle.ff_cluster.specs.Line.{LineValue, EventLine, SetupLine, Nothing, setup_at, event_at, words_at, line_at}

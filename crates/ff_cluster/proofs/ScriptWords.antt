@@ -5,7 +5,8 @@ use Rattle.std.proofs.lemmas.Bool.Decides.{nat_tests}
 use Rattle.ff_cluster.specs.declared.line.Setup.{Setup}
 use Rattle.ff_cluster.specs.declared.line.Setup.TheVariants.{Bare}
 use Rattle.ff_cluster.specs.Digits.{bytes_of_digits}
-use Rattle.ff_cluster.specs.Line.{LineValue, Nothing, SetupLine, EventLine, line_at, words_at, setup_at, deliver_at, restart_at, event_at, first_of, behind, short_record, max_record, ◌>>=◌}
+use Rattle.ff_cluster.specs.Line.{LineValue, Nothing, SetupLine, EventLine, line_at, words_at, setup_at, deliver_at, restart_at, event_at, first_of, behind, short_record, ◌>>=◌}
+use Rattle.rpc_record.specs.Frames.{max_record}
 use Rattle.cluster_model.specs.declared.piece.Piece.{Piece}
 use Rattle.cluster_model.specs.Event.{EventValue, Deliver, Restart}
 

@@ -1,5 +1,5 @@
 -- What `show` says of records, and the lines of a source.
-use Rattle.std.proofs.Common.{◌≡◌, ℕ, ◌+◌, Bool, List, [], ◌∷◌, ◌++◌, codes, Option, Some, None, Result, Ok, Err, refl, sym, ap, subst, ◌∙◌}
+use Rattle.std.proofs.Common.{◌≡◌, ℕ, ◌+◌, List, [], ◌∷◌, codes, Result, Ok, Err, refl, sym, ap, subst, ◌∙◌}
 use Rattle.std.proofs.lemmas.List.{append-nil}
 use Rattle.ff_xdr.specs.declared.error.NoMemory.{NoMemory}
 use Rattle.ff_xdr.specs.declared.error.XdrError.{XdrError}
@@ -10,7 +10,7 @@ use Rattle.nfs3_wire.specs.Calls.{calls}
 use Rattle.rpc_record.specs.Calls.{Call}
 use Rattle.line_runs.specs.declared.end.Played.{Played}
 use Rattle.line_runs.specs.declared.end.Played.TheVariants as played
-use Rattle.line_runs.specs.Runs.{Course, after_text, Does}
+use Rattle.line_runs.specs.Runs.{Does}
 use Rattle.ff_cluster.specs.Show.{bad_text, read_args, args_text, line_shown, show_from, by_shown, ShowsLine}
 
 puts_grows : (old new text : List ℕ) (r : Result (Unit {0}) NoMemory) → Puts old r new text → Grows old r new text

@@ -7,6 +7,7 @@ use Rattle.ff_cluster.specs.declared.line.Event.{Event}
 use Rattle.ff_cluster.specs.declared.line.Event.TheVariants as event
 use Rattle.ff_cluster.specs.declared.line.Line.{Line}
 use Rattle.ff_cluster.specs.declared.line.Line.TheVariants as line
+use Rattle.rpc_record.specs.Frames.{max_record}
 use Rattle.cluster_model.specs.Event.{EventValue, Deliver, Restart}
 use Rattle.ff_cluster.specs.Digits.{bytes_of_digits}
 use Rattle.ff_cluster.specs.Pieces.{pieces_at}
@@ -21,11 +22,7 @@ pub data LineValue : Type 0 where
 abbrev pub behind : List ℕ → List ℕ → Option (List ℕ)
 behind word text = if bytes_eq (take (length word) text) word then Some (drop (length word) text) else None
 
--- the longest record that a line may hold, in bytes
-abbrev pub max_record : ℕ
-max_record = 1179648
-
--- a record that is not too long
+-- a record that is not too long to be marked (RFC 5531, section 11)
 abbrev pub short_record : List ℕ → Option (List ℕ)
 short_record bytes = if nat_le (length bytes) max_record then Some bytes else None
 

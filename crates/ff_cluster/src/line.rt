@@ -5,9 +5,7 @@ ghost use Rattle.ff_cluster.specs.Line.{line_at, line_value, event_value, delive
 
 use crate::digits::Digits;
 use crate::pieces::PieceList;
-
-/// The longest record that a line may hold, in bytes.
-pub const MAX_RECORD: usize = 1_179_648;
+use rpc_record::MAX_RECORD;
 
 /// Which machines there are.
 #[derive(Clone, Copy, Debug, PartialEq, Eq)]

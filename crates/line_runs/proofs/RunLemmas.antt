@@ -9,9 +9,9 @@ use Rattle.line_runs.specs.declared.lines.Ended.TheVariants.{Newline, End, Over 
 use Rattle.line_runs.specs.declared.end.RunEnd.{RunEnd}
 use Rattle.line_runs.specs.declared.end.RunEnd.TheVariants.{Done, BadLine, ReadFault, WriteFault, NoMemory, Limit}
 use Rattle.line_runs.specs.Lines.{Line, Over, cut_line, ended_lines, script_lines, Drawn, ReadsLine, CutsLine}
-use Rattle.line_runs.specs.Writing.{Begins, WritesText}
-use Rattle.line_runs.specs.Runs.{Course, at_end, after_text, Coming, max_source, whole, ended, IsPastLimit, Ends, HasRead, TookAll, TookPart, TookOfRead, Writes, Leaves, Runs, ReadFaults, write_faults, Goes, IsOutside, IsLimited, HasBegun}
-use Rattle.line_runs.specs.Playback.{Stand, RunState, stand, start, lines_by, Prospect, prospect, lines_ahead, ahead, text_ahead, Owes, OwesPart, Took, GoesOn, OwesRead, Passes, Stops, Steps, Finishes, EndFaults, StepFaults, LinesFaults, SourceFaults, TakesLine, PlaysLast, PlaysEnded}
+use Rattle.line_runs.specs.Writing.{WritesText}
+use Rattle.line_runs.specs.Runs.{Course, at_end, after_text, Coming, max_source, ended, IsPastLimit, Ends, HasRead, TookAll, TookPart, TookOfRead, Writes, Leaves, Runs, ReadFaults, write_faults, Goes, IsOutside, IsLimited, HasBegun}
+use Rattle.line_runs.specs.Playback.{Stand, lines_by, Prospect, prospect, lines_ahead, ahead, text_ahead, Owes, OwesPart, Took, GoesOn, OwesRead, Passes, Stops, Steps, Finishes, EndFaults, StepFaults, LinesFaults, SourceFaults, TakesLine, PlaysLast, PlaysEnded}
 use Rattle.line_runs.proofs.LineLemmas.{cut_more-line, cut_more-over, script_line, line_length, script_end, script_last, script_over, over_lines, last_length, ended_line, ended_last}
 
 -- the run has gone on for some steps

@@ -1,6 +1,6 @@
 use Rattle.std.proofs.lemmas.Result.{err_from_is_err_and}
 use Rattle.ff_cluster.specs.Line.{event_value}
-use Rattle.ff_cluster.proofs.PlayLemmas.{happens_in_part, happens_all, happens_not, begins_none}
+use Rattle.ff_cluster.proofs.PlayLemmas.{happens_in_part, happens_all}
 use Rattle.ff_cluster.proofs.player.Player.happen.Goals as goal
 
 pub returns-in_err-print_entries-in-Ok-clause-does : goal.returns-in_err-print_entries-in-Ok-clause-does

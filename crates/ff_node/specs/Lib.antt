@@ -1,0 +1,4 @@
+pub mod Address
+pub mod Config
+pub mod Link
+pub mod Serve

@@ -1,0 +1,20 @@
+//! A node of the cluster: its configuration, its link to other nodes, and a data server that serves.
+#![tactic(auto)]
+
+mod address;
+mod config;
+mod link;
+mod memory_link;
+mod serve;
+mod sure_link;
+mod tcp_link;
+#[cfg(test)]
+mod tests;
+
+pub use address::{NetAddr, parse_universal};
+pub use config::{Config, ConfigFault, MAX_LINE, read_config};
+pub use link::{Arrival, Link, Role};
+pub use memory_link::MemoryLink;
+pub use serve::{NodeEnd, serve_ds};
+pub use sure_link::SureLink;
+pub use tcp_link::TcpLink;

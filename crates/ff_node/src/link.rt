@@ -1,0 +1,71 @@
+//! What joins a node to others.
+
+ghost use Rattle.std.specs.Prelude.{◌≡◌, ℕ, List, Option};
+ghost use Rattle.rpc_record.specs.Stream.{counted};
+ghost use Rattle.cluster_model.specs.declared.ids.NodeId.{NodeId};
+ghost use Rattle.ff_node.specs.declared.link.Arrival.{Arrival};
+ghost use Rattle.ff_node.specs.Link.{Gives, Sends};
+
+use crate::config::Config;
+use cluster_model::NodeId;
+use ff_xdr::{Data, NoMemory};
+use rpc_record::Failed;
+
+/// What a node is in its cluster.
+#[derive(Clone, Copy, Debug, PartialEq, Eq)]
+pub enum Role {
+    /// The metadata server.
+    Mds,
+    /// A data server, by its own number.
+    Server,
+    /// A client, by its own number.
+    Client,
+}
+
+/// What comes from a link.
+#[derive(Debug, Drop)]
+pub enum Arrival {
+    /// A record of a node.
+    Record {
+        /// The node that sent it.
+        from: NodeId,
+        /// Its bytes, without their marking (RFC 5531, section 11).
+        bytes: Data,
+    },
+    /// No answer came from this node in time.
+    TimedOut(NodeId),
+    /// Nothing more comes.
+    Closed,
+}
+
+/// A link to the other nodes of the cluster.
+pub trait Link {
+    /// How many calls have met a fault of the other side. The count stands still at `u64::MAX`.
+    ghost faults: { Self → ℕ };
+
+    /// What comes from here on, where the link tells it.
+    ghost coming: { Self → Option (List Arrival) };
+
+    /// The records that were handed to it so far, in order, where the link tells them.
+    ghost sent: { Self → Option (List (NodeId × List ℕ)) };
+
+    /// Makes the link ready for a node in its role. `Failed::Fault` is counted.
+    fn open(&mut self, config: &Config, role: Role) -> Result<(), Failed>
+        ensures coming { coming self.new ≡ coming self.old }
+        ensures sent { sent self.new ≡ sent self.old }
+        ensures faults { faults self.new ≡ counted result (faults self.old) };
+
+    /// What comes next. `Arrival::Closed` where nothing more comes. An error takes nothing from what is
+    /// to come, and `Failed::Fault` is counted.
+    fn next(&mut self) -> Result<Arrival, Failed>
+        ensures told { Gives (coming self.old) result (coming self.new) }
+        ensures sent { sent self.new ≡ sent self.old }
+        ensures faults { faults self.new ≡ counted result (faults self.old) };
+
+    /// Sends a record to a node. A record that cannot be sent is lost, which is no fault. At an error
+    /// nothing was sent.
+    fn send(&mut self, to: NodeId, message: &[u8]) -> Result<(), NoMemory>
+        ensures told { Sends (sent self.old) to message.now result (sent self.new) }
+        ensures coming { coming self.new ≡ coming self.old }
+        ensures faults { faults self.new ≡ faults self.old };
+}

@@ -1,0 +1,83 @@
+//! A link over memory, with no other side that could fail.
+
+ghost use Rattle.std.specs.Prelude.{◌≡◌, ◌≢◌, List, [], Some, Ok, Err, IsOk};
+ghost use Rattle.rpc_record.specs.Stream.{counted};
+ghost use Rattle.ff_node.specs.Link.{Gives};
+
+use crate::config::Config;
+use crate::link::{Arrival, Link, Role};
+use cluster_model::NodeId;
+use ff_xdr::{Data, NoMemory};
+use rpc_record::Failed;
+use std::alloc::Global;
+use std::collections::VecDeque;
+use std::marker::Model;
+
+/// A link that gives the arrivals of a `Vec` in order, is closed then, and keeps what is sent. It
+/// never answers `Failed`. Clauses see it as what is still to come and what was sent.
+#[derive(Drop)]
+pub struct SureLink {
+    alloc: Global,
+    arrivals: VecDeque<Arrival>,
+    sent: Vec<(NodeId, Data)>,
+}
+
+impl Model for SureLink {
+    ghost use Rattle.ff_node.specs.Link.{SureLinkState};
+
+    ghost Value = { SureLinkState };
+
+    ghost view = { λ link. record { coming = link.arrivals.items; sent = link.sent.items } };
+}
+
+impl SureLink {
+    /// A link over which these come. It takes its memory from `alloc`.
+    pub fn new(alloc: Global, arrivals: Vec<Arrival>) -> SureLink
+        ensures { result ≡ record { coming = arrivals.items; sent = [] } }
+    {
+        SureLink {
+            alloc,
+            arrivals: VecDeque::from_vec(arrivals),
+            sent: Vec::new(alloc),
+        }
+    }
+
+    /// What was sent, in order.
+    pub fn sent(&self) -> &[(NodeId, Data)]
+        ensures { result.now ≡ self.now.sent }
+    {
+        &self.sent
+    }
+}
+
+impl Link for SureLink {
+    ghost faults = { λ _. 0 };
+
+    ghost coming = { λ link. Some link.coming };
+
+    ghost sent = { λ link. Some link.sent };
+
+    fn open(&mut self, _config: &Config, _role: Role) -> Result<(), Failed>
+        ensures coming { Some self.new.coming ≡ Some self.old.coming }
+        ensures sent { Some self.new.sent ≡ Some self.old.sent }
+        ensures faults { 0 ≡ counted result 0 }
+        ensures sure { result ≡ Ok tt }
+    {
+        Ok(())
+    }
+
+    fn next(&mut self) -> Result<Arrival, Failed>
+        ensures told { Gives (Some self.old.coming) result (Some self.new.coming) }
+        ensures sent { Some self.new.sent ≡ Some self.old.sent }
+        ensures faults { 0 ≡ counted result 0 }
+        ensures sure { IsOk result }
+    {
+        Ok(self.arrivals.pop_front().unwrap_or(Arrival::Closed))
+    }
+
+    fn send(&mut self, to: NodeId, message: &[u8]) -> Result<(), NoMemory> {
+        let bytes = Data::of(self.alloc, message)?;
+        self.sent.push((to, bytes))?;
+        Ok(())
+    }
+}

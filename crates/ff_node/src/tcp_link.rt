@@ -1,0 +1,113 @@
+//! The link over TCP.
+
+ghost use Rattle.std.specs.Prelude.{◌≡◌, None};
+ghost use Rattle.rpc_record.specs.Stream.{one_more};
+
+use crate::address::NetAddr;
+use crate::config::Config;
+use crate::link::{Arrival, Link, Role};
+use cluster_model::NodeId;
+use ff_xdr::{Data, NoMemory};
+use record_tcp::RecordServer;
+use rpc_record::Failed;
+use std::alloc::Global;
+use std::net::{IpAddr, Ipv4Addr, Net, SocketAddr};
+use std::time::Clock;
+
+/// The link of a server over TCP. A connection that was accepted is the node `Client(k)`, with k its
+/// number from 1. It tells nothing of what comes and of what is sent.
+#[derive(Drop)]
+pub struct TcpLink<'r, R: Net> {
+    rt: &'r R,
+    alloc: Global,
+    server: Option<RecordServer<R>>,
+    faults: u64,
+}
+
+impl<'r, R: Net + Clock> TcpLink<'r, R> {
+    /// A link that is not open; takes no memory.
+    pub fn new(rt: &'r R, alloc: Global) -> TcpLink<'r, R> {
+        TcpLink {
+            rt,
+            alloc,
+            server: None,
+            faults: 0,
+        }
+    }
+
+    /// Counts a fault.
+    fn fault(&mut self) -> Failed
+        ensures result { result ≡ Failed.Fault }
+        ensures counted { self.new.faults ≡ one_more self.old.faults }
+    {
+        self.faults = self.faults.saturating_add(1);
+        Failed::Fault
+    }
+}
+
+/// The address where a node in this role listens; a client has none.
+fn own_address(config: &Config, role: Role) -> Option<NetAddr> {
+    match role {
+        Role::Mds => Some(config.mds),
+        Role::Server => {
+            let place = (config.own as usize).checked_sub(1)?;
+            config.servers.get(place).copied()
+        }
+        Role::Client => None,
+    }
+}
+
+/// An address as the system has it.
+fn socket_address(address: NetAddr) -> SocketAddr {
+    let [a, b, c, d] = address.host;
+    SocketAddr::new(IpAddr::V4(Ipv4Addr::new(a, b, c, d)), address.port)
+}
+
+impl<R: Net + Clock> Link for TcpLink<'_, R> {
+    ghost faults = { λ link. link.faults };
+
+    ghost coming = { λ _. None };
+
+    ghost sent = { λ _. None };
+
+    /// Listens at the node's own address.
+    fn open(&mut self, config: &Config, role: Role) -> Result<(), Failed> {
+        let Some(address) = own_address(config, role) else {
+            return Err(self.fault());
+        };
+        match RecordServer::bind(self.rt, self.alloc, socket_address(address)) {
+            Ok(server) => {
+                self.server = Some(server);
+                Ok(())
+            }
+            Err(_) => Err(self.fault()),
+        }
+    }
+
+    /// The next record. A link that is not open fails.
+    fn next(&mut self) -> Result<Arrival, Failed> {
+        let came = match &mut self.server {
+            Some(server) => server.next(self.rt),
+            None => Err(Failed::Fault),
+        };
+        match came {
+            Ok(Some((connection, message))) => Ok(Arrival::Record {
+                from: NodeId::Client(connection),
+                bytes: Data::from_vec(message),
+            }),
+            Ok(None) => Ok(Arrival::Closed),
+            Err(Failed::Fault) => Err(self.fault()),
+            Err(Failed::NoMemory) => Err(Failed::NoMemory),
+        }
+    }
+
+    /// Sends a record back on the connection that it answers, where that stands.
+    fn send(&mut self, to: NodeId, message: &[u8]) -> Result<(), NoMemory> {
+        match (&mut self.server, to) {
+            (Some(server), NodeId::Client(connection)) => {
+                server.send(self.rt, connection, message)
+            }
+            _ => Ok(()),
+        }
+    }
+}
