@@ -7,3 +7,4 @@ pub mod Reboots
 pub mod PlayLemmas
 pub mod ScriptLemmas
 pub mod ShowLemmas
+pub mod ServeLemmas

@@ -7,3 +7,4 @@ pub mod Player
 pub mod Run
 pub mod Writing
 pub mod Show
+pub mod Node

@@ -6,17 +6,24 @@ use Rattle.rpc_record.specs.declared.stream.Failed.TheVariants as failed
 use Rattle.rpc_record.specs.Stream.{counted}
 use Rattle.line_runs.specs.declared.end.RunEnd.TheVariants.{Done, BadLine, ReadFault, WriteFault, NoMemory, Limit}
 use Rattle.ff_cluster.specs.declared.run.Outcome.{Outcome}
-use Rattle.ff_cluster.specs.declared.run.Outcome.TheVariants.{Usage, Ended}
-use Rattle.line_runs.specs.Runs.{Coming, Runs, ReadFaults, write_faults}
+use Rattle.ff_cluster.specs.declared.run.Outcome.TheVariants.{Usage, Ended, Served}
+use Rattle.line_runs.specs.declared.end.RunEnd.{RunEnd}
+use Rattle.line_runs.specs.Runs.{Runs, ReadFaults, write_faults}
+use Rattle.cluster_model.specs.declared.ids.NodeId.{NodeId}
+use Rattle.ff_node.specs.declared.link.Arrival.{Arrival}
+use Rattle.ff_node.specs.declared.serve.NodeEnd.{NodeEnd}
+use Rattle.ff_node.specs.declared.serve.NodeEnd.TheVariants as served
+use Rattle.ff_node.specs.Serve.{link_faults}
+use Rattle.ff_cluster.specs.Node.{ServesBy}
 use Rattle.line_runs.specs.Writing.{WritesText}
 use Rattle.ff_cluster.specs.Script.{script_course}
 use Rattle.ff_cluster.specs.Show.{show_course}
 use Rattle.ff_cluster.specs.declared.run.Command.{Command}
-use Rattle.ff_cluster.specs.declared.run.Command.TheVariants.{Replay, Show}
+use Rattle.ff_cluster.specs.declared.run.Command.TheVariants.{Replay, Show, Ds}
 
 -- the command with this name
 abbrev pub command_named : List ℕ → Option Command
-command_named word = if bytes_eq word (codes "replay") then Some Replay else if bytes_eq word (codes "show") then Some Show else None
+command_named word = if bytes_eq word (codes "replay") then Some Replay else if bytes_eq word (codes "show") then Some Show else if bytes_eq word (codes "ds") then Some Ds else None
 
 -- the words behind the program's name that are a command: its name alone
 abbrev pub command_of : List (List ℕ) → Option Command
@@ -24,10 +31,31 @@ command_of [] = None
 command_of (word ∷ []) = command_named word
 command_of (word ∷ next ∷ rest) = None
 
--- what the lines of the source come to
-abbrev pub course_of : Command → Coming
-course_of Replay = script_course
-course_of Show = show_course
+-- what the source, the sink and the link tell: the bytes that are left and that were taken, the arrivals to come and the
+-- records sent
+pub record Told : Type 0 where
+  pub left : Option (List ℕ)
+  pub held : Option (List ℕ)
+  pub coming : Option (List Arrival)
+  pub sent : Option (List (NodeId × List ℕ))
+
+abbrev pub told : Option (List ℕ) → Option (List ℕ) → Option (List Arrival) → Option (List (NodeId × List ℕ)) → Told
+told left held coming sent = record { left = left; held = held; coming = coming; sent = sent }
+
+-- the link is as it was
+abbrev pub KeepsLink : Told → Told → Type 0
+KeepsLink old new = (new.coming ≡ old.coming) × (new.sent ≡ old.sent)
+
+-- What a command did that ended so, before any serving: the lines of the source were run; or nothing was served.
+abbrev pub Ran : Command → RunEnd → Told → Told → Type 0
+Ran Replay end old new = Runs script_course old.left old.held end new.left new.held × KeepsLink old new
+Ran Show end old new = Runs show_course old.left old.held end new.left new.held × KeepsLink old new
+Ran Ds end old new = ServesBy old.left old.coming old.sent (Err end) new.coming new.sent × (new.held ≡ old.held)
+
+-- what serving came to
+abbrev pub outcome_by : Result NodeEnd RunEnd → Outcome
+outcome_by (Ok end) = Served end
+outcome_by (Err end) = Ended end
 
 -- the status that the program ends with
 abbrev pub status_of : Outcome → ℕ
@@ -38,6 +66,9 @@ status_of (Ended ReadFault) = 4
 status_of (Ended WriteFault) = 5
 status_of (Ended NoMemory) = 8
 status_of (Ended (Limit n)) = 9
+status_of (Served served.Done) = 0
+status_of (Served served.LinkFault) = 7
+status_of (Served served.NoMemory) = 8
 
 -- words, a number and a newline
 abbrev pub numbered : List ℕ → ℕ → List ℕ
@@ -52,6 +83,9 @@ note_of (Ended ReadFault) = codes "read fault\n"
 note_of (Ended WriteFault) = codes "write fault\n"
 note_of (Ended NoMemory) = codes "no memory\n"
 note_of (Ended (Limit n)) = numbered (codes "limit ") n
+note_of (Served served.Done) = []
+note_of (Served served.LinkFault) = codes "link fault\n"
+note_of (Served served.NoMemory) = codes "no memory\n"
 
 -- a note that could not be written is a fault or want of memory of its own
 abbrev pub status_after : Outcome → Result (Unit {0}) Failed → ℕ
@@ -59,19 +93,28 @@ status_after outcome (Ok x) = status_of outcome
 status_after outcome (Err failed.Fault) = 5
 status_after outcome (Err failed.NoMemory) = 8
 
--- what was done: nothing, since the words are no command; or a command was run over the lines of the source, and ended so
-abbrev pub Did : Option Command → Outcome → Option (List ℕ) → Option (List ℕ) → Option (List ℕ) → Option (List ℕ) → Type 0
-Did asked Usage left held left' held' = (asked ≡ None) × (left' ≡ left) × (held' ≡ held)
-Did asked (Ended end) left held left' held' = (command : Command) × (asked ≡ Some command) × Runs (course_of command) left held end left' held'
+-- what was done: nothing, since the words are no command; a command was run, and ended so; or a data server served
+abbrev pub Did : Option Command → Outcome → Told → Told → Type 0
+Did asked Usage old new = (asked ≡ None) × (new ≡ old)
+Did asked (Ended end) old new = (command : Command) × (asked ≡ Some command) × Ran command end old new
+Did asked (Served end) old new = (asked ≡ Some Ds) × ServesBy old.left old.coming old.sent (Ok end) new.coming new.sent × (new.held ≡ old.held)
 
 -- the source's count of faults, and the sink's
 abbrev pub DidRead : Outcome → ℕ → ℕ → Type 0
 DidRead Usage old new = new ≡ old
 DidRead (Ended end) old new = ReadFaults end old new
+DidRead (Served end) old new = new ≡ old
 
 abbrev pub did_write : Outcome → ℕ → ℕ
 did_write Usage n = n
 did_write (Ended end) n = write_faults end n
+did_write (Served end) n = n
+
+-- the link's count of faults
+abbrev pub did_link : Outcome → ℕ → ℕ
+did_link Usage n = n
+did_link (Ended end) n = n
+did_link (Served end) n = link_faults end n
 
 -- what was said of it: the notes took the line, or a beginning of it, and the status is by that
 pub record Says (outcome : Outcome) (ends : ℕ) (notes notes' : Option (List ℕ)) (faults faults' : ℕ) : Type 0 where

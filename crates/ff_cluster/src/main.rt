@@ -13,6 +13,9 @@ pub mod replay;
 pub mod run;
 #[cfg(test)]
 mod run_tests;
+pub mod serve;
+#[cfg(test)]
+mod serve_tests;
 pub mod show;
 #[cfg(test)]
 mod show_tests;
@@ -21,6 +24,7 @@ mod trace_tests;
 pub mod world;
 mod writing;
 
+use ff_node::TcpLink;
 use rpc_record::{StdSink, StdSource};
 use run::run;
 use std::process::ExitCode;
@@ -35,12 +39,20 @@ fn words(rt: &HostRuntime) -> io::Result<Vec<String>> {
     Ok(words)
 }
 
-/// Runs the program on the standard input and output, with its notes on the standard error. Words that
-/// are not UTF-8 are no command.
+/// Runs the program on the standard input and output, with its notes on the standard error and its link
+/// over TCP. Words that are not UTF-8 are no command.
 fn main(rt: HostRuntime) -> ExitCode {
     let mut source = StdSource::new(rt.stdin());
     let mut sink = StdSink::new(rt.stdout());
     let mut notes = StdSink::new(rt.stderr());
+    let mut link = TcpLink::new(&rt, rt.alloc());
     let words = words(&rt).unwrap_or(Vec::new(rt.alloc()));
-    ExitCode::from(run(rt.alloc(), &words, &mut source, &mut sink, &mut notes))
+    ExitCode::from(run(
+        rt.alloc(),
+        &words,
+        &mut source,
+        &mut sink,
+        &mut notes,
+        &mut link,
+    ))
 }

@@ -5,11 +5,13 @@ ghost use Rattle.std.specs.String.{string_bytes};
 ghost use Rattle.rpc_record.specs.Stream.{counted};
 ghost use Rattle.ff_cluster.specs.declared.run.Outcome.{Outcome as AnOutcome};
 ghost use Rattle.line_runs.specs.Writing.{WritesText};
-ghost use Rattle.ff_cluster.specs.Run.{command_named, command_of, status_of, note_of, numbered, Did, DidRead, did_write, Says};
+ghost use Rattle.ff_cluster.specs.Run.{command_named, command_of, status_of, note_of, numbered, told, outcome_by, Did, DidRead, did_write, did_link, Says};
 
 use crate::print::put_numbered;
 use crate::replay::replay;
+use crate::serve::serve;
 use crate::show::show;
+use ff_node::{Link, NodeEnd};
 use ff_xdr::{NoMemory, Out};
 use line_runs::{RunEnd, write_all};
 use rpc_record::{Failed, Sink, Source};
@@ -22,6 +24,8 @@ pub enum Command {
     Replay,
     /// Say what records are.
     Show,
+    /// Serve as a data server.
+    Ds,
 }
 
 /// What the program did.
@@ -31,6 +35,8 @@ pub enum Outcome {
     Usage,
     /// It ran a command, which ended so.
     Ended(RunEnd),
+    /// It served, until that ended so.
+    Served(NodeEnd),
 }
 
 impl Outcome {
@@ -46,6 +52,9 @@ impl Outcome {
             Outcome::Ended(RunEnd::WriteFault) => 5,
             Outcome::Ended(RunEnd::NoMemory) => 8,
             Outcome::Ended(RunEnd::Limit(_)) => 9,
+            Outcome::Served(NodeEnd::Done) => 0,
+            Outcome::Served(NodeEnd::LinkFault) => 7,
+            Outcome::Served(NodeEnd::NoMemory) => 8,
         }
     }
 
@@ -62,6 +71,9 @@ impl Outcome {
             Outcome::Ended(RunEnd::WriteFault) => write_all(notes, b"write fault\n"),
             Outcome::Ended(RunEnd::NoMemory) => write_all(notes, b"no memory\n"),
             Outcome::Ended(RunEnd::Limit(count)) => tell_number(alloc, b"limit ", count, notes),
+            Outcome::Served(NodeEnd::Done) => Ok(()),
+            Outcome::Served(NodeEnd::LinkFault) => write_all(notes, b"link fault\n"),
+            Outcome::Served(NodeEnd::NoMemory) => write_all(notes, b"no memory\n"),
         }
     }
 }
@@ -108,30 +120,47 @@ fn command_named(word: &[u8]) -> Option<Command>
     if word == b"replay".as_slice() {
         return Some(Command::Replay);
     }
-    (word == b"show".as_slice()).then_some(Command::Show)
+    if word == b"show".as_slice() {
+        return Some(Command::Show);
+    }
+    (word == b"ds".as_slice()).then_some(Command::Ds)
+}
+
+/// What serving came to.
+fn served(ended: Result<NodeEnd, RunEnd>) -> Outcome
+    ensures { result ≡ outcome_by ended }
+{
+    match ended {
+        Ok(end) => Outcome::Served(end),
+        Err(end) => Outcome::Ended(end),
+    }
 }
 
 /// Runs the program: `words` are those behind its name, `source` its standard input, `sink` its
-/// standard output and `notes` its standard error. The status is 0 where the script was run to its
-/// end, 2 where the words are no command, 3 where a line is outside the grammar, 4 where the source
-/// failed, 5 where the sink or the notes did, 8 where memory was wanted, and 9 where the script is
-/// longer than 64 MiB or its journal would pass a limit.
-pub fn run<S: Source, K: Sink, E: Sink>(
+/// standard output, `notes` its standard error and `link` what joins it to other nodes. The status is 0
+/// where the source was read to its end, or all turns were served or the link closed; 2 where the words
+/// are no command, 3 where a line is outside the grammar, 4 where the source failed, 5 where the sink or
+/// the notes did, 7 where the link did, 8 where memory was wanted, and 9 where the source is longer than
+/// 64 MiB or a journal would pass a limit.
+pub fn run<S: Source, K: Sink, E: Sink, L: Link>(
     alloc: Global,
     words: &[String],
     source: &mut S,
     sink: &mut K,
     notes: &mut E,
+    link: &mut L,
 ) -> u8
     ensures { (outcome : AnOutcome)
-        × Did (command_of (map string_bytes words.now)) outcome (S.left source.old) (K.held sink.old) (S.left source.new) (K.held sink.new)
+        × Did (command_of (map string_bytes words.now)) outcome (told (S.left source.old) (K.held sink.old) (L.coming link.old) (L.sent link.old)) (told (S.left source.new) (K.held sink.new) (L.coming link.new) (L.sent link.new))
         × DidRead outcome (S.faults source.old) (S.faults source.new)
         × (K.faults sink.new ≡ did_write outcome (K.faults sink.old))
+        × (L.faults link.new ≡ did_link outcome (L.faults link.old))
         × Says outcome result (E.held notes.old) (E.held notes.new) (E.faults notes.old) (E.faults notes.new) }
 {
     let outcome = match asked(words) {
         Some(Command::Replay) => Outcome::Ended(replay(alloc, source, sink)),
         Some(Command::Show) => Outcome::Ended(show(alloc, source, sink)),
+        Some(Command::Ds) => served(serve(alloc, source, link)),
         None => Outcome::Usage,
     };
     match outcome.tell(alloc, notes) {

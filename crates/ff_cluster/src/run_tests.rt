@@ -8,6 +8,7 @@ use crate::player::Player;
 use crate::run::{Outcome, run};
 use crate::world::{World, WorldFault};
 use cluster_model::Entry;
+use ff_node::SureLink;
 use ff_xdr::Out;
 use line_runs::{LineTask, Played, RunEnd};
 use rpc_record::{Failed, MemorySink, MemorySource, Source, SureSink};
@@ -73,7 +74,8 @@ fn ran(alloc: Global, words: &[&str], script: &str, failing: Failing) -> Result<
     );
     let mut sink = MemorySink::new(alloc, vec![in alloc; failing.sink]?);
     let mut notes = MemorySink::new(alloc, vec![in alloc; failing.notes]?);
-    let status = run(alloc, &said, &mut source, &mut sink, &mut notes);
+    let mut link = SureLink::new(alloc, Vec::new(alloc));
+    let status = run(alloc, &said, &mut source, &mut sink, &mut notes, &mut link);
     Ok(Record {
         status,
         sink,
@@ -408,7 +410,15 @@ fn a_script_is_too_long(rt: HostRuntime) -> Result<(), Fail> {
     let words = vec![in rt.alloc(); String::from_str(rt.alloc(), "replay")?]?;
     let mut sink = SureSink::new(rt.alloc());
     let mut notes = SureSink::new(rt.alloc());
-    let status = run(rt.alloc(), &words, &mut Comments, &mut sink, &mut notes);
+    let mut link = SureLink::new(rt.alloc(), Vec::new(rt.alloc()));
+    let status = run(
+        rt.alloc(),
+        &words,
+        &mut Comments,
+        &mut sink,
+        &mut notes,
+        &mut link,
+    );
     assert_eq!(rt; status, 9);
     assert_eq!(rt; sink.bytes(), b"".as_slice());
     assert_eq!(rt; notes.bytes(), b"limit 0\n".as_slice());

@@ -1,6 +1,7 @@
 //! Runs of `show` over memory. The records stand as RFC 5531 and RFC 1813 have them, word by word.
 
 use crate::run::run;
+use ff_node::SureLink;
 use rpc_record::{MemorySink, MemorySource};
 use std::alloc::Global;
 use std::test::Fail;
@@ -225,7 +226,8 @@ fn shown(alloc: Global, text: &str, failing: Failing) -> Result<Record, Fail> {
     );
     let mut sink = MemorySink::new(alloc, vec![in alloc; failing.sink]?);
     let mut notes = MemorySink::new(alloc, vec![in alloc; failing.notes]?);
-    let status = run(alloc, &words, &mut source, &mut sink, &mut notes);
+    let mut link = SureLink::new(alloc, Vec::new(alloc));
+    let status = run(alloc, &words, &mut source, &mut sink, &mut notes, &mut link);
     Ok(Record {
         status,
         sink,

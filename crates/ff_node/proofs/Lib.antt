@@ -1,3 +1,4 @@
 pub mod AddressLemmas
 pub mod ConfigLemmas
 pub mod ServeLemmas
+pub mod OneConfig

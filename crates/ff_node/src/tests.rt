@@ -200,10 +200,14 @@ fn record(alloc: Global, xid: u32, words: &[u32]) -> Result<Data, Fail> {
     Ok(Data::from_vec(bytes))
 }
 
-/// An arrival of a call, a reply or other bytes, by its transaction's number.
-fn arrival(alloc: Global, from: NodeId, xid: u32, words: &[u32]) -> Result<Arrival, Fail> {
-    let bytes = record(alloc, xid, words)?;
-    Ok(Arrival::Record { from, bytes })
+/// Records that come, each by its transaction's number and the words behind it.
+fn arrivals_of(alloc: Global, table: &[(NodeId, u32, &[u32])]) -> Result<Vec<Arrival>, Fail> {
+    let mut arrivals = Vec::new(alloc);
+    for (from, xid, words) in table {
+        let bytes = record(alloc, *xid, words)?;
+        arrivals.push(Arrival::Record { from: *from, bytes })?;
+    }
+    Ok(arrivals)
 }
 
 /// How a data server with so many turns ends over a link.
@@ -230,7 +234,7 @@ fn answered(alloc: Global, sent: &[(NodeId, Data)]) -> Result<String, Fail> {
 fn a_call_is_answered(rt: HostRuntime) -> Result<(), Fail> {
     let alloc = rt.alloc();
     let want = record(alloc, 9, &DONE)?;
-    let calls = vec![in alloc; arrival(alloc, NodeId::Client(1), 9, &NULL)?]?;
+    let calls = arrivals_of(alloc, &[(NodeId::Client(1), 9, &NULL)])?;
     let mut link = SureLink::new(alloc, calls);
     assert_eq!(rt; served(alloc, "3", &mut link)?, NodeEnd::Done);
     let text = answered(alloc, link.sent())?;
@@ -252,10 +256,12 @@ fn turns_and_faults(rt: HostRuntime) -> Result<(), Fail> {
         (2, "3", NodeEnd::LinkFault, 1, ""),
         (3, "3", NodeEnd::LinkFault, 1, "Client(1) 24;"),
     ];
+    let calls: [(NodeId, u32, &[u32]); 2] = [
+        (NodeId::Client(1), 9, &NULL),
+        (NodeId::Mds, 10, &NULL),
+    ];
     for (failing, turns, end, faults, sent) in table {
-        let mut calls = Vec::new(alloc);
-        calls.push(arrival(alloc, NodeId::Client(1), 9, &NULL)?)?;
-        calls.push(arrival(alloc, NodeId::Mds, 10, &NULL)?)?;
+        let calls = arrivals_of(alloc, &calls)?;
         let mut link = MemoryLink::new(alloc, calls, vec![in alloc; failing]?);
         assert_eq!(rt; served(alloc, turns, &mut link)?, end, "{failing} {turns}");
         assert_eq!(rt; link.faults(), faults, "{failing} {turns}");
@@ -268,14 +274,17 @@ fn turns_and_faults(rt: HostRuntime) -> Result<(), Fail> {
 #[test]
 fn several_peers(rt: HostRuntime) -> Result<(), Fail> {
     let alloc = rt.alloc();
-    let mut arrivals = Vec::new(alloc);
-    arrivals.push(Arrival::TimedOut(NodeId::Server(2)))?;
-    arrivals.push(arrival(alloc, NodeId::Client(1), 9, &NULL)?)?;
-    arrivals.push(arrival(alloc, NodeId::Server(2), 7, &[])?)?;
-    arrivals.push(arrival(alloc, NodeId::Mds, 9, &DONE)?)?;
-    arrivals.push(arrival(alloc, NodeId::Mds, 10, &NULL)?)?;
+    let records: [(NodeId, u32, &[u32]); 4] = [
+        (NodeId::Client(1), 9, &NULL),
+        (NodeId::Server(2), 7, &[]),
+        (NodeId::Mds, 9, &DONE),
+        (NodeId::Mds, 10, &NULL),
+    ];
+    let mut arrivals = arrivals_of(alloc, &records)?;
+    arrivals.insert(0, Arrival::TimedOut(NodeId::Server(2)))?;
     arrivals.push(Arrival::Closed)?;
-    arrivals.push(arrival(alloc, NodeId::Client(3), 11, &NULL)?)?;
+    let mut behind = arrivals_of(alloc, &[(NodeId::Client(3), 11, &NULL)])?;
+    arrivals.append(&mut behind)?;
     let mut link = MemoryLink::new(alloc, arrivals, Vec::new(alloc));
     assert_eq!(rt; served(alloc, "100", &mut link)?, NodeEnd::Done);
     let text = answered(alloc, link.sent())?;
