@@ -51,18 +51,21 @@ impl<S: Read + Write + OpenStream + Drop> Peer<S> {
     }
 
     /// The next record. `None` is that none is waited for any more: the peer has closed or failed, its
-    /// records pass a limit, it takes more than two seconds for a record, or all its calls are answered
-    /// and no byte of another has come.
+    /// records pass a limit, it takes more than two seconds for a record or to read a reply, or all its
+    /// calls are answered and no byte of another has come. Calls on a lost connection are not handed out.
     pub fn next(&mut self, clock: &impl Clock) -> Result<Option<Vec<u8>>, NoMemory> {
         let Ok(begun) = Instant::now(clock) else {
             self.is_lost = true;
             return Ok(None);
         };
         for _ in 0..u64::MAX {
+            if self.is_lost {
+                return Ok(None);
+            }
             if let Some(message) = self.take_record()? {
                 return Ok(Some(message));
             }
-            if self.is_lost || !self.read_more(clock, begun) {
+            if !self.is_lost && !self.read_more(clock, begun) {
                 return Ok(None);
             }
         }
