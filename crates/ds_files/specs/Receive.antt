@@ -1,8 +1,8 @@
 -- What a data server makes of a record (RFC 5531, section 9, and RFC 1813): the order of its refusals.
 use Rattle.std.specs.Prelude.{ℕ, List, [], Option, Some, None, Result, Ok, Err, not, ◌==◌, if◌then◌else◌}
 use Rattle.ff_xdr.specs.declared.error.XdrError.{XdrError}
-use Rattle.ff_xdr.specs.Form.{Value, has_arm, spelling_case}
-use Rattle.ff_xdr.specs.Reading.{reading, reading_case, whole}
+use Rattle.ff_xdr.specs.Form.{Value, has_arm, arm_spelling}
+use Rattle.ff_xdr.specs.Reading.{reading, arm_reading, whole}
 use Rattle.rpc_record.specs.declared.call.CallFault.{CallFault}
 use Rattle.rpc_record.specs.declared.call.CallFault.TheVariants.{NotACall, RpcVersion, Bad}
 use Rattle.rpc_record.specs.Rpc.{Credential, credential_of, authsys_parms}
@@ -37,7 +37,7 @@ with_args xid cred (Ok v) = Asked xid (call_of v) cred
 with_args xid cred (Err e) = refuses xid rpc_reply.GarbageArgs
 
 abbrev pub asked : rpc.Call → Credential → Received
-asked c cred = with_args c.xid cred (whole c.args (reading_case calls c.procedure c.args 0))
+asked c cred = with_args c.xid cred (whole c.args (arm_reading calls c.procedure c.args 0))
 
 -- the AUTH_SYS body in its form, with no bytes behind it; else AUTH_ERROR AUTH_BADCRED 1
 abbrev pub with_cred : rpc.Call → Result (Value authsys_parms) XdrError → Received
@@ -76,7 +76,7 @@ pub record Outcome : Type 0 where
   pub reply : Option (List ℕ)
 
 abbrev pub success_bytes : ℕ → Step → List ℕ
-success_bytes xid t = rpc_reply.reply_bytes (replies_with xid (rpc_reply.Success (spelling_case replies (reply_value t.reply))))
+success_bytes xid t = rpc_reply.reply_bytes (replies_with xid (rpc_reply.Success (arm_spelling replies (reply_value t.reply))))
 
 abbrev pub outcome_of_step : ℕ → Step → Outcome
 outcome_of_step xid t = record { server = t.server; entries = t.entries; reply = Some (success_bytes xid t) }

@@ -5,7 +5,7 @@ use Rattle.ff_xdr.specs.declared.error.XdrError.{XdrError}
 use Rattle.ff_xdr.specs.declared.error.XdrWhy.{XdrWhy}
 use Rattle.ff_xdr.specs.declared.error.XdrWhy.TheVariants as why
 use Rattle.ff_xdr.specs.Form.{Value, has_arm}
-use Rattle.ff_xdr.specs.Reading.{reading_case, whole}
+use Rattle.ff_xdr.specs.Reading.{arm_reading, whole}
 use Rattle.rpc_record.specs.declared.call.CallFault.{CallFault}
 use Rattle.rpc_record.specs.declared.call.CallFault.TheVariants as fault
 use Rattle.rpc_record.specs.Calls.{Call, call_at}
@@ -39,7 +39,7 @@ args_text header (Err e) = bad_text (header + e.place) e.why
 
 -- all the arguments, read in the form of their procedure
 unfoldable pub read_args : Call → Result (Value calls) XdrError
-read_args c = whole c.args (reading_case calls c.procedure c.args 0)
+read_args c = whole c.args (arm_reading calls c.procedure c.args 0)
 
 -- the procedures of NFSv3 (RFC 1813): program 100003, version 3
 unfoldable pub verdict_text : ℕ → Call → List ℕ

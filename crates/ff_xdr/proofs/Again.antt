@@ -4,11 +4,11 @@ use Rattle.std.specs.Prelude.{IsTrue}
 use Rattle.std.specs.Int.{w32}
 use Rattle.std.specs.List.{AllByRecursion, list_any, list_all, flat_map}
 use Rattle.std.proofs.lemmas.Bool.{eqb-true, eq-eqb, ne_eqb, ltb-true, or_cases, and_parts, not-true, both_ways, false≢true}
-use Rattle.ff_xdr.specs.Form.{Form, Nothing, Number32, Number64, Flag, Enum, Optional, Fixed, Opaque, Text, Then, Items, Case, NoCase, Value, Fits, spelling, is_sound, avoids, word}
+use Rattle.ff_xdr.specs.Form.{Form, Void, Number32, Number64, Hyper, Boolean, Enum, Optional, Fixed, Opaque, Text, Pair, Array, Arm, NoArm, Default, Value, Fits, spelling, is_sound, avoids, word}
 use Rattle.ff_xdr.specs.Laws.{IsReadAgain, Stands}
 use Rattle.ff_xdr.specs.Reading.{Read, number_at, fixed_at, reading, many_at}
 use Rattle.ff_xdr.proofs.Places.{stands_first, stands_second, stands_between}
-use Rattle.ff_xdr.proofs.Fields.{word_again, long_again, fixed_again, length_again, opaque_again, text_again, flag_again}
+use Rattle.ff_xdr.proofs.Fields.{word_again, long_again, hyper_again, fixed_again, length_again, opaque_again, text_again, flag_again}
 
 -- where the spelling of a value stands, the value is read
 abbrev pub IsReadWhereItStands : Form → Type 0
@@ -28,7 +28,7 @@ pub enum_below : (n : ℕ) (numbers : List ℕ) → list_all (λ k. ltb k (2 ^ 3
 enum_below n numbers all some = ltb-true n (2 ^ 32) (among (λ k. ltb k (2 ^ 32)) n numbers all some)
 
 -- what soundness says of a union
-pub sound_case : (number : ℕ) (body others : Form) → IsTrue (is_sound (Case number body others)) → (number < 2 ^ 32) × IsTrue (avoids number others) × IsTrue (is_sound body) × IsTrue (is_sound others)
+pub sound_case : (number : ℕ) (body others : Form) → IsTrue (is_sound (Arm number body others)) → (number < 2 ^ 32) × IsTrue (avoids number others) × IsTrue (is_sound body) × IsTrue (is_sound others)
 sound_case number body others sound =
     let a = and_parts (ltb number (2 ^ 32) && avoids number others && is_sound body) (is_sound others) sound in
     let b = and_parts (ltb number (2 ^ 32) && avoids number others) (is_sound body) a.0 in
@@ -51,9 +51,9 @@ starts_apart (Enum numbers) n v bytes at to sound away fits s =
       read = word_again bytes at v to (enum_below v numbers sound fits) s;
       apart = ne_eqb v n (λ same. both_ways _ other (subst (λ (k : ℕ). list_any (eqb k) numbers ≡ true) same fits));
     }
-starts_apart (Then first second) n (a, b) bytes at to sound away fits s =
+starts_apart (Pair first second) n (a, b) bytes at to sound away fits s =
     starts_apart first n a bytes at _ (and_parts (is_sound first) (is_sound second) sound).0 away fits.0 (stands_first bytes at (spelling first a) (spelling second b) to s)
-starts_apart (Case number body others) n (inl v) bytes at to sound away fits s =
+starts_apart (Arm number body others) n (inl v) bytes at to sound away fits s =
     let other = not-true (eqb n number) (and_parts (not (eqb n number)) (avoids n others) away).0 in
     let first = stands_first bytes at (word number) (spelling body v) to s in
     record {
@@ -62,9 +62,17 @@ starts_apart (Case number body others) n (inl v) bytes at to sound away fits s =
       read = word_again bytes at number _ (sound_case number body others sound).0 first;
       apart = ne_eqb number n (λ same. both_ways _ other (eq-eqb n number (sym same)));
     }
-starts_apart (Case number body others) n (inr v) bytes at to sound away fits s =
+starts_apart (Arm number body others) n (inr v) bytes at to sound away fits s =
     starts_apart others n v bytes at to (sound_case number body others sound).3 (and_parts (not (eqb n number)) (avoids n others) away).1 fits s
-starts_apart NoCase n v bytes at to sound away fits s = absurd v
+starts_apart NoArm n v bytes at to sound away fits s = absurd v
+starts_apart (Default numbers) n v bytes at to sound away fits s =
+    let other = not-true (list_any (eqb v) numbers) fits.1 in
+    record {
+      number = v;
+      next = to;
+      read = word_again bytes at v to fits.0 s;
+      apart = ne_eqb v n (λ same. both_ways _ other (subst (λ (k : ℕ). list_any (eqb k) numbers ≡ true) (sym same) away));
+    }
 starts_apart _ n v bytes at to sound away fits s = absurd (false≢true away)
 
 -- values one after the other
@@ -82,13 +90,14 @@ many_again each spell P bytes one (v ∷ vs) at to fit s =
     rw (read, others) refl
 
 pub again_where : (form : Form) → IsTrue (is_sound form) → IsReadWhereItStands form
-again_where Nothing sound v bytes at to fits s =
+again_where Void sound v bytes at to fits s =
     let same : at ≡ to = omega (arith, s.ends) in
     ap (λ (k : ℕ). Ok (tt, k)) same
 again_where Number32 sound v bytes at to fits s = word_again bytes at v to fits s
 again_where Number64 sound v bytes at to fits s = long_again bytes at v to fits s
-again_where Flag sound false bytes at to fits s = flag_again bytes at false to s
-again_where Flag sound true bytes at to fits s = flag_again bytes at true to s
+again_where Hyper sound v bytes at to fits s = hyper_again bytes at v to fits s
+again_where Boolean sound false bytes at to fits s = flag_again bytes at false to s
+again_where Boolean sound true bytes at to fits s = flag_again bytes at true to s
 again_where (Enum numbers) sound v bytes at to fits s =
     let read = word_again bytes at v to (enum_below v numbers sound fits) s in
     rw (read, fits) refl
@@ -104,12 +113,12 @@ again_where (Optional each) sound (Some v) bytes at to fits s =
 again_where (Fixed count) sound v bytes at to fits s = subst (λ (n : ℕ). fixed_at n bytes at ≡ Ok (v, to)) fits (fixed_again bytes at v to s)
 again_where (Opaque max) sound v bytes at to fits s = opaque_again max bytes at v to (ltb-true max (2 ^ 32) sound) fits s
 again_where (Text max) sound v bytes at to fits s = text_again max bytes at v to (ltb-true max (2 ^ 32) sound) fits.0 fits.1 s
-again_where (Then first second) sound (a, b) bytes at to fits s =
+again_where (Pair first second) sound (a, b) bytes at to fits s =
     let sounds = and_parts (is_sound first) (is_sound second) sound in
     let left = again_where first sounds.0 a bytes at _ fits.0 (stands_first bytes at (spelling first a) (spelling second b) to s) in
     let right = again_where second sounds.1 b bytes _ to fits.1 (stands_second bytes at (spelling first a) (spelling second b) to s) in
     rw (left, right) refl
-again_where (Items max each) sound vs bytes at to fits s =
+again_where (Array max each) sound vs bytes at to fits s =
     let sounds = and_parts (ltb max (2 ^ 32)) (is_sound each) sound in
     let first = stands_first bytes at (word (length vs)) (flat_map (λ v. spelling each v) vs) to s in
     let second = stands_second bytes at (word (length vs)) (flat_map (λ v. spelling each v) vs) to s in
@@ -117,7 +126,7 @@ again_where (Items max each) sound vs bytes at to fits s =
     let one : (v : Value each) (place next : ℕ) → Fits each v → Stands bytes place (spelling each v) next → reading each bytes place ≡ Ok (v, next) = λ v place next fit there. again_where each sounds.1 v bytes place next fit there in
     let read = many_again (λ place. reading each bytes place) (λ v. spelling each v) (λ v. Fits each v) bytes one vs _ to fits.1 second in
     rw (count, read) refl
-again_where (Case number body others) sound (inl v) bytes at to fits s =
+again_where (Arm number body others) sound (inl v) bytes at to fits s =
     let sounds = sound_case number body others sound in
     let first = stands_first bytes at (word number) (spelling body v) to s in
     let second = stands_second bytes at (word number) (spelling body v) to s in
@@ -125,14 +134,18 @@ again_where (Case number body others) sound (inl v) bytes at to fits s =
     let there = word_again bytes at number _ sounds.0 first in
     let read = again_where body sounds.2 v bytes _ to fits second in
     rw (there, here, read) refl
-again_where (Case number body others) sound (inr v) bytes at to fits s =
+again_where (Arm number body others) sound (inr v) bytes at to fits s =
     let sounds = sound_case number body others sound in
     let start = starts_apart others number v bytes at to sounds.3 sounds.1 fits s in
     let there : number_at w32 bytes at ≡ Ok (start.number, start.next) = start.read in
     let other : eqb start.number number ≡ false = start.apart in
     let read = again_where others sounds.3 v bytes at to fits s in
     rw (there, other, read) refl
-again_where NoCase sound v bytes at to fits s = absurd v
+again_where NoArm sound v bytes at to fits s = absurd v
+again_where (Default numbers) sound v bytes at to fits s =
+    let read = word_again bytes at v to fits.0 s in
+    let other = not-true (list_any (eqb v) numbers) fits.1 in
+    rw (read, other) refl
 
 pub again : (form : Form) → IsTrue (is_sound form) → IsReadAgain form
 again form sound = λ v front rest fits. again_where form sound v (front ++ spelling form v ++ rest) (length front) (length front + length (spelling form v)) fits (stands_between front (spelling form v) rest)

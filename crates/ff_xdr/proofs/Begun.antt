@@ -1,7 +1,7 @@
 -- Up to a refused place some value has the bytes: numbers, bytes and texts.
 use Rattle.std.proofs.Common.{◌≡◌, ℕ, zero, suc, ◌+◌, ◌-◌, ◌<◌, ◌≤◌, Bool, true, false, cond, eqb, ltb, List, [], ◌∷◌, ◌++◌, length, get_or, take, drop, replicate, Result, Ok, Err, refl, sym, ap, subst, ◌∙◌, append_assoc, arith, inl, inr}
 use Rattle.std.specs.Prelude.{◌⊎◌}
-use Rattle.std.specs.Int.{Width, w32, byte_len, from_be_bytes}
+use Rattle.std.specs.Int.{Width, w32, w64, byte_len, from_be_bytes, cast_signed}
 use Rattle.std.specs.Str.{is_utf8, IsAscii}
 use Rattle.std.specs.Str.Lossy.{utf8_valid_len}
 use Rattle.std.proofs.lemmas.Str.{is_utf8-from_IsUtf8, IsUtf8-append, IsUtf8-nil, IsUtf8-from_ascii, utf8_valid_len_le}
@@ -11,7 +11,7 @@ use Rattle.ff_xdr.specs.declared.error.XdrError.{XdrError}
 use Rattle.ff_xdr.specs.declared.error.XdrWhy.TheVariants.{Short, Pad, NotBool, TooLong, NotUtf8}
 use Rattle.ff_xdr.specs.Form.{word, pad_len, padded}
 use Rattle.ff_xdr.specs.Laws.{IsBytes, Stands}
-use Rattle.ff_xdr.specs.Reading.{◌>>=◌, number_at, padding_at, fixed_at, length_at, opaque_at, flag_at, text_at, may_begin_text}
+use Rattle.ff_xdr.specs.Reading.{◌>>=◌, number_at, hyper_at, padding_at, fixed_at, length_at, opaque_at, flag_at, text_at, may_begin_text}
 use Rattle.ff_xdr.proofs.Places.{err_is, stands_nothing, stands_join}
 use Rattle.ff_xdr.proofs.Fields.{length_takes, zero_stands, utf8-may_begin}
 use Rattle.ff_xdr.proofs.Sequences.{valid_front}
@@ -98,6 +98,10 @@ number_read w bytes at f e is other =
 
 pub number_refused : (w : Width) (bytes : List ℕ) (at : ℕ) (e : XdrError) → number_at w bytes at ≡ Err e → ¬ (e.why ≡ Short) → ⊥
 number_refused w bytes at e is other = other (number_short w bytes at e is)
+
+pub hyper_refused : (bytes : List ℕ) (at : ℕ) (e : XdrError) → hyper_at bytes at ≡ Err e → ¬ (e.why ≡ Short) → ⊥
+unfolding hyper_at
+hyper_refused bytes at e is other = number_refused w64 bytes at e (not_err (number_at w64 bytes at) (λ n. (cast_signed w64 n.0, n.1)) e is) other
 
 -- what is wrong with a length is its word
 pub length_refused : (max : ℕ) (bytes : List ℕ) (at : ℕ) (e : XdrError) → length_at max bytes at ≡ Err e → ¬ (e.why ≡ Short) → e.place ≡ at

@@ -1,17 +1,19 @@
 -- Numbers, paddings, opaque bytes and flags: what stands is read, and what is read stands.
-use Rattle.std.proofs.Common.{◌≡◌, ℕ, zero, suc, ◌+◌, ◌^◌, ◌<◌, ◌≤◌, Bool, true, false, cond, eqb, ltb, List, [], ◌∷◌, ◌++◌, length, get_or, take, drop, replicate, Ok, Err, refl, sym, ap, subst, ◌∙◌, arith, inl, inr}
+use Rattle.std.proofs.Common.{◌≡◌, ℕ, ℤ, zero, suc, ◌+◌, ◌^◌, ◌<◌, ◌≤◌, Bool, true, false, cond, eqb, ltb, List, [], ◌∷◌, ◌++◌, length, get_or, take, drop, replicate, Ok, Err, refl, sym, ap, subst, ◌∙◌, arith, rules, inl, inr}
 use Rattle.std.specs.Prelude.{◌⊎◌}
-use Rattle.std.specs.Int.{Width, w32, w64, byte_len, from_be_bytes, to_be_bytes}
+use Rattle.std.specs.Int.{Width, w32, w64, byte_len, from_be_bytes, to_be_bytes, cast_signed, cast_unsigned}
+use Rattle.std.specs.Int.RustNames.{FitsSigned}
 use Rattle.std.specs.Str.{is_utf8}
 use Rattle.std.specs.Str.Lossy.{utf8_valid_len}
 use Rattle.std.proofs.lemmas.Bool.{ltb-false, le-ltb, lt-ltb, ltb-true, eqb-true, eq-eqb, or_cases, and_parts, both_ways}
 use Rattle.std.proofs.lemmas.List.{length-take, length-drop, drop_more}
+use Rattle.std.proofs.lemmas.Int.{ints, to_z-of_z, of_z-to_z}
 use Rattle.std.proofs.lemmas.Nat.{be_bytes_4, be_bytes_8, from_be_bytes-to_be_bytes_4, from_be_bytes-to_be_bytes_8}
 use Rattle.ff_xdr.specs.declared.error.XdrError.{XdrError}
 use Rattle.ff_xdr.specs.declared.error.XdrWhy.TheVariants.{Short, Pad, NotBool, TooLong, NotUtf8}
 use Rattle.ff_xdr.specs.Form.{word, long, pad_len, padded}
 use Rattle.ff_xdr.specs.Laws.{IsBytes, Stands}
-use Rattle.ff_xdr.specs.Reading.{Read, ◌>>=◌, number_at, padding_at, fixed_at, length_at, opaque_at, flag_at, text_at, may_begin_text}
+use Rattle.ff_xdr.specs.Reading.{Read, ◌>>=◌, number_at, hyper_at, padding_at, fixed_at, length_at, opaque_at, flag_at, text_at, may_begin_text}
 use Rattle.ff_xdr.proofs.Places.{IsBytes-drop, IsBytes-take, bind_ok, guard_ok, passed, ok_is, stands_nothing, stands_join, stands_first, stands_second}
 
 -- ---- numbers
@@ -87,6 +89,27 @@ long_again bytes at n to lt s = number_again w64 (2 ^ 64) wide64 bytes at n to l
 pub long_takes : (bytes : List ℕ) (at n to : ℕ) → IsBytes bytes → at ≤ length bytes → number_at w64 bytes at ≡ Ok (n, to) → Stands bytes at (long n) to × (n < 2 ^ 64)
 unfolding long
 long_takes bytes at n to fits le e = number_takes w64 (2 ^ 64) wide64 bytes at n to fits le e
+
+hyper_below : (z : ℤ) → FitsSigned w64 z → cast_unsigned w64 z < 2 ^ 64
+hyper_below z fits = omega (arith, ints, fits)
+
+pub hyper_again : (bytes : List ℕ) (at : ℕ) (z : ℤ) (to : ℕ) → FitsSigned w64 z → Stands bytes at (long (cast_unsigned w64 z)) to → hyper_at bytes at ≡ Ok (z, to)
+unfolding hyper_at
+hyper_again bytes at z to fits s =
+    let read = long_again bytes at (cast_unsigned w64 z) to (hyper_below z fits) s in
+    let back = to_z-of_z w64 z fits in
+    rw (read, back) refl
+
+hyper_fits : (n : ℕ) → n < 2 ^ 64 → FitsSigned w64 (cast_signed w64 n)
+hyper_fits n lt = search (rules, lt)
+
+pub hyper_takes : (bytes : List ℕ) (at : ℕ) (z : ℤ) (to : ℕ) → IsBytes bytes → at ≤ length bytes → hyper_at bytes at ≡ Ok (z, to) → FitsSigned w64 z × Stands bytes at (long (cast_unsigned w64 z)) to
+unfolding hyper_at
+hyper_takes bytes at z to fits le e =
+    let a = bind_ok (number_at w64 bytes at) (λ n. Ok (cast_signed w64 n.0, n.1)) (z, to) e in
+    let t = long_takes bytes at a.0.0 a.0.1 fits le a.1 in
+    let back = of_z-to_z w64 a.0.0 t.1 in
+    subst (λ (x : ℤ × ℕ). FitsSigned w64 x.0 × Stands bytes at (long (cast_unsigned w64 x.0)) x.1) (ok_is (cast_signed w64 a.0.0, a.0.1) (z, to) a.2) (hyper_fits a.0.0 t.1, rw back t.0)
 
 -- ---- paddings
 

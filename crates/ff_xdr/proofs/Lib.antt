@@ -12,3 +12,4 @@ pub mod Refusals
 pub mod ArmRefusals
 pub mod Begun
 pub mod FirstFault
+pub mod NotRest

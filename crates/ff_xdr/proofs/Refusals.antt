@@ -7,26 +7,27 @@ use Rattle.std.proofs.lemmas.Bool.{and_parts, false≢true, ltb-true, lt-ltb, le
 use Rattle.std.proofs.lemmas.List.{length-take-le, length-append}
 use Rattle.ff_xdr.specs.declared.error.XdrError.{XdrError}
 use Rattle.ff_xdr.specs.declared.error.XdrWhy.TheVariants.{NotEnum, Rest}
-use Rattle.ff_xdr.specs.Form.{Form, Nothing, Number32, Number64, Flag, Enum, Optional, Fixed, Opaque, Text, Then, Items, Case, NoCase, Value, spelling, is_sound, avoids}
+use Rattle.ff_xdr.specs.Form.{Form, Void, Number32, Number64, Hyper, Boolean, Enum, Optional, Fixed, Opaque, Text, Pair, Array, Arm, NoArm, Default, Value, spelling, is_sound, avoids}
 use Rattle.ff_xdr.specs.Laws.{Stands, behind, EndsShort, StopsThere, IsShortAtEnd, IsRefusedThere, HasNoneThere, HasNoneWhole, IsWholeShortAtEnd, IsWholeRefusedThere, HasNoWholeThere}
-use Rattle.ff_xdr.specs.Reading.{Read, ◌>>=◌, number_at, fixed_at, length_at, flag_at, reading, many_at, optional_at, case_at, refused, whole}
+use Rattle.ff_xdr.specs.Reading.{Read, ◌>>=◌, number_at, fixed_at, length_at, flag_at, reading, many_at, optional_at, arm_at, refused, whole}
 use Rattle.ff_xdr.proofs.Again.{again, again_where, sound_case}
-use Rattle.ff_xdr.proofs.Seen.{Seen, Took, end_of, seen_from, seen_value, seen_refusal, seen_test, seen_bind, seen_number, seen_fixed, seen_length, seen_opaque, seen_flag, seen_text, word_ends, same_byte}
+use Rattle.ff_xdr.proofs.Seen.{Seen, Took, end_of, seen_from, seen_value, seen_refusal, seen_test, seen_bind, seen_number, seen_hyper, seen_fixed, seen_length, seen_opaque, seen_flag, seen_text, word_ends, same_byte}
 use Rattle.ff_xdr.proofs.Places.{done, err_is, stands_between}
 use Rattle.ff_xdr.proofs.Sequences.{take_less}
 
 -- a value of the form begins with a whole word, which is read before all else
 abbrev pub head : Form → ℕ
-head Nothing = 0
+head Void = 0
 head (Fixed count) = 0
-head (Then first second) = head first
+head (Pair first second) = head first
 head _ = 4
 
 head_of_avoiding : (form : Form) (n : ℕ) → IsTrue (avoids n form) → head form ≡ 4
 head_of_avoiding (Enum numbers) n away = refl
-head_of_avoiding (Then first second) n away = head_of_avoiding first n away
-head_of_avoiding (Case number body others) n away = refl
-head_of_avoiding NoCase n away = refl
+head_of_avoiding (Pair first second) n away = head_of_avoiding first n away
+head_of_avoiding (Arm number body others) n away = refl
+head_of_avoiding NoArm n away = refl
+head_of_avoiding (Default numbers) n away = refl
 head_of_avoiding _ n away = absurd (false≢true away)
 
 -- ---- several values
@@ -46,7 +47,7 @@ seen_many each bytes one (suc n) at =
     (λ others d. seen_value end_of others.1 bytes (first.0 ∷ others.0, others.1) (omega arith)))
 
 pub seen_case : {A B : Type 0} (low : ℕ) (here : Bool) (body : List ℕ → Read A) (others : List ℕ → Read B) (bytes : List ℕ) → Seen end_of low body bytes (body bytes) → Seen end_of low others bytes (others bytes)
-    → Seen end_of low (λ b. case_at here (body b) (others b)) bytes (case_at here (body bytes) (others bytes))
+    → Seen end_of low (λ b. arm_at here (body b) (others b)) bytes (arm_at here (body bytes) (others bytes))
 seen_case low true body others bytes p q = seen_bind end_of end_of low body (λ v b. Ok (inl v.0, v.1)) bytes p (λ v e. seen_value end_of v.1 bytes (inl v.0, v.1) (omega arith))
 seen_case low false body others bytes p q = seen_bind end_of end_of low others (λ v b. Ok (inr v.0, v.1)) bytes q (λ v e. seen_value end_of v.1 bytes (inr v.0, v.1) (omega arith))
 
@@ -59,10 +60,11 @@ pub below : (form : Form) (bytes : List ℕ) (at : ℕ) → IsSeen form (at + he
 below form bytes at s = seen_from end_of at (at + head form) (λ b. reading form b at) bytes (reading form bytes at) (omega arith) s
 
 pub seen : (form : Form) → IsTrue (is_sound form) → (bytes : List ℕ) (at : ℕ) → IsSeen form (at + head form) bytes at
-seen Nothing sound bytes at = seen_value end_of (at + 0) bytes (tt, at) (omega arith)
+seen Void sound bytes at = seen_value end_of (at + 0) bytes (tt, at) (omega arith)
 seen Number32 sound bytes at = seen_number w32 bytes at
 seen Number64 sound bytes at = seen_from end_of (at + 4) (at + 8) (λ b. number_at w64 b at) bytes (number_at w64 bytes at) (omega arith) (seen_number w64 bytes at)
-seen Flag sound bytes at = seen_flag bytes at
+seen Hyper sound bytes at = seen_hyper bytes at
+seen Boolean sound bytes at = seen_flag bytes at
 seen (Enum numbers) sound bytes at =
     seen_bind end_of end_of (at + 4) (λ b. number_at w32 b at) (λ n b. cond (list_any (eqb n.0) numbers) (Ok n) (refused at NotEnum)) bytes (seen_number w32 bytes at)
     (λ n e. seen_test end_of n.1 (list_any (eqb n.0) numbers) (λ b. Ok n) (λ b. refused at NotEnum) bytes
@@ -75,23 +77,28 @@ seen (Optional each) sound bytes at =
 seen (Fixed count) sound bytes at = seen_from end_of (at + 0) (at + count) (λ b. fixed_at count b at) bytes (fixed_at count bytes at) (omega arith) (seen_fixed count bytes at)
 seen (Opaque max) sound bytes at = seen_opaque max bytes at
 seen (Text max) sound bytes at = seen_text max bytes at
-seen (Then first second) sound bytes at =
+seen (Pair first second) sound bytes at =
     let sounds = and_parts (is_sound first) (is_sound second) sound in
     seen_bind end_of end_of (at + head first) (λ b. reading first b at) (λ a b. reading second b a.1 >>= λ c. Ok ((a.0, c.0), c.1)) bytes (seen first sounds.0 bytes at)
     (λ a e. seen_bind end_of end_of a.1 (λ b. reading second b a.1) (λ c b. Ok ((a.0, c.0), c.1)) bytes (below second bytes a.1 (seen second sounds.1 bytes a.1))
     (λ c d. seen_value end_of c.1 bytes ((a.0, c.0), c.1) (omega arith)))
-seen (Items max each) sound bytes at =
+seen (Array max each) sound bytes at =
     let sounds = and_parts (ltb max (2 ^ 32)) (is_sound each) sound in
     let one : (place : ℕ) → IsSeen each place bytes place = λ place. below each bytes place (seen each sounds.1 bytes place) in
     seen_bind end_of end_of (at + 4) (λ b. length_at max b at) (λ n b. many_at (λ place. reading each b place) n.0 n.1) bytes (seen_length max bytes at)
     (λ n e. seen_many (λ b place. reading each b place) bytes one n.0 n.1)
-seen (Case number body others) sound bytes at =
+seen (Arm number body others) sound bytes at =
     let sounds = sound_case number body others sound in
     let word = head_of_avoiding others number sounds.1 in
-    seen_bind end_of end_of (at + 4) (λ b. number_at w32 b at) (λ n b. case_at (eqb n.0 number) (reading body b n.1) (reading others b at)) bytes (seen_number w32 bytes at)
+    seen_bind end_of end_of (at + 4) (λ b. number_at w32 b at) (λ n b. arm_at (eqb n.0 number) (reading body b n.1) (reading others b at)) bytes (seen_number w32 bytes at)
     (λ n e. seen_case n.1 (eqb n.0 number) (λ b. reading body b n.1) (λ b. reading others b at) bytes (below body bytes n.1 (seen body sounds.2 bytes n.1))
     (seen_from end_of n.1 (at + head others) (λ b. reading others b at) bytes (reading others bytes at) (omega (arith, word_ends bytes at n e, word)) (seen others sounds.3 bytes at)))
-seen NoCase sound bytes at =
+seen (Default numbers) sound bytes at =
+    seen_bind end_of end_of (at + 4) (λ b. number_at w32 b at) (λ n b. cond (list_any (eqb n.0) numbers) (refused at NotEnum) (Ok n)) bytes (seen_number w32 bytes at)
+    (λ n e. seen_test end_of n.1 (list_any (eqb n.0) numbers) (λ b. refused at NotEnum) (λ b. Ok n) bytes
+    (seen_refusal end_of n.1 bytes (record { place = at; why = NotEnum }) (λ is. cc) (omega (arith, word_ends bytes at n e)))
+    (seen_value end_of n.1 bytes n (omega arith)))
+seen NoArm sound bytes at =
     seen_bind end_of end_of (at + 4) (λ b. number_at w32 b at) (λ n b. refused at NotEnum) bytes (seen_number w32 bytes at)
     (λ n e. seen_refusal end_of n.1 bytes (record { place = at; why = NotEnum }) (λ is. cc) (omega (arith, word_ends bytes at n e)))
 

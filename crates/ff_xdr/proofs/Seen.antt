@@ -1,7 +1,7 @@
 -- How many bytes a reading depends on.
 use Rattle.std.proofs.Common.{◌≡◌, ℕ, zero, suc, ◌+◌, ◌≤◌, ◌<◌, Bool, true, false, cond, eqb, ltb, List, length, get_or, take, drop, Result, Ok, Err, refl, sym, ap, subst, ◌∙◌, arith, inl, inr}
 use Rattle.std.specs.Prelude.{◌⊎◌}
-use Rattle.std.specs.Int.{Width, w32, byte_len, from_be_bytes}
+use Rattle.std.specs.Int.{Width, w32, w64, byte_len, from_be_bytes, cast_signed}
 use Rattle.std.specs.Str.Lossy.{utf8_valid_len}
 use Rattle.std.proofs.lemmas.Bool.{ltb-false, ltb-true, le-ltb, lt-ltb, cases_lt}
 use Rattle.std.proofs.lemmas.List.{length-take, take-take, drop-take, get_or-take}
@@ -9,7 +9,7 @@ use Rattle.ff_xdr.specs.declared.error.XdrError.{XdrError}
 use Rattle.ff_xdr.specs.declared.error.XdrWhy.TheVariants.{Short, Pad, NotBool, TooLong, NotUtf8}
 use Rattle.ff_xdr.specs.Form.{pad_len}
 use Rattle.ff_xdr.specs.Laws.{behind}
-use Rattle.ff_xdr.specs.Reading.{Read, ◌>>=◌, number_at, padding_at, fixed_at, length_at, opaque_at, flag_at, text_at, may_begin_text, refused}
+use Rattle.ff_xdr.specs.Reading.{Read, ◌>>=◌, number_at, hyper_at, padding_at, fixed_at, length_at, opaque_at, flag_at, text_at, may_begin_text, refused}
 use Rattle.ff_xdr.proofs.Places.{bind_is, guard_ok, ok_is}
 use Rattle.ff_xdr.proofs.Sequences.{take_less, same_fault}
 
@@ -193,6 +193,13 @@ seen_fixed n bytes at =
     (seen_bind end_of end_of (at + n) (λ b. part_at n b at) (λ x b. padding_at (pad_len n) b x.1 >>= λ to. Ok (x.0, to)) bytes (seen_part n bytes at)
     (λ x e. seen_bind itself end_of x.1 (λ b. padding_at (pad_len n) b x.1) (λ to b. Ok (x.0, to)) bytes (seen_padding (pad_len n) bytes x.1)
     (λ to e. seen_value end_of to bytes (x.0, to) (omega arith))))
+
+pub seen_hyper : (bytes : List ℕ) (at : ℕ) → Seen end_of (at + 4) (λ b. hyper_at b at) bytes (hyper_at bytes at)
+unfolding hyper_at
+seen_hyper bytes at =
+    seen_from end_of (at + 4) (at + 8) (λ b. hyper_at b at) bytes (hyper_at bytes at) (omega arith)
+    (seen_bind end_of end_of (at + 8) (λ b. number_at w64 b at) (λ n b. Ok (cast_signed w64 n.0, n.1)) bytes (seen_number w64 bytes at)
+    (λ n e. seen_value end_of n.1 bytes (cast_signed w64 n.0, n.1) (omega arith)))
 
 -- ---- lengths, opaque bytes, flags and texts
 

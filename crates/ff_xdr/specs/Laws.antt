@@ -1,11 +1,12 @@
 -- The laws of every form: what was spelled is read again, what is read is spelled so, and what is refused
 -- has no value.
-use Rattle.std.specs.Prelude.{◌≡◌, ℕ, ◌+◌, ◌-◌, ◌<◌, ◌≤◌, Bool, true, false, ◌&&◌, ◌||◌, List, [], ◌++◌, length, take, drop, slice_index, Result, Ok, Err, IsTrue}
+use Rattle.std.specs.Prelude.{◌≡◌, ℕ, ◌+◌, ◌-◌, ◌^◌, ◌<◌, ◌≤◌, nat_lt, Bool, true, false, ◌&&◌, ◌||◌, List, [], ◌++◌, length, take, drop, slice_index, Result, Ok, Err, IsTrue}
+use Rattle.std.specs.List.{list_all}
 use Rattle.ff_xdr.specs.declared.error.XdrError.{XdrError}
 use Rattle.ff_xdr.specs.declared.error.XdrWhy.{XdrWhy}
 use Rattle.ff_xdr.specs.declared.error.XdrWhy.TheVariants.{Short, Pad, NotBool, NotEnum, TooLong, NotUtf8, Rest}
-use Rattle.ff_xdr.specs.Form.{Form, Enum, Optional, Then, Items, Case, NoCase, Value, Fits, spelling, spelling_case, arm_of, has_arm}
-use Rattle.ff_xdr.specs.Reading.{reading, reading_case, whole}
+use Rattle.ff_xdr.specs.Form.{Form, Enum, Optional, Pair, Array, Arm, NoArm, Default, Value, Fits, spelling, arm_spelling, arm_of, has_arm}
+use Rattle.ff_xdr.specs.Reading.{reading, arm_reading, whole}
 
 abbrev pub IsBytes : List ℕ → Type 0
 IsBytes bytes = (i : ℕ) → slice_index bytes i < 256
@@ -28,18 +29,18 @@ IsSpelledSo form = (bytes : List ℕ) (at : ℕ) (v : Value form) (to : ℕ) →
 
 -- a union with no other arms than those that its numbers name
 abbrev pub is_union : Form → Bool
-is_union NoCase = true
-is_union (Case number body others) = is_union others
+is_union NoArm = true
+is_union (Arm number body others) = is_union others
 is_union _ = false
 
 -- The same of a union whose number is known from outside.
 abbrev pub IsArmReadAgain : Form → Type 0
 IsArmReadAgain form = (v : Value form) (front rest : List ℕ) → Fits form v
-    → reading_case form (arm_of form v) (front ++ spelling_case form v ++ rest) (length front) ≡ Ok (v, length front + length (spelling_case form v))
+    → arm_reading form (arm_of form v) (front ++ arm_spelling form v ++ rest) (length front) ≡ Ok (v, length front + length (arm_spelling form v))
 
 abbrev pub IsArmSpelledSo : Form → Type 0
 IsArmSpelledSo form = (n : ℕ) (bytes : List ℕ) (at : ℕ) (v : Value form) (to : ℕ) → IsBytes bytes → at ≤ length bytes
-    → reading_case form n bytes at ≡ Ok (v, to) → (arm_of form v ≡ n) × Fits form v × Stands bytes at (spelling_case form v) to
+    → arm_reading form n bytes at ≡ Ok (v, to) → (arm_of form v ≡ n) × Fits form v × Stands bytes at (arm_spelling form v) to
 
 -- How many bytes the refused item has from the refused place on: none where the bytes end, a byte of
 -- padding or of what is left over, a word (RFC 4506, section 3), and of a text the longest sequence
@@ -86,17 +87,18 @@ HasNoneWhole form = (bytes : List ℕ) (at : ℕ) (e : XdrError) → reading for
 
 -- the arms of a union end here
 abbrev pub is_end : Form → Bool
-is_end NoCase = true
+is_end NoArm = true
 is_end _ = false
 
--- each part of the form has a value: an enum has a number, and a union an arm
+-- each part of the form has a value: an enum has a number, a union an arm, and a default arm a word
 abbrev pub is_filled : Form → Bool
 is_filled (Enum []) = false
 is_filled (Optional each) = is_filled each
-is_filled (Then first second) = is_filled first && is_filled second
-is_filled (Items max each) = is_filled each
-is_filled (Case number body others) = is_filled body && (is_end others || is_filled others)
-is_filled NoCase = false
+is_filled (Pair first second) = is_filled first && is_filled second
+is_filled (Array max each) = is_filled each
+is_filled (Arm number body others) = is_filled body && (is_end others || is_filled others)
+is_filled NoArm = false
+is_filled (Default numbers) = list_all (λ n. nat_lt n (2 ^ 32 - 1)) numbers
 is_filled _ = true
 
 -- a value of the form begins with the bytes from one place up to the other
@@ -128,26 +130,26 @@ IsFirstWholeFault form = (bytes : List ℕ) (at : ℕ) (e : XdrError) → IsByte
 
 -- The same of a union whose number is known from outside.
 abbrev pub IsArmShortAtEnd : Form → Type 0
-IsArmShortAtEnd form = (n at : ℕ) → EndsShort (λ bytes. reading_case form n bytes at)
+IsArmShortAtEnd form = (n at : ℕ) → EndsShort (λ bytes. arm_reading form n bytes at)
 
 abbrev pub IsArmRefusedThere : Form → Type 0
-IsArmRefusedThere form = (n at : ℕ) → StopsThere (λ bytes. reading_case form n bytes at)
+IsArmRefusedThere form = (n at : ℕ) → StopsThere (λ bytes. arm_reading form n bytes at)
 
 abbrev pub HasNoArmThere : Form → Type 0
-HasNoArmThere form = (n : ℕ) (bytes : List ℕ) (at : ℕ) (e : XdrError) → at ≤ length bytes → reading_case form n bytes at ≡ Err e → ¬ (e.why ≡ Short)
-    → (v : Value form) (rest : List ℕ) → Fits form v → arm_of form v ≡ n → ¬ (take (behind e) (take at bytes ++ spelling_case form v ++ rest) ≡ take (behind e) bytes)
+HasNoArmThere form = (n : ℕ) (bytes : List ℕ) (at : ℕ) (e : XdrError) → at ≤ length bytes → arm_reading form n bytes at ≡ Err e → ¬ (e.why ≡ Short)
+    → (v : Value form) (rest : List ℕ) → Fits form v → arm_of form v ≡ n → ¬ (take (behind e) (take at bytes ++ arm_spelling form v ++ rest) ≡ take (behind e) bytes)
 
 abbrev pub HasNoArmWhole : Form → Type 0
-HasNoArmWhole form = (n : ℕ) (bytes : List ℕ) (at : ℕ) (e : XdrError) → reading_case form n bytes at ≡ Err e
-    → (v : Value form) (to : ℕ) → Fits form v → arm_of form v ≡ n → ¬ (Stands bytes at (spelling_case form v) to)
+HasNoArmWhole form = (n : ℕ) (bytes : List ℕ) (at : ℕ) (e : XdrError) → arm_reading form n bytes at ≡ Err e
+    → (v : Value form) (to : ℕ) → Fits form v → arm_of form v ≡ n → ¬ (Stands bytes at (arm_spelling form v) to)
 
 -- a value of the arm with this number begins with the bytes from one place up to the other
 pub record BeginsArm (form : Form) (n : ℕ) (bytes : List ℕ) (at to : ℕ) : Type 0 where
   pub value : Value form
   pub fits : Fits form value
   pub arm : arm_of form value ≡ n
-  pub begins : Stands bytes at (take (to - at) (spelling_case form value)) to
+  pub begins : Stands bytes at (take (to - at) (arm_spelling form value)) to
 
 abbrev pub IsFirstArmFault : Form → Type 0
-IsFirstArmFault form = (n : ℕ) (bytes : List ℕ) (at : ℕ) (e : XdrError) → IsTrue (has_arm n form) → IsBytes bytes → at ≤ length bytes → reading_case form n bytes at ≡ Err e → ¬ (e.why ≡ Short)
+IsFirstArmFault form = (n : ℕ) (bytes : List ℕ) (at : ℕ) (e : XdrError) → IsTrue (has_arm n form) → IsBytes bytes → at ≤ length bytes → arm_reading form n bytes at ≡ Err e → ¬ (e.why ≡ Short)
     → BeginsArm form n bytes at e.place

@@ -4,3 +4,5 @@ pub mod Calls
 pub mod Laws
 pub mod Answers
 pub mod Items
+pub mod Faults
+pub mod Unbuilt

@@ -1,15 +1,15 @@
 -- Reading XDR from a place on: the value and the place behind it, or the first byte that no value has
 -- there, and why. A place counts from the start of the bytes.
-use Rattle.std.specs.Prelude.{ℕ, zero, suc, ◌+◌, Bool, true, false, ◌&&◌, ◌||◌, List, [], ◌∷◌, length, take, drop, slice_index, Option, Some, None, is_none, Result, Ok, Err, nat_eq, nat_lt, nat_le, ◌==◌, if◌then◌else◌, ◌⊎◌}
+use Rattle.std.specs.Prelude.{ℕ, ℤ, zero, suc, ◌+◌, Bool, true, false, ◌&&◌, ◌||◌, List, [], ◌∷◌, length, take, drop, slice_index, Option, Some, None, is_none, Result, Ok, Err, nat_eq, nat_lt, nat_le, ◌==◌, if◌then◌else◌, ◌⊎◌}
 use Rattle.std.proofs.Common.{inl, inr}
-use Rattle.std.specs.Int.{Width, w32, w64, byte_len, from_be_bytes}
+use Rattle.std.specs.Int.{Width, w32, w64, byte_len, from_be_bytes, cast_signed}
 use Rattle.std.specs.List.{list_any}
 use Rattle.std.specs.Str.{is_utf8, continuation_len}
 use Rattle.std.specs.Str.Lossy.{utf8_valid_len, utf8_error_len}
 use Rattle.ff_xdr.specs.declared.error.XdrError.{XdrError}
 use Rattle.ff_xdr.specs.declared.error.XdrWhy.{XdrWhy}
 use Rattle.ff_xdr.specs.declared.error.XdrWhy.TheVariants.{Short, Pad, NotBool, NotEnum, TooLong, NotUtf8, Rest}
-use Rattle.ff_xdr.specs.Form.{Form, Nothing, Number32, Number64, Flag, Enum, Optional, Fixed, Opaque, Text, Then, Items, Case, NoCase, Value, pad_len}
+use Rattle.ff_xdr.specs.Form.{Form, Void, Number32, Number64, Hyper, Boolean, Enum, Optional, Fixed, Opaque, Text, Pair, Array, Arm, NoArm, Default, Value, pad_len}
 
 -- a value and the place behind it, or a refusal
 abbrev pub Read : Type 0 → Type 0
@@ -26,6 +26,12 @@ refused place why = Err (record { place = place; why = why })
 -- A number: its bytes, or the slice's end.
 unfoldable pub number_at : Width → List ℕ → ℕ → Read ℕ
 number_at w bytes at = if nat_lt (length bytes) (at + byte_len w) then refused (length bytes) Short else Ok (from_be_bytes w (take (byte_len w) (drop at bytes)), at + byte_len w)
+
+-- a signed number of eight bytes
+unfoldable pub hyper_at : List ℕ → ℕ → Read ℤ
+hyper_at bytes at = do
+  n ← number_at w64 bytes at
+  Ok (cast_signed w64 n.0, n.1)
 
 -- Padding of n bytes: each is zero (RFC 4506, section 3).
 abbrev pub padding_at : ℕ → List ℕ → ℕ → Result ℕ XdrError
@@ -86,19 +92,20 @@ optional_at each true at = do
   Ok (Some v.0, v.1)
 
 -- the arm's body where the number is the arm's, else the other arms
-abbrev pub case_at : {A B : Type 0} → Bool → Read A → Read B → Read (A ⊎ B)
-case_at true body others = do
+abbrev pub arm_at : {A B : Type 0} → Bool → Read A → Read B → Read (A ⊎ B)
+arm_at true body others = do
   v ← body
   Ok (inl v.0, v.1)
-case_at false body others = do
+arm_at false body others = do
   v ← others
   Ok (inr v.0, v.1)
 
 abbrev pub reading : (form : Form) → List ℕ → ℕ → Read (Value form)
-reading Nothing bytes at = Ok (tt, at)
+reading Void bytes at = Ok (tt, at)
 reading Number32 bytes at = number_at w32 bytes at
 reading Number64 bytes at = number_at w64 bytes at
-reading Flag bytes at = flag_at bytes at
+reading Hyper bytes at = hyper_at bytes at
+reading Boolean bytes at = flag_at bytes at
 reading (Enum numbers) bytes at = do
   n ← number_at w32 bytes at
   if list_any (nat_eq n.0) numbers then Ok n else refused at NotEnum
@@ -108,19 +115,22 @@ reading (Optional each) bytes at = do
 reading (Fixed count) bytes at = fixed_at count bytes at
 reading (Opaque max) bytes at = opaque_at max bytes at
 reading (Text max) bytes at = text_at max bytes at
-reading (Then first second) bytes at = do
+reading (Pair first second) bytes at = do
   a ← reading first bytes at
   b ← reading second bytes a.1
   Ok ((a.0, b.0), b.1)
-reading (Items max each) bytes at = do
+reading (Array max each) bytes at = do
   n ← length_at max bytes at
   many_at (λ place. reading each bytes place) n.0 n.1
-reading (Case number body others) bytes at = do
+reading (Arm number body others) bytes at = do
   n ← number_at w32 bytes at
-  case_at (n.0 == number) (reading body bytes n.1) (reading others bytes at)
-reading NoCase bytes at = do
+  arm_at (n.0 == number) (reading body bytes n.1) (reading others bytes at)
+reading NoArm bytes at = do
   n ← number_at w32 bytes at
   refused at NotEnum
+reading (Default numbers) bytes at = do
+  n ← number_at w32 bytes at
+  if list_any (nat_eq n.0) numbers then refused at NotEnum else Ok n
 
 -- nothing is left behind the place
 abbrev pub rest_of : List ℕ → ℕ → Result (Unit {0}) XdrError
@@ -133,6 +143,6 @@ whole bytes read = do
   rest_of bytes v.1 >>= λ nothing. Ok v.0
 
 -- the body of the arm with a number that is known from outside
-abbrev pub reading_case : (form : Form) → ℕ → List ℕ → ℕ → Read (Value form)
-reading_case (Case number body others) n bytes at = case_at (n == number) (reading body bytes at) (reading_case others n bytes at)
-reading_case form n bytes at = reading form bytes at
+abbrev pub arm_reading : (form : Form) → ℕ → List ℕ → ℕ → Read (Value form)
+arm_reading (Arm number body others) n bytes at = arm_at (n == number) (reading body bytes at) (arm_reading others n bytes at)
+arm_reading form n bytes at = reading form bytes at

@@ -70,7 +70,7 @@ impl<'a, T: Wire<'a> + Copy> Items<'a, T> {
     /// Reads a list of at most `max` values. Nothing is copied: the values stay in the slice.
     pub fn read(cursor: &mut Cursor<'a>, max: u32) -> Result<Items<'a, T>, XdrError>
         ensures { Gives (λ items. contents T.form T.meaning items.place) cursor.old result cursor.new
-            (reading (forms.Items max T.form) cursor.old.bytes cursor.old.at) }
+            (reading (forms.Array max T.form) cursor.old.bytes cursor.old.at) }
     {
         let mut walker = cursor.fork();
         let count = walker.length(max)?;
@@ -93,7 +93,7 @@ impl<'a, T: Wire<'a> + Copy> Items<'a, T> {
     /// Appends the list's spelling, its count before its values. At an error a part of it may stand.
     pub fn put(&self, out: &mut Out) -> Result<(), NoMemory>
         requires { AllByRecursion (Fits T.form) (contents T.form T.meaning self.now.place) }
-        ensures { Grows out.old result out.new (spelling (forms.Items 0 T.form) (contents T.form T.meaning self.now.place)) }
+        ensures { Grows out.old result out.new (spelling (forms.Array 0 T.form) (contents T.form T.meaning self.now.place)) }
     {
         out.number32(self.len())?;
         for value in self.items() {
@@ -104,7 +104,7 @@ impl<'a, T: Wire<'a> + Copy> Items<'a, T> {
 
     /// The list has a spelling, of at most `max` values.
     pub fn fits(&self, max: u32) -> bool
-        ensures { IsTrue result ↔ Fits (forms.Items max T.form) (contents T.form T.meaning self.now.place) }
+        ensures { IsTrue result ↔ Fits (forms.Array max T.form) (contents T.form T.meaning self.now.place) }
     {
         if self.len() > max {
             return false;

@@ -1,7 +1,7 @@
 //! Bytes that are collected item by item.
 
 ghost use Rattle.std.specs.Prelude.{◌≡◌, ◌↔◌, ◌<◌, ◌^◌, [], ◌++◌, length, take, IsTrue, OnOk, OnErr};
-ghost use Rattle.ff_xdr.specs.Form.{word, long, padded, Flag, spelling};
+ghost use Rattle.ff_xdr.specs.Form.{word, long, padded, Boolean, spelling};
 ghost use Rattle.ff_xdr.specs.Calls.{Puts};
 
 use crate::error::NoMemory;
@@ -73,7 +73,7 @@ impl Out {
 
     /// A boolean (RFC 4506, section 4.4).
     pub fn flag(&mut self, b: bool) -> Result<(), NoMemory>
-        ensures { Puts self.old result self.new (spelling Flag b) }
+        ensures { Puts self.old result self.new (spelling Boolean b) }
     {
         if b {
             self.number32(1)

@@ -1,7 +1,7 @@
 //! What every message type has: a form, a meaning, and reading and writing by them.
 
 ghost use Rattle.std.specs.Prelude.{◌↔◌, IsTrue};
-ghost use Rattle.ff_xdr.specs.Form.{Form, Value, Fits, spelling, Number32, Number64, Flag, Optional};
+ghost use Rattle.ff_xdr.specs.Form.{Form, Value, Fits, spelling, Number32, Number64, Boolean, Optional};
 ghost use Rattle.std.specs.Option.{option_map};
 ghost use Rattle.ff_xdr.specs.Reading.{reading};
 ghost use Rattle.ff_xdr.specs.Calls.{Gives, Grows, Puts};
@@ -96,7 +96,7 @@ impl<'a> Wire<'a> for u64 {
 }
 
 impl Message for bool {
-    ghost form = { Flag };
+    ghost form = { Boolean };
 
     ghost meaning = { λ b. b };
 }

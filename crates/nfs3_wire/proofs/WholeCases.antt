@@ -5,9 +5,9 @@ use Rattle.std.proofs.lemmas.Bool.{false≢true, ltb-false, le-ltb, lt-ltb}
 use Rattle.std.proofs.lemmas.List.{take_all}
 use Rattle.ff_xdr.specs.declared.error.XdrError.{XdrError}
 use Rattle.ff_xdr.specs.declared.error.XdrWhy.TheVariants.{Rest}
-use Rattle.ff_xdr.specs.Form.{Form, Case, NoCase, Value, is_sound, spelling_case, arm_of}
+use Rattle.ff_xdr.specs.Form.{Form, Arm, NoArm, Value, is_sound, arm_spelling, arm_of}
 use Rattle.ff_xdr.specs.Laws.{is_union, behind, EndsShort, StopsThere, IsArmReadAgain, IsArmSpelledSo, IsArmShortAtEnd, IsArmRefusedThere, IsFirstArmFault}
-use Rattle.ff_xdr.specs.Reading.{Read, ◌>>=◌, reading, reading_case, whole}
+use Rattle.ff_xdr.specs.Reading.{Read, ◌>>=◌, reading, arm_reading, whole}
 use Rattle.ff_xdr.proofs.Again.{sound_case}
 use Rattle.ff_xdr.proofs.Places.{done, ok_is}
 use Rattle.ff_xdr.proofs.Refusals.{below, seen, seen_case, whole_cases, not_both}
@@ -42,30 +42,30 @@ whole_ok {M} bytes (Ok x) v is = by_case (ltb x.1 (length bytes)) refl is
 -- ---- the laws of every form
 
 -- a reading of an arm depends on no byte behind it
-arm_seen : (form : Form) → IsTrue (is_sound form) → IsTrue (is_union form) → (n : ℕ) (bytes : List ℕ) (at : ℕ) → Seen end_of at (λ b. reading_case form n b at) bytes (reading_case form n bytes at)
-arm_seen (Case number body others) sound union n bytes at =
+arm_seen : (form : Form) → IsTrue (is_sound form) → IsTrue (is_union form) → (n : ℕ) (bytes : List ℕ) (at : ℕ) → Seen end_of at (λ b. arm_reading form n b at) bytes (arm_reading form n bytes at)
+arm_seen (Arm number body others) sound union n bytes at =
     let sounds = sound_case number body others sound in
-    seen_case at (eqb n number) (λ b. reading body b at) (λ b. reading_case others n b at) bytes (below body bytes at (seen body sounds.2 bytes at)) (arm_seen others sounds.3 union n bytes at)
-arm_seen NoCase sound union n bytes at = below NoCase bytes at (seen NoCase sound bytes at)
+    seen_case at (eqb n number) (λ b. reading body b at) (λ b. arm_reading others n b at) bytes (below body bytes at (seen body sounds.2 bytes at)) (arm_seen others sounds.3 union n bytes at)
+arm_seen NoArm sound union n bytes at = below NoArm bytes at (seen NoArm sound bytes at)
 arm_seen _ sound union n bytes at = absurd (false≢true union)
 
 pub case_again : (form : Form) → IsArmReadAgain form → (v : Value form) → IsReadAgain form v
 case_again form again v fits =
-    let text = spelling_case form v in
+    let text = arm_spelling form v in
     let size : 0 + length text ≡ length text = omega arith in
-    let read : reading_case form (arm_of form v) text 0 ≡ Ok (v, 0 + length text) = subst (λ (t : List ℕ). reading_case form (arm_of form v) t 0 ≡ Ok (v, 0 + length text)) (append-nil text) (again v [] [] fits) in
-    whole_all text (v, 0 + length text) (reading_case form (arm_of form v) text 0) read size
+    let read : arm_reading form (arm_of form v) text 0 ≡ Ok (v, 0 + length text) = subst (λ (t : List ℕ). arm_reading form (arm_of form v) t 0 ≡ Ok (v, 0 + length text)) (append-nil text) (again v [] [] fits) in
+    whole_all text (v, 0 + length text) (arm_reading form (arm_of form v) text 0) read size
 
 pub case_spelled : (form : Form) → IsArmSpelledSo form → (v : Value form) → IsSpelledSo form v
 case_spelled form spelled v = λ n bytes is_bytes e.
-    let w = whole_ok bytes (reading_case form n bytes 0) v e in
+    let w = whole_ok bytes (arm_reading form n bytes 0) v e in
     let got = spelled n bytes 0 v w.0 is_bytes (omega arith) w.1 in
-    let text = spelling_case form v in
+    let text = arm_spelling form v in
     let size : length text ≡ length bytes = omega (arith, w.2, got.2.ends, got.2.within) in
     (got.0, got.1, sym (take_all (length text) bytes (omega (arith, size))) ∙ got.2.stands)
 
 pub case_short : (form : Form) → IsArmShortAtEnd form → (n : ℕ) → EndsShort (whole_case form n)
-case_short form short n = λ bytes e is why. elim (whole_cases bytes (reading_case form n bytes 0) e is) [
+case_short form short n = λ bytes e is why. elim (whole_cases bytes (arm_reading form n bytes 0) e is) [
   | inl refusal ↦ short n 0 bytes e refusal why
   | inr rest ↦
       let rest-why : e.why ≡ Rest = ap (λ (d : XdrError). d.why) rest.refusal in
@@ -73,50 +73,50 @@ case_short form short n = λ bytes e is why. elim (whole_cases bytes (reading_ca
 ]
 
 pub case_stops : (form : Form) → IsTrue (is_sound form) → IsTrue (is_union form) → IsArmRefusedThere form → (n : ℕ) → StopsThere (whole_case form n)
-case_stops form sound union stops n = λ bytes more e is other same. elim (whole_cases bytes (reading_case form n bytes 0) e is) [
+case_stops form sound union stops n = λ bytes more e is other same. elim (whole_cases bytes (arm_reading form n bytes 0) e is) [
   | inl refusal ↦ ap (λ (r : Read (Value form)). whole more r) (stops n 0 bytes more e refusal other same)
   | inr rest ↦
       let ends : behind e ≡ rest.value.1 + 1 = ap (λ (d : XdrError). behind d) rest.refusal in
       let there : take (rest.value.1 + 1) bytes ≡ take (rest.value.1 + 1) more = subst (λ (k : ℕ). take k bytes ≡ take k more) ends same in
-      let took : Took end_of 0 (λ b. reading_case form n b 0) bytes rest.value = subst (λ (q : Read (Value form)). Seen end_of 0 (λ b. reading_case form n b 0) bytes q) rest.read (arm_seen form sound union n bytes 0) in
-      let read : reading_case form n more 0 ≡ Ok rest.value = took.same more (take_less rest.value.1 (rest.value.1 + 1) bytes more (omega arith) there) in
+      let took : Took end_of 0 (λ b. arm_reading form n b 0) bytes rest.value = subst (λ (q : Read (Value form)). Seen end_of 0 (λ b. arm_reading form n b 0) bytes q) rest.read (arm_seen form sound union n bytes 0) in
+      let read : arm_reading form n more 0 ≡ Ok rest.value = took.same more (take_less rest.value.1 (rest.value.1 + 1) bytes more (omega arith) there) in
       let left = same_byte bytes more rest.value.1 rest.left there in
-      whole_rest more rest.value (reading_case form n more 0) read left.0 ∙ ap Err (sym rest.refusal)
+      whole_rest more rest.value (arm_reading form n more 0) read left.0 ∙ ap Err (sym rest.refusal)
 ]
 
 abbrev HasRest : Form → ℕ → List ℕ → ℕ → Type 0
-HasRest form n bytes place = (v : Value form) × (reading_case form n bytes 0 ≡ Ok (v, place)) × (place < length bytes)
+HasRest form n bytes place = (v : Value form) × (arm_reading form n bytes 0 ≡ Ok (v, place)) × (place < length bytes)
 
 pub case_rest : (form : Form) → HasRestJustWhere form
 case_rest form = λ n bytes place. (
-  λ is. elim (whole_cases bytes (reading_case form n bytes 0) (record { place = place; why = Rest }) is) [
+  λ is. elim (whole_cases bytes (arm_reading form n bytes 0) (record { place = place; why = Rest }) is) [
     | inl refusal ↦ absurd (never_rest form n bytes 0 (record { place = place; why = Rest }) refusal refl)
     | inr rest ↦
         let same : rest.value.1 ≡ place = sym (ap (λ (d : XdrError). d.place) rest.refusal) in
         subst (λ (k : ℕ). HasRest form n bytes k) same (rest.value.0, rest.read, rest.left)
   ],
-  λ h. whole_rest bytes (h.0, place) (reading_case form n bytes 0) h.1 h.2,
+  λ h. whole_rest bytes (h.0, place) (arm_reading form n bytes 0) h.1 h.2,
 )
 
 pub case_none : (form : Form) → IsArmReadAgain form → ((n : ℕ) → StopsThere (whole_case form n)) → HasNoneThere form
 case_none form again stops = λ n bytes e is other v fits arm same.
-    let text = spelling_case form v in
+    let text = arm_spelling form v in
     let value : whole_case form n text ≡ Ok v = subst (λ (k : ℕ). whole_case form k text ≡ Ok v) arm (case_again form again v fits) in
     not_both (whole_case form n text) e v (stops n bytes text e is other (sym same)) value
 
 pub case_cut : (form : Form) → IsArmReadAgain form → HasNoneWhole form
 case_cut form again = λ n bytes e is v fits arm same.
-    let text = spelling_case form v in
+    let text = arm_spelling form v in
     let value : whole_case form n text ≡ Ok v = subst (λ (k : ℕ). whole_case form k text ≡ Ok v) arm (case_again form again v fits) in
     not_both (whole_case form n text) e v (subst (λ (b : List ℕ). whole_case form n b ≡ Err e) same is) value
 
 pub case_least : (form : Form) → IsArmSpelledSo form → IsFirstArmFault form → IsFirstFault form
-case_least form spelled least = λ n bytes e has is_bytes is other. elim (whole_cases bytes (reading_case form n bytes 0) e is) [
+case_least form spelled least = λ n bytes e has is_bytes is other. elim (whole_cases bytes (arm_reading form n bytes 0) e is) [
   | inl refusal ↦ least n bytes 0 e has is_bytes (omega arith) refusal other
   | inr rest ↦
       let got = spelled n bytes 0 rest.value.0 rest.value.1 is_bytes (omega arith) rest.read in
       let place : e.place ≡ rest.value.1 = ap (λ (d : XdrError). d.place) rest.refusal in
-      let text = spelling_case form rest.value.0 in
+      let text = arm_spelling form rest.value.0 in
       let part : take (e.place - 0) text ≡ text = take_all (e.place - 0) text (omega (arith, place, got.2.ends)) in
       record { value = rest.value.0; fits = got.1; arm = got.0; begins = rw (part, place) got.2 }
 ]

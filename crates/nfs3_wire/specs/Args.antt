@@ -1,7 +1,7 @@
 -- The arguments of NFSv3's calls (RFC 1813, section 3.3).
 use Rattle.std.proofs.Common.{inl, inr}
 use Rattle.std.specs.Option.{option_map}
-use Rattle.ff_xdr.specs.Form.{Form, Number32, Number64, Opaque, Optional, Then, Case, NoCase, Value}
+use Rattle.ff_xdr.specs.Form.{Form, Number32, Number64, Opaque, Optional, Pair, Arm, NoArm, Value}
 use Rattle.nfs3_wire.specs.declared.args.ReadArgs.{ReadArgs}
 use Rattle.nfs3_wire.specs.declared.args.WriteArgs.{WriteArgs}
 use Rattle.nfs3_wire.specs.declared.args.CommitArgs.{CommitArgs}
@@ -32,28 +32,28 @@ getattr_args_value a = a.file.now
 
 -- SETATTR3args: the object, its new attributes, the guard: the ctime that it must have (section 3.3.2)
 abbrev pub setattr_args : Form
-setattr_args = Then handle (Then sattr3 (Optional time3))
+setattr_args = Pair handle (Pair sattr3 (Optional time3))
 
 abbrev pub setattr_args_value : SetAttrArgs → Value setattr_args
 setattr_args_value a = (a.file.now, (sattr3_value a.attributes, option_map time3_value a.guard))
 
 -- LOOKUP3args: the directory and the name (section 3.3.3)
 abbrev pub lookup_args : Form
-lookup_args = Then handle file_name
+lookup_args = Pair handle file_name
 
 abbrev pub lookup_args_value : LookupArgs → Value lookup_args
 lookup_args_value a = (a.directory.now, a.name.now)
 
 -- READ3args: file, offset, count (section 3.3.6)
 abbrev pub read_args : Form
-read_args = Then handle (Then Number64 Number32)
+read_args = Pair handle (Pair Number64 Number32)
 
 abbrev pub read_args_value : ReadArgs → Value read_args
 read_args_value a = (a.file.now, (a.offset, a.count))
 
 -- WRITE3args: file, offset, count, stable, data (section 3.3.7)
 abbrev pub write_args : Form
-write_args = Then handle (Then Number64 (Then Number32 (Then stable_how (Opaque 1048576))))
+write_args = Pair handle (Pair Number64 (Pair Number32 (Pair stable_how (Opaque 1048576))))
 
 abbrev pub write_args_value : WriteArgs → Value write_args
 write_args_value a = (a.file.now, (a.offset, (a.count, (stable_how_number a.stable, a.bytes.now))))
@@ -61,7 +61,7 @@ write_args_value a = (a.file.now, (a.offset, (a.count, (stable_how_number a.stab
 -- createhow3: UNCHECKED and GUARDED with attributes, EXCLUSIVE with the eight bytes of a createverf3 as
 -- one number (section 3.3.8)
 abbrev pub create_how : Form
-create_how = Case 0 sattr3 (Case 1 sattr3 (Case 2 Number64 NoCase))
+create_how = Arm 0 sattr3 (Arm 1 sattr3 (Arm 2 Number64 NoArm))
 
 abbrev pub create_how_value : CreateHow → Value create_how
 create_how_value (Unchecked attributes) = inl (sattr3_value attributes)
@@ -76,7 +76,7 @@ create_how_of (inr (inr (inr none))) = absurd none
 
 -- CREATE3args: the directory, the name, how (section 3.3.8)
 abbrev pub create_args : Form
-create_args = Then handle (Then file_name create_how)
+create_args = Pair handle (Pair file_name create_how)
 
 abbrev pub create_args_value : CreateArgs → Value create_args
 create_args_value a = (a.directory.now, (a.name.now, create_how_value a.how))
@@ -90,7 +90,7 @@ fsinfo_args_value a = a.root.now
 
 -- COMMIT3args: file, offset, count (section 3.3.21)
 abbrev pub commit_args : Form
-commit_args = Then handle (Then Number64 Number32)
+commit_args = Pair handle (Pair Number64 Number32)
 
 abbrev pub commit_args_value : CommitArgs → Value commit_args
 commit_args_value a = (a.file.now, (a.offset, a.count))

@@ -2,7 +2,7 @@
 use Rattle.std.specs.Prelude.{ℕ, List, Option}
 use Rattle.std.proofs.Common.{inl, inr}
 use Rattle.std.specs.Option.{option_map}
-use Rattle.ff_xdr.specs.Form.{Form, Nothing, Case, NoCase, Value}
+use Rattle.ff_xdr.specs.Form.{Form, Void, Arm, NoArm, Value}
 use Rattle.nfs3_wire.specs.declared.attributes.Time3.{Time3}
 use Rattle.nfs3_wire.specs.declared.setting.Sattr3.{Sattr3}
 use Rattle.nfs3_wire.specs.declared.enums.StableHow.{StableHow}
@@ -16,8 +16,8 @@ use Rattle.nfs3_wire.specs.Args.{getattr_args, setattr_args, lookup_args, read_a
 -- the arguments of each procedure that is built, by its number
 abbrev pub calls : Form
 calls =
-    Case 0 Nothing (Case 1 getattr_args (Case 2 setattr_args (Case 3 lookup_args (Case 6 read_args
-    (Case 7 write_args (Case 8 create_args (Case 19 fsinfo_args (Case 21 commit_args NoCase))))))))
+    Arm 0 Void (Arm 1 getattr_args (Arm 2 setattr_args (Arm 3 lookup_args (Arm 6 read_args
+    (Arm 7 write_args (Arm 8 create_args (Arm 19 fsinfo_args (Arm 21 commit_args NoArm))))))))
 
 pub data Call : Type 0 where
   Null : Call

@@ -4,41 +4,41 @@
 use Rattle.std.specs.Prelude.{◌≡◌, ◌↔◌, ℕ, ◌<◌, List, length, take, Result, Ok, Err, IsTrue}
 use Rattle.ff_xdr.specs.declared.error.XdrError.{XdrError}
 use Rattle.ff_xdr.specs.declared.error.XdrWhy.TheVariants.{Short, Rest}
-use Rattle.ff_xdr.specs.Form.{Form, Value, Fits, spelling_case, arm_of, has_arm}
-use Rattle.ff_xdr.specs.Reading.{reading_case, whole}
+use Rattle.ff_xdr.specs.Form.{Form, Value, Fits, arm_spelling, arm_of, has_arm}
+use Rattle.ff_xdr.specs.Reading.{arm_reading, whole}
 use Rattle.ff_xdr.specs.Laws.{IsBytes, behind, BeginsArm}
 use Rattle.nfs3_wire.specs.Calls.{calls, Call, call_value, call_of}
 use Rattle.nfs3_wire.specs.Replies.{replies, Reply, reply_value}
 
 -- what all the bytes are as a value of one procedure
 abbrev pub whole_case : (form : Form) → ℕ → List ℕ → Result (Value form) XdrError
-whole_case form procedure bytes = whole bytes (reading_case form procedure bytes 0)
+whole_case form procedure bytes = whole bytes (arm_reading form procedure bytes 0)
 
 -- A spelling is read as its value.
 abbrev pub IsReadAgain : (form : Form) → Value form → Type 0
-IsReadAgain form v = Fits form v → whole_case form (arm_of form v) (spelling_case form v) ≡ Ok v
+IsReadAgain form v = Fits form v → whole_case form (arm_of form v) (arm_spelling form v) ≡ Ok v
 
 -- What is read is of the procedure and has a spelling, which is all the bytes.
 abbrev pub IsSpelledSo : (form : Form) → Value form → Type 0
 IsSpelledSo form v = (procedure : ℕ) (bytes : List ℕ) → IsBytes bytes → whole_case form procedure bytes ≡ Ok v
-    → (arm_of form v ≡ procedure) × Fits form v × (bytes ≡ spelling_case form v)
+    → (arm_of form v ≡ procedure) × Fits form v × (bytes ≡ arm_spelling form v)
 
 -- Bytes are refused for what is left over just where a value stands and more bytes follow. The place
 -- is that of the first of them.
 abbrev pub HasRestJustWhere : Form → Type 0
 HasRestJustWhere form = (procedure : ℕ) (bytes : List ℕ) (place : ℕ)
     → whole_case form procedure bytes ≡ Err (record { place = place; why = Rest })
-    ↔ ((v : Value form) × (reading_case form procedure bytes 0 ≡ Ok (v, place)) × (place < length bytes))
+    ↔ ((v : Value form) × (arm_reading form procedure bytes 0 ≡ Ok (v, place)) × (place < length bytes))
 
 -- Where bytes are refused, and not as short, no value of the procedure has the refused item there.
 abbrev pub HasNoneThere : Form → Type 0
 HasNoneThere form = (procedure : ℕ) (bytes : List ℕ) (e : XdrError) → whole_case form procedure bytes ≡ Err e → ¬ (e.why ≡ Short)
-    → (v : Value form) → Fits form v → arm_of form v ≡ procedure → ¬ (take (behind e) (spelling_case form v) ≡ take (behind e) bytes)
+    → (v : Value form) → Fits form v → arm_of form v ≡ procedure → ¬ (take (behind e) (arm_spelling form v) ≡ take (behind e) bytes)
 
 -- Where bytes are refused, as short too, they are the spelling of no value of the procedure.
 abbrev pub HasNoneWhole : Form → Type 0
 HasNoneWhole form = (procedure : ℕ) (bytes : List ℕ) (e : XdrError) → whole_case form procedure bytes ≡ Err e
-    → (v : Value form) → Fits form v → arm_of form v ≡ procedure → ¬ (bytes ≡ spelling_case form v)
+    → (v : Value form) → Fits form v → arm_of form v ≡ procedure → ¬ (bytes ≡ arm_spelling form v)
 
 -- Up to the refused place some value of the procedure has these bytes: no earlier byte is at fault.
 abbrev pub IsFirstFault : Form → Type 0

@@ -2,7 +2,7 @@
 use Rattle.std.specs.Prelude.{ℕ, List, Option, Bool}
 use Rattle.std.proofs.Common.{inl, inr}
 use Rattle.std.specs.Option.{option_map}
-use Rattle.ff_xdr.specs.Form.{Form, Nothing, Case, NoCase, Value}
+use Rattle.ff_xdr.specs.Form.{Form, Void, Arm, NoArm, Value}
 use Rattle.nfs3_wire.specs.declared.enums.StableHow.{StableHow}
 use Rattle.nfs3_wire.specs.declared.enums.Stat3.{Stat3}
 use Rattle.nfs3_wire.specs.declared.attributes.Fattr3.{Fattr3}
@@ -25,8 +25,8 @@ use Rattle.nfs3_wire.specs.Results.{getattr_result, setattr_result, lookup_resul
 -- the result of each procedure that is built, by its number
 abbrev pub replies : Form
 replies =
-    Case 0 Nothing (Case 1 getattr_result (Case 2 setattr_result (Case 3 lookup_result (Case 6 read_result
-    (Case 7 write_result (Case 8 create_result (Case 19 fsinfo_result (Case 21 commit_result NoCase))))))))
+    Arm 0 Void (Arm 1 getattr_result (Arm 2 setattr_result (Arm 3 lookup_result (Arm 6 read_result
+    (Arm 7 write_result (Arm 8 create_result (Arm 19 fsinfo_result (Arm 21 commit_result NoArm))))))))
 
 pub data Reply : Type 0 where
   Null : Reply

@@ -1,8 +1,8 @@
 //! The calls of NFSv3 (RFC 1813, section 3.3).
 
 ghost use Rattle.std.specs.Prelude.{◌≡◌, ◌↔◌, IsTrue};
-ghost use Rattle.ff_xdr.specs.Form.{Fits, spelling_case, arm_of, has_arm};
-ghost use Rattle.ff_xdr.specs.Reading.{reading_case, whole};
+ghost use Rattle.ff_xdr.specs.Form.{Fits, arm_spelling, arm_of, has_arm};
+ghost use Rattle.ff_xdr.specs.Reading.{arm_reading, whole};
 ghost use Rattle.ff_xdr.specs.Calls.{Puts};
 ghost use Rattle.nfs3_wire.specs.Calls.{calls, call_value, plain_call};
 ghost use Rattle.nfs3_wire.specs.Found.{Finds};
@@ -82,7 +82,7 @@ pub fn is_built(procedure: u32) -> bool
 /// there.
 pub fn read_call(procedure: u32, args: &[u8]) -> Result<Call3<'_>, XdrError>
     requires { IsTrue (has_arm procedure calls) }
-    ensures { Finds (λ call. call_value (plain_call call)) result (whole args.now (reading_case calls procedure args.now 0)) }
+    ensures { Finds (λ call. call_value (plain_call call)) result (whole args.now (arm_reading calls procedure args.now 0)) }
 {
     let mut cursor = Cursor::new(args);
     let call = match procedure {
@@ -104,7 +104,7 @@ pub fn read_call(procedure: u32, args: &[u8]) -> Result<Call3<'_>, XdrError>
 /// Appends the arguments of a call, or nothing.
 pub fn write_call(call: &Call3<'_>, out: &mut Out) -> Result<(), NoMemory>
     requires { Fits calls (call_value (plain_call call.now)) }
-    ensures { Puts out.old result out.new (spelling_case calls (call_value (plain_call call.now))) }
+    ensures { Puts out.old result out.new (arm_spelling calls (call_value (plain_call call.now))) }
 {
     match call {
         Call3::Null => Ok(()),

@@ -1,8 +1,8 @@
 //! The results of NFSv3 (RFC 1813, section 3.3).
 
 ghost use Rattle.std.specs.Prelude.{◌≡◌, ◌↔◌, IsTrue};
-ghost use Rattle.ff_xdr.specs.Form.{Fits, spelling_case, arm_of, has_arm};
-ghost use Rattle.ff_xdr.specs.Reading.{reading_case, whole};
+ghost use Rattle.ff_xdr.specs.Form.{Fits, arm_spelling, arm_of, has_arm};
+ghost use Rattle.ff_xdr.specs.Reading.{arm_reading, whole};
 ghost use Rattle.ff_xdr.specs.Calls.{Puts};
 ghost use Rattle.nfs3_wire.specs.Replies.{replies, reply_value, plain_reply};
 ghost use Rattle.nfs3_wire.specs.Found.{Finds};
@@ -76,7 +76,7 @@ impl<'a> Reply3<'a> {
 /// data of a READ are slices of them. A refusal names the first byte that no result has there.
 pub fn read_reply(procedure: u32, bytes: &[u8]) -> Result<Reply3<'_>, XdrError>
     requires { IsTrue (has_arm procedure replies) }
-    ensures { Finds (λ reply. reply_value (plain_reply reply)) result (whole bytes.now (reading_case replies procedure bytes.now 0)) }
+    ensures { Finds (λ reply. reply_value (plain_reply reply)) result (whole bytes.now (arm_reading replies procedure bytes.now 0)) }
 {
     let mut cursor = Cursor::new(bytes);
     let reply = match procedure {
@@ -98,7 +98,7 @@ pub fn read_reply(procedure: u32, bytes: &[u8]) -> Result<Reply3<'_>, XdrError>
 /// Appends a result, or nothing.
 pub fn write_reply(reply: &Reply3<'_>, out: &mut Out) -> Result<(), NoMemory>
     requires { Fits replies (reply_value (plain_reply reply.now)) }
-    ensures { Puts out.old result out.new (spelling_case replies (reply_value (plain_reply reply.now))) }
+    ensures { Puts out.old result out.new (arm_spelling replies (reply_value (plain_reply reply.now))) }
 {
     match reply {
         Reply3::Null => Ok(()),

@@ -7,7 +7,7 @@ use Rattle.std.proofs.lemmas.List.{length-append, drop_at}
 use Rattle.std.proofs.lemmas.Nat.{from_be_bytes-to_be_bytes_4}
 use Rattle.ff_xdr.specs.declared.error.XdrError.{XdrError}
 use Rattle.ff_xdr.specs.declared.error.XdrWhy.TheVariants.{Short}
-use Rattle.ff_xdr.specs.Form.{Form, Number32, Then, Value, Fits, spelling, word}
+use Rattle.ff_xdr.specs.Form.{Form, Number32, Pair, Value, Fits, spelling, word}
 use Rattle.ff_xdr.specs.Laws.{IsBytes}
 use Rattle.ff_xdr.specs.Reading.{Read, number_at, reading}
 use Rattle.rpc_record.specs.declared.call.CallFault.{CallFault}
@@ -19,7 +19,7 @@ use Rattle.rpc_record.specs.Laws.{IsCallReadAgain, IsCallSpelledSo, IsNoCallJust
 
 -- a call with its RPC version and whatever stands before it
 abbrev call_header : Form
-call_header = Then Number32 (Then Number32 (Then Number32 call_body))
+call_header = Pair Number32 (Pair Number32 (Pair Number32 call_body))
 
 -- ---- words
 

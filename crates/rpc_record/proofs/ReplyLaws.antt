@@ -4,7 +4,7 @@ use Rattle.std.proofs.lemmas.Bool.{le-ltb, ltb-false, eqb-true, or_cases}
 use Rattle.std.proofs.lemmas.List.{drop_at, drop_all, length-drop}
 use Rattle.ff_xdr.specs.declared.error.XdrError.{XdrError}
 use Rattle.ff_xdr.specs.declared.error.XdrWhy.TheVariants.{Rest}
-use Rattle.ff_xdr.specs.Form.{Form, Case, NoCase, Value, Fits, spelling}
+use Rattle.ff_xdr.specs.Form.{Form, Arm, NoArm, Value, Fits, spelling}
 use Rattle.ff_xdr.specs.Reading.{Read, ◌>>=◌, reading}
 use Rattle.ff_xdr.proofs.Places.{bind_ok}
 use Rattle.rpc_record.specs.Rpc.{Proof, proof_of}
@@ -13,7 +13,7 @@ use Rattle.rpc_record.specs.Laws.{IsReplyReadAgain, IsReplySpelledSo}
 use Rattle.rpc_record.proofs.Records.{all_again, all_spelled, whole_is}
 
 abbrev pub status : Form
-status = Case 0 accepted_reply (Case 1 rejected_reply NoCase)
+status = Arm 0 accepted_reply (Arm 1 rejected_reply NoArm)
 
 -- ---- what was written
 

@@ -2,7 +2,7 @@
 use Rattle.std.specs.Prelude.{◌≡◌, ℕ, List, ◌++◌, length, take, drop, Result, Ok, Err, nat_lt, ◌==◌, if◌then◌else◌}
 use Rattle.std.specs.Int.{w32, from_be_bytes}
 use Rattle.ff_xdr.specs.declared.error.XdrError.{XdrError}
-use Rattle.ff_xdr.specs.Form.{Form, Number32, Then, Value, spelling, word}
+use Rattle.ff_xdr.specs.Form.{Form, Number32, Pair, Value, spelling, word}
 use Rattle.ff_xdr.specs.Reading.{Read, number_at, reading}
 use Rattle.rpc_record.specs.declared.call.Call.{Call as DeclaredCall}
 use Rattle.rpc_record.specs.declared.call.CallFault.{CallFault}
@@ -11,7 +11,7 @@ use Rattle.rpc_record.specs.Rpc.{opaque_auth, Proof, proof_value, proof_of, plai
 
 -- call_body behind the RPC version: program, version, procedure, credential, verifier
 abbrev pub call_body : Form
-call_body = Then Number32 (Then Number32 (Then Number32 (Then opaque_auth opaque_auth)))
+call_body = Pair Number32 (Pair Number32 (Pair Number32 (Pair opaque_auth opaque_auth)))
 
 -- a call, without where its bytes lie
 pub record Call : Type 0 where

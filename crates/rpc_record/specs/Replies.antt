@@ -2,7 +2,7 @@
 use Rattle.std.specs.Prelude.{◌≡◌, ℕ, List, [], ◌∷◌, ◌++◌, drop, Result, Ok, Err}
 use Rattle.std.proofs.Common.{inl, inr}
 use Rattle.ff_xdr.specs.declared.error.XdrError.{XdrError}
-use Rattle.ff_xdr.specs.Form.{Form, Nothing, Number32, Enum, Then, Case, NoCase, Value, Fits, spelling}
+use Rattle.ff_xdr.specs.Form.{Form, Void, Number32, Enum, Pair, Arm, NoArm, Value, Fits, spelling}
 use Rattle.ff_xdr.specs.Reading.{◌>>=◌, reading, rest_of}
 use Rattle.rpc_record.specs.declared.reply.ReplyBody.{ReplyBody}
 use Rattle.rpc_record.specs.declared.reply.ReplyBody.TheVariants as declared
@@ -11,23 +11,23 @@ use Rattle.rpc_record.specs.Rpc.{opaque_auth, Proof, proof_value, proof_of, plai
 
 -- two numbers of versions, the lowest and the highest
 abbrev pub versions : Form
-versions = Then Number32 Number32
+versions = Pair Number32 Number32
 
 -- accepted_reply: the verifier, then by accept_stat SUCCESS 0, PROG_UNAVAIL 1, PROG_MISMATCH 2, PROC_UNAVAIL 3,
 -- GARBAGE_ARGS 4, SYSTEM_ERR 5. The results of a success follow.
 abbrev pub accept_stat : Form
-accept_stat = Case 0 Nothing (Case 1 Nothing (Case 2 versions (Case 3 Nothing (Case 4 Nothing (Case 5 Nothing NoCase)))))
+accept_stat = Arm 0 Void (Arm 1 Void (Arm 2 versions (Arm 3 Void (Arm 4 Void (Arm 5 Void NoArm)))))
 
 abbrev pub accepted_reply : Form
-accepted_reply = Then opaque_auth accept_stat
+accepted_reply = Pair opaque_auth accept_stat
 
 -- rejected_reply, by reject_stat RPC_MISMATCH 0, AUTH_ERROR 1
 abbrev pub rejected_reply : Form
-rejected_reply = Case 0 versions (Case 1 Number32 NoCase)
+rejected_reply = Arm 0 versions (Arm 1 Number32 NoArm)
 
 -- the transaction's number, 1 for a reply, then MSG_ACCEPTED 0 or MSG_DENIED 1
 abbrev pub reply_header : Form
-reply_header = Then Number32 (Then (Enum (1 ∷ [])) (Case 0 accepted_reply (Case 1 rejected_reply NoCase)))
+reply_header = Pair Number32 (Pair (Enum (1 ∷ [])) (Arm 0 accepted_reply (Arm 1 rejected_reply NoArm)))
 
 -- what a reply says, without where its bytes lie
 pub data Body : Type 0 where
@@ -62,7 +62,7 @@ plain_reply r = record { xid = r.xid; verf = plain_auth r.verf; body = plain_bod
 abbrev pub no_proof : Proof
 no_proof = record { flavor = 0; body = [] }
 
-abbrev pub status_value : Proof → Body → Value (Case 0 accepted_reply (Case 1 rejected_reply NoCase))
+abbrev pub status_value : Proof → Body → Value (Arm 0 accepted_reply (Arm 1 rejected_reply NoArm))
 status_value verf (Success results) = inl (proof_value verf, inl tt)
 status_value verf ProgUnavail = inl (proof_value verf, inr (inl tt))
 status_value verf (ProgMismatch low high) = inl (proof_value verf, inr (inr (inl (low, high))))
@@ -97,7 +97,7 @@ abbrev pub ended : Reply → List ℕ → ℕ → Result Reply XdrError
 ended r bytes at = rest_of bytes at >>= λ nothing. Ok r
 
 -- a reply whose header was read up to a place
-abbrev pub with_status : ℕ → List ℕ → ℕ → Value (Case 0 accepted_reply (Case 1 rejected_reply NoCase)) → Result Reply XdrError
+abbrev pub with_status : ℕ → List ℕ → ℕ → Value (Arm 0 accepted_reply (Arm 1 rejected_reply NoArm)) → Result Reply XdrError
 with_status xid bytes at (inl (verf, inl nothing)) = Ok (record { xid = xid; verf = proof_of verf; body = Success (drop at bytes) })
 with_status xid bytes at (inl (verf, inr (inl nothing))) = ended (record { xid = xid; verf = proof_of verf; body = ProgUnavail }) bytes at
 with_status xid bytes at (inl (verf, inr (inr (inl (low, high))))) = ended (record { xid = xid; verf = proof_of verf; body = ProgMismatch low high }) bytes at

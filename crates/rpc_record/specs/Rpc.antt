@@ -1,13 +1,13 @@
 -- RPC messages (RFC 5531, sections 8 and 9).
 use Rattle.std.specs.Prelude.{ℕ, List}
-use Rattle.ff_xdr.specs.Form.{Form, Number32, Opaque, Items, Then, Value}
+use Rattle.ff_xdr.specs.Form.{Form, Number32, Opaque, Array, Pair, Value}
 use Rattle.ff_xdr.specs.Items.{contents}
 use Rattle.rpc_record.specs.declared.auth.Auth.{Auth}
 use Rattle.rpc_record.specs.declared.auth.AuthSys.{AuthSys}
 
 -- opaque_auth: a flavor and a body of at most 400 bytes (section 8.2)
 abbrev pub opaque_auth : Form
-opaque_auth = Then Number32 (Opaque 400)
+opaque_auth = Pair Number32 (Opaque 400)
 
 -- an opaque_auth, without where its bytes lie
 pub record Proof : Type 0 where
@@ -25,7 +25,7 @@ proof_of (flavor, body) = record { flavor = flavor; body = body }
 
 -- authsys_parms: stamp, machine name, uid, gid, gids (appendix A)
 abbrev pub authsys_parms : Form
-authsys_parms = Then Number32 (Then (Opaque 255) (Then Number32 (Then Number32 (Items 16 Number32))))
+authsys_parms = Pair Number32 (Pair (Opaque 255) (Pair Number32 (Pair Number32 (Array 16 Number32))))
 
 -- who calls
 pub record Credential : Type 0 where

@@ -1,7 +1,7 @@
 -- The status of a reply in its parts.
 use Rattle.std.specs.Prelude.{ℕ, Bool, true, false, List}
 use Rattle.std.proofs.Common.{inl, inr}
-use Rattle.ff_xdr.specs.Form.{Form, Case, NoCase, Value}
+use Rattle.ff_xdr.specs.Form.{Form, Arm, NoArm, Value}
 use Rattle.rpc_record.specs.declared.status.AcceptStat.{AcceptStat}
 use Rattle.rpc_record.specs.declared.status.AcceptStat.TheVariants as accept
 use Rattle.rpc_record.specs.declared.status.RejectStat.{RejectStat}
@@ -25,7 +25,7 @@ reject_value (reject.AuthError stat) = inr (inl stat)
 
 -- MSG_ACCEPTED 0 or MSG_DENIED 1
 abbrev pub reply_stat : Form
-reply_stat = Case 0 accepted_reply (Case 1 rejected_reply NoCase)
+reply_stat = Arm 0 accepted_reply (Arm 1 rejected_reply NoArm)
 
 abbrev pub stat_value : Status → Value reply_stat
 stat_value (status.Accepted verf stat) = inl (proof_value (plain_auth verf), accept_value stat)

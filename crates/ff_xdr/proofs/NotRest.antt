@@ -1,12 +1,12 @@
 -- A form's reading never says that bytes are left over.
 use Rattle.std.proofs.Common.{◌≡◌, ℕ, zero, suc, ◌+◌, Bool, true, false, cond, ltb, eqb, List, ◌∷◌, length, get_or, take, drop, Some, Result, Ok, Err, subst, inl, inr}
-use Rattle.std.specs.Int.{Width, w32, w64, byte_len, from_be_bytes}
+use Rattle.std.specs.Int.{Width, w32, w64, byte_len, from_be_bytes, cast_signed}
 use Rattle.std.specs.List.{list_any}
 use Rattle.std.specs.Str.Lossy.{utf8_valid_len}
 use Rattle.ff_xdr.specs.declared.error.XdrError.{XdrError}
 use Rattle.ff_xdr.specs.declared.error.XdrWhy.TheVariants.{Short, Pad, NotBool, NotEnum, TooLong, NotUtf8, Rest}
-use Rattle.ff_xdr.specs.Form.{Form, Nothing, Number32, Number64, Flag, Enum, Optional, Fixed, Opaque, Text, Then, Items, Case, NoCase, pad_len}
-use Rattle.ff_xdr.specs.Reading.{Read, ◌>>=◌, number_at, padding_at, fixed_at, length_at, opaque_at, flag_at, text_at, may_begin_text, many_at, optional_at, case_at, reading, reading_case, refused}
+use Rattle.ff_xdr.specs.Form.{Form, Void, Number32, Number64, Hyper, Boolean, Enum, Optional, Fixed, Opaque, Text, Pair, Array, Arm, NoArm, Default, pad_len}
+use Rattle.ff_xdr.specs.Reading.{Read, ◌>>=◌, number_at, hyper_at, padding_at, fixed_at, length_at, opaque_at, flag_at, text_at, may_begin_text, many_at, optional_at, arm_at, reading, arm_reading, refused}
 
 abbrev NotRest : {A : Type 0} → Result A XdrError → Type 0
 NotRest (Ok x) = Unit {0}
@@ -23,6 +23,10 @@ test false r s p q = q
 number : (w : Width) (bytes : List ℕ) (at : ℕ) → NotRest (number_at w bytes at)
 unfolding number_at
 number w bytes at = test (ltb (length bytes) (at + byte_len w)) (refused (length bytes) Short) (Ok (from_be_bytes w (take (byte_len w) (drop at bytes)), at + byte_len w)) (λ is. cc) tt
+
+hyper : (bytes : List ℕ) (at : ℕ) → NotRest (hyper_at bytes at)
+unfolding hyper_at
+hyper bytes at = step (number_at w64 bytes at) (λ n. Ok (cast_signed w64 n.0, n.1)) (number w64 bytes at) (λ n. tt)
 
 padding : (n : ℕ) (bytes : List ℕ) (at : ℕ) → NotRest (padding_at n bytes at)
 padding zero bytes at = tt
@@ -68,15 +72,16 @@ many each one (suc n) at =
     step (each at) (λ first. many_at each n first.1 >>= λ others. Ok (first.0 ∷ others.0, others.1)) (one at)
     (λ first. step (many_at each n first.1) (λ others. Ok (first.0 ∷ others.0, others.1)) (many each one n first.1) (λ others. tt))
 
-arm : {A B : Type 0} (here : Bool) (body : Read A) (others : Read B) → NotRest body → NotRest others → NotRest (case_at here body others)
+arm : {A B : Type 0} (here : Bool) (body : Read A) (others : Read B) → NotRest body → NotRest others → NotRest (arm_at here body others)
 arm true body others p q = step body (λ v. Ok (inl v.0, v.1)) p (λ v. tt)
 arm false body others p q = step others (λ v. Ok (inr v.0, v.1)) q (λ v. tt)
 
 any : (form : Form) (bytes : List ℕ) (at : ℕ) → NotRest (reading form bytes at)
-any Nothing bytes at = tt
+any Void bytes at = tt
 any Number32 bytes at = number w32 bytes at
 any Number64 bytes at = number w64 bytes at
-any Flag bytes at = flag bytes at
+any Hyper bytes at = hyper bytes at
+any Boolean bytes at = flag bytes at
 any (Enum numbers) bytes at =
     step (number_at w32 bytes at) (λ n. cond (list_any (eqb n.0) numbers) (Ok n) (refused at NotEnum)) (number w32 bytes at)
     (λ n. test (list_any (eqb n.0) numbers) (Ok n) (refused at NotEnum) tt (λ is. cc))
@@ -86,21 +91,24 @@ any (Optional each) bytes at =
 any (Fixed count) bytes at = fixed count bytes at
 any (Opaque max) bytes at = several max bytes at
 any (Text max) bytes at = text max bytes at
-any (Then first second) bytes at =
+any (Pair first second) bytes at =
     step (reading first bytes at) (λ a. reading second bytes a.1 >>= λ b. Ok ((a.0, b.0), b.1)) (any first bytes at)
     (λ a. step (reading second bytes a.1) (λ b. Ok ((a.0, b.0), b.1)) (any second bytes a.1) (λ b. tt))
-any (Items max each) bytes at =
+any (Array max each) bytes at =
     step (length_at max bytes at) (λ n. many_at (λ place. reading each bytes place) n.0 n.1) (counted max bytes at)
     (λ n. many (λ place. reading each bytes place) (λ place. any each bytes place) n.0 n.1)
-any (Case number_is body others) bytes at =
-    step (number_at w32 bytes at) (λ n. case_at (eqb n.0 number_is) (reading body bytes n.1) (reading others bytes at)) (number w32 bytes at)
+any (Arm number_is body others) bytes at =
+    step (number_at w32 bytes at) (λ n. arm_at (eqb n.0 number_is) (reading body bytes n.1) (reading others bytes at)) (number w32 bytes at)
     (λ n. arm (eqb n.0 number_is) (reading body bytes n.1) (reading others bytes at) (any body bytes n.1) (any others bytes at))
-any NoCase bytes at = step (number_at w32 bytes at) (λ n. refused at NotEnum) (number w32 bytes at) (λ n. λ is. cc)
+any (Default numbers) bytes at =
+    step (number_at w32 bytes at) (λ n. cond (list_any (eqb n.0) numbers) (refused at NotEnum) (Ok n)) (number w32 bytes at)
+    (λ n. test (list_any (eqb n.0) numbers) (refused at NotEnum) (Ok n) (λ is. cc) tt)
+any NoArm bytes at = step (number_at w32 bytes at) (λ n. refused at NotEnum) (number w32 bytes at) (λ n. λ is. cc)
 
-any_arm : (form : Form) (n : ℕ) (bytes : List ℕ) (at : ℕ) → NotRest (reading_case form n bytes at)
-any_arm (Case number_is body others) n bytes at =
-    arm (eqb n number_is) (reading body bytes at) (reading_case others n bytes at) (any body bytes at) (any_arm others n bytes at)
+any_arm : (form : Form) (n : ℕ) (bytes : List ℕ) (at : ℕ) → NotRest (arm_reading form n bytes at)
+any_arm (Arm number_is body others) n bytes at =
+    arm (eqb n number_is) (reading body bytes at) (arm_reading others n bytes at) (any body bytes at) (any_arm others n bytes at)
 any_arm form n bytes at = any form bytes at
 
-pub never_rest : (form : Form) (n : ℕ) (bytes : List ℕ) (at : ℕ) (e : XdrError) → reading_case form n bytes at ≡ Err e → ¬ (e.why ≡ Rest)
+pub never_rest : (form : Form) (n : ℕ) (bytes : List ℕ) (at : ℕ) (e : XdrError) → arm_reading form n bytes at ≡ Err e → ¬ (e.why ≡ Rest)
 never_rest form n bytes at e is = subst (λ (r : Read _). NotRest r) is (any_arm form n bytes at)
