@@ -11,10 +11,10 @@ use Rattle.ff_xdr.proofs.Arms.{arm_again, arm_again_where}
 use Rattle.ff_xdr.proofs.Seen.{Seen, end_of}
 use Rattle.ff_xdr.proofs.Refusals.{below, seen, seen_case, ends_short, stops_there, not_both}
 
-abbrev IsArmSeen : Form → ℕ → List ℕ → ℕ → Type 0
+abbrev pub IsArmSeen : Form → ℕ → List ℕ → ℕ → Type 0
 IsArmSeen form n bytes at = Seen end_of at (λ b. arm_reading form n b at) bytes (arm_reading form n bytes at)
 
-arm_seen : (form : Form) → IsTrue (is_sound form) → IsTrue (is_union form) → (n : ℕ) (bytes : List ℕ) (at : ℕ) → IsArmSeen form n bytes at
+pub arm_seen : (form : Form) → IsTrue (is_sound form) → IsTrue (is_union form) → (n : ℕ) (bytes : List ℕ) (at : ℕ) → IsArmSeen form n bytes at
 arm_seen (Arm number body others) sound union n bytes at =
     let sounds = sound_case number body others sound in
     seen_case at (eqb n number) (λ b. reading body b at) (λ b. arm_reading others n b at) bytes (below body bytes at (seen body sounds.2 bytes at)) (arm_seen others sounds.3 union n bytes at)

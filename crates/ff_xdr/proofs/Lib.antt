@@ -13,3 +13,4 @@ pub mod ArmRefusals
 pub mod Begun
 pub mod FirstFault
 pub mod NotRest
+pub mod WholeArms

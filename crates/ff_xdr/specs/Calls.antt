@@ -14,6 +14,11 @@ abbrev pub Gives : {X M : Type 0} → (X → M) → Place → Result X XdrError 
 Gives view old (Ok x) new read = (read ≡ Ok (view x, new.at)) × (new.bytes ≡ old.bytes)
 Gives view old (Err e) new read = (read ≡ Err e) × (new ≡ old)
 
+-- What was found, seen by `view`, is what `read` says.
+abbrev pub Finds : {X M E : Type 0} → (X → M) → Result X E → Result M E → Type 0
+Finds view (Ok x) read = read ≡ Ok (view x)
+Finds view (Err e) read = read ≡ Err e
+
 -- A call appended this text; at an error all is as before.
 abbrev pub Puts : List ℕ → Result (Unit {0}) NoMemory → List ℕ → List ℕ → Type 0
 Puts old (Ok x) new text = new ≡ old ++ text

@@ -6,3 +6,7 @@ pub mod Answers
 pub mod Items
 pub mod Faults
 pub mod Unbuilt
+pub mod Proper
+pub mod Arms
+pub mod WholeArms
+pub mod Exact

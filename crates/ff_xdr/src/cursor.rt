@@ -1,8 +1,8 @@
 //! A cursor that reads a slice item by item.
 
-ghost use Rattle.std.specs.Prelude.{◌≡◌, ℕ, ◌≤◌, length};
+ghost use Rattle.std.specs.Prelude.{◌≡◌, ℕ, ◌≤◌, length, IfOk};
 ghost use Rattle.std.specs.Int.{w32, w64};
-ghost use Rattle.ff_xdr.specs.Reading.{number_at, fixed_at, opaque_at, text_at, flag_at, length_at, rest_of};
+ghost use Rattle.ff_xdr.specs.Reading.{number_at, hyper_at, fixed_at, opaque_at, text_at, flag_at, length_at, rest_of};
 ghost use Rattle.ff_xdr.specs.Calls.{Place, Gives};
 
 use crate::error::{XdrError, XdrWhy};
@@ -87,6 +87,15 @@ impl<'a> Cursor<'a> {
         Ok(number)
     }
 
+    /// A hyper integer, which is signed (RFC 4506, section 4.5). Refused as `Short`.
+    #[tactic(auto, unfolding(crate::specs::Reading::hyper_at))]
+    pub fn hyper(&mut self) -> Result<i64, XdrError>
+        ensures { Gives (λ z. z) self.old result self.new (hyper_at self.old.bytes self.old.at) }
+    {
+        let bits = self.number64()?;
+        Ok(bits.cast_signed())
+    }
+
     /// A boolean (RFC 4506, section 4.4). Refused as `Short` or `NotBool`.
     pub fn flag(&mut self) -> Result<bool, XdrError>
         ensures { Gives (λ b. b) self.old result self.new (flag_at self.old.bytes self.old.at) }
@@ -98,7 +107,8 @@ impl<'a> Cursor<'a> {
 
     /// `n` bytes of opaque data (RFC 4506, section 4.9). Refused as `Short` or `Pad`.
     pub fn fixed(&mut self, n: usize) -> Result<&'a [u8], XdrError>
-        ensures { Gives (λ s. s.now) self.old result self.new (fixed_at n self.old.bytes self.old.at) }
+        ensures read { Gives (λ s. s.now) self.old result self.new (fixed_at n self.old.bytes self.old.at) }
+        ensures size { IfOk result (λ s. length s.now ≡ n) }
     {
         let (bytes, to) = fixed_at(self.bytes, self.at, n)?;
         self.at = to;

@@ -1,5 +1,7 @@
 //! Why bytes are not in a form, and want of memory.
 
+ghost use Rattle.std.specs.Prelude.{◌≡◌};
+
 use std::alloc::{AllocError, AllocFailed};
 
 /// Why bytes are refused (RFC 4506).
@@ -31,6 +33,19 @@ pub enum XdrWhy {
 pub struct XdrError {
     pub place: usize,
     pub why: XdrWhy,
+}
+
+impl XdrError {
+    /// The refusal of a number that is none of an enum's or a union's, at its word (RFC 4506, sections
+    /// 4.3 and 4.15).
+    pub fn not_enum(place: usize) -> XdrError
+        ensures { result ≡ record { place = place; why = XdrWhy.NotEnum } }
+    {
+        XdrError {
+            place,
+            why: XdrWhy::NotEnum,
+        }
+    }
 }
 
 /// Memory was wanted and not there.

@@ -57,7 +57,7 @@ impl<'a, T: Message> Items<'a, T> {
 }
 
 /// Goes over so many values.
-fn walk<'a, T: Wire<'a> + Drop>(cursor: &mut Cursor<'a>, count: u32) -> Result<(), XdrError>
+fn walk<'a, T: Wire<'a>>(cursor: &mut Cursor<'a>, count: u32) -> Result<(), XdrError>
     ensures { Walks cursor.old result cursor.new (many_at (λ place. reading T.form cursor.old.bytes place) count cursor.old.at) }
 {
     for _ in 0..count {

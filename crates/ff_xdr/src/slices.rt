@@ -95,6 +95,7 @@ fn padding_end(bytes: &[u8], at: usize, count: usize) -> Result<usize, XdrError>
 pub fn fixed_at(bytes: &[u8], at: usize, count: usize) -> Result<(&[u8], usize), XdrError>
     requires { at ≤ length bytes.now }
     ensures value { Answers (λ s. s.now) result (fixed_at count bytes.now at) }
+    ensures size { IfOk result (λ r. length r.0.now ≡ count) }
     ensures within { EndsWithin (length bytes.now) result }
 {
     if bytes.len() - at < count {

@@ -1,7 +1,8 @@
 //! What every message type has: a form, a meaning, and reading and writing by them.
 
-ghost use Rattle.std.specs.Prelude.{◌↔◌, IsTrue};
-ghost use Rattle.ff_xdr.specs.Form.{Form, Value, Fits, spelling, Number32, Number64, Boolean, Optional};
+ghost use Rattle.std.specs.Prelude.{◌↔◌, IsTrue, refl};
+ghost use Rattle.ff_xdr.specs.Proper.{is_proper, optional_is_proper};
+ghost use Rattle.ff_xdr.specs.Form.{Form, Value, Fits, spelling, Number32, Number64, Hyper, Boolean, Optional};
 ghost use Rattle.std.specs.Option.{option_map};
 ghost use Rattle.ff_xdr.specs.Reading.{reading};
 ghost use Rattle.ff_xdr.specs.Calls.{Gives, Grows, Puts};
@@ -17,10 +18,14 @@ pub trait Message {
 
     /// The plain value of a message: numbers, flags, byte lists and lists of plain values.
     ghost meaning: { Self → Value form };
+
+    /// The grammar is one that the standard knows, with values of each of its parts (RFC 4506, section
+    /// 4), so that all laws of forms hold of it (`every_message_of`).
+    ghost sound: { IsTrue (is_proper form) };
 }
 
 /// A message that is read from a slice and written to an `Out`.
-pub trait Wire<'a>: Message + Sized {
+pub trait Wire<'a>: Message + Drop + Sized {
     /// Reads a message from the cursor's place on. What is read borrows from the cursor's slice.
     /// A refusal names the first byte that no message has there, and leaves the cursor as it was.
     fn read(cursor: &mut Cursor<'a>) -> Result<Self, XdrError>
@@ -55,6 +60,8 @@ impl Message for u32 {
     ghost form = { Number32 };
 
     ghost meaning = { λ n. n };
+
+    ghost sound = { refl };
 }
 
 impl<'a> Wire<'a> for u32 {
@@ -77,6 +84,8 @@ impl Message for u64 {
     ghost form = { Number64 };
 
     ghost meaning = { λ n. n };
+
+    ghost sound = { refl };
 }
 
 impl<'a> Wire<'a> for u64 {
@@ -95,10 +104,36 @@ impl<'a> Wire<'a> for u64 {
     }
 }
 
+impl Message for i64 {
+    ghost form = { Hyper };
+
+    ghost meaning = { λ z. z };
+
+    ghost sound = { refl };
+}
+
+impl<'a> Wire<'a> for i64 {
+    fn read(cursor: &mut Cursor<'a>) -> Result<i64, XdrError> {
+        cursor.hyper()
+    }
+
+    fn put(&self, out: &mut Out) -> Result<(), NoMemory> {
+        out.number64(self.cast_unsigned())?;
+        Ok(())
+    }
+
+    fn fits(&self) -> bool {
+        let _z = *self;
+        true
+    }
+}
+
 impl Message for bool {
     ghost form = { Boolean };
 
     ghost meaning = { λ b. b };
+
+    ghost sound = { refl };
 }
 
 impl<'a> Wire<'a> for bool {
@@ -121,6 +156,8 @@ impl<T: Message> Message for Option<T> {
     ghost form = { Optional T.form };
 
     ghost meaning = { λ o. option_map T.meaning o };
+
+    ghost sound = { optional_is_proper T.form T.sound };
 }
 
 impl<'a, T: Wire<'a>> Wire<'a> for Option<T> {

@@ -1,4 +1,0 @@
-pub mod NotRest
-pub mod WholeCases
-pub mod CallsOfValues
-pub mod RepliesOfValues

@@ -1,16 +1,42 @@
-//! The result of FSINFO (RFC 1813, section 3.3.19).
+//! FSINFO: get what a file system can do (RFC 1813, section 3.3.19).
 
-ghost use Rattle.std.specs.Prelude.{◌↔◌, IsTrue};
-ghost use Rattle.ff_xdr.specs.Calls.{Grows};
-ghost use Rattle.ff_xdr.specs.Form.{Fits, spelling};
-ghost use Rattle.nfs3_wire.specs.Results.{fsinfo_sizes, fsinfo_limits, fsinfo_ok, fsinfo_ok_value, fsinfo_result, fsinfo_reply_value};
+ghost use Rattle.std.specs.Prelude.{refl};
+ghost use Rattle.nfs3_wire.specs.Fsinfo.{fsinfo_args, fsinfo_args_value, fsinfo_ok, fsinfo_ok_value};
 
-use crate::attributes::{Fattr3, Time3};
-use crate::enums::Stat3;
+use crate::{Fattr3, Handle, Outcome, Time3};
 use ff_xdr::{Cursor, Message, NoMemory, Out, Wire, XdrError};
 
-/// The result of an FSINFO that was done, `FSINFO3resok` (RFC 1813, section 3.3.19). The sizes are in
-/// bytes.
+/// The arguments, `FSINFO3args`.
+#[derive(Clone, Copy, Debug, PartialEq, Eq)]
+pub struct FsInfoArgs<'a> {
+    /// The root's handle, at most 64 bytes.
+    pub root: &'a [u8],
+}
+
+impl<'a> Message for FsInfoArgs<'a> {
+    ghost form = { fsinfo_args };
+
+    ghost meaning = { fsinfo_args_value };
+
+    ghost sound = { refl };
+}
+
+impl<'a> Wire<'a> for FsInfoArgs<'a> {
+    fn read(cursor: &mut Cursor<'a>) -> Result<FsInfoArgs<'a>, XdrError> {
+        let parts = <Handle<'a>>::read(cursor)?;
+        Ok(FsInfoArgs { root: parts.bytes })
+    }
+
+    fn put(&self, out: &mut Out) -> Result<(), NoMemory> {
+        Handle { bytes: self.root }.put(out)
+    }
+
+    fn fits(&self) -> bool {
+        Handle { bytes: self.root }.fits()
+    }
+}
+
+/// The result of an FSINFO that was done, `FSINFO3resok`. The sizes are in bytes.
 #[derive(Clone, Copy, Debug, PartialEq, Eq)]
 pub struct FsInfoOk {
     /// The attributes of the root.
@@ -38,87 +64,28 @@ pub struct FsInfoOk {
     pub properties: u32,
 }
 
-impl FsInfoOk {
-    fn put_reads(&self, out: &mut Out) -> Result<(), NoMemory>
-        requires { Fits fsinfo_sizes (fsinfo_ok_value self.now).1.0 }
-        ensures { Grows out.old result out.new (spelling fsinfo_sizes (fsinfo_ok_value self.now).1.0) }
-    {
-        out.number32(self.rtmax)?;
-        out.number32(self.rtpref)?;
-        out.number32(self.rtmult)?;
-        Ok(())
-    }
+/// The sizes of READ and of WRITE.
+type Sizes = ((u32, u32, u32), (u32, u32, u32));
 
-    fn put_writes(&self, out: &mut Out) -> Result<(), NoMemory>
-        requires { Fits fsinfo_sizes (fsinfo_ok_value self.now).1.1.0 }
-        ensures { Grows out.old result out.new (spelling fsinfo_sizes (fsinfo_ok_value self.now).1.1.0) }
-    {
-        out.number32(self.wtmax)?;
-        out.number32(self.wtpref)?;
-        out.number32(self.wtmult)?;
-        Ok(())
-    }
-
-    fn put_limits(&self, out: &mut Out) -> Result<(), NoMemory>
-        requires { Fits fsinfo_limits (fsinfo_ok_value self.now).1.1.1 }
-        ensures { Grows out.old result out.new (spelling fsinfo_limits (fsinfo_ok_value self.now).1.1.1) }
-    {
-        out.number32(self.dtpref)?;
-        out.number64(self.maxfilesize)?;
-        self.time_delta.put(out)?;
-        out.number32(self.properties)?;
-        Ok(())
-    }
-
-    fn reads_fit(&self) -> bool
-        ensures { IsTrue result ↔ Fits fsinfo_sizes (fsinfo_ok_value self.now).1.0 }
-    {
-        let _rtmax = self.rtmax;
-        let _rtpref = self.rtpref;
-        let _rtmult = self.rtmult;
-        true
-    }
-
-    fn writes_fit(&self) -> bool
-        ensures { IsTrue result ↔ Fits fsinfo_sizes (fsinfo_ok_value self.now).1.1.0 }
-    {
-        let _wtmax = self.wtmax;
-        let _wtpref = self.wtpref;
-        let _wtmult = self.wtmult;
-        true
-    }
-
-    fn limits_fit(&self) -> bool
-        ensures { IsTrue result ↔ Fits fsinfo_limits (fsinfo_ok_value self.now).1.1.1 }
-    {
-        let _dtpref = self.dtpref;
-        let _maxfilesize = self.maxfilesize;
-        let _properties = self.properties;
-        self.time_delta.fits()
-    }
-}
+/// What stands behind them.
+type Limits = (u32, u64, (Time3, u32));
 
 impl Message for FsInfoOk {
     ghost form = { fsinfo_ok };
 
     ghost meaning = { fsinfo_ok_value };
+
+    ghost sound = { refl };
 }
 
 impl<'a> Wire<'a> for FsInfoOk {
     fn read(cursor: &mut Cursor<'a>) -> Result<FsInfoOk, XdrError> {
-        let mut fork = cursor.fork();
-        let attributes = Option::<Fattr3>::read(&mut fork)?;
-        let rtmax = fork.number32()?;
-        let rtpref = fork.number32()?;
-        let rtmult = fork.number32()?;
-        let wtmax = fork.number32()?;
-        let wtpref = fork.number32()?;
-        let wtmult = fork.number32()?;
-        let dtpref = fork.number32()?;
-        let maxfilesize = fork.number64()?;
-        let time_delta = Time3::read(&mut fork)?;
-        let properties = fork.number32()?;
-        *cursor = fork;
+        let (attributes, (reads, writes), limits) = <(Option<Fattr3>, Sizes, Limits)>::read(
+            cursor,
+        )?;
+        let (rtmax, rtpref, rtmult) = reads;
+        let (wtmax, wtpref, wtmult) = writes;
+        let (dtpref, maxfilesize, (time_delta, properties)) = limits;
         Ok(FsInfoOk {
             attributes,
             rtmax,
@@ -135,69 +102,37 @@ impl<'a> Wire<'a> for FsInfoOk {
     }
 
     fn put(&self, out: &mut Out) -> Result<(), NoMemory> {
-        self.attributes.put(out)?;
-        self.put_reads(out)?;
-        self.put_writes(out)?;
-        self.put_limits(out)?;
-        Ok(())
+        (
+            self.attributes,
+            (
+                (self.rtmax, self.rtpref, self.rtmult),
+                (self.wtmax, self.wtpref, self.wtmult),
+            ),
+            (
+                self.dtpref,
+                self.maxfilesize,
+                (self.time_delta, self.properties),
+            ),
+        )
+            .put(out)
     }
 
     fn fits(&self) -> bool {
-        self.attributes.fits() && self.reads_fit() && self.writes_fit() && self.limits_fit()
+        (
+            self.attributes,
+            (
+                (self.rtmax, self.rtpref, self.rtmult),
+                (self.wtmax, self.wtpref, self.wtmult),
+            ),
+            (
+                self.dtpref,
+                self.maxfilesize,
+                (self.time_delta, self.properties),
+            ),
+        )
+            .fits()
     }
 }
 
-/// The result of an FSINFO (RFC 1813, section 3.3.19).
-#[derive(Clone, Copy, Debug, PartialEq, Eq)]
-pub enum FsInfoReply {
-    Done(FsInfoOk),
-    /// `FSINFO3resfail`: a status other than OK, and the attributes of the root.
-    Refused {
-        status: Stat3,
-        attributes: Option<Fattr3>,
-    },
-}
-
-impl Message for FsInfoReply {
-    ghost form = { fsinfo_result };
-
-    ghost meaning = { fsinfo_reply_value };
-}
-
-impl<'a> Wire<'a> for FsInfoReply {
-    fn read(cursor: &mut Cursor<'a>) -> Result<FsInfoReply, XdrError> {
-        let mut fork = cursor.fork();
-        if fork.number32()? == 0 {
-            let done = FsInfoOk::read(&mut fork)?;
-            *cursor = fork;
-            return Ok(FsInfoReply::Done(done));
-        }
-        let mut fork = cursor.fork();
-        let status = Stat3::read(&mut fork)?;
-        let attributes = Option::<Fattr3>::read(&mut fork)?;
-        *cursor = fork;
-        Ok(FsInfoReply::Refused { status, attributes })
-    }
-
-    fn put(&self, out: &mut Out) -> Result<(), NoMemory> {
-        match self {
-            FsInfoReply::Done(done) => {
-                out.number32(0)?;
-                done.put(out)?;
-                Ok(())
-            }
-            FsInfoReply::Refused { status, attributes } => {
-                status.put(out)?;
-                attributes.put(out)?;
-                Ok(())
-            }
-        }
-    }
-
-    fn fits(&self) -> bool {
-        match self {
-            FsInfoReply::Done(done) => done.fits(),
-            FsInfoReply::Refused { status, attributes } => status.fits() && attributes.fits(),
-        }
-    }
-}
+/// The result: of a refusal the attributes of the root (`FSINFO3res`).
+pub type FsInfoReply = Outcome<FsInfoOk, Option<Fattr3>>;

@@ -1,25 +1,28 @@
 use Rattle.ff_xdr.proofs.Arms.{arm_again, arm_spelled}
 use Rattle.ff_xdr.proofs.ArmRefusals.{arm_short_at_end, arm_refused_there, no_arm_there, no_arm_whole}
 use Rattle.ff_xdr.proofs.FirstFault.{first_arm_fault}
+use Rattle.ff_xdr.proofs.WholeArms.{whole_arm_again, whole_arm_spelled, whole_arm_short, whole_arm_stops, whole_arm_rest, whole_arm_none, whole_arm_cut, whole_arm_least}
 use Rattle.ff_xdr.proofs.laws.every_arm.Goals as goal
 
-pub returns-clause-again : goal.returns-clause-again
-returns-clause-again c = arm_again
-
-pub returns-clause-spelled : goal.returns-clause-spelled
-returns-clause-spelled c = arm_spelled
-
-pub returns-clause-short : goal.returns-clause-short
-returns-clause-short c = arm_short_at_end
-
-pub returns-clause-stops : goal.returns-clause-stops
-returns-clause-stops c = arm_refused_there
-
-pub returns-clause-none : goal.returns-clause-none
-returns-clause-none c = no_arm_there
-
-pub returns-clause-cut : goal.returns-clause-cut
-returns-clause-cut c = no_arm_whole
-
-pub returns-clause-least : goal.returns-clause-least
-returns-clause-least c = first_arm_fault
+pub returns : goal.returns
+returns c = λ form sound union.
+    let again = arm_again form sound union in
+    let spelled = arm_spelled form sound union in
+    let stops = whole_arm_stops form sound union (arm_refused_there form sound union) in
+    record {
+      again = again;
+      spelled = spelled;
+      short = arm_short_at_end form sound union;
+      stops = arm_refused_there form sound union;
+      none = no_arm_there form sound union;
+      cut = no_arm_whole form sound union;
+      least = λ filled. first_arm_fault form sound filled union;
+      whole_again = whole_arm_again form again;
+      whole_spelled = whole_arm_spelled form spelled;
+      whole_short = whole_arm_short form (arm_short_at_end form sound union);
+      whole_stops = stops;
+      whole_rest = whole_arm_rest form;
+      whole_none = whole_arm_none form again stops;
+      whole_cut = whole_arm_cut form again;
+      whole_least = λ filled. whole_arm_least form spelled (first_arm_fault form sound filled union);
+    }

@@ -1,4 +1,4 @@
--- A value of a union whose number is known from outside, and nothing behind it: the laws of every form.
+-- The laws of a union whose number is known from outside, with nothing behind it.
 use Rattle.std.proofs.Common.{◌≡◌, ℕ, ◌+◌, ◌-◌, ◌≤◌, ◌<◌, Bool, true, false, cond, eqb, ltb, List, [], length, take, Result, Ok, Err, refl, sym, ap, subst, ◌∙◌, append-nil, arith, inl, inr}
 use Rattle.std.specs.Prelude.{IsTrue}
 use Rattle.std.proofs.lemmas.Bool.{false≢true, ltb-false, le-ltb, lt-ltb}
@@ -10,11 +10,12 @@ use Rattle.ff_xdr.specs.Laws.{is_union, behind, EndsShort, StopsThere, IsArmRead
 use Rattle.ff_xdr.specs.Reading.{Read, ◌>>=◌, reading, arm_reading, whole}
 use Rattle.ff_xdr.proofs.Again.{sound_case}
 use Rattle.ff_xdr.proofs.Places.{done, ok_is}
-use Rattle.ff_xdr.proofs.Refusals.{below, seen, seen_case, whole_cases, not_both}
+use Rattle.ff_xdr.proofs.Refusals.{whole_cases, not_both}
+use Rattle.ff_xdr.proofs.ArmRefusals.{arm_seen}
 use Rattle.ff_xdr.proofs.Seen.{Seen, Took, end_of, same_byte}
 use Rattle.ff_xdr.proofs.Sequences.{take_less}
-use Rattle.nfs3_wire.proofs.NotRest.{never_rest}
-use Rattle.nfs3_wire.specs.Laws.{whole_case, IsReadAgain, IsSpelledSo, HasRestJustWhere, HasNoneThere, HasNoneWhole, IsFirstFault}
+use Rattle.ff_xdr.proofs.NotRest.{never_rest}
+use Rattle.ff_xdr.specs.WholeArms.{whole_arm, IsWholeArmReadAgain, IsWholeArmSpelledSo, HasArmRestJustWhere, HasNoWholeArmThere, HasNoWholeArm, IsFirstWholeArmFault}
 
 -- ---- a value and nothing behind it
 
@@ -41,39 +42,31 @@ whole_ok {M} bytes (Ok x) v is = by_case (ltb x.1 (length bytes)) refl is
 
 -- ---- the laws of every form
 
--- a reading of an arm depends on no byte behind it
-arm_seen : (form : Form) → IsTrue (is_sound form) → IsTrue (is_union form) → (n : ℕ) (bytes : List ℕ) (at : ℕ) → Seen end_of at (λ b. arm_reading form n b at) bytes (arm_reading form n bytes at)
-arm_seen (Arm number body others) sound union n bytes at =
-    let sounds = sound_case number body others sound in
-    seen_case at (eqb n number) (λ b. reading body b at) (λ b. arm_reading others n b at) bytes (below body bytes at (seen body sounds.2 bytes at)) (arm_seen others sounds.3 union n bytes at)
-arm_seen NoArm sound union n bytes at = below NoArm bytes at (seen NoArm sound bytes at)
-arm_seen _ sound union n bytes at = absurd (false≢true union)
-
-pub case_again : (form : Form) → IsArmReadAgain form → (v : Value form) → IsReadAgain form v
-case_again form again v fits =
+pub whole_arm_again : (form : Form) → IsArmReadAgain form → (v : Value form) → IsWholeArmReadAgain form v
+whole_arm_again form again v fits =
     let text = arm_spelling form v in
     let size : 0 + length text ≡ length text = omega arith in
     let read : arm_reading form (arm_of form v) text 0 ≡ Ok (v, 0 + length text) = subst (λ (t : List ℕ). arm_reading form (arm_of form v) t 0 ≡ Ok (v, 0 + length text)) (append-nil text) (again v [] [] fits) in
     whole_all text (v, 0 + length text) (arm_reading form (arm_of form v) text 0) read size
 
-pub case_spelled : (form : Form) → IsArmSpelledSo form → (v : Value form) → IsSpelledSo form v
-case_spelled form spelled v = λ n bytes is_bytes e.
+pub whole_arm_spelled : (form : Form) → IsArmSpelledSo form → (v : Value form) → IsWholeArmSpelledSo form v
+whole_arm_spelled form spelled v = λ n bytes is_bytes e.
     let w = whole_ok bytes (arm_reading form n bytes 0) v e in
     let got = spelled n bytes 0 v w.0 is_bytes (omega arith) w.1 in
     let text = arm_spelling form v in
     let size : length text ≡ length bytes = omega (arith, w.2, got.2.ends, got.2.within) in
     (got.0, got.1, sym (take_all (length text) bytes (omega (arith, size))) ∙ got.2.stands)
 
-pub case_short : (form : Form) → IsArmShortAtEnd form → (n : ℕ) → EndsShort (whole_case form n)
-case_short form short n = λ bytes e is why. elim (whole_cases bytes (arm_reading form n bytes 0) e is) [
+pub whole_arm_short : (form : Form) → IsArmShortAtEnd form → (n : ℕ) → EndsShort (whole_arm form n)
+whole_arm_short form short n = λ bytes e is why. elim (whole_cases bytes (arm_reading form n bytes 0) e is) [
   | inl refusal ↦ short n 0 bytes e refusal why
   | inr rest ↦
       let rest-why : e.why ≡ Rest = ap (λ (d : XdrError). d.why) rest.refusal in
       absurd cc
 ]
 
-pub case_stops : (form : Form) → IsTrue (is_sound form) → IsTrue (is_union form) → IsArmRefusedThere form → (n : ℕ) → StopsThere (whole_case form n)
-case_stops form sound union stops n = λ bytes more e is other same. elim (whole_cases bytes (arm_reading form n bytes 0) e is) [
+pub whole_arm_stops : (form : Form) → IsTrue (is_sound form) → IsTrue (is_union form) → IsArmRefusedThere form → (n : ℕ) → StopsThere (whole_arm form n)
+whole_arm_stops form sound union stops n = λ bytes more e is other same. elim (whole_cases bytes (arm_reading form n bytes 0) e is) [
   | inl refusal ↦ ap (λ (r : Read (Value form)). whole more r) (stops n 0 bytes more e refusal other same)
   | inr rest ↦
       let ends : behind e ≡ rest.value.1 + 1 = ap (λ (d : XdrError). behind d) rest.refusal in
@@ -87,8 +80,8 @@ case_stops form sound union stops n = λ bytes more e is other same. elim (whole
 abbrev HasRest : Form → ℕ → List ℕ → ℕ → Type 0
 HasRest form n bytes place = (v : Value form) × (arm_reading form n bytes 0 ≡ Ok (v, place)) × (place < length bytes)
 
-pub case_rest : (form : Form) → HasRestJustWhere form
-case_rest form = λ n bytes place. (
+pub whole_arm_rest : (form : Form) → HasArmRestJustWhere form
+whole_arm_rest form = λ n bytes place. (
   λ is. elim (whole_cases bytes (arm_reading form n bytes 0) (record { place = place; why = Rest }) is) [
     | inl refusal ↦ absurd (never_rest form n bytes 0 (record { place = place; why = Rest }) refusal refl)
     | inr rest ↦
@@ -98,20 +91,20 @@ case_rest form = λ n bytes place. (
   λ h. whole_rest bytes (h.0, place) (arm_reading form n bytes 0) h.1 h.2,
 )
 
-pub case_none : (form : Form) → IsArmReadAgain form → ((n : ℕ) → StopsThere (whole_case form n)) → HasNoneThere form
-case_none form again stops = λ n bytes e is other v fits arm same.
+pub whole_arm_none : (form : Form) → IsArmReadAgain form → ((n : ℕ) → StopsThere (whole_arm form n)) → HasNoWholeArmThere form
+whole_arm_none form again stops = λ n bytes e is other v fits arm same.
     let text = arm_spelling form v in
-    let value : whole_case form n text ≡ Ok v = subst (λ (k : ℕ). whole_case form k text ≡ Ok v) arm (case_again form again v fits) in
-    not_both (whole_case form n text) e v (stops n bytes text e is other (sym same)) value
+    let value : whole_arm form n text ≡ Ok v = subst (λ (k : ℕ). whole_arm form k text ≡ Ok v) arm (whole_arm_again form again v fits) in
+    not_both (whole_arm form n text) e v (stops n bytes text e is other (sym same)) value
 
-pub case_cut : (form : Form) → IsArmReadAgain form → HasNoneWhole form
-case_cut form again = λ n bytes e is v fits arm same.
+pub whole_arm_cut : (form : Form) → IsArmReadAgain form → HasNoWholeArm form
+whole_arm_cut form again = λ n bytes e is v fits arm same.
     let text = arm_spelling form v in
-    let value : whole_case form n text ≡ Ok v = subst (λ (k : ℕ). whole_case form k text ≡ Ok v) arm (case_again form again v fits) in
-    not_both (whole_case form n text) e v (subst (λ (b : List ℕ). whole_case form n b ≡ Err e) same is) value
+    let value : whole_arm form n text ≡ Ok v = subst (λ (k : ℕ). whole_arm form k text ≡ Ok v) arm (whole_arm_again form again v fits) in
+    not_both (whole_arm form n text) e v (subst (λ (b : List ℕ). whole_arm form n b ≡ Err e) same is) value
 
-pub case_least : (form : Form) → IsArmSpelledSo form → IsFirstArmFault form → IsFirstFault form
-case_least form spelled least = λ n bytes e has is_bytes is other. elim (whole_cases bytes (arm_reading form n bytes 0) e is) [
+pub whole_arm_least : (form : Form) → IsArmSpelledSo form → IsFirstArmFault form → IsFirstWholeArmFault form
+whole_arm_least form spelled least = λ n bytes e has is_bytes is other. elim (whole_cases bytes (arm_reading form n bytes 0) e is) [
   | inl refusal ↦ least n bytes 0 e has is_bytes (omega arith) refusal other
   | inr rest ↦
       let got = spelled n bytes 0 rest.value.0 rest.value.1 is_bytes (omega arith) rest.read in

@@ -1,9 +1,9 @@
 //! The attributes that a call sets (RFC 1813, section 2.5).
 
-ghost use Rattle.nfs3_wire.specs.Attributes.{set_time, set_time_value, sattr3, sattr3_value};
+ghost use Rattle.std.specs.Prelude.{refl};
+ghost use Rattle.nfs3_wire.specs.Sattr.{set_time, set_time_value, sattr3, sattr3_value};
 
 use crate::attributes::Time3;
-use crate::enums::not_enum;
 use ff_xdr::{Cursor, Message, NoMemory, Out, Wire, XdrError};
 
 /// What becomes of a time in a SETATTR or a CREATE, `set_atime` and `set_mtime`.
@@ -18,6 +18,8 @@ impl Message for SetTime {
     ghost form = { set_time };
 
     ghost meaning = { set_time_value };
+
+    ghost sound = { refl };
 }
 
 impl<'a> Wire<'a> for SetTime {
@@ -26,11 +28,8 @@ impl<'a> Wire<'a> for SetTime {
         let set = match fork.number32()? {
             0 => SetTime::Keep,
             1 => SetTime::Server,
-            2 => {
-                let time = Time3::read(&mut fork)?;
-                SetTime::Client(time)
-            }
-            _ => return Err(not_enum(cursor.place())),
+            2 => SetTime::Client(Time3::read(&mut fork)?),
+            _ => return Err(XdrError::not_enum(cursor.place())),
         };
         *cursor = fork;
         Ok(set)
@@ -38,19 +37,9 @@ impl<'a> Wire<'a> for SetTime {
 
     fn put(&self, out: &mut Out) -> Result<(), NoMemory> {
         match self {
-            SetTime::Keep => {
-                out.number32(0)?;
-                Ok(())
-            }
-            SetTime::Server => {
-                out.number32(1)?;
-                Ok(())
-            }
-            SetTime::Client(time) => {
-                out.number32(2)?;
-                time.put(out)?;
-                Ok(())
-            }
+            SetTime::Keep => (0u32, ()).put(out),
+            SetTime::Server => (1u32, ()).put(out),
+            SetTime::Client(time) => (2u32, *time).put(out),
         }
     }
 
@@ -79,18 +68,17 @@ impl Message for Sattr3 {
     ghost form = { sattr3 };
 
     ghost meaning = { sattr3_value };
+
+    ghost sound = { refl };
 }
 
 impl<'a> Wire<'a> for Sattr3 {
     fn read(cursor: &mut Cursor<'a>) -> Result<Sattr3, XdrError> {
-        let mut fork = cursor.fork();
-        let mode = Option::<u32>::read(&mut fork)?;
-        let uid = Option::<u32>::read(&mut fork)?;
-        let gid = Option::<u32>::read(&mut fork)?;
-        let size = Option::<u64>::read(&mut fork)?;
-        let atime = SetTime::read(&mut fork)?;
-        let mtime = SetTime::read(&mut fork)?;
-        *cursor = fork;
+        let (mode, uid, (gid, size, (atime, mtime))) = <(
+            Option<u32>,
+            Option<u32>,
+            (Option<u32>, Option<u64>, (SetTime, SetTime)),
+        )>::read(cursor)?;
         Ok(Sattr3 {
             mode,
             uid,
@@ -102,21 +90,20 @@ impl<'a> Wire<'a> for Sattr3 {
     }
 
     fn put(&self, out: &mut Out) -> Result<(), NoMemory> {
-        self.mode.put(out)?;
-        self.uid.put(out)?;
-        self.gid.put(out)?;
-        self.size.put(out)?;
-        self.atime.put(out)?;
-        self.mtime.put(out)?;
-        Ok(())
+        (
+            self.mode,
+            self.uid,
+            (self.gid, self.size, (self.atime, self.mtime)),
+        )
+            .put(out)
     }
 
     fn fits(&self) -> bool {
-        self.mode.fits()
-            && self.uid.fits()
-            && self.gid.fits()
-            && self.size.fits()
-            && self.atime.fits()
-            && self.mtime.fits()
+        (
+            self.mode,
+            self.uid,
+            (self.gid, self.size, (self.atime, self.mtime)),
+        )
+            .fits()
     }
 }
