@@ -13,3 +13,6 @@ pub mod ArmRefusals
 pub mod Begun
 pub mod FirstFault
 pub mod NotRest
+pub mod Stopped
+pub mod StoppedText
+pub mod StoppedForms
