@@ -16,3 +16,4 @@ pub mod NotRest
 pub mod Stopped
 pub mod StoppedText
 pub mod StoppedForms
+pub mod Named

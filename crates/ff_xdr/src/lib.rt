@@ -8,6 +8,7 @@ mod items;
 mod laws;
 mod out;
 mod place;
+mod refusal_laws;
 mod slices;
 #[cfg(test)]
 mod tests;
@@ -20,4 +21,5 @@ pub use error::{NoMemory, XdrError, XdrWhy};
 pub use items::Items;
 pub use laws::{every_arm, every_form};
 pub use out::Out;
+pub use refusal_laws::every_refusal;
 pub use wire::{Message, Wire};

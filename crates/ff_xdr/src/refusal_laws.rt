@@ -1,0 +1,13 @@
+ghost use Rattle.std.specs.Prelude.{IsTrue};
+ghost use Rattle.ff_xdr.specs.Form.{Form, is_sound};
+ghost use Rattle.ff_xdr.specs.Laws.{is_filled};
+ghost use Rattle.ff_xdr.specs.Faults.{IsNamedRight};
+
+/// What a refusal says is so, of every form (RFC 4506).
+///
+/// A refusal that is not for want of bytes has the fault that it names: some value has the bytes up to
+/// the refused place, and there an item, as the word of a bool, a discriminant, a length, a byte of
+/// padding or a sequence of a string, of which what stands in the bytes is none.
+pub fn every_refusal()
+    ensures named { (form : Form) → IsTrue (is_sound form) → IsTrue (is_filled form) → IsNamedRight form }
+{}
