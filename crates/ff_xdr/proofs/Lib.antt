@@ -17,3 +17,4 @@ pub mod Stopped
 pub mod StoppedText
 pub mod StoppedForms
 pub mod Named
+pub mod NotBuilt
