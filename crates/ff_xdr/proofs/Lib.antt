@@ -18,3 +18,4 @@ pub mod StoppedText
 pub mod StoppedForms
 pub mod Named
 pub mod NotBuilt
+pub mod TextBegins

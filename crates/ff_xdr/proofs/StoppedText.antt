@@ -124,10 +124,10 @@ same_truth true b f g = sym (f refl)
 same_truth false true f g = absurd (false≢true (g refl))
 same_truth false false f g = refl
 
-rest_utf8 : (u rest : List ℕ) → IsUtf8 u → IsUtf8 (u ++ rest) → IsUtf8 rest
+pub rest_utf8 : (u rest : List ℕ) → IsUtf8 u → IsUtf8 (u ++ rest) → IsUtf8 rest
 rest_utf8 u rest front whole = rest_encodes front.0 whole.0 rest whole.1.0 (ap (λ (t : List ℕ). t ++ rest) front.1.1 ∙ sym whole.1.1)
 
-take_behind : (u rest : List ℕ) (k : ℕ) → take (length u + k) (u ++ rest) ≡ u ++ take k rest
+pub take_behind : (u rest : List ℕ) (k : ℕ) → take (length u + k) (u ++ rest) ≡ u ++ take k rest
 take_behind u rest k = rw (take-add (length u) k (u ++ rest), take_at u rest (length u) refl, drop_at u rest (length u) refl) refl
 
 -- behind a text the longest beginning is longer by it
