@@ -121,7 +121,7 @@ zero_stands bytes at lt e =
       within = omega arith;
     }
 
-zero_is : (bytes : List ℕ) (at to : ℕ) → Stands bytes at (0 ∷ []) to → get_or bytes at 0 ≡ 0
+pub zero_is : (bytes : List ℕ) (at to : ℕ) → Stands bytes at (0 ∷ []) to → get_or bytes at 0 ≡ 0
 zero_is bytes at to s =
     let lt : at < length bytes = omega (arith, s.ends, s.within) in
     let one : get_or bytes at 0 ∷ [] ≡ 0 ∷ [] = sym (ap (λ (t : List ℕ). take 1 t) (drop_more bytes at 0 lt)) ∙ s.stands in

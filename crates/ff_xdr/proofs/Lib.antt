@@ -19,3 +19,5 @@ pub mod StoppedForms
 pub mod Named
 pub mod NotBuilt
 pub mod TextBegins
+pub mod CutShort
+pub mod CutForms

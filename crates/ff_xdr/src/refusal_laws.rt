@@ -1,13 +1,19 @@
 ghost use Rattle.std.specs.Prelude.{IsTrue};
 ghost use Rattle.ff_xdr.specs.Form.{Form, is_sound};
 ghost use Rattle.ff_xdr.specs.Laws.{is_filled};
-ghost use Rattle.ff_xdr.specs.Faults.{IsNamedRight};
+ghost use Rattle.ff_xdr.specs.Faults.{IsNamedRight, IsShortJustWhere};
+ghost use Rattle.ff_xdr.specs.Unbuilt.{IsUnbuiltRight};
 
 /// What a refusal says is so, of every form (RFC 4506).
 ///
 /// A refusal that is not for want of bytes has the fault that it names: some value has the bytes up to
-/// the refused place, and there an item, as the word of a bool, a discriminant, a length, a byte of
-/// padding or a sequence of a string, of which what stands in the bytes is none.
+/// the refused place, and there an item (the word of a bool, a discriminant, a length, a byte of padding
+/// or a sequence of a string) of which what stands in the bytes is none. Bytes are short just where they
+/// end in a value: they are its beginning, and not all of it, or its beginning up to an item that they
+/// end in. A number that no value has is refused where a union's arm is not built, and in a form that
+/// has no enum only there.
 pub fn every_refusal()
     ensures named { (form : Form) → IsTrue (is_sound form) → IsTrue (is_filled form) → IsNamedRight form }
+    ensures short { (form : Form) → IsTrue (is_sound form) → IsTrue (is_filled form) → IsShortJustWhere form }
+    ensures unbuilt { (form : Form) → IsUnbuiltRight form }
 {}

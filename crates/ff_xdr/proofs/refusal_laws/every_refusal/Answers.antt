@@ -1,5 +1,13 @@
 use Rattle.ff_xdr.proofs.Named.{named_right}
+use Rattle.ff_xdr.proofs.CutForms.{short_just_where}
+use Rattle.ff_xdr.proofs.NotBuilt.{unbuilt_right}
 use Rattle.ff_xdr.proofs.refusal_laws.every_refusal.Goals as goal
 
-pub returns : goal.returns
-returns c = record { named = named_right }
+pub returns-clause-named : goal.returns-clause-named
+returns-clause-named c = named_right
+
+pub returns-clause-short : goal.returns-clause-short
+returns-clause-short c = short_just_where
+
+pub returns-clause-unbuilt : goal.returns-clause-unbuilt
+returns-clause-unbuilt c = unbuilt_right
