@@ -21,3 +21,4 @@ pub mod NotBuilt
 pub mod TextBegins
 pub mod CutShort
 pub mod CutForms
+pub mod ArmFaults

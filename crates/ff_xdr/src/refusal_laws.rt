@@ -1,7 +1,7 @@
 ghost use Rattle.std.specs.Prelude.{IsTrue};
 ghost use Rattle.ff_xdr.specs.Form.{Form, is_sound};
-ghost use Rattle.ff_xdr.specs.Laws.{is_filled};
-ghost use Rattle.ff_xdr.specs.Faults.{IsNamedRight, IsShortJustWhere};
+ghost use Rattle.ff_xdr.specs.Laws.{is_filled, is_union};
+ghost use Rattle.ff_xdr.specs.Faults.{IsNamedRight, IsShortJustWhere, IsArmNamedRight, IsArmShortJustWhere};
 ghost use Rattle.ff_xdr.specs.Unbuilt.{IsUnbuiltRight};
 
 /// What a refusal says is so, of every form (RFC 4506).
@@ -15,5 +15,7 @@ ghost use Rattle.ff_xdr.specs.Unbuilt.{IsUnbuiltRight};
 pub fn every_refusal()
     ensures named { (form : Form) → IsTrue (is_sound form) → IsTrue (is_filled form) → IsNamedRight form }
     ensures short { (form : Form) → IsTrue (is_sound form) → IsTrue (is_filled form) → IsShortJustWhere form }
+    ensures arm_named { (form : Form) → IsTrue (is_sound form) → IsTrue (is_filled form) → IsTrue (is_union form) → IsArmNamedRight form }
+    ensures arm_short { (form : Form) → IsTrue (is_sound form) → IsTrue (is_filled form) → IsTrue (is_union form) → IsArmShortJustWhere form }
     ensures unbuilt { (form : Form) → IsUnbuiltRight form }
 {}

@@ -1,5 +1,6 @@
 use Rattle.ff_xdr.proofs.Named.{named_right}
 use Rattle.ff_xdr.proofs.CutForms.{short_just_where}
+use Rattle.ff_xdr.proofs.ArmFaults.{arm_named_right, arm_short_just_where}
 use Rattle.ff_xdr.proofs.NotBuilt.{unbuilt_right}
 use Rattle.ff_xdr.proofs.refusal_laws.every_refusal.Goals as goal
 
@@ -8,6 +9,12 @@ returns-clause-named c = named_right
 
 pub returns-clause-short : goal.returns-clause-short
 returns-clause-short c = short_just_where
+
+pub returns-clause-arm_named : goal.returns-clause-arm_named
+returns-clause-arm_named c = arm_named_right
+
+pub returns-clause-arm_short : goal.returns-clause-arm_short
+returns-clause-arm_short c = arm_short_just_where
 
 pub returns-clause-unbuilt : goal.returns-clause-unbuilt
 returns-clause-unbuilt c = unbuilt_right
