@@ -1,20 +1,20 @@
 -- Refusals of a union whose number is known from outside.
-use Rattle.std.proofs.Common.{◌≡◌, ℕ, ◌+◌, ◌-◌, ◌≤◌, true, false, ◌||◌, eqb, List, [], length, Ok, Err, refl, sym, ap, append-nil, arith, inl, inr}
-use Rattle.std.specs.Prelude.{IsTrue, ◌⊎◌}
+use Rattle.std.proofs.Common.{◌≡◌, ℕ, ◌-◌, ◌≤◌, true, ◌||◌, eqb, List, [], length, Err, refl, sym, append-nil, inl, inr}
+use Rattle.std.specs.Prelude.{IsTrue}
 use Rattle.std.proofs.lemmas.Bool.{and_parts, or_cases, eqb-true, eq-eqb, both_ways, false≢true}
 use Rattle.ff_xdr.specs.declared.error.XdrError.{XdrError}
 use Rattle.ff_xdr.specs.declared.error.XdrWhy.TheVariants.{Short}
 use Rattle.ff_xdr.specs.Form.{Form, Arm, NoArm, Value, Fits, spelling, is_sound, arm_spelling, arm_of, has_arm}
-use Rattle.ff_xdr.specs.Laws.{IsBytes, Stands, is_end, is_filled, is_union}
+use Rattle.ff_xdr.specs.Laws.{IsBytes, is_end, is_filled, is_union}
 use Rattle.ff_xdr.specs.Reading.{reading, arm_reading}
-use Rattle.ff_xdr.specs.Faults.{Item, IsItemAt, IsItemOfArm, EndsInArm, IsArmNamedRight, IsArmShortJustWhere}
+use Rattle.ff_xdr.specs.Faults.{IsItemAt, IsItemOfArm, EndsInArm, IsArmNamedRight, IsArmShortJustWhere}
 use Rattle.ff_xdr.proofs.Again.{sound_case}
 use Rattle.ff_xdr.proofs.FirstFault.{case_err, no_arm_at_end}
 use Rattle.ff_xdr.proofs.Arms.{arm_apart}
 use Rattle.ff_xdr.proofs.Stopped.{Stopped, stopped_first}
 use Rattle.ff_xdr.proofs.StoppedForms.{stopped_in}
 use Rattle.ff_xdr.proofs.Named.{fault_from, end_from}
-use Rattle.ff_xdr.proofs.CutShort.{IsShort, short_bind, Ends}
+use Rattle.ff_xdr.proofs.CutShort.{IsShort, Ends}
 use Rattle.ff_xdr.proofs.CutForms.{cut_in, ending_of}
 
 -- a value of the arm begins with the bytes up to where the reading stops

@@ -1,19 +1,18 @@
 -- Bytes that end in a value are short, of every form.
-use Rattle.std.proofs.Common.{◌≡◌, ℕ, zero, suc, ◌+◌, ◌-◌, ◌^◌, ◌<◌, ◌≤◌, Bool, true, false, not, ◌&&◌, cond, eqb, ltb, List, [], ◌∷◌, ◌++◌, length, take, Some, None, Ok, Err, refl, sym, ap, subst, ◌∙◌, append_assoc, append-nil, arith, inl, inr}
+use Rattle.std.proofs.Common.{◌≡◌, ℕ, ◌+◌, ◌-◌, ◌^◌, ◌<◌, ◌≤◌, true, false, not, cond, eqb, ltb, List, [], ◌∷◌, ◌++◌, length, take, Some, None, Ok, Err, refl, sym, ap, subst, ◌∙◌, append_assoc, append-nil, arith, inl, inr}
 use Rattle.std.specs.Prelude.{IsTrue, ◌⊎◌}
 use Rattle.std.specs.Int.{w32, w64, cast_unsigned}
 use Rattle.std.specs.List.{AllByRecursion, list_any, flat_map}
 use Rattle.std.proofs.lemmas.Bool.{and_parts, not-true, both_ways, eq-eqb, ne_eqb, ltb-true, cases_lt, false≢true}
 use Rattle.std.proofs.lemmas.List.{length-append}
 use Rattle.ff_xdr.specs.declared.error.XdrWhy.TheVariants.{Short, NotEnum}
-use Rattle.ff_xdr.specs.Form.{Form, Void, Number32, Number64, Hyper, Boolean, Enum, Optional, Fixed, Opaque, Text, Pair, Array, Arm, NoArm, Default, Value, Fits, spelling, avoids, is_sound, word, long, padded}
+use Rattle.ff_xdr.specs.Form.{Form, Void, Number32, Number64, Hyper, Boolean, Enum, Optional, Fixed, Opaque, Text, Pair, Array, Arm, NoArm, Default, Value, Fits, spelling, avoids, is_sound, word, padded}
 use Rattle.ff_xdr.specs.Laws.{Stands, is_filled}
 use Rattle.ff_xdr.specs.Reading.{Read, ◌>>=◌, number_at, fixed_at, length_at, flag_at, reading, many_at, optional_at, arm_at}
-use Rattle.ff_xdr.specs.Faults.{Item, Truth, Choice, Length, IsFront, IsBehind, IsItemIn, IsItemAt, IsPaddingOf, IsSequenceOf, IsCut, EndsInValue, IsShortJustWhere}
+use Rattle.ff_xdr.specs.Faults.{Item, Truth, Choice, Length, IsFront, IsBehind, IsItemIn, IsItemAt, IsCut, EndsInValue, IsShortJustWhere}
 use Rattle.ff_xdr.proofs.Again.{sound_case, enum_below, again_where}
-use Rattle.ff_xdr.proofs.Places.{stands_first}
 use Rattle.ff_xdr.proofs.Fields.{length-word, word_again, length_again, flag_again}
-use Rattle.ff_xdr.proofs.StoppedText.{length-padded, text_items}
+use Rattle.ff_xdr.proofs.StoppedText.{length-padded}
 use Rattle.ff_xdr.proofs.StoppedForms.{front_item, front_size}
 use Rattle.ff_xdr.proofs.Named.{short_ends}
 use Rattle.ff_xdr.proofs.CutShort.{IsShort, short_bind, IsCutAt, Ends, ends_first, ends_second, behind_is, IsWordItem, front_cut, number_short, word_short, hyper_short, long_cut, flag_short, length_short, word_cut, fixed_cut, opaque_cut, text_cut}
@@ -71,17 +70,17 @@ module _ {M : Type 0} (each : ℕ → Read M) (spell : M → List ℕ) (P : M �
       elim (cases_lt k (length (spell v))) [
         | inl less ↦
             let first = ends_first (spell v) (flat_map spell vs) (λ j item. IsItemIn spell (λ w i. items w i item) (v ∷ vs) j) (items v) bytes at k less
-                (λ item has. elim has [
-                  | inl here ↦ here
-                  | inr behind ↦ absurd (omega (arith, behind.1, less))
-                ]) h in
+            (λ item has. elim has [
+              | inl here ↦ here
+              | inr behind ↦ absurd (omega (arith, behind.1, less))
+            ]) h in
             short_bind bytes (each at) (λ first. many_at each (length vs) first.1 >>= λ others. Ok (first.0 ∷ others.0, others.1)) (cut v at k fit.0 first)
         | inr past ↦
             let both = ends_second (spell v) (flat_map spell vs) (λ j item. IsItemIn spell (λ w i. items w i item) (v ∷ vs) j) (λ j item. IsItemIn spell (λ w i. items w i item) vs j) bytes at k past
-                (λ item has. elim has [
-                  | inl here ↦ absurd (omega (arith, within v k item here, past))
-                  | inr behind ↦ behind_is (length (spell v)) k (λ j. IsItemIn spell (λ w i. items w i item) vs j) behind
-                ]) h in
+            (λ item has. elim has [
+              | inl here ↦ absurd (omega (arith, within v k item here, past))
+              | inr behind ↦ behind_is (length (spell v)) k (λ j. IsItemIn spell (λ w i. items w i item) vs j) behind
+            ]) h in
             let read = again v at (at + length (spell v)) fit.0 both.0 in
             let others = many_cut again cut within vs (at + length (spell v)) (k - length (spell v)) fit.1 both.1 in
             rw (read, others) refl
@@ -158,10 +157,10 @@ module _ (n : ℕ) (inner : List ℕ) (outer within : ℕ → Item → Type 0) (
         | inr all ↦
             let size = length-word n in
             let both = ends_second (word n) inner outer within bytes at k (omega (arith, size, all))
-                (λ item has. elim (lift item has) [
-                  | inl front ↦ absurd (omega (arith, front.0, all))
-                  | inr behind ↦ subst (λ (i : ℕ). within (k - i) item) (sym size) (behind_is 4 k (λ j. within j item) behind)
-                ]) h in
+            (λ item has. elim (lift item has) [
+              | inl front ↦ absurd (omega (arith, front.0, all))
+              | inr behind ↦ subst (λ (i : ℕ). within (k - i) item) (sym size) (behind_is 4 k (λ j. within j item) behind)
+            ]) h in
             inr (subst (λ (i : ℕ). Stands bytes at (word n) (at + i) × Ends bytes (at + i) inner within (k - i)) size both)
       ]
 
@@ -206,17 +205,17 @@ cut_in (Pair first second) sound (a, b) fits bytes at k h =
     elim (cases_lt k (length (spelling first a))) [
       | inl less ↦
           let left = ends_first (spelling first a) (spelling second b) (λ j item. IsItemAt (Pair first second) (a, b) j item) (λ j item. IsItemAt first a j item) bytes at k less
-              (λ item has. elim has [
-                | inl here ↦ here
-                | inr behind ↦ absurd (omega (arith, behind.1, less))
-              ]) h in
+          (λ item has. elim has [
+            | inl here ↦ here
+            | inr behind ↦ absurd (omega (arith, behind.1, less))
+          ]) h in
           short_bind bytes (reading first bytes at) (λ a. reading second bytes a.1 >>= λ b. Ok ((a.0, b.0), b.1)) (cut_in first sounds.0 a fits.0 bytes at k left)
       | inr past ↦
           let both = ends_second (spelling first a) (spelling second b) (λ j item. IsItemAt (Pair first second) (a, b) j item) (λ j item. IsItemAt second b j item) bytes at k past
-              (λ item has. elim has [
-                | inl here ↦ absurd (omega (arith, item_within first sounds.0 a k item here, past))
-                | inr behind ↦ behind_is (length (spelling first a)) k (λ j. IsItemAt second b j item) behind
-              ]) h in
+          (λ item has. elim has [
+            | inl here ↦ absurd (omega (arith, item_within first sounds.0 a k item here, past))
+            | inr behind ↦ behind_is (length (spelling first a)) k (λ j. IsItemAt second b j item) behind
+          ]) h in
           let read = again_where first sounds.0 a bytes at (at + length (spelling first a)) fits.0 both.0 in
           let rest = cut_in second sounds.1 b fits.1 bytes (at + length (spelling first a)) (k - length (spelling first a)) both.1 in
           rw (read, rest) refl
@@ -233,8 +232,8 @@ cut_in (Array max each) sound vs fits bytes at k h =
       | inr both ↦
           let count = length_again max bytes at (length vs) (at + 4) (ltb-true max (2 ^ 32) sounds.0) fits.0 both.0 in
           let read = many_cut (λ place. reading each bytes place) spell (λ v. Fits each v) (λ v i item. IsItemAt each v i item) bytes
-              (λ v place to fit s. again_where each sounds.1 v bytes place to fit s) (λ v place j fit e. cut_in each sounds.1 v fit bytes place j e) (λ v i item has. item_within each sounds.1 v i item has)
-              vs (at + 4) (k - 4) fits.1 both.1 in
+          (λ v place to fit s. again_where each sounds.1 v bytes place to fit s) (λ v place j fit e. cut_in each sounds.1 v fit bytes place j e) (λ v i item has. item_within each sounds.1 v i item has)
+          vs (at + 4) (k - 4) fits.1 both.1 in
           rw (count, read) refl
     ]
 cut_in (Arm number body others) sound (inl v) fits bytes at k h =

@@ -1,18 +1,18 @@
 -- Bytes that end in a value are short: words, bytes and texts.
-use Rattle.std.proofs.Common.{◌≡◌, ℕ, zero, suc, ◌+◌, ◌-◌, ◌^◌, ◌<◌, ◌≤◌, Bool, true, false, cond, eqb, ltb, List, [], ◌∷◌, ◌++◌, length, get_or, take, drop, replicate, Result, Ok, Err, refl, sym, ap, subst, ◌∙◌, arith, inl, inr}
+use Rattle.std.proofs.Common.{◌≡◌, ℕ, zero, suc, ◌+◌, ◌-◌, ◌^◌, ◌<◌, ◌≤◌, true, false, cond, eqb, ltb, List, [], ◌∷◌, ◌++◌, length, get_or, take, drop, replicate, Result, Ok, Err, refl, sym, ap, subst, ◌∙◌, arith, inl, inr}
 use Rattle.std.specs.Prelude.{◌⊎◌}
-use Rattle.std.specs.Int.{Width, w32, w64, byte_len, from_be_bytes, cast_signed}
+use Rattle.std.specs.Int.{Width, w32, w64, byte_len, cast_signed}
 use Rattle.std.specs.Str.{is_utf8, IsUtf8}
 use Rattle.std.specs.Str.Lossy.{utf8_valid_len}
 use Rattle.std.proofs.lemmas.Str.{IsUtf8-from_is_utf8}
-use Rattle.std.proofs.lemmas.Bool.{ltb-true, lt-ltb, le-ltb, eq-eqb, cases_lt}
-use Rattle.std.proofs.lemmas.List.{length-take, length-take-le, length-drop, length-append, length-replicate, take_at, take_all, take-append-le, take-append-drop, drop-drop}
+use Rattle.std.proofs.lemmas.Bool.{lt-ltb, le-ltb, eq-eqb, cases_lt}
+use Rattle.std.proofs.lemmas.List.{length-take-le, length-drop, length-append, take_all, take-append-le, take-append-drop, drop-drop}
 use Rattle.ff_xdr.specs.declared.error.XdrError.{XdrError}
-use Rattle.ff_xdr.specs.declared.error.XdrWhy.TheVariants.{Short, Pad, NotUtf8}
+use Rattle.ff_xdr.specs.declared.error.XdrWhy.TheVariants.{Short, NotUtf8}
 use Rattle.ff_xdr.specs.Form.{word, long, pad_len, padded}
 use Rattle.ff_xdr.specs.Laws.{Stands}
-use Rattle.ff_xdr.specs.Reading.{Read, ◌>>=◌, number_at, hyper_at, padding_at, fixed_at, length_at, opaque_at, flag_at, text_at, may_begin_text}
-use Rattle.ff_xdr.specs.Faults.{Item, Length, Padding, Sequence, IsFront, IsBehind, IsPaddingOf, IsSequenceOf, IsCut}
+use Rattle.ff_xdr.specs.Reading.{◌>>=◌, number_at, hyper_at, padding_at, fixed_at, length_at, opaque_at, flag_at, text_at, may_begin_text}
+use Rattle.ff_xdr.specs.Faults.{Item, IsBehind, IsPaddingOf, IsCut}
 use Rattle.ff_xdr.proofs.Places.{stands_first, stands_second}
 use Rattle.ff_xdr.proofs.Fields.{length-word, length_again, zero_is}
 use Rattle.ff_xdr.proofs.StoppedText.{length-padded, take_behind, may_begin_behind, counted_items, text_items}
@@ -56,8 +56,7 @@ module _ (a b : List ℕ) (outer inner : ℕ → Item → Type 0) (bytes : List 
       let place : at + k ≡ at + length a + j = omega (arith, sum) in
       let text : take k (a ++ b) ≡ a ++ take j b = ap (λ (i : ℕ). take i (a ++ b)) sum ∙ take_behind a b j in
       let all : Stands bytes at (a ++ take j b) (at + k) = rw text at h.there in
-      let size = length-append a b in
-      (
+      let size = length-append a b in (
         stands_first bytes at a (take j b) (at + k) all,
         record {
           there = subst (λ (i : ℕ). Stands bytes (at + length a) (take j b) i) place (stands_second bytes at a (take j b) (at + k) all);
@@ -213,10 +212,10 @@ counted_cut max text items bytes at k h =
       | inr all ↦
           let size = length-word n in
           let both = ends_second (word n) (padded text) (λ j item. counted_items max items text j item) (λ j item. items text j item) bytes at k (omega (arith, size, all))
-              (λ item has. elim has [
-                | inl front ↦ absurd (omega (arith, front.0, all))
-                | inr behind ↦ subst (λ (i : ℕ). items text (k - i) item) (sym size) (behind_is 4 k (λ j. items text j item) behind)
-              ]) h in
+          (λ item has. elim has [
+            | inl front ↦ absurd (omega (arith, front.0, all))
+            | inr behind ↦ subst (λ (i : ℕ). items text (k - i) item) (sym size) (behind_is 4 k (λ j. items text j item) behind)
+          ]) h in
           inr (subst (λ (i : ℕ). Stands bytes at (word n) (at + i) × Ends bytes (at + i) (padded text) (λ j item. items text j item) (k - i)) size both)
     ]
 

@@ -1,5 +1,5 @@
 -- Up to a refused place some value has the bytes, of every form.
-use Rattle.std.proofs.Common.{◌≡◌, ℕ, zero, suc, ◌-◌, ◌<◌, ◌≤◌, ◌^◌, ℤ, pos, Bool, true, false, not, ◌||◌, cond, eqb, ltb, List, [], ◌∷◌, ◌++◌, length, take, replicate, Some, None, Ok, Err, refl, sym, ap, subst, ◌∙◌, append-nil, arith, rules, inl, inr}
+use Rattle.std.proofs.Common.{◌≡◌, ℕ, zero, suc, ◌-◌, ◌<◌, ◌≤◌, ◌^◌, pos, Bool, true, false, not, ◌||◌, cond, eqb, ltb, List, [], ◌∷◌, ◌++◌, length, take, replicate, Some, None, Ok, Err, refl, sym, ap, subst, ◌∙◌, append-nil, arith, rules, inl, inr}
 use Rattle.std.specs.Prelude.{IsTrue, ◌⊎◌}
 use Rattle.std.specs.Int.{w32, w64}
 use Rattle.std.specs.Int.RustNames.{FitsSigned}

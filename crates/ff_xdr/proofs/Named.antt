@@ -1,10 +1,10 @@
 -- What stands at a refused place, by the name of the refusal, of every form.
-use Rattle.std.proofs.Common.{◌≡◌, ℕ, ◌-◌, ◌≤◌, List, length, take, Err, refl, sym, ap, subst, ◌∙◌, arith, inl, inr}
+use Rattle.std.proofs.Common.{◌≡◌, ℕ, ◌-◌, ◌≤◌, List, length, take, Err, refl, ap, subst, ◌∙◌, arith, inl, inr}
 use Rattle.std.specs.Prelude.{IsTrue}
 use Rattle.std.proofs.lemmas.List.{take_at}
 use Rattle.ff_xdr.specs.declared.error.XdrError.{XdrError}
 use Rattle.ff_xdr.specs.declared.error.XdrWhy.TheVariants.{Short}
-use Rattle.ff_xdr.specs.Form.{Form, Value, Fits, spelling, is_sound}
+use Rattle.ff_xdr.specs.Form.{Form, Fits, spelling, is_sound}
 use Rattle.ff_xdr.specs.Laws.{IsBytes, Stands, is_filled}
 use Rattle.ff_xdr.specs.Reading.{reading}
 use Rattle.ff_xdr.specs.Faults.{Item, IsItemAt, IsWrong, HasFaultOf, EndsInOneOf, IsNamedRight, EndsInValue}

@@ -1,18 +1,17 @@
 -- A number is refused just where a union's arm is not built, in a form without enums.
-use Rattle.std.proofs.Common.{◌≡◌, ℕ, zero, suc, ◌+◌, Bool, true, false, ◌&&◌, ◌||◌, cond, eqb, List, [], ◌∷◌, take, drop, Some, None, Result, Ok, Err, refl, sym, ap, subst, ◌∙◌, inl, inr}
+use Rattle.std.proofs.Common.{◌≡◌, ℕ, zero, suc, ◌+◌, Bool, true, false, ◌&&◌, cond, eqb, List, [], ◌∷◌, take, drop, Some, Result, Ok, Err, refl, sym, ap, subst, ◌∙◌, inl, inr}
 use Rattle.std.specs.Prelude.{◌⊎◌}
 use Rattle.std.specs.Int.{w32, w64, cast_signed}
 use Rattle.std.specs.Str.Lossy.{utf8_valid_len}
-use Rattle.std.specs.List.{list_any}
-use Rattle.std.proofs.lemmas.Bool.{and_parts, or_cases, or_left, or_right, or_parts, cases_Bool, false≢true}
+use Rattle.std.proofs.lemmas.Bool.{or_cases, or_left, or_right, or_parts, cases_Bool, false≢true}
 use Rattle.ff_xdr.specs.declared.error.XdrError.{XdrError}
-use Rattle.ff_xdr.specs.declared.error.XdrWhy.TheVariants.{Short, NotBool, NotEnum, TooLong, NotUtf8}
-use Rattle.ff_xdr.specs.Form.{Form, Void, Number32, Number64, Hyper, Boolean, Enum, Optional, Fixed, Opaque, Text, Pair, Array, Arm, NoArm, Default, Value, pad_len}
+use Rattle.ff_xdr.specs.declared.error.XdrWhy.TheVariants.{Short, NotEnum, NotUtf8}
+use Rattle.ff_xdr.specs.Form.{Form, Void, Number32, Number64, Hyper, Boolean, Enum, Optional, Fixed, Opaque, Text, Pair, Array, Arm, NoArm, Default, pad_len}
 use Rattle.ff_xdr.specs.Reading.{Read, ◌>>=◌, number_at, hyper_at, fixed_at, length_at, opaque_at, flag_at, text_at, may_begin_text, reading, many_at, optional_at, arm_at}
 use Rattle.ff_xdr.specs.Faults.{Item, Truth, Length, Padding, IsWrong}
-use Rattle.ff_xdr.specs.Unbuilt.{at_value, one_unbuilt, is_unbuilt, has_enum, IsNotEnumAt, IsUnbuiltRight}
+use Rattle.ff_xdr.specs.Unbuilt.{at_value, one_unbuilt, is_unbuilt, has_enum, IsUnbuiltRight}
 use Rattle.ff_xdr.proofs.Places.{bind_is, err_is}
-use Rattle.ff_xdr.proofs.Begun.{bind_err, not_err, fails}
+use Rattle.ff_xdr.proofs.Begun.{bind_err, not_err}
 use Rattle.ff_xdr.proofs.Stopped.{IsTrouble, number_cut, flag_trouble, length_trouble, padding_stop}
 use Rattle.ff_xdr.proofs.StoppedText.{fixed_err}
 

@@ -1,20 +1,20 @@
 -- Where a reading stops in a spelling, and at which item: words, numbers and padding.
-use Rattle.std.proofs.Common.{◌≡◌, ℕ, ℤ, zero, suc, ◌+◌, ◌-◌, ◌<◌, ◌≤◌, ◌^◌, Bool, true, false, cond, eqb, ltb, List, [], ◌∷◌, ◌++◌, length, get_or, take, drop, replicate, Result, Ok, Err, refl, sym, ap, subst, ◌∙◌, append_assoc, append-nil, arith, inl, inr}
+use Rattle.std.proofs.Common.{◌≡◌, ℕ, zero, suc, ◌+◌, ◌-◌, ◌<◌, ◌≤◌, ◌^◌, Bool, true, false, cond, eqb, ltb, List, [], ◌∷◌, ◌++◌, length, get_or, take, drop, replicate, Ok, Err, refl, sym, ap, subst, ◌∙◌, append_assoc, append-nil, arith, inl, inr}
 use Rattle.std.specs.Prelude.{◌⊎◌}
 use Rattle.std.specs.Int.{Width, w32, w64, byte_len, from_be_bytes, to_be_bytes, cast_signed, cast_unsigned}
 use Rattle.std.specs.Int.RustNames.{FitsSigned}
 use Rattle.std.specs.List.{list_any}
 use Rattle.std.proofs.lemmas.Bool.{ltb-true, ltb-false, eqb-true, eqb-false, cases_Bool, cases_lt}
 use Rattle.std.proofs.lemmas.Int.{of_z-to_z}
-use Rattle.std.proofs.lemmas.List.{length-take, length-drop, length-append, length-replicate, get_or-append_right, get_or_append_left, get_or-replicate, get_or_past, take_all}
+use Rattle.std.proofs.lemmas.List.{length-drop, length-append, length-replicate, get_or-append_right, get_or_append_left, get_or-replicate, get_or_past, take_all}
 use Rattle.ff_xdr.specs.declared.error.XdrError.{XdrError}
 use Rattle.ff_xdr.specs.declared.error.XdrWhy.TheVariants.{Short, Pad, NotBool, NotEnum, TooLong}
-use Rattle.ff_xdr.specs.Form.{Form, Enum, NoArm, Default, word, long, pad_len, padded}
+use Rattle.ff_xdr.specs.Form.{Enum, Default, word, long}
 use Rattle.ff_xdr.specs.Laws.{IsBytes, Stands}
 use Rattle.ff_xdr.specs.Reading.{◌>>=◌, number_at, hyper_at, padding_at, length_at, flag_at}
-use Rattle.ff_xdr.specs.Faults.{Item, Truth, Choice, Length, Padding, IsFront, IsBehind, IsPaddingOf, IsWordAt, IsWrong, IsCut}
+use Rattle.ff_xdr.specs.Faults.{Item, Truth, Choice, Length, Padding, IsWordAt, IsWrong, IsCut}
 use Rattle.ff_xdr.proofs.Places.{IsBytes-drop, err_is, stands_nothing, stands_join}
-use Rattle.ff_xdr.proofs.Fields.{IsWide, wide32, wide64, length-word, hyper_fits, zero_stands}
+use Rattle.ff_xdr.proofs.Fields.{IsWide, wide32, wide64, hyper_fits, zero_stands}
 use Rattle.ff_xdr.proofs.Seen.{word_ends}
 use Rattle.ff_xdr.proofs.Begun.{bind_err, not_err}
 

@@ -1,9 +1,9 @@
 -- Where a reading stops, of every form.
-use Rattle.std.proofs.Common.{◌≡◌, ℕ, zero, suc, ◌+◌, ◌<◌, ◌≤◌, ◌^◌, Bool, true, false, not, ◌&&◌, ◌||◌, cond, eqb, ltb, List, [], ◌∷◌, ◌++◌, length, replicate, Some, None, Ok, Err, refl, sym, ap, subst, ◌∙◌, append-nil, arith, inl, inr}
+use Rattle.std.proofs.Common.{◌≡◌, ℕ, zero, suc, ◌+◌, ◌<◌, ◌≤◌, ◌^◌, Bool, true, false, not, ◌||◌, eqb, ltb, List, [], ◌∷◌, ◌++◌, length, replicate, Some, None, Ok, Err, refl, sym, ap, subst, ◌∙◌, arith, inl, inr}
 use Rattle.std.specs.Prelude.{IsTrue, ◌⊎◌}
 use Rattle.std.specs.Int.{w32}
-use Rattle.std.specs.List.{list_any, flat_map}
-use Rattle.std.proofs.lemmas.Bool.{and_parts, or_cases, eqb-true, cases_lt, false≢true, not-true}
+use Rattle.std.specs.List.{flat_map}
+use Rattle.std.proofs.lemmas.Bool.{and_parts, or_cases, eqb-true, false≢true}
 use Rattle.std.proofs.lemmas.List.{length-replicate, length-append}
 use Rattle.ff_xdr.specs.declared.error.XdrError.{XdrError}
 use Rattle.ff_xdr.specs.declared.error.XdrWhy.{XdrWhy}
@@ -11,14 +11,14 @@ use Rattle.ff_xdr.specs.declared.error.XdrWhy.TheVariants.{Short, Pad, NotBool, 
 use Rattle.ff_xdr.specs.Form.{Form, Void, Number32, Number64, Hyper, Boolean, Enum, Optional, Fixed, Opaque, Text, Pair, Array, Arm, NoArm, Default, Value, Fits, spelling, avoids, is_sound, word}
 use Rattle.ff_xdr.specs.Laws.{IsBytes, Stands, is_end, is_filled}
 use Rattle.ff_xdr.specs.Reading.{Read, ◌>>=◌, number_at, length_at, flag_at, reading, many_at, optional_at, arm_at}
-use Rattle.ff_xdr.specs.Faults.{Item, Truth, Choice, Length, Padding, Sequence, IsFront, IsBehind, IsItemIn, IsItemAt, IsWordAt, IsWrong, IsCut}
+use Rattle.ff_xdr.specs.Faults.{Item, Truth, Choice, Length, IsItemIn, IsItemAt, IsWordAt, IsWrong, IsCut}
 use Rattle.ff_xdr.proofs.Again.{sound_case}
 use Rattle.ff_xdr.proofs.Places.{err_is, ok_is}
 use Rattle.ff_xdr.proofs.Fields.{length-word, word_takes, length_takes, flag_takes, flag_word}
 use Rattle.ff_xdr.proofs.SpelledSo.{spelled_in}
 use Rattle.ff_xdr.proofs.Begun.{bind_err, not_err}
 use Rattle.ff_xdr.proofs.FirstFault.{some_value, all_same, Many, case_err}
-use Rattle.ff_xdr.proofs.Stopped.{IsTrouble, StopsAt, Stopped, stopped_here, stopped_first, stopped_second, is_word, word_cut, flag_trouble, length_trouble, enum_trouble, default_trouble, no_items, word_stopped, long_stopped, hyper_stopped}
+use Rattle.ff_xdr.proofs.Stopped.{IsTrouble, StopsAt, Stopped, stopped_here, stopped_first, stopped_second, is_word, word_cut, flag_trouble, length_trouble, enum_trouble, default_trouble, word_stopped, long_stopped, hyper_stopped}
 use Rattle.ff_xdr.proofs.StoppedText.{fixed_stopped, opaque_stopped, text_stopped}
 
 -- ---- several values

@@ -1,24 +1,24 @@
 -- Where a reading stops in bytes and in texts.
-use Rattle.std.proofs.Common.{◌≡◌, ℕ, ◌+◌, ◌-◌, ◌<◌, ◌≤◌, Bool, true, false, cond, ltb, eqb, List, [], ◌∷◌, ◌++◌, length, get_or, take, drop, replicate, Ok, Err, refl, sym, ap, subst, ◌∙◌, append_assoc, arith, inl, inr}
-use Rattle.std.specs.Prelude.{◌⊎◌, ◌&&◌, ◌||◌, nat_lt, nat_le, is_none}
+use Rattle.std.proofs.Common.{◌≡◌, ℕ, ◌+◌, ◌-◌, ◌<◌, ◌≤◌, Bool, true, false, cond, ltb, List, [], ◌++◌, length, get_or, take, drop, replicate, Err, refl, sym, ap, subst, ◌∙◌, append_assoc, arith, inl, inr}
+use Rattle.std.specs.Prelude.{◌⊎◌, nat_lt, nat_le}
 use Rattle.std.specs.Str.{is_utf8, IsUtf8, continuation_len}
-use Rattle.std.specs.Str.Lossy.{utf8_valid_len, utf8_error_len}
+use Rattle.std.specs.Str.Lossy.{utf8_valid_len}
 use Rattle.std.proofs.lemmas.Str.{is_utf8-from_IsUtf8, IsUtf8-from_is_utf8, IsUtf8-append, IsUtf8-nil, IsUtf8-from_ascii, utf8_valid_len_le}
 use Rattle.std.proofs.lemmas.Bool.{ltb-true, ltb-false, lt-ltb, leb-true, le-leb, cases_Bool, cases_lt, both_ways, false≢true}
-use Rattle.std.proofs.lemmas.List.{length-take, length-take-le, length-drop, length-append, length-replicate, take_at, drop_at, take_all, take-take, drop-take, drop-drop, take-append-drop, get_or-append-add, replicate-append-replicate}
+use Rattle.std.proofs.lemmas.List.{length-take, length-take-le, length-drop, length-append, length-replicate, take_at, drop_at, take_all, take-take, drop-take, drop-drop, take-append-drop, get_or-append-add}
 use Rattle.std.proofs.Math.Seq.{take-add, drop-append-add}
 use Rattle.ff_xdr.specs.declared.error.XdrError.{XdrError}
 use Rattle.ff_xdr.specs.declared.error.XdrWhy.TheVariants.{Short, NotUtf8}
 use Rattle.ff_xdr.specs.Form.{word, pad_len, padded}
 use Rattle.ff_xdr.specs.Laws.{IsBytes, Stands}
-use Rattle.ff_xdr.specs.Reading.{◌>>=◌, padding_at, fixed_at, length_at, opaque_at, text_at, may_begin_text}
-use Rattle.ff_xdr.specs.Faults.{Item, Length, Padding, Sequence, IsFront, IsBehind, IsPaddingOf, IsSequenceOf, IsWrong, IsCut}
+use Rattle.ff_xdr.specs.Reading.{padding_at, fixed_at, length_at, opaque_at, text_at, may_begin_text}
+use Rattle.ff_xdr.specs.Faults.{Item, Length, Padding, Sequence, IsFront, IsBehind, IsPaddingOf, IsSequenceOf}
 use Rattle.ff_xdr.proofs.Places.{err_is, stands_join}
 use Rattle.ff_xdr.proofs.Fields.{length-word, length_takes, utf8-may_begin}
 use Rattle.ff_xdr.proofs.Sequences.{valid_front, valid_most, rest_encodes, may_begin_false}
 use Rattle.ff_xdr.proofs.Utf8.{may_begin_utf8}
 use Rattle.ff_xdr.proofs.Begun.{bind_err, not_err, counted, zeros_split, length-part, zeros_ascii}
-use Rattle.ff_xdr.proofs.Stopped.{IsTrouble, Stopped, stopped_here, stopped_second, length_trouble, rest_stands, PaddingStop, padding_stop}
+use Rattle.ff_xdr.proofs.Stopped.{IsTrouble, Stopped, stopped_here, stopped_second, length_trouble, rest_stands, padding_stop}
 
 pub length-padded : (bytes : List ℕ) → length (padded bytes) ≡ length bytes + pad_len (length bytes)
 unfolding padded
@@ -166,8 +166,8 @@ may_begin_behind u rest n text =
     let b = utf8_valid_len rest in
     let c = continuation_len (get_or rest b 0) in
     let whole : is_utf8 (u ++ rest) ≡ is_utf8 rest = same_truth _ _
-        (λ e. is_utf8-from_IsUtf8 rest (rest_utf8 u rest text (IsUtf8-from_is_utf8 _ e)))
-        (λ e. is_utf8-from_IsUtf8 (u ++ rest) (IsUtf8-append u rest text (IsUtf8-from_is_utf8 rest e))) in
+    (λ e. is_utf8-from_IsUtf8 rest (rest_utf8 u rest text (IsUtf8-from_is_utf8 _ e)))
+    (λ e. is_utf8-from_IsUtf8 (u ++ rest) (IsUtf8-append u rest text (IsUtf8-from_is_utf8 rest e))) in
     let left : drop (length u + b) (u ++ rest) ≡ drop b rest = drop-append-add u rest b in
     let byte : get_or (u ++ rest) (length u + b) 0 ≡ get_or rest b 0 = get_or-append-add u rest b 0 in
     let few : nat_lt (length u + length rest) (length u + n) ≡ nat_lt (length rest) n = lt_behind (length u) (length rest) n in

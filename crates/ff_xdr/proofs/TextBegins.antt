@@ -1,16 +1,15 @@
 -- A beginning of a text may begin a text of its length.
-use Rattle.std.proofs.Common.{◌≡◌, ℕ, zero, suc, ◌+◌, ◌-◌, ◌/◌, ◌%◌, ◌*◌, ◌<◌, ◌≤◌, Bool, true, false, cond, eqb, ltb, List, [], ◌∷◌, ◌++◌, length, get_or, take, drop, refl, sym, ap, subst, ◌∙◌, arith, inl, inr}
-use Rattle.std.specs.Prelude.{◌⊎◌, ◌&&◌, ◌||◌, is_none}
+use Rattle.std.proofs.Common.{◌≡◌, ℕ, zero, suc, ◌+◌, ◌-◌, ◌/◌, ◌%◌, ◌<◌, ◌≤◌, true, List, [], ◌∷◌, ◌++◌, length, get_or, take, drop, refl, sym, ap, subst, ◌∙◌, arith, inl, inr}
+use Rattle.std.specs.Prelude.{is_none}
 use Rattle.std.specs.Char.{encode_utf8, IsScalar}
 use Rattle.std.specs.Int.{is_in_range}
 use Rattle.std.specs.Str.{is_utf8, IsUtf8, encode_utf8_all, all_scalars, continuation_len}
 use Rattle.std.specs.Str.Lossy.{utf8_valid_len, utf8_error_len, second_byte_min, second_byte_max}
-use Rattle.std.proofs.lemmas.Bool.{le-leb, lt-ltb, le-ltb, cases_Bool, cases_lt, eqb-true, and_parts, or_right}
+use Rattle.std.proofs.lemmas.Bool.{le-leb, lt-ltb, le-ltb, cases_lt, and_parts, or_right}
 use Rattle.std.proofs.lemmas.Grind.{common_steps}
 use Rattle.std.proofs.lemmas.Bool.Decides.{nat_tests}
-use Rattle.std.proofs.lemmas.Str.{IsUtf8-append, IsUtf8-encode, encode_ascii, length-encode, len_utf8_bounds, IsUtf8-from_is_utf8, is_utf8-from_IsUtf8, utf8_valid_len_le}
-use Rattle.std.proofs.lemmas.List.{length-take, length-take-le, length-drop, length-append, take_all, take-take, drop-take, take-append-drop, take-append-le, take_at}
-use Rattle.std.proofs.Math.Seq.{take-append-add}
+use Rattle.std.proofs.lemmas.Str.{IsUtf8-encode, encode_ascii, length-encode, len_utf8_bounds, utf8_valid_len_le}
+use Rattle.std.proofs.lemmas.List.{length-take-le, length-drop, length-append, take_all, take-take, drop-take, take-append-drop, take-append-le, take_at}
 use Rattle.std.proofs.Math.Utf8.{scalar_cases}
 use Rattle.ff_xdr.specs.Reading.{may_begin_text}
 use Rattle.ff_xdr.proofs.Utf8.{may_begin_utf8}
