@@ -15,7 +15,7 @@ use Rattle.ff_xdr.proofs.Fields.{length-word, word_again, length_again, flag_aga
 use Rattle.ff_xdr.proofs.StoppedText.{length-padded}
 use Rattle.ff_xdr.proofs.StoppedForms.{front_item, front_size}
 use Rattle.ff_xdr.proofs.Named.{short_ends}
-use Rattle.ff_xdr.proofs.CutShort.{IsShort, short_bind, IsCutAt, Ends, ends_first, ends_second, behind_is, IsWordItem, front_cut, number_short, word_short, hyper_short, long_cut, flag_short, length_short, word_cut, fixed_cut, opaque_cut, text_cut}
+use Rattle.ff_xdr.proofs.CutShort.{IsShort, short_bind, IsCutAt, Ends, ends_first, ends_second, behind_is, IsWordItem, front_cut, number_is_short, word_short, hyper_short, long_cut, flag_short, length_short, word_alone, fixed_cut, opaque_cut, text_cut}
 
 -- ---- items stand in the spelling
 
@@ -174,17 +174,17 @@ cut_in Void sound v fits bytes at k h =
       | inl end ↦ absurd (omega (arith, end.1))
       | inr item ↦ absurd item.1
     ]
-cut_in Number32 sound v fits bytes at k h = word_short bytes at (word_cut v bytes at (λ j item. ⊥) k (λ item has. absurd has) h)
-cut_in Number64 sound v fits bytes at k h = number_short w64 bytes at (long_cut v bytes at k h)
+cut_in Number32 sound v fits bytes at k h = word_short bytes at (word_alone v bytes at (λ j item. ⊥) k (λ item has. absurd has) h)
+cut_in Number64 sound v fits bytes at k h = number_is_short w64 bytes at (long_cut v bytes at k h)
 cut_in Hyper sound v fits bytes at k h = hyper_short bytes at (long_cut (cast_unsigned w64 v) bytes at k h)
-cut_in Boolean sound false fits bytes at k h = flag_short bytes at (word_cut 0 bytes at (λ j item. IsItemAt Boolean false j item) k (λ item has. as_word k item Truth (λ b p c. c) has) h)
-cut_in Boolean sound true fits bytes at k h = flag_short bytes at (word_cut 1 bytes at (λ j item. IsItemAt Boolean true j item) k (λ item has. as_word k item Truth (λ b p c. c) has) h)
+cut_in Boolean sound false fits bytes at k h = flag_short bytes at (word_alone 0 bytes at (λ j item. IsItemAt Boolean false j item) k (λ item has. as_word k item Truth (λ b p c. c) has) h)
+cut_in Boolean sound true fits bytes at k h = flag_short bytes at (word_alone 1 bytes at (λ j item. IsItemAt Boolean true j item) k (λ item has. as_word k item Truth (λ b p c. c) has) h)
 cut_in (Enum numbers) sound v fits bytes at k h =
     short_bind bytes (number_at w32 bytes at) (λ n. cond (list_any (eqb n.0) numbers) (Ok n) (Err (record { place = at; why = NotEnum })))
-    (word_short bytes at (word_cut v bytes at (λ j item. IsItemAt (Enum numbers) v j item) k (λ item has. as_word k item (Choice (Enum numbers)) (λ b p c. c) has) h))
+    (word_short bytes at (word_alone v bytes at (λ j item. IsItemAt (Enum numbers) v j item) k (λ item has. as_word k item (Choice (Enum numbers)) (λ b p c. c) has) h))
 cut_in (Optional each) sound None fits bytes at k h =
     short_bind bytes (flag_at bytes at) (λ there. optional_at (λ place. reading each bytes place) there.0 there.1)
-    (flag_short bytes at (word_cut 0 bytes at (λ j item. IsItemAt (Optional each) None j item) k (λ item has. as_word k item Truth (λ b p c. c) has) h))
+    (flag_short bytes at (word_alone 0 bytes at (λ j item. IsItemAt (Optional each) None j item) k (λ item has. as_word k item Truth (λ b p c. c) has) h))
 cut_in (Optional each) sound (Some v) fits bytes at k h =
     elim (word_led 1 (spelling each v) (λ j item. IsItemAt (Optional each) (Some v) j item) (λ j item. IsItemAt each v j item) bytes at k
     (λ item has. elim has [
@@ -289,7 +289,7 @@ cut_in (Arm number body others) sound (inr v) fits bytes at k h =
 cut_in NoArm sound v fits bytes at k h = absurd v
 cut_in (Default numbers) sound v fits bytes at k h =
     short_bind bytes (number_at w32 bytes at) (λ n. cond (list_any (eqb n.0) numbers) (Err (record { place = at; why = NotEnum })) (Ok n))
-    (word_short bytes at (word_cut v bytes at (λ j item. IsItemAt (Default numbers) v j item) k (λ item has. as_word k item (Choice (Default numbers)) (λ b p c. c) has) h))
+    (word_short bytes at (word_alone v bytes at (λ j item. IsItemAt (Default numbers) v j item) k (λ item has. as_word k item (Choice (Default numbers)) (λ b p c. c) has) h))
 
 -- where the first bytes of a value stand, and they are all; or where they stand up to an item in which the bytes end
 pub ending_of : {V : Type 0} (spell : V → List ℕ) (items : V → ℕ → Item → Type 0) (v : V) (bytes : List ℕ) (at to : ℕ) → Stands bytes at (take (to - at) (spell v)) to
@@ -304,9 +304,9 @@ ending_of spell items v bytes at to s ends =
       ]);
     }
 
-pub ends_short : (form : Form) → IsTrue (is_sound form) → (bytes : List ℕ) (at : ℕ) → EndsInValue form bytes at → reading form bytes at ≡ Err (record { place = length bytes; why = Short })
-ends_short form sound bytes at h =
+pub value_ends_short : (form : Form) → IsTrue (is_sound form) → (bytes : List ℕ) (at : ℕ) → EndsInValue form bytes at → reading form bytes at ≡ Err (record { place = length bytes; why = Short })
+value_ends_short form sound bytes at h =
     cut_in form sound h.value h.fits bytes at (h.to - at) (ending_of (λ v. spelling form v) (λ v k item. IsItemAt form v k item) h.value bytes at h.to h.begins h.ends)
 
 pub short_just_where : (form : Form) → IsTrue (is_sound form) → IsTrue (is_filled form) → IsShortJustWhere form
-short_just_where form sound filled = λ bytes at fits le. (λ is. short_ends form sound filled bytes at fits le is, λ h. ends_short form sound bytes at h)
+short_just_where form sound filled = λ bytes at fits le. (λ is. short_ends form sound filled bytes at fits le is, λ h. value_ends_short form sound bytes at h)

@@ -75,14 +75,14 @@ behind_is size k P h =
 
 -- ---- numbers
 
-pub number_short : (w : Width) (bytes : List ℕ) (at : ℕ) → length bytes < at + byte_len w → IsShort bytes (number_at w bytes at)
+pub number_is_short : (w : Width) (bytes : List ℕ) (at : ℕ) → length bytes < at + byte_len w → IsShort bytes (number_at w bytes at)
 unfolding number_at
-number_short w bytes at cut =
+number_is_short w bytes at cut =
     let short : ltb (length bytes) (at + byte_len w) ≡ true = lt-ltb _ _ cut in
     rw short refl
 
 pub word_short : (bytes : List ℕ) (at : ℕ) → length bytes < at + 4 → IsShort bytes (number_at w32 bytes at)
-word_short bytes at cut = number_short w32 bytes at cut
+word_short bytes at cut = number_is_short w32 bytes at cut
 
 pub length-long : (n : ℕ) → length (long n) ≡ 8
 unfolding long
@@ -98,7 +98,7 @@ long_cut n bytes at k h =
 
 pub hyper_short : (bytes : List ℕ) (at : ℕ) → length bytes < at + 8 → IsShort bytes (hyper_at bytes at)
 unfolding hyper_at
-hyper_short bytes at cut = short_bind bytes (number_at w64 bytes at) (λ n. Ok (cast_signed w64 n.0, n.1)) (number_short w64 bytes at cut)
+hyper_short bytes at cut = short_bind bytes (number_at w64 bytes at) (λ n. Ok (cast_signed w64 n.0, n.1)) (number_is_short w64 bytes at cut)
 
 pub flag_short : (bytes : List ℕ) (at : ℕ) → length bytes < at + 4 → IsShort bytes (flag_at bytes at)
 unfolding flag_at
@@ -127,8 +127,8 @@ front_cut bytes at text items k few front h =
     ]
 
 -- a word alone
-pub word_cut : (n : ℕ) (bytes : List ℕ) (at : ℕ) (items : ℕ → Item → Type 0) (k : ℕ) → ((item : Item) → items k item → (k ≡ 0) × IsWordItem item) → Ends bytes at (word n) items k → length bytes < at + 4
-word_cut n bytes at items k front h =
+pub word_alone : (n : ℕ) (bytes : List ℕ) (at : ℕ) (items : ℕ → Item → Type 0) (k : ℕ) → ((item : Item) → items k item → (k ≡ 0) × IsWordItem item) → Ends bytes at (word n) items k → length bytes < at + 4
+word_alone n bytes at items k front h =
     let size : length (take k (word n)) ≡ k = omega (arith, h.there.ends) in
     elim (cases_lt k 4) [
       | inl few ↦ front_cut bytes at (word n) items k few front h
@@ -251,8 +251,8 @@ module _ (text bytes : List ℕ) (at k : ℕ) (s : Stands bytes at (take k (padd
       (stands_first bytes at text (take (k - length text) pad) (at + k) (rw split at s)).stands
 
 -- the bytes end in a text, or in a sequence with which it could go on
-may_begin_cut : (text : List ℕ) (bytes : List ℕ) (at k : ℕ) → IsUtf8 text → Ends bytes at (padded text) (λ j item. text_items text j item) k → may_begin_text (length text) (take (length text) (drop at bytes)) ≡ true
-may_begin_cut text bytes at k utf8 h =
+cut_may_begin : (text : List ℕ) (bytes : List ℕ) (at k : ℕ) → IsUtf8 text → Ends bytes at (padded text) (λ j item. text_items text j item) k → may_begin_text (length text) (take (length text) (drop at bytes)) ≡ true
+cut_may_begin text bytes at k utf8 h =
     let n = length text in
     let size = length-drop at bytes in
     let rest = drop at bytes in
@@ -304,6 +304,6 @@ text_cut max text bytes at k wide le utf8 h =
           (length_short max bytes at cut)
       | inr both ↦
           let read = length_again max bytes at (length text) (at + 4) wide le both.0 in
-          let may = may_begin_cut text bytes (at + 4) (k - 4) (IsUtf8-from_is_utf8 text utf8) both.1 in
+          let may = cut_may_begin text bytes (at + 4) (k - 4) (IsUtf8-from_is_utf8 text utf8) both.1 in
           rw (read, may) (sequence_short text bytes (at + 4) (k - 4) both.1)
     ]

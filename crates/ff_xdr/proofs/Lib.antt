@@ -22,3 +22,4 @@ pub mod TextBegins
 pub mod CutShort
 pub mod CutForms
 pub mod ArmFaults
+pub mod TextGoesOn

@@ -175,11 +175,10 @@ may_begin_behind u rest n text =
     let room : nat_le (length u + (b + 1 + c)) (length u + n) ≡ nat_le (b + 1 + c) n = le_behind (length u) (b + 1 + c) n in
     rw (whole, valid_len_behind u rest text, left, byte, length-append u rest, few, sum, room) refl
 
--- the bytes behind the longest beginning that is a text: they may begin the rest just where all may begin the whole, and none of
--- them is a text
 valid_split : (t : List ℕ) → take (utf8_valid_len t) t ++ drop (utf8_valid_len t) t ≡ t
 valid_split t = take-append-drop (utf8_valid_len t) t
 
+-- the bytes behind the longest beginning that is a text may begin the rest just where all of them may begin the whole
 pub may_begin_rest : (n : ℕ) (t : List ℕ) → utf8_valid_len t ≤ n → may_begin_text (n - utf8_valid_len t) (drop (utf8_valid_len t) t) ≡ may_begin_text n t
 may_begin_rest n t le =
     let v = utf8_valid_len t in
@@ -187,6 +186,7 @@ may_begin_rest n t le =
     let sum : length (take v t) + (n - v) ≡ n = omega (arith, len, le) in
     sym (may_begin_behind (take v t) (drop v t) (n - v) (valid_front t)) ∙ ap (λ (k : ℕ). may_begin_text k (take v t ++ drop v t)) sum ∙ ap (λ (u : List ℕ). may_begin_text n u) (valid_split t)
 
+-- none of them are a text
 pub valid_len_rest : (t : List ℕ) → utf8_valid_len (drop (utf8_valid_len t) t) ≡ 0
 valid_len_rest t =
     let v = utf8_valid_len t in

@@ -18,15 +18,15 @@ use Rattle.ff_xdr.proofs.StoppedText.{rest_utf8, may_begin_rest, valid_len_rest}
 
 -- ---- the bytes of a character
 
-two : (c : ℕ) → 128 ≤ c → c < 2048 → encode_utf8 c ≡ (192 + c / 64) ∷ (128 + c % 64) ∷ []
+pub two : (c : ℕ) → 128 ≤ c → c < 2048 → encode_utf8 c ≡ (192 + c / 64) ∷ (128 + c % 64) ∷ []
 unfolding encode_utf8
 two c low high = rw (le-ltb c 128 low, lt-ltb c 2048 high) refl
 
-three : (c : ℕ) → 2048 ≤ c → c < 65536 → encode_utf8 c ≡ (224 + c / 4096) ∷ (128 + c / 64 % 64) ∷ (128 + c % 64) ∷ []
+pub three : (c : ℕ) → 2048 ≤ c → c < 65536 → encode_utf8 c ≡ (224 + c / 4096) ∷ (128 + c / 64 % 64) ∷ (128 + c % 64) ∷ []
 unfolding encode_utf8
 three c low high = rw (le-ltb c 128 (omega arith), le-ltb c 2048 low, lt-ltb c 65536 high) refl
 
-four : (c : ℕ) → 65536 ≤ c → encode_utf8 c ≡ (240 + c / 262144) ∷ (128 + c / 4096 % 64) ∷ (128 + c / 64 % 64) ∷ (128 + c % 64) ∷ []
+pub four : (c : ℕ) → 65536 ≤ c → encode_utf8 c ≡ (240 + c / 262144) ∷ (128 + c / 4096 % 64) ∷ (128 + c / 64 % 64) ∷ (128 + c % 64) ∷ []
 unfolding encode_utf8
 four c low = rw (le-ltb c 128 (omega arith), le-ltb c 2048 (omega arith), le-ltb c 65536 low) refl
 
@@ -53,13 +53,13 @@ record CharCut (front : List ℕ) (size : ℕ) : Type 0 where
   none : is_none (utf8_error_len front) ≡ true
   whole : 1 + continuation_len (get_or front 0 0) ≡ size
 
-lead_two : (a : ℕ) → 192 ≤ a → a < 224 → continuation_len a ≡ 1
+pub lead_two : (a : ℕ) → 192 ≤ a → a < 224 → continuation_len a ≡ 1
 lead_two a low high = rw (le-ltb a 128 (omega arith), lt-ltb a 224 high) refl
 
-lead_three : (a : ℕ) → 224 ≤ a → a < 240 → continuation_len a ≡ 2
+pub lead_three : (a : ℕ) → 224 ≤ a → a < 240 → continuation_len a ≡ 2
 lead_three a low high = rw (le-ltb a 128 (omega arith), le-ltb a 224 low, lt-ltb a 240 high) refl
 
-lead_four : (a : ℕ) → 240 ≤ a → continuation_len a ≡ 3
+pub lead_four : (a : ℕ) → 240 ≤ a → continuation_len a ≡ 3
 lead_four a low = rw (le-ltb a 128 (omega arith), le-ltb a 224 (omega arith), le-ltb a 240 low) refl
 
 cut_two : (c k : ℕ) → 128 ≤ c → c < 2048 → 0 < k → k < 2 → CharCut (take k ((192 + c / 64) ∷ (128 + c % 64) ∷ [])) 2

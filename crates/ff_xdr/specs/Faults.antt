@@ -122,6 +122,11 @@ abbrev pub IsShortJustWhere : Form → Type 0
 IsShortJustWhere form = (bytes : List ℕ) (at : ℕ) → IsBytes bytes → at ≤ length bytes
     → (reading form bytes at ≡ Err (record { place = length bytes; why = Short })) ↔ EndsInValue form bytes at
 
+-- Bytes may begin a string of n bytes just where some string of n bytes begins with them (RFC 3629).
+abbrev pub IsBeginningRight : Type 0
+IsBeginningRight = (n : ℕ) (front : List ℕ) → length front ≤ n
+    → (may_begin_text n front ≡ true) ↔ ((text : List ℕ) × (length text ≡ n) × IsTrue (is_utf8 text) × (take (length front) text ≡ front))
+
 -- ---- a union whose number is known from outside
 
 -- the item stands in the spelling of the arm's body
