@@ -6,7 +6,7 @@ use Rattle.std.specs.Str.{is_utf8, IsUtf8}
 use Rattle.std.specs.Str.Lossy.{utf8_valid_len}
 use Rattle.std.proofs.lemmas.Str.{IsUtf8-from_is_utf8}
 use Rattle.std.proofs.lemmas.Bool.{lt-ltb, le-ltb, eq-eqb, cases_lt}
-use Rattle.std.proofs.lemmas.List.{length-take-le, length-drop, length-append, take_all, take-append-le, take-append-drop, drop-drop}
+use Rattle.std.proofs.lemmas.List.{length-drop, length-append, take_all, take-append-le}
 use Rattle.ff_xdr.specs.declared.error.XdrError.{XdrError}
 use Rattle.ff_xdr.specs.declared.error.XdrWhy.TheVariants.{Short, NotUtf8}
 use Rattle.ff_xdr.specs.Form.{word, long, pad_len, padded}
@@ -15,7 +15,8 @@ use Rattle.ff_xdr.specs.Reading.{◌>>=◌, number_at, hyper_at, padding_at, fix
 use Rattle.ff_xdr.specs.Faults.{Item, IsBehind, IsPaddingOf, IsCut}
 use Rattle.ff_xdr.proofs.Places.{stands_first, stands_second}
 use Rattle.ff_xdr.proofs.Fields.{length-word, length_again, zero_is}
-use Rattle.ff_xdr.proofs.StoppedText.{length-padded, take_behind, may_begin_behind, counted_items, text_items}
+use Rattle.ff_xdr.proofs.StoppedText.{length-padded, counted_items, text_items}
+use Rattle.ff_xdr.proofs.TextParts.{take_behind}
 use Rattle.ff_xdr.proofs.TextBegins.{text_begins}
 
 -- refused as short, at the end of the bytes
@@ -250,7 +251,12 @@ module _ (text bytes : List ℕ) (at k : ℕ) (s : Stands bytes at (take k (padd
       let split : take k (text ++ pad) ≡ text ++ take (k - length text) pad = ap (λ (i : ℕ). take i (text ++ pad)) (omega (arith, le)) ∙ take_behind text pad (k - length text) in
       (stands_first bytes at text (take (k - length text) pad) (at + k) (rw split at s)).stands
 
--- the bytes end in a text, or in a sequence with which it could go on
+-- no item behind the length is a word
+text_uncut : (text : List ℕ) (k : ℕ) (item : Item) → text_items text k item → (bytes : List ℕ) (place : ℕ) → IsCut item bytes place → ⊥
+text_uncut text k item (inl sequence) bytes place cut = subst (λ (i : Item). IsCut i bytes place) sequence.2 cut
+text_uncut text k item (inr padding) bytes place cut = subst (λ (i : Item). IsCut i bytes place) padding.2 cut
+
+-- the bytes end in a text
 cut_may_begin : (text : List ℕ) (bytes : List ℕ) (at k : ℕ) → IsUtf8 text → Ends bytes at (padded text) (λ j item. text_items text j item) k → may_begin_text (length text) (take (length text) (drop at bytes)) ≡ true
 cut_may_begin text bytes at k utf8 h =
     let n = length text in
@@ -265,19 +271,7 @@ cut_may_begin text bytes at k utf8 h =
                 let len : length rest ≡ k = omega (arith, size, end.0) in
                 let is : take n rest ≡ take k text = take_all n rest (omega (arith, len, less)) ∙ sym (take_all k rest (omega (arith, len))) ∙ front in
                 subst (λ (t : List ℕ). may_begin_text n t ≡ true) (sym is) (text_begins text k utf8 (omega (arith, less)))
-            | inr item ↦
-                elim item.1 [
-                  | inl sequence ↦
-                      let cut = subst (λ (i : Item). IsCut i bytes (at + k)) sequence.2 item.2 in
-                      let u = take k text in
-                      let behind = drop (at + k) bytes in
-                      let len : length u ≡ k = length-take-le k text (omega (arith, less)) in
-                      let is : take n rest ≡ u ++ behind = take_all n rest (omega (arith, size, cut.1, less)) ∙ sym (take-append-drop k rest) ∙ ap (λ (t : List ℕ). t ++ drop k rest) front ∙ ap (λ (t : List ℕ). u ++ t) (drop-drop k at bytes) in
-                      let sum : length u + (n - k) ≡ n = omega (arith, len, less) in
-                      let begins : may_begin_text (length u + (n - k)) (u ++ behind) ≡ true = may_begin_behind u behind (n - k) (IsUtf8-from_is_utf8 u sequence.1) ∙ cut.2 in
-                      subst (λ (t : List ℕ). may_begin_text n t ≡ true) (sym is) (subst (λ (i : ℕ). may_begin_text i (u ++ behind) ≡ true) sum begins)
-                  | inr padding ↦ absurd (subst (λ (i : Item). IsCut i bytes (at + k)) padding.2 item.2)
-                ]
+            | inr item ↦ absurd (text_uncut text k item.0 item.1 bytes (at + k) item.2)
           ]
     ]
 
@@ -285,13 +279,7 @@ sequence_short : (text : List ℕ) (bytes : List ℕ) (at k : ℕ) → Ends byte
 sequence_short text bytes at k h =
     elim h.cut [
       | inl end ↦ padded_short text bytes at k end.0 end.1 h.there
-      | inr item ↦
-          elim item.1 [
-            | inl sequence ↦
-                let cut = subst (λ (i : Item). IsCut i bytes (at + k)) sequence.2 item.2 in
-                fixed_short (length text) bytes at (omega (arith, cut.1, sequence.0))
-            | inr padding ↦ absurd (subst (λ (i : Item). IsCut i bytes (at + k)) padding.2 item.2)
-          ]
+      | inr item ↦ absurd (text_uncut text k item.0 item.1 bytes (at + k) item.2)
     ]
 
 pub text_cut : (max : ℕ) (text : List ℕ) (bytes : List ℕ) (at k : ℕ) → max < 2 ^ 32 → length text ≤ max → is_utf8 text ≡ true

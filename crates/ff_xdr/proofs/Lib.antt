@@ -23,3 +23,4 @@ pub mod CutShort
 pub mod CutForms
 pub mod ArmFaults
 pub mod TextGoesOn
+pub mod TextParts

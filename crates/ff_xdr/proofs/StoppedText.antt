@@ -1,22 +1,23 @@
 -- Where a reading stops in bytes and in texts.
-use Rattle.std.proofs.Common.{◌≡◌, ℕ, ◌+◌, ◌-◌, ◌<◌, ◌≤◌, Bool, true, false, cond, ltb, List, [], ◌++◌, length, get_or, take, drop, replicate, Err, refl, sym, ap, subst, ◌∙◌, append_assoc, arith, inl, inr}
-use Rattle.std.specs.Prelude.{◌⊎◌, nat_lt, nat_le}
-use Rattle.std.specs.Str.{is_utf8, IsUtf8, continuation_len}
+use Rattle.std.proofs.Common.{◌≡◌, ℕ, ◌+◌, ◌-◌, ◌<◌, ◌≤◌, true, false, cond, ltb, List, [], ◌++◌, length, take, drop, replicate, Err, refl, sym, ap, subst, ◌∙◌, append_assoc, arith, inl, inr}
+use Rattle.std.specs.Prelude.{◌⊎◌}
+use Rattle.std.specs.Str.{is_utf8, IsUtf8}
 use Rattle.std.specs.Str.Lossy.{utf8_valid_len}
-use Rattle.std.proofs.lemmas.Str.{is_utf8-from_IsUtf8, IsUtf8-from_is_utf8, IsUtf8-append, IsUtf8-nil, IsUtf8-from_ascii, utf8_valid_len_le}
-use Rattle.std.proofs.lemmas.Bool.{ltb-true, ltb-false, lt-ltb, leb-true, le-leb, cases_Bool, cases_lt, both_ways, false≢true}
-use Rattle.std.proofs.lemmas.List.{length-take, length-take-le, length-drop, length-append, length-replicate, take_at, drop_at, take_all, take-take, drop-take, drop-drop, take-append-drop, get_or-append-add}
-use Rattle.std.proofs.Math.Seq.{take-add, drop-append-add}
+use Rattle.std.proofs.lemmas.Str.{is_utf8-from_IsUtf8, IsUtf8-append, IsUtf8-nil, IsUtf8-from_ascii, utf8_valid_len_le}
+use Rattle.std.proofs.lemmas.Bool.{ltb-true, ltb-false, cases_Bool, cases_lt, both_ways}
+use Rattle.std.proofs.lemmas.List.{length-take, length-take-le, length-drop, length-append, length-replicate, take_at, take_all, take-take, drop-take, drop-drop, take-append-drop}
 use Rattle.ff_xdr.specs.declared.error.XdrError.{XdrError}
 use Rattle.ff_xdr.specs.declared.error.XdrWhy.TheVariants.{Short, NotUtf8}
 use Rattle.ff_xdr.specs.Form.{word, pad_len, padded}
 use Rattle.ff_xdr.specs.Laws.{IsBytes, Stands}
 use Rattle.ff_xdr.specs.Reading.{padding_at, fixed_at, length_at, opaque_at, text_at, may_begin_text}
-use Rattle.ff_xdr.specs.Faults.{Item, Length, Padding, Sequence, IsFront, IsBehind, IsPaddingOf, IsSequenceOf}
+use Rattle.ff_xdr.specs.Faults.{BeginsString, Item, Length, Padding, Sequence, IsFront, IsBehind, IsPaddingOf, IsSequenceOf}
 use Rattle.ff_xdr.proofs.Places.{err_is, stands_join}
 use Rattle.ff_xdr.proofs.Fields.{length-word, length_takes, utf8-may_begin}
-use Rattle.ff_xdr.proofs.Sequences.{valid_front, valid_most, rest_encodes, may_begin_false}
+use Rattle.ff_xdr.proofs.Sequences.{valid_front}
 use Rattle.ff_xdr.proofs.Utf8.{may_begin_utf8}
+use Rattle.ff_xdr.proofs.TextParts.{may_begin_rest, valid_len_rest}
+use Rattle.ff_xdr.proofs.TextGoesOn.{beginning_right}
 use Rattle.ff_xdr.proofs.Begun.{bind_err, not_err, counted, zeros_split, length-part, zeros_ascii}
 use Rattle.ff_xdr.proofs.Stopped.{IsTrouble, Stopped, stopped_here, stopped_second, length_trouble, rest_stands, padding_stop}
 
@@ -117,83 +118,6 @@ opaque_stopped max bytes at e fits le is =
           (fixed_stopped (λ text. (length text ≡ h.0.0) × (length text ≤ max)) h.0.0 bytes h.0.1 e t.0.within (λ text len. (len, omega (arith, len, t.1))) h.2)
     ]
 
--- ---- bytes behind a text
-
-same_truth : (a b : Bool) → (a ≡ true → b ≡ true) → (b ≡ true → a ≡ true) → a ≡ b
-same_truth true b f g = sym (f refl)
-same_truth false true f g = absurd (false≢true (g refl))
-same_truth false false f g = refl
-
-pub rest_utf8 : (u rest : List ℕ) → IsUtf8 u → IsUtf8 (u ++ rest) → IsUtf8 rest
-rest_utf8 u rest front whole = rest_encodes front.0 whole.0 rest whole.1.0 (ap (λ (t : List ℕ). t ++ rest) front.1.1 ∙ sym whole.1.1)
-
-pub take_behind : (u rest : List ℕ) (k : ℕ) → take (length u + k) (u ++ rest) ≡ u ++ take k rest
-take_behind u rest k = rw (take-add (length u) k (u ++ rest), take_at u rest (length u) refl, drop_at u rest (length u) refl) refl
-
--- behind a text the longest beginning is longer by it
-pub valid_len_behind : (u rest : List ℕ) → IsUtf8 u → utf8_valid_len (u ++ rest) ≡ length u + utf8_valid_len rest
-valid_len_behind u rest text =
-    let a = utf8_valid_len (u ++ rest) in
-    let b = utf8_valid_len rest in
-    let size = length-append u rest in
-    let low : length u + b ≤ a = elim (cases_lt a (length u + b)) [
-      | inl less ↦
-          let front : IsUtf8 (take (length u + b) (u ++ rest)) = subst IsUtf8 (sym (take_behind u rest b)) (IsUtf8-append u (take b rest) text (valid_front rest)) in
-          absurd (valid_most (u ++ rest) (length u + b) less (omega (arith, size, utf8_valid_len_le rest)) front)
-      | inr le ↦ le
-    ] in
-    let high : a ≤ length u + b = elim (cases_lt (length u + b) a) [
-      | inl less ↦
-          let k = a - length u in
-          let sum : a ≡ length u + k = omega (arith, less) in
-          let front : IsUtf8 (take (length u + k) (u ++ rest)) = subst (λ (j : ℕ). IsUtf8 (take j (u ++ rest))) sum (valid_front (u ++ rest)) in
-          let part : IsUtf8 (take k rest) = rest_utf8 u (take k rest) text (subst IsUtf8 (take_behind u rest k) front) in
-          absurd (valid_most rest k (omega (arith, less)) (omega (arith, size, utf8_valid_len_le (u ++ rest))) part)
-      | inr le ↦ le
-    ] in
-    omega (arith, low, high)
-
-lt_behind : (u m n : ℕ) → nat_lt (u + m) (u + n) ≡ nat_lt m n
-lt_behind u m n = same_truth _ _ (λ e. lt-ltb m n (omega (arith, ltb-true _ _ e))) (λ e. lt-ltb (u + m) (u + n) (omega (arith, ltb-true _ _ e)))
-
-le_behind : (u m n : ℕ) → nat_le (u + m) (u + n) ≡ nat_le m n
-le_behind u m n = same_truth _ _ (λ e. le-leb m n (omega (arith, leb-true _ _ e))) (λ e. le-leb (u + m) (u + n) (omega (arith, leb-true _ _ e)))
-
--- bytes behind a text may begin the rest of it just where all of them may begin the whole
-pub may_begin_behind : (u rest : List ℕ) (n : ℕ) → IsUtf8 u → may_begin_text (length u + n) (u ++ rest) ≡ may_begin_text n rest
-unfolding may_begin_text
-may_begin_behind u rest n text =
-    let b = utf8_valid_len rest in
-    let c = continuation_len (get_or rest b 0) in
-    let whole : is_utf8 (u ++ rest) ≡ is_utf8 rest = same_truth _ _
-    (λ e. is_utf8-from_IsUtf8 rest (rest_utf8 u rest text (IsUtf8-from_is_utf8 _ e)))
-    (λ e. is_utf8-from_IsUtf8 (u ++ rest) (IsUtf8-append u rest text (IsUtf8-from_is_utf8 rest e))) in
-    let left : drop (length u + b) (u ++ rest) ≡ drop b rest = drop-append-add u rest b in
-    let byte : get_or (u ++ rest) (length u + b) 0 ≡ get_or rest b 0 = get_or-append-add u rest b 0 in
-    let few : nat_lt (length u + length rest) (length u + n) ≡ nat_lt (length rest) n = lt_behind (length u) (length rest) n in
-    let sum : length u + b + 1 + c ≡ length u + (b + 1 + c) = omega arith in
-    let room : nat_le (length u + (b + 1 + c)) (length u + n) ≡ nat_le (b + 1 + c) n = le_behind (length u) (b + 1 + c) n in
-    rw (whole, valid_len_behind u rest text, left, byte, length-append u rest, few, sum, room) refl
-
-valid_split : (t : List ℕ) → take (utf8_valid_len t) t ++ drop (utf8_valid_len t) t ≡ t
-valid_split t = take-append-drop (utf8_valid_len t) t
-
--- the bytes behind the longest beginning that is a text may begin the rest just where all of them may begin the whole
-pub may_begin_rest : (n : ℕ) (t : List ℕ) → utf8_valid_len t ≤ n → may_begin_text (n - utf8_valid_len t) (drop (utf8_valid_len t) t) ≡ may_begin_text n t
-may_begin_rest n t le =
-    let v = utf8_valid_len t in
-    let len : length (take v t) ≡ v = length-take-le v t (utf8_valid_len_le t) in
-    let sum : length (take v t) + (n - v) ≡ n = omega (arith, len, le) in
-    sym (may_begin_behind (take v t) (drop v t) (n - v) (valid_front t)) ∙ ap (λ (k : ℕ). may_begin_text k (take v t ++ drop v t)) sum ∙ ap (λ (u : List ℕ). may_begin_text n u) (valid_split t)
-
--- none of them are a text
-pub valid_len_rest : (t : List ℕ) → utf8_valid_len (drop (utf8_valid_len t) t) ≡ 0
-valid_len_rest t =
-    let v = utf8_valid_len t in
-    let len : length (take v t) ≡ v = length-take-le v t (utf8_valid_len_le t) in
-    let sum : v ≡ length (take v t) + utf8_valid_len (drop v t) = ap utf8_valid_len (sym (valid_split t)) ∙ valid_len_behind (take v t) (drop v t) (valid_front t) in
-    omega (arith, sum, len)
-
 -- ---- texts
 
 abbrev pub text_items : List ℕ → ℕ → Item → Type 0
@@ -252,29 +176,40 @@ fault_stopped P n bytes at e le fault same fit =
       | inr all ↦ absurd (both_ways _ fault (may_begin_utf8 n front (subst IsUtf8 (take_all v front (omega (arith, all, size))) (valid_front front))))
     ] in
     let rest = rest_of_text n v bytes at (omega (arith, room)) in
-    let begins : may_begin_text (n - v) (take (n - v) (drop (at + v) bytes)) ≡ false = ap (λ (t : List ℕ). may_begin_text (n - v) t) rest ∙ may_begin_rest n front (omega (arith, room)) ∙ fault in
+    let stands = take (n - v) (drop (at + v) bytes) in
+    let wrong : may_begin_text (n - v) stands ≡ false = ap (λ (t : List ℕ). may_begin_text (n - v) t) rest ∙ may_begin_rest n front (omega (arith, room)) ∙ fault in
+    let begins : ¬ (BeginsString (n - v) stands) = λ h. both_ways _ wrong ((beginning_right (n - v) stands (omega (arith, length-take (n - v) (drop (at + v) bytes)))).1 h) in
     let none : utf8_valid_len (take (n - v) (drop (at + v) bytes)) ≡ 0 = ap utf8_valid_len rest ∙ valid_len_rest front in
     sequence_stopped P n bytes at e le room (subst (λ (d : XdrError). IsTrouble d bytes (Sequence (n - v)) (at + v)) (sym same) (inl (refl, (begins, none)))) fit
 
--- the bytes end in what may begin a text
+-- the bytes end in what some text begins with
+begun_stopped : (P : List ℕ → Type 0) (n : ℕ) (bytes : List ℕ) (at : ℕ) (e : XdrError) → at ≤ length bytes → length bytes < at + n → e.why ≡ Short
+    → (text : List ℕ) → length text ≡ n → P text → take (length (drop at bytes)) text ≡ drop at bytes → Stopped padded P text_items bytes at e
+unfolding padded
+begun_stopped P n bytes at e le cut short text len fit begins =
+    let here = drop at bytes in
+    let rest = drop (length here) text in
+    let pad : List ℕ = replicate (pad_len (length text)) 0 in
+    let split : text ≡ here ++ rest = sym (take-append-drop (length here) text) ∙ ap (λ (t : List ℕ). t ++ rest) begins in
+    record {
+      value = text;
+      fits = fit;
+      part = here;
+      rest = rest ++ pad;
+      spelt = ap (λ (t : List ℕ). t ++ pad) split ∙ append_assoc here rest pad;
+      to = length bytes;
+      there = rest_stands bytes at le;
+      stop = inl (short, refl, omega (arith, length-append text pad, len, length-drop at bytes, cut, le));
+    }
+
 cut_stopped : (P : List ℕ → Type 0) (n : ℕ) (bytes : List ℕ) (at : ℕ) (e : XdrError) → at ≤ length bytes → may_begin_text n (take n (drop at bytes)) ≡ true → length bytes < at + n → e.why ≡ Short
     → ((text : List ℕ) → length text ≡ n → is_utf8 text ≡ true → P text) → Stopped padded P text_items bytes at e
 cut_stopped P n bytes at e le may cut short fit =
-    let front = take n (drop at bytes) in
-    let v = utf8_valid_len front in
-    let within : v ≤ length front = utf8_valid_len_le front in
-    let size = length-take n (drop at bytes) in
-    let size-drop = length-drop at bytes in
-    let room : v < n = omega (arith, within, size, size-drop, cut, le) in
-    let few : length front < v + 4 = elim (cases_lt (length front) (v + 4)) [
-      | inl lt ↦ lt
-      | inr four ↦ absurd (both_ways _ (may_begin_false n front four) may)
-    ] in
-    let rest = rest_of_text n v bytes at (omega (arith, room)) in
-    let all : take (n - v) (drop (at + v) bytes) ≡ drop (at + v) bytes = take_all (n - v) (drop (at + v) bytes) (omega (arith, length-drop (at + v) bytes, cut)) in
-    let begins : may_begin_text (n - v) (drop (at + v) bytes) ≡ true = ap (λ (t : List ℕ). may_begin_text (n - v) t) (sym all ∙ rest) ∙ may_begin_rest n front (omega (arith, room)) ∙ may in
-    let end : length bytes ≡ at + length front = omega (arith, size, size-drop, cut, le) in
-    sequence_stopped P n bytes at e le room (inr (short, (omega (arith, end, few), omega (arith, cut, room), begins))) fit
+    let here = drop at bytes in
+    let few : length here ≤ n = omega (arith, length-drop at bytes, cut, le) in
+    let begins : may_begin_text n here ≡ true = subst (λ (t : List ℕ). may_begin_text n t ≡ true) (take_all n here few) may in
+    let h = (beginning_right n here few).0 begins in
+    begun_stopped P n bytes at e le cut short h.0 h.1 (fit h.0 h.1 h.2) h.3
 
 pub text_stopped : (max : ℕ) (bytes : List ℕ) (at : ℕ) (e : XdrError) → IsBytes bytes → at ≤ length bytes → text_at max bytes at ≡ Err e
     → Stopped counted (λ text. (length text ≤ max) × (is_utf8 text ≡ true)) (counted_items max text_items) bytes at e

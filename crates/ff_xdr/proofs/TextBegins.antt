@@ -14,7 +14,7 @@ use Rattle.std.proofs.Math.Utf8.{scalar_cases}
 use Rattle.ff_xdr.specs.Reading.{may_begin_text}
 use Rattle.ff_xdr.proofs.Utf8.{may_begin_utf8}
 use Rattle.ff_xdr.proofs.Sequences.{valid_front, valid_most}
-use Rattle.ff_xdr.proofs.StoppedText.{rest_utf8, may_begin_rest, valid_len_rest}
+use Rattle.ff_xdr.proofs.TextParts.{rest_utf8, may_begin_rest, valid_len_rest}
 
 -- ---- the bytes of a character
 

@@ -1,6 +1,6 @@
 -- What may begin a text of n bytes goes on as one.
 use Rattle.std.proofs.Common.{◌≡◌, ℕ, ◌+◌, ◌-◌, ◌/◌, ◌%◌, ◌*◌, ◌<◌, ◌≤◌, Bool, true, false, cond, List, [], ◌∷◌, ◌++◌, length, get_or, take, drop, replicate, Some, None, refl, sym, ap, subst, ◌∙◌, append_assoc, append-nil, arith, inl, inr}
-use Rattle.std.specs.Prelude.{IsTrue, Option, is_none, nat_le}
+use Rattle.std.specs.Prelude.{Option, is_none, nat_le}
 use Rattle.std.specs.Char.{encode_utf8, IsScalar}
 use Rattle.std.specs.Int.{is_in_range}
 use Rattle.std.specs.Str.{is_utf8, IsUtf8, continuation_len}
@@ -12,10 +12,10 @@ use Rattle.std.proofs.lemmas.Grind.{common_steps}
 use Rattle.std.proofs.lemmas.Bool.Decides.{nat_tests}
 use Rattle.std.proofs.lemmas.List.{length-append, length-drop, length-replicate, take_at, take_all, take-append-drop, get_or-drop}
 use Rattle.ff_xdr.specs.Reading.{may_begin_text}
-use Rattle.ff_xdr.specs.Faults.{IsBeginningRight}
+use Rattle.ff_xdr.specs.Faults.{BeginsString, IsBeginningRight}
 use Rattle.ff_xdr.proofs.Begun.{zeros_ascii}
 use Rattle.ff_xdr.proofs.Sequences.{valid_front, valid_most, error_len_of_four}
-use Rattle.ff_xdr.proofs.StoppedText.{valid_len_rest}
+use Rattle.ff_xdr.proofs.TextParts.{valid_len_rest}
 use Rattle.ff_xdr.proofs.TextBegins.{two, three, four, lead_two, lead_three, lead_four, text_begins}
 
 high_scalar : (c : ℕ) → 57344 ≤ c → c < 1114112 → IsScalar c
@@ -202,12 +202,8 @@ sequence_goes_on (x ∷ y ∷ z ∷ w ∷ rest) some valid none = absurd (both_w
 
 -- ---- bytes that may begin a text
 
--- a text of n bytes begins so
-abbrev BeginsText : ℕ → List ℕ → Type 0
-BeginsText n front = (text : List ℕ) × (length text ≡ n) × IsTrue (is_utf8 text) × (take (length front) text ≡ front)
-
 -- a text goes on with zeros
-whole_goes_on : (n : ℕ) (front more : List ℕ) → IsUtf8 (front ++ more) → length (front ++ more) ≤ n → BeginsText n front
+whole_goes_on : (n : ℕ) (front more : List ℕ) → IsUtf8 (front ++ more) → length (front ++ more) ≤ n → BeginsString n front
 whole_goes_on n front more text room =
     let zeros : List ℕ = replicate (n - length (front ++ more)) 0 in
     let all : IsUtf8 ((front ++ more) ++ zeros) = IsUtf8-append (front ++ more) zeros text (IsUtf8-from_ascii zeros (zeros_ascii (n - length (front ++ more)))) in
@@ -215,13 +211,13 @@ whole_goes_on n front more text room =
     let begins : take (length front) ((front ++ more) ++ zeros) ≡ front = ap (λ (t : List ℕ). take (length front) t) (append_assoc front more zeros) ∙ take_at front (more ++ zeros) (length front) refl in
     ((front ++ more) ++ zeros, size, is_utf8-from_IsUtf8 _ all, begins)
 
-text_goes_on : (n : ℕ) (front : List ℕ) → length front ≤ n → may_begin_text n front ≡ true → BeginsText n front
+text_goes_on : (n : ℕ) (front : List ℕ) → length front ≤ n → may_begin_text n front ≡ true → BeginsString n front
 unfolding may_begin_text
 text_goes_on n front le may =
     let v = utf8_valid_len front in
     let rest = drop v front in
     let within = utf8_valid_len_le front in
-    let whole : IsUtf8 front → BeginsText n front =
+    let whole : IsUtf8 front → BeginsString n front =
     λ text. whole_goes_on n front [] (subst IsUtf8 (sym (append-nil front)) text) (subst (λ (t : List ℕ). length t ≤ n) (sym (append-nil front)) le) in
     elim (or_cases (is_utf8 front) _ may) [
       | inl text ↦ whole (IsUtf8-from_is_utf8 front text)
