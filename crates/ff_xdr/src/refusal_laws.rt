@@ -11,8 +11,9 @@ ghost use Rattle.ff_xdr.specs.Unbuilt.{IsUnbuiltRight};
 /// or a sequence of a string) of which what stands in the bytes is none.
 ///
 /// Bytes are short just where they end in a value: they are its beginning, and not all of it; or its
-/// beginning up to an item that they end in, of which up to three bytes stand. A word is looked at whole.
-/// Of a string what stands may begin it just where some string of that length begins so (RFC 3629).
+/// beginning up to a bool, a discriminant or a length, of which fewer than its four bytes stand. What
+/// stands of a string is looked at before all of it is there: it is taken just where some string of that
+/// length begins so (RFC 3629).
 ///
 /// The same holds of a union whose number is known from outside, as the procedure of a call.
 ///
