@@ -141,7 +141,7 @@ error_len_of_four t four =
     let all : ltb (length t) 4 ≡ false = le-ltb _ _ four in
     rw (some, two, three, all) (some_is_some (is_in_range 0xC2 0xF4 x) (is_in_range (second_byte_min x) (second_byte_max x) (get_or t 1 0)) (is_in_range 0x80 0xBF (get_or t 2 0)))
 
-pub may_begin_false : (n : ℕ) (t : List ℕ) → utf8_valid_len t + 4 ≤ length t → may_begin_text n t ≡ false
+may_begin_false : (n : ℕ) (t : List ℕ) → utf8_valid_len t + 4 ≤ length t → may_begin_text n t ≡ false
 unfolding may_begin_text
 may_begin_false n t room =
     let v = utf8_valid_len t in
