@@ -10,7 +10,7 @@ use Rattle.ff_xdr.proofs.Again.{sound_case, again_where}
 use Rattle.ff_xdr.proofs.SpelledSo.{case_cases, spelled_in}
 
 -- a value of a union that avoids n is of another arm
-arm_apart : (form : Form) (n : ℕ) (v : Value form) → IsTrue (is_union form) → IsTrue (avoids n form) → eqb (arm_of form v) n ≡ false
+pub arm_apart : (form : Form) (n : ℕ) (v : Value form) → IsTrue (is_union form) → IsTrue (avoids n form) → eqb (arm_of form v) n ≡ false
 arm_apart (Arm number body others) n (inl v) union away =
     let other = not-true (eqb n number) (and_parts (not (eqb n number)) (avoids n others) away).0 in
     ne_eqb number n (λ same. both_ways _ other (eq-eqb n number (sym same)))

@@ -157,12 +157,12 @@ fixed_refused n bytes at e is other =
           (le, padding_refused (pad_len n) bytes (at + n) e le (not_err (padding_at (pad_len n) bytes (at + n)) (λ to. (take n (drop at bytes), to)) e (rw room at is)) other)
     ]
 
-zeros_split : (k n : ℕ) → k ≤ n → replicate {A = ℕ} n 0 ≡ replicate k 0 ++ replicate (n - k) 0
+pub zeros_split : (k n : ℕ) → k ≤ n → replicate {A = ℕ} n 0 ≡ replicate k 0 ++ replicate (n - k) 0
 zeros_split k n le =
     let sum : n ≡ k + (n - k) = omega (arith, le) in
     ap (λ (j : ℕ). replicate j 0) sum ∙ sym (replicate-append-replicate k (n - k) 0)
 
-length-part : (n : ℕ) (bytes : List ℕ) (at : ℕ) → at + n ≤ length bytes → length (take n (drop at bytes)) ≡ n
+pub length-part : (n : ℕ) (bytes : List ℕ) (at : ℕ) → at + n ≤ length bytes → length (take n (drop at bytes)) ≡ n
 length-part n bytes at room = omega (arith, length-take n (drop at bytes), length-drop at bytes, room)
 
 pub begun_fixed : (P : List ℕ → Type 0) (n : ℕ) (bytes : List ℕ) (at : ℕ) (e : XdrError) → fixed_at n bytes at ≡ Err e → ¬ (e.why ≡ Short) → (length (take n (drop at bytes)) ≡ n → P (take n (drop at bytes))) → Begun padded P bytes at e.place
@@ -205,7 +205,7 @@ begun_opaque max bytes at e fits le is other =
 
 -- ---- texts
 
-zeros_ascii : (n : ℕ) → IsAscii (replicate n 0)
+pub zeros_ascii : (n : ℕ) → IsAscii (replicate n 0)
 zeros_ascii n = λ i. elim (cases_lt i n) [
   | inl lt ↦ rw (get_or-replicate {A = ℕ} n i 0 0 lt) (omega arith)
   | inr past ↦ rw (get_or_past {X = ℕ} (replicate n 0) i 0 (omega (arith, past, length-replicate {A = ℕ} n 0))) (omega arith)

@@ -100,7 +100,7 @@ hyper_again bytes at z to fits s =
     let back = to_z-of_z w64 z fits in
     rw (read, back) refl
 
-hyper_fits : (n : ℕ) → n < 2 ^ 64 → FitsSigned w64 (cast_signed w64 n)
+pub hyper_fits : (n : ℕ) → n < 2 ^ 64 → FitsSigned w64 (cast_signed w64 n)
 hyper_fits n lt = search (rules, lt)
 
 pub hyper_takes : (bytes : List ℕ) (at : ℕ) (z : ℤ) (to : ℕ) → IsBytes bytes → at ≤ length bytes → hyper_at bytes at ≡ Ok (z, to) → FitsSigned w64 z × Stands bytes at (long (cast_unsigned w64 z)) to
@@ -121,7 +121,7 @@ zero_stands bytes at lt e =
       within = omega arith;
     }
 
-zero_is : (bytes : List ℕ) (at to : ℕ) → Stands bytes at (0 ∷ []) to → get_or bytes at 0 ≡ 0
+pub zero_is : (bytes : List ℕ) (at to : ℕ) → Stands bytes at (0 ∷ []) to → get_or bytes at 0 ≡ 0
 zero_is bytes at to s =
     let lt : at < length bytes = omega (arith, s.ends, s.within) in
     let one : get_or bytes at 0 ∷ [] ≡ 0 ∷ [] = sym (ap (λ (t : List ℕ). take 1 t) (drop_more bytes at 0 lt)) ∙ s.stands in

@@ -1,5 +1,5 @@
 -- Up to a refused place some value has the bytes, of every form.
-use Rattle.std.proofs.Common.{◌≡◌, ℕ, zero, suc, ◌-◌, ◌<◌, ◌≤◌, ◌^◌, ℤ, pos, Bool, true, false, not, ◌||◌, cond, eqb, ltb, List, [], ◌∷◌, ◌++◌, length, take, replicate, Some, None, Ok, Err, refl, sym, ap, subst, ◌∙◌, append-nil, arith, rules, inl, inr}
+use Rattle.std.proofs.Common.{◌≡◌, ℕ, zero, suc, ◌-◌, ◌<◌, ◌≤◌, ◌^◌, pos, Bool, true, false, not, ◌||◌, cond, eqb, ltb, List, [], ◌∷◌, ◌++◌, length, take, replicate, Some, None, Ok, Err, refl, sym, ap, subst, ◌∙◌, append-nil, arith, rules, inl, inr}
 use Rattle.std.specs.Prelude.{IsTrue, ◌⊎◌}
 use Rattle.std.specs.Int.{w32, w64}
 use Rattle.std.specs.Int.RustNames.{FitsSigned}
@@ -33,7 +33,7 @@ none_above (n ∷ numbers) all =
     let apart : eqb (2 ^ 32 - 1) n ≡ false = ne_eqb (2 ^ 32 - 1) n (λ same. absurd (omega (arith, same, less))) in
     rw apart (none_above numbers a.1)
 
-some_value : (form : Form) → IsTrue (is_filled form) → (v : Value form) × Fits form v
+pub some_value : (form : Form) → IsTrue (is_filled form) → (v : Value form) × Fits form v
 some_value Void filled = (tt, tt)
 some_value Number32 filled = (0, omega arith)
 some_value Number64 filled = (0, omega arith)
@@ -59,12 +59,12 @@ some_value (Default numbers) filled = (2 ^ 32 - 1, (omega arith, none_above numb
 
 -- ---- several values
 
-all_same : {M : Type 0} (P : M → Type 0) (n : ℕ) (v : M) → P v → AllByRecursion P (replicate n v)
+pub all_same : {M : Type 0} (P : M → Type 0) (n : ℕ) (v : M) → P v → AllByRecursion P (replicate n v)
 all_same P zero v fits = tt
 all_same P (suc n) v fits = (fits, all_same P n v fits)
 
 -- so many values of which each has a spelling
-abbrev Many : {M : Type 0} → (M → Type 0) → ℕ → List M → Type 0
+abbrev pub Many : {M : Type 0} → (M → Type 0) → ℕ → List M → Type 0
 Many P n vs = (length vs ≡ n) × AllByRecursion P vs
 
 begun_many : {M : Type 0} (each : ℕ → Read M) (spell : M → List ℕ) (P : M → Type 0) (some : M) (bytes : List ℕ) (e : XdrError) → P some → ¬ (e.why ≡ Short)
@@ -98,7 +98,7 @@ end_refused NoArm bytes at e end is other =
 end_refused _ bytes at e end is other = absurd (false≢true end)
 
 -- the arm that was refused, or one of the others
-case_err : {A B : Type 0} (b : Bool) (body : Read A) (others : Read B) (e : XdrError) → arm_at b body others ≡ Err e → ((b ≡ true) × (body ≡ Err e)) ⊎ ((b ≡ false) × (others ≡ Err e))
+pub case_err : {A B : Type 0} (b : Bool) (body : Read A) (others : Read B) (e : XdrError) → arm_at b body others ≡ Err e → ((b ≡ true) × (body ≡ Err e)) ⊎ ((b ≡ false) × (others ≡ Err e))
 case_err true body others e is = inl (refl, not_err body (λ v. (inl v.0, v.1)) e is)
 case_err false body others e is = inr (refl, not_err others (λ v. (inr v.0, v.1)) e is)
 
@@ -218,7 +218,7 @@ first_whole_fault form sound filled = λ bytes at e fits le is other. elim (whol
 abbrev IsArmBegun : Form → ℕ → List ℕ → ℕ → ℕ → Type 0
 IsArmBegun form n bytes at place = Begun (λ v. arm_spelling form v) (λ v. Fits form v × (arm_of form v ≡ n)) bytes at place
 
-no_arm_at_end : (form : Form) (n : ℕ) → is_end form ≡ true → has_arm n form ≡ true → ⊥
+pub no_arm_at_end : (form : Form) (n : ℕ) → is_end form ≡ true → has_arm n form ≡ true → ⊥
 no_arm_at_end NoArm n end has = false≢true has
 no_arm_at_end _ n end has = false≢true end
 

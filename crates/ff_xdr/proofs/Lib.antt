@@ -14,3 +14,14 @@ pub mod Begun
 pub mod FirstFault
 pub mod NotRest
 pub mod WholeArms
+pub mod Stopped
+pub mod StoppedText
+pub mod StoppedForms
+pub mod Named
+pub mod NotBuilt
+pub mod TextBegins
+pub mod CutShort
+pub mod CutForms
+pub mod ArmFaults
+pub mod TextGoesOn
+pub mod TextParts

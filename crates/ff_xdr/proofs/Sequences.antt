@@ -23,7 +23,7 @@ same_short n a b lt e =
     sym (take_all n a (omega arith)) ∙ e ∙ take_all n b short
 
 -- what stands behind the beginning of a text that is a text is one
-rest_encodes : (ds cs rest : List ℕ) → all_scalars cs ≡ true → encode_utf8_all ds ++ rest ≡ encode_utf8_all cs → (es : List ℕ) × ((all_scalars es ≡ true) × (encode_utf8_all es ≡ rest))
+pub rest_encodes : (ds cs rest : List ℕ) → all_scalars cs ≡ true → encode_utf8_all ds ++ rest ≡ encode_utf8_all cs → (es : List ℕ) × ((all_scalars es ≡ true) × (encode_utf8_all es ≡ rest))
 rest_encodes [] cs rest ok e = (cs, (ok, sym e))
 rest_encodes (d ∷ ds) [] rest ok e =
     let none : length (encode_utf8 d ++ (encode_utf8_all ds ++ rest)) ≡ 0 = ap (λ (t : List ℕ). length t) (sym (append_assoc (encode_utf8 d) (encode_utf8_all ds) rest) ∙ e) in
@@ -95,7 +95,7 @@ pub valid_front : (t : List ℕ) → IsUtf8 (take (utf8_valid_len t) t)
 unfolding utf8_valid_len
 valid_front t = up_to_front t (length t)
 
-valid_most : (t : List ℕ) (k : ℕ) → utf8_valid_len t < k → k ≤ length t → ¬ (IsUtf8 (take k t))
+pub valid_most : (t : List ℕ) (k : ℕ) → utf8_valid_len t < k → k ≤ length t → ¬ (IsUtf8 (take k t))
 unfolding utf8_valid_len
 valid_most t k lt le = up_to_most t (length t) k lt le
 
@@ -131,7 +131,7 @@ some_is_some true false z = refl
 some_is_some false y z = refl
 
 -- four bytes tell how the sequence that they begin with is wrong
-error_len_of_four : (t : List ℕ) → 4 ≤ length t → is_none (utf8_error_len t) ≡ false
+pub error_len_of_four : (t : List ℕ) → 4 ≤ length t → is_none (utf8_error_len t) ≡ false
 unfolding utf8_error_len
 error_len_of_four t four =
     let x = get_or t 0 0 in

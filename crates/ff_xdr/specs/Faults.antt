@@ -1,5 +1,5 @@
 -- What stands at a refused place, by the name of the refusal; and which bytes are short.
-use Rattle.std.specs.Prelude.{⊤, ◌≡◌, ◌↔◌, ℕ, ◌+◌, ◌-◌, ◌<◌, ◌≤◌, Bool, true, false, List, [], ◌∷◌, length, take, drop, slice_index, Some, None, Ok, Err, IsTrue, ◌⊎◌}
+use Rattle.std.specs.Prelude.{◌≡◌, ◌↔◌, ℕ, ◌+◌, ◌-◌, ◌<◌, ◌≤◌, true, List, [], ◌∷◌, length, take, drop, slice_index, Some, None, Ok, Err, IsTrue, ◌⊎◌}
 use Rattle.std.proofs.Common.{inl, inr}
 use Rattle.std.specs.Int.{w32}
 use Rattle.std.specs.Str.{is_utf8}
@@ -65,26 +65,27 @@ IsItemAt _ v k item = ⊥
 abbrev pub IsWordAt : List ℕ → ℕ → ℕ → Type 0
 IsWordAt bytes place n = number_at w32 bytes place ≡ Ok (n, place + 4)
 
+-- some string of n bytes begins with these (RFC 3629)
+abbrev pub BeginsString : ℕ → List ℕ → Type 0
+BeginsString n front = (text : List ℕ) × (length text ≡ n) × IsTrue (is_utf8 text) × (take (length front) text ≡ front)
+
 -- What stands at the place is no such item: a word that is neither 0 nor 1; a number that no value begins with; a length above its
--- maximum; a byte of padding that is not zero; bytes with which no string of that length goes on, already in their first sequence.
+-- maximum; a byte of padding that is not zero; bytes with which no string of that length begins, and of which none are a string.
 abbrev pub IsWrong : XdrWhy → Item → List ℕ → ℕ → Type 0
 IsWrong NotBool Truth bytes place = (n : ℕ) × IsWordAt bytes place n × (1 < n)
 IsWrong NotEnum (Choice form) bytes place = (n : ℕ) × IsWordAt bytes place n × IsTrue (avoids n form)
 IsWrong TooLong (Length max) bytes place = (n : ℕ) × IsWordAt bytes place n × (max < n)
 IsWrong Pad Padding bytes place = (place < length bytes) × (0 < slice_index bytes place)
 IsWrong NotUtf8 (Sequence left) bytes place =
-    (may_begin_text left (take left (drop place bytes)) ≡ false) × (utf8_valid_len (take left (drop place bytes)) ≡ 0)
+    (¬ (BeginsString left (take left (drop place bytes)))) × (utf8_valid_len (take left (drop place bytes)) ≡ 0)
 IsWrong why item bytes place = ⊥
 
--- The bytes end in the item, of which at most three bytes stand: a word, which is looked at whole; or a sequence that could still
--- go on within its string.
+-- The bytes end in the item: it is a word, of which at most three bytes stand, since a word is looked at whole.
 abbrev pub IsCut : Item → List ℕ → ℕ → Type 0
 IsCut Truth bytes place = length bytes < place + 4
 IsCut (Choice form) bytes place = length bytes < place + 4
 IsCut (Length max) bytes place = length bytes < place + 4
-IsCut Padding bytes place = ⊥
-IsCut (Sequence left) bytes place =
-    (length bytes < place + 4) × (length bytes < place + left) × (may_begin_text left (drop place bytes) ≡ true)
+IsCut item bytes place = ⊥
 
 -- Values that have spellings: how they are spelled, which of them have one, and the items of it.
 module _ {V : Type 0} (spell : V → List ℕ) (P : V → Type 0) (items : V → ℕ → Item → Type 0) where
@@ -97,7 +98,7 @@ module _ {V : Type 0} (spell : V → List ℕ) (P : V → Type 0) (items : V →
     pub there : items value (e.place - at) item
     pub wrong : IsWrong e.why item bytes e.place
 
-  -- The bytes end in a value: they are the beginning of its spelling up to their end, which is not its own; or up to an item that
+  -- The bytes end in a value: they are the beginning of its spelling up to their end, which is not its own; or up to a word that
   -- they end in.
   pub record EndsInOneOf (bytes : List ℕ) (at : ℕ) : Type 0 where
     pub value : V
@@ -121,6 +122,10 @@ IsNamedRight form = (bytes : List ℕ) (at : ℕ) (e : XdrError) → IsBytes byt
 abbrev pub IsShortJustWhere : Form → Type 0
 IsShortJustWhere form = (bytes : List ℕ) (at : ℕ) → IsBytes bytes → at ≤ length bytes
     → (reading form bytes at ≡ Err (record { place = length bytes; why = Short })) ↔ EndsInValue form bytes at
+
+-- Bytes are taken as the beginning of a string of n bytes just where some string begins so.
+abbrev pub IsBeginningRight : Type 0
+IsBeginningRight = (n : ℕ) (front : List ℕ) → length front ≤ n → (may_begin_text n front ≡ true) ↔ BeginsString n front
 
 -- ---- a union whose number is known from outside
 

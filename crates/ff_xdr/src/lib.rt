@@ -10,6 +10,7 @@ mod laws;
 mod out;
 mod parts;
 mod place;
+mod refusal_laws;
 mod slices;
 #[cfg(test)]
 mod tests;
@@ -23,4 +24,5 @@ pub use error::{NoMemory, XdrError, XdrWhy};
 pub use items::Items;
 pub use laws::{every_arm, every_form, every_message_of};
 pub use out::Out;
+pub use refusal_laws::every_refusal;
 pub use wire::{Message, Wire};
