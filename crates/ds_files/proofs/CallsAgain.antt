@@ -2,17 +2,18 @@
 use Rattle.std.proofs.Common.{◌≡◌, Option, Some, None, refl, ap}
 use Rattle.std.specs.Option.{option_map}
 use Rattle.nfs3_wire.specs.declared.attributes.Time3.{Time3}
-use Rattle.nfs3_wire.specs.declared.setting.SetTime.{SetTime}
-use Rattle.nfs3_wire.specs.declared.setting.SetTime.TheVariants.{Keep, Server, Client}
-use Rattle.nfs3_wire.specs.declared.setting.Sattr3.{Sattr3}
-use Rattle.nfs3_wire.specs.declared.enums.StableHow.{StableHow}
-use Rattle.nfs3_wire.specs.declared.enums.StableHow.TheVariants.{Unstable, DataSync, FileSync}
-use Rattle.nfs3_wire.specs.declared.meta_args.CreateHow.{CreateHow}
-use Rattle.nfs3_wire.specs.declared.meta_args.CreateHow.TheVariants.{Unchecked, Guarded, Exclusive}
-use Rattle.nfs3_wire.specs.Enums.{stable_how_of, stable_how_number}
-use Rattle.nfs3_wire.specs.Attributes.{time3_of, time3_value, set_time_of, set_time_value, sattr3_of, sattr3_value}
-use Rattle.nfs3_wire.specs.Args.{create_how_of, create_how_value}
-use Rattle.nfs3_wire.specs.Calls.{Call, Null, GetAttr, SetAttr, Lookup, Read, Write, Create, FsInfo, Commit, call_of, call_value}
+use Rattle.nfs3_wire.specs.declared.sattr.SetTime.{SetTime}
+use Rattle.nfs3_wire.specs.declared.sattr.SetTime.TheVariants.{Keep, Server, Client}
+use Rattle.nfs3_wire.specs.declared.sattr.Sattr3.{Sattr3}
+use Rattle.nfs3_wire.specs.declared.stable_how.StableHow.{StableHow}
+use Rattle.nfs3_wire.specs.declared.stable_how.StableHow.TheVariants.{Unstable, DataSync, FileSync}
+use Rattle.nfs3_wire.specs.declared.create.CreateHow.{CreateHow}
+use Rattle.nfs3_wire.specs.declared.create.CreateHow.TheVariants.{Unchecked, Guarded, Exclusive}
+use Rattle.nfs3_wire.specs.Stability.{stable_how_of, stable_how_number}
+use Rattle.nfs3_wire.specs.Attributes.{time3_of, time3_value}
+use Rattle.nfs3_wire.specs.Sattr.{set_time_of, set_time_value, sattr3_of, sattr3_value}
+use Rattle.nfs3_wire.specs.Create.{create_how_of, create_how_value}
+use Rattle.nfs3_wire.specs.Calls.{Nfs3Call, Null, GetAttr, SetAttr, Lookup, Read, Write, Create, FsInfo, Commit, call_of, call_value}
 
 how_again : (how : StableHow) → stable_how_of (stable_how_number how) ≡ how
 how_again Unstable = refl
@@ -36,7 +37,7 @@ create_again (Unchecked a) = ap Unchecked (sattr_again a)
 create_again (Guarded a) = ap Guarded (sattr_again a)
 create_again (Exclusive verifier) = refl
 
-pub call_again : (c : Call) → call_of (call_value c) ≡ c
+pub call_again : (c : Nfs3Call) → call_of (call_value c) ≡ c
 call_again Null = refl
 call_again (GetAttr file) = refl
 call_again (SetAttr file attributes guard) = rw (sattr_again attributes, guard_again guard) refl

@@ -4,10 +4,10 @@ use Rattle.std.specs.Prelude.{OnOk, OnErr}
 use Rattle.std.proofs.lemmas.List.{set-get_or, length-set}
 use Rattle.std.proofs.lemmas.List.Sums.{sum_by-set}
 use Rattle.std.proofs.lemmas.Option.{slice_get_read}
-use Rattle.nfs3_wire.specs.declared.enums.Stat3.{Stat3}
+use Rattle.nfs3_wire.specs.declared.status.Stat3.{Stat3}
 use Rattle.rpc_record.specs.declared.auth.AuthSys.{AuthSys}
 use Rattle.rpc_record.specs.Rpc.{plain_credential}
-use Rattle.nfs3_wire.specs.declared.args.WriteArgs.{WriteArgs}
+use Rattle.nfs3_wire.specs.declared.write.WriteArgs.{WriteArgs}
 use Rattle.ds_files.specs.declared.head.Head.{Head}
 use Rattle.cluster_model.specs.Content.{overlay}
 use Rattle.cluster_model.specs.File.{FileState, shown, written}

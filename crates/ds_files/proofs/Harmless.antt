@@ -3,10 +3,10 @@ use Rattle.std.proofs.Common.{◌≡◌, ℕ, List, [], ◌++◌, Option, Some, 
 use Rattle.std.specs.Prelude.{OnOk, OnErr}
 use Rattle.std.proofs.lemmas.Bool.{cond_both}
 use Rattle.rpc_record.specs.Rpc.{Credential}
-use Rattle.nfs3_wire.specs.declared.enums.StableHow.{StableHow}
-use Rattle.nfs3_wire.specs.declared.enums.Stat3.{Stat3}
-use Rattle.nfs3_wire.specs.declared.setting.Sattr3.{Sattr3}
-use Rattle.nfs3_wire.specs.Calls.{Call, Null, GetAttr, SetAttr, Lookup, Read, Write, Create, FsInfo, Commit}
+use Rattle.nfs3_wire.specs.declared.stable_how.StableHow.{StableHow}
+use Rattle.nfs3_wire.specs.declared.status.Stat3.{Stat3}
+use Rattle.nfs3_wire.specs.declared.sattr.Sattr3.{Sattr3}
+use Rattle.nfs3_wire.specs.Calls.{Nfs3Call, Null, GetAttr, SetAttr, Lookup, Read, Write, Create, FsInfo, Commit}
 use Rattle.cluster_model.specs.declared.entry.Entry.{Entry}
 use Rattle.cluster_model.specs.declared.ids.NodeId.{NodeId}
 use Rattle.cluster_model.specs.declared.outbox.Outbox.{Outbox}
@@ -39,7 +39,7 @@ create_at s name cred (Makes a) h = absurd h
 commit_at : (s : ServerState) (index : ℕ) (f : FileState) (cred : Credential) → IsHarmless s (commit_step s (File index f) cred)
 commit_at s index f cred = cond_both (may_write f cred) (commit_done s index f) _ (λ (t : Step). IsHarmless s t) (λ may h. absurd h) (λ not_ h. (refl, refl))
 
-pub refusals : (s : ServerState) (call : Call) (cred : Credential) → IsRefusal (step_of s call cred).reply → HasNoEffect s (step_of s call cred)
+pub refusals : (s : ServerState) (call : Nfs3Call) (cred : Credential) → IsRefusal (step_of s call cred).reply → HasNoEffect s (step_of s call cred)
 refusals s Null cred h = (refl, refl)
 refusals s (GetAttr handle) cred h = (refl, refl)
 refusals s (SetAttr handle a guard) cred h =
@@ -55,7 +55,7 @@ refusals s (Commit handle offset count) cred h =
     at_object s.files (λ (o : Object). IsHarmless s (commit_step s o cred)) (λ status h. (refl, refl)) (λ h. (refl, refl)) (λ index f e. commit_at s index f cred) handle h
 
 -- a call that only asks changes nothing
-pub queries : (s : ServerState) (call : Call) (cred : Credential) → IsQuery call → HasNoEffect s (step_of s call cred)
+pub queries : (s : ServerState) (call : Nfs3Call) (cred : Credential) → IsQuery call → HasNoEffect s (step_of s call cred)
 queries s Null cred h = (refl, refl)
 queries s (GetAttr handle) cred h = (refl, refl)
 queries s (SetAttr handle a guard) cred h = absurd h
@@ -73,7 +73,7 @@ turned_away s (Refused reply) h = (refl, refl)
 turned_away s (Asked xid call cred) h = refusals s call cred h
 
 -- what the server is after a call that was answered by a refusal
-pub refused_stays : (s new : ServerState) (call : Call) (cred : Credential) (answer : Answer) → answer ≡ answer_of (step_of s call cred) → new ≡ (step_of s call cred).server → IsRefusal answer.reply → new ≡ s
+pub refused_stays : (s new : ServerState) (call : Nfs3Call) (cred : Credential) (answer : Answer) → answer ≡ answer_of (step_of s call cred) → new ≡ (step_of s call cred).server → IsRefusal answer.reply → new ≡ s
 refused_stays s new call cred answer is after h = after ∙ (refusals s call cred (subst (λ (a : Answer). IsRefusal a.reply) is h)).0
 
 -- what a step that has no effect leaves
@@ -81,7 +81,7 @@ acts_stay : (s new : ServerState) (xid : ℕ) (t : Step) (node : NodeId) (before
 acts_stay s new xid t node before after none acts = (acts.state ∙ none.0, acts.entries ∙ ap (λ (entries : List Entry). before.entries.items ++ entries) none.1 ∙ append-nil before.entries.items)
 
 -- the same after a record whose call was served
-pub served_stays : {E : Type 0} (result : Result Unit E) (s new : ServerState) (received : Received) (xid : ℕ) (call : Call) (cred : Credential) (node : NodeId) (before after : Outbox) → Asked xid call cred ≡ received
+pub served_stays : {E : Type 0} (result : Result Unit E) (s new : ServerState) (received : Received) (xid : ℕ) (call : Nfs3Call) (cred : Credential) (node : NodeId) (before after : Outbox) → Asked xid call cred ≡ received
     → OnOk result (Acts (outcome_of_step xid (step_of s call cred)) node new before after) → OnErr result ((new ≡ s) × IsAsBefore before after) → IsTurnedAway s received → (new ≡ s) × (after.entries.items ≡ before.entries.items)
 served_stays (Ok u) s new received xid call cred node before after is ok err h = acts_stay s new xid (step_of s call cred) node before after (refusals s call cred (subst (λ (r : Received). IsTurnedAway s r) (sym is) h)) ok
 served_stays (Err e) s new received xid call cred node before after is ok err h = (err.0, err.1.entries)

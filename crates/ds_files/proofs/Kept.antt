@@ -4,7 +4,7 @@ use Rattle.std.specs.Prelude.{◌&&◌, slice_get}
 use Rattle.std.proofs.lemmas.Bool.{cases_eq, or_cases, and_parts, eqb-true}
 use Rattle.std.proofs.lemmas.Option.{same_Some}
 use Rattle.rpc_record.specs.Rpc.{Credential}
-use Rattle.nfs3_wire.specs.Calls.{Call}
+use Rattle.nfs3_wire.specs.Calls.{Nfs3Call}
 use Rattle.cluster_model.specs.declared.tick.Tick.{Tick}
 use Rattle.cluster_model.specs.Ticks.{IsUpTo}
 use Rattle.cluster_model.specs.File.{FileState, FileOp, Writes, Commits, Sets, Restarts, file_after, clock_after, new_file}
@@ -68,7 +68,7 @@ safe_by s cred t i f (Changes index g op e may server entries) there not_root no
     ])
 safe_by s cred t i f (Makes name owner group mode root ticks server entries) there not_root not_owner = absurd (not_root root)
 
-pub strangers : (s : ServerState) (call : Call) (cred : Credential) (i : ℕ) (f : FileState) → IsSafeFromStrangers s call cred i f
+pub strangers : (s : ServerState) (call : Nfs3Call) (cred : Credential) (i : ℕ) (f : FileState) → IsSafeFromStrangers s call cred i f
 strangers s call cred i f there not_root not_owner = safe_by s cred (step_of s call cred) i f (effect s call cred) there not_root not_owner
 
 -- ---- moments
@@ -98,7 +98,7 @@ timed_by s cred t (Changes index f op e may server entries) =
     ])
 timed_by s cred t (Makes name owner group mode root ticks server entries) = rw server (record { number = refl; boot = refl; ticks = inr refl; bounded = λ h. omega (arith, h, ticks) })
 
-pub timed : (s : ServerState) (call : Call) (cred : Credential) → IsTimed s (step_of s call cred)
+pub timed : (s : ServerState) (call : Nfs3Call) (cred : Credential) → IsTimed s (step_of s call cred)
 timed s call cred = timed_by s cred (step_of s call cred) (effect s call cred)
 
 -- a later tick is above the ctimes too
@@ -133,5 +133,5 @@ clocked_by s cred t (Makes name owner group mode root ticks server entries) k = 
         by_place (Old old) = later g (clock s) (next_tick s) (before_up_to (clock s) (next_tick s) (next_before (clock s))) (k i g old)
         by_place (New at is) = rw is (record { stable = up_to_same (next_tick s); shown = up_to_same (next_tick s) })
 
-pub clocked : (s : ServerState) (call : Call) (cred : Credential) → AreClocked s → AreClocked (step_of s call cred).server
+pub clocked : (s : ServerState) (call : Nfs3Call) (cred : Credential) → AreClocked s → AreClocked (step_of s call cred).server
 clocked s call cred k = clocked_by s cred (step_of s call cred) (effect s call cred) k

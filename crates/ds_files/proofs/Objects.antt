@@ -3,8 +3,8 @@ use Rattle.std.proofs.Common.{◌≡◌, ℕ, ◌-◌, zero, suc, cond, eqb, ltb
 use Rattle.std.specs.Prelude.{◌≢◌, slice_get}
 use Rattle.std.specs.Int.{w64, from_be_bytes}
 use Rattle.std.proofs.lemmas.Bool.{cond_both}
-use Rattle.nfs3_wire.specs.declared.enums.Stat3.{Stat3}
-use Rattle.nfs3_wire.specs.declared.enums.Stat3.TheVariants as stat
+use Rattle.nfs3_wire.specs.declared.status.Stat3.{Stat3}
+use Rattle.nfs3_wire.specs.declared.status.Stat3.TheVariants as stat
 use Rattle.cluster_model.specs.File.{FileState}
 use Rattle.ds_files.specs.Server.{Object, Missing, Root, File, file_at, named, object_of}
 

@@ -5,11 +5,11 @@ use Rattle.std.proofs.lemmas.Bool.{eqb-false}
 use Rattle.std.proofs.lemmas.List.{set-get_or, length-set}
 use Rattle.std.proofs.lemmas.List.Sums.{sum_by-set}
 use Rattle.std.proofs.lemmas.Option.{slice_get_read}
-use Rattle.nfs3_wire.specs.declared.enums.Stat3.{Stat3}
-use Rattle.nfs3_wire.specs.declared.enums.Stat3.TheVariants as stat
+use Rattle.nfs3_wire.specs.declared.status.Stat3.{Stat3}
+use Rattle.nfs3_wire.specs.declared.status.Stat3.TheVariants as stat
 use Rattle.nfs3_wire.specs.declared.attributes.Time3.{Time3}
-use Rattle.nfs3_wire.specs.declared.setting.Sattr3.{Sattr3}
-use Rattle.nfs3_wire.specs.declared.meta_args.SetAttrArgs.{SetAttrArgs}
+use Rattle.nfs3_wire.specs.declared.sattr.Sattr3.{Sattr3}
+use Rattle.nfs3_wire.specs.declared.setattr.SetAttrArgs.{SetAttrArgs}
 use Rattle.rpc_record.specs.declared.auth.AuthSys.{AuthSys}
 use Rattle.rpc_record.specs.Rpc.{Credential, plain_credential}
 use Rattle.cluster_model.specs.File.{FileState, shown, committed, set as set_attributes}

@@ -3,14 +3,14 @@ use Rattle.std.proofs.Common.{◌≡◌, ◌≢◌, ℕ, ◌+◌, Bool, true, fa
 use Rattle.std.specs.Prelude.{not, is_some, ◌&&◌, ◌||◌, slice_get}
 use Rattle.std.proofs.lemmas.Bool.{cond_both, eqb-true, eqb-false}
 use Rattle.rpc_record.specs.Rpc.{Credential}
-use Rattle.nfs3_wire.specs.declared.enums.StableHow.{StableHow}
-use Rattle.nfs3_wire.specs.declared.enums.Stat3.{Stat3}
-use Rattle.nfs3_wire.specs.declared.enums.Stat3.TheVariants as stat
+use Rattle.nfs3_wire.specs.declared.stable_how.StableHow.{StableHow}
+use Rattle.nfs3_wire.specs.declared.status.Stat3.{Stat3}
+use Rattle.nfs3_wire.specs.declared.status.Stat3.TheVariants as stat
 use Rattle.nfs3_wire.specs.declared.attributes.Time3.{Time3}
-use Rattle.nfs3_wire.specs.declared.setting.Sattr3.{Sattr3}
-use Rattle.nfs3_wire.specs.declared.meta_args.CreateHow.{CreateHow}
-use Rattle.nfs3_wire.specs.declared.meta_args.CreateHow.TheVariants as how
-use Rattle.nfs3_wire.specs.Calls.{Call, Null, GetAttr, SetAttr, Lookup, Read, Write, Create, FsInfo, Commit}
+use Rattle.nfs3_wire.specs.declared.sattr.Sattr3.{Sattr3}
+use Rattle.nfs3_wire.specs.declared.create.CreateHow.{CreateHow}
+use Rattle.nfs3_wire.specs.declared.create.CreateHow.TheVariants as how
+use Rattle.nfs3_wire.specs.Calls.{Nfs3Call, Null, GetAttr, SetAttr, Lookup, Read, Write, Create, FsInfo, Commit}
 use Rattle.cluster_model.specs.File.{FileState, Writes, Commits, Sets}
 use Rattle.ds_files.specs.Server.{ServerState, Object, File, total_size, may_write, max_file, max_total, max_name, max_ticks, index_of}
 use Rattle.ds_files.specs.Steps.{Step, step_of, write_step, write_file, write_done, write_refusal, room_refusal, files_after, is_synced, commit_step, commit_done, set_step, set_file, set_refusal, changes_of, create_step, create_in, creation, made_how, named_by, made_by, has_size, Creation, NotMade, IsThere, Makes as MakesOne}
@@ -86,7 +86,7 @@ create_at s name manner cred (MakesOne a) is =
 
 -- ---- each call
 
-pub effect : (s : ServerState) (call : Call) (cred : Credential) → Effect s cred (step_of s call cred)
+pub effect : (s : ServerState) (call : Nfs3Call) (cred : Credential) → Effect s cred (step_of s call cred)
 effect s Null cred = Nothing refl refl
 effect s (GetAttr handle) cred = Nothing refl refl
 effect s (SetAttr handle a guard) cred =

@@ -5,7 +5,7 @@ use Rattle.std.proofs.lemmas.Bool.{cases_eq, eq-eqb, ne_eqb}
 use Rattle.std.proofs.lemmas.List.{length-set}
 use Rattle.std.proofs.lemmas.Option.{same_Some, slice_get_within}
 use Rattle.rpc_record.specs.Rpc.{Credential}
-use Rattle.nfs3_wire.specs.Calls.{Call}
+use Rattle.nfs3_wire.specs.Calls.{Nfs3Call}
 use Rattle.cluster_model.specs.declared.ids.MirrorId.{MirrorId}
 use Rattle.cluster_model.specs.declared.tick.Tick.{Tick}
 use Rattle.cluster_model.specs.File.{FileState, FileOp, Writes, Commits, Sets, Restarts, file_after, new_file}
@@ -74,7 +74,7 @@ old_by s cred t (Makes name owner group mode root ticks server entries) i f ther
     let away = other_mirror s (length s.files) i (λ e. absurd (omega (arith, e, less))) in
     (f, rw server here, rw (entries, away) refl)
 
-pub tells_old : (s : ServerState) (call : Call) (cred : Credential) → TellsOld s (step_of s call cred)
+pub tells_old : (s : ServerState) (call : Nfs3Call) (cred : Credential) → TellsOld s (step_of s call cred)
 tells_old s call cred = old_by s cred (step_of s call cred) (effect s call cred)
 
 new_by : (s : ServerState) (cred : Credential) (t : Step) → Effect s cred t → TellsNew s t
@@ -92,5 +92,5 @@ new_by s cred t (Makes name owner group mode root ticks server entries) i g past
     by_place (Old old) = let less = slice_get_within s.files i g old in absurd (omega (arith, less, past))
     by_place (New at is) = rw (entries, is, at, itself (mirror_of s (length s.files))) refl
 
-pub tells_new : (s : ServerState) (call : Call) (cred : Credential) → TellsNew s (step_of s call cred)
+pub tells_new : (s : ServerState) (call : Nfs3Call) (cred : Credential) → TellsNew s (step_of s call cred)
 tells_new s call cred = new_by s cred (step_of s call cred) (effect s call cred)

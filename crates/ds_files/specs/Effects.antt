@@ -2,13 +2,13 @@
 use Rattle.std.specs.Prelude.{◌≡◌, ℕ, ◌+◌, ◌-◌, ◌++◌, [], length, Some, List, slice_get, ◌<◌, ◌^◌}
 use Rattle.rpc_record.specs.declared.auth.AuthSys.{AuthSys}
 use Rattle.rpc_record.specs.Rpc.{plain_credential}
-use Rattle.nfs3_wire.specs.declared.args.ReadArgs.{ReadArgs}
-use Rattle.nfs3_wire.specs.declared.args.WriteArgs.{WriteArgs}
-use Rattle.nfs3_wire.specs.declared.args.CommitArgs.{CommitArgs}
-use Rattle.nfs3_wire.specs.declared.meta_args.SetAttrArgs.{SetAttrArgs}
-use Rattle.nfs3_wire.specs.declared.meta_args.CreateArgs.{CreateArgs}
+use Rattle.nfs3_wire.specs.declared.read.ReadArgs.{ReadArgs}
+use Rattle.nfs3_wire.specs.declared.write.WriteArgs.{WriteArgs}
+use Rattle.nfs3_wire.specs.declared.commit.CommitArgs.{CommitArgs}
+use Rattle.nfs3_wire.specs.declared.setattr.SetAttrArgs.{SetAttrArgs}
+use Rattle.nfs3_wire.specs.declared.create.CreateArgs.{CreateArgs}
 use Rattle.ds_files.specs.declared.head.Head.{Head}
-use Rattle.nfs3_wire.specs.Replies.{Reply, WriteDone}
+use Rattle.nfs3_wire.specs.Replies.{Nfs3Reply, WriteDone}
 use Rattle.cluster_model.specs.declared.ids.MirrorId.{MirrorId}
 use Rattle.cluster_model.specs.File.{FileState, written}
 use Rattle.ds_files.specs.Answer.{Answer}
@@ -61,7 +61,7 @@ ReadsFile files index a cred answer = (f : FileState) → slice_get files index 
     → answer ≡ record { reply = read_file index f a.offset a.count (read_refusal f (plain_credential cred)); entries = [] }
 
 -- an answer that changes nothing
-abbrev pub says : Reply → Answer
+abbrev pub says : Nfs3Reply → Answer
 says reply = record { reply = reply; entries = [] }
 
 -- ---- SETATTR

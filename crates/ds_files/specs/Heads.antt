@@ -1,11 +1,11 @@
 -- A data server by its numbers and its files.
 use Rattle.std.specs.Prelude.{◌≡◌, ℕ, ◌+◌, ◌-◌, ◌<◌, ◌≤◌, List, length, Option, Some, None, max, not, nat_lt, ◌==◌, if◌then◌else◌, slice_get}
 use Rattle.rpc_record.specs.Rpc.{Credential}
-use Rattle.nfs3_wire.specs.declared.enums.Stat3.{Stat3}
-use Rattle.nfs3_wire.specs.declared.enums.Stat3.TheVariants as stat
+use Rattle.nfs3_wire.specs.declared.status.Stat3.{Stat3}
+use Rattle.nfs3_wire.specs.declared.status.Stat3.TheVariants as stat
 use Rattle.std.specs.Option.{option_map}
 use Rattle.ff_xdr.specs.Form.{Fits, Optional}
-use Rattle.nfs3_wire.specs.Enums.{refusal, stat_number}
+use Rattle.nfs3_wire.specs.Status.{refusal, stat_number}
 use Rattle.nfs3_wire.specs.declared.attributes.Fattr3.{Fattr3}
 use Rattle.nfs3_wire.specs.Attributes.{fattr3, fattr3_value}
 use Rattle.ds_files.specs.declared.head.Head.{Head}

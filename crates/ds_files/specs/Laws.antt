@@ -1,9 +1,9 @@
 -- The laws of a data server's rule.
 use Rattle.std.specs.Prelude.{◌≡◌, ◌≢◌, ℕ, ◌+◌, ◌≤◌, true, List, [], ◌∷◌, ◌++◌, length, Some, slice_get, ◌⊎◌}
 use Rattle.rpc_record.specs.Rpc.{Credential}
-use Rattle.nfs3_wire.specs.Calls.{Call}
+use Rattle.nfs3_wire.specs.Calls.{Nfs3Call}
 use Rattle.nfs3_wire.specs.Calls as calls
-use Rattle.nfs3_wire.specs.Replies.{Reply}
+use Rattle.nfs3_wire.specs.Replies.{Nfs3Reply}
 use Rattle.nfs3_wire.specs.Replies as replies
 use Rattle.cluster_model.specs.declared.piece.Piece.{Piece}
 use Rattle.cluster_model.specs.declared.ids.MirrorId.{MirrorId}
@@ -18,12 +18,12 @@ use Rattle.ds_files.specs.Steps.{Step, step_of, with_file, mirror_of, root_after
 use Rattle.ds_files.specs.Receive.{Received, Silent, Refused, Asked}
 
 -- the file at an index stays as it is when one calls who is neither uid 0 nor its owner
-abbrev pub IsSafeFromStrangers : ServerState → Call → Credential → ℕ → FileState → Type 0
+abbrev pub IsSafeFromStrangers : ServerState → Nfs3Call → Credential → ℕ → FileState → Type 0
 IsSafeFromStrangers s call cred index f =
     slice_get s.files index ≡ Some f → cred.uid ≢ 0 → cred.uid ≢ f.owner → slice_get (step_of s call cred).server.files index ≡ Some f
 
 -- a call is refused
-abbrev pub IsRefusal : Reply → Type 0
+abbrev pub IsRefusal : Nfs3Reply → Type 0
 IsRefusal (replies.GetAttrRefused status) = Unit {0}
 IsRefusal (replies.SetAttrRefused status wcc) = Unit {0}
 IsRefusal (replies.LookupRefused status directory) = Unit {0}
@@ -35,7 +35,7 @@ IsRefusal (replies.CommitRefused status wcc) = Unit {0}
 IsRefusal _ = ⊥
 
 -- a call that only asks
-abbrev pub IsQuery : Call → Type 0
+abbrev pub IsQuery : Nfs3Call → Type 0
 IsQuery calls.Null = Unit {0}
 IsQuery (calls.GetAttr file) = Unit {0}
 IsQuery (calls.Lookup directory name) = Unit {0}

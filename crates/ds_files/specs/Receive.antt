@@ -8,7 +8,7 @@ use Rattle.rpc_record.specs.declared.call.CallFault.TheVariants.{NotACall, RpcVe
 use Rattle.rpc_record.specs.Rpc.{Credential, credential_of, authsys_parms}
 use Rattle.rpc_record.specs.Calls as rpc
 use Rattle.rpc_record.specs.Replies as rpc_reply
-use Rattle.nfs3_wire.specs.Calls.{Call, calls, call_of}
+use Rattle.nfs3_wire.specs.Calls.{Nfs3Call, calls, call_of}
 use Rattle.nfs3_wire.specs.Replies.{replies, reply_value}
 use Rattle.cluster_model.specs.declared.entry.Entry.{Entry}
 use Rattle.ds_files.specs.Server.{ServerState}
@@ -18,11 +18,11 @@ use Rattle.ds_files.specs.Steps.{Step, step_of}
 pub data Received : Type 0 where
   Silent : Received
   Refused : (reply : rpc_reply.Reply) → Received
-  Asked : (xid : ℕ) (call : Call) (cred : Credential) → Received
+  Asked : (xid : ℕ) (call : Nfs3Call) (cred : Credential) → Received
 
 -- a reply with no verifier, which is how a data server replies
 abbrev pub replies_with : ℕ → rpc_reply.Body → rpc_reply.Reply
-replies_with xid body = record { xid = xid; verf = rpc_reply.no_proof; body = body }
+replies_with xid body = record { xid = xid; verf = rpc_reply.auth_none; body = body }
 
 abbrev pub refuses : ℕ → rpc_reply.Body → Received
 refuses xid body = Refused (replies_with xid body)
@@ -36,23 +36,23 @@ abbrev pub with_args : ℕ → Credential → Result (Value calls) XdrError → 
 with_args xid cred (Ok v) = Asked xid (call_of v) cred
 with_args xid cred (Err e) = refuses xid rpc_reply.GarbageArgs
 
-abbrev pub asked : rpc.Call → Credential → Received
+abbrev pub asked : rpc.RpcCall → Credential → Received
 asked c cred = with_args c.xid cred (whole c.args (arm_reading calls c.procedure c.args 0))
 
 -- the AUTH_SYS body in its form, with no bytes behind it; else AUTH_ERROR AUTH_BADCRED 1
-abbrev pub with_cred : rpc.Call → Result (Value authsys_parms) XdrError → Received
+abbrev pub with_cred : rpc.RpcCall → Result (Value authsys_parms) XdrError → Received
 with_cred c (Ok v) = asked c (credential_of v)
 with_cred c (Err e) = refuses c.xid (rpc_reply.AuthError 1)
 
 -- NULL asks for no credential; any other procedure for AUTH_SYS 1, else AUTH_ERROR AUTH_TOOWEAK 5
-abbrev pub authenticated : rpc.Call → Received
+abbrev pub authenticated : rpc.RpcCall → Received
 authenticated c =
     if c.procedure == 0 then asked c nobody
     else (if not (c.cred.flavor == 1) then refuses c.xid (rpc_reply.AuthError 5)
     else with_cred c (whole c.cred.body (reading authsys_parms c.cred.body 0)))
 
 -- program 100003, version 3, a procedure that is built, and then the credential
-abbrev pub dispatched : rpc.Call → Received
+abbrev pub dispatched : rpc.RpcCall → Received
 dispatched c =
     if not (c.program == 100003) then refuses c.xid rpc_reply.ProgUnavail
     else (if not (c.version == 3) then refuses c.xid (rpc_reply.ProgMismatch 3 3)
@@ -60,7 +60,7 @@ dispatched c =
     else authenticated c))
 
 -- no call: nothing; another RPC version than 2: RPC_MISMATCH; a header out of its form: GARBAGE_ARGS
-abbrev pub with_call : Result rpc.Call CallFault → Received
+abbrev pub with_call : Result rpc.RpcCall CallFault → Received
 with_call (Ok c) = dispatched c
 with_call (Err NotACall) = Silent
 with_call (Err (RpcVersion xid)) = refuses xid (rpc_reply.RpcMismatch 2 2)

@@ -6,13 +6,13 @@ use Rattle.std.specs.Option.{option_map}
 use Rattle.std.specs.Int.{w64, from_be_bytes}
 use Rattle.ff_xdr.specs.Form.{long}
 use Rattle.rpc_record.specs.Rpc.{Credential}
-use Rattle.nfs3_wire.specs.declared.enums.FileType.TheVariants.{Regular, Directory}
-use Rattle.nfs3_wire.specs.declared.enums.Stat3.{Stat3}
-use Rattle.nfs3_wire.specs.declared.enums.Stat3.TheVariants as stat
+use Rattle.nfs3_wire.specs.declared.file_type.FileType.TheVariants.{Regular, Directory}
+use Rattle.nfs3_wire.specs.declared.status.Stat3.{Stat3}
+use Rattle.nfs3_wire.specs.declared.status.Stat3.TheVariants as stat
 use Rattle.nfs3_wire.specs.declared.attributes.Time3.{Time3}
 use Rattle.nfs3_wire.specs.declared.attributes.Fattr3.{Fattr3}
-use Rattle.nfs3_wire.specs.declared.attributes.WccAttr.{WccAttr}
-use Rattle.nfs3_wire.specs.declared.attributes.WccData.{WccData}
+use Rattle.nfs3_wire.specs.declared.wcc.WccAttr.{WccAttr}
+use Rattle.nfs3_wire.specs.declared.wcc.WccData.{WccData}
 use Rattle.cluster_model.specs.declared.tick.Tick.{Tick}
 use Rattle.cluster_model.specs.declared.tick.Times.{Times}
 use Rattle.cluster_model.specs.File.{FileState, shown, new_file, all_at}

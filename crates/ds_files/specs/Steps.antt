@@ -5,21 +5,21 @@
 use Rattle.std.specs.Prelude.{ℕ, ◌+◌, ◌%◌, Bool, true, false, ◌&&◌, ◌||◌, not, List, [], ◌∷◌, ◌++◌, length, take, drop, Option, Some, None, is_some, unwrap_or, min, nat_lt, nat_le, ◌==◌, if◌then◌else◌, slice_set}
 use Rattle.std.specs.Option.{option_map}
 use Rattle.rpc_record.specs.Rpc.{Credential}
-use Rattle.nfs3_wire.specs.declared.enums.StableHow.{StableHow}
-use Rattle.nfs3_wire.specs.declared.enums.StableHow.TheVariants.{Unstable, DataSync, FileSync}
-use Rattle.nfs3_wire.specs.declared.enums.Stat3.{Stat3}
-use Rattle.nfs3_wire.specs.declared.enums.Stat3.TheVariants as stat
+use Rattle.nfs3_wire.specs.declared.stable_how.StableHow.{StableHow}
+use Rattle.nfs3_wire.specs.declared.stable_how.StableHow.TheVariants.{Unstable, DataSync, FileSync}
+use Rattle.nfs3_wire.specs.declared.status.Stat3.{Stat3}
+use Rattle.nfs3_wire.specs.declared.status.Stat3.TheVariants as stat
 use Rattle.nfs3_wire.specs.declared.attributes.Time3.{Time3}
 use Rattle.nfs3_wire.specs.declared.attributes.Fattr3.{Fattr3}
 use Rattle.nfs3_wire.specs.declared.fsinfo.FsInfoOk.{FsInfoOk}
-use Rattle.nfs3_wire.specs.declared.setting.SetTime.{SetTime}
-use Rattle.nfs3_wire.specs.declared.setting.SetTime.TheVariants as set_time
-use Rattle.nfs3_wire.specs.declared.setting.Sattr3.{Sattr3}
-use Rattle.nfs3_wire.specs.declared.meta_args.CreateHow.{CreateHow}
-use Rattle.nfs3_wire.specs.declared.meta_args.CreateHow.TheVariants as how
-use Rattle.nfs3_wire.specs.Calls.{Call}
+use Rattle.nfs3_wire.specs.declared.sattr.SetTime.{SetTime}
+use Rattle.nfs3_wire.specs.declared.sattr.SetTime.TheVariants as set_time
+use Rattle.nfs3_wire.specs.declared.sattr.Sattr3.{Sattr3}
+use Rattle.nfs3_wire.specs.declared.create.CreateHow.{CreateHow}
+use Rattle.nfs3_wire.specs.declared.create.CreateHow.TheVariants as how
+use Rattle.nfs3_wire.specs.Calls.{Nfs3Call}
 use Rattle.nfs3_wire.specs.Calls as calls
-use Rattle.nfs3_wire.specs.Replies.{Reply, GetAttrDone, GetAttrRefused, SetAttrDone, SetAttrRefused, LookupDone, LookupRefused, ReadDone, ReadRefused, WriteDone, WriteRefused, CreateDone, CreateRefused, FsInfoDone, FsInfoRefused, CommitDone, CommitRefused}
+use Rattle.nfs3_wire.specs.Replies.{Nfs3Reply, GetAttrDone, GetAttrRefused, SetAttrDone, SetAttrRefused, LookupDone, LookupRefused, ReadDone, ReadRefused, WriteDone, WriteRefused, CreateDone, CreateRefused, FsInfoDone, FsInfoRefused, CommitDone, CommitRefused}
 use Rattle.nfs3_wire.specs.Replies as replies
 use Rattle.cluster_model.specs.declared.tick.Tick.{Tick}
 use Rattle.cluster_model.specs.declared.tick.Times.{Times}
@@ -35,11 +35,11 @@ use Rattle.ds_files.specs.Server.{ServerState, Object, Missing, Root, File, obje
 -- one step: the server after it, the answer, and the entries of the journal
 pub record Step : Type 0 where
   pub server : ServerState
-  pub reply : Reply
+  pub reply : Nfs3Reply
   pub entries : List Entry
 
 -- nothing changes
-abbrev pub stays : ServerState → Reply → Step
+abbrev pub stays : ServerState → Nfs3Reply → Step
 stays s reply = record { server = s; reply = reply; entries = [] }
 
 -- one file becomes another, with so many ticks given by then
@@ -55,7 +55,7 @@ tick_refusal count = if count == max_ticks then Some stat.Jukebox else None
 
 -- ---- GETATTR and FSINFO (sections 3.3.1 and 3.3.19), which change nothing
 
-abbrev pub getattr_reply : ServerState → Object → Reply
+abbrev pub getattr_reply : ServerState → Object → Nfs3Reply
 getattr_reply s (Missing status) = GetAttrRefused status
 getattr_reply s Root = GetAttrDone (root_attributes s.root)
 getattr_reply s (File index f) = GetAttrDone (file_attributes (index + 2) f)
@@ -77,18 +77,18 @@ server_info attributes = record {
   properties = 24;
 }
 
-abbrev pub fsinfo_reply : ServerState → Object → Reply
+abbrev pub fsinfo_reply : ServerState → Object → Nfs3Reply
 fsinfo_reply s (Missing status) = FsInfoRefused status None
 fsinfo_reply s Root = FsInfoDone (server_info (said_of s Root))
 fsinfo_reply s (File index f) = FsInfoDone (server_info (said_of s (File index f)))
 
 -- ---- LOOKUP (section 3.3.3), which changes nothing
 
-abbrev pub lookup_found : ServerState → Option ℕ → Reply
+abbrev pub lookup_found : ServerState → Option ℕ → Nfs3Reply
 lookup_found s None = LookupRefused stat.NoEnt (said_of s Root)
 lookup_found s (Some index) = LookupDone (handle_of index) (said_at s.files index) (said_of s Root)
 
-abbrev pub lookup_reply : ServerState → Object → List ℕ → Reply
+abbrev pub lookup_reply : ServerState → Object → List ℕ → Nfs3Reply
 lookup_reply s (Missing status) name = LookupRefused status None
 lookup_reply s (File index f) name = LookupRefused stat.NotDir (said_of s (File index f))
 lookup_reply s Root name = if nat_lt max_name (length name) then LookupRefused stat.NameTooLong (said_of s Root) else lookup_found s (index_of s.names name)
@@ -102,16 +102,16 @@ read_refusal f cred = if may_read f cred then None else Some stat.Acces
 abbrev pub bytes_read : FileState → ℕ → ℕ → List ℕ
 bytes_read f offset count = take (min count max_read) (drop offset (shown f))
 
-abbrev pub read_done : ℕ → FileState → ℕ → ℕ → Reply
+abbrev pub read_done : ℕ → FileState → ℕ → ℕ → Nfs3Reply
 read_done index f offset count =
     let bytes = bytes_read f offset count in
     ReadDone (Some (file_attributes (index + 2) f)) (length bytes) (nat_le (length (shown f)) (offset + length bytes)) bytes
 
-abbrev pub read_file : ℕ → FileState → ℕ → ℕ → Option Stat3 → Reply
+abbrev pub read_file : ℕ → FileState → ℕ → ℕ → Option Stat3 → Nfs3Reply
 read_file index f offset count (Some status) = ReadRefused status (Some (file_attributes (index + 2) f))
 read_file index f offset count None = read_done index f offset count
 
-abbrev pub read_reply : ServerState → Object → ℕ → ℕ → Credential → Reply
+abbrev pub read_reply : ServerState → Object → ℕ → ℕ → Credential → Nfs3Reply
 read_reply s (Missing status) offset count cred = ReadRefused status None
 read_reply s Root offset count cred = ReadRefused stat.Inval (Some (root_attributes s.root))
 read_reply s (File index f) offset count cred = read_file index f offset count (read_refusal f cred)
@@ -314,7 +314,7 @@ create_step s Root name manner cred = create_in s name cred (creation s.count s.
 
 -- ---- the rule: what a call by this credential does
 
-abbrev pub step_of : ServerState → Call → Credential → Step
+abbrev pub step_of : ServerState → Nfs3Call → Credential → Step
 step_of s calls.Null cred = stays s replies.Null
 step_of s (calls.GetAttr handle) cred = stays s (getattr_reply s (object_of s.files handle))
 step_of s (calls.SetAttr handle a guard) cred = set_step s (object_of s.files handle) a guard cred

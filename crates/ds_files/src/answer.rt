@@ -57,10 +57,7 @@ impl Answer3 {
                 directory: *directory,
             })),
             StoredReply::LookupRefused { status, directory } => {
-                Reply3::Lookup(LookupReply::Refused {
-                    status: *status,
-                    directory: *directory,
-                })
+                Reply3::Lookup(LookupReply::Refused(*status, *directory))
             }
             StoredReply::ReadDone {
                 attributes,
@@ -73,10 +70,9 @@ impl Answer3 {
                 eof: *eof,
                 bytes: bytes.bytes(),
             })),
-            StoredReply::ReadRefused { status, attributes } => Reply3::Read(ReadReply::Refused {
-                status: *status,
-                attributes: *attributes,
-            }),
+            StoredReply::ReadRefused { status, attributes } => {
+                Reply3::Read(ReadReply::Refused(*status, *attributes))
+            }
             StoredReply::Write(reply) => Reply3::Write(*reply),
             StoredReply::CreateDone {
                 file,
@@ -87,10 +83,9 @@ impl Answer3 {
                 attributes: *attributes,
                 wcc: *wcc,
             })),
-            StoredReply::CreateRefused { status, wcc } => Reply3::Create(CreateReply::Refused {
-                status: *status,
-                wcc: *wcc,
-            }),
+            StoredReply::CreateRefused { status, wcc } => {
+                Reply3::Create(CreateReply::Refused(*status, *wcc))
+            }
             StoredReply::FsInfo(reply) => Reply3::FsInfo(*reply),
             StoredReply::Commit(reply) => Reply3::Commit(*reply),
         }

@@ -27,7 +27,7 @@ fn refused(alloc: Global, status: Stat3, attributes: Option<Fattr3>) -> Answer3
     ensures { result ≡ says (CommitRefused status (unchanged attributes)) }
 {
     let wcc = unchanged(attributes);
-    let reply = CommitReply::Refused { status, wcc };
+    let reply = CommitReply::Refused(status, wcc);
     Answer3::new(StoredReply::Commit(reply), Vec::new(alloc))
 }
 

@@ -51,7 +51,7 @@ pub fn getattr_answer(
     ensures { result ≡ says (getattr_reply (state_of head.now files.now) (object_of files.now args.now.file.now)) }
 {
     let reply = match place_of(files, args.file) {
-        Place::Missing(status) => GetAttrReply::Refused(status),
+        Place::Missing(status) => GetAttrReply::Refused(status, ()),
         Place::Root => GetAttrReply::Done(root_attributes(head.root)),
         Place::File(index) => GetAttrReply::Done(attributes_at(files, index)),
     };
@@ -90,10 +90,7 @@ pub fn fsinfo_answer(
     ensures { result ≡ says (fsinfo_reply (state_of head.now files.now) (object_of files.now args.now.root.now)) }
 {
     let reply = match place_of(files, args.root) {
-        Place::Missing(status) => FsInfoReply::Refused {
-            status,
-            attributes: None,
-        },
+        Place::Missing(status) => FsInfoReply::Refused(status, None),
         place => FsInfoReply::Done(server_info(said_of(head, files, place))),
     };
     Answer3::new(StoredReply::FsInfo(reply), Vec::new(alloc))

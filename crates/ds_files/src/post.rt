@@ -2,7 +2,7 @@
 
 ghost use Rattle.std.specs.Prelude.{◌≡◌, ◌++◌, take, IfOk, OnOk, OnErr, Some};
 ghost use Rattle.ff_xdr.specs.Form.{arm_spelling};
-ghost use Rattle.rpc_record.specs.Replies.{plain_reply, reply_bytes, ReplyFits, Success};
+ghost use Rattle.rpc_record.specs.Replies.{rpc_reply, reply_bytes, ReplyFits, Success};
 ghost use Rattle.nfs3_wire.specs.Replies as nfs;
 ghost use Rattle.ds_files.specs.Receive.{replies_with};
 ghost use Rattle.ds_files.specs.Records.{sent_to};
@@ -17,8 +17,8 @@ use std::alloc::Global;
 
 /// The record of a reply.
 pub fn encode(alloc: Global, reply: &Reply<'_>) -> Result<Data, NoMemory>
-    requires { ReplyFits (plain_reply reply.now) }
-    ensures { IfOk result (λ bytes. bytes ≡ reply_bytes (plain_reply reply.now)) }
+    requires { ReplyFits (rpc_reply reply.now) }
+    ensures { IfOk result (λ bytes. bytes ≡ reply_bytes (rpc_reply reply.now)) }
 {
     let mut out = Out::new(alloc);
     reply.write(&mut out)?;

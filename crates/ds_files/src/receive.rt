@@ -4,8 +4,8 @@ ghost use Rattle.std.specs.Prelude.{◌≡◌, [], IsTrue};
 ghost use Rattle.ff_xdr.specs.Form.{has_arm};
 ghost use Rattle.ff_xdr.specs.Reading.{reading, whole};
 ghost use Rattle.rpc_record.specs.Rpc.{authsys_parms, plain_credential};
-ghost use Rattle.rpc_record.specs.Calls.{plain_call};
-ghost use Rattle.rpc_record.specs.Replies.{plain_body, plain_reply, ReplyFits, HasVerifier};
+ghost use Rattle.rpc_record.specs.Calls.{rpc_call};
+ghost use Rattle.rpc_record.specs.Replies.{plain_body, rpc_reply, ReplyFits, HasVerifier};
 ghost use Rattle.nfs3_wire.specs.Calls.{calls};
 ghost use Rattle.ds_files.specs.Receive.{received, dispatched, authenticated, asked, nobody, refuses, replies_with};
 ghost use Rattle.ds_files.specs.Records.{plain_received, ReceivedFits, FindsCredential};
@@ -35,7 +35,7 @@ const NOBODY: u32 = 65_534;
 
 /// A reply with no verifier.
 pub fn replies_with<'a>(xid: u32, body: ReplyBody<'a>) -> Reply<'a>
-    ensures { plain_reply result ≡ replies_with xid (plain_body body.entry) }
+    ensures { rpc_reply result ≡ replies_with xid (plain_body body.entry) }
 {
     let verf = Auth {
         flavor: AUTH_NONE,
@@ -79,7 +79,7 @@ fn credential(body: &[u8]) -> Result<AuthSys<'_>, XdrError>
 #[tactic(auto, using(crate::proofs::CallsAgain::call_again))]
 fn asked<'a>(call: &Call<'a>, cred: AuthSys<'a>) -> Received<'a>
     requires { IsTrue (has_arm call.now.procedure calls) }
-    ensures same { plain_received result ≡ asked (plain_call call.now) (plain_credential cred.entry) }
+    ensures same { plain_received result ≡ asked (rpc_call call.now) (plain_credential cred.entry) }
     ensures fits { ReceivedFits result }
 {
     match read_call(call.procedure, call.args) {
@@ -95,7 +95,7 @@ fn asked<'a>(call: &Call<'a>, cred: AuthSys<'a>) -> Received<'a>
 /// A call whose program, version and procedure are here.
 fn authenticated<'a>(call: &Call<'a>) -> Received<'a>
     requires { IsTrue (has_arm call.now.procedure calls) }
-    ensures same { plain_received result ≡ authenticated (plain_call call.now) }
+    ensures same { plain_received result ≡ authenticated (rpc_call call.now) }
     ensures fits { ReceivedFits result }
 {
     if call.procedure == 0 {
@@ -112,7 +112,7 @@ fn authenticated<'a>(call: &Call<'a>) -> Received<'a>
 
 /// A call.
 fn dispatched<'a>(call: &Call<'a>) -> Received<'a>
-    ensures same { plain_received result ≡ dispatched (plain_call call.now) }
+    ensures same { plain_received result ≡ dispatched (rpc_call call.now) }
     ensures fits { ReceivedFits result }
 {
     if call.program != NFS_PROGRAM {

@@ -123,7 +123,7 @@ fn refused(alloc: Global, status: Stat3, attributes: Option<Fattr3>) -> Answer3
     ensures { result ≡ says (SetAttrRefused status (unchanged attributes)) }
 {
     let wcc = unchanged(attributes);
-    let reply = SetAttrReply::Refused { status, wcc };
+    let reply = SetAttrReply::Refused(status, wcc);
     Answer3::new(StoredReply::SetAttr(reply), Vec::new(alloc))
 }
 

@@ -98,7 +98,7 @@ fn refused(alloc: Global, status: Stat3, attributes: Option<Fattr3>) -> Answer3
     ensures { result ≡ record { reply = WriteRefused status (unchanged attributes); entries = [] } }
 {
     let wcc = unchanged(attributes);
-    let reply = WriteReply::Refused { status, wcc };
+    let reply = WriteReply::Refused(status, wcc);
     Answer3::new(StoredReply::Write(reply), Vec::new(alloc))
 }
 

@@ -8,8 +8,8 @@ use Rattle.ff_xdr.specs.Form.{Value, has_arm}
 use Rattle.ff_xdr.specs.Reading.{arm_reading, whole}
 use Rattle.rpc_record.specs.declared.call.CallFault.{CallFault}
 use Rattle.rpc_record.specs.declared.call.CallFault.TheVariants as fault
-use Rattle.rpc_record.specs.Calls.{Call, call_at}
-use Rattle.rpc_record.specs.Replies.{Reply, Body, Success, ProgUnavail, ProgMismatch, ProcUnavail, GarbageArgs, SystemErr, RpcMismatch, AuthError, reply_at}
+use Rattle.rpc_record.specs.Calls.{RpcCall, call_at}
+use Rattle.rpc_record.specs.Replies.{RpcReply, Body, Success, ProgUnavail, ProgMismatch, ProcUnavail, GarbageArgs, SystemErr, RpcMismatch, AuthError, reply_at}
 use Rattle.nfs3_wire.specs.Calls.{calls}
 use Rattle.line_runs.specs.declared.end.Played.{Played}
 use Rattle.line_runs.specs.declared.end.Played.TheVariants as played
@@ -38,22 +38,22 @@ args_text header (Ok v) = codes "good"
 args_text header (Err e) = bad_text (header + e.place) e.why
 
 -- all the arguments, read in the form of their procedure
-unfoldable pub read_args : Call → Result (Value calls) XdrError
+unfoldable pub read_args : RpcCall → Result (Value calls) XdrError
 read_args c = whole c.args (arm_reading calls c.procedure c.args 0)
 
 -- the procedures of NFSv3 (RFC 1813): program 100003, version 3
-unfoldable pub verdict_text : ℕ → Call → List ℕ
+unfoldable pub verdict_text : ℕ → RpcCall → List ℕ
 verdict_text header c =
     if c.program == 100003 && (c.version == 3 && has_arm c.procedure calls) then args_text header (read_args c) else codes "unbuilt"
 
 -- `call XID PROGRAM VERSION PROCEDURE LENGTH` and what the arguments are, of which there are LENGTH bytes
-unfoldable pub program_text : Call → List ℕ
+unfoldable pub program_text : RpcCall → List ℕ
 program_text c = (codes "call " ++ decimal c.xid) ++ ((codes " " ++ decimal c.program) ++ (codes " " ++ decimal c.version))
 
-unfoldable pub procedure_text : Call → List ℕ
+unfoldable pub procedure_text : RpcCall → List ℕ
 procedure_text c = (codes " " ++ decimal c.procedure) ++ ((codes " " ++ decimal (length c.args)) ++ codes " ")
 
-abbrev pub call_text : ℕ → Call → List ℕ
+abbrev pub call_text : ℕ → RpcCall → List ℕ
 call_text size c = program_text c ++ (procedure_text c ++ verdict_text (size - length c.args) c)
 
 -- how a call was answered: its accept_stat, or its reject_stat (RFC 5531, section 9)
@@ -72,12 +72,12 @@ abbrev pub refused_text : XdrError → List ℕ
 refused_text e = codes "record " ++ bad_text e.place e.why
 
 -- a record that is no call: a reply, or neither
-abbrev pub reply_text : Result Reply XdrError → List ℕ
+abbrev pub reply_text : Result RpcReply XdrError → List ℕ
 reply_text (Ok r) = (codes "reply " ++ decimal r.xid) ++ stat_text r.body
 reply_text (Err e) = refused_text e
 
 -- a record of so many bytes, as what it is; one of another RPC version than 2 has its third word refused
-abbrev pub found_text : List ℕ → Result Call CallFault → List ℕ
+abbrev pub found_text : List ℕ → Result RpcCall CallFault → List ℕ
 found_text bytes (Ok c) = call_text (length bytes) c
 found_text bytes (Err fault.NotACall) = reply_text (reply_at bytes)
 found_text bytes (Err (fault.RpcVersion xid)) = refused_text (record { place = 8; why = why.NotEnum })

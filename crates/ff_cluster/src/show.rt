@@ -1,9 +1,9 @@
 //! What records are, a line for each.
 
 ghost use Rattle.std.specs.Prelude.{◌≡◌, ⊤, IsTrue, Result};
-ghost use Rattle.ff_xdr.specs.Calls.{Puts, Grows};
+ghost use Rattle.ff_xdr.specs.Calls.{Puts, Grows, Finds};
 ghost use Rattle.ff_xdr.specs.Form.{has_arm};
-ghost use Rattle.rpc_record.specs.Calls.{Call as PlainCall, plain_call, Finds};
+ghost use Rattle.rpc_record.specs.Calls.{RpcCall, rpc_call};
 ghost use Rattle.rpc_record.specs.declared.call.CallFault.{CallFault as AFault};
 ghost use Rattle.rpc_record.specs.Replies.{plain_body, reply_at};
 ghost use Rattle.nfs3_wire.specs.Calls.{calls};
@@ -64,7 +64,7 @@ fn put_refused(error: XdrError, out: &mut Out) -> Result<(), NoMemory>
 /// bytes.
 fn put_args(header: usize, call: &Call<'_>, out: &mut Out) -> Result<(), NoMemory>
     requires { IsTrue (has_arm call.now.procedure calls) }
-    ensures { Grows out.old result out.new (args_text header (read_args (plain_call call.now))) }
+    ensures { Grows out.old result out.new (args_text header (read_args (rpc_call call.now))) }
 {
     match read_call(call.procedure, call.args) {
         Ok(_) => out.raw(b"good"),
@@ -75,7 +75,7 @@ fn put_args(header: usize, call: &Call<'_>, out: &mut Out) -> Result<(), NoMemor
 /// Appends what the arguments of a call are.
 #[tactic(auto, unfolding(crate::specs::Show::verdict_text))]
 fn put_verdict(header: usize, call: &Call<'_>, out: &mut Out) -> Result<(), NoMemory>
-    ensures { Grows out.old result out.new (verdict_text header (plain_call call.now)) }
+    ensures { Grows out.old result out.new (verdict_text header (rpc_call call.now)) }
 {
     if call.program == NFS_PROGRAM && call.version == NFS_VERSION && is_built(call.procedure) {
         put_args(header, call, out)
@@ -87,7 +87,7 @@ fn put_verdict(header: usize, call: &Call<'_>, out: &mut Out) -> Result<(), NoMe
 /// Appends the number of a call, its program and its version.
 #[tactic(auto, unfolding(crate::specs::Show::program_text))]
 fn put_program(call: &Call<'_>, out: &mut Out) -> Result<(), NoMemory>
-    ensures { Grows out.old result out.new (program_text (plain_call call.now)) }
+    ensures { Grows out.old result out.new (program_text (rpc_call call.now)) }
 {
     put_numbered(b"call ", u64::from(call.xid), out)?;
     put_numbered(b" ", u64::from(call.program), out)?;
@@ -97,7 +97,7 @@ fn put_program(call: &Call<'_>, out: &mut Out) -> Result<(), NoMemory>
 /// Appends the procedure of a call, and how many bytes of arguments there are.
 #[tactic(auto, unfolding(crate::specs::Show::procedure_text))]
 fn put_procedure(call: &Call<'_>, out: &mut Out) -> Result<(), NoMemory>
-    ensures { Grows out.old result out.new (procedure_text (plain_call call.now)) }
+    ensures { Grows out.old result out.new (procedure_text (rpc_call call.now)) }
 {
     put_numbered(b" ", u64::from(call.procedure), out)?;
     put_numbered(b" ", call.args.len() as u64, out)?;
@@ -106,7 +106,7 @@ fn put_procedure(call: &Call<'_>, out: &mut Out) -> Result<(), NoMemory>
 
 /// Appends the line of a call, of a record of so many bytes.
 fn put_call(size: usize, call: &Call<'_>, out: &mut Out) -> Result<(), NoMemory>
-    ensures { Grows out.old result out.new (call_text size (plain_call call.now)) }
+    ensures { Grows out.old result out.new (call_text size (rpc_call call.now)) }
 {
     put_program(call, out)?;
     put_procedure(call, out)?;
@@ -148,7 +148,7 @@ fn put_found(
     found: Result<Call<'_>, CallFault>,
     out: &mut Out,
 ) -> Result<(), NoMemory>
-    ensures { (read : Result PlainCall AFault) → Finds found.entry read → Grows out.old result out.new (found_text message.now read) }
+    ensures { (read : Result RpcCall AFault) → Finds rpc_call found.entry read → Grows out.old result out.new (found_text message.now read) }
 {
     match found {
         Ok(call) => put_call(message.len(), &call, out),

@@ -22,10 +22,7 @@ fn results_of_data(rt: HostRuntime) -> Result<(), Fail> {
         &[&[0, 0, 2, 1, 2, 0x4142_0000]],
         Reply3::Read(read),
     )?;
-    let read = ReadReply::Refused {
-        status: Stat3::Acces,
-        attributes: Some(ATTRIBUTES),
-    };
+    let read = ReadReply::Refused(Stat3::Acces, Some(ATTRIBUTES));
     reply_is(
         &rt,
         alloc,
@@ -46,10 +43,7 @@ fn results_of_data(rt: HostRuntime) -> Result<(), Fail> {
         &[2, 2, 0x0102_0304, 0x0506_0708],
     ];
     reply_is(&rt, alloc, 7, &parts, Reply3::Write(write))?;
-    let write = WriteReply::Refused {
-        status: Stat3::NoSpc,
-        wcc: BEFORE,
-    };
+    let write = WriteReply::Refused(Stat3::NoSpc, BEFORE);
     reply_is(
         &rt,
         alloc,
@@ -69,10 +63,7 @@ fn results_of_data(rt: HostRuntime) -> Result<(), Fail> {
         &[&[0, 0, 0, 0x0102_0304, 0x0506_0708]],
         Reply3::Commit(commit),
     )?;
-    let commit = CommitReply::Refused {
-        status: Stat3::Io,
-        wcc: AFTER,
-    };
+    let commit = CommitReply::Refused(Stat3::Io, AFTER);
     reply_is(
         &rt,
         alloc,
@@ -94,7 +85,7 @@ fn results_of_attributes(rt: HostRuntime) -> Result<(), Fail> {
         &[&[0], &ATTRIBUTE_WORDS],
         Reply3::GetAttr(getattr),
     )?;
-    let getattr = GetAttrReply::Refused(Stat3::Stale);
+    let getattr = GetAttrReply::Refused(Stat3::Stale, ());
     reply_is(&rt, alloc, 1, &[&[70]], Reply3::GetAttr(getattr))?;
     // the attributes after, those before
     let setattr = SetAttrReply::Done(AFTER);
@@ -105,10 +96,7 @@ fn results_of_attributes(rt: HostRuntime) -> Result<(), Fail> {
         &[&[0, 0, 1], &ATTRIBUTE_WORDS],
         Reply3::SetAttr(setattr),
     )?;
-    let setattr = SetAttrReply::Refused {
-        status: Stat3::NotSync,
-        wcc: BEFORE,
-    };
+    let setattr = SetAttrReply::Refused(Stat3::NotSync, BEFORE);
     reply_is(
         &rt,
         alloc,
@@ -155,10 +143,7 @@ fn results_of_attributes(rt: HostRuntime) -> Result<(), Fail> {
         &parts,
         Reply3::FsInfo(FsInfoReply::Done(info)),
     )?;
-    let fsinfo = FsInfoReply::Refused {
-        status: Stat3::ServerFault,
-        attributes: None,
-    };
+    let fsinfo = FsInfoReply::Refused(Stat3::ServerFault, None);
     reply_is(&rt, alloc, 19, &[&[10006, 0]], Reply3::FsInfo(fsinfo))
 }
 
@@ -173,10 +158,7 @@ fn results_of_names(rt: HostRuntime) -> Result<(), Fail> {
     });
     let parts: [&[u32]; 3] = [&[0, 8, 0, 2, 1], &ATTRIBUTE_WORDS, &[0]];
     reply_is(&rt, alloc, 3, &parts, Reply3::Lookup(lookup))?;
-    let lookup = LookupReply::Refused {
-        status: Stat3::NoEnt,
-        directory: Some(ATTRIBUTES),
-    };
+    let lookup = LookupReply::Refused(Stat3::NoEnt, Some(ATTRIBUTES));
     reply_is(
         &rt,
         alloc,
@@ -204,10 +186,7 @@ fn results_of_names(rt: HostRuntime) -> Result<(), Fail> {
         &[&[0, 0, 0, 1, 0, 3, 4, 5, 6, 7, 0]],
         Reply3::Create(create),
     )?;
-    let create = CreateReply::Refused {
-        status: Stat3::Exist,
-        wcc: AFTER,
-    };
+    let create = CreateReply::Refused(Stat3::Exist, AFTER);
     reply_is(
         &rt,
         alloc,

@@ -209,7 +209,7 @@ fn numbers(rt: HostRuntime) -> Result<(), Fail> {
         let bytes = bytes_of(rt.alloc(), &[&[number]])?;
         match (read_reply(1, bytes.as_slice()), want) {
             (Ok(reply), Some(want)) => {
-                assert_eq!(rt; reply, Reply3::GetAttr(GetAttrReply::Refused(want)));
+                assert_eq!(rt; reply, Reply3::GetAttr(GetAttrReply::Refused(want, ())));
             }
             (Err(e), None) => assert_eq!(rt; Some(e), refused(0, XdrWhy::NotEnum), "{number}"),
             (found, _) => panic!(rt; "{number} is read as {found:?}"),

@@ -13,8 +13,8 @@ use Rattle.ff_xdr.specs.Reading.{Read, number_at, reading}
 use Rattle.rpc_record.specs.declared.call.CallFault.{CallFault}
 use Rattle.rpc_record.specs.declared.call.CallFault.TheVariants.{NotACall, RpcVersion, Bad}
 use Rattle.rpc_record.proofs.Records.{all_again, all_spelled, whole_is}
-use Rattle.rpc_record.specs.Rpc.{proof_of}
-use Rattle.rpc_record.specs.Calls.{Call, call_body, body_value, call_bytes, word_of, with_body, body_at, with_version, call_at}
+use Rattle.rpc_record.specs.Rpc.{opaque_auth_of}
+use Rattle.rpc_record.specs.Calls.{RpcCall, call_body, body_value, call_bytes, word_of, with_body, body_at, with_version, call_at}
 use Rattle.rpc_record.specs.Laws.{IsCallReadAgain, IsCallSpelledSo, IsNoCallJustWhere, IsOfAnotherVersionJustWhere}
 
 -- a call with its RPC version and whatever stands before it
@@ -111,10 +111,10 @@ body_err xid bytes (Err d) fault e = (d, cc)
 abbrev done : Value call_body × ℕ → Read (Value call_body)
 done x = Ok x
 
-body_ok : (xid : ℕ) (bytes : List ℕ) (r : Read (Value call_body)) (c : Call) → with_body xid bytes r ≡ Ok c → (to : ℕ) × (r ≡ Ok (body_value c, to)) × (c.xid ≡ xid) × (c.args ≡ drop to bytes)
+body_ok : (xid : ℕ) (bytes : List ℕ) (r : Read (Value call_body)) (c : RpcCall) → with_body xid bytes r ≡ Ok c → (to : ℕ) × (r ≡ Ok (body_value c, to)) × (c.xid ≡ xid) × (c.args ≡ drop to bytes)
 body_ok xid bytes (Ok x) c e =
-    let same : record { xid = xid; program = x.0.0; version = x.0.1.0; procedure = x.0.1.1.0; cred = proof_of x.0.1.1.1.0; verf = proof_of x.0.1.1.1.1; args = drop x.1 bytes } ≡ c = cc in
-    subst (λ (d : Call). (to : ℕ) × (done x ≡ done (body_value d, to)) × (d.xid ≡ xid) × (d.args ≡ drop to bytes)) same (x.1, refl, refl, refl)
+    let same : record { xid = xid; program = x.0.0; version = x.0.1.0; procedure = x.0.1.1.0; cred = opaque_auth_of x.0.1.1.1.0; verf = opaque_auth_of x.0.1.1.1.1; args = drop x.1 bytes } ≡ c = cc in
+    subst (λ (d : RpcCall). (to : ℕ) × (done x ≡ done (body_value d, to)) × (d.xid ≡ xid) × (d.args ≡ drop to bytes)) same (x.1, refl, refl, refl)
 body_ok xid bytes (Err d) c e = absurd cc
 
 -- ---- records that are refused
@@ -166,7 +166,7 @@ pub length_front : (xid : ℕ) → length (word xid ++ (word 0 ++ word 2)) ≡ 1
 unfolding word
 length_front xid = refl
 
-pub call_again : all_again → (c : Call) → IsCallReadAgain c
+pub call_again : all_again → (c : RpcCall) → IsCallReadAgain c
 call_again again c lt fits =
     let front = word c.xid ++ (word 0 ++ word 2) in
     let text = spelling call_body (body_value c) in
@@ -190,7 +190,7 @@ header_is bytes v to le zero two read =
 regroup : (a b c d e : List ℕ) → (a ++ (b ++ (c ++ d))) ++ e ≡ (a ++ (b ++ c)) ++ (d ++ e)
 regroup a b c d e = simp append_assoc
 
-ours_spelled : all_spelled → (bytes : List ℕ) (c : Call) → IsBytes bytes → 12 ≤ length bytes → word_of bytes 4 ≡ 0 → word_of bytes 8 ≡ 2 → with_body (word_of bytes 0) bytes (reading call_body bytes 12) ≡ Ok c → (bytes ≡ call_bytes c) × (c.xid < 2 ^ 32) × Fits call_body (body_value c)
+ours_spelled : all_spelled → (bytes : List ℕ) (c : RpcCall) → IsBytes bytes → 12 ≤ length bytes → word_of bytes 4 ≡ 0 → word_of bytes 8 ≡ 2 → with_body (word_of bytes 0) bytes (reading call_body bytes 12) ≡ Ok c → (bytes ≡ call_bytes c) × (c.xid < 2 ^ 32) × Fits call_body (body_value c)
 ours_spelled spelled bytes c is_bytes le zero two e =
     let b = body_ok (word_of bytes 0) bytes (reading call_body bytes 12) c e in
     let read = header_is bytes (body_value c) b.0 le zero two b.1 in
@@ -200,12 +200,12 @@ ours_spelled spelled bytes c is_bytes le zero two e =
     let named : bytes ≡ (word c.xid ++ (word 0 ++ (word 2 ++ text))) ++ c.args = rw (b.2, b.3) whole in
     (named ∙ regroup (word c.xid) (word 0) (word 2) text c.args, rw b.2 law.0.0, law.0.1.1.1)
 
-call_spelled_of : all_spelled → (bytes : List ℕ) (c : Call) → Kind bytes → IsCallSpelledSo bytes c
+call_spelled_of : all_spelled → (bytes : List ℕ) (c : RpcCall) → Kind bytes → IsCallSpelledSo bytes c
 call_spelled_of spelled bytes c (Cut lt is) is_bytes e = absurd cc
 call_spelled_of spelled bytes c (Other le ne is) is_bytes e = absurd cc
 call_spelled_of spelled bytes c (Headless lt d le call is) is_bytes e = absurd cc
 call_spelled_of spelled bytes c (Stranger le call ne is) is_bytes e = absurd cc
 call_spelled_of spelled bytes c (Ours le call two is) is_bytes e = ours_spelled spelled bytes c is_bytes le call two (sym is ∙ e)
 
-pub call_spelled : all_spelled → (bytes : List ℕ) (c : Call) → IsCallSpelledSo bytes c
+pub call_spelled : all_spelled → (bytes : List ℕ) (c : RpcCall) → IsCallSpelledSo bytes c
 call_spelled spelled bytes c = call_spelled_of spelled bytes c (kind_of bytes)

@@ -12,12 +12,12 @@ use Rattle.ff_xdr.proofs.Seen.{Seen, end_of}
 use Rattle.ff_xdr.proofs.Sequences.{take_less}
 use Rattle.rpc_record.specs.declared.call.CallFault.{CallFault}
 use Rattle.rpc_record.specs.declared.call.CallFault.TheVariants.{Bad}
-use Rattle.rpc_record.specs.Calls.{Call, call_body, word_of, with_body, call_at}
+use Rattle.rpc_record.specs.Calls.{RpcCall, call_body, word_of, with_body, call_at}
 use Rattle.rpc_record.specs.Laws.{HasBadHeader, IsBadJustWhere, IsCallShortAtEnd, IsCallRefusedThere}
 use Rattle.rpc_record.proofs.Records.{all_short, all_stop}
 use Rattle.rpc_record.proofs.CallLaws.{Kind, Cut, Other, Headless, Stranger, Ours, is_headless, is_ours, kind_of}
 
-abbrev pub bad : ℕ → XdrError → Result Call CallFault
+abbrev pub bad : ℕ → XdrError → Result RpcCall CallFault
 bad xid e = Err (Bad xid e)
 
 bad_same : (x y : ℕ) (d e : XdrError) → bad x d ≡ bad y e → (x ≡ y) × (d ≡ e)

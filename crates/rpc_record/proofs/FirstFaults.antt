@@ -7,9 +7,9 @@ use Rattle.ff_xdr.specs.Form.{Number32, Value, Fits, spelling, word}
 use Rattle.ff_xdr.specs.Laws.{IsBytes, Stands, Begins}
 use Rattle.ff_xdr.specs.Reading.{reading}
 use Rattle.ff_xdr.proofs.Places.{stands_join}
-use Rattle.rpc_record.specs.Rpc.{proof_of}
-use Rattle.rpc_record.specs.Calls.{Call, call_body, call_bytes, word_of}
-use Rattle.rpc_record.specs.Replies.{Reply, Success, ProgUnavail, ProgMismatch, ProcUnavail, GarbageArgs, SystemErr, RpcMismatch, AuthError, reply_header, no_proof, status_value, header_value, results_of, reply_bytes, HasVerifier, reply_at}
+use Rattle.rpc_record.specs.Rpc.{opaque_auth_of}
+use Rattle.rpc_record.specs.Calls.{RpcCall, call_body, call_bytes, word_of}
+use Rattle.rpc_record.specs.Replies.{RpcReply, Success, ProgUnavail, ProgMismatch, ProcUnavail, GarbageArgs, SystemErr, RpcMismatch, AuthError, reply_header, auth_none, status_value, header_value, results_of, reply_bytes, HasVerifier, reply_at}
 use Rattle.rpc_record.specs.Laws.{HasBadHeader, BeginsCall, IsCallFirstFault, BeginsReply, IsReplyFirstFault}
 use Rattle.rpc_record.proofs.Records.{all_spelled, all_least}
 use Rattle.rpc_record.proofs.CallLaws.{number_is, length_front, kind_of}
@@ -37,7 +37,7 @@ front_stands spelled bytes xid is_bytes le own zero two =
 begun_call : (bytes : List ℕ) (xid place : ℕ) → xid < 2 ^ 32 → Stands bytes 0 (front xid) 12 → Begins call_body bytes 12 place → BeginsCall bytes xid place
 begun_call bytes xid place small head b =
     let v = b.value in
-    let c : Call = record { xid = xid; program = v.0; version = v.1.0; procedure = v.1.1.0; cred = proof_of v.1.1.1.0; verf = proof_of v.1.1.1.1; args = [] } in
+    let c : RpcCall = record { xid = xid; program = v.0; version = v.1.0; procedure = v.1.1.0; cred = opaque_auth_of v.1.1.1.0; verf = opaque_auth_of v.1.1.1.1; args = [] } in
     let text = spelling call_body v in
     let part = take (place - 12) text in
     let size : place ≡ length (front xid) + (place - 12) = omega (arith, b.begins.ends, length_front xid) in
@@ -68,7 +68,7 @@ call_least spelled least bytes xid e is_bytes is other = by_header parts.3
 
 -- a reply with this status, and without results
 record Answers (xid : ℕ) (s : Value status) : Type 0 where
-  reply : Reply
+  reply : RpcReply
   own : reply.xid ≡ xid
   is : status_value reply.verf reply.body ≡ s
   verifier : HasVerifier reply.verf reply.body
@@ -82,8 +82,8 @@ answers xid (inl ((flavor, text), inr (inr (inr (inl nothing))))) = record { rep
 answers xid (inl ((flavor, text), inr (inr (inr (inr (inl nothing)))))) = record { reply = record { xid = xid; verf = record { flavor = flavor; body = text }; body = GarbageArgs }; own = refl; is = refl; verifier = tt; none = refl }
 answers xid (inl ((flavor, text), inr (inr (inr (inr (inr (inl nothing))))))) = record { reply = record { xid = xid; verf = record { flavor = flavor; body = text }; body = SystemErr }; own = refl; is = refl; verifier = tt; none = refl }
 answers xid (inl ((flavor, text), inr (inr (inr (inr (inr (inr none))))))) = absurd none
-answers xid (inr (inl (inl (low, high)))) = record { reply = record { xid = xid; verf = no_proof; body = RpcMismatch low high }; own = refl; is = refl; verifier = refl; none = refl }
-answers xid (inr (inl (inr (inl stat)))) = record { reply = record { xid = xid; verf = no_proof; body = AuthError stat }; own = refl; is = refl; verifier = refl; none = refl }
+answers xid (inr (inl (inl (low, high)))) = record { reply = record { xid = xid; verf = auth_none; body = RpcMismatch low high }; own = refl; is = refl; verifier = refl; none = refl }
+answers xid (inr (inl (inr (inl stat)))) = record { reply = record { xid = xid; verf = auth_none; body = AuthError stat }; own = refl; is = refl; verifier = refl; none = refl }
 answers xid (inr (inl (inr (inr none)))) = absurd none
 answers xid (inr (inr none)) = absurd none
 

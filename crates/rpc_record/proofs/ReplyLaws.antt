@@ -7,8 +7,8 @@ use Rattle.ff_xdr.specs.declared.error.XdrWhy.TheVariants.{Rest}
 use Rattle.ff_xdr.specs.Form.{Form, Arm, NoArm, Value, Fits, spelling}
 use Rattle.ff_xdr.specs.Reading.{Read, ◌>>=◌, reading}
 use Rattle.ff_xdr.proofs.Places.{bind_ok}
-use Rattle.rpc_record.specs.Rpc.{Proof, proof_of}
-use Rattle.rpc_record.specs.Replies.{Reply, Body, Success, ProgUnavail, ProgMismatch, ProcUnavail, GarbageArgs, SystemErr, RpcMismatch, AuthError, accepted_reply, rejected_reply, reply_header, no_proof, status_value, header_value, results_of, reply_bytes, HasVerifier, ended, with_status, reply_at}
+use Rattle.rpc_record.specs.Rpc.{OpaqueAuth, opaque_auth_of}
+use Rattle.rpc_record.specs.Replies.{RpcReply, Body, Success, ProgUnavail, ProgMismatch, ProcUnavail, GarbageArgs, SystemErr, RpcMismatch, AuthError, accepted_reply, rejected_reply, reply_header, auth_none, status_value, header_value, results_of, reply_bytes, HasVerifier, ended, with_status, reply_at}
 use Rattle.rpc_record.specs.Laws.{IsReplyReadAgain, IsReplySpelledSo}
 use Rattle.rpc_record.proofs.Records.{all_again, all_spelled, whole_is}
 
@@ -17,12 +17,12 @@ status = Arm 0 accepted_reply (Arm 1 rejected_reply NoArm)
 
 -- ---- what was written
 
-ended_is : (r : Reply) (bytes : List ℕ) (at : ℕ) → [] ≡ drop at bytes → ended r bytes at ≡ Ok r
+ended_is : (r : RpcReply) (bytes : List ℕ) (at : ℕ) → [] ≡ drop at bytes → ended r bytes at ≡ Ok r
 ended_is r bytes at e =
     let none : ltb at (length bytes) ≡ false = le-ltb _ _ (omega (arith, length-drop at bytes, ap length e)) in
     rw none refl
 
-with_status_again : (xid : ℕ) (verf : Proof) (body : Body) (bytes : List ℕ) (at : ℕ) → HasVerifier verf body → results_of body ≡ drop at bytes
+with_status_again : (xid : ℕ) (verf : OpaqueAuth) (body : Body) (bytes : List ℕ) (at : ℕ) → HasVerifier verf body → results_of body ≡ drop at bytes
     → with_status xid bytes at (status_value verf body) ≡ Ok (record { xid = xid; verf = verf; body = body })
 with_status_again xid verf (Success results) bytes at fits left = ap (λ (l : List ℕ). Ok (record { xid = xid; verf = verf; body = Success l })) (sym left)
 with_status_again xid verf ProgUnavail bytes at fits left = ended_is (record { xid = xid; verf = verf; body = ProgUnavail }) bytes at left
@@ -31,11 +31,11 @@ with_status_again xid verf ProcUnavail bytes at fits left = ended_is (record { x
 with_status_again xid verf GarbageArgs bytes at fits left = ended_is (record { xid = xid; verf = verf; body = GarbageArgs }) bytes at left
 with_status_again xid verf SystemErr bytes at fits left = ended_is (record { xid = xid; verf = verf; body = SystemErr }) bytes at left
 with_status_again xid verf (RpcMismatch low high) bytes at fits left =
-    rw fits (ended_is (record { xid = xid; verf = no_proof; body = RpcMismatch low high }) bytes at left)
+    rw fits (ended_is (record { xid = xid; verf = auth_none; body = RpcMismatch low high }) bytes at left)
 with_status_again xid verf (AuthError stat) bytes at fits left =
-    rw fits (ended_is (record { xid = xid; verf = no_proof; body = AuthError stat }) bytes at left)
+    rw fits (ended_is (record { xid = xid; verf = auth_none; body = AuthError stat }) bytes at left)
 
-pub reply_again : all_again → (r : Reply) → IsReplyReadAgain r
+pub reply_again : all_again → (r : RpcReply) → IsReplyReadAgain r
 unfolding reply_at
 reply_again again r fits =
     let text = spelling reply_header (header_value r) in
@@ -47,7 +47,7 @@ reply_again again r fits =
 -- ---- what is read
 
 -- a status that was read, and the reply that it is of
-record Says (xid : ℕ) (bytes : List ℕ) (at : ℕ) (s : Value status) (r : Reply) : Type 0 where
+record Says (xid : ℕ) (bytes : List ℕ) (at : ℕ) (s : Value status) (r : RpcReply) : Type 0 where
   xid_is : r.xid ≡ xid
   status_is : status_value r.verf r.body ≡ s
   left : results_of r.body ≡ drop at bytes
@@ -56,42 +56,42 @@ record Says (xid : ℕ) (bytes : List ℕ) (at : ℕ) (s : Value status) (r : Re
 abbrev guarded : Bool → XdrError → Result (Unit {0}) XdrError
 guarded b d = cond b (Err d) (Ok tt)
 
-rest_ok : (b : Bool) (d : XdrError) (q r : Reply) → (guarded b d >>= λ nothing. Ok q) ≡ Ok r → (b ≡ false) × (q ≡ r)
+rest_ok : (b : Bool) (d : XdrError) (q r : RpcReply) → (guarded b d >>= λ nothing. Ok q) ≡ Ok r → (b ≡ false) × (q ≡ r)
 rest_ok true d q r e = absurd cc
 rest_ok false d q r e = (refl, cc)
 
-ended_says : (xid : ℕ) (bytes : List ℕ) (at : ℕ) (s : Value status) (q r : Reply) → q.xid ≡ xid → status_value q.verf q.body ≡ s → results_of q.body ≡ [] → HasVerifier q.verf q.body → ended q bytes at ≡ Ok r → Says xid bytes at s r
+ended_says : (xid : ℕ) (bytes : List ℕ) (at : ℕ) (s : Value status) (q r : RpcReply) → q.xid ≡ xid → status_value q.verf q.body ≡ s → results_of q.body ≡ [] → HasVerifier q.verf q.body → ended q bytes at ≡ Ok r → Says xid bytes at s r
 ended_says xid bytes at s q r xid_is status_is none verifier e =
     let both = rest_ok (ltb at (length bytes)) (record { place = at; why = Rest }) q r e in
     let behind : length bytes ≤ at = ltb-false _ _ both.0 in
     let left : results_of q.body ≡ drop at bytes = none ∙ sym (drop_all at bytes behind) in
     subst (Says xid bytes at s) both.1 (record { xid_is = xid_is; status_is = status_is; left = left; verifier = verifier })
 
-abbrev done : Reply → Result Reply XdrError
+abbrev done : RpcReply → Result RpcReply XdrError
 done r = Ok r
 
-success_says : (xid : ℕ) (bytes : List ℕ) (at : ℕ) (verf : Proof) (r : Reply) → done (record { xid = xid; verf = verf; body = Success (drop at bytes) }) ≡ done r → Says xid bytes at (inl ((verf.flavor, verf.body), inl tt)) r
+success_says : (xid : ℕ) (bytes : List ℕ) (at : ℕ) (verf : OpaqueAuth) (r : RpcReply) → done (record { xid = xid; verf = verf; body = Success (drop at bytes) }) ≡ done r → Says xid bytes at (inl ((verf.flavor, verf.body), inl tt)) r
 success_says xid bytes at verf r e =
     let same : record { xid = xid; verf = verf; body = Success (drop at bytes) } ≡ r = cc in
     subst (Says xid bytes at (inl ((verf.flavor, verf.body), inl tt))) same (record { xid_is = refl; status_is = refl; left = refl; verifier = tt })
 
-says : (xid : ℕ) (bytes : List ℕ) (at : ℕ) (s : Value status) (r : Reply) → with_status xid bytes at s ≡ Ok r → Says xid bytes at s r
-says xid bytes at (inl (verf, inl nothing)) r e = success_says xid bytes at (proof_of verf) r e
+says : (xid : ℕ) (bytes : List ℕ) (at : ℕ) (s : Value status) (r : RpcReply) → with_status xid bytes at s ≡ Ok r → Says xid bytes at s r
+says xid bytes at (inl (verf, inl nothing)) r e = success_says xid bytes at (opaque_auth_of verf) r e
 says xid bytes at (inl (verf, inr (inl nothing))) r e =
-    ended_says xid bytes at _ (record { xid = xid; verf = proof_of verf; body = ProgUnavail }) r refl refl refl tt e
+    ended_says xid bytes at _ (record { xid = xid; verf = opaque_auth_of verf; body = ProgUnavail }) r refl refl refl tt e
 says xid bytes at (inl (verf, inr (inr (inl (low, high))))) r e =
-    ended_says xid bytes at _ (record { xid = xid; verf = proof_of verf; body = ProgMismatch low high }) r refl refl refl tt e
+    ended_says xid bytes at _ (record { xid = xid; verf = opaque_auth_of verf; body = ProgMismatch low high }) r refl refl refl tt e
 says xid bytes at (inl (verf, inr (inr (inr (inl nothing))))) r e =
-    ended_says xid bytes at _ (record { xid = xid; verf = proof_of verf; body = ProcUnavail }) r refl refl refl tt e
+    ended_says xid bytes at _ (record { xid = xid; verf = opaque_auth_of verf; body = ProcUnavail }) r refl refl refl tt e
 says xid bytes at (inl (verf, inr (inr (inr (inr (inl nothing)))))) r e =
-    ended_says xid bytes at _ (record { xid = xid; verf = proof_of verf; body = GarbageArgs }) r refl refl refl tt e
+    ended_says xid bytes at _ (record { xid = xid; verf = opaque_auth_of verf; body = GarbageArgs }) r refl refl refl tt e
 says xid bytes at (inl (verf, inr (inr (inr (inr (inr (inl nothing))))))) r e =
-    ended_says xid bytes at _ (record { xid = xid; verf = proof_of verf; body = SystemErr }) r refl refl refl tt e
+    ended_says xid bytes at _ (record { xid = xid; verf = opaque_auth_of verf; body = SystemErr }) r refl refl refl tt e
 says xid bytes at (inl (verf, inr (inr (inr (inr (inr (inr none))))))) r e = absurd none
 says xid bytes at (inr (inl (inl (low, high)))) r e =
-    ended_says xid bytes at _ (record { xid = xid; verf = no_proof; body = RpcMismatch low high }) r refl refl refl refl e
+    ended_says xid bytes at _ (record { xid = xid; verf = auth_none; body = RpcMismatch low high }) r refl refl refl refl e
 says xid bytes at (inr (inl (inr (inl stat)))) r e =
-    ended_says xid bytes at _ (record { xid = xid; verf = no_proof; body = AuthError stat }) r refl refl refl refl e
+    ended_says xid bytes at _ (record { xid = xid; verf = auth_none; body = AuthError stat }) r refl refl refl refl e
 says xid bytes at (inr (inl (inr (inr none)))) r e = absurd none
 says xid bytes at (inr (inr none)) r e = absurd none
 
@@ -103,7 +103,7 @@ one_is n e =
       | inr wrong ↦ absurd cc
     ]
 
-pub reply_spelled : all_spelled → (bytes : List ℕ) (r : Reply) → IsReplySpelledSo bytes r
+pub reply_spelled : all_spelled → (bytes : List ℕ) (r : RpcReply) → IsReplySpelledSo bytes r
 unfolding reply_at
 reply_spelled spelled bytes r is_bytes e =
     let a = bind_ok (reading reply_header bytes 0) (λ v. with_status v.0.0 bytes v.1 v.0.1.1) r e in

@@ -10,13 +10,13 @@ use Rattle.ff_xdr.specs.Reading.{Read, ◌>>=◌, reading}
 use Rattle.ff_xdr.proofs.Refusals.{below, seen}
 use Rattle.ff_xdr.proofs.Seen.{Seen, Took, end_of, same_byte}
 use Rattle.ff_xdr.proofs.Sequences.{take_less}
-use Rattle.rpc_record.specs.Rpc.{proof_of}
-use Rattle.rpc_record.specs.Replies.{Reply, ProgUnavail, ProgMismatch, ProcUnavail, GarbageArgs, SystemErr, RpcMismatch, AuthError, reply_header, no_proof, ended, with_status, reply_at}
+use Rattle.rpc_record.specs.Rpc.{opaque_auth_of}
+use Rattle.rpc_record.specs.Replies.{RpcReply, ProgUnavail, ProgMismatch, ProcUnavail, GarbageArgs, SystemErr, RpcMismatch, AuthError, reply_header, auth_none, ended, with_status, reply_at}
 use Rattle.rpc_record.specs.Laws.{IsReplyShortAtEnd, IsReplyRefusedThere}
 use Rattle.rpc_record.proofs.Records.{all_short, all_stop}
 use Rattle.rpc_record.proofs.ReplyLaws.{status}
 
-abbrev pub failed : XdrError → Result Reply XdrError
+abbrev pub failed : XdrError → Result RpcReply XdrError
 failed e = Err e
 
 abbrev pub rest : ℕ → XdrError
@@ -26,12 +26,12 @@ failed_same : (d e : XdrError) → failed d ≡ failed e → d ≡ e
 failed_same d e is = cc
 
 -- bytes are left over behind a header, and would be in any record that goes on
-pub record LeavesRest (bytes : List ℕ) (at : ℕ) (reply : List ℕ → Result Reply XdrError) (e : XdrError) : Type 0 where
+pub record LeavesRest (bytes : List ℕ) (at : ℕ) (reply : List ℕ → Result RpcReply XdrError) (e : XdrError) : Type 0 where
   pub left : at < length bytes
   pub refusal : rest at ≡ e
   pub more : (other : List ℕ) → at < length other → reply other ≡ failed (rest at)
 
-ended_more : (r : Reply) (bytes : List ℕ) (at : ℕ) → at < length bytes → ended r bytes at ≡ failed (rest at)
+ended_more : (r : RpcReply) (bytes : List ℕ) (at : ℕ) → at < length bytes → ended r bytes at ≡ failed (rest at)
 ended_more r bytes at lt =
     let left : ltb at (length bytes) ≡ true = lt-ltb _ _ lt in
     rw left refl
@@ -39,28 +39,28 @@ ended_more r bytes at lt =
 abbrev rest_by : Bool → ℕ → Result (Unit {0}) XdrError
 rest_by t at = cond t (Err (rest at)) (Ok tt)
 
-abbrev ended_by : Bool → ℕ → Reply → Result Reply XdrError
+abbrev ended_by : Bool → ℕ → RpcReply → Result RpcReply XdrError
 ended_by t at r = rest_by t at >>= λ nothing. Ok r
 
-ended_left : (t : Bool) (at : ℕ) (r : Reply) (e : XdrError) → ended_by t at r ≡ failed e → (t ≡ true) × (rest at ≡ e)
+ended_left : (t : Bool) (at : ℕ) (r : RpcReply) (e : XdrError) → ended_by t at r ≡ failed e → (t ≡ true) × (rest at ≡ e)
 ended_left true at r e is = (refl, failed_same (rest at) e is)
 ended_left false at r e is = absurd cc
 
-ended_rest : (r : Reply) (bytes : List ℕ) (at : ℕ) (e : XdrError) → ended r bytes at ≡ failed e → LeavesRest bytes at (λ b. ended r b at) e
+ended_rest : (r : RpcReply) (bytes : List ℕ) (at : ℕ) (e : XdrError) → ended r bytes at ≡ failed e → LeavesRest bytes at (λ b. ended r b at) e
 ended_rest r bytes at e is =
     let both = ended_left (ltb at (length bytes)) at r e is in
     record { left = ltb-true _ _ both.0; refusal = both.1; more = λ other lt. ended_more r other at lt }
 
 leaves_rest : (xid : ℕ) (bytes : List ℕ) (at : ℕ) (s : Value status) (e : XdrError) → with_status xid bytes at s ≡ failed e → LeavesRest bytes at (λ b. with_status xid b at s) e
 leaves_rest xid bytes at (inl (verf, inl nothing)) e is = absurd cc
-leaves_rest xid bytes at (inl (verf, inr (inl nothing))) e is = ended_rest (record { xid = xid; verf = proof_of verf; body = ProgUnavail }) bytes at e is
-leaves_rest xid bytes at (inl (verf, inr (inr (inl (low, high))))) e is = ended_rest (record { xid = xid; verf = proof_of verf; body = ProgMismatch low high }) bytes at e is
-leaves_rest xid bytes at (inl (verf, inr (inr (inr (inl nothing))))) e is = ended_rest (record { xid = xid; verf = proof_of verf; body = ProcUnavail }) bytes at e is
-leaves_rest xid bytes at (inl (verf, inr (inr (inr (inr (inl nothing)))))) e is = ended_rest (record { xid = xid; verf = proof_of verf; body = GarbageArgs }) bytes at e is
-leaves_rest xid bytes at (inl (verf, inr (inr (inr (inr (inr (inl nothing))))))) e is = ended_rest (record { xid = xid; verf = proof_of verf; body = SystemErr }) bytes at e is
+leaves_rest xid bytes at (inl (verf, inr (inl nothing))) e is = ended_rest (record { xid = xid; verf = opaque_auth_of verf; body = ProgUnavail }) bytes at e is
+leaves_rest xid bytes at (inl (verf, inr (inr (inl (low, high))))) e is = ended_rest (record { xid = xid; verf = opaque_auth_of verf; body = ProgMismatch low high }) bytes at e is
+leaves_rest xid bytes at (inl (verf, inr (inr (inr (inl nothing))))) e is = ended_rest (record { xid = xid; verf = opaque_auth_of verf; body = ProcUnavail }) bytes at e is
+leaves_rest xid bytes at (inl (verf, inr (inr (inr (inr (inl nothing)))))) e is = ended_rest (record { xid = xid; verf = opaque_auth_of verf; body = GarbageArgs }) bytes at e is
+leaves_rest xid bytes at (inl (verf, inr (inr (inr (inr (inr (inl nothing))))))) e is = ended_rest (record { xid = xid; verf = opaque_auth_of verf; body = SystemErr }) bytes at e is
 leaves_rest xid bytes at (inl (verf, inr (inr (inr (inr (inr (inr none))))))) e is = absurd none
-leaves_rest xid bytes at (inr (inl (inl (low, high)))) e is = ended_rest (record { xid = xid; verf = no_proof; body = RpcMismatch low high }) bytes at e is
-leaves_rest xid bytes at (inr (inl (inr (inl stat)))) e is = ended_rest (record { xid = xid; verf = no_proof; body = AuthError stat }) bytes at e is
+leaves_rest xid bytes at (inr (inl (inl (low, high)))) e is = ended_rest (record { xid = xid; verf = auth_none; body = RpcMismatch low high }) bytes at e is
+leaves_rest xid bytes at (inr (inl (inr (inl stat)))) e is = ended_rest (record { xid = xid; verf = auth_none; body = AuthError stat }) bytes at e is
 leaves_rest xid bytes at (inr (inl (inr (inr none)))) e is = absurd none
 leaves_rest xid bytes at (inr (inr none)) e is = absurd none
 
@@ -69,7 +69,7 @@ leaves_rest xid bytes at (inr (inr none)) e is = absurd none
 abbrev pub Header : Type 0
 Header = Value reply_header × ℕ
 
-abbrev pub behind_header : List ℕ → Header → Result Reply XdrError
+abbrev pub behind_header : List ℕ → Header → Result RpcReply XdrError
 behind_header bytes v = with_status v.0.0 bytes v.1 v.0.1.1
 
 -- a header is refused, or it was read with bytes left over

@@ -7,13 +7,13 @@ use Rattle.ff_xdr.specs.Form.{Fits}
 use Rattle.ff_xdr.specs.Reading.{reading}
 use Rattle.ff_xdr.specs.Laws.{IsBytes, Stands, behind, EndsShort, StopsThere}
 use Rattle.rpc_record.specs.declared.call.CallFault.TheVariants.{NotACall, RpcVersion, Bad}
-use Rattle.rpc_record.specs.Calls.{Call, call_body, body_value, call_bytes, call_at, word_of}
-use Rattle.rpc_record.specs.Replies.{Reply, ReplyFits, reply_bytes, reply_at}
+use Rattle.rpc_record.specs.Calls.{RpcCall, call_body, body_value, call_bytes, call_at, word_of}
+use Rattle.rpc_record.specs.Replies.{RpcReply, ReplyFits, reply_bytes, reply_at}
 
-abbrev pub IsCallReadAgain : Call → Type 0
+abbrev pub IsCallReadAgain : RpcCall → Type 0
 IsCallReadAgain c = c.xid < 2 ^ 32 → Fits call_body (body_value c) → call_at (call_bytes c) ≡ Ok c
 
-abbrev pub IsCallSpelledSo : List ℕ → Call → Type 0
+abbrev pub IsCallSpelledSo : List ℕ → RpcCall → Type 0
 IsCallSpelledSo bytes c = IsBytes bytes → call_at bytes ≡ Ok c → (bytes ≡ call_bytes c) × (c.xid < 2 ^ 32) × Fits call_body (body_value c)
 
 -- no call at all: two words do not stand, or the second is not 0
@@ -24,10 +24,10 @@ IsNoCallJustWhere bytes = call_at bytes ≡ Err NotACall ↔ ((length bytes < 8)
 abbrev pub IsOfAnotherVersionJustWhere : List ℕ → ℕ → Type 0
 IsOfAnotherVersionJustWhere bytes xid = call_at bytes ≡ Err (RpcVersion xid) ↔ ((12 ≤ length bytes) × (word_of bytes 0 ≡ xid) × (word_of bytes 4 ≡ 0) × (word_of bytes 8 ≢ 2))
 
-abbrev pub IsReplyReadAgain : Reply → Type 0
+abbrev pub IsReplyReadAgain : RpcReply → Type 0
 IsReplyReadAgain r = ReplyFits r → reply_at (reply_bytes r) ≡ Ok r
 
-abbrev pub IsReplySpelledSo : List ℕ → Reply → Type 0
+abbrev pub IsReplySpelledSo : List ℕ → RpcReply → Type 0
 IsReplySpelledSo bytes r = IsBytes bytes → reply_at bytes ≡ Ok r → (bytes ≡ reply_bytes r) × ReplyFits r
 
 -- A header is refused behind its second word: the third does not stand, or it is 2, the RPC version, and
@@ -59,7 +59,7 @@ IsReplyRefusedThere = StopsThere reply_at
 
 -- a call with this number begins with the bytes up to a place
 pub record BeginsCall (bytes : List ℕ) (xid place : ℕ) : Type 0 where
-  pub call : Call
+  pub call : RpcCall
   pub fits : Fits call_body (body_value call)
   pub own : call.xid ≡ xid
   pub small : xid < 2 ^ 32
@@ -71,7 +71,7 @@ IsCallFirstFault bytes xid e = IsBytes bytes → call_at bytes ≡ Err (Bad xid 
 
 -- The same of replies.
 pub record BeginsReply (bytes : List ℕ) (place : ℕ) : Type 0 where
-  pub reply : Reply
+  pub reply : RpcReply
   pub fits : ReplyFits reply
   pub begins : Stands bytes 0 (take place (reply_bytes reply)) place
 

@@ -6,8 +6,8 @@ use Rattle.ff_xdr.specs.Form.{Form, Void, Number32, Enum, Pair, Arm, NoArm, Valu
 use Rattle.ff_xdr.specs.Reading.{◌>>=◌, reading, rest_of}
 use Rattle.rpc_record.specs.declared.reply.ReplyBody.{ReplyBody}
 use Rattle.rpc_record.specs.declared.reply.ReplyBody.TheVariants as declared
-use Rattle.rpc_record.specs.declared.reply.Reply.{Reply as DeclaredReply}
-use Rattle.rpc_record.specs.Rpc.{opaque_auth, Proof, proof_value, proof_of, plain_auth}
+use Rattle.rpc_record.specs.declared.reply.Reply.{Reply}
+use Rattle.rpc_record.specs.Rpc.{opaque_auth, OpaqueAuth, opaque_auth_value, opaque_auth_of, plain_auth}
 
 -- two numbers of versions, the lowest and the highest
 abbrev pub versions : Form
@@ -40,9 +40,9 @@ pub data Body : Type 0 where
   RpcMismatch : (low high : ℕ) → Body
   AuthError : (stat : ℕ) → Body
 
-pub record Reply : Type 0 where
+pub record RpcReply : Type 0 where
   pub xid : ℕ
-  pub verf : Proof
+  pub verf : OpaqueAuth
   pub body : Body
 
 abbrev pub plain_body : ReplyBody → Body
@@ -55,24 +55,24 @@ plain_body declared.SystemErr = SystemErr
 plain_body (declared.RpcMismatch low high) = RpcMismatch low high
 plain_body (declared.AuthError stat) = AuthError stat
 
-abbrev pub plain_reply : DeclaredReply → Reply
-plain_reply r = record { xid = r.xid; verf = plain_auth r.verf; body = plain_body r.body }
+abbrev pub rpc_reply : Reply → RpcReply
+rpc_reply r = record { xid = r.xid; verf = plain_auth r.verf; body = plain_body r.body }
 
 -- a verifier of no flavor and no bytes, which is read where none stands
-abbrev pub no_proof : Proof
-no_proof = record { flavor = 0; body = [] }
+abbrev pub auth_none : OpaqueAuth
+auth_none = record { flavor = 0; body = [] }
 
-abbrev pub status_value : Proof → Body → Value (Arm 0 accepted_reply (Arm 1 rejected_reply NoArm))
-status_value verf (Success results) = inl (proof_value verf, inl tt)
-status_value verf ProgUnavail = inl (proof_value verf, inr (inl tt))
-status_value verf (ProgMismatch low high) = inl (proof_value verf, inr (inr (inl (low, high))))
-status_value verf ProcUnavail = inl (proof_value verf, inr (inr (inr (inl tt))))
-status_value verf GarbageArgs = inl (proof_value verf, inr (inr (inr (inr (inl tt)))))
-status_value verf SystemErr = inl (proof_value verf, inr (inr (inr (inr (inr (inl tt))))))
+abbrev pub status_value : OpaqueAuth → Body → Value (Arm 0 accepted_reply (Arm 1 rejected_reply NoArm))
+status_value verf (Success results) = inl (opaque_auth_value verf, inl tt)
+status_value verf ProgUnavail = inl (opaque_auth_value verf, inr (inl tt))
+status_value verf (ProgMismatch low high) = inl (opaque_auth_value verf, inr (inr (inl (low, high))))
+status_value verf ProcUnavail = inl (opaque_auth_value verf, inr (inr (inr (inl tt))))
+status_value verf GarbageArgs = inl (opaque_auth_value verf, inr (inr (inr (inr (inl tt)))))
+status_value verf SystemErr = inl (opaque_auth_value verf, inr (inr (inr (inr (inr (inl tt))))))
 status_value verf (RpcMismatch low high) = inr (inl (inl (low, high)))
 status_value verf (AuthError stat) = inr (inl (inr (inl stat)))
 
-abbrev pub header_value : Reply → Value reply_header
+abbrev pub header_value : RpcReply → Value reply_header
 header_value r = (r.xid, (1, status_value r.verf r.body))
 
 abbrev pub results_of : Body → List ℕ
@@ -80,41 +80,36 @@ results_of (Success results) = results
 results_of body = []
 
 -- the bytes of a reply: its header, and the results of a success
-abbrev pub reply_bytes : Reply → List ℕ
+abbrev pub reply_bytes : RpcReply → List ℕ
 reply_bytes r = spelling reply_header (header_value r) ++ results_of r.body
 
 -- the verifier is none where it has no place in the bytes
-abbrev pub HasVerifier : Proof → Body → Type 0
-HasVerifier verf (RpcMismatch low high) = verf ≡ no_proof
-HasVerifier verf (AuthError stat) = verf ≡ no_proof
+abbrev pub HasVerifier : OpaqueAuth → Body → Type 0
+HasVerifier verf (RpcMismatch low high) = verf ≡ auth_none
+HasVerifier verf (AuthError stat) = verf ≡ auth_none
 HasVerifier verf body = Unit {0}
 
 -- the reply has a spelling that says all of it
-abbrev pub ReplyFits : Reply → Type 0
+abbrev pub ReplyFits : RpcReply → Type 0
 ReplyFits r = Fits reply_header (header_value r) × HasVerifier r.verf r.body
 
-abbrev pub ended : Reply → List ℕ → ℕ → Result Reply XdrError
+abbrev pub ended : RpcReply → List ℕ → ℕ → Result RpcReply XdrError
 ended r bytes at = rest_of bytes at >>= λ nothing. Ok r
 
 -- a reply whose header was read up to a place
-abbrev pub with_status : ℕ → List ℕ → ℕ → Value (Arm 0 accepted_reply (Arm 1 rejected_reply NoArm)) → Result Reply XdrError
-with_status xid bytes at (inl (verf, inl nothing)) = Ok (record { xid = xid; verf = proof_of verf; body = Success (drop at bytes) })
-with_status xid bytes at (inl (verf, inr (inl nothing))) = ended (record { xid = xid; verf = proof_of verf; body = ProgUnavail }) bytes at
-with_status xid bytes at (inl (verf, inr (inr (inl (low, high))))) = ended (record { xid = xid; verf = proof_of verf; body = ProgMismatch low high }) bytes at
-with_status xid bytes at (inl (verf, inr (inr (inr (inl nothing))))) = ended (record { xid = xid; verf = proof_of verf; body = ProcUnavail }) bytes at
-with_status xid bytes at (inl (verf, inr (inr (inr (inr (inl nothing)))))) = ended (record { xid = xid; verf = proof_of verf; body = GarbageArgs }) bytes at
-with_status xid bytes at (inl (verf, inr (inr (inr (inr (inr (inl nothing))))))) = ended (record { xid = xid; verf = proof_of verf; body = SystemErr }) bytes at
+abbrev pub with_status : ℕ → List ℕ → ℕ → Value (Arm 0 accepted_reply (Arm 1 rejected_reply NoArm)) → Result RpcReply XdrError
+with_status xid bytes at (inl (verf, inl nothing)) = Ok (record { xid = xid; verf = opaque_auth_of verf; body = Success (drop at bytes) })
+with_status xid bytes at (inl (verf, inr (inl nothing))) = ended (record { xid = xid; verf = opaque_auth_of verf; body = ProgUnavail }) bytes at
+with_status xid bytes at (inl (verf, inr (inr (inl (low, high))))) = ended (record { xid = xid; verf = opaque_auth_of verf; body = ProgMismatch low high }) bytes at
+with_status xid bytes at (inl (verf, inr (inr (inr (inl nothing))))) = ended (record { xid = xid; verf = opaque_auth_of verf; body = ProcUnavail }) bytes at
+with_status xid bytes at (inl (verf, inr (inr (inr (inr (inl nothing)))))) = ended (record { xid = xid; verf = opaque_auth_of verf; body = GarbageArgs }) bytes at
+with_status xid bytes at (inl (verf, inr (inr (inr (inr (inr (inl nothing))))))) = ended (record { xid = xid; verf = opaque_auth_of verf; body = SystemErr }) bytes at
 with_status xid bytes at (inl (verf, inr (inr (inr (inr (inr (inr none))))))) = absurd none
-with_status xid bytes at (inr (inl (inl (low, high)))) = ended (record { xid = xid; verf = no_proof; body = RpcMismatch low high }) bytes at
-with_status xid bytes at (inr (inl (inr (inl stat)))) = ended (record { xid = xid; verf = no_proof; body = AuthError stat }) bytes at
+with_status xid bytes at (inr (inl (inl (low, high)))) = ended (record { xid = xid; verf = auth_none; body = RpcMismatch low high }) bytes at
+with_status xid bytes at (inr (inl (inr (inl stat)))) = ended (record { xid = xid; verf = auth_none; body = AuthError stat }) bytes at
 with_status xid bytes at (inr (inl (inr (inr none)))) = absurd none
 with_status xid bytes at (inr (inr none)) = absurd none
 
 -- what a record is as a reply: its header in its form, and no bytes behind it but the results of a success
-unfoldable pub reply_at : List ℕ → Result Reply XdrError
+unfoldable pub reply_at : List ℕ → Result RpcReply XdrError
 reply_at bytes = reading reply_header bytes 0 >>= λ v. with_status v.0.0 bytes v.1 v.0.1.1
-
--- what was found is what reading says
-abbrev pub Finds : Result DeclaredReply XdrError → Result Reply XdrError → Type 0
-Finds (Ok reply) read = read ≡ Ok (plain_reply reply)
-Finds (Err e) read = read ≡ Err e

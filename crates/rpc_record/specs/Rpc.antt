@@ -10,18 +10,18 @@ abbrev pub opaque_auth : Form
 opaque_auth = Pair Number32 (Opaque 400)
 
 -- an opaque_auth, without where its bytes lie
-pub record Proof : Type 0 where
+pub record OpaqueAuth : Type 0 where
   pub flavor : ℕ
   pub body : List ℕ
 
-abbrev pub plain_auth : Auth → Proof
+abbrev pub plain_auth : Auth → OpaqueAuth
 plain_auth a = record { flavor = a.flavor; body = a.body.now }
 
-abbrev pub proof_value : Proof → Value opaque_auth
-proof_value p = (p.flavor, p.body)
+abbrev pub opaque_auth_value : OpaqueAuth → Value opaque_auth
+opaque_auth_value p = (p.flavor, p.body)
 
-abbrev pub proof_of : Value opaque_auth → Proof
-proof_of (flavor, body) = record { flavor = flavor; body = body }
+abbrev pub opaque_auth_of : Value opaque_auth → OpaqueAuth
+opaque_auth_of (flavor, body) = record { flavor = flavor; body = body }
 
 -- authsys_parms: stamp, machine name, uid, gid, gids (appendix A)
 abbrev pub authsys_parms : Form

@@ -1,9 +1,10 @@
 //! Reading and writing of `Auth` and `AuthSys`.
 
-ghost use Rattle.rpc_record.specs.Rpc.{opaque_auth, authsys_parms, proof_value, plain_auth, credential_value, plain_credential};
+ghost use Rattle.std.specs.Prelude.{refl};
+ghost use Rattle.rpc_record.specs.Rpc.{opaque_auth, authsys_parms, opaque_auth_value, plain_auth, credential_value, plain_credential};
 
 use crate::auth::{Auth, AuthSys, MAX_BODY};
-use ff_xdr::{Cursor, Items, Message, NoMemory, Out, Wire, XdrError};
+use ff_xdr::{Array, Cursor, Message, NoMemory, Opaque, Out, Wire, XdrError};
 
 /// The most bytes in a machine's name.
 const MAX_MACHINE: u32 = 255;
@@ -11,30 +12,36 @@ const MAX_MACHINE: u32 = 255;
 /// The most further groups.
 const MAX_GIDS: u32 = 16;
 
+/// The body of an `opaque_auth` (RFC 5531, section 8.2).
+type Body<'a> = Opaque<'a, MAX_BODY>;
+
+/// A machine's name (RFC 5531, appendix A).
+type Machine<'a> = Opaque<'a, MAX_MACHINE>;
+
+/// The further groups of a caller (RFC 5531, appendix A).
+type Gids<'a> = Array<'a, u32, MAX_GIDS>;
+
 impl<'a> Message for Auth<'a> {
     ghost form = { opaque_auth };
 
-    ghost meaning = { λ a. proof_value (plain_auth a) };
+    ghost meaning = { λ a. opaque_auth_value (plain_auth a) };
+
+    ghost sound = { refl };
 }
 
 impl<'a> Wire<'a> for Auth<'a> {
     fn read(cursor: &mut Cursor<'a>) -> Result<Auth<'a>, XdrError> {
-        let mut fork = cursor.fork();
-        let flavor = fork.number32()?;
-        let body = fork.opaque(MAX_BODY)?;
-        *cursor = fork;
+        let (flavor, body) = <(u32, Body<'a>)>::read(cursor)?;
+        let body = body.bytes;
         Ok(Auth { flavor, body })
     }
 
     fn put(&self, out: &mut Out) -> Result<(), NoMemory> {
-        out.number32(self.flavor)?;
-        out.opaque(self.body)?;
-        Ok(())
+        (self.flavor, Body { bytes: self.body }).put(out)
     }
 
     fn fits(&self) -> bool {
-        let _flavor = self.flavor;
-        self.body.len() <= 400
+        (self.flavor, Body { bytes: self.body }).fits()
     }
 }
 
@@ -42,39 +49,36 @@ impl<'a> Message for AuthSys<'a> {
     ghost form = { authsys_parms };
 
     ghost meaning = { λ a. credential_value (plain_credential a) };
+
+    ghost sound = { refl };
 }
 
 impl<'a> Wire<'a> for AuthSys<'a> {
     fn read(cursor: &mut Cursor<'a>) -> Result<AuthSys<'a>, XdrError> {
-        let mut fork = cursor.fork();
-        let stamp = fork.number32()?;
-        let machine = fork.opaque(MAX_MACHINE)?;
-        let uid = fork.number32()?;
-        let gid = fork.number32()?;
-        let gids = Items::read(&mut fork, MAX_GIDS)?;
-        *cursor = fork;
+        let (stamp, machine, (uid, gid, gids)) =
+            <(u32, Machine<'a>, (u32, u32, Gids<'a>))>::read(cursor)?;
         Ok(AuthSys {
             stamp,
-            machine,
+            machine: machine.bytes,
             uid,
             gid,
-            gids,
+            gids: gids.items,
         })
     }
 
     fn put(&self, out: &mut Out) -> Result<(), NoMemory> {
-        out.number32(self.stamp)?;
-        out.opaque(self.machine)?;
-        out.number32(self.uid)?;
-        out.number32(self.gid)?;
-        self.gids.put(out)?;
-        Ok(())
+        let machine = Machine {
+            bytes: self.machine,
+        };
+        let gids = Gids { items: self.gids };
+        (self.stamp, machine, (self.uid, self.gid, gids)).put(out)
     }
 
     fn fits(&self) -> bool {
-        let _stamp = self.stamp;
-        let _uid = self.uid;
-        let _gid = self.gid;
-        self.machine.len() <= 255 && self.gids.fits(MAX_GIDS)
+        let machine = Machine {
+            bytes: self.machine,
+        };
+        let gids = Gids { items: self.gids };
+        (self.stamp, machine, (self.uid, self.gid, gids)).fits()
     }
 }

@@ -2,9 +2,9 @@
 
 ghost use Rattle.std.specs.Prelude.{◌≡◌, ◌+◌, ◌≤◌, ◌++◌, length, drop};
 ghost use Rattle.ff_xdr.specs.Form.{Fits, spelling, word};
-ghost use Rattle.ff_xdr.specs.Calls.{Grows, Puts};
+ghost use Rattle.ff_xdr.specs.Calls.{Grows, Puts, Finds};
 ghost use Rattle.ff_xdr.specs.Reading.{reading};
-ghost use Rattle.rpc_record.specs.Calls.{plain_call, call_body, body_value, call_bytes, call_at, body_at, word_of, HasBody, Finds};
+ghost use Rattle.rpc_record.specs.Calls.{rpc_call, call_body, body_value, call_bytes, call_at, body_at, word_of, HasBody};
 
 use crate::auth::Auth;
 use crate::call::{Call, CallFault};
@@ -51,7 +51,7 @@ fn body_of<'a>(xid: u32, cursor: &mut Cursor<'a>) -> Result<Call<'a>, XdrError>
 /// The same, as the end of a record.
 #[tactic(auto, unfolding(crate::specs::Calls::body_at))]
 fn read_body<'a>(xid: u32, cursor: &mut Cursor<'a>) -> Result<Call<'a>, CallFault>
-    ensures { Finds result (body_at xid cursor.old.bytes cursor.old.at) }
+    ensures { Finds rpc_call result (body_at xid cursor.old.bytes cursor.old.at) }
 {
     match body_of(xid, cursor) {
         Ok(call) => Ok(call),
@@ -70,8 +70,8 @@ impl<'a> Call<'a> {
     }
 
     fn put_body(&self, out: &mut Out) -> Result<(), NoMemory>
-        requires { Fits call_body (body_value (plain_call self.now)) }
-        ensures { Grows out.old result out.new (spelling call_body (body_value (plain_call self.now))) }
+        requires { Fits call_body (body_value (rpc_call self.now)) }
+        ensures { Grows out.old result out.new (spelling call_body (body_value (rpc_call self.now))) }
     {
         out.number32(self.program)?;
         out.number32(self.version)?;
@@ -82,8 +82,8 @@ impl<'a> Call<'a> {
     }
 
     fn put(&self, out: &mut Out) -> Result<(), NoMemory>
-        requires { Fits call_body (body_value (plain_call self.now)) }
-        ensures { Grows out.old result out.new (call_bytes (plain_call self.now)) }
+        requires { Fits call_body (body_value (rpc_call self.now)) }
+        ensures { Grows out.old result out.new (call_bytes (rpc_call self.now)) }
     {
         self.put_header(out)?;
         self.put_body(out)?;
@@ -96,7 +96,7 @@ impl<'a> Call<'a> {
     /// Reads a record as a call.
     #[tactic(auto, unfolding(crate::specs::Calls::call_at))]
     pub fn read(message: &'a [u8]) -> Result<Call<'a>, CallFault>
-        ensures { Finds result (call_at message.now) }
+        ensures { Finds rpc_call result (call_at message.now) }
     {
         if message.len() < 8 || word_of(message, 4) != 0 {
             return Err(CallFault::NotACall);
@@ -112,8 +112,8 @@ impl<'a> Call<'a> {
 
     /// Appends the call's record, or nothing.
     pub fn write(&self, out: &mut Out) -> Result<(), NoMemory>
-        requires { Fits call_body (body_value (plain_call self.now)) }
-        ensures { Puts out.old result out.new (call_bytes (plain_call self.now)) }
+        requires { Fits call_body (body_value (rpc_call self.now)) }
+        ensures { Puts out.old result out.new (call_bytes (rpc_call self.now)) }
     {
         let mark = out.len();
         match self.put(out) {

@@ -1,10 +1,10 @@
 //! Reading and writing of replies.
 
-ghost use Rattle.std.specs.Prelude.{◌≡◌, ◌↔◌, [], IsTrue};
+ghost use Rattle.std.specs.Prelude.{◌≡◌, ◌↔◌, [], IsTrue, refl};
 ghost use Rattle.ff_xdr.specs.Form.{spelling, Fits};
 ghost use Rattle.ff_xdr.specs.Reading.{reading};
-ghost use Rattle.ff_xdr.specs.Calls.{Gives, Grows, Puts};
-ghost use Rattle.rpc_record.specs.Replies.{accept_stat, rejected_reply, reply_header, header_value, plain_reply, plain_body, reply_bytes, ReplyFits, reply_at, results_of, status_value, Finds};
+ghost use Rattle.ff_xdr.specs.Calls.{Gives, Grows, Puts, Finds};
+ghost use Rattle.rpc_record.specs.Replies.{accept_stat, rejected_reply, reply_header, header_value, rpc_reply, plain_body, reply_bytes, ReplyFits, reply_at, results_of, status_value};
 ghost use Rattle.rpc_record.specs.Rpc.{plain_auth};
 ghost use Rattle.rpc_record.specs.Status.{accept_value, reject_value, reply_stat, stat_value, reply_of, is_success};
 
@@ -14,20 +14,12 @@ use crate::reply::{Reply, ReplyBody};
 use crate::status::{AcceptStat, RejectStat, Status};
 use ff_xdr::{Cursor, Message, NoMemory, Out, Wire, XdrError, XdrWhy};
 
-/// The refusal of a number that is none of the enum's, at its word.
-fn not_enum(place: usize) -> XdrError
-    ensures { result ≡ record { place = place; why = XdrWhy.NotEnum } }
-{
-    XdrError {
-        place,
-        why: XdrWhy::NotEnum,
-    }
-}
-
 impl Message for AcceptStat {
     ghost form = { accept_stat };
 
     ghost meaning = { accept_value };
+
+    ghost sound = { refl };
 }
 
 impl<'a> Wire<'a> for AcceptStat {
@@ -44,7 +36,7 @@ impl<'a> Wire<'a> for AcceptStat {
             3 => AcceptStat::ProcUnavail,
             4 => AcceptStat::GarbageArgs,
             5 => AcceptStat::SystemErr,
-            _ => return Err(not_enum(cursor.place())),
+            _ => return Err(XdrError::not_enum(cursor.place())),
         };
         *cursor = fork;
         Ok(stat)
@@ -101,6 +93,8 @@ impl Message for RejectStat {
     ghost form = { rejected_reply };
 
     ghost meaning = { reject_value };
+
+    ghost sound = { refl };
 }
 
 impl<'a> Wire<'a> for RejectStat {
@@ -116,7 +110,7 @@ impl<'a> Wire<'a> for RejectStat {
                 let stat = fork.number32()?;
                 RejectStat::AuthError(stat)
             }
-            _ => return Err(not_enum(cursor.place())),
+            _ => return Err(XdrError::not_enum(cursor.place())),
         };
         *cursor = fork;
         Ok(stat)
@@ -157,6 +151,8 @@ impl<'a> Message for Status<'a> {
     ghost form = { reply_stat };
 
     ghost meaning = { stat_value };
+
+    ghost sound = { refl };
 }
 
 impl<'a> Wire<'a> for Status<'a> {
@@ -172,7 +168,7 @@ impl<'a> Wire<'a> for Status<'a> {
                 let stat = RejectStat::read(&mut fork)?;
                 Status::Denied(stat)
             }
-            _ => return Err(not_enum(cursor.place())),
+            _ => return Err(XdrError::not_enum(cursor.place())),
         };
         *cursor = fork;
         Ok(status)
@@ -215,7 +211,7 @@ fn no_verifier() -> Auth<'static>
 
 /// The reply of a status and the results behind it.
 fn reply_of<'a>(xid: u32, status: Status<'a>, results: &'a [u8]) -> Reply<'a>
-    ensures { plain_reply result ≡ reply_of xid status.entry results.entry.now }
+    ensures { rpc_reply result ≡ reply_of xid status.entry results.entry.now }
 {
     let (verf, body) = match status {
         Status::Accepted(verf, AcceptStat::Success) => (verf, ReplyBody::Success(results)),
@@ -242,7 +238,7 @@ fn read_header<'a>(cursor: &mut Cursor<'a>) -> Result<(u32, Status<'a>), XdrErro
     let xid = fork.number32()?;
     let place = fork.place();
     if fork.number32()? != 1 {
-        return Err(not_enum(place));
+        return Err(XdrError::not_enum(place));
     }
     let status = Status::read(&mut fork)?;
     *cursor = fork;
@@ -288,8 +284,8 @@ fn results_of<'a>(body: &ReplyBody<'a>) -> &'a [u8]
 
 impl<'a> Reply<'a> {
     fn put(&self, out: &mut Out) -> Result<(), NoMemory>
-        requires { ReplyFits (plain_reply self.now) }
-        ensures { Grows out.old result out.new (reply_bytes (plain_reply self.now)) }
+        requires { ReplyFits (rpc_reply self.now) }
+        ensures { Grows out.old result out.new (reply_bytes (rpc_reply self.now)) }
     {
         out.number32(self.xid)?;
         out.number32(1)?;
@@ -301,7 +297,7 @@ impl<'a> Reply<'a> {
     /// The reply has a spelling that says all of it: the verifier's body has at most 400 bytes, and
     /// where the bytes have no place for a verifier it is of flavor 0 and without bytes.
     pub fn fits(&self) -> bool
-        ensures { IsTrue result ↔ ReplyFits (plain_reply self.now) }
+        ensures { IsTrue result ↔ ReplyFits (rpc_reply self.now) }
     {
         let _xid = self.xid;
         if !status_of(self.verf, self.body).fits() {
@@ -318,7 +314,7 @@ impl<'a> Reply<'a> {
     /// the first byte that no reply has there.
     #[tactic(auto, unfolding(crate::specs::Replies::reply_at), using(crate::proofs::Replies::with_status_is))]
     pub fn read(message: &'a [u8]) -> Result<Reply<'a>, XdrError>
-        ensures { Finds result (reply_at message.now) }
+        ensures { Finds rpc_reply result (reply_at message.now) }
     {
         let mut cursor = Cursor::new(message);
         let (xid, status) = read_header(&mut cursor)?;
@@ -331,8 +327,8 @@ impl<'a> Reply<'a> {
 
     /// Appends the reply's record, or nothing.
     pub fn write(&self, out: &mut Out) -> Result<(), NoMemory>
-        requires { ReplyFits (plain_reply self.now) }
-        ensures { Puts out.old result out.new (reply_bytes (plain_reply self.now)) }
+        requires { ReplyFits (rpc_reply self.now) }
+        ensures { Puts out.old result out.new (reply_bytes (rpc_reply self.now)) }
     {
         let mark = out.len();
         match self.put(out) {
