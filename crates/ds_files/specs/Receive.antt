@@ -17,11 +17,11 @@ use Rattle.ds_files.specs.Steps.{Step, step_of}
 -- nothing, a refusal, or a call with its credential
 pub data Received : Type 0 where
   Silent : Received
-  Refused : (reply : rpc_reply.Reply) → Received
+  Refused : (reply : rpc_reply.RpcReply) → Received
   Asked : (xid : ℕ) (call : Nfs3Call) (cred : Credential) → Received
 
 -- a reply with no verifier, which is how a data server replies
-abbrev pub replies_with : ℕ → rpc_reply.Body → rpc_reply.Reply
+abbrev pub replies_with : ℕ → rpc_reply.Body → rpc_reply.RpcReply
 replies_with xid body = record { xid = xid; verf = rpc_reply.auth_none; body = body }
 
 abbrev pub refuses : ℕ → rpc_reply.Body → Received

@@ -53,14 +53,28 @@ call_value (Commit file offset count) = arm 21 calls (file, (offset, count))
 abbrev pub call_of : Value calls → Nfs3Call
 call_of = by_arm calls (
   λ nothing. Null,
-  (λ file. GetAttr file,
-  (λ (file, (attributes, guard)). SetAttr file (sattr3_of attributes) (option_map time3_of guard),
-  (λ (directory, name). Lookup directory name,
-  (λ (file, (offset, count)). Read file offset count,
-  (λ (file, (offset, (count, (stable, bytes)))). Write file offset count (stable_how_of stable) bytes,
-  (λ (directory, (name, how)). Create directory name (create_how_of how),
-  (λ root. FsInfo root,
-  (λ (file, (offset, count)). Commit file offset count, tt)))))))),
+  (
+    λ file. GetAttr file,
+    (
+      λ (file, (attributes, guard)). SetAttr file (sattr3_of attributes) (option_map time3_of guard),
+      (
+        λ (directory, name). Lookup directory name,
+        (
+          λ (file, (offset, count)). Read file offset count,
+          (
+            λ (file, (offset, (count, (stable, bytes)))). Write file offset count (stable_how_of stable) bytes,
+            (
+              λ (directory, (name, how)). Create directory name (create_how_of how),
+              (
+                λ root. FsInfo root,
+                (λ (file, (offset, count)). Commit file offset count, tt),
+              ),
+            ),
+          ),
+        ),
+      ),
+    ),
+  ),
 )
 
 -- a call of the code without where its bytes lie

@@ -1,17 +1,17 @@
 -- What the steps of `Frames` take of a piece.
 use Rattle.std.proofs.Common.{◌≡◌, ℕ, ◌+◌, ◌-◌, ◌<◌, ◌≤◌, min, Bool, true, List, [], ◌++◌, length, take, drop, refl, sym, ap, subst, ◌∙◌, append_assoc, arith}
-use Rattle.std.proofs.lemmas.List.{append-nil, length-take-le, length-drop, drop_all}
+use Rattle.std.proofs.lemmas.List.{append-nil, length-append, length-take-le, length-drop, drop_all}
 use Rattle.std.proofs.Math.Seq.{take-add}
 use Rattle.rpc_record.specs.declared.frames.Stage.{Stage}
 use Rattle.rpc_record.specs.declared.frames.Stage.TheVariants as stage
-use Rattle.rpc_record.specs.Frames.{Front}
-use Rattle.rpc_record.specs.FramesView.{front_at, IsStage, is_more, settled, resume, Steps, TakesSome, Gathers}
+use Rattle.rpc_record.specs.Frames.{max_record, Front}
+use Rattle.rpc_record.specs.FramesView.{front_at, IsStage, IsInLimit, is_more, settled, resume, Steps, TakesSome, Gathers}
 use Rattle.rpc_record.proofs.FrameSteps.{body_steps}
 
 pub takes_body : (old : List ℕ) (start : Stage) (piece : List ℕ) (n : ℕ) (new : List ℕ) (end : Stage) (h left : ℕ) (last : Bool)
     → start ≡ stage.Body h left last → IsStage start → 0 < length piece → n ≡ min left (length piece) → new ≡ old ++ take n piece
-    → ((g : List ℕ) → front_at g end ≡ settled g h (left - n) last) → IsStage end → TakesSome old start piece n new end
-takes_body old start piece n new end h left last is stands some count grows front ends =
+    → ((g : List ℕ) → front_at g end ≡ settled g h (left - n) last) → IsStage end → ((m : ℕ) → m + (left - n) ≤ max_record → IsInLimit m end) → TakesSome old start piece n new end
+takes_body old start piece n new end h left last is stands some count grows front ends within =
     let some_left : 0 < left = subst IsStage is stands in
     let size : length (take n piece) ≡ n = length-take-le n piece (omega arith) in
     let steps : Steps (front_at old (stage.Body h left last)) (take n piece) (settled (old ++ take n piece) h (left - length (take n piece)) last) = body_steps h old left last (take n piece) (omega (arith, size)) in
@@ -21,6 +21,10 @@ takes_body old start piece n new end h left last is stands some count grows fron
       within = omega arith;
       steps = subst (λ (f : Front). Steps (front_at old start) (take n piece) f) there (subst (λ (s : Stage). Steps (front_at old s) (take n piece) (settled (old ++ take n piece) h (left - length (take n piece)) last)) (sym is) steps);
       stage = ends;
+      limit = λ low.
+          let before : length old + left ≤ max_record = subst (λ (s : Stage). IsInLimit (length old) s) is low in
+          let now : length new ≡ length old + n = ap (λ (g : List ℕ). length g) grows ∙ length-append old (take n piece) ∙ ap (λ (k : ℕ). length old + k) size in
+          within (length new) (omega (arith, before, now, size));
       added = take n piece;
       grows = grows;
     }
@@ -30,6 +34,7 @@ pub record Underway (old : List ℕ) (start : Stage) (piece : List ℕ) (taken :
   pub within : taken ≤ length piece
   pub steps : Steps (front_at old start) (take taken piece) (front_at new now)
   pub stage : IsStage now
+  pub limit : IsInLimit (length old) start → IsInLimit (length new) now
   pub added : List ℕ
   pub grows : new ≡ old ++ added
   pub more : is_more now ≡ true → is_more start ≡ true
@@ -39,6 +44,7 @@ underway_first old start piece stands = record {
   within = omega arith;
   steps = λ more. refl;
   stage = stands;
+  limit = λ low. low;
   added = [];
   grows = sym (append-nil old);
   more = λ e. e;
@@ -55,6 +61,7 @@ underway_more old start piece taken mid now n new end u more t =
       within = omega (arith, length-drop taken piece, u.within, t.within);
       steps = rw (take-add taken n piece) join;
       stage = t.stage;
+      limit = λ low. t.limit (u.limit low);
       added = u.added ++ t.added;
       grows = t.grows ∙ ap (λ (g : List ℕ). g ++ t.added) u.grows ∙ append_assoc old u.added t.added;
       more = λ e. u.more more;
@@ -65,5 +72,6 @@ gathers_from old start piece taken new end u stops = record {
   within = u.within;
   steps = u.steps;
   stage = u.stage;
+  limit = u.limit;
   stops = λ more. drop_all taken piece (stops more);
 }

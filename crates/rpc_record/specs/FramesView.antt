@@ -22,6 +22,14 @@ IsStage stage.Whole = ⊤
 IsStage stage.TooLong = ⊤
 IsStage stage.TooManyFragments = ⊤
 
+-- What is gathered, with what is to come of its fragment, is no more than a record may have.
+abbrev pub IsInLimit : ℕ → Stage → Type 0
+IsInLimit n (stage.Header headers bytes count) = n ≤ max_record
+IsInLimit n (stage.Body headers left last) = n + left ≤ max_record
+IsInLimit n stage.Whole = n ≤ max_record
+IsInLimit n stage.TooLong = n ≤ max_record
+IsInLimit n stage.TooManyFragments = n ≤ max_record
+
 -- more of the record is to come
 abbrev pub is_more : Stage → Bool
 is_more (stage.Header headers bytes count) = true
@@ -64,6 +72,7 @@ pub record TakesSome (old : List ℕ) (start : Stage) (piece : List ℕ) (taken 
   pub within : taken ≤ length piece
   pub steps : Steps (front_at old start) (take taken piece) (front_at new end)
   pub stage : IsStage end
+  pub limit : IsInLimit (length old) start → IsInLimit (length new) end
   pub added : List ℕ
   pub grows : new ≡ old ++ added
 
@@ -72,6 +81,7 @@ pub record Gathers (old : List ℕ) (start : Stage) (piece : List ℕ) (taken : 
   pub within : taken ≤ length piece
   pub steps : Steps (front_at old start) (take taken piece) (front_at new end)
   pub stage : IsStage end
+  pub limit : IsInLimit (length old) start → IsInLimit (length new) end
   pub stops : is_more end ≡ true → drop taken piece ≡ []
 
 -- what is answered where so many bytes were taken

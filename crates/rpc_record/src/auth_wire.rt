@@ -55,8 +55,9 @@ impl<'a> Message for AuthSys<'a> {
 
 impl<'a> Wire<'a> for AuthSys<'a> {
     fn read(cursor: &mut Cursor<'a>) -> Result<AuthSys<'a>, XdrError> {
-        let (stamp, machine, (uid, gid, gids)) =
-            <(u32, Machine<'a>, (u32, u32, Gids<'a>))>::read(cursor)?;
+        let (stamp, machine, (uid, gid, gids)) = <(u32, Machine<'a>, (u32, u32, Gids<'a>))>::read(
+            cursor,
+        )?;
         Ok(AuthSys {
             stamp,
             machine: machine.bytes,

@@ -1,11 +1,11 @@
 //! Record marking (RFC 5531, section 11): records out of a stream that comes in any pieces.
 
-ghost use Rattle.std.specs.Prelude.{◌≡◌, ◌≤◌, ◌<◌, ◌++◌, ◌∷◌, List, ℕ, [], length, take, drop, IfOk, OnErr, IsErrOf, IsTrue, Some, None};
+ghost use Rattle.std.specs.Prelude.{◌≡◌, ◌+◌, ◌≤◌, ◌<◌, ◌++◌, ◌∷◌, List, ℕ, [], length, take, drop, IfOk, OnErr, IsErrOf, IsTrue, Some, None};
 ghost use Rattle.std.specs.Int.{w32, from_be_bytes};
 ghost use Rattle.std.specs.Option.{option_map};
 ghost use Rattle.ff_xdr.specs.Calls.{Puts};
 ghost use Rattle.rpc_record.specs.Frames.{front_of, max_record, record_bytes, HasGiven, Feeds, TakesOut, with_taken, Header, Open, TooLong, TooManyFragments};
-ghost use Rattle.rpc_record.specs.FramesView.{front_at, is_more, IsStage, settled, behind, Steps, TakesSome, Gathers, answers};
+ghost use Rattle.rpc_record.specs.FramesView.{front_at, is_more, IsStage, IsInLimit, settled, behind, Steps, TakesSome, Gathers, answers};
 
 use ff_xdr::{NoMemory, Out};
 use std::alloc::Global;
@@ -68,6 +68,7 @@ enum Stage {
 fn at_header(headers: u32) -> Stage
     ensures front { (gathered : List ℕ) → front_at gathered result ≡ Open (record { gathered = gathered; headers = headers; coming = Header [] }) }
     ensures stage { IsStage result }
+    ensures limit { (gathered : ℕ) → gathered ≤ max_record → IsInLimit gathered result }
 {
     Stage::Header {
         headers,
@@ -80,6 +81,7 @@ fn at_header(headers: u32) -> Stage
 fn settled(headers: u32, left: usize, last: bool) -> Stage
     ensures front { (gathered : List ℕ) → front_at gathered result ≡ settled gathered headers left last }
     ensures stage { IsStage result }
+    ensures limit { (gathered : ℕ) → gathered + left ≤ max_record → IsInLimit gathered result }
 {
     if left > 0 {
         Stage::Body {
@@ -99,10 +101,13 @@ fn settled(headers: u32, left: usize, last: bool) -> Stage
 fn behind_header(headers: u32, gathered: usize, word: u32) -> Stage
     ensures front { (bytes : List ℕ) → length bytes ≡ gathered → front_at bytes result ≡ behind bytes headers word }
     ensures stage { IsStage result }
+    ensures limit { gathered ≤ max_record → IsInLimit gathered result }
 {
     let last = word >= 0x8000_0000;
     let length = if last { word - 0x8000_0000 } else { word } as usize;
-    if length > MAX_RECORD || gathered > MAX_RECORD - length {
+    if length > MAX_RECORD {
+        Stage::TooLong
+    } else if gathered > MAX_RECORD - length {
         Stage::TooLong
     } else if headers == 0 {
         Stage::TooManyFragments
@@ -117,6 +122,7 @@ fn header_byte(headers: u32, bytes: [u8; 4], count: usize, byte: u8, gathered: u
     requires four { length bytes ≡ 4 }
     ensures steps { (before : List ℕ) → length before ≡ gathered → Steps (front_at before (Stage.Header headers bytes count)) (byte ∷ []) (front_at before result) }
     ensures stage { IsStage result }
+    ensures limit { gathered ≤ max_record → IsInLimit gathered result }
 {
     let mut bytes = bytes;
     bytes[count] = byte;
@@ -220,13 +226,14 @@ pub struct Frames {
 
 impl Model for Frames {
     ghost use Rattle.rpc_record.specs.Frames.{Front};
-    ghost use Rattle.rpc_record.specs.FramesView.{front_at, IsStage};
+    ghost use Rattle.rpc_record.specs.FramesView.{front_at, IsStage, IsInLimit};
+    ghost use Rattle.std.specs.Prelude.{length};
 
     ghost Value = { Front };
 
     ghost view = { λ f. front_at f.gathered.items f.stage };
 
-    ghost invariant = { λ f. IsStage f.stage };
+    ghost invariant = { λ f. IsStage f.stage × IsInLimit (length f.gathered.items) f.stage };
 }
 
 impl Frames {

@@ -14,6 +14,8 @@ mod memory;
 mod reply;
 mod reply_wire;
 mod standard;
+#[cfg(test)]
+mod standard_tests;
 mod status;
 mod stream;
 mod sure;
