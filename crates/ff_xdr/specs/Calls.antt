@@ -10,9 +10,9 @@ pub record Place : Type 0 where
   pub at : ℕ
 
 -- A call read what `read` says: at a value the cursor stands behind it, at a refusal where it stood.
-abbrev pub Gives : {X M : Type 0} → (X → M) → Place → Result X XdrError → Place → Read M → Type 0
-Gives view old (Ok x) new read = (read ≡ Ok (view x, new.at)) × (new.bytes ≡ old.bytes)
-Gives view old (Err e) new read = (read ≡ Err e) × (new ≡ old)
+abbrev pub Decodes : {X M : Type 0} → (X → M) → Place → Result X XdrError → Place → Read M → Type 0
+Decodes view old (Ok x) new read = (read ≡ Ok (view x, new.at)) × (new.bytes ≡ old.bytes)
+Decodes view old (Err e) new read = (read ≡ Err e) × (new ≡ old)
 
 -- What was found, seen by `view`, is what `read` says.
 abbrev pub Finds : {X M E : Type 0} → (X → M) → Result X E → Result M E → Type 0

@@ -3,7 +3,7 @@
 ghost use Rattle.std.specs.Prelude.{◌≡◌, ℕ, ◌≤◌, length, IfOk};
 ghost use Rattle.std.specs.Int.{w32, w64};
 ghost use Rattle.ff_xdr.specs.Reading.{number_at, hyper_at, fixed_at, opaque_at, text_at, flag_at, length_at, rest_of};
-ghost use Rattle.ff_xdr.specs.Calls.{Place, Gives};
+ghost use Rattle.ff_xdr.specs.Calls.{Place, Decodes};
 
 use crate::error::{XdrError, XdrWhy};
 use crate::slices::{fixed_at, flag_at, length_at, number32_at, number64_at, opaque_at};
@@ -71,7 +71,7 @@ impl<'a> Cursor<'a> {
 
     /// An unsigned integer (RFC 4506, section 4.2). Refused as `Short`.
     pub fn number32(&mut self) -> Result<u32, XdrError>
-        ensures { Gives (λ n. n) self.old result self.new (number_at w32 self.old.bytes self.old.at) }
+        ensures { Decodes (λ n. n) self.old result self.new (number_at w32 self.old.bytes self.old.at) }
     {
         let (number, to) = number32_at(self.bytes, self.at)?;
         self.at = to;
@@ -80,7 +80,7 @@ impl<'a> Cursor<'a> {
 
     /// An unsigned hyper integer (RFC 4506, section 4.5). Refused as `Short`.
     pub fn number64(&mut self) -> Result<u64, XdrError>
-        ensures { Gives (λ n. n) self.old result self.new (number_at w64 self.old.bytes self.old.at) }
+        ensures { Decodes (λ n. n) self.old result self.new (number_at w64 self.old.bytes self.old.at) }
     {
         let (number, to) = number64_at(self.bytes, self.at)?;
         self.at = to;
@@ -90,7 +90,7 @@ impl<'a> Cursor<'a> {
     /// A hyper integer, which is signed (RFC 4506, section 4.5). Refused as `Short`.
     #[tactic(auto, unfolding(crate::specs::Reading::hyper_at))]
     pub fn hyper(&mut self) -> Result<i64, XdrError>
-        ensures { Gives (λ z. z) self.old result self.new (hyper_at self.old.bytes self.old.at) }
+        ensures { Decodes (λ z. z) self.old result self.new (hyper_at self.old.bytes self.old.at) }
     {
         let bits = self.number64()?;
         Ok(bits.cast_signed())
@@ -98,7 +98,7 @@ impl<'a> Cursor<'a> {
 
     /// A boolean (RFC 4506, section 4.4). Refused as `Short` or `NotBool`.
     pub fn flag(&mut self) -> Result<bool, XdrError>
-        ensures { Gives (λ b. b) self.old result self.new (flag_at self.old.bytes self.old.at) }
+        ensures { Decodes (λ b. b) self.old result self.new (flag_at self.old.bytes self.old.at) }
     {
         let (flag, to) = flag_at(self.bytes, self.at)?;
         self.at = to;
@@ -107,7 +107,7 @@ impl<'a> Cursor<'a> {
 
     /// `n` bytes of opaque data (RFC 4506, section 4.9). Refused as `Short` or `Pad`.
     pub fn fixed(&mut self, n: usize) -> Result<&'a [u8], XdrError>
-        ensures read { Gives (λ s. s.now) self.old result self.new (fixed_at n self.old.bytes self.old.at) }
+        ensures read { Decodes (λ s. s.now) self.old result self.new (fixed_at n self.old.bytes self.old.at) }
         ensures size { IfOk result (λ s. length s.now ≡ n) }
     {
         let (bytes, to) = fixed_at(self.bytes, self.at, n)?;
@@ -118,7 +118,7 @@ impl<'a> Cursor<'a> {
     /// Opaque data of at most `max` bytes (RFC 4506, section 4.10). Refused as `Short`, `TooLong` or
     /// `Pad`.
     pub fn opaque(&mut self, max: u32) -> Result<&'a [u8], XdrError>
-        ensures { Gives (λ s. s.now) self.old result self.new (opaque_at max self.old.bytes self.old.at) }
+        ensures { Decodes (λ s. s.now) self.old result self.new (opaque_at max self.old.bytes self.old.at) }
     {
         let (bytes, to) = opaque_at(self.bytes, self.at, max)?;
         self.at = to;
@@ -127,7 +127,7 @@ impl<'a> Cursor<'a> {
 
     /// A text of at most `max` bytes (RFC 4506, section 4.11). Refused as `opaque`, and as `NotUtf8`.
     pub fn text(&mut self, max: u32) -> Result<&'a str, XdrError>
-        ensures { Gives (λ s. s.now) self.old result self.new (text_at max self.old.bytes self.old.at) }
+        ensures { Decodes (λ s. s.now) self.old result self.new (text_at max self.old.bytes self.old.at) }
     {
         let (text, to) = text_at(self.bytes, self.at, max)?;
         self.at = to;
@@ -137,7 +137,7 @@ impl<'a> Cursor<'a> {
     /// The length of a list or of opaque data, at most `max` (RFC 4506, sections 4.10 and 4.13).
     /// Refused as `Short` or `TooLong`.
     pub fn length(&mut self, max: u32) -> Result<u32, XdrError>
-        ensures { Gives (λ n. n) self.old result self.new (length_at max self.old.bytes self.old.at) }
+        ensures { Decodes (λ n. n) self.old result self.new (length_at max self.old.bytes self.old.at) }
     {
         let (count, to) = length_at(self.bytes, self.at, max)?;
         self.at = to;

@@ -6,7 +6,7 @@ ghost use Rattle.std.specs.List.{AllByRecursion};
 ghost use Rattle.ff_xdr.specs.Form.{Fits, spelling};
 ghost use Rattle.ff_xdr.specs.Form as forms;
 ghost use Rattle.ff_xdr.specs.Reading.{reading, many_at};
-ghost use Rattle.ff_xdr.specs.Calls.{Gives, Grows};
+ghost use Rattle.ff_xdr.specs.Calls.{Decodes, Grows};
 ghost use Rattle.ff_xdr.specs.Items.{contents, is_list, Walks};
 
 use crate::cursor::Cursor;
@@ -69,7 +69,7 @@ fn walk<'a, T: Wire<'a>>(cursor: &mut Cursor<'a>, count: u32) -> Result<(), XdrE
 impl<'a, T: Wire<'a> + Copy> Items<'a, T> {
     /// Reads a list of at most `max` values. Nothing is copied: the values stay in the slice.
     pub fn read(cursor: &mut Cursor<'a>, max: u32) -> Result<Items<'a, T>, XdrError>
-        ensures { Gives (λ items. contents T.form T.meaning items.place) cursor.old result cursor.new
+        ensures { Decodes (λ items. contents T.form T.meaning items.place) cursor.old result cursor.new
             (reading (forms.Array max T.form) cursor.old.bytes cursor.old.at) }
     {
         let mut walker = cursor.fork();

@@ -5,7 +5,7 @@ ghost use Rattle.ff_xdr.specs.Proper.{is_proper, optional_is_proper};
 ghost use Rattle.ff_xdr.specs.Form.{Form, Value, Fits, spelling, Number32, Number64, Hyper, Boolean, Optional};
 ghost use Rattle.std.specs.Option.{option_map};
 ghost use Rattle.ff_xdr.specs.Reading.{reading};
-ghost use Rattle.ff_xdr.specs.Calls.{Gives, Grows, Puts};
+ghost use Rattle.ff_xdr.specs.Calls.{Decodes, Grows, Puts};
 
 use crate::cursor::Cursor;
 use crate::error::{NoMemory, XdrError};
@@ -29,7 +29,7 @@ pub trait Wire<'a>: Message + Drop + Sized {
     /// Reads a message from the cursor's place on. What is read borrows from the cursor's slice.
     /// A refusal names the first byte that no message has there, and leaves the cursor as it was.
     fn read(cursor: &mut Cursor<'a>) -> Result<Self, XdrError>
-        ensures { Gives Self.meaning cursor.old result cursor.new (reading Self.form cursor.old.bytes cursor.old.at) };
+        ensures { Decodes Self.meaning cursor.old result cursor.new (reading Self.form cursor.old.bytes cursor.old.at) };
 
     /// Appends the message's spelling. At an error a part of it may stand in `out`.
     fn put(&self, out: &mut Out) -> Result<(), NoMemory>

@@ -6,7 +6,7 @@ use Rattle.std.proofs.lemmas.Bool.{le-ltb, lt-ltb, cases_lt}
 use Rattle.std.proofs.lemmas.List.{length-append, append-nil, take_at, drop_at, take_all, take_more_set, length-set, take-append-le, drop-append-le}
 use Rattle.rpc_record.specs.Calls.{word_of}
 use Rattle.rpc_record.specs.Frames.{max_record, max_fragments, length_in, is_last, Header, Body, Front, Open, Whole, TooLong, TooManyFragments, front_from, front_of, behind_header}
-use Rattle.rpc_record.specs.FramesView.{settled, behind, resume, resume_part, Steps}
+use Rattle.rpc_record.specs.FramesView.{front_settled, front_behind, resume, resume_part, Steps}
 
 -- ---- headers
 
@@ -68,7 +68,7 @@ behind_more h g left last p more le =
           rw (long, long', take_past p more left (left - length p) split, drop_past p more left (left - length p) split, append_assoc g p (take (left - length p) more)) refl
     ]
 
-pub settled_is : (h : ℕ) (g : List ℕ) (left : ℕ) (last : Bool) (more : List ℕ) → resume (settled g h left last) more ≡ behind_header h g left last more (front_from h)
+pub settled_is : (h : ℕ) (g : List ℕ) (left : ℕ) (last : Bool) (more : List ℕ) → resume (front_settled g h left last) more ≡ behind_header h g left last more (front_from h)
 unfolding resume resume_part
 settled_is h g zero true more =
     let room : ltb (length more) 0 ≡ false = le-ltb _ _ (omega arith) in
@@ -84,13 +84,13 @@ cond_resume : (b : Bool) (x y : Front) (more : List ℕ) → resume (cond b x y)
 cond_resume true x y more = refl
 cond_resume false x y more = refl
 
-pub behind_is : (h : ℕ) (g : List ℕ) (w : ℕ) (more : List ℕ) → resume (behind g h w) more ≡ after_header h g w more
+pub behind_is : (h : ℕ) (g : List ℕ) (w : ℕ) (more : List ℕ) → resume (front_behind g h w) more ≡ after_header h g w more
 unfolding resume
 behind_is zero g w more = cond_resume (ltb max_record (length g + length_in w)) TooLong TooManyFragments more
 behind_is (suc h) g w more =
     let some : ltb 0 (suc h) ≡ true = lt-ltb _ _ (omega arith) in
     let same : suc h - 1 ≡ h = omega arith in
-    rw (some, same) (cond_resume (ltb max_record (length g + length_in w)) TooLong (settled g h (length_in w) (is_last w)) more
+    rw (some, same) (cond_resume (ltb max_record (length g + length_in w)) TooLong (front_settled g h (length_in w) (is_last w)) more
     ∙ ap (λ (f : Front). cond (ltb max_record (length g + length_in w)) TooLong f) (settled_is h g (length_in w) (is_last w) more))
 
 -- ---- a front and more bytes
@@ -130,9 +130,9 @@ step_resume n rec g a b =
       | inl lt ↦ rw (is_short n g a lt) refl
       | inr le ↦
           let same = word_front a b le in
-          let behind = drop-append-le 4 a b le in
+          let front_behind = drop-append-le 4 a b le in
           let le' : 4 ≤ length (a ++ b) = omega (arith, length-append a b) in
-          is_header n g (a ++ b) le' ∙ rw (same, behind) (after_resume n rec g (word_of a 0) (drop 4 a) b) ∙ ap (λ (f : Front). resume f b) (sym (is_header n g a le))
+          is_header n g (a ++ b) le' ∙ rw (same, front_behind) (after_resume n rec g (word_of a 0) (drop 4 a) b) ∙ ap (λ (f : Front). resume f b) (sym (is_header n g a le))
     ]
 
 pub resume_from : (n : ℕ) → ResumesFrom n
@@ -153,7 +153,7 @@ word_of_front : (whole more : List ℕ) → length whole ≡ 4 → word_of (whol
 unfolding word_of
 word_of_front whole more four = ap (λ (t : List ℕ). from_be_bytes w32 t) (take_at whole more 4 four)
 
-pub header_whole : (h : ℕ) (g whole more : List ℕ) → length whole ≡ 4 → resume (Open (record { gathered = g; headers = h; coming = Header whole })) more ≡ resume (behind g h (from_be_bytes w32 whole)) more
+pub header_whole : (h : ℕ) (g whole more : List ℕ) → length whole ≡ 4 → resume (Open (record { gathered = g; headers = h; coming = Header whole })) more ≡ resume (front_behind g h (from_be_bytes w32 whole)) more
 unfolding resume resume_part
 header_whole h g whole more four =
     let le : 4 ≤ length (whole ++ more) = omega (arith, length-append whole more) in
@@ -168,7 +168,7 @@ byte_more h g bytes count byte lt more =
     header_more h g (take count bytes) (byte ∷ []) more
     ∙ ap (λ (t : List ℕ). resume (Open (record { gathered = g; headers = h; coming = Header t })) more) (sym same)
 
-pub byte_last : (h : ℕ) (g bytes : List ℕ) (count byte : ℕ) → length bytes ≡ 4 → count ≡ 3 → Steps (Open (record { gathered = g; headers = h; coming = Header (take count bytes) })) (byte ∷ []) (behind g h (from_be_bytes w32 (set bytes count byte)))
+pub byte_last : (h : ℕ) (g bytes : List ℕ) (count byte : ℕ) → length bytes ≡ 4 → count ≡ 3 → Steps (Open (record { gathered = g; headers = h; coming = Header (take count bytes) })) (byte ∷ []) (front_behind g h (from_be_bytes w32 (set bytes count byte)))
 byte_last h g bytes count byte four three more =
     let size : length (set bytes count byte) ≡ 4 = length-set bytes count byte ∙ four in
     let all : take (count + 1) (set bytes count byte) ≡ set bytes count byte = take_all (count + 1) (set bytes count byte) (omega (arith, size)) in
@@ -178,6 +178,6 @@ byte_last h g bytes count byte four three more =
 
 -- ---- the bytes of a body
 
-pub body_steps : (h : ℕ) (g : List ℕ) (left : ℕ) (last : Bool) (p : List ℕ) → length p ≤ left → Steps (Open (record { gathered = g; headers = h; coming = Body left last })) p (settled (g ++ p) h (left - length p) last)
+pub body_steps : (h : ℕ) (g : List ℕ) (left : ℕ) (last : Bool) (p : List ℕ) → length p ≤ left → Steps (Open (record { gathered = g; headers = h; coming = Body left last })) p (front_settled (g ++ p) h (left - length p) last)
 unfolding resume resume_part
 body_steps h g left last p le more = behind_more h g left last p more le ∙ sym (settled_is h (g ++ p) (left - length p) last more)

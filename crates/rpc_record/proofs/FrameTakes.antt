@@ -5,21 +5,21 @@ use Rattle.std.proofs.Math.Seq.{take-add}
 use Rattle.rpc_record.specs.declared.frames.Stage.{Stage}
 use Rattle.rpc_record.specs.declared.frames.Stage.TheVariants as stage
 use Rattle.rpc_record.specs.Frames.{max_record, Front}
-use Rattle.rpc_record.specs.FramesView.{front_at, IsStage, IsInLimit, is_more, settled, resume, Steps, TakesSome, Gathers}
+use Rattle.rpc_record.specs.FramesView.{front_at, IsStage, IsInLimit, is_more, front_settled, resume, Steps, TakesSome, Gathers}
 use Rattle.rpc_record.proofs.FrameSteps.{body_steps}
 
 pub takes_body : (old : List ℕ) (start : Stage) (piece : List ℕ) (n : ℕ) (new : List ℕ) (end : Stage) (h left : ℕ) (last : Bool)
     → start ≡ stage.Body h left last → IsStage start → 0 < length piece → n ≡ min left (length piece) → new ≡ old ++ take n piece
-    → ((g : List ℕ) → front_at g end ≡ settled g h (left - n) last) → IsStage end → ((m : ℕ) → m + (left - n) ≤ max_record → IsInLimit m end) → TakesSome old start piece n new end
+    → ((g : List ℕ) → front_at g end ≡ front_settled g h (left - n) last) → IsStage end → ((m : ℕ) → m + (left - n) ≤ max_record → IsInLimit m end) → TakesSome old start piece n new end
 takes_body old start piece n new end h left last is stands some count grows front ends within =
     let some_left : 0 < left = subst IsStage is stands in
     let size : length (take n piece) ≡ n = length-take-le n piece (omega arith) in
-    let steps : Steps (front_at old (stage.Body h left last)) (take n piece) (settled (old ++ take n piece) h (left - length (take n piece)) last) = body_steps h old left last (take n piece) (omega (arith, size)) in
-    let there : settled (old ++ take n piece) h (left - length (take n piece)) last ≡ front_at new end = rw (size, ← grows) (sym (front new)) in
+    let steps : Steps (front_at old (stage.Body h left last)) (take n piece) (front_settled (old ++ take n piece) h (left - length (take n piece)) last) = body_steps h old left last (take n piece) (omega (arith, size)) in
+    let there : front_settled (old ++ take n piece) h (left - length (take n piece)) last ≡ front_at new end = rw (size, ← grows) (sym (front new)) in
     record {
       some = omega arith;
       within = omega arith;
-      steps = subst (λ (f : Front). Steps (front_at old start) (take n piece) f) there (subst (λ (s : Stage). Steps (front_at old s) (take n piece) (settled (old ++ take n piece) h (left - length (take n piece)) last)) (sym is) steps);
+      steps = subst (λ (f : Front). Steps (front_at old start) (take n piece) f) there (subst (λ (s : Stage). Steps (front_at old s) (take n piece) (front_settled (old ++ take n piece) h (left - length (take n piece)) last)) (sym is) steps);
       stage = ends;
       limit = λ low.
           let before : length old + left ≤ max_record = subst (λ (s : Stage). IsInLimit (length old) s) is low in

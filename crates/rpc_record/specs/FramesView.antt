@@ -39,16 +39,16 @@ is_more stage.TooLong = false
 is_more stage.TooManyFragments = false
 
 -- the front where so many bytes of a fragment are to come
-abbrev pub settled : List ℕ → ℕ → ℕ → Bool → Front
-settled gathered headers left last =
+abbrev pub front_settled : List ℕ → ℕ → ℕ → Bool → Front
+front_settled gathered headers left last =
     if nat_lt 0 left then Open (record { gathered = gathered; headers = headers; coming = Body left last })
     else (if last then Whole gathered [] else Open (record { gathered = gathered; headers = headers; coming = Header [] }))
 
 -- the front behind a header
-abbrev pub behind : List ℕ → ℕ → ℕ → Front
-behind gathered headers w =
+abbrev pub front_behind : List ℕ → ℕ → ℕ → Front
+front_behind gathered headers w =
     if nat_lt max_record (length gathered + length_in w) then TooLong
-    else (if nat_lt 0 headers then settled gathered (headers - 1) (length_in w) (is_last w) else TooManyFragments)
+    else (if nat_lt 0 headers then front_settled gathered (headers - 1) (length_in w) (is_last w) else TooManyFragments)
 
 -- what has come of a fragment, resumed with more bytes
 unfoldable pub resume_part : List ℕ → ℕ → Coming → List ℕ → Front

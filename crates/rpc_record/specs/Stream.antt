@@ -16,7 +16,7 @@ counted (Err Fault) n = one_more n
 counted (Err NoMemory) n = n
 
 -- n bytes from the front of these were put at the front of the piece, and none only at the end
-pub record Gives (bytes piece : List ℕ) (n : ℕ) (new : Option (List ℕ)) : Type 0 where
+pub record FillsFrom (bytes piece : List ℕ) (n : ℕ) (new : Option (List ℕ)) : Type 0 where
   pub within : n ≤ length bytes
   pub same : take n piece ≡ take n bytes
   pub rest : new ≡ Some (drop n bytes)
@@ -25,7 +25,7 @@ pub record Gives (bytes piece : List ℕ) (n : ℕ) (new : Option (List ℕ)) : 
 -- What a read did to the bytes that are left, where the source tells them. The piece is as it is afterwards.
 abbrev pub Reads : Option (List ℕ) → List ℕ → Result ℕ Failed → Option (List ℕ) → Type 0
 Reads None piece result new = new ≡ None
-Reads (Some bytes) piece (Ok n) new = Gives bytes piece n new
+Reads (Some bytes) piece (Ok n) new = FillsFrom bytes piece n new
 Reads (Some bytes) piece (Err e) new = new ≡ Some bytes
 
 -- what a write did to the bytes that are held, where the sink tells them

@@ -5,7 +5,7 @@ ghost use Rattle.std.specs.Int.{w32, from_be_bytes};
 ghost use Rattle.std.specs.Option.{option_map};
 ghost use Rattle.ff_xdr.specs.Calls.{Puts};
 ghost use Rattle.rpc_record.specs.Frames.{front_of, max_record, record_bytes, HasGiven, Feeds, TakesOut, with_taken, Header, Open, TooLong, TooManyFragments};
-ghost use Rattle.rpc_record.specs.FramesView.{front_at, is_more, IsStage, IsInLimit, settled, behind, Steps, TakesSome, Gathers, answers};
+ghost use Rattle.rpc_record.specs.FramesView.{front_at, is_more, IsStage, IsInLimit, front_settled, front_behind, Steps, TakesSome, Gathers, answers};
 
 use ff_xdr::{NoMemory, Out};
 use std::alloc::Global;
@@ -79,7 +79,7 @@ fn at_header(headers: u32) -> Stage
 
 /// The stage where so many bytes of a fragment are to come.
 fn settled(headers: u32, left: usize, last: bool) -> Stage
-    ensures front { (gathered : List ℕ) → front_at gathered result ≡ settled gathered headers left last }
+    ensures front { (gathered : List ℕ) → front_at gathered result ≡ front_settled gathered headers left last }
     ensures stage { IsStage result }
     ensures limit { (gathered : ℕ) → gathered + left ≤ max_record → IsInLimit gathered result }
 {
@@ -99,7 +99,7 @@ fn settled(headers: u32, left: usize, last: bool) -> Stage
 /// The stage behind a header, where so many bytes were gathered before it. The header's highest bit
 /// is set at a record's last fragment, and the others are the fragment's length.
 fn behind_header(headers: u32, gathered: usize, word: u32) -> Stage
-    ensures front { (bytes : List ℕ) → length bytes ≡ gathered → front_at bytes result ≡ behind bytes headers word }
+    ensures front { (bytes : List ℕ) → length bytes ≡ gathered → front_at bytes result ≡ front_behind bytes headers word }
     ensures stage { IsStage result }
     ensures limit { gathered ≤ max_record → IsInLimit gathered result }
 {

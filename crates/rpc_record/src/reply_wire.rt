@@ -3,7 +3,7 @@
 ghost use Rattle.std.specs.Prelude.{◌≡◌, ◌↔◌, [], IsTrue, refl};
 ghost use Rattle.ff_xdr.specs.Form.{spelling, Fits};
 ghost use Rattle.ff_xdr.specs.Reading.{reading};
-ghost use Rattle.ff_xdr.specs.Calls.{Gives, Grows, Puts, Finds};
+ghost use Rattle.ff_xdr.specs.Calls.{Decodes, Grows, Puts, Finds};
 ghost use Rattle.rpc_record.specs.Replies.{accept_stat, rejected_reply, reply_header, header_value, rpc_reply, plain_body, reply_bytes, ReplyFits, reply_at, results_of, status_value};
 ghost use Rattle.rpc_record.specs.Rpc.{plain_auth};
 ghost use Rattle.rpc_record.specs.Status.{accept_value, reject_value, reply_stat, stat_value, reply_of, is_success};
@@ -232,7 +232,7 @@ fn reply_of<'a>(xid: u32, status: Status<'a>, results: &'a [u8]) -> Reply<'a>
 
 /// The header of a reply: the transaction's number and the status.
 fn read_header<'a>(cursor: &mut Cursor<'a>) -> Result<(u32, Status<'a>), XdrError>
-    ensures { Gives (λ h. (h.0, (1, stat_value h.1))) cursor.old result cursor.new (reading reply_header cursor.old.bytes cursor.old.at) }
+    ensures { Decodes (λ h. (h.0, (1, stat_value h.1))) cursor.old result cursor.new (reading reply_header cursor.old.bytes cursor.old.at) }
 {
     let mut fork = cursor.fork();
     let xid = fork.number32()?;
