@@ -1,10 +1,11 @@
 -- Bytes that wait.
-use Rattle.std.proofs.Common.{◌≡◌, ℕ, zero, suc, ◌+◌, ◌-◌, ◌<◌, ◌≤◌, List, [], ◌∷◌, ◌++◌, length, take, drop, refl, sym, ap, ◌∙◌, arith, Option, Some, None, Result, Ok, Err, IfOk, append_assoc}
+use Rattle.std.proofs.Common.{◌≡◌, ℕ, zero, suc, ◌+◌, ◌-◌, ◌<◌, ◌≤◌, min, List, [], ◌∷◌, ◌++◌, length, take, drop, refl, sym, ap, ◌∙◌, arith, Option, Some, None, Result, Ok, Err, IfOk, append_assoc}
 use Rattle.std.proofs.lemmas.List.{take_at, append-nil, length-append, length-take, length-take-le, length-drop, take-append-drop, take-append-le, drop-append-le}
-use Rattle.std.proofs.Math.Seq.{take-append-add, take-length}
+use Rattle.std.proofs.Math.Seq.{take-append-add}
 use Rattle.record_link.specs.declared.stream.Halt.{Halt}
 use Rattle.record_link.specs.declared.stream.Halt.TheVariants.{WouldBlock, Ended, Lost, NoMemory}
-use Rattle.record_link.specs.Stream.{Reads, ReadsAt, gone_more}
+use Rattle.record_link.specs.Memory.{size_of}
+use Rattle.record_link.specs.Stream.{Comes, Reads, ReadsAt, gone_more}
 
 pub gone_nil : (gone : Option (List ℕ)) → gone ≡ gone_more gone []
 gone_nil None = refl
@@ -44,3 +45,31 @@ module _ (mark : ℕ) (old piece rest : List ℕ) (within : mark ≤ length old)
   reads_at (Err WouldBlock) some came = (before, came)
   reads_at (Err Lost) some came = (before, came)
   reads_at (Err NoMemory) some came = (before, came)
+
+drop_none : (n : ℕ) → drop {A = ℕ} n [] ≡ []
+drop_none zero = refl
+drop_none (suc n) = refl
+
+drop_add : (a b : ℕ) (xs : List ℕ) → drop (a + b) xs ≡ drop b (drop a xs)
+drop_add zero b xs = let none : 0 + b ≡ b = omega arith in ap (λ (n : ℕ). drop n xs) none
+drop_add (suc a) b [] = drop_none (suc a + b) ∙ sym (drop_none b)
+drop_add (suc a) b (x ∷ xs) = let more : suc a + b ≡ suc (a + b) = omega arith in ap (λ (n : ℕ). drop n (x ∷ xs)) more ∙ drop_add a b xs
+
+-- what was given from a place on
+pub given_at : (bytes piece : List ℕ) (taken count : ℕ) → piece ≡ take count (drop taken bytes) → Comes (Some (drop taken bytes)) piece (Some (drop (taken + count) bytes))
+given_at bytes piece taken count is =
+    let more : drop (taken + count) bytes ≡ drop count (drop taken bytes) = drop_add taken count bytes in
+    (drop (taken + count) bytes, sym (ap (λ l. l ++ drop (taken + count) bytes) is ∙ ap (λ l. take count (drop taken bytes) ++ l) more ∙ take-append-drop count (drop taken bytes)), refl)
+
+size_le : (sizes : List ℕ) (most : ℕ) → size_of sizes most ≤ most
+size_le [] most = omega arith
+size_le (size ∷ sizes) most = omega arith
+
+pub piece_is : (bytes copied more : List ℕ) (sizes : List ℕ) (room left most taken count : ℕ) → count ≡ size_of sizes most → most ≡ min room left → left ≡ length bytes - taken → copied ≡ take ((taken + count) - taken) (drop taken bytes)
+    → take count (copied ++ more) ≡ take count (drop taken bytes)
+piece_is bytes copied more sizes room left most taken count size least all is =
+    let small : count ≤ left = omega (arith, size, least, size_le sizes most) in
+    let same : (taken + count) - taken ≡ count = omega arith in
+    let now : copied ≡ take count (drop taken bytes) = is ∙ ap (λ (n : ℕ). take n (drop taken bytes)) same in
+    let long : length (take count (drop taken bytes)) ≡ count = length-take-le count (drop taken bytes) (omega (arith, small, all, length-drop taken bytes)) in
+    take_at copied more count (ap length now ∙ long) ∙ now

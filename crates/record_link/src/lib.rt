@@ -3,8 +3,14 @@
 #![tactic(auto)]
 
 mod connection;
+mod connections;
+mod entry;
+mod memory_stream;
 mod pending;
+mod rank;
 mod stream;
 
 pub use connection::Connection;
+pub use connections::{Connections, MAX_CONNECTIONS};
+pub use memory_stream::MemoryStream;
 pub use stream::{Halt, Stream};

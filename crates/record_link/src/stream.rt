@@ -3,6 +3,8 @@
 ghost use Rattle.std.specs.Prelude.{◌≡◌, ℕ, ◌<◌, ◌≤◌, List, Option, length, IfOk};
 ghost use Rattle.record_link.specs.Stream.{Reads, Writes};
 
+use ff_xdr::NoMemory;
+
 /// Why a call on a stream did nothing.
 #[derive(Clone, Copy, Debug, PartialEq, Eq)]
 pub enum Halt {
@@ -14,6 +16,16 @@ pub enum Halt {
     Lost,
     /// Memory was wanted.
     NoMemory,
+}
+
+impl From<NoMemory> for Halt {
+    ghost use Rattle.record_link.specs.declared.stream.Halt.{Halt};
+
+    ghost from_gives = { λ _ halt. halt ≡ Halt.NoMemory };
+
+    fn from(_e: NoMemory) -> Halt {
+        Halt::NoMemory
+    }
 }
 
 /// A stream of bytes, both ways, on which no call waits.
