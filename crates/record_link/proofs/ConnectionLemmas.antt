@@ -1,12 +1,12 @@
 -- What the calls of a connection do.
-use Rattle.std.proofs.Common.{◌≡◌, ℕ, ◌+◌, ◌≤◌, Bool, true, false, List, [], ◌∷◌, ◌++◌, length, take, drop, refl, sym, ap, subst, ◌∙◌, arith, Option, Some, None, Result, Ok, Err, append_assoc}
+use Rattle.std.proofs.Common.{◌≡◌, ℕ, Bool, true, false, List, [], ◌∷◌, ◌++◌, take, drop, refl, sym, ap, subst, ◌∙◌, arith, Option, Some, None, append_assoc}
 use Rattle.std.specs.Option.{is_some}
 use Rattle.std.proofs.lemmas.List.{append-nil, take-append-drop}
 use Rattle.rpc_record.specs.Frames.{Front, Open, Whole, TooLong, TooManyFragments, front_of, is_whole, HasGiven, StopsAt, Takes, TakesOut}
 use Rattle.rpc_record.specs.FramesView.{resume}
 use Rattle.rpc_record.proofs.FrameSteps.{resume_of}
 use Rattle.rpc_record.proofs.FrameCalls.{front_start, given_taken}
-use Rattle.record_link.specs.Connection.{ConnectionState, is_refused, with_front, Advances, HasCome}
+use Rattle.record_link.specs.Connection.{ConnectionState, is_refused, with_front, HasCome}
 use Rattle.record_link.specs.Kept.{front_with, IsBehind, IsKept}
 
 pub starts : (f : Front) → f ≡ front_of [] → IsKept f None false

@@ -1,6 +1,6 @@
 -- One entry of the connections, and all others.
-use Rattle.std.proofs.Common.{◌≡◌, ℕ, ◌+◌, List, length, take, drop, refl, sym, ap, subst, ◌∙◌, arith, get_or, set, Option, Some, None, Result, ◌++◌, MatchOption, Bool, true, false, ◌≤◌, [], ◌∷◌}
-use Rattle.std.specs.Prelude.{slice_get, if◌then◌else◌, ◌&&◌}
+use Rattle.std.proofs.Common.{◌≡◌, ℕ, List, length, take, drop, refl, sym, ap, ◌∙◌, arith, get_or, set, Option, Some, None, ◌++◌, MatchOption, Bool, true, false, ◌≤◌, [], ◌∷◌}
+use Rattle.std.specs.Prelude.{if◌then◌else◌, ◌&&◌}
 use Rattle.record_link.specs.declared.rank.Rank.TheVariants.{Silent, Ready}
 use Rattle.rpc_record.specs.Frames.{is_whole}
 use Rattle.std.proofs.Math.Seq.{take-append_seam}

@@ -1,6 +1,6 @@
 -- Bytes that wait.
-use Rattle.std.proofs.Common.{◌≡◌, ℕ, zero, suc, ◌+◌, ◌-◌, ◌<◌, ◌≤◌, min, List, [], ◌∷◌, ◌++◌, length, take, drop, refl, sym, ap, ◌∙◌, arith, Option, Some, None, Result, Ok, Err, IfOk, append_assoc}
-use Rattle.std.proofs.lemmas.List.{take_at, append-nil, length-append, length-take, length-take-le, length-drop, take-append-drop, take-append-le, drop-append-le}
+use Rattle.std.proofs.Common.{◌≡◌, ℕ, zero, suc, ◌+◌, ◌-◌, ◌≤◌, min, List, [], ◌∷◌, ◌++◌, length, take, drop, refl, sym, ap, ◌∙◌, arith, Option, Some, None, Result, Ok, Err, IfOk, append_assoc}
+use Rattle.std.proofs.lemmas.List.{take_at, append-nil, length-append, length-take-le, length-drop, take-append-drop, take-append-le}
 use Rattle.std.proofs.Math.Seq.{take-append-add}
 use Rattle.record_link.specs.declared.stream.Halt.{Halt}
 use Rattle.record_link.specs.declared.stream.Halt.TheVariants.{WouldBlock, Ended, Lost, NoMemory}
@@ -18,10 +18,11 @@ gone_gone (Some bytes) xs ys = ap Some (append_assoc bytes xs ys)
 -- some more of what waits went
 pub more_went : (old now new went : List ℕ) (gone before after : Option (List ℕ)) (n : ℕ) → old ≡ went ++ now → before ≡ gone_more gone went → new ≡ drop n now → after ≡ gone_more before (take n now)
     → (went' : List ℕ) × (old ≡ went' ++ new) × (after ≡ gone_more gone went')
-more_went old now new went gone before after n stands told rest more =
-    (went ++ take n now,
-      stands ∙ ap (λ l. went ++ l) (sym (take-append-drop n now)) ∙ sym (append_assoc went (take n now) (drop n now)) ∙ ap (λ l. (went ++ take n now) ++ l) (sym rest),
-      more ∙ ap (λ g. gone_more g (take n now)) told ∙ gone_gone gone went (take n now))
+more_went old now new went gone before after n stands told rest more = (
+  went ++ take n now,
+  stands ∙ ap (λ l. went ++ l) (sym (take-append-drop n now)) ∙ sym (append_assoc went (take n now) (drop n now)) ∙ ap (λ l. (went ++ take n now) ++ l) (sym rest),
+  more ∙ ap (λ g. gone_more g (take n now)) told ∙ gone_gone gone went (take n now),
+)
 
 -- a piece stands behind a list
 pub stands_behind : (mark : ℕ) (old piece rest : List ℕ) (n : ℕ) → mark ≤ length old → n ≤ length piece → take (mark + n) (take mark old ++ (piece ++ rest)) ≡ take mark old ++ take n piece

@@ -1,5 +1,5 @@
 -- The entry with the lowest rank.
-use Rattle.std.proofs.Common.{◌≡◌, ℕ, ◌+◌, ◌<◌, ◌≤◌, List, length, refl, sym, ap, subst, ◌∙◌, arith, Option, Some, None, leb, Bool, true, false, ◌⊎◌, inl, inr}
+use Rattle.std.proofs.Common.{◌≡◌, ℕ, ◌+◌, ◌<◌, ◌≤◌, List, length, refl, sym, ap, ◌∙◌, arith, Option, Some, None, leb, Bool, true, false, ◌⊎◌, inl, inr}
 use Rattle.std.specs.Prelude.{slice_get, if◌then◌else◌}
 use Rattle.std.proofs.lemmas.Bool.{cases_lt, leb-true, leb-false}
 use Rattle.std.proofs.lemmas.Option.{same_Some, slice_get_within}
@@ -27,8 +27,8 @@ IsBest rank entries n (Some best) = BestBelow rank entries n best.0 best.1
 module _ (rank : Rank) (entries : List Entry) (n : ℕ) (entry : Entry) (at : slice_get entries n ≡ Some entry) where
   same : (i : ℕ) (e : Entry) → i < n + 1 → n ≤ i → slice_get entries i ≡ Some e → rank_of rank e ≡ rank_of rank entry
   same i e below over there =
-    let last : i ≡ n = omega arith in
-    ap (λ x. rank_of rank x) (same_Some e entry (sym there ∙ ap (λ j. slice_get entries j) last ∙ at))
+      let last : i ≡ n = omega arith in
+      ap (λ x. rank_of rank x) (same_Some e entry (sym there ∙ ap (λ j. slice_get entries j) last ∙ at))
 
   none_more : NoneBelow rank entries n → rank_of rank entry ≡ None → NoneBelow rank entries (n + 1)
   none_more none is i e below there = by_case (cases_lt i n)

@@ -1,5 +1,5 @@
 -- A connection: the bytes and records that came, and those that go.
-use Rattle.std.specs.Prelude.{◌≡◌, ℕ, ◌+◌, ◌-◌, ◌==◌, Bool, true, false, ◌&&◌, ◌||◌, not, List, [], ◌∷◌, ◌++◌, length, drop, flat_map, Option, None, Some, Result, Ok, Err}
+use Rattle.std.specs.Prelude.{◌≡◌, ℕ, ◌-◌, ◌==◌, Bool, true, false, ◌&&◌, ◌||◌, not, List, [], ◌++◌, length, drop, flat_map, Option, None, Some, Result, Ok, Err}
 use Rattle.ff_xdr.specs.declared.error.NoMemory.{NoMemory as WantOfMemory}
 use Rattle.rpc_record.specs.declared.frames.RecordFault.{RecordFault}
 use Rattle.rpc_record.specs.declared.frames.RecordFault.TheVariants as fault

@@ -9,7 +9,7 @@ use Rattle.record_link.specs.declared.stream.Halt.TheVariants.{WouldBlock, Ended
 use Rattle.record_link.specs.declared.rank.Rank.{Rank}
 use Rattle.record_link.specs.declared.rank.Rank.TheVariants.{Numbered, Silent, Ready, Over}
 use Rattle.record_link.specs.declared.entry.Entry.{Entry}
-use Rattle.record_link.specs.Connection.{ConnectionState, new_connection, is_spent, with_unanswered, Fills, Advances, Hands, Answers, Drains}
+use Rattle.record_link.specs.Connection.{ConnectionState, new_connection, is_spent, Fills, Advances, Hands, Answers, Drains}
 
 -- the most connections
 abbrev pub max_connections : ℕ
@@ -37,6 +37,10 @@ high_water = 1048576
 -- a record of it may be handed out
 abbrev pub is_ready : Entry → Bool
 is_ready e = is_whole e.connection.front && nat_le (length e.connection.to_go) high_water
+
+-- more is to be read from it
+abbrev pub wants_bytes : Entry → Bool
+wants_bytes e = not (is_whole e.connection.front) && (not (is_spent e.connection) && nat_le (length e.connection.to_go) high_water)
 
 -- It has more than it may of what waits, or what waits did not move for two seconds.
 abbrev pub is_stuck : ℕ → Entry → Bool
@@ -197,3 +201,8 @@ Closes number old false new = HasNone (Numbered number) old × (new ≡ old)
 abbrev pub Crowds : List Entry → Option ℕ → Type 0
 Crowds entries None = length entries < max_connections
 Crowds entries (Some number) = (max_connections ≤ length entries) × IsNumberOf Silent entries number
+
+-- of the connection of this number it is asked whether it passes a test; one that is gone does not
+abbrev pub Asks : ℕ → (Entry → Bool) → List Entry → Bool → Type 0
+Asks number test entries result =
+    (HasNone (Numbered number) entries × (result ≡ false)) ⊎ ((place : ℕ) × (least : IsLeast (Numbered number) entries place) × (result ≡ test least.entry))

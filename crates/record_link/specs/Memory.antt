@@ -1,5 +1,5 @@
 -- A stream over memory.
-use Rattle.std.specs.Prelude.{◌≡◌, ℕ, ◌==◌, min, if◌then◌else◌, List, [], ◌∷◌, length, Result, Ok, Err}
+use Rattle.std.specs.Prelude.{ℕ, ◌==◌, min, if◌then◌else◌, List, [], ◌∷◌, length, Result, Ok, Err}
 use Rattle.record_link.specs.declared.stream.Halt.{Halt}
 use Rattle.record_link.specs.declared.stream.Halt.TheVariants.{WouldBlock, Ended}
 

@@ -1,9 +1,10 @@
 //! Connections under numbers.
 
 ghost use Rattle.std.specs.Prelude.{◌≡◌, ◌≤◌, ◌<◌, ◌+◌, max, List, ℕ, Option, Some, length, MatchOption};
+ghost use Rattle.rpc_record.specs.Frames.{is_whole};
 ghost use Rattle.rpc_record.specs.Stream.{one_more};
 ghost use Rattle.record_link.specs.declared.rank.Rank.{Rank};
-ghost use Rattle.record_link.specs.Connections.{HasNone, IsNumberOf, no_connections, at_time, Opens, Closes, Crowds, FillsOf, HandsOut, AnswersOf, DrainsOf, with_entries};
+ghost use Rattle.record_link.specs.Connections.{HasNone, IsNumberOf, no_connections, at_time, Opens, Closes, Crowds, FillsOf, HandsOut, AnswersOf, DrainsOf, with_entries, wants_bytes, Asks};
 
 use crate::entry::Entry;
 use crate::rank::{Rank, least};
@@ -107,6 +108,26 @@ fn answer_of(entries: &mut [Entry], number: u32, message: &[u8], now: u64) -> Re
     }
 }
 
+/// Whether more is to be read on the connection of this number.
+fn asks_bytes(entries: &[Entry], number: u32) -> bool
+    ensures { Asks number wants_bytes entries.now result }
+{
+    match least(entries, Rank::Numbered(number)) {
+        Some(place) => entries[place].wants_bytes(),
+        None => false,
+    }
+}
+
+/// Whether a record of the connection of this number waits.
+fn asks_record(entries: &[Entry], number: u32) -> bool
+    ensures { Asks number (λ e. is_whole e.connection.front) entries.now result }
+{
+    match least(entries, Rank::Numbered(number)) {
+        Some(place) => entries[place].connection.is_whole(),
+        None => false,
+    }
+}
+
 /// The number of the first entry by a rank.
 fn number_of(entries: &[Entry], rank: Rank) -> Option<u32>
     ensures { MatchOption result (HasNone rank entries.now) (λ n. IsNumberOf rank entries.now n) }
@@ -147,7 +168,8 @@ impl Connections {
             return Ok(None);
         }
         let number = self.given + 1;
-        self.entries.push(Entry::new(self.alloc, number, self.time))?;
+        self.entries
+            .push(Entry::new(self.alloc, number, self.time))?;
         self.given = number;
         Ok(Some(number))
     }
@@ -175,6 +197,21 @@ impl Connections {
             return None;
         }
         number_of(&self.entries, Rank::Silent)
+    }
+
+    /// Whether more is to be read on the connection of this number: it is open, no record of it waits, it
+    /// has not ended, and it reads what it is sent.
+    pub fn wants_bytes(&self, number: u32) -> bool
+        ensures { Asks number wants_bytes self.now.entries result }
+    {
+        asks_bytes(&self.entries, number)
+    }
+
+    /// Whether a record of the connection of this number waits to be handed out.
+    pub fn has_record(&self, number: u32) -> bool
+        ensures { Asks number (λ e. is_whole e.connection.front) self.now.entries result }
+    {
+        asks_record(&self.entries, number)
     }
 
     /// The first connection that is to be closed now.

@@ -2,7 +2,7 @@
 
 ghost use Rattle.std.specs.Prelude.{◌≡◌, ◌+◌, ◌≤◌, nat_le, List, ℕ, Option, length, OnOk, OnErr};
 ghost use Rattle.rpc_record.specs.Frames.{max_record};
-ghost use Rattle.record_link.specs.Connections.{is_ready, is_stuck, is_finished, is_idle, is_over, new_entry, order_after, Settles, FillsEntry, HandsEntry, AnswersEntry, DrainsEntry};
+ghost use Rattle.record_link.specs.Connections.{is_ready, wants_bytes, is_stuck, is_finished, is_idle, is_over, new_entry, order_after, Settles, FillsEntry, HandsEntry, AnswersEntry, DrainsEntry};
 
 use crate::connection::Connection;
 use crate::stream::{Halt, Stream};
@@ -46,6 +46,15 @@ impl Entry {
         ensures { result ≡ is_ready self.now }
     {
         self.connection.is_whole() && self.connection.waiting() <= HIGH_WATER
+    }
+
+    /// More is to be read from it: no record of it waits, it has not ended, and it reads what it is sent.
+    pub fn wants_bytes(&self) -> bool
+        ensures { result ≡ wants_bytes self.now }
+    {
+        !self.connection.is_whole()
+            && !self.connection.is_spent()
+            && self.connection.waiting() <= HIGH_WATER
     }
 
     /// Too much waits for it, or did not move for too long.

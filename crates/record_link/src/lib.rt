@@ -9,6 +9,8 @@ mod memory_stream;
 mod pending;
 mod rank;
 mod stream;
+#[cfg(test)]
+mod tests;
 
 pub use connection::Connection;
 pub use connections::{Connections, MAX_CONNECTIONS};

@@ -1,6 +1,5 @@
-use Rattle.std.proofs.Common.{◌≡◌, ◌+◌, ℕ, List, length, refl, subst, sym, arith, Option, Some, None}
+use Rattle.std.proofs.Common.{◌≡◌, ◌+◌, ℕ, length, refl, subst, sym, arith, Option}
 use Rattle.std.proofs.lemmas.Option.{slice_get_read}
-use Rattle.record_link.specs.Connections.{rank_of, better}
 use Rattle.record_link.proofs.RankLemmas.{IsBest, best_more, none_all, best_all}
 use Rattle.record_link.proofs.rank.least.Goals as goal
 

@@ -1,6 +1,5 @@
-use Rattle.std.proofs.Common.{◌≡◌, ◌++◌, List, ℕ, Option, None, Some, take, drop, length, ap, sym, subst, ◌∙◌}
+use Rattle.std.proofs.Common.{◌≡◌, ◌++◌, List, ℕ, None, take, ap, sym, subst, ◌∙◌}
 use Rattle.rpc_record.specs.Frames.{Front, HasGiven, Takes}
-use Rattle.record_link.specs.Connection.{is_refused}
 use Rattle.record_link.specs.Kept.{front_with, IsKept}
 use Rattle.record_link.proofs.ConnectionLemmas.{whole_stays, none_of, some_of, read_kept, read_on, kept_front}
 use Rattle.record_link.proofs.connection.Connection.advance.Goals as goal
@@ -25,6 +24,6 @@ returns-in-Ok-clause-goes_on c came messages come =
     let after = sym (kept_front c.feed.new.self c.taken.new.frames c.taken.result c.taken.ensures) in
     read_on came messages c.args.self.now _ c.self.inside.ahead c.in-Ok.count (ap (λ s. s.ahead) (sym c.self.view_is)) c.drop_front.ensures
     (λ stream given. subst (λ (f : Front). HasGiven (stream ++ take c.in-Ok.count c.self.inside.ahead) messages f) after
-      (subst (λ (l : List ℕ). HasGiven (stream ++ take c.in-Ok.count l) messages c.feed.new.self) c.bytes.ensures
-      (c.in-Ok.ensures.goes_on stream messages (subst (λ (f : Front). HasGiven stream messages f) front given))))
+    (subst (λ (l : List ℕ). HasGiven (stream ++ take c.in-Ok.count l) messages c.feed.new.self) c.bytes.ensures
+    (c.in-Ok.ensures.goes_on stream messages (subst (λ (f : Front). HasGiven stream messages f) front given))))
     come

@@ -1,4 +1,4 @@
-use Rattle.std.proofs.Common.{◌≡◌, List, ℕ, Option, Some, ap, sym, subst, ◌∙◌}
+use Rattle.std.proofs.Common.{◌≡◌, Some, ap, sym, subst, ◌∙◌}
 use Rattle.record_link.specs.Kept.{front_with, IsBehind}
 use Rattle.record_link.proofs.ConnectionLemmas.{handed_kept, handed_on}
 use Rattle.record_link.proofs.connection.Connection.next_record.Goals as goal

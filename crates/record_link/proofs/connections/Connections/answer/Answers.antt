@@ -1,8 +1,7 @@
-use Rattle.std.proofs.Common.{◌≡◌, ◌+◌, ℕ, List, Option, Some, None, Result, Ok, Err, length, take, drop, subst, sym, ap, refl, ◌∙◌, ◌++◌, inl, inr}
+use Rattle.std.proofs.Common.{List, length, take, drop, subst, sym, ◌∙◌, ◌++◌}
 use Rattle.record_link.specs.declared.entry.Entry.{Entry}
-use Rattle.record_link.specs.declared.rank.Rank.TheVariants.{Numbered, Silent, Ready, Over}
-use Rattle.record_link.specs.Connections.{ConnectionsState, IsLeast, Becomes, FillsEntry, HandsEntry, AnswersEntry, DrainsEntry, FillsOf, DrainsOf, HandsOut, AnswersOf}
-use Rattle.record_link.proofs.ConnectionsLemmas.{entry_is, becomes, lent}
+use Rattle.record_link.specs.Connections.{ConnectionsState, AnswersOf}
+use Rattle.record_link.proofs.ConnectionsLemmas.{lent}
 use Rattle.record_link.proofs.connections.Connections.answer.Goals as goal
 
 pub returns-clause-told : goal.returns-clause-told

@@ -1,4 +1,4 @@
-use Rattle.std.proofs.Common.{◌≡◌, ◌+◌, ◌-◌, ◌++◌, ◌∙◌, refl, List, ℕ, take, drop, length, ap, sym, subst, Option, Some}
+use Rattle.std.proofs.Common.{◌+◌, ◌-◌, ◌++◌, ◌∙◌, List, ℕ, take, drop, length, ap, sym, subst, Some}
 use Rattle.record_link.specs.Stream.{Comes}
 use Rattle.record_link.proofs.PendingLemmas.{given_at, piece_is}
 use Rattle.record_link.proofs.memory_stream.MemoryStreamStream.read.Goals as goal
