@@ -7,7 +7,7 @@ use crate::address::NetAddr;
 use crate::config::Config;
 use crate::link::{Arrival, Link, Role};
 use cluster_model::NodeId;
-use ff_xdr::{Data, NoMemory};
+use ff_xdr::NoMemory;
 use record_tcp::RecordServer;
 use rpc_record::Failed;
 use std::alloc::Global;
@@ -20,7 +20,7 @@ use std::time::Clock;
 pub struct TcpLink<'r, R: Net> {
     rt: &'r R,
     alloc: Global,
-    server: Option<RecordServer<R>>,
+    server: Option<RecordServer>,
     faults: u64,
 }
 
@@ -93,7 +93,7 @@ impl<R: Net + Clock> Link for TcpLink<'_, R> {
         match came {
             Ok(Some((connection, message))) => Ok(Arrival::Record {
                 from: NodeId::Client(connection),
-                bytes: Data::from_vec(message),
+                bytes: message,
             }),
             Ok(None) => Ok(Arrival::Closed),
             Err(Failed::Fault) => Err(self.fault()),
@@ -104,9 +104,7 @@ impl<R: Net + Clock> Link for TcpLink<'_, R> {
     /// Sends a record back on the connection that it answers, where that stands.
     fn send(&mut self, to: NodeId, message: &[u8]) -> Result<(), NoMemory> {
         match (&mut self.server, to) {
-            (Some(server), NodeId::Client(connection)) => {
-                server.send(self.rt, connection, message)
-            }
+            (Some(server), NodeId::Client(connection)) => server.send(connection, message),
             _ => Ok(()),
         }
     }
