@@ -21,7 +21,9 @@ const PARTS: [(usize, &[u8]); 8] = [
 /// What each of them reads: its records, answered with themselves.
 const ANSWERS: [&[u8]; 3] = [
     &[0x80, 0, 0, 4, b'a', b'l', b'f', b'a', 0x80, 0, 0, 1, b'z'],
-    &[0x80, 0, 0, 4, b'b', b'e', b't', b'a', 0x80, 0, 0, 3, b'b', b'i', b's'],
+    &[
+        0x80, 0, 0, 4, b'b', b'e', b't', b'a', 0x80, 0, 0, 3, b'b', b'i', b's',
+    ],
     &[0x80, 0, 0, 1, b'c', 0x80, 0, 0, 0],
 ];
 
@@ -48,10 +50,9 @@ fn three_connections(rt: HostRuntime) -> Result<(), Fail> {
         }
     }
     for (peer, want) in peers.iter_mut().zip(ANSWERS) {
-        let mut found = [0; 32];
-        let room = &mut found[..want.len()];
-        peer.read_exact(room)?;
-        assert_eq!(rt; &*room, want);
+        let mut found = vec![in rt.alloc(); 0; want.len()]?;
+        peer.read_exact(&mut found)?;
+        assert_eq!(rt; found.as_slice(), want);
     }
     Ok(())
 }
