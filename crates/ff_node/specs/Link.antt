@@ -1,8 +1,13 @@
 -- What a link gives and takes: arrivals, and records that are sent.
-use Rattle.std.specs.Prelude.{◌≡◌, ℕ, List, [], ◌∷◌, ◌++◌, Option, Some, None, Result, Ok, Err}
+use Rattle.std.specs.Prelude.{◌≡◌, ℕ, ◌-◌, ◌==◌, if◌then◌else◌, slice_get, List, [], ◌∷◌, ◌++◌, Option, Some, None, Result, Ok, Err}
 use Rattle.ff_xdr.specs.declared.error.NoMemory.{NoMemory}
 use Rattle.rpc_record.specs.declared.stream.Failed.{Failed}
 use Rattle.cluster_model.specs.declared.ids.NodeId.{NodeId}
+use Rattle.ff_node.specs.declared.address.NetAddr.{NetAddr}
+use Rattle.ff_node.specs.declared.config.Config.{Config}
+use Rattle.ff_node.specs.declared.link.Opening.{Opening}
+use Rattle.ff_node.specs.declared.link.Role.{Role}
+use Rattle.ff_node.specs.declared.link.Role.TheVariants.{Mds, Server, Client}
 use Rattle.ff_node.specs.declared.link.Arrival.{Arrival}
 use Rattle.ff_node.specs.declared.link.Arrival.TheVariants.{Closed}
 
@@ -21,13 +26,33 @@ Sends None to bytes result new = new ≡ None
 Sends (Some sent) to bytes (Ok x) new = new ≡ Some (sent ++ (to, bytes) ∷ [])
 Sends (Some sent) to bytes (Err e) new = new ≡ Some sent
 
--- a link over memory: what is still to come, and what was sent
+-- the address of this number in a list, from 1
+abbrev pub numbered : List NetAddr → ℕ → Option NetAddr
+numbered servers number = if number == 0 then None else slice_get servers (number - 1)
+
+-- the address where a node in this role listens; a client has none
+abbrev pub own_address : Config → Role → Option NetAddr
+own_address config Mds = Some config.mds
+own_address config Server = numbered config.servers.items config.own
+own_address config Client = None
+
+abbrev pub opening_of : Config → Role → Opening
+opening_of config role = record { role = role; own = config.own; address = own_address config role }
+
+-- what opening did to what a link was last opened with
+abbrev pub Opens : Option Opening → Config → Role → Result (Unit {0}) Failed → Option Opening → Type 0
+Opens old config role (Ok x) new = new ≡ Some (opening_of config role)
+Opens old config role (Err e) new = new ≡ old
+
+-- a link over memory: what it was opened with, what is still to come, and what was sent
 pub record SureLinkState : Type 0 where
+  pub opened : Option Opening
   pub coming : List Arrival
   pub sent : List (NodeId × List ℕ)
 
 -- the same, with the numbers of the calls that fail, and how many calls were made and have failed
 pub record MemoryLinkState : Type 0 where
+  pub opened : Option Opening
   pub coming : List Arrival
   pub sent : List (NodeId × List ℕ)
   pub failing : List ℕ

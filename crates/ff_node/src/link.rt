@@ -4,8 +4,10 @@ ghost use Rattle.std.specs.Prelude.{◌≡◌, ℕ, List, Option};
 ghost use Rattle.rpc_record.specs.Stream.{counted};
 ghost use Rattle.cluster_model.specs.declared.ids.NodeId.{NodeId};
 ghost use Rattle.ff_node.specs.declared.link.Arrival.{Arrival};
-ghost use Rattle.ff_node.specs.Link.{Gives, Sends};
+ghost use Rattle.ff_node.specs.declared.link.Opening.{Opening};
+ghost use Rattle.ff_node.specs.Link.{Gives, Opens, Sends, numbered, opening_of, own_address};
 
+use crate::address::NetAddr;
 use crate::config::Config;
 use cluster_model::NodeId;
 use ff_xdr::{Data, NoMemory};
@@ -38,10 +40,58 @@ pub enum Arrival {
     Closed,
 }
 
+/// What a link was opened with.
+#[derive(Clone, Copy, Debug, PartialEq, Eq)]
+pub struct Opening {
+    /// The node's role.
+    pub role: Role,
+    /// The node's own number.
+    pub own: u32,
+    /// The address where it listens; a client has none.
+    pub address: Option<NetAddr>,
+}
+
+/// The address where a node in this role listens; a client has none.
+fn own_address(config: &Config, role: Role) -> Option<NetAddr>
+    ensures { result ≡ own_address config.now role }
+{
+    match role {
+        Role::Mds => Some(config.mds),
+        Role::Server => numbered(&config.servers, config.own),
+        Role::Client => None,
+    }
+}
+
+/// The address of this number, from 1.
+fn numbered(servers: &[NetAddr], number: u32) -> Option<NetAddr>
+    ensures { result ≡ numbered servers.now number }
+{
+    if number == 0 {
+        return None;
+    }
+    servers.get(number as usize - 1).copied()
+}
+
+impl Opening {
+    /// How a link is opened for a node in this role.
+    pub fn of(config: &Config, role: Role) -> Opening
+        ensures { result ≡ opening_of config.now role }
+    {
+        Opening {
+            role,
+            own: config.own,
+            address: own_address(config, role),
+        }
+    }
+}
+
 /// A link to the other nodes of the cluster.
 pub trait Link {
     /// How many calls have met a fault of the other side. The count stands still at `u64::MAX`.
     ghost faults: { Self → ℕ };
+
+    /// What it was last opened with.
+    ghost opened: { Self → Option Opening };
 
     /// What comes from here on, where the link tells it.
     ghost coming: { Self → Option (List Arrival) };
@@ -51,6 +101,7 @@ pub trait Link {
 
     /// Makes the link ready for a node in its role. `Failed::Fault` is counted.
     fn open(&mut self, config: &Config, role: Role) -> Result<(), Failed>
+        ensures opened { Opens (opened self.old) config.now role result (opened self.new) }
         ensures coming { coming self.new ≡ coming self.old }
         ensures sent { sent self.new ≡ sent self.old }
         ensures faults { faults self.new ≡ counted result (faults self.old) };
@@ -59,6 +110,7 @@ pub trait Link {
     /// to come, and `Failed::Fault` is counted.
     fn next(&mut self) -> Result<Arrival, Failed>
         ensures told { Gives (coming self.old) result (coming self.new) }
+        ensures opened { opened self.new ≡ opened self.old }
         ensures sent { sent self.new ≡ sent self.old }
         ensures faults { faults self.new ≡ counted result (faults self.old) };
 
@@ -66,6 +118,7 @@ pub trait Link {
     /// nothing was sent.
     fn send(&mut self, to: NodeId, message: &[u8]) -> Result<(), NoMemory>
         ensures told { Sends (sent self.old) to message.now result (sent self.new) }
+        ensures opened { opened self.new ≡ opened self.old }
         ensures coming { coming self.new ≡ coming self.old }
         ensures faults { faults self.new ≡ faults self.old };
 }

@@ -1,8 +1,8 @@
 //! A link over memory, in which chosen calls fail.
 
-ghost use Rattle.std.specs.Prelude.{◌≡◌, ◌↔◌, List, [], Some, Ok, Err, IsTrue, IsOk, if◌then◌else◌};
+ghost use Rattle.std.specs.Prelude.{◌≡◌, ◌↔◌, List, [], None, Some, Ok, Err, IsTrue, IsOk, if◌then◌else◌};
 ghost use Rattle.rpc_record.specs.Stream.{counted, one_more, fails_next};
-ghost use Rattle.ff_node.specs.Link.{Gives, Sends};
+ghost use Rattle.ff_node.specs.Link.{Opens, Gives, Sends};
 
 use crate::config::Config;
 use crate::link::{Arrival, Link, Role};
@@ -59,6 +59,7 @@ impl Model for MemoryLink {
     ghost Value = { MemoryLinkState };
 
     ghost view = { λ memory. record {
+      opened = memory.link.opened;
       coming = memory.link.coming;
       sent = memory.link.sent;
       failing = memory.schedule.failing.items;
@@ -71,7 +72,7 @@ impl MemoryLink {
     /// A link over which these come. It takes its memory from `alloc`. `failing` are the numbers, from
     /// 1, of the calls of `open` and `next` together that answer `Failed::Fault` and do nothing.
     pub fn new(alloc: Global, arrivals: Vec<Arrival>, failing: Vec<u64>) -> MemoryLink
-        ensures { result ≡ record { coming = arrivals.items; sent = []; failing = failing.items; calls = 0; faults = 0 } }
+        ensures { result ≡ record { opened = None; coming = arrivals.items; sent = []; failing = failing.items; calls = 0; faults = 0 } }
     {
         MemoryLink {
             link: SureLink::new(alloc, arrivals),
@@ -101,12 +102,15 @@ impl MemoryLink {
 impl Link for MemoryLink {
     ghost faults = { λ memory. memory.faults };
 
+    ghost opened = { λ memory. memory.opened };
+
     ghost coming = { λ memory. Some memory.coming };
 
     ghost sent = { λ memory. Some memory.sent };
 
     /// Fails where the call's number is on the list.
     fn open(&mut self, config: &Config, role: Role) -> Result<(), Failed>
+        ensures opened { Opens self.old.opened config.now role result self.new.opened }
         ensures coming { Some self.new.coming ≡ Some self.old.coming }
         ensures sent { Some self.new.sent ≡ Some self.old.sent }
         ensures faults { self.new.faults ≡ counted result self.old.faults }
@@ -121,6 +125,7 @@ impl Link for MemoryLink {
     /// Fails where the call's number is on the list.
     fn next(&mut self) -> Result<Arrival, Failed>
         ensures told { Gives (Some self.old.coming) result (Some self.new.coming) }
+        ensures opened { self.new.opened ≡ self.old.opened }
         ensures sent { Some self.new.sent ≡ Some self.old.sent }
         ensures faults { self.new.faults ≡ counted result self.old.faults }
         ensures fails { IsTrue (fails_next self.old.failing self.old.calls) ↔ (result ≡ Err Failed.Fault) }
@@ -133,6 +138,7 @@ impl Link for MemoryLink {
 
     fn send(&mut self, to: NodeId, message: &[u8]) -> Result<(), NoMemory>
         ensures told { Sends (Some self.old.sent) to message.now result (Some self.new.sent) }
+        ensures opened { self.new.opened ≡ self.old.opened }
         ensures coming { Some self.new.coming ≡ Some self.old.coming }
         ensures faults { self.new.faults ≡ self.old.faults }
         ensures failing { self.new.failing ≡ self.old.failing }

@@ -1,11 +1,13 @@
-//! A data server that serves over a link.
+//! Nodes that serve over a link.
 
 ghost use Rattle.std.specs.Prelude.{◌≡◌, List};
 ghost use Rattle.ds_files.specs.Server.{new_server};
-ghost use Rattle.ff_node.specs.Serve.{Answers, SendsAll, Serves, TakesTurn, end_of, link_faults, turn_faults};
+ghost use Rattle.ff_node.specs.declared.link.Role.{Role};
+ghost use Rattle.ff_node.specs.Serve.{Answers, NodeServes, OpensFor, SendsAll, Serves, TakesTurn, end_of, is_closed, link_faults, turn_faults};
 
 use crate::config::Config;
 use crate::link::{Arrival, Link, Role};
+use crate::node::Node;
 use cluster_model::{NodeId, Outbox};
 use ds_files::DataServer;
 use ff_xdr::{Data, NoMemory};
@@ -40,6 +42,7 @@ fn end_of(failed: Failed) -> NodeEnd
 fn send_all<L: Link>(records: &[(NodeId, Data)], link: &mut L) -> Result<(), NoMemory>
     ensures sent { SendsAll (L.sent link.old) records.now result (L.sent link.new) }
     ensures coming { L.coming link.new ≡ L.coming link.old }
+    ensures opened { L.opened link.new ≡ L.opened link.old }
     ensures faults { L.faults link.new ≡ L.faults link.old }
 {
     for (to, bytes) in records {
@@ -48,52 +51,71 @@ fn send_all<L: Link>(records: &[(NodeId, Data)], link: &mut L) -> Result<(), NoM
     Ok(())
 }
 
-/// Answers a record. At an error nothing was sent.
-fn answer<L: Link>(
+/// Nothing more comes.
+fn is_closed(arrival: &Arrival) -> bool
+    ensures { result ≡ is_closed arrival.now }
+{
+    match arrival {
+        Arrival::Closed => true,
+        Arrival::Record { .. } => false,
+        Arrival::TimedOut(_) => false,
+    }
+}
+
+/// Takes an arrival, and sends what the node sends for it. At an error less was sent.
+fn answer<N: Node, L: Link>(
     alloc: Global,
-    from: NodeId,
-    message: &[u8],
-    server: &mut DataServer,
+    arrival: Arrival,
+    node: &mut N,
     link: &mut L,
 ) -> Result<(), NoMemory>
-    ensures answers { Answers server.old from message.now (L.sent link.old) result server.new (L.sent link.new) }
+    ensures answers { Answers N.step node.old arrival (L.sent link.old) result node.new (L.sent link.new) }
     ensures coming { L.coming link.new ≡ L.coming link.old }
+    ensures opened { L.opened link.new ≡ L.opened link.old }
     ensures faults { L.faults link.new ≡ L.faults link.old }
 {
     let mut out = Outbox::new(alloc);
-    server.on_record(from, message, &mut out)?;
+    node.take(arrival, &mut out)?;
     send_all(&out.sends, link)
 }
 
-/// Takes what comes next, and answers it. Returns the node's end, if it is one.
-fn take_turn<L: Link>(alloc: Global, server: &mut DataServer, link: &mut L) -> Option<NodeEnd>
-    ensures told { TakesTurn server.old (L.coming link.old) (L.sent link.old) result server.new (L.coming link.new) (L.sent link.new) }
+/// Takes what comes next, and sends what the node sends for it. Returns the node's end, if it is one.
+fn take_turn<N: Node, L: Link>(alloc: Global, node: &mut N, link: &mut L) -> Option<NodeEnd>
+    ensures told { TakesTurn N.step node.old (L.coming link.old) (L.sent link.old) result node.new (L.coming link.new) (L.sent link.new) }
+    ensures opened { L.opened link.new ≡ L.opened link.old }
     ensures faults { L.faults link.new ≡ turn_faults result (L.faults link.old) }
 {
     match link.next() {
-        Ok(Arrival::Record { from, bytes }) => match answer(
-            alloc,
-            from,
-            bytes.bytes(),
-            server,
-            link,
-        ) {
-            Ok(()) => None,
-            Err(NoMemory) => Some(NodeEnd::NoMemory),
-        },
-        Ok(Arrival::TimedOut(_)) => None,
-        Ok(Arrival::Closed) => Some(NodeEnd::Done),
+        Ok(arrival) => {
+            if is_closed(&arrival) {
+                return Some(NodeEnd::Done);
+            }
+            match answer(alloc, arrival, node, link) {
+                Ok(()) => None,
+                Err(NoMemory) => Some(NodeEnd::NoMemory),
+            }
+        }
         Err(failed) => Some(end_of(failed)),
     }
 }
 
-/// Takes so many turns, or fewer where the node ends before.
-fn take_turns<L: Link>(alloc: Global, turns: u32, server: &mut DataServer, link: &mut L) -> NodeEnd
-    ensures told { Serves server.old turns (L.coming link.old) (L.sent link.old) result (L.coming link.new) (L.sent link.new) }
+/// Serves as a node over a link that is open, for so many arrivals, or fewer where it ends before:
+/// each is taken in order, and what the node sends for it is sent. The node is as it is then.
+///
+/// `NodeEnd::LinkFault` is a fault of the link in asking for what comes, and nothing else is. For
+/// want of memory one arrival may have been taken, and less sent than the node sends for it.
+pub fn serve_node<N: Node, L: Link>(
+    alloc: Global,
+    turns: u32,
+    node: &mut N,
+    link: &mut L,
+) -> NodeEnd
+    ensures told { NodeServes N.step node.old turns (L.coming link.old) (L.sent link.old) result node.new (L.coming link.new) (L.sent link.new) }
+    ensures opened { L.opened link.new ≡ L.opened link.old }
     ensures faults { L.faults link.new ≡ link_faults result (L.faults link.old) }
 {
     for _turn in 0..turns {
-        if let Some(end) = take_turn(alloc, server, link) {
+        if let Some(end) = take_turn(alloc, node, link) {
             return end;
         }
     }
@@ -108,11 +130,12 @@ fn take_turns<L: Link>(alloc: Global, turns: u32, server: &mut DataServer, link:
 /// else is. For want of memory one arrival may have been taken and not answered.
 pub fn serve_ds<L: Link>(alloc: Global, config: &Config, link: &mut L) -> NodeEnd
     ensures told { Serves (new_server config.now.own 1) config.now.turns (L.coming link.old) (L.sent link.old) result (L.coming link.new) (L.sent link.new) }
+    ensures opened { OpensFor (L.opened link.old) config.now Role.Server result (L.coming link.old) (L.sent link.old) (L.opened link.new) (L.coming link.new) (L.sent link.new) }
     ensures faults { L.faults link.new ≡ link_faults result (L.faults link.old) }
 {
     if let Err(failed) = link.open(config, Role::Server) {
         return end_of(failed);
     }
     let mut server = DataServer::new(alloc, config.own, FIRST_BOOT);
-    take_turns(alloc, config.turns, &mut server, link)
+    serve_node(alloc, config.turns, &mut server, link)
 }

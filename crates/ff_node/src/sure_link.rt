@@ -1,11 +1,11 @@
 //! A link over memory, with no other side that could fail.
 
-ghost use Rattle.std.specs.Prelude.{◌≡◌, ◌≢◌, List, [], Some, Ok, Err, IsOk};
+ghost use Rattle.std.specs.Prelude.{◌≡◌, ◌≢◌, List, [], None, Some, Ok, Err, IsOk};
 ghost use Rattle.rpc_record.specs.Stream.{counted};
-ghost use Rattle.ff_node.specs.Link.{Gives};
+ghost use Rattle.ff_node.specs.Link.{Opens, Gives};
 
 use crate::config::Config;
-use crate::link::{Arrival, Link, Role};
+use crate::link::{Arrival, Link, Opening, Role};
 use cluster_model::NodeId;
 use ff_xdr::{Data, NoMemory};
 use rpc_record::Failed;
@@ -18,6 +18,7 @@ use std::marker::Model;
 #[derive(Drop)]
 pub struct SureLink {
     alloc: Global,
+    opened: Option<Opening>,
     arrivals: VecDeque<Arrival>,
     sent: Vec<(NodeId, Data)>,
 }
@@ -27,16 +28,17 @@ impl Model for SureLink {
 
     ghost Value = { SureLinkState };
 
-    ghost view = { λ link. record { coming = link.arrivals.items; sent = link.sent.items } };
+    ghost view = { λ link. record { opened = link.opened; coming = link.arrivals.items; sent = link.sent.items } };
 }
 
 impl SureLink {
     /// A link over which these come. It takes its memory from `alloc`.
     pub fn new(alloc: Global, arrivals: Vec<Arrival>) -> SureLink
-        ensures { result ≡ record { coming = arrivals.items; sent = [] } }
+        ensures { result ≡ record { opened = None; coming = arrivals.items; sent = [] } }
     {
         SureLink {
             alloc,
+            opened: None,
             arrivals: VecDeque::from_vec(arrivals),
             sent: Vec::new(alloc),
         }
@@ -53,21 +55,26 @@ impl SureLink {
 impl Link for SureLink {
     ghost faults = { λ _. 0 };
 
+    ghost opened = { λ link. link.opened };
+
     ghost coming = { λ link. Some link.coming };
 
     ghost sent = { λ link. Some link.sent };
 
-    fn open(&mut self, _config: &Config, _role: Role) -> Result<(), Failed>
+    fn open(&mut self, config: &Config, role: Role) -> Result<(), Failed>
+        ensures opened { Opens self.old.opened config.now role result self.new.opened }
         ensures coming { Some self.new.coming ≡ Some self.old.coming }
         ensures sent { Some self.new.sent ≡ Some self.old.sent }
         ensures faults { 0 ≡ counted result 0 }
         ensures sure { result ≡ Ok tt }
     {
+        self.opened = Some(Opening::of(config, role));
         Ok(())
     }
 
     fn next(&mut self) -> Result<Arrival, Failed>
         ensures told { Gives (Some self.old.coming) result (Some self.new.coming) }
+        ensures opened { self.new.opened ≡ self.old.opened }
         ensures sent { Some self.new.sent ≡ Some self.old.sent }
         ensures faults { 0 ≡ counted result 0 }
         ensures sure { IsOk result }

@@ -5,9 +5,9 @@ ghost use Rattle.rpc_record.specs.Stream.{one_more};
 
 use crate::address::NetAddr;
 use crate::config::Config;
-use crate::link::{Arrival, Link, Role};
+use crate::link::{Arrival, Link, Opening, Role};
 use cluster_model::NodeId;
-use ff_xdr::{Data, NoMemory};
+use ff_xdr::NoMemory;
 use record_tcp::RecordServer;
 use rpc_record::Failed;
 use std::alloc::Global;
@@ -20,7 +20,8 @@ use std::time::Clock;
 pub struct TcpLink<'r, R: Net> {
     rt: &'r R,
     alloc: Global,
-    server: Option<RecordServer<R>>,
+    opened: Option<Opening>,
+    server: Option<RecordServer>,
     faults: u64,
 }
 
@@ -30,6 +31,7 @@ impl<'r, R: Net + Clock> TcpLink<'r, R> {
         TcpLink {
             rt,
             alloc,
+            opened: None,
             server: None,
             faults: 0,
         }
@@ -39,21 +41,10 @@ impl<'r, R: Net + Clock> TcpLink<'r, R> {
     fn fault(&mut self) -> Failed
         ensures result { result ≡ Failed.Fault }
         ensures counted { self.new.faults ≡ one_more self.old.faults }
+        ensures opened { self.new.opened ≡ self.old.opened }
     {
         self.faults = self.faults.saturating_add(1);
         Failed::Fault
-    }
-}
-
-/// The address where a node in this role listens; a client has none.
-fn own_address(config: &Config, role: Role) -> Option<NetAddr> {
-    match role {
-        Role::Mds => Some(config.mds),
-        Role::Server => {
-            let place = (config.own as usize).checked_sub(1)?;
-            config.servers.get(place).copied()
-        }
-        Role::Client => None,
     }
 }
 
@@ -66,18 +57,22 @@ fn socket_address(address: NetAddr) -> SocketAddr {
 impl<R: Net + Clock> Link for TcpLink<'_, R> {
     ghost faults = { λ link. link.faults };
 
+    ghost opened = { λ link. link.opened };
+
     ghost coming = { λ _. None };
 
     ghost sent = { λ _. None };
 
     /// Listens at the node's own address.
     fn open(&mut self, config: &Config, role: Role) -> Result<(), Failed> {
-        let Some(address) = own_address(config, role) else {
+        let opening = Opening::of(config, role);
+        let Some(address) = opening.address else {
             return Err(self.fault());
         };
         match RecordServer::bind(self.rt, self.alloc, socket_address(address)) {
             Ok(server) => {
                 self.server = Some(server);
+                self.opened = Some(opening);
                 Ok(())
             }
             Err(_) => Err(self.fault()),
@@ -93,7 +88,7 @@ impl<R: Net + Clock> Link for TcpLink<'_, R> {
         match came {
             Ok(Some((connection, message))) => Ok(Arrival::Record {
                 from: NodeId::Client(connection),
-                bytes: Data::from_vec(message),
+                bytes: message,
             }),
             Ok(None) => Ok(Arrival::Closed),
             Err(Failed::Fault) => Err(self.fault()),
@@ -104,9 +99,7 @@ impl<R: Net + Clock> Link for TcpLink<'_, R> {
     /// Sends a record back on the connection that it answers, where that stands.
     fn send(&mut self, to: NodeId, message: &[u8]) -> Result<(), NoMemory> {
         match (&mut self.server, to) {
-            (Some(server), NodeId::Client(connection)) => {
-                server.send(self.rt, connection, message)
-            }
+            (Some(server), NodeId::Client(connection)) => server.send(connection, message),
             _ => Ok(()),
         }
     }

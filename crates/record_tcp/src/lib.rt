@@ -1,7 +1,9 @@
-//! Records over TCP (RFC 5531, section 11), one connection at a time.
+//! Records over TCP (RFC 5531, section 11), on many connections at once.
 #![tactic(auto)]
 
-mod peer;
 mod server;
+mod socket;
+#[cfg(test)]
+mod tests;
 
 pub use server::RecordServer;

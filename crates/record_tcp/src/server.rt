@@ -1,81 +1,267 @@
-//! A server that takes one connection after another.
+//! A server that keeps many connections.
 
-use crate::peer::Peer;
-use ff_xdr::NoMemory;
+use crate::socket::Socket;
+use ff_xdr::{Data, NoMemory};
+use mio::net::{TcpListener, TcpStream};
+use mio::{Events, Interest, Poll, Token};
+use record_link::{Connections, Halt, MAX_CONNECTIONS};
 use rpc_record::Failed;
 use std::alloc::Global;
 use std::io::{self, ErrorKind};
-use std::net::{Net, OpenListener, OpenStream, SocketAddr, TcpListener};
-use std::time::Clock;
+use std::net::{Net, SocketAddr};
+use std::time::{Clock, Duration, Instant};
 
-/// Takes one connection after another, and hands out the records that come on each.
+/// The token of the listener; those of the connections are their numbers.
+const LISTENER: Token = Token(0);
+
+/// So many milliseconds are waited at once for something to be ready.
+const WAIT: u64 = 100;
+
+/// A connection's socket, and what may be tried on it.
 #[derive(Drop)]
-pub struct RecordServer<R: Net> {
-    alloc: Global,
-    listener: R::Listener,
-    peer: Option<Peer<R::Stream>>,
-    accepted: u32,
+struct Peer {
+    number: u32,
+    socket: Socket,
+    is_readable: bool,
+    is_writable: bool,
+    is_lost: bool,
 }
 
-impl<R: Net + Clock> RecordServer<R> {
+impl Peer {
+    /// Reads once, where something may be read and more is wanted. Answers whether something came.
+    fn read(&mut self, connections: &mut Connections) -> Result<bool, NoMemory> {
+        if !self.is_readable || !connections.wants_bytes(self.number) {
+            return Ok(false);
+        }
+        match connections.fill(self.number, &mut self.socket) {
+            Ok(()) => return Ok(true),
+            Err(Halt::WouldBlock | Halt::Ended) => self.is_readable = false,
+            Err(Halt::Lost) => self.is_lost = true,
+            Err(Halt::NoMemory) => return Err(NoMemory),
+        }
+        Ok(false)
+    }
+
+    /// Writes what is to go, where something may be written.
+    fn write(&mut self, connections: &mut Connections) {
+        if self.is_writable {
+            match connections.drain(self.number, &mut self.socket) {
+                Ok(()) => {}
+                Err(Halt::WouldBlock) => self.is_writable = false,
+                Err(_) => self.is_lost = true,
+            }
+        }
+    }
+}
+
+/// Keeps the connections that it accepts, and hands out the records that come on them.
+#[derive(Drop)]
+pub struct RecordServer {
+    listener: TcpListener,
+    is_asked: bool,
+    poll: Poll,
+    events: Events<Global>,
+    peers: Vec<Peer>,
+    connections: Connections,
+    begun: Instant,
+    is_full: bool,
+}
+
+impl RecordServer {
     /// A server that listens at an address. An error is the system's.
-    pub fn bind(rt: &R, alloc: Global, address: SocketAddr) -> io::Result<RecordServer<R>> {
+    pub fn bind<R: Net + Clock>(
+        rt: &R,
+        alloc: Global,
+        address: SocketAddr,
+    ) -> io::Result<RecordServer> {
+        let mut listener = TcpListener::bind(rt, address)?;
+        let poll = Poll::new(rt)?;
+        poll.registry()
+            .register(&mut listener, LISTENER, Interest::READABLE)?;
         Ok(RecordServer {
-            alloc,
-            listener: TcpListener::bind(rt, address)?,
-            peer: None,
-            accepted: 0,
+            listener,
+            is_asked: true,
+            poll,
+            events: Events::with_capacity(alloc, MAX_CONNECTIONS + 1)?,
+            peers: Vec::new(alloc),
+            connections: Connections::new(alloc),
+            begun: Instant::now(rt)?,
+            is_full: false,
         })
     }
 
+    /// The address where it listens.
+    pub fn address(&self) -> io::Result<SocketAddr> {
+        self.listener.local_addr()
+    }
+
     /// The next record, and the number of the connection that it came on, from 1. It waits until one
-    /// comes. `None` is that connection 4,294,967,295 is over. An error is that no connection can be
-    /// accepted, or want of memory.
-    pub fn next(&mut self, rt: &R) -> Result<Option<(u32, Vec<u8>)>, Failed> {
+    /// comes. `None` is that all numbers are given and no connection is left. An error is that no
+    /// connection can be accepted or waited for, or want of memory.
+    pub fn next(&mut self, clock: &impl Clock) -> Result<Option<(u32, Data)>, Failed> {
         for _ in 0..u64::MAX {
-            if let Some(message) = self.next_of_peer(rt)? {
-                return Ok(Some((self.accepted, message)));
+            self.close_over(clock);
+            if let Some(handed) = self.connections.next_record().map_err(no_memory)? {
+                return Ok(Some(handed));
             }
-            if let Some(peer) = self.peer.take() {
-                peer.finish(rt);
-            }
-            if self.accepted == u32::MAX {
+            if self.is_full && self.peers.is_empty() {
                 return Ok(None);
             }
-            self.accept()?;
+            if !self.turn()? && self.connections.over().is_none() {
+                self.wait()?;
+            }
         }
         Ok(None)
     }
 
-    /// The next record on the connection that stands.
-    fn next_of_peer(&mut self, rt: &R) -> Result<Option<Vec<u8>>, Failed> {
-        match &mut self.peer {
-            None => Ok(None),
-            Some(peer) => peer.next(rt).map_err(|_| Failed::NoMemory),
+    /// Sends a record back on a connection. Where that is no more, the record is lost. It is written
+    /// at once, unless another record of the connection waits to be handed out.
+    pub fn send(&mut self, connection: u32, message: &[u8]) -> Result<(), NoMemory> {
+        self.connections.answer(connection, message)?;
+        if !self.connections.has_record(connection) {
+            for peer in &mut self.peers {
+                if peer.number == connection {
+                    peer.write(&mut self.connections);
+                }
+            }
+        }
+        Ok(())
+    }
+
+    /// Accepts what waits, and writes and reads once on each connection. Answers whether something
+    /// came.
+    fn turn(&mut self) -> Result<bool, Failed> {
+        let mut came = self.accept()?;
+        for peer in &mut self.peers {
+            peer.write(&mut self.connections);
+            if peer.read(&mut self.connections).map_err(no_memory)? {
+                came = true;
+            }
+        }
+        self.close_lost();
+        Ok(came)
+    }
+
+    /// Closes the connections whose sockets failed.
+    fn close_lost(&mut self) {
+        for _ in 0..=MAX_CONNECTIONS {
+            match first_lost(&self.peers) {
+                Some(number) => self.close(number),
+                None => return,
+            }
         }
     }
 
-    /// Waits for a connection. One that is gone by then is none.
-    fn accept(&mut self) -> Result<(), Failed> {
+    /// Closes the connections that are over by now.
+    fn close_over(&mut self, clock: &impl Clock) {
+        if let Ok(passed) = self.begun.elapsed(clock) {
+            let time = u64::try_from(passed.as_millis()).unwrap_or(u64::MAX);
+            self.connections.set_time(time);
+        }
+        for _ in 0..MAX_CONNECTIONS {
+            match self.connections.over() {
+                Some(number) => self.close(number),
+                None => return,
+            }
+        }
+    }
+
+    /// Closes the connection of this number.
+    fn close(&mut self, number: u32) {
+        self.connections.close(number);
+        self.peers.retain(|peer| peer.number != number);
+    }
+
+    /// Accepts one connection, where one waits. Answers whether one came.
+    fn accept(&mut self) -> Result<bool, Failed> {
+        if !self.is_asked || self.is_full {
+            return Ok(false);
+        }
         match self.listener.accept() {
             Ok((stream, _)) => {
-                self.accepted = self.accepted.saturating_add(1);
-                let _ = stream.set_nodelay(true);
-                self.peer = Some(Peer::new(self.alloc, stream).map_err(|_| Failed::NoMemory)?);
-                Ok(())
+                self.open(stream).map_err(no_memory)?;
+                Ok(true)
             }
-            Err(e) if is_passing(e.kind()) => Ok(()),
+            Err(e) if e.kind() == ErrorKind::WouldBlock => {
+                self.is_asked = false;
+                Ok(false)
+            }
+            Err(e) if is_passing(e.kind()) => Ok(false),
             Err(_) => Err(Failed::Fault),
         }
     }
 
-    /// Sends a record back on a connection. Where it is no more, the record is lost.
-    pub fn send(&mut self, rt: &R, connection: u32, message: &[u8]) -> Result<(), NoMemory> {
-        match &mut self.peer {
-            Some(peer) if connection == self.accepted => peer.send(self.alloc, rt, message),
-            _ => Ok(()),
+    /// Keeps a connection, and closes the longest silent one where there are too many. One that
+    /// cannot be waited for is none.
+    fn open(&mut self, mut stream: TcpStream) -> Result<(), NoMemory> {
+        if let Some(number) = self.connections.crowded() {
+            self.close(number);
+        }
+        let Some(number) = self.connections.open()? else {
+            self.is_full = true;
+            return Ok(());
+        };
+        let _ = stream.set_nodelay(true);
+        let both = Interest::READABLE | Interest::WRITABLE;
+        let token = Token(number as usize);
+        let waited_for = self
+            .poll
+            .registry()
+            .register(&mut stream, token, both)
+            .is_ok();
+        self.peers.push(Peer {
+            number,
+            socket: Socket { stream },
+            is_readable: true,
+            is_writable: true,
+            is_lost: !waited_for,
+        })?;
+        Ok(())
+    }
+
+    /// Waits until something is ready, for a short time at most. Where that is over, everything is
+    /// tried again.
+    fn wait(&mut self) -> Result<(), Failed> {
+        let most = Some(Duration::from_millis(WAIT));
+        if self.poll.poll(&mut self.events, most).is_err() {
+            return Err(Failed::Fault);
+        }
+        if self.events.is_empty() {
+            self.is_asked = true;
+            for peer in &mut self.peers {
+                peer.is_readable = true;
+                peer.is_writable = true;
+            }
+        }
+        for event in self.events.iter() {
+            let token = event.token();
+            if token == LISTENER {
+                self.is_asked = true;
+            }
+            for peer in &mut self.peers {
+                if token == Token(peer.number as usize) {
+                    peer.is_readable = true;
+                    peer.is_writable = true;
+                }
+            }
+        }
+        Ok(())
+    }
+}
+
+/// The number of the first connection whose socket failed.
+fn first_lost(peers: &[Peer]) -> Option<u32> {
+    for peer in peers {
+        if peer.is_lost {
+            return Some(peer.number);
         }
     }
+    None
+}
+
+/// Want of memory, as a failure.
+fn no_memory(_e: NoMemory) -> Failed {
+    Failed::NoMemory
 }
 
 /// The next call may succeed.

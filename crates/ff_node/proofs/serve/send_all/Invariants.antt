@@ -5,4 +5,4 @@ use Rattle.ff_node.proofs.serve.send_all.Given as goal
 abbrev pub invariant-loop-to : goal.invariant-loop-to
 invariant-loop-to g l =
     (g.L.Link.sent l.link ≡ sent_more (g.L.Link.sent l.fn.link) (take l.to-index l.records))
-    × (g.L.Link.coming l.link ≡ g.L.Link.coming l.fn.link) × (g.L.Link.faults l.link ≡ g.L.Link.faults l.fn.link)
+    × (g.L.Link.coming l.link ≡ g.L.Link.coming l.fn.link) × (g.L.Link.opened l.link ≡ g.L.Link.opened l.fn.link) × (g.L.Link.faults l.link ≡ g.L.Link.faults l.fn.link)

@@ -1,0 +1,4 @@
+pub mod PendingLemmas
+pub mod ConnectionLemmas
+pub mod RankLemmas
+pub mod ConnectionsLemmas

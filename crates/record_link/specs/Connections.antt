@@ -1,0 +1,208 @@
+-- Connections under numbers: which is read, handed out, answered and closed.
+use Rattle.std.specs.Prelude.{◌≡◌, ◌⊎◌, ◌≢◌, ℕ, ◌+◌, ◌-◌, ◌^◌, ◌<◌, ◌≤◌, ◌==◌, nat_lt, nat_le, max, Bool, true, false, ◌&&◌, ◌||◌, not, if◌then◌else◌, List, [], ◌∷◌, ◌++◌, length, take, drop, slice_get, slice_set, Option, None, Some, Result, Ok, Err}
+use Rattle.ff_xdr.specs.declared.error.NoMemory.{NoMemory as WantOfMemory}
+use Rattle.rpc_record.specs.declared.frames.RecordFault.{RecordFault}
+use Rattle.rpc_record.specs.declared.frames.RecordFault.TheVariants as fault
+use Rattle.rpc_record.specs.Frames.{front_of, is_whole, max_record}
+use Rattle.record_link.specs.declared.stream.Halt.{Halt}
+use Rattle.record_link.specs.declared.stream.Halt.TheVariants.{WouldBlock, Ended, Lost, NoMemory}
+use Rattle.record_link.specs.declared.rank.Rank.{Rank}
+use Rattle.record_link.specs.declared.rank.Rank.TheVariants.{Numbered, Silent, Ready, Over}
+use Rattle.record_link.specs.declared.entry.Entry.{Entry}
+use Rattle.record_link.specs.Connection.{ConnectionState, new_connection, is_spent, Fills, Advances, Hands, Answers, Drains}
+
+-- the most connections
+abbrev pub max_connections : ℕ
+max_connections = 64
+
+-- the times, in milliseconds
+abbrev pub idle_limit : ℕ
+idle_limit = 60000
+
+abbrev pub stuck_limit : ℕ
+stuck_limit = 2000
+
+abbrev pub answer_limit : ℕ
+answer_limit = 10000
+
+-- the most bytes that may wait for a peer to read them, and the most with which another record of its is handed out
+abbrev pub most_waiting : ℕ
+most_waiting = 4194304
+
+abbrev pub high_water : ℕ
+high_water = 1048576
+
+-- ---- which connection comes first
+
+-- a record of it may be handed out
+abbrev pub is_ready : Entry → Bool
+is_ready e = is_whole e.connection.front && nat_le (length e.connection.to_go) high_water
+
+-- more is to be read from it
+abbrev pub wants_bytes : Entry → Bool
+wants_bytes e = not (is_whole e.connection.front) && (not (is_spent e.connection) && nat_le (length e.connection.to_go) high_water)
+
+-- It has more than it may of what waits, or what waits did not move for two seconds.
+abbrev pub is_stuck : ℕ → Entry → Bool
+is_stuck now e = nat_lt most_waiting (length e.connection.to_go) || (not (length e.connection.to_go == 0) && nat_le (e.moved + stuck_limit) now)
+
+-- no more records come, nothing is to go, and all is answered or is not in ten seconds
+abbrev pub is_finished : ℕ → Entry → Bool
+is_finished now e = is_spent e.connection && ((length e.connection.to_go == 0) && ((e.connection.unanswered == 0) || nat_le (max e.heard e.moved + answer_limit) now))
+
+-- it has sent nothing for a minute, and all is answered
+abbrev pub is_idle : ℕ → Entry → Bool
+is_idle now e = not (is_whole e.connection.front) && ((e.connection.unanswered == 0) && nat_le (e.heard + idle_limit) now)
+
+-- it is to be closed
+abbrev pub is_over : ℕ → Entry → Bool
+is_over now e = is_stuck now e || (is_finished now e || is_idle now e)
+
+-- where one comes by its rank, the lowest first; none where it is not one of them
+abbrev pub rank_of : Rank → Entry → Option ℕ
+rank_of (Numbered number) e = if e.number == number then Some 0 else None
+rank_of Silent e = Some e.heard
+rank_of Ready e = if is_ready e then Some e.order else None
+rank_of (Over now) e = if is_over now e then Some 0 else None
+
+-- none has this rank
+abbrev pub HasNone : Rank → List Entry → Type 0
+HasNone rank entries = (i : ℕ) (e : Entry) → slice_get entries i ≡ Some e → rank_of rank e ≡ None
+
+-- The entry at this place has the lowest rank, and of those the first place.
+pub record IsLeast (rank : Rank) (entries : List Entry) (place : ℕ) : Type 0 where
+  pub entry : Entry
+  pub key : ℕ
+  pub at : slice_get entries place ≡ Some entry
+  pub ranked : rank_of rank entry ≡ Some key
+  pub lowest : (i : ℕ) (e : Entry) (k : ℕ) → slice_get entries i ≡ Some e → rank_of rank e ≡ Some k → key ≤ k
+  pub first : (i : ℕ) (e : Entry) (k : ℕ) → slice_get entries i ≡ Some e → rank_of rank e ≡ Some k → i < place → key < k
+
+-- the better of the best so far, by its place and its rank, and the one at a place
+abbrev pub better : Option (ℕ × ℕ) → ℕ → Option ℕ → Option (ℕ × ℕ)
+better best index None = best
+better None index (Some rank) = Some (index, rank)
+better (Some best) index (Some rank) = if nat_le best.1 rank then Some best else Some (index, rank)
+
+-- ---- what the calls do to one entry
+
+abbrev pub entry_with : Entry → ConnectionState → ℕ → ℕ → ℕ → Entry
+entry_with e connection heard moved order = record { number = e.number; connection = connection; heard = heard; moved = moved; order = order }
+
+-- the entry of a new connection
+abbrev pub new_entry : ℕ → ℕ → Entry
+new_entry number now = record { number = number; connection = new_connection; heard = now; moved = now; order = 0 }
+
+-- the bytes ahead were read as records, as far as that goes without memory being wanted
+abbrev pub Settles : ConnectionState → ConnectionState → Type 0
+Settles old new = (r : Result (Unit {0}) RecordFault) × (r ≢ Err fault.NoMemory) × ((fed : List ℕ) → old.front ≡ front_of fed → Advances fed old r new)
+
+-- its place in the order, where its next record became whole now
+abbrev pub order_after : Entry → ℕ → ℕ
+order_after e order = if is_whole e.connection.front then e.order else order
+
+-- What filling did at this time: bytes came and were read; the peer has ended its side; or nothing was done. Where memory was
+-- wanted, bytes may have come that are still ahead.
+abbrev pub FillsEntry : ℕ → ℕ → Entry → Option (List ℕ) → Result (Unit {0}) Halt → Entry → Option (List ℕ) → Type 0
+FillsEntry now order old coming (Ok x) new coming' =
+    (n : ℕ) × (mid : ConnectionState) × Fills old.connection coming (Ok n) mid coming' × Settles mid new.connection × (new ≡ entry_with old new.connection now old.moved (order_after old order))
+FillsEntry now order old coming (Err Ended) new coming' = Fills old.connection coming (Err Ended) new.connection coming' × (new ≡ entry_with old new.connection now old.moved old.order)
+FillsEntry now order old coming (Err NoMemory) new coming' =
+    (r : Result ℕ Halt) × Fills old.connection coming r new.connection coming' × (new.number ≡ old.number)
+FillsEntry now order old coming (Err WouldBlock) new coming' = (new ≡ old) × (coming' ≡ coming)
+FillsEntry now order old coming (Err Lost) new coming' = (new ≡ old) × (coming' ≡ coming)
+
+-- What handing out did: the record that is whole, and the bytes behind it were read; where memory was wanted it is lost.
+abbrev pub HandsEntry : ℕ → Entry → Result (Option (List ℕ)) WantOfMemory → Entry → Type 0
+HandsEntry order old (Ok (Some message)) new =
+    (mid : ConnectionState) × Hands old.connection (Some message) mid × Settles mid new.connection × (new ≡ entry_with old new.connection old.heard old.moved order)
+HandsEntry order old (Ok None) new = (is_whole old.connection.front ≡ false) × (new ≡ old)
+HandsEntry order old (Err e) new = (message : List ℕ) × Hands old.connection (Some message) new.connection × (new.number ≡ old.number)
+
+-- what answering did at this time; bytes begin to wait where none did
+abbrev pub AnswersEntry : ℕ → Entry → List ℕ → Result (Unit {0}) WantOfMemory → Entry → Type 0
+AnswersEntry now old message (Ok x) new =
+    Answers old.connection message (Ok x) new.connection × (new ≡ entry_with old new.connection old.heard (if length old.connection.to_go == 0 then now else old.moved) old.order)
+AnswersEntry now old message (Err e) new = new ≡ old
+
+-- what draining did at this time
+pub record DrainsEntry (now : ℕ) (old : Entry) (gone : Option (List ℕ)) (r : Result (Unit {0}) Halt) (new : Entry) (gone' : Option (List ℕ)) : Type 0 where
+  pub drains : Drains old.connection gone r new.connection gone'
+  pub moved : new ≡ entry_with old new.connection old.heard (if length new.connection.to_go == length old.connection.to_go then old.moved else now) old.order
+
+-- ---- what the calls of `Connections` do
+
+-- The one entry with this rank became another, and all others stay.
+pub record Becomes (rank : Rank) (old : List Entry) (after : Entry) (new : List Entry) : Type 0 where
+  pub place : ℕ
+  pub least : IsLeast rank old place
+  pub set : new ≡ slice_set old place after
+
+-- reading from the stream of the connection of this number
+abbrev pub FillsOf : ℕ → ℕ → ℕ → List Entry → Option (List ℕ) → Result (Unit {0}) Halt → List Entry → Option (List ℕ) → Type 0
+FillsOf number now order old coming result new coming' =
+    (HasNone (Numbered number) old × (result ≡ Err Lost) × (new ≡ old) × (coming' ≡ coming))
+    ⊎ ((after : Entry) × (becomes : Becomes (Numbered number) old after new) × FillsEntry now order becomes.least.entry coming result after coming')
+
+-- writing to it
+abbrev pub DrainsOf : ℕ → ℕ → List Entry → Option (List ℕ) → Result (Unit {0}) Halt → List Entry → Option (List ℕ) → Type 0
+DrainsOf number now old gone result new gone' =
+    (HasNone (Numbered number) old × (result ≡ Err Lost) × (new ≡ old) × (gone' ≡ gone))
+    ⊎ ((after : Entry) × (becomes : Becomes (Numbered number) old after new) × DrainsEntry now becomes.least.entry gone result after gone')
+
+-- handing out the record that became whole first
+abbrev pub HandsOut : ℕ → List Entry → Result (Option (ℕ × List ℕ)) WantOfMemory → List Entry → Type 0
+HandsOut order old (Ok None) new = HasNone Ready old × (new ≡ old)
+HandsOut order old (Ok (Some handed)) new =
+    (after : Entry) × (becomes : Becomes Ready old after new) × (handed.0 ≡ becomes.least.entry.number) × HandsEntry order becomes.least.entry (Ok (Some handed.1)) after
+HandsOut order old (Err e) new = (after : Entry) × (becomes : Becomes Ready old after new) × HandsEntry order becomes.least.entry (Err e) after
+
+-- answering on the connection of this number: where it is gone, or the answer is too long, the answer is lost
+abbrev pub AnswersOf : ℕ → ℕ → List Entry → List ℕ → Result (Unit {0}) WantOfMemory → List Entry → Type 0
+AnswersOf number now old message result new =
+    ((HasNone (Numbered number) old ⊎ (max_record < length message)) × (result ≡ Ok tt) × (new ≡ old))
+    ⊎ ((after : Entry) × (becomes : Becomes (Numbered number) old after new) × AnswersEntry now becomes.least.entry message result after)
+
+-- The connections in the order of their numbers, how many numbers are given, how many places in the order of records, and the
+-- time in milliseconds.
+pub record ConnectionsState : Type 0 where
+  pub entries : List Entry
+  pub given : ℕ
+  pub orders : ℕ
+  pub time : ℕ
+
+abbrev pub no_connections : ConnectionsState
+no_connections = record { entries = []; given = 0; orders = 0; time = 0 }
+
+abbrev pub with_entries : ConnectionsState → List Entry → ℕ → ConnectionsState
+with_entries s entries orders = record { entries = entries; given = s.given; orders = orders; time = s.time }
+
+abbrev pub at_time : ConnectionsState → ℕ → ConnectionsState
+at_time s time = record { entries = s.entries; given = s.given; orders = s.orders; time = max s.time time }
+
+-- the number of the first by its rank
+abbrev pub IsNumberOf : Rank → List Entry → ℕ → Type 0
+IsNumberOf rank entries number = (place : ℕ) × (least : IsLeast rank entries place) × (number ≡ least.entry.number)
+
+-- what opening a connection did
+abbrev pub Opens : ConnectionsState → Result (Option ℕ) WantOfMemory → ConnectionsState → Type 0
+Opens old (Ok None) new = ((max_connections ≤ length old.entries) ⊎ (old.given ≡ 2 ^ 32 - 1)) × (new ≡ old)
+Opens old (Ok (Some number)) new =
+    (number ≡ old.given + 1) × (length old.entries < max_connections)
+    × (new ≡ record { entries = old.entries ++ new_entry number old.time ∷ []; given = number; orders = old.orders; time = old.time })
+Opens old (Err e) new = new ≡ old
+
+-- what closing one did
+abbrev pub Closes : ℕ → List Entry → Bool → List Entry → Type 0
+Closes number old true new = (place : ℕ) × IsLeast (Numbered number) old place × (new ≡ take place old ++ drop (place + 1) old)
+Closes number old false new = HasNone (Numbered number) old × (new ≡ old)
+
+-- which is to be closed before another is opened
+abbrev pub Crowds : List Entry → Option ℕ → Type 0
+Crowds entries None = length entries < max_connections
+Crowds entries (Some number) = (max_connections ≤ length entries) × IsNumberOf Silent entries number
+
+-- of the connection of this number it is asked whether it passes a test; one that is gone does not
+abbrev pub Asks : ℕ → (Entry → Bool) → List Entry → Bool → Type 0
+Asks number test entries result =
+    (HasNone (Numbered number) entries × (result ≡ false)) ⊎ ((place : ℕ) × (least : IsLeast (Numbered number) entries place) × (result ≡ test least.entry))

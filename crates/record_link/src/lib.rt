@@ -1,0 +1,18 @@
+//! Connections as pure machines: bytes that come in and records that are handed out, answers and the
+//! bytes that go out (RFC 5531, section 11).
+#![tactic(auto)]
+
+mod connection;
+mod connections;
+mod entry;
+mod memory_stream;
+mod pending;
+mod rank;
+mod stream;
+#[cfg(test)]
+mod tests;
+
+pub use connection::Connection;
+pub use connections::{Connections, MAX_CONNECTIONS};
+pub use memory_stream::MemoryStream;
+pub use stream::{Halt, Stream};

@@ -1,0 +1,151 @@
+//! Bytes that wait: they come behind the others, and are taken from the front.
+
+ghost use Rattle.std.specs.Prelude.{◌≡◌, ◌↔◌, ◌≤◌, ◌<◌, ◌+◌, ◌++◌, List, ℕ, [], length, take, drop, IfOk, IsTrue, true};
+ghost use Rattle.ff_xdr.specs.Calls.{Puts};
+ghost use Rattle.ff_xdr.specs.Form.{word};
+ghost use Rattle.rpc_record.specs.Frames.{max_record, record_bytes, header_word};
+ghost use Rattle.record_link.specs.Stream.{ReadsAt, ReadsInto, WritesOut};
+
+use crate::stream::{Halt, Stream};
+use ff_xdr::NoMemory;
+use std::alloc::Global;
+use std::marker::Model;
+
+/// The most bytes that are read at once: a call with 64 KiB of data, and its header.
+const ROOM: usize = 73_728;
+
+/// Bytes that wait. Those that were taken are dropped once they are more than half.
+#[derive(Debug, Drop)]
+pub struct Pending {
+    bytes: Vec<u8>,
+    start: usize,
+}
+
+impl Model for Pending {
+    ghost Value = { List ℕ };
+
+    ghost view = { λ p. drop p.start p.bytes.items };
+
+    ghost invariant = { λ p. p.start ≤ length p.bytes.items };
+}
+
+/// Reads once from a stream into a buffer, from a place on.
+fn read_at<S: Stream>(buffer: &mut [u8], mark: usize, stream: &mut S) -> Result<usize, Halt>
+    requires { mark < length buffer.old }
+    ensures told { ReadsAt mark buffer.old (S.coming stream.old) result buffer.new (S.coming stream.new) }
+    ensures some { IfOk result (λ n. 0 < n) }
+    ensures gone { S.gone stream.new ≡ S.gone stream.old }
+{
+    stream.read(&mut buffer[mark..])
+}
+
+/// Appends to a list what a stream gives at once.
+fn read_into<S: Stream>(bytes: &mut Vec<u8>, stream: &mut S) -> Result<usize, Halt>
+    ensures told { ReadsInto bytes.old.items (S.coming stream.old) result bytes.new.items (S.coming stream.new) }
+    ensures some { IfOk result (λ n. 0 < n) }
+    ensures gone { S.gone stream.new ≡ S.gone stream.old }
+{
+    let mark = bytes.len();
+    if bytes.resize(mark.saturating_add(ROOM), 0).is_err() || bytes.len() == mark {
+        return Err(Halt::NoMemory);
+    }
+    let came = read_at(bytes, mark, stream);
+    match came {
+        Ok(count) => bytes.truncate(mark + count),
+        Err(_) => bytes.truncate(mark),
+    }
+    came
+}
+
+/// The header of a record of one fragment (RFC 5531, section 11): its length, and the highest bit.
+#[tactic(auto, unfolding(ff_xdr::specs::Form::word))]
+fn header_of(message: &[u8]) -> [u8; 4]
+    requires { length message.now ≤ max_record }
+    ensures { result ≡ word (header_word (length message.now) true) }
+{
+    let header = 0x8000_0000 + message.len() as u32;
+    header.to_be_bytes()
+}
+
+impl Pending {
+    /// Nothing waits; takes no memory.
+    pub fn new(alloc: Global) -> Pending
+        ensures { result ≡ [] }
+    {
+        Pending {
+            bytes: Vec::new(alloc),
+            start: 0,
+        }
+    }
+
+    /// The bytes that wait.
+    pub fn bytes(&self) -> &[u8]
+        ensures { result.now ≡ self.now }
+    {
+        &self.bytes[self.start..]
+    }
+
+    /// How many bytes wait.
+    pub fn len(&self) -> usize
+        ensures { result ≡ length self.now }
+    {
+        self.bytes.len() - self.start
+    }
+
+    /// Nothing waits.
+    pub fn is_empty(&self) -> bool
+        ensures { IsTrue result ↔ (self.now ≡ []) }
+    {
+        self.bytes().is_empty()
+    }
+
+    /// Takes so many bytes from the front.
+    pub fn drop_front(&mut self, count: usize)
+        requires { count ≤ length self.old }
+        ensures { self.new ≡ drop count self.old }
+    {
+        self.start += count;
+        if self.start > self.bytes.len() / 2 || self.start == self.bytes.len() {
+            let left = self.bytes.len() - self.start;
+            self.bytes.copy_within(self.start.., 0);
+            self.bytes.truncate(left);
+            self.start = 0;
+        }
+    }
+
+    /// Appends a message as a record of one fragment (RFC 5531, section 11), or nothing.
+    pub fn put_record(&mut self, message: &[u8]) -> Result<(), NoMemory>
+        requires { length message.now ≤ max_record }
+        ensures { Puts self.old result self.new (record_bytes message.now) }
+    {
+        let mark = self.bytes.len();
+        let header = header_of(message);
+        self.bytes.extend_from_slice(&header)?;
+        if self.bytes.extend_from_slice(message).is_err() {
+            self.bytes.truncate(mark);
+            return Err(NoMemory);
+        }
+        Ok(())
+    }
+
+    /// Appends what a stream gives at once.
+    pub fn read_from<S: Stream>(&mut self, stream: &mut S) -> Result<usize, Halt>
+        ensures told { ReadsInto self.old (S.coming stream.old) result self.new (S.coming stream.new) }
+        ensures some { IfOk result (λ n. 0 < n) }
+        ensures gone { S.gone stream.new ≡ S.gone stream.old }
+    {
+        read_into(&mut self.bytes, stream)
+    }
+
+    /// Writes what waits to a stream, until all has gone or the stream takes no more.
+    pub fn write_to<S: Stream>(&mut self, stream: &mut S) -> Result<(), Halt>
+        ensures told { WritesOut self.old (S.gone stream.old) result self.new (S.gone stream.new) }
+        ensures coming { S.coming stream.new ≡ S.coming stream.old }
+    {
+        while !self.is_empty() {
+            let count = stream.write(self.bytes())?;
+            self.drop_front(count);
+        }
+        Ok(())
+    }
+}

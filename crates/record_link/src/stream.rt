@@ -1,0 +1,56 @@
+//! What carries bytes both ways.
+
+ghost use Rattle.std.specs.Prelude.{◌≡◌, ℕ, ◌<◌, ◌≤◌, List, Option, length, IfOk};
+ghost use Rattle.record_link.specs.Stream.{Reads, Writes};
+
+use ff_xdr::NoMemory;
+
+/// Why a call on a stream did nothing.
+#[derive(Clone, Copy, Debug, PartialEq, Eq)]
+pub enum Halt {
+    /// Nothing can be read or written now, and later it may.
+    WouldBlock,
+    /// The other side gives no more bytes.
+    Ended,
+    /// The stream is of no use any more.
+    Lost,
+    /// Memory was wanted.
+    NoMemory,
+}
+
+impl From<NoMemory> for Halt {
+    ghost use Rattle.record_link.specs.declared.stream.Halt.{Halt};
+
+    ghost from_gives = { λ _ halt. halt ≡ Halt.NoMemory };
+
+    fn from(_e: NoMemory) -> Halt {
+        Halt::NoMemory
+    }
+}
+
+/// A stream of bytes, both ways, on which no call waits.
+pub trait Stream {
+    /// The bytes that reads will give from here on, where the stream tells them.
+    ghost coming: { Self → Option (List ℕ) };
+
+    /// The bytes that were taken so far, where the stream tells them.
+    ghost gone: { Self → Option (List ℕ) };
+
+    /// Puts the next bytes at the front of `piece`, which is not empty, and returns how many, at
+    /// least one. An error takes no byte.
+    fn read(&mut self, piece: &mut [u8]) -> Result<usize, Halt>
+        requires { 0 < length piece.old }
+        ensures some { IfOk result (λ n. 0 < n) }
+        ensures within { IfOk result (λ n. n ≤ length piece.new) }
+        ensures told { Reads (coming self.old) piece.new result (coming self.new) }
+        ensures gone { gone self.new ≡ gone self.old };
+
+    /// Takes bytes from the front of `piece`, which is not empty, and returns how many, at least
+    /// one. An error takes no byte.
+    fn write(&mut self, piece: &[u8]) -> Result<usize, Halt>
+        requires { 0 < length piece.now }
+        ensures some { IfOk result (λ n. 0 < n) }
+        ensures within { IfOk result (λ n. n ≤ length piece.now) }
+        ensures told { Writes (gone self.old) piece.now result (gone self.new) }
+        ensures coming { coming self.new ≡ coming self.old };
+}
