@@ -12,25 +12,25 @@ use Rattle.ff_cluster.specs.declared.line.Event.{Event}
 use Rattle.ff_cluster.specs.Line.{EventLine, SetupLine, Nothing, setup_at, event_at, line_at, line_value, event_value}
 use Rattle.cluster_model.specs.Event.{EventValue}
 use Rattle.cluster_model.specs.Print.{print, line_of}
-use Rattle.line_runs.specs.declared.end.Played.{Played as Outcome}
+use Rattle.line_runs.specs.declared.end.Played.{Played}
 use Rattle.ff_cluster.specs.World.{WorldState, WorldValue, preset_world, world_step, Occurs, Stays}
-use Rattle.ff_cluster.specs.Script.{Played, played, played_by, played_step, entries_by, setup_of, world_of, count_of}
-use Rattle.line_runs.specs.Writing.{Begins}
+use Rattle.ff_cluster.specs.Script.{LinePlayed, played, played_by, played_step, entries_by, setup_of, world_of, count_of}
+use Rattle.line_runs.specs.Writing.{IsBeginningOf}
 use Rattle.ff_cluster.specs.Writing.{PrintsText}
-use Rattle.ff_cluster.specs.Player.{PlayerValue, value_of, PlayerState, with_trace, GoesFrom, IsLimited, HasBegun, Does}
+use Rattle.ff_cluster.specs.Player.{PlayerValue, value_of, PlayerState, with_trace, GoesFrom, PlayerStopsAtLimit, PlayerPrintedPart, PlayerPlays}
 
 pub print_append : (xs ys : List Entry) → print (xs ++ ys) ≡ print xs ++ print ys
 print_append [] ys = refl
 print_append (x ∷ xs) ys = ap (λ t. line_of x ++ t) (print_append xs ys) ∙ sym (append_assoc (line_of x) (print xs) (print ys))
 
 -- the text of the first entries begins the text of all
-pub begins_take : (i : ℕ) (xs : List Entry) → Begins (print (take i xs)) (print xs)
+pub begins_take : (i : ℕ) (xs : List Entry) → IsBeginningOf (print (take i xs)) (print xs)
 begins_take i xs = record {
   rest = print (drop i xs);
   whole = sym (print_append (take i xs) (drop i xs)) ∙ ap print (take-append-drop i xs);
 }
 
-pub begins_nothing : (text : List ℕ) → Begins [] text
+pub begins_nothing : (text : List ℕ) → IsBeginningOf [] text
 begins_nothing text = record { rest = text; whole = refl }
 
 -- printing that ended at an entry
@@ -42,13 +42,13 @@ prints_in_part old new i xs (Err y) e is at = (print (take i xs), begins_take i 
 -- ---- an event whose entries are printed in part
 
 begun_in_part : (old new : PlayerState) (w : WorldState) (next : WorldValue) (event : EventValue) (entries : List Entry) (printed : Result (Unit {0}) NoMemory) (e : NoMemory)
-    → printed ≡ Err e → old.stage ≡ Some w → Occurs w event [] next entries → PrintsText old.trace (print entries) printed new.trace → HasBegun old (played_step (world_step (world_of old.stage) event)) new
+    → printed ≡ Err e → old.stage ≡ Some w → Occurs w event [] next entries → PrintsText old.trace (print entries) printed new.trace → PlayerPrintedPart old (played_step (world_step (world_of old.stage) event)) new
 begun_in_part old new w next event entries (Ok x) e failed at occurs prints = absurd (cc)
 begun_in_part old new w next event entries (Err z) e failed at occurs prints =
     let all : entries ≡ entries_by (played_step (world_step (world_of old.stage) event)) =
     occurs.entries ∙ sym (ap (λ s. entries_by (played_step (world_step (world_of s) event))) at ∙ ap (λ o. entries_by (played_step o)) occurs.is) in record {
       part = prints.0;
-      begins = subst (λ es. Begins prints.0 (print es)) all prints.1;
+      begins = subst (λ es. IsBeginningOf prints.0 (print es)) all prints.1;
       trace = prints.2;
     }
 
@@ -59,9 +59,9 @@ at_world old stage w view is = sym (ap (λ (p : PlayerValue). p.stage) view) ∙
 not_spent : (old : PlayerValue) (stage : Option WorldValue) (w : WorldValue) → value_of stage ≡ old → stage ≡ Some w → old.spent ≡ None → w.spent ≡ None
 not_spent old stage w view is fresh = sym (ap (λ s. (value_of s).spent) is) ∙ ap (λ (p : PlayerValue). p.spent) view ∙ fresh
 
-pub happens_in_part : (old new : PlayerValue) (stage : Option WorldValue) (trace trace' : List ℕ) (w next : WorldValue) (event : EventValue) (entries : List Entry) (printed : Result (Unit {0}) NoMemory) (e : NoMemory) (r : Result Outcome NoMemory) (y : NoMemory)
+pub happens_in_part : (old new : PlayerValue) (stage : Option WorldValue) (trace trace' : List ℕ) (w next : WorldValue) (event : EventValue) (entries : List Entry) (printed : Result (Unit {0}) NoMemory) (e : NoMemory) (r : Result Played NoMemory) (y : NoMemory)
     → value_of stage ≡ old → stage ≡ Some w → printed ≡ Err e → r ≡ Err y → (w.spent ≡ None → Occurs w.world event [] next entries) → PrintsText trace (print entries) printed trace'
-    → old.spent ≡ None → Does (with_trace old trace) (played_step (world_step (world_of old.stage) event)) r (with_trace new trace')
+    → old.spent ≡ None → PlayerPlays (with_trace old trace) (played_step (world_step (world_of old.stage) event)) r (with_trace new trace')
 happens_in_part old new stage trace trace' w next event entries printed e (Ok x) y view is failed so occurs prints fresh = absurd (cc)
 happens_in_part old new stage trace trace' w next event entries printed e (Err z) y view is failed so occurs prints fresh =
     begun_in_part (with_trace old trace) (with_trace new trace') w.world next event entries printed e failed (at_world old stage w view is) (occurs (not_spent old stage w view is fresh)) prints
@@ -85,7 +85,7 @@ happens_all old stage trace out w next event entries view is occurs prints fresh
 -- an event that would pass a limit
 pub happens_not : (old : PlayerValue) (new : PlayerState) (stage : Option WorldValue) (trace : List ℕ) (w next : WorldValue) (event : EventValue) (count : ℕ)
     → value_of stage ≡ old → stage ≡ Some w → (w.spent ≡ None → Stays w.world event count next) → new.trace ≡ trace
-    → old.spent ≡ None → IsLimited (with_trace old trace) (played_step (world_step (world_of old.stage) event)) count new
+    → old.spent ≡ None → PlayerStopsAtLimit (with_trace old trace) (played_step (world_step (world_of old.stage) event)) count new
 happens_not old new stage trace w next event count view is stays same fresh =
     let at = at_world old stage w view is in
     let here = stays (not_spent old stage w view is fresh) in record {
@@ -94,7 +94,7 @@ happens_not old new stage trace w next event count view is stays same fresh =
       trace = same;
     }
 
-pub begins_none : (old new : PlayerState) (does : Played) → new.trace ≡ old.trace → HasBegun old does new
+pub begins_none : (old new : PlayerState) (does : LinePlayed) → new.trace ≡ old.trace → PlayerPrintedPart old does new
 begins_none old new does same = record { part = []; begins = begins_nothing _; trace = same ∙ sym (append-nil old.trace) }
 
 -- ---- a line, by what it says
@@ -121,10 +121,10 @@ plays_setup old new trace text says setup which chosen parsed is now = record {
   now = ap (λ n. with_trace n trace) now ∙ ap (λ t. record { stage = Some preset_world; spent = None; trace = t }) (sym (append-nil trace));
 }
 
-pub plays_event : (old : PlayerValue) (trace : List ℕ) (new : PlayerState) (text : List ℕ) (says : Option Line) (setup : Option Setup) (event : Event) (r : Result Outcome NoMemory) → setup ≡ setup_of old.stage
-    → option_map line_value says ≡ line_at setup text → says ≡ Some (line.Event event) → Does (with_trace old trace) (played_step (world_step (world_of old.stage) (event_value event))) r new → Does (with_trace old trace) (played old.stage text) r new
+pub plays_event : (old : PlayerValue) (trace : List ℕ) (new : PlayerState) (text : List ℕ) (says : Option Line) (setup : Option Setup) (event : Event) (r : Result Played NoMemory) → setup ≡ setup_of old.stage
+    → option_map line_value says ≡ line_at setup text → says ≡ Some (line.Event event) → PlayerPlays (with_trace old trace) (played_step (world_step (world_of old.stage) (event_value event))) r new → PlayerPlays (with_trace old trace) (played old.stage text) r new
 plays_event old trace new text says setup event r chosen parsed is does =
-    subst (λ p. Does (with_trace old trace) p r new) (sym (said old text says setup chosen parsed ∙ ap (λ s. played_by old.stage (option_map line_value s)) is)) does
+    subst (λ p. PlayerPlays (with_trace old trace) p r new) (sym (said old text says setup chosen parsed ∙ ap (λ s. played_by old.stage (option_map line_value s)) is)) does
 
 -- no event is read before the setup
 pub event_after_setup : (stage : Option Setup) (text : List ℕ) (says : Option Line) (event : Event) → option_map line_value says ≡ line_at stage text → says ≡ Some (line.Event event) → stage ≡ Some Bare

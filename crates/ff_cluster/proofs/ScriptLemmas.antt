@@ -5,11 +5,11 @@ use Rattle.std.proofs.lemmas.List.{append_assoc, length-append}
 use Rattle.cluster_model.specs.declared.entry.Entry.{Entry}
 use Rattle.cluster_model.specs.Print.{print}
 use Rattle.ff_xdr.specs.declared.error.NoMemory.{NoMemory}
-use Rattle.line_runs.specs.declared.end.Played.{Played as Outcome}
+use Rattle.line_runs.specs.declared.end.Played.{Played}
 use Rattle.line_runs.specs.declared.end.Played.TheVariants as outcome
-use Rattle.line_runs.specs.Writing.{Begins}
-use Rattle.line_runs.specs.Runs.{Course, after_text, Does as TaskDoes}
-use Rattle.ff_cluster.specs.Player.{PlayerValue, PlayerState, with_trace, Does}
+use Rattle.line_runs.specs.Writing.{IsBeginningOf}
+use Rattle.line_runs.specs.Runs.{Course, after_text, PlaysLine}
+use Rattle.ff_cluster.specs.Player.{PlayerValue, PlayerState, with_trace, PlayerPlays}
 use Rattle.ff_cluster.specs.declared.line.Setup.{Setup}
 use Rattle.ff_cluster.specs.declared.line.Setup.TheVariants.{Bare}
 use Rattle.ff_cluster.specs.Line.{LineValue, EventLine, SetupLine, Nothing, setup_at, event_at, words_at, line_at}
@@ -17,7 +17,7 @@ use Rattle.cluster_model.specs.Event.{EventValue, Deliver, Restart}
 use Rattle.ds_files.specs.Server.{ServerState}
 use Rattle.ds_files.specs.Restart.{restart_of}
 use Rattle.ff_cluster.specs.World.{WorldState, WorldStep, effect_of, world_step, Run, with_step, run_of, restart_step}
-use Rattle.ff_cluster.specs.Script.{Script, by_line, with_event, script_of, Played, Outside, Limited, Goes, played, played_by, played_step, entries_by, setup_of, world_of, count_of, script_from, run_from, course_from}
+use Rattle.ff_cluster.specs.Script.{Script, by_line, with_event, script_of, LinePlayed, Outside, Limited, Goes, played, played_by, played_step, entries_by, setup_of, world_of, count_of, script_from, run_from, course_from}
 use Rattle.ff_cluster.proofs.PlayLemmas.{print_append}
 
 -- a setup's line stands only before a setup, and an event's only behind one
@@ -54,7 +54,7 @@ abbrev pub adds : List Entry → Run → Run
 adds entries run = record { entries = entries ++ run.entries; over = run.over }
 
 -- What a line comes to, before the lines behind it: what the script says, and the run of it.
-abbrev pub Splits : ℕ → Option WorldState → Played → (Option Setup → Script) → Script → Run → Type 0
+abbrev pub Splits : ℕ → Option WorldState → LinePlayed → (Option Setup → Script) → Script → Run → Type 0
 Splits number stage Outside rest s run = s ≡ record { events = []; bad = Some number }
 Splits number stage Limited rest s run = run ≡ record { entries = []; over = true }
 Splits number stage (Goes next entries) rest s run = (s.bad ≡ (rest (setup_of next)).bad) × (run ≡ adds entries (run_of (world_of next) (rest (setup_of next)).events)) × (count_of next ≡ count_of stage + length entries)
@@ -88,7 +88,7 @@ by_value number (Some w) (Some (SetupLine chosen)) rest met = absurd met
 by_value number None (Some (EventLine event)) rest met = absurd met
 by_value number (Some w) (Some (EventLine event)) rest met = by_event number w event rest (world_step w event) refl
 
-line_on : (number : ℕ) (stage : Option WorldState) (line : List ℕ) (lines : List (List ℕ)) (p : Played) → played stage line ≡ p
+line_on : (number : ℕ) (stage : Option WorldState) (line : List ℕ) (lines : List (List ℕ)) (p : LinePlayed) → played stage line ≡ p
     → Splits number stage p (λ chosen. script_of (number + 1) chosen lines) (script_from stage number (line ∷ lines)) (run_from stage number (line ∷ lines))
 line_on number stage line lines p is =
     subst (λ q. Splits number stage q (λ chosen. script_of (number + 1) chosen lines) (script_from stage number (line ∷ lines)) (run_from stage number (line ∷ lines))) is
@@ -129,22 +129,22 @@ limited_first number stage line lines count is same =
     )
 
 -- the text of the first line begins the text of all
-text_first : (number : ℕ) (stage : Option WorldState) (line : List ℕ) (lines : List (List ℕ)) (p : Played) → played stage line ≡ p
+text_first : (number : ℕ) (stage : Option WorldState) (line : List ℕ) (lines : List (List ℕ)) (p : LinePlayed) → played stage line ≡ p
     → (more : List ℕ) × ((course_from stage number (line ∷ lines)).text ≡ print (entries_by p) ++ more)
 text_first number stage line lines Outside is = ([], (outside_first number stage line lines is).2)
 text_first number stage line lines Limited is = ([], (limited_first number stage line lines (count_of stage) is refl).2)
 text_first number stage line lines (Goes next entries) is =
     (print (run_from next (number + 1) lines).entries, ap (λ (c : Course). c.text) (goes_first number stage next line lines entries is))
 
-begins_first : (part text more all : List ℕ) → Begins part text → all ≡ text ++ more → Begins part all
+begins_first : (part text more all : List ℕ) → IsBeginningOf part text → all ≡ text ++ more → IsBeginningOf part all
 begins_first part text more all begins is = record {
   rest = begins.rest ++ more;
   whole = sym (append_assoc part begins.rest more) ∙ ap (λ t. t ++ more) begins.whole ∙ sym is;
 }
 
 -- What a player did with a line is what a task does.
-pub does_task : (old new : PlayerValue) (text text' line : List ℕ) (r : Result Outcome NoMemory) (number : ℕ) → Does (with_trace old text) (played old.stage line) r (with_trace new text')
-    → TaskDoes number line (course_from old.stage number) text r (course_from new.stage (number + 1)) text'
+pub does_task : (old new : PlayerValue) (text text' line : List ℕ) (r : Result Played NoMemory) (number : ℕ) → PlayerPlays (with_trace old text) (played old.stage line) r (with_trace new text')
+    → PlaysLine number line (course_from old.stage number) text r (course_from new.stage (number + 1)) text'
 does_task old new text text' line (Ok outcome.Done) number goes =
     let stage : new.stage ≡ goes.stage = ap (λ (p : PlayerState). p.stage) goes.now in record {
       more = print goes.entries;
@@ -165,5 +165,5 @@ does_task old new text text' line (Err e) number begun = record {
 }
 
 -- after a line that was played nothing is spent
-pub does_fresh : (old new : PlayerState) (p : Played) (r : Result Outcome NoMemory) → r ≡ Ok outcome.Done → Does old p r new → new.spent ≡ None
-does_fresh old new p r is does = ap (λ (n : PlayerState). n.spent) (subst (λ x. Does old p x new) is does).now
+pub does_fresh : (old new : PlayerState) (p : LinePlayed) (r : Result Played NoMemory) → r ≡ Ok outcome.Done → PlayerPlays old p r new → new.spent ≡ None
+does_fresh old new p r is does = ap (λ (n : PlayerState). n.spent) (subst (λ x. PlayerPlays old p x new) is does).now

@@ -10,7 +10,7 @@ use Rattle.nfs3_wire.specs.Calls.{calls}
 use Rattle.rpc_record.specs.Calls.{RpcCall}
 use Rattle.line_runs.specs.declared.end.Played.{Played}
 use Rattle.line_runs.specs.declared.end.Played.TheVariants as played
-use Rattle.line_runs.specs.Runs.{Does}
+use Rattle.line_runs.specs.Runs.{PlaysLine}
 use Rattle.ff_cluster.specs.Show.{bad_text, read_args, args_text, line_shown, show_from, by_shown, ShowsLine}
 
 puts_grows : (old new text : List ℕ) (r : Result (Unit {0}) NoMemory) → Puts old r new text → Grows old r new text
@@ -34,7 +34,7 @@ pub grows_bad : (header : ℕ) (c : RpcCall) (e : XdrError) (old new : List ℕ)
 grows_bad header c e old new r is grows = subst (λ x. Grows old r new (args_text header x)) (sym (refused_so c e is)) grows
 
 -- what playing a line did is what a task does
-pub shows_line : (number : ℕ) (line text text' : List ℕ) (r : Result Played NoMemory) → ShowsLine text (line_shown line) r text' → Does number line (show_from number) text r (show_from (number + 1)) text'
+pub shows_line : (number : ℕ) (line text text' : List ℕ) (r : Result Played NoMemory) → ShowsLine text (line_shown line) r text' → PlaysLine number line (show_from number) text r (show_from (number + 1)) text'
 shows_line number line text text' (Ok played.Done) shows = record {
   more = shows.0;
   now = shows.2;

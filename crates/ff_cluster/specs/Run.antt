@@ -117,7 +117,7 @@ did_link (Ended end) n = n
 did_link (Served end) n = link_faults end n
 
 -- what was said of it: the notes took the line, or a beginning of it, and the status is by that
-pub record Says (outcome : Outcome) (ends : ℕ) (notes notes' : Option (List ℕ)) (faults faults' : ℕ) : Type 0 where
+pub record SaysOfRun (outcome : Outcome) (ends : ℕ) (notes notes' : Option (List ℕ)) (faults faults' : ℕ) : Type 0 where
   pub writing : Result (Unit {0}) Failed
   pub told : WritesText notes (note_of outcome) writing notes'
   pub counts : faults' ≡ counted writing faults

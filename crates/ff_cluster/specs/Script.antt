@@ -3,7 +3,7 @@ use Rattle.std.specs.Prelude.{ℕ, ◌+◌, List, [], ◌∷◌, length, Option,
 use Rattle.cluster_model.specs.declared.entry.Entry.{Entry}
 use Rattle.ff_cluster.specs.declared.line.Setup.{Setup}
 use Rattle.ff_cluster.specs.declared.line.Setup.TheVariants.{Bare}
-use Rattle.line_runs.specs.Runs.{Course, Coming}
+use Rattle.line_runs.specs.Runs.{Course, LinesMeaning}
 use Rattle.ff_cluster.specs.Line.{LineValue, Nothing, SetupLine, EventLine, line_at}
 use Rattle.cluster_model.specs.Event.{EventValue}
 use Rattle.cluster_model.specs.Print.{print}
@@ -63,33 +63,33 @@ course_from stage number lines = record {
 }
 
 -- what the lines of a script come to
-abbrev pub script_course : Coming
+abbrev pub script_course : LinesMeaning
 script_course = course_from None 1
 
 -- ---- a run, line by line
 
 -- What a line does: it is outside the grammar; its event would pass a limit; or the run goes on from another world, with
 -- these entries more.
-pub data Played : Type 0 where
-  Outside : Played
-  Limited : Played
-  Goes : (stage : Option WorldState) (entries : List Entry) → Played
+pub data LinePlayed : Type 0 where
+  Outside : LinePlayed
+  Limited : LinePlayed
+  Goes : (stage : Option WorldState) (entries : List Entry) → LinePlayed
 
-abbrev pub played_step : Option WorldStep → Played
+abbrev pub played_step : Option WorldStep → LinePlayed
 played_step None = Limited
 played_step (Some step) = Goes (Some step.world) step.entries
 
-abbrev pub played_by : Option WorldState → Option LineValue → Played
+abbrev pub played_by : Option WorldState → Option LineValue → LinePlayed
 played_by stage None = Outside
 played_by stage (Some Nothing) = Goes stage []
 played_by stage (Some (SetupLine chosen)) = Goes (Some preset_world) []
 played_by stage (Some (EventLine event)) = played_step (world_step (world_of stage) event)
 
-abbrev pub played : Option WorldState → List ℕ → Played
+abbrev pub played : Option WorldState → List ℕ → LinePlayed
 played stage line = played_by stage (line_at (setup_of stage) line)
 
 -- the entries that it adds
-abbrev pub entries_by : Played → List Entry
+abbrev pub entries_by : LinePlayed → List Entry
 entries_by Outside = []
 entries_by Limited = []
 entries_by (Goes stage entries) = entries

@@ -13,7 +13,7 @@ use Rattle.rpc_record.specs.Replies.{RpcReply, Body, Success, ProgUnavail, ProgM
 use Rattle.nfs3_wire.specs.Calls.{calls}
 use Rattle.line_runs.specs.declared.end.Played.{Played}
 use Rattle.line_runs.specs.declared.end.Played.TheVariants as played
-use Rattle.line_runs.specs.Runs.{Course, Coming, at_end, after_text}
+use Rattle.line_runs.specs.Runs.{Course, LinesMeaning, at_end, after_text}
 use Rattle.ff_xdr.specs.declared.error.NoMemory.{NoMemory}
 use Rattle.ff_cluster.specs.Digits.{bytes_of_digits}
 
@@ -102,7 +102,7 @@ show_from number [] = at_end 0
 show_from number (line ∷ lines) = by_shown number (line_shown line) (show_from (number + 1) lines)
 
 -- what the lines of the source come to
-abbrev pub show_course : Coming
+abbrev pub show_course : LinesMeaning
 show_course = show_from 1
 
 -- What playing a line did: its text stands behind the old one; it is outside the grammar; or memory was wanted, and all is as

@@ -4,7 +4,7 @@ ghost use Rattle.std.specs.Prelude.{◌≡◌, ◌≢◌, None, IsSome};
 ghost use Rattle.ff_cluster.specs.Line.{event_value};
 ghost use Rattle.ff_cluster.specs.Script.{setup_of, world_of, count_of, course_from, played, played_step};
 ghost use Rattle.ff_cluster.specs.World.{world_step};
-ghost use Rattle.ff_cluster.specs.Player.{Does, with_trace};
+ghost use Rattle.ff_cluster.specs.Player.{PlayerPlays, with_trace};
 
 use crate::line::{Event, Line, Setup, parse_line};
 use crate::world::{World, WorldFault};
@@ -59,7 +59,7 @@ impl Player {
     /// Lets an event happen, and prints its entries.
     fn happen(&mut self, event: &Event<'_>, text: &mut Out) -> Result<Played, NoMemory>
         requires stage { IsSome self.old.stage }
-        ensures does { self.old.spent ≡ None → Does (with_trace self.old text.old) (played_step (world_step (world_of self.old.stage) (event_value event.now))) result (with_trace self.new text.new) }
+        ensures does { self.old.spent ≡ None → PlayerPlays (with_trace self.old text.old) (played_step (world_step (world_of self.old.stage) (event_value event.now))) result (with_trace self.new text.new) }
         ensures spent { self.old.spent ≢ None → self.new ≡ self.old }
     {
         let mut entries = Vec::new(self.alloc);
@@ -81,7 +81,7 @@ impl Player {
     /// entries is printed, and the player is not to be used again. A world that is spent stays so, and
     /// nothing changes.
     pub fn play_line(&mut self, line: &[u8], text: &mut Out) -> Result<Played, NoMemory>
-        ensures does { self.old.spent ≡ None → Does (with_trace self.old text.old) (played self.old.stage line.now) result (with_trace self.new text.new) }
+        ensures does { self.old.spent ≡ None → PlayerPlays (with_trace self.old text.old) (played self.old.stage line.now) result (with_trace self.new text.new) }
         ensures spent { self.old.spent ≢ None → self.new ≡ self.old }
     {
         match parse_line(self.setup(), line) {

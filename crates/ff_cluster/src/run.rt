@@ -5,7 +5,7 @@ ghost use Rattle.std.specs.String.{string_bytes};
 ghost use Rattle.rpc_record.specs.Stream.{counted};
 ghost use Rattle.ff_cluster.specs.declared.run.Outcome.{Outcome as AnOutcome};
 ghost use Rattle.line_runs.specs.Writing.{WritesText};
-ghost use Rattle.ff_cluster.specs.Run.{command_named, command_of, status_of, note_of, numbered, told, outcome_by, Did, DidRead, did_write, did_link, Says};
+ghost use Rattle.ff_cluster.specs.Run.{command_named, command_of, status_of, note_of, numbered, told, outcome_by, Did, DidRead, did_write, did_link, SaysOfRun};
 
 use crate::print::put_numbered;
 use crate::replay::replay;
@@ -155,7 +155,7 @@ pub fn run<S: Source, K: Sink, E: Sink, L: Link>(
         × DidRead outcome (S.faults source.old) (S.faults source.new)
         × (K.faults sink.new ≡ did_write outcome (K.faults sink.old))
         × (L.faults link.new ≡ did_link outcome (L.faults link.old))
-        × Says outcome result (E.held notes.old) (E.held notes.new) (E.faults notes.old) (E.faults notes.new) }
+        × SaysOfRun outcome result (E.held notes.old) (E.held notes.new) (E.faults notes.old) (E.faults notes.new) }
 {
     let outcome = match asked(words) {
         Some(Command::Replay) => Outcome::Ended(replay(alloc, source, sink)),

@@ -9,7 +9,7 @@ use Rattle.rpc_record.specs.Stream.{Reads}
 use Rattle.rpc_record.specs.declared.stream.Failed.TheVariants.{Fault, NoMemory}
 use Rattle.line_runs.specs.declared.lines.Ended.{Ended}
 use Rattle.line_runs.specs.declared.lines.Ended.TheVariants.{Newline, End, Over as RanOver}
-use Rattle.line_runs.specs.Lines.{Cut, Line, Last, Over, onto, cut_line, onto_first, onto_ended, lines_of, ended_lines, script_lines, Drawn, Keeps, ReadsLine, IsWithin, Refills, Takes}
+use Rattle.line_runs.specs.Lines.{Cut, Line, Last, Over, onto, cut_line, onto_first, onto_ended, lines_of, ended_lines, script_lines, Drawn, Keeps, ReadsLine, IsWithinBudget, Refills, TakesLine}
 
 -- these bytes in front of the line
 abbrev pub before : List ℕ → Cut → Cut
@@ -348,13 +348,13 @@ ended_last (suc n) (b ∷ bs) line is =
     (cases_eq b 10)
 
 -- What is so before each piece: the line so far is the front of the bytes, and has no newline.
-pub record Begins (budget : ℕ) (old first line held : List ℕ) (left : Option (List ℕ)) : Type 0 where
+pub record IsBeginningOf (budget : ℕ) (old first line held : List ℕ) (left : Option (List ℕ)) : Type 0 where
   pub keeps : Keeps old first line held left
   pub cut : cut_line budget line ≡ Last line
 
 abbrev pub Begun : ℕ → List ℕ → Option (List ℕ) → List ℕ → List ℕ → Option (List ℕ) → Type 0
 Begun budget old None line held left = left ≡ None
-Begun budget old (Some first) line held left = Begins budget old first line held left
+Begun budget old (Some first) line held left = IsBeginningOf budget old first line held left
 
 pub begun_at_first : (budget : ℕ) (old : List ℕ) (first : Option (List ℕ)) → Begun budget old first [] old first
 begun_at_first budget old None = refl
@@ -443,7 +443,7 @@ cut_on budget room line held room_is whole = cut_more-last budget line held line
 
 -- After a line was looked for in what is held.
 pub reads_line : (budget room : ℕ) (old : List ℕ) (first : Option (List ℕ)) (line held : List ℕ) (left : Option (List ℕ)) (ended : Ended) (held' line' : List ℕ)
-    → room ≡ budget - length line → Begun budget old first line held left → Takes room held line (Ok (Some ended)) held' line'
+    → room ≡ budget - length line → Begun budget old first line held left → TakesLine room held line (Ok (Some ended)) held' line'
     → ReadsLine budget old first (Ok ended) line' held' left
 reads_line budget room old None line held left ended held' line' room_is begun takes = begun
 reads_line budget room old (Some first) line held left Newline held' line' room_is begun takes = record {
@@ -459,7 +459,7 @@ reads_line budget room old (Some first) line held left RanOver held' line' room_
 
 -- there was no memory for the line
 pub reads_none : (budget room : ℕ) (old : List ℕ) (first : Option (List ℕ)) (line held : List ℕ) (left : Option (List ℕ)) (held' line' : List ℕ) (r : Result (Option Ended) Failed) (e : Failed) (q : Result Ended Failed) (f : Failed)
-    → r ≡ Err e → q ≡ Err f → f ≡ e → Begun budget old first line held left → Takes room held line r held' line' → ReadsLine budget old first q line' held' left
+    → r ≡ Err e → q ≡ Err f → f ≡ e → Begun budget old first line held left → TakesLine room held line r held' line' → ReadsLine budget old first q line' held' left
 reads_none budget room old first line held left held' line' (Ok o) e q f is so same begun takes = absurd (cc)
 reads_none budget room old first line held left held' line' (Err d) e (Ok ended) f is so same begun takes = absurd (cc)
 reads_none budget room old None line held left held' line' (Err d) e (Err g) f is so same begun takes = begun
@@ -469,7 +469,7 @@ reads_none budget room old (Some first) line held left held' line' (Err d) e (Er
     record { drawn = begun.keeps.drawn; kept = ap (λ l. l ++ held') takes.2 ∙ ap (λ h. line ++ h) takes.1 ∙ begun.keeps.kept }
 
 pub begun_taken : (budget room : ℕ) (old : List ℕ) (first : Option (List ℕ)) (line held : List ℕ) (left : Option (List ℕ)) (held' line' : List ℕ)
-    → room ≡ budget - length line → Begun budget old first line held left → Takes room held line (Ok None) held' line' → Begun budget old first line' held' left
+    → room ≡ budget - length line → Begun budget old first line held left → TakesLine room held line (Ok None) held' line' → Begun budget old first line' held' left
 begun_taken budget room old None line held left held' line' room_is begun takes = begun
 begun_taken budget room old (Some first) line held left held' line' room_is begun takes = rw (takes.2, takes.1) record {
   keeps = record { drawn = begun.keeps.drawn; kept = append-nil (line ++ held) ∙ begun.keeps.kept };
@@ -477,7 +477,7 @@ begun_taken budget room old (Some first) line held left held' line' room_is begu
 }
 
 pub is_within : (budget room : ℕ) (line held : List ℕ) (ended : Ended) (held' line' : List ℕ) → room ≡ budget - length line → length line ≤ budget
-    → Takes room held line (Ok (Some ended)) held' line' → IsWithin budget ended line'
+    → TakesLine room held line (Ok (Some ended)) held' line' → IsWithinBudget budget ended line'
 is_within budget room line held Newline held' line' room_is within takes =
     let size : length line' ≡ length line + length takes.0 = ap length takes.1 ∙ length-append line takes.0 in
     let more = line_length room held takes.0 held' takes.2 in omega (arith, more.1)
@@ -486,7 +486,7 @@ is_within budget room line held RanOver held' line' room_is within takes =
     let size : length line' ≡ length line = ap length takes.2 in omega arith
 
 pub taken_length : (budget room : ℕ) (line held held' line' : List ℕ) → room ≡ budget - length line → length line ≤ budget
-    → Takes room held line (Ok None) held' line' → (length line' ≤ budget) × (length line' ≡ length line + length held)
+    → TakesLine room held line (Ok None) held' line' → (length line' ≤ budget) × (length line' ≡ length line + length held)
 taken_length budget room line held held' line' room_is within takes =
     let size : length line' ≡ length line + length held = ap length takes.2 ∙ length-append line held in
     let fits = last_length room held held takes.0 in (omega (arith, fits.1), size)

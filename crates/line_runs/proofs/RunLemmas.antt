@@ -10,8 +10,8 @@ use Rattle.line_runs.specs.declared.end.RunEnd.{RunEnd}
 use Rattle.line_runs.specs.declared.end.RunEnd.TheVariants.{Done, BadLine, ReadFault, WriteFault, NoMemory, Limit}
 use Rattle.line_runs.specs.Lines.{Line, Over, cut_line, ended_lines, script_lines, Drawn, ReadsLine, CutsLine}
 use Rattle.line_runs.specs.Writing.{WritesText}
-use Rattle.line_runs.specs.Runs.{Course, at_end, after_text, Coming, max_source, ended, IsPastLimit, Ends, HasRead, TookAll, TookPart, TookOfRead, Writes, Leaves, Runs, ReadFaults, write_faults, Goes, IsOutside, IsLimited, HasBegun}
-use Rattle.line_runs.specs.Playback.{Stand, lines_by, Prospect, prospect, lines_ahead, ahead, text_ahead, Owes, OwesPart, Took, GoesOn, OwesRead, Passes, Stops, Steps, Finishes, EndFaults, StepFaults, LinesFaults, SourceFaults, TakesLine, PlaysLast, PlaysEnded}
+use Rattle.line_runs.specs.Runs.{Course, at_end, after_text, LinesMeaning, max_source, ended_course, IsPastLimit, Ends, HasRead, TookAll, TookPart, TookOfRead, SinkGot, Leaves, Runs, ReadFaults, write_faults, Goes, IsOutside, StopsAtLimit, HasPrintedPart}
+use Rattle.line_runs.specs.Playback.{Stand, lines_by, Prospect, prospect, lines_ahead, ahead, text_ahead, Owes, OwesPart, Took, GoesOn, OwesRead, Passes, Stops, PlaybackSteps, Finishes, EndFaults, StepFaults, LinesFaults, SourceFaults, TakesLine, PlaysLast, PlaysEnded}
 use Rattle.line_runs.proofs.LineLemmas.{cut_more-line, cut_more-over, script_line, line_length, script_end, script_last, script_over, over_lines, last_length, ended_line, ended_last}
 
 -- the run has gone on for some steps
@@ -20,7 +20,7 @@ Went None held old left' held' new = ⊤
 Went (Some left) held old left' held' new = GoesOn left held old left' held' new
 
 -- no lines come to nothing
-abbrev pub HasEnd : Coming → Type 0
+abbrev pub HasEnd : LinesMeaning → Type 0
 HasEnd coming = (count : ℕ) × (coming [] ≡ at_end count)
 
 -- ---- what a sink owes
@@ -151,7 +151,7 @@ bad_at all s new bytes line lines n at refuses =
     )
 
 -- it would pass a limit
-limit_at : (all : Bool) (s new : Stand) (bytes line : List ℕ) (lines : List (List ℕ)) (count : ℕ) → lines_ahead all s bytes ≡ line ∷ lines → IsLimited count line s.coming × (new.text ≡ s.text)
+limit_at : (all : Bool) (s new : Stand) (bytes line : List ℕ) (lines : List (List ℕ)) (count : ℕ) → lines_ahead all s bytes ≡ line ∷ lines → StopsAtLimit count line s.coming × (new.text ≡ s.text)
     → ((ahead all s bytes).past ≡ true) × (count ≡ (ahead all s bytes).count) × (new.text ≡ text_ahead all s bytes)
 limit_at all s new bytes line lines count at passes =
     let first = passes.0 lines in
@@ -162,7 +162,7 @@ limit_at all s new bytes line lines count at passes =
     )
 
 -- it is played in part
-part_at : (all : Bool) (s : Stand) (bytes line : List ℕ) (lines : List (List ℕ)) (text' : List ℕ) → lines_ahead all s bytes ≡ line ∷ lines → HasBegun line s.coming s.text text'
+part_at : (all : Bool) (s : Stand) (bytes line : List ℕ) (lines : List (List ℕ)) (text' : List ℕ) → lines_ahead all s bytes ≡ line ∷ lines → HasPrintedPart line s.coming s.text text'
     → (rest : List ℕ) × (text' ++ rest ≡ text_ahead all s bytes)
 part_at all s bytes line lines text' at begun =
     let first = begun.begins lines in (
@@ -200,7 +200,7 @@ of_all left held held' left' s owed none owes = record {
 
 -- ---- what a step did, by what the reading of a line did
 
-pub read_fault : (left held left' : Option (List ℕ)) (s : Stand) (line held1 : List ℕ) → HasEnd s.coming → ReadsLine s.room s.held left (Err Fault) line held1 left' → Steps left held s (Ok (Some ReadFault)) left' held (after s held1)
+pub read_fault : (left held left' : Option (List ℕ)) (s : Stand) (line held1 : List ℕ) → HasEnd s.coming → ReadsLine s.room s.held left (Err Fault) line held1 left' → PlaybackSteps left held s (Ok (Some ReadFault)) left' held (after s held1)
 read_fault None held left' s line held1 ends read = tt
 read_fault (Some b) held left' s line held1 ends read =
     let drawn = read.keeps.drawn in
@@ -216,7 +216,7 @@ read_fault (Some b) held left' s line held1 ends read =
       owes = owes_all held (text_ahead false s drawn.front) s.text none.3;
     }
 
-pub read_memory : (left held left' : Option (List ℕ)) (s : Stand) (line held1 : List ℕ) → ReadsLine s.room s.held left (Err Wanted) line held1 left' → Steps left held s (Ok (Some NoMemory)) left' held (after s held1)
+pub read_memory : (left held left' : Option (List ℕ)) (s : Stand) (line held1 : List ℕ) → ReadsLine s.room s.held left (Err Wanted) line held1 left' → PlaybackSteps left held s (Ok (Some NoMemory)) left' held (after s held1)
 read_memory None held left' s line held1 read = tt
 read_memory (Some b) held left' s line held1 read = record {
   front = read.drawn.front;
@@ -225,7 +225,7 @@ read_memory (Some b) held left' s line held1 read = record {
 }
 
 pub read_over : (left held left' : Option (List ℕ)) (s : Stand) (line held1 : List ℕ) (ends : HasEnd s.coming) (count : ℕ) → count ≡ ends.0 → ReadsLine s.room s.held left (Ok RanOver) line held1 left'
-    → Steps left held s (Ok (Some (Limit count))) left' held (after s held1)
+    → PlaybackSteps left held s (Ok (Some (Limit count))) left' held (after s held1)
 read_over None held left' s line held1 ends count is read = tt
 read_over (Some b) held left' s line held1 ends count is read =
     let drawn = read.keeps.drawn in
@@ -240,12 +240,12 @@ read_over (Some b) held left' s line held1 ends count is read =
     )
 
 pub read_last : (left held left' : Option (List ℕ)) (s new : Stand) (line held1 : List ℕ) (end : RunEnd) → HasEnd s.coming → HasEnd new.coming → ReadsLine s.room s.held left (Ok End) line held1 left' → PlaysLast line (after s held1) end new
-    → Steps left held s (Ok (Some end)) left' held new
+    → PlaybackSteps left held s (Ok (Some end)) left' held new
 read_last None held left' s new line held1 end ends ends' read plays = tt
 read_last (Some b) held left' s new [] held1 end ends ends' read plays =
-    let ended = script_end s.room (s.held ++ b) read.cut in
-    let none = none_at true s b ends ended.1 in
-    let short : length (s.held ++ b) - s.room ≡ 0 = (let empty = ap (λ (bs : List ℕ). length bs) ended.0 in omega (arith, empty)) in
+    let ended_course = script_end s.room (s.held ++ b) read.cut in
+    let none = none_at true s b ends ended_course.1 in
+    let short : length (s.held ++ b) - s.room ≡ 0 = (let empty = ap (λ (bs : List ℕ). length bs) ended_course.0 in omega (arith, empty)) in
     subst (λ e. Stops b held s e left' held new.text) (sym plays.0)
     (none.0, none.1, short, read.none_left, owes_all held (text_ahead true s b) new.text (plays.1 ∙ none.3))
 read_last (Some b) held left' s new (c ∷ rest) held1 Done ends ends' read plays =
@@ -278,7 +278,7 @@ first_of s left line held left' cuts =
     script_line s.room (s.held ++ left) line (held ++ cuts.drawn.rest) cuts_all
 
 pub read_ended : (left held left' held' : Option (List ℕ)) (s new : Stand) (line held1 : List ℕ) (r : Result (Option RunEnd) Failed) → ReadsLine s.room s.held left (Ok Newline) line held1 left'
-    → PlaysEnded held line (after s held1) r held' new → Steps left held s r left' held' new
+    → PlaysEnded held line (after s held1) r held' new → PlaybackSteps left held s r left' held' new
 read_ended None held left' held' s new line held1 r read plays = tt
 read_ended (Some b) held left' held' s new line held1 (Ok None) read plays =
     let mid = plays.mid in
@@ -344,11 +344,11 @@ all_of : (a b one : List ℕ) (left1 : Option (List ℕ)) → left1 ≡ Some b �
 all_of a b one left1 is first = let same : b ≡ first.rest = some_is (sym is ∙ first.told) in ap (λ bs. one ++ bs) same ∙ first.joined
 
 pub goes : (left held : Option (List ℕ)) (s : Stand) (left1 held1 : Option (List ℕ)) (s1 : Stand) (left2 held2 : Option (List ℕ)) (s2 : Stand) (r : Result (Option RunEnd) Failed)
-    → r ≡ Ok None → Went left held s left1 held1 s1 → Steps left1 held1 s1 r left2 held2 s2 → Went left held s left2 held2 s2
+    → r ≡ Ok None → Went left held s left1 held1 s1 → PlaybackSteps left1 held1 s1 r left2 held2 s2 → Went left held s left2 held2 s2
 goes None held s left1 held1 s1 left2 held2 s2 r is went steps = tt
 goes (Some a) held s None held1 s1 left2 held2 s2 r is went steps = let no : Some went.gave.rest ≡ None = sym went.gave.told in absurd (cc)
 goes (Some a) held s (Some b) held1 s1 left2 held2 s2 r is went steps =
-    let on : GoesOn b held1 s1 left2 held2 s2 = subst (λ x. Steps (Some b) held1 s1 x left2 held2 s2) is steps in
+    let on : GoesOn b held1 s1 left2 held2 s2 = subst (λ x. PlaybackSteps (Some b) held1 s1 x left2 held2 s2) is steps in
     let one = went.front in
     let two = on.front in record {
       front = one ++ two;
@@ -401,19 +401,19 @@ stops_after a b held held1 left2 held2 s s1 owed end went = at end
     at NoMemory stops = owes_after a b held held1 left2 held2 s s1 owed went stops
 
 pub finishes : (left held : Option (List ℕ)) (s : Stand) (left1 held1 : Option (List ℕ)) (s1 : Stand) (left2 held2 : Option (List ℕ)) (s2 : Stand) (r : Result (Option RunEnd) Failed) (end : RunEnd)
-    → r ≡ Ok (Some end) → Went left held s left1 held1 s1 → Steps left1 held1 s1 r left2 held2 s2 → Finishes left held s (Ok end) left2 held2 s2.text
+    → r ≡ Ok (Some end) → Went left held s left1 held1 s1 → PlaybackSteps left1 held1 s1 r left2 held2 s2 → Finishes left held s (Ok end) left2 held2 s2.text
 finishes None held s left1 held1 s1 left2 held2 s2 r end is went steps = tt
 finishes (Some a) held s None held1 s1 left2 held2 s2 r end is went steps = let no : Some went.gave.rest ≡ None = sym went.gave.told in absurd (cc)
 finishes (Some a) held s (Some b) held1 s1 left2 held2 s2 r end is went steps =
-    stops_after a b held held1 left2 held2 s s1 s2.text end went (subst (λ x. Steps (Some b) held1 s1 x left2 held2 s2) is steps)
+    stops_after a b held held1 left2 held2 s s1 s2.text end went (subst (λ x. PlaybackSteps (Some b) held1 s1 x left2 held2 s2) is steps)
 
 pub finishes_err : (left held : Option (List ℕ)) (s : Stand) (left1 held1 : Option (List ℕ)) (s1 : Stand) (left2 held2 : Option (List ℕ)) (s2 : Stand) (r : Result (Option RunEnd) Failed) (e : Failed) (q : Result RunEnd Failed) (f : Failed) (owed : List ℕ)
-    → r ≡ Err e → q ≡ Err f → Went left held s left1 held1 s1 → Steps left1 held1 s1 r left2 held2 s2 → Finishes left held s q left2 held2 owed
+    → r ≡ Err e → q ≡ Err f → Went left held s left1 held1 s1 → PlaybackSteps left1 held1 s1 r left2 held2 s2 → Finishes left held s q left2 held2 owed
 finishes_err None held s left1 held1 s1 left2 held2 s2 r e q f owed is so went steps = tt
 finishes_err (Some a) held s left1 held1 s1 left2 held2 s2 r e (Ok end) f owed is so went steps = absurd (cc)
 finishes_err (Some a) held s None held1 s1 left2 held2 s2 r e (Err g) f owed is so went steps = let no : Some went.gave.rest ≡ None = sym went.gave.told in absurd (cc)
 finishes_err (Some a) held s (Some b) held1 s1 left2 held2 s2 r e (Err g) f owed is so went steps =
-    owes_after a b held held1 left2 held2 s s1 [] went (subst (λ x. Steps (Some b) held1 s1 x left2 held2 s2) is steps)
+    owes_after a b held held1 left2 held2 s s1 [] went (subst (λ x. PlaybackSteps (Some b) held1 s1 x left2 held2 s2) is steps)
 
 -- the run has gone on for no step
 pub went_nowhere : (left held : Option (List ℕ)) (s : Stand) → Went left held s left held s
@@ -492,7 +492,7 @@ faults_after end r old mid new is same counts = subst (λ m. EndFaults end m new
 -- ---- a run from the start
 
 -- where a run over these lines starts
-abbrev pub from_start : Coming → Stand
+abbrev pub from_start : LinesMeaning → Stand
 from_start coming = record { coming = coming; text = []; held = []; room = max_source }
 
 -- a sink that owes nothing has taken all, or a beginning
@@ -502,17 +502,17 @@ took_all h t new owes = owes.1 ∙ ap (λ x. Some (h ++ x)) (sym (append-nil owe
 took_part : (h t : List ℕ) (new : Option (List ℕ)) → OwesPart (Some h) t new [] → TookPart h t new
 took_part h t new owes = let one = owes.1 in (one.0, record { rest = owes.0; whole = one.2 }, one.1)
 
-took_read : (coming : Coming) (b h : List ℕ) (left' held' : Option (List ℕ)) → OwesRead b (Some h) (from_start coming) left' held' [] → TookOfRead coming b h left' held'
+took_read : (coming : LinesMeaning) (b h : List ℕ) (left' held' : Option (List ℕ)) → OwesRead b (Some h) (from_start coming) left' held' [] → TookOfRead coming b h left' held'
 took_read coming b h left' held' owes = record {
   read = owes.front;
   gave = owes.gave;
   text = ⊎_elim (λ part. inl (took_part h _ held' part)) (λ part. inr (part.0, took_part h _ held' part.1)) owes.owes;
 }
 
-passes_start : (coming : Coming) (b : List ℕ) → Passes (ahead true (from_start coming) b) → IsPastLimit coming b
+passes_start : (coming : LinesMeaning) (b : List ℕ) → Passes (ahead true (from_start coming) b) → IsPastLimit coming b
 passes_start coming b passes = ⊎_elim (λ past. inl past) (λ over. inr (over.0, over.1, omega (arith, over.2))) passes
 
-ends_so : (coming : Coming) (b : List ℕ) (held left' held' : Option (List ℕ)) (end : RunEnd) → Stops b held (from_start coming) end left' held' [] → Ends coming b end × Leaves end left'
+ends_so : (coming : LinesMeaning) (b : List ℕ) (held left' held' : Option (List ℕ)) (end : RunEnd) → Stops b held (from_start coming) end left' held' [] → Ends coming b end × Leaves end left'
 ends_so coming b held left' held' Done done = ((done.0, done.1, omega (arith, done.2)), done.3)
 ends_so coming b held left' held' (BadLine n) done = ((done.0, done.1), tt)
 ends_so coming b held left' held' (Limit n) done = ((passes_start coming b done.0, done.1), tt)
@@ -520,7 +520,7 @@ ends_so coming b held left' held' ReadFault done = (tt, tt)
 ends_so coming b held left' held' WriteFault done = absurd done
 ends_so coming b held left' held' NoMemory done = (tt, tt)
 
-writes_so : (coming : Coming) (b h : List ℕ) (left' held' : Option (List ℕ)) (end : RunEnd) → Stops b (Some h) (from_start coming) end left' held' [] → Writes coming b h end left' held'
+writes_so : (coming : LinesMeaning) (b h : List ℕ) (left' held' : Option (List ℕ)) (end : RunEnd) → Stops b (Some h) (from_start coming) end left' held' [] → SinkGot coming b h end left' held'
 writes_so coming b h left' held' Done done = took_all h _ held' done.4
 writes_so coming b h left' held' (BadLine n) done = took_all h _ held' done.2
 writes_so coming b h left' held' (Limit n) done = took_all h _ held' done.2
@@ -535,13 +535,13 @@ writes_so coming b h left' held' ReadFault done = record {
 writes_so coming b h left' held' WriteFault done = absurd done
 writes_so coming b h left' held' NoMemory done = took_read coming b h left' held' done
 
-pub ran : (coming : Coming) (left held left' held' : Option (List ℕ)) (end : RunEnd) → Finishes left held (from_start coming) (Ok end) left' held' [] → Runs coming left held end left' held'
+pub ran : (coming : LinesMeaning) (left held left' held' : Option (List ℕ)) (end : RunEnd) → Finishes left held (from_start coming) (Ok end) left' held' [] → Runs coming left held end left' held'
 ran coming None held left' held' end done = tt
 ran coming (Some b) None left' held' end done = ends_so coming b None left' held' end done
 ran coming (Some b) (Some h) left' held' end done = let why = ends_so coming b (Some h) left' held' end done in (why.0, why.1, writes_so coming b h left' held' end done)
 
 -- the text could not be written
-pub unwritten : (coming : Coming) (left held left' held' : Option (List ℕ)) (r : Result RunEnd Failed) (e : Failed) → r ≡ Err e → Finishes left held (from_start coming) r left' held' [] → Runs coming left held WriteFault left' held' × Runs coming left held NoMemory left' held'
+pub unwritten : (coming : LinesMeaning) (left held left' held' : Option (List ℕ)) (r : Result RunEnd Failed) (e : Failed) → r ≡ Err e → Finishes left held (from_start coming) r left' held' [] → Runs coming left held WriteFault left' held' × Runs coming left held NoMemory left' held'
 unwritten coming None held left' held' r e is done = (tt, tt)
 unwritten coming (Some b) held left' held' (Ok end) e is done = absurd (cc)
 unwritten coming (Some b) None left' held' (Err y) e is done = ((tt, tt), (tt, tt))
@@ -549,7 +549,7 @@ unwritten coming (Some b) (Some h) left' held' (Err y) e is done =
     let took = took_read coming b h left' held' done in ((tt, tt, took), (tt, tt, took))
 
 -- there was no memory for a run
-pub unstarted : (coming : Coming) (left held : Option (List ℕ)) → Runs coming left held NoMemory left held
+pub unstarted : (coming : LinesMeaning) (left held : Option (List ℕ)) → Runs coming left held NoMemory left held
 unstarted coming None held = tt
 unstarted coming (Some b) None = (tt, tt)
 unstarted coming (Some b) (Some h) = (
@@ -558,7 +558,7 @@ unstarted coming (Some b) (Some h) = (
   record {
     read = [];
     gave = record { rest = b; told = refl; joined = refl };
-    text = inl ([], record { rest = (ended coming []).text; whole = refl }, ap (λ x. Some x) (sym (append-nil h)));
+    text = inl ([], record { rest = (ended_course coming []).text; whole = refl }, ap (λ x. Some x) (sym (append-nil h)));
   },
 )
 

@@ -92,10 +92,10 @@ ReadsLine budget held (Some left) (Err Fault) line held' left' = BreaksOff budge
 ReadsLine budget held (Some left) (Err NoMemory) line held' left' = Keeps held left line held' left'
 
 -- how much of the budget a line took
-abbrev pub IsWithin : ℕ → Ended → List ℕ → Type 0
-IsWithin budget Newline line = length line + 1 ≤ budget
-IsWithin budget End line = length line ≤ budget
-IsWithin budget RanOver line = length line ≤ budget
+abbrev pub IsWithinBudget : ℕ → Ended → List ℕ → Type 0
+IsWithinBudget budget Newline line = length line + 1 ≤ budget
+IsWithinBudget budget End line = length line ≤ budget
+IsWithinBudget budget RanOver line = length line ≤ budget
 
 -- What filling a buffer did that may hold bytes already: it holds some, or there are none, and nothing is lost. The source
 -- is asked only where none was held.
@@ -107,9 +107,9 @@ Refills held (Some left) (Err e) held' left' = (held ≡ []) × (held' ≡ []) �
 
 -- What taking a line from held bytes did, where there was room for so many more: a line and its newline were moved behind
 -- the line's old bytes; or there is no newline within the room; or all was moved.
-abbrev pub Takes : ℕ → List ℕ → List ℕ → Result (Option Ended) Failed → List ℕ → List ℕ → Type 0
-Takes room held line (Ok (Some Newline)) held' line' = (more : List ℕ) × (line' ≡ line ++ more) × (cut_line room held ≡ Line more held')
-Takes room held line (Ok (Some End)) held' line' = ⊥
-Takes room held line (Ok (Some RanOver)) held' line' = (cut_line room held ≡ Over) × (held' ≡ held) × (line' ≡ line)
-Takes room held line (Ok None) held' line' = (cut_line room held ≡ Last held) × (held' ≡ []) × (line' ≡ line ++ held)
-Takes room held line (Err e) held' line' = (e ≡ NoMemory) × (held' ≡ held) × (line' ≡ line)
+abbrev pub TakesLine : ℕ → List ℕ → List ℕ → Result (Option Ended) Failed → List ℕ → List ℕ → Type 0
+TakesLine room held line (Ok (Some Newline)) held' line' = (more : List ℕ) × (line' ≡ line ++ more) × (cut_line room held ≡ Line more held')
+TakesLine room held line (Ok (Some End)) held' line' = ⊥
+TakesLine room held line (Ok (Some RanOver)) held' line' = (cut_line room held ≡ Over) × (held' ≡ held) × (line' ≡ line)
+TakesLine room held line (Ok None) held' line' = (cut_line room held ≡ Last held) × (held' ≡ []) × (line' ≡ line ++ held)
+TakesLine room held line (Err e) held' line' = (e ≡ NoMemory) × (held' ≡ held) × (line' ≡ line)

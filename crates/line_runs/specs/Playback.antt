@@ -5,7 +5,7 @@ use Rattle.rpc_record.specs.Stream.{one_more}
 use Rattle.line_runs.specs.declared.end.RunEnd.{RunEnd}
 use Rattle.line_runs.specs.declared.end.RunEnd.TheVariants.{Done, BadLine, ReadFault, WriteFault, NoMemory, Limit}
 use Rattle.line_runs.specs.Lines.{script_lines, ended_lines}
-use Rattle.line_runs.specs.Runs.{Course, Coming, max_source, HasRead, TookPart, Goes, IsOutside, IsLimited, HasBegun}
+use Rattle.line_runs.specs.Runs.{Course, LinesMeaning, max_source, HasRead, TookPart, Goes, IsOutside, StopsAtLimit, HasPrintedPart}
 
 -- the text that is not yet written, the bytes that were read and not yet taken, how many bytes the source may still have, and
 -- the next line's number
@@ -25,12 +25,12 @@ full = 65536
 
 -- where a run stands: what lines come to from here on, and the rest of its state
 pub record Stand : Type 0 where
-  pub coming : Coming
+  pub coming : LinesMeaning
   pub text : List ℕ
   pub held : List ℕ
   pub room : ℕ
 
-abbrev pub stand : (ℕ → Coming) → RunState → Stand
+abbrev pub stand : (ℕ → LinesMeaning) → RunState → Stand
 stand run s = record { coming = run s.number; text = s.text; held = s.held; room = s.room }
 
 -- the lines of bytes within a budget: all of a source's, or those that end in a newline
@@ -110,11 +110,11 @@ Stops left held old WriteFault left' held' owed = ⊥
 Stops left held old NoMemory left' held' owed = OwesRead left held old left' held' owed
 
 -- What a step did: it goes on, it stops, or the text could not be written.
-abbrev pub Steps : Option (List ℕ) → Option (List ℕ) → Stand → Result (Option RunEnd) Failed → Option (List ℕ) → Option (List ℕ) → Stand → Type 0
-Steps None held old result left' held' new = ⊤
-Steps (Some left) held old (Ok None) left' held' new = GoesOn left held old left' held' new
-Steps (Some left) held old (Ok (Some end)) left' held' new = Stops left held old end left' held' new.text
-Steps (Some left) held old (Err e) left' held' new = OwesRead left held old left' held' []
+abbrev pub PlaybackSteps : Option (List ℕ) → Option (List ℕ) → Stand → Result (Option RunEnd) Failed → Option (List ℕ) → Option (List ℕ) → Stand → Type 0
+PlaybackSteps None held old result left' held' new = ⊤
+PlaybackSteps (Some left) held old (Ok None) left' held' new = GoesOn left held old left' held' new
+PlaybackSteps (Some left) held old (Ok (Some end)) left' held' new = Stops left held old end left' held' new.text
+PlaybackSteps (Some left) held old (Err e) left' held' new = OwesRead left held old left' held' []
 
 -- What all steps did, where so much of the text is owed.
 abbrev pub Finishes : Option (List ℕ) → Option (List ℕ) → Stand → Result RunEnd Failed → Option (List ℕ) → Option (List ℕ) → List ℕ → Type 0
@@ -164,8 +164,8 @@ pub record TakesLine (taken : ℕ) (line : List ℕ) (old new : Stand) : Type 0 
 abbrev pub PlaysLine : ℕ → List ℕ → Stand → Option RunEnd → Stand → Type 0
 PlaysLine taken line old None new = TakesLine taken line old new
 PlaysLine taken line old (Some (BadLine n)) new = IsOutside n line old.coming × (new.text ≡ old.text)
-PlaysLine taken line old (Some (Limit count)) new = IsLimited count line old.coming × (new.text ≡ old.text)
-PlaysLine taken line old (Some NoMemory) new = HasBegun line old.coming old.text new.text
+PlaysLine taken line old (Some (Limit count)) new = StopsAtLimit count line old.coming × (new.text ≡ old.text)
+PlaysLine taken line old (Some NoMemory) new = HasPrintedPart line old.coming old.text new.text
 PlaysLine taken line old (Some Done) new = ⊥
 PlaysLine taken line old (Some ReadFault) new = ⊥
 PlaysLine taken line old (Some WriteFault) new = ⊥
@@ -175,8 +175,8 @@ abbrev pub PlaysLast : List ℕ → Stand → RunEnd → Stand → Type 0
 PlaysLast [] old end new = (end ≡ Done) × (new.text ≡ old.text)
 PlaysLast (c ∷ rest) old Done new = Goes (c ∷ rest) old.coming old.text new.coming new.text
 PlaysLast (c ∷ rest) old (BadLine n) new = IsOutside n (c ∷ rest) old.coming × (new.text ≡ old.text)
-PlaysLast (c ∷ rest) old (Limit count) new = IsLimited count (c ∷ rest) old.coming × (new.text ≡ old.text)
-PlaysLast (c ∷ rest) old NoMemory new = HasBegun (c ∷ rest) old.coming old.text new.text
+PlaysLast (c ∷ rest) old (Limit count) new = StopsAtLimit count (c ∷ rest) old.coming × (new.text ≡ old.text)
+PlaysLast (c ∷ rest) old NoMemory new = HasPrintedPart (c ∷ rest) old.coming old.text new.text
 PlaysLast (c ∷ rest) old ReadFault new = ⊥
 PlaysLast (c ∷ rest) old WriteFault new = ⊥
 

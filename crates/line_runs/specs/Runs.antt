@@ -7,7 +7,7 @@ use Rattle.line_runs.specs.declared.end.RunEnd.TheVariants.{Done, BadLine, ReadF
 use Rattle.line_runs.specs.declared.end.Played.{Played}
 use Rattle.line_runs.specs.declared.end.Played.TheVariants as played
 use Rattle.line_runs.specs.Lines.{script_lines, ended_lines}
-use Rattle.line_runs.specs.Writing.{Begins}
+use Rattle.line_runs.specs.Writing.{IsBeginningOf}
 
 -- ---- what lines come to
 
@@ -28,35 +28,35 @@ abbrev pub after_text : List ℕ → Course → Course
 after_text text rest = record { text = text ++ rest.text; bad = rest.bad; past = rest.past; count = rest.count }
 
 -- where a run is, by what lines come to from there on
-abbrev pub Coming : Type 0
-Coming = List (List ℕ) → Course
+abbrev pub LinesMeaning : Type 0
+LinesMeaning = List (List ℕ) → Course
 
 -- the most bytes of a source: 64 MiB
 abbrev pub max_source : ℕ
 max_source = 67108864
 
 -- What the bytes of a source come to: of one that is too long, its lines that end within the first 64 MiB.
-abbrev pub whole : Coming → List ℕ → Course
-whole coming bytes = coming (script_lines max_source bytes)
+abbrev pub source_course : LinesMeaning → List ℕ → Course
+source_course coming bytes = coming (script_lines max_source bytes)
 
 -- What the lines come to that end in a newline: all that is known of bytes whose source failed behind them.
-abbrev pub ended : Coming → List ℕ → Course
-ended coming bytes = coming (ended_lines (take max_source bytes))
+abbrev pub ended_course : LinesMeaning → List ℕ → Course
+ended_course coming bytes = coming (ended_lines (take max_source bytes))
 
 -- ---- what a run says of the bytes of its source
 
 -- A line would pass a limit; or none would, all lines that end within the first 64 MiB are in the grammar, and the bytes go
 -- on behind them.
-abbrev pub IsPastLimit : Coming → List ℕ → Type 0
-IsPastLimit coming bytes = ((whole coming bytes).past ≡ true) ⊎ (((whole coming bytes).past ≡ false) × ((whole coming bytes).bad ≡ None) × (max_source < length bytes))
+abbrev pub IsPastLimit : LinesMeaning → List ℕ → Type 0
+IsPastLimit coming bytes = ((source_course coming bytes).past ≡ true) ⊎ (((source_course coming bytes).past ≡ false) × ((source_course coming bytes).bad ≡ None) × (max_source < length bytes))
 
--- Why a run over these bytes ended so: all lines were played and there are no more bytes; this line is the first outside the
+-- Why a run over these bytes ended_course so: all lines were played and there are no more bytes; this line is the first outside the
 -- grammar; a limit would be passed, and there are so many entries.
 -- The other ends have their causes in the counts of faults.
-abbrev pub Ends : Coming → List ℕ → RunEnd → Type 0
-Ends coming bytes Done = ((whole coming bytes).bad ≡ None) × ((whole coming bytes).past ≡ false) × (length bytes ≤ max_source)
-Ends coming bytes (BadLine n) = ((whole coming bytes).bad ≡ Some n) × ((whole coming bytes).past ≡ false)
-Ends coming bytes (Limit count) = IsPastLimit coming bytes × (count ≡ (whole coming bytes).count)
+abbrev pub Ends : LinesMeaning → List ℕ → RunEnd → Type 0
+Ends coming bytes Done = ((source_course coming bytes).bad ≡ None) × ((source_course coming bytes).past ≡ false) × (length bytes ≤ max_source)
+Ends coming bytes (BadLine n) = ((source_course coming bytes).bad ≡ Some n) × ((source_course coming bytes).past ≡ false)
+Ends coming bytes (Limit count) = IsPastLimit coming bytes × (count ≡ (source_course coming bytes).count)
 Ends coming bytes ReadFault = ⊤
 Ends coming bytes WriteFault = ⊤
 Ends coming bytes NoMemory = ⊤
@@ -66,7 +66,7 @@ abbrev pub TookAll : List ℕ → List ℕ → Option (List ℕ) → Type 0
 TookAll held text new = new ≡ Some (held ++ text)
 
 abbrev pub TookPart : List ℕ → List ℕ → Option (List ℕ) → Type 0
-TookPart held text new = (part : List ℕ) × Begins part text × (new ≡ Some (held ++ part))
+TookPart held text new = (part : List ℕ) × IsBeginningOf part text × (new ≡ Some (held ++ part))
 
 -- These bytes were read, and the rest is left.
 pub record HasRead (bytes read : List ℕ) (left : Option (List ℕ)) : Type 0 where
@@ -74,32 +74,32 @@ pub record HasRead (bytes read : List ℕ) (left : Option (List ℕ)) : Type 0 w
   pub told : left ≡ Some rest
   pub joined : read ++ rest ≡ bytes
 
--- The source failed: the lines that end in what was read are in the grammar and within the limits, and the sink got their whole
+-- The source failed: the lines that end in what was read are in the grammar and within the limits, and the sink got their source_course
 -- text.
-pub record FailedBehind (coming : Coming) (bytes held : List ℕ) (left' held' : Option (List ℕ)) : Type 0 where
+pub record FailedBehind (coming : LinesMeaning) (bytes held : List ℕ) (left' held' : Option (List ℕ)) : Type 0 where
   pub read : List ℕ
   pub gave : HasRead bytes read left'
   pub short : length read ≤ max_source
-  pub good : (ended coming read).bad ≡ None
-  pub within : (ended coming read).past ≡ false
-  pub text : TookAll held (ended coming read).text held'
+  pub good : (ended_course coming read).bad ≡ None
+  pub within : (ended_course coming read).past ≡ false
+  pub text : TookAll held (ended_course coming read).text held'
 
 -- The sink failed, or memory was wanted: the sink got a beginning of the text of the lines that end in what was read, or, where
--- all was read, of the whole source.
-pub record TookOfRead (coming : Coming) (bytes held : List ℕ) (left' held' : Option (List ℕ)) : Type 0 where
+-- all was read, of the source_course source.
+pub record TookOfRead (coming : LinesMeaning) (bytes held : List ℕ) (left' held' : Option (List ℕ)) : Type 0 where
   pub read : List ℕ
   pub gave : HasRead bytes read left'
-  pub text : TookPart held (ended coming read).text held' ⊎ ((read ≡ bytes) × TookPart held (whole coming bytes).text held')
+  pub text : TookPart held (ended_course coming read).text held' ⊎ ((read ≡ bytes) × TookPart held (source_course coming bytes).text held')
 
 -- What a sink that held these bytes got: all of the text; all of the text of what was read before the source failed; or a
 -- beginning of the text of what was read.
-abbrev pub Writes : Coming → List ℕ → List ℕ → RunEnd → Option (List ℕ) → Option (List ℕ) → Type 0
-Writes coming bytes held Done left' new = TookAll held (whole coming bytes).text new
-Writes coming bytes held (BadLine n) left' new = TookAll held (whole coming bytes).text new
-Writes coming bytes held (Limit count) left' new = TookAll held (whole coming bytes).text new
-Writes coming bytes held ReadFault left' new = FailedBehind coming bytes held left' new
-Writes coming bytes held WriteFault left' new = TookOfRead coming bytes held left' new
-Writes coming bytes held NoMemory left' new = TookOfRead coming bytes held left' new
+abbrev pub SinkGot : LinesMeaning → List ℕ → List ℕ → RunEnd → Option (List ℕ) → Option (List ℕ) → Type 0
+SinkGot coming bytes held Done left' new = TookAll held (source_course coming bytes).text new
+SinkGot coming bytes held (BadLine n) left' new = TookAll held (source_course coming bytes).text new
+SinkGot coming bytes held (Limit count) left' new = TookAll held (source_course coming bytes).text new
+SinkGot coming bytes held ReadFault left' new = FailedBehind coming bytes held left' new
+SinkGot coming bytes held WriteFault left' new = TookOfRead coming bytes held left' new
+SinkGot coming bytes held NoMemory left' new = TookOfRead coming bytes held left' new
 
 -- what is left of the source: nothing where all lines were played
 abbrev pub Leaves : RunEnd → Option (List ℕ) → Type 0
@@ -111,10 +111,10 @@ Leaves WriteFault left = ⊤
 Leaves NoMemory left = ⊤
 
 -- What a run did, by what the source and the sink tell.
-abbrev pub Runs : Coming → Option (List ℕ) → Option (List ℕ) → RunEnd → Option (List ℕ) → Option (List ℕ) → Type 0
+abbrev pub Runs : LinesMeaning → Option (List ℕ) → Option (List ℕ) → RunEnd → Option (List ℕ) → Option (List ℕ) → Type 0
 Runs coming None held end left' held' = ⊤
 Runs coming (Some bytes) None end left' held' = Ends coming bytes end × Leaves end left'
-Runs coming (Some bytes) (Some held) end left' held' = Ends coming bytes end × Leaves end left' × Writes coming bytes held end left' held'
+Runs coming (Some bytes) (Some held) end left' held' = Ends coming bytes end × Leaves end left' × SinkGot coming bytes held end left' held'
 
 -- The count of the source's faults: one more at a fault, and as before where nothing failed. Where the text could not be
 -- written in the end, the source may have failed before.
@@ -138,29 +138,29 @@ write_faults NoMemory n = n
 -- ---- what playing a line does
 
 -- it added this text, and the run goes on
-pub record Goes (line : List ℕ) (old : Coming) (text : List ℕ) (new : Coming) (text' : List ℕ) : Type 0 where
+pub record Goes (line : List ℕ) (old : LinesMeaning) (text : List ℕ) (new : LinesMeaning) (text' : List ℕ) : Type 0 where
   pub more : List ℕ
   pub now : text' ≡ text ++ more
   pub same : (lines : List (List ℕ)) → old (line ∷ lines) ≡ after_text more (new lines)
 
 -- it is outside the grammar, and it is the one with this number
-abbrev pub IsOutside : ℕ → List ℕ → Coming → Type 0
+abbrev pub IsOutside : ℕ → List ℕ → LinesMeaning → Type 0
 IsOutside number line coming = (lines : List (List ℕ)) → ((coming (line ∷ lines)).bad ≡ Some number) × ((coming (line ∷ lines)).past ≡ false) × ((coming (line ∷ lines)).text ≡ [])
 
 -- what it asks for would pass a limit, and there are so many entries
-abbrev pub IsLimited : ℕ → List ℕ → Coming → Type 0
-IsLimited count line coming = (lines : List (List ℕ)) → ((coming (line ∷ lines)).past ≡ true) × (count ≡ (coming (line ∷ lines)).count) × ((coming (line ∷ lines)).text ≡ [])
+abbrev pub StopsAtLimit : ℕ → List ℕ → LinesMeaning → Type 0
+StopsAtLimit count line coming = (lines : List (List ℕ)) → ((coming (line ∷ lines)).past ≡ true) × (count ≡ (coming (line ∷ lines)).count) × ((coming (line ∷ lines)).text ≡ [])
 
 -- a beginning of its text was added
-pub record HasBegun (line : List ℕ) (coming : Coming) (text text' : List ℕ) : Type 0 where
+pub record HasPrintedPart (line : List ℕ) (coming : LinesMeaning) (text text' : List ℕ) : Type 0 where
   pub part : List ℕ
   pub now : text' ≡ text ++ part
-  pub begins : (lines : List (List ℕ)) → Begins part (coming (line ∷ lines)).text
+  pub begins : (lines : List (List ℕ)) → IsBeginningOf part (coming (line ∷ lines)).text
 
 -- What playing the line with this number did: the run goes on from there; the line is outside the grammar; it would pass a
 -- limit; or memory was wanted.
-abbrev pub Does : ℕ → List ℕ → Coming → List ℕ → Result Played NoRoom → Coming → List ℕ → Type 0
-Does number line old text (Ok played.Done) new text' = Goes line old text new text'
-Does number line old text (Ok played.Outside) new text' = IsOutside number line old × (text' ≡ text)
-Does number line old text (Ok (played.Limited count)) new text' = IsLimited count line old × (text' ≡ text)
-Does number line old text (Err e) new text' = HasBegun line old text text'
+abbrev pub PlaysLine : ℕ → List ℕ → LinesMeaning → List ℕ → Result Played NoRoom → LinesMeaning → List ℕ → Type 0
+PlaysLine number line old text (Ok played.Done) new text' = Goes line old text new text'
+PlaysLine number line old text (Ok played.Outside) new text' = IsOutside number line old × (text' ≡ text)
+PlaysLine number line old text (Ok (played.Limited count)) new text' = StopsAtLimit count line old × (text' ≡ text)
+PlaysLine number line old text (Err e) new text' = HasPrintedPart line old text text'

@@ -3,7 +3,7 @@ use Rattle.std.specs.Prelude.{◌≡◌, List, ℕ, ◌++◌, Option, Some, None
 use Rattle.rpc_record.specs.declared.stream.Failed.{Failed}
 
 -- the part is the beginning of the text
-pub record Begins (part text : List ℕ) : Type 0 where
+pub record IsBeginningOf (part text : List ℕ) : Type 0 where
   pub rest : List ℕ
   pub whole : part ++ rest ≡ text
 
@@ -11,7 +11,7 @@ pub record Begins (part text : List ℕ) : Type 0 where
 abbrev pub WritesText : Option (List ℕ) → List ℕ → Result (Unit {0}) Failed → Option (List ℕ) → Type 0
 WritesText None text result new = new ≡ None
 WritesText (Some held) text (Ok x) new = new ≡ Some (held ++ text)
-WritesText (Some held) text (Err e) new = (part : List ℕ) × Begins part text × (new ≡ Some (held ++ part))
+WritesText (Some held) text (Err e) new = (part : List ℕ) × IsBeginningOf part text × (new ≡ Some (held ++ part))
 
 -- The sink has taken all of the text but the rest.
 abbrev pub HasWritten : Option (List ℕ) → List ℕ → List ℕ → Option (List ℕ) → Type 0

@@ -1,7 +1,7 @@
 //! Reading lines through a buffer.
 ghost use Rattle.std.specs.Prelude.{◌≡◌, ℕ, ◌+◌, ◌-◌, ◌<◌, ◌≤◌, ◌↔◌, IsTrue, List, [], ◌++◌, length, is_ok, IfOk, IfErr, if◌then◌else◌};
 ghost use Rattle.rpc_record.specs.Stream.{counted};
-ghost use Rattle.line_runs.specs.Lines.{IsWithin, ReadsLine, Refills, Takes};
+ghost use Rattle.line_runs.specs.Lines.{IsWithinBudget, ReadsLine, Refills, TakesLine};
 
 use memchr::memchr;
 use rpc_record::{Failed, Source};
@@ -65,7 +65,7 @@ impl LineBuffer {
         line: &mut Vec<u8>,
     ) -> Result<Ended, Failed>
         ensures told { ReadsLine budget self.old (S.left source.old) result line.new.items self.new (S.left source.new) }
-        ensures within { IfOk result (λ ended. IsWithin budget ended line.new.items) }
+        ensures within { IfOk result (λ ended_course. IsWithinBudget budget ended_course line.new.items) }
         ensures faults { S.faults source.new ≡ counted result (S.faults source.old) }
     {
         line.clear();
@@ -95,7 +95,7 @@ impl LineBuffer {
     /// Moves the rest of a line, and its newline, out of the held bytes, where the line may take `room`
     /// more bytes with its newline. `None` moves all that is held.
     fn take_line(&mut self, room: usize, line: &mut Vec<u8>) -> Result<Option<Ended>, Failed>
-        ensures { Takes room self.old line.old.items result self.new line.new.items }
+        ensures { TakesLine room self.old line.old.items result self.new line.new.items }
     {
         let held = &self.piece[self.start..self.end];
         match memchr(b'\n', held) {

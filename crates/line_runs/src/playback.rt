@@ -4,7 +4,7 @@ ghost use Rattle.std.specs.Prelude.{◌≡◌, ◌+◌, ◌<◌, ◌≤◌, ◌�
 ghost use Rattle.rpc_record.specs.Stream.{counted};
 ghost use Rattle.line_runs.specs.Writing.{WritesText};
 ghost use Rattle.line_runs.specs.Runs.{Runs, ReadFaults, write_faults};
-ghost use Rattle.line_runs.specs.Playback.{start, full, stand, StepFaults, LinesFaults, SourceFaults, Steps, Finishes, PlaysLine, PlaysLast, PlaysEnded, IsOfLine};
+ghost use Rattle.line_runs.specs.Playback.{start, full, stand, StepFaults, LinesFaults, SourceFaults, PlaybackSteps, Finishes, PlaysLine, PlaysLast, PlaysEnded, IsOfLine};
 
 use crate::end::{Played, RunEnd};
 use crate::lines::{Ended, LineBuffer};
@@ -142,7 +142,7 @@ impl Playback {
         sink: &mut K,
         line: &mut Vec<u8>,
     ) -> Result<Option<RunEnd>, Failed>
-        ensures told { T.fresh task.old → Steps (S.left source.old) (K.held sink.old) (stand (T.course task.old) self.old) result (S.left source.new) (K.held sink.new) (stand (T.course task.new) self.new) }
+        ensures told { T.fresh task.old → PlaybackSteps (S.left source.old) (K.held sink.old) (stand (T.course task.old) self.old) result (S.left source.new) (K.held sink.new) (stand (T.course task.new) self.new) }
         ensures goes_on { T.fresh task.old → result ≡ Ok None → T.fresh task.new }
         ensures shrinks { OnOk result (result ≡ Ok None → self.new.room < self.old.room) }
         ensures reads { StepFaults result (S.faults source.old) (S.faults source.new) }

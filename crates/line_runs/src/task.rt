@@ -1,7 +1,7 @@
 //! What is done with the lines of a source.
 
 ghost use Rattle.std.specs.Prelude.{◌≡◌, ℕ, ◌+◌, List, [], Ok};
-ghost use Rattle.line_runs.specs.Runs.{Course, at_end, Does};
+ghost use Rattle.line_runs.specs.Runs.{Course, at_end, PlaysLine};
 ghost use Rattle.line_runs.specs.declared.end.Played.TheVariants as played;
 
 use crate::end::Played;
@@ -25,7 +25,7 @@ pub trait LineTask {
     /// Plays a line, and appends the text that it adds. After an error or at a limit a beginning of the
     /// text is appended, and the task is not to be used again.
     fn play(&mut self, line: &[u8], text: &mut Out) -> Result<Played, NoMemory>
-        ensures does { fresh self.old → (number : ℕ) → Does number line.now (course self.old number) text.old result (course self.new (number + 1)) text.new }
+        ensures does { fresh self.old → (number : ℕ) → PlaysLine number line.now (course self.old number) text.old result (course self.new (number + 1)) text.new }
         ensures goes_on { fresh self.old → result ≡ Ok played.Done → fresh self.new };
 
     /// No lines come to nothing.

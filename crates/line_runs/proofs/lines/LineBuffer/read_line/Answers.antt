@@ -1,7 +1,7 @@
 use Rattle.std.proofs.Common.{rules, ◌≡◌, ◌-◌, ◌<◌, ◌≤◌, Bool, length, Option, Ok, subst, arith}
 use Rattle.std.proofs.lemmas.Result.{err_from_is_err_and}
 use Rattle.line_runs.specs.declared.lines.Ended.{Ended}
-use Rattle.line_runs.specs.Lines.{Refills, Takes}
+use Rattle.line_runs.specs.Lines.{Refills, TakesLine}
 use Rattle.line_runs.proofs.LineLemmas.{begun_at_first, begun_refilled, begun_taken, reads_line, reads_last, reads_fault, reads_none, is_within, taken_length}
 use Rattle.line_runs.proofs.lines.LineBuffer.read_line.Goals as goal
 
@@ -34,7 +34,7 @@ returns-in-Some-clause-told g c =
     let room : c.args.budget - c.len.result ≡ c.args.budget - length line.items = omega (arith, line.ok.0, c.len.ensures) in
     let read = subst (λ (some : Bool). Refills c.pieces.self (left c.pieces.source) (Ok some) c.refill.new.self (left c.refill.new.source)) c.if-branch.true c.in_ok-refill.ensures.told in
     let begun = begun_refilled c.args.budget c.args.self.now (left c.args.source.now) line.items c.pieces.self (left c.pieces.source) c.refill.new.self (left c.refill.new.source) c.pieces.invariant.told read in
-    let takes = subst (λ (ended : Option Ended). Takes (c.args.budget - c.len.result) c.refill.new.self line.items (Ok ended) c.take_line.new.self c.take_line.new.line.items) c.in-Some.is c.in_ok-ended.ensures in
+    let takes = subst (λ (ended : Option Ended). TakesLine (c.args.budget - c.len.result) c.refill.new.self line.items (Ok ended) c.take_line.new.self c.take_line.new.line.items) c.in-Some.is c.in_ok-ended.ensures in
     reads_line c.args.budget (c.args.budget - c.len.result) c.args.self.now (left c.args.source.now) line.items c.refill.new.self (left c.refill.new.source) c.in-Some.ended c.take_line.new.self c.take_line.new.line.items room begun takes
 
 pub returns-in-Some-clause-within : goal.returns-in-Some-clause-within
@@ -42,7 +42,7 @@ returns-in-Some-clause-within g c =
     let line = c.pieces.line in
     let room : c.args.budget - c.len.result ≡ c.args.budget - length line.items = omega (arith, line.ok.0, c.len.ensures) in
     let within : length line.items ≤ c.args.budget = omega (arith, line.ok.0, c.pieces.invariant.room) in
-    let takes = subst (λ (ended : Option Ended). Takes (c.args.budget - c.len.result) c.refill.new.self line.items (Ok ended) c.take_line.new.self c.take_line.new.line.items) c.in-Some.is c.in_ok-ended.ensures in
+    let takes = subst (λ (ended : Option Ended). TakesLine (c.args.budget - c.len.result) c.refill.new.self line.items (Ok ended) c.take_line.new.self c.take_line.new.line.items) c.in-Some.is c.in_ok-ended.ensures in
     is_within c.args.budget (c.args.budget - c.len.result) line.items c.refill.new.self c.in-Some.ended c.take_line.new.self c.take_line.new.line.items room within takes
 
 pub pieces-smaller : goal.pieces-smaller
@@ -50,7 +50,7 @@ pieces-smaller g c =
     let line = c.pieces.line in
     let room : c.args.budget - c.len.result ≡ c.args.budget - length line.items = omega (arith, line.ok.0, c.len.ensures) in
     let within : length line.items ≤ c.args.budget = omega (arith, line.ok.0, c.pieces.invariant.room) in
-    let takes = subst (λ (ended : Option Ended). Takes (c.args.budget - c.len.result) c.refill.new.self line.items (Ok ended) c.take_line.new.self c.take_line.new.line.items) c.in_default.is c.in_ok-ended.ensures in
+    let takes = subst (λ (ended : Option Ended). TakesLine (c.args.budget - c.len.result) c.refill.new.self line.items (Ok ended) c.take_line.new.self c.take_line.new.line.items) c.in_default.is c.in_ok-ended.ensures in
     let taken = taken_length c.args.budget (c.args.budget - c.len.result) line.items c.refill.new.self c.take_line.new.self c.take_line.new.line.items room within takes in
     let some : 0 < length c.refill.new.self = c.in_ok-refill.ensures.held.0 c.if-branch.true in
     omega (arith, taken.0, taken.1, line.ok.0, c.take_line.new.line.ok.0)
@@ -63,7 +63,7 @@ pieces-preserved g c =
     let within : length line.items ≤ c.args.budget = omega (arith, line.ok.0, c.pieces.invariant.room) in
     let read = subst (λ (some : Bool). Refills c.pieces.self (left c.pieces.source) (Ok some) c.refill.new.self (left c.refill.new.source)) c.if-branch.true c.in_ok-refill.ensures.told in
     let begun = begun_refilled c.args.budget c.args.self.now (left c.args.source.now) line.items c.pieces.self (left c.pieces.source) c.refill.new.self (left c.refill.new.source) c.pieces.invariant.told read in
-    let takes = subst (λ (ended : Option Ended). Takes (c.args.budget - c.len.result) c.refill.new.self line.items (Ok ended) c.take_line.new.self c.take_line.new.line.items) c.in_default.is c.in_ok-ended.ensures in
+    let takes = subst (λ (ended : Option Ended). TakesLine (c.args.budget - c.len.result) c.refill.new.self line.items (Ok ended) c.take_line.new.self c.take_line.new.line.items) c.in_default.is c.in_ok-ended.ensures in
     let taken = taken_length c.args.budget (c.args.budget - c.len.result) line.items c.refill.new.self c.take_line.new.self c.take_line.new.line.items room within takes in
     record {
       room = omega (arith, taken.0, c.take_line.new.line.ok.0);
