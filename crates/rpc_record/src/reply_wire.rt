@@ -12,7 +12,7 @@ use crate::auth::{AUTH_NONE, Auth};
 use crate::call_wire::rest;
 use crate::reply::{Reply, ReplyBody};
 use crate::status::{AcceptStat, RejectStat, Status};
-use ff_xdr::{Cursor, Message, NoMemory, Out, Wire, XdrError, XdrWhy};
+use ff_xdr::{Cursor, Message, NoMemory, Out, Wire, XdrError};
 
 impl Message for AcceptStat {
     ghost form = { accept_stat };
@@ -29,8 +29,7 @@ impl<'a> Wire<'a> for AcceptStat {
             0 => AcceptStat::Success,
             1 => AcceptStat::ProgUnavail,
             2 => {
-                let low = fork.number32()?;
-                let high = fork.number32()?;
+                let (low, high) = <(u32, u32)>::read(&mut fork)?;
                 AcceptStat::ProgMismatch { low, high }
             }
             3 => AcceptStat::ProcUnavail,
@@ -44,42 +43,18 @@ impl<'a> Wire<'a> for AcceptStat {
 
     fn put(&self, out: &mut Out) -> Result<(), NoMemory> {
         match self {
-            AcceptStat::Success => {
-                out.number32(0)?;
-                Ok(())
-            }
-            AcceptStat::ProgUnavail => {
-                out.number32(1)?;
-                Ok(())
-            }
-            AcceptStat::ProgMismatch { low, high } => {
-                out.number32(2)?;
-                out.number32(*low)?;
-                out.number32(*high)?;
-                Ok(())
-            }
-            AcceptStat::ProcUnavail => {
-                out.number32(3)?;
-                Ok(())
-            }
-            AcceptStat::GarbageArgs => {
-                out.number32(4)?;
-                Ok(())
-            }
-            AcceptStat::SystemErr => {
-                out.number32(5)?;
-                Ok(())
-            }
+            AcceptStat::Success => 0u32.put(out),
+            AcceptStat::ProgUnavail => 1u32.put(out),
+            AcceptStat::ProgMismatch { low, high } => (2u32, *low, *high).put(out),
+            AcceptStat::ProcUnavail => 3u32.put(out),
+            AcceptStat::GarbageArgs => 4u32.put(out),
+            AcceptStat::SystemErr => 5u32.put(out),
         }
     }
 
     fn fits(&self) -> bool {
         match self {
-            AcceptStat::ProgMismatch { low, high } => {
-                let _low = *low;
-                let _high = *high;
-                true
-            }
+            AcceptStat::ProgMismatch { low, high } => (*low, *high).fits(),
             AcceptStat::Success => true,
             AcceptStat::ProgUnavail => true,
             AcceptStat::ProcUnavail => true,
@@ -102,14 +77,10 @@ impl<'a> Wire<'a> for RejectStat {
         let mut fork = cursor.fork();
         let stat = match fork.number32()? {
             0 => {
-                let low = fork.number32()?;
-                let high = fork.number32()?;
+                let (low, high) = <(u32, u32)>::read(&mut fork)?;
                 RejectStat::RpcMismatch { low, high }
             }
-            1 => {
-                let stat = fork.number32()?;
-                RejectStat::AuthError(stat)
-            }
+            1 => RejectStat::AuthError(fork.number32()?),
             _ => return Err(XdrError::not_enum(cursor.place())),
         };
         *cursor = fork;
@@ -118,31 +89,15 @@ impl<'a> Wire<'a> for RejectStat {
 
     fn put(&self, out: &mut Out) -> Result<(), NoMemory> {
         match self {
-            RejectStat::RpcMismatch { low, high } => {
-                out.number32(0)?;
-                out.number32(*low)?;
-                out.number32(*high)?;
-                Ok(())
-            }
-            RejectStat::AuthError(stat) => {
-                out.number32(1)?;
-                out.number32(*stat)?;
-                Ok(())
-            }
+            RejectStat::RpcMismatch { low, high } => (0u32, *low, *high).put(out),
+            RejectStat::AuthError(stat) => (1u32, *stat).put(out),
         }
     }
 
     fn fits(&self) -> bool {
         match self {
-            RejectStat::RpcMismatch { low, high } => {
-                let _low = *low;
-                let _high = *high;
-                true
-            }
-            RejectStat::AuthError(stat) => {
-                let _stat = *stat;
-                true
-            }
+            RejectStat::RpcMismatch { low, high } => (*low, *high).fits(),
+            RejectStat::AuthError(stat) => stat.fits(),
         }
     }
 }
@@ -160,14 +115,10 @@ impl<'a> Wire<'a> for Status<'a> {
         let mut fork = cursor.fork();
         let status = match fork.number32()? {
             0 => {
-                let verf = Auth::read(&mut fork)?;
-                let stat = AcceptStat::read(&mut fork)?;
+                let (verf, stat) = <(Auth<'a>, AcceptStat)>::read(&mut fork)?;
                 Status::Accepted(verf, stat)
             }
-            1 => {
-                let stat = RejectStat::read(&mut fork)?;
-                Status::Denied(stat)
-            }
+            1 => Status::Denied(RejectStat::read(&mut fork)?),
             _ => return Err(XdrError::not_enum(cursor.place())),
         };
         *cursor = fork;
@@ -176,23 +127,14 @@ impl<'a> Wire<'a> for Status<'a> {
 
     fn put(&self, out: &mut Out) -> Result<(), NoMemory> {
         match self {
-            Status::Accepted(verf, stat) => {
-                out.number32(0)?;
-                verf.put(out)?;
-                stat.put(out)?;
-                Ok(())
-            }
-            Status::Denied(stat) => {
-                out.number32(1)?;
-                stat.put(out)?;
-                Ok(())
-            }
+            Status::Accepted(verf, stat) => (0u32, *verf, *stat).put(out),
+            Status::Denied(stat) => (1u32, *stat).put(out),
         }
     }
 
     fn fits(&self) -> bool {
         match self {
-            Status::Accepted(verf, stat) => verf.fits() && stat.fits(),
+            Status::Accepted(verf, stat) => (*verf, *stat).fits(),
             Status::Denied(stat) => stat.fits(),
         }
     }
@@ -299,6 +241,7 @@ impl<'a> Reply<'a> {
     pub fn fits(&self) -> bool
         ensures { IsTrue result ↔ ReplyFits (rpc_reply self.now) }
     {
+        // the number is looked at, so that the check knows that it fits a word
         let _xid = self.xid;
         if !status_of(self.verf, self.body).fits() {
             return false;
