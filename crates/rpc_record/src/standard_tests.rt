@@ -1,5 +1,8 @@
 //! Sources and sinks over readers and writers that fail.
 
+ghost use Rattle.std.specs.Prelude.{◌≤◌};
+ghost use Rattle.std.specs.Result.{IfOk};
+
 use crate::{Failed, Sink, Source, StdSink, StdSource};
 use std::io::{self, ErrorKind, Read, Write};
 use std::test::Fail;
@@ -19,7 +22,9 @@ struct Answers<'a> {
 }
 
 impl Answers<'_> {
-    fn next(&mut self, room: usize) -> io::Result<usize> {
+    fn next(&mut self, room: usize) -> io::Result<usize>
+        ensures { IfOk result (λ n. n ≤ room) }
+    {
         let Some((first, rest)) = self.rest.split_first() else {
             return Err(ErrorKind::BrokenPipe.into());
         };
