@@ -1,7 +1,7 @@
 -- Refusals of a union whose number is known from outside.
 use Rattle.std.proofs.Common.{◌≡◌, ℕ, ◌-◌, ◌≤◌, true, ◌||◌, eqb, List, [], length, Err, refl, sym, append-nil, inl, inr}
 use Rattle.std.specs.Prelude.{IsTrue}
-use Rattle.std.proofs.lemmas.Bool.{and_parts, or_cases, eqb-true, eq-eqb, both_ways, false≢true}
+use Rattle.std.proofs.lemmas.Bool.{and_parts, eqb-true, eq-eqb, false≢true}
 use Rattle.ff_xdr.specs.declared.error.XdrError.{XdrError}
 use Rattle.ff_xdr.specs.declared.error.XdrWhy.TheVariants.{Short}
 use Rattle.ff_xdr.specs.Form.{Form, Arm, NoArm, Value, Fits, spelling, is_sound, arm_spelling, arm_of, has_arm}
@@ -9,7 +9,7 @@ use Rattle.ff_xdr.specs.Laws.{IsBytes, is_end, is_filled, is_union}
 use Rattle.ff_xdr.specs.Reading.{reading, arm_reading}
 use Rattle.ff_xdr.specs.Faults.{IsItemAt, IsItemOfArm, EndsInArm, IsArmNamedRight, IsArmShortJustWhere}
 use Rattle.ff_xdr.proofs.Again.{sound_case}
-use Rattle.ff_xdr.proofs.FirstFault.{case_err, no_arm_at_end}
+use Rattle.ff_xdr.proofs.FirstFault.{case_err, arm_of_others}
 use Rattle.ff_xdr.proofs.Arms.{arm_apart}
 use Rattle.ff_xdr.proofs.Stopped.{Stopped, stopped_first}
 use Rattle.ff_xdr.proofs.StoppedForms.{stopped_in}
@@ -32,17 +32,10 @@ arm_stopped (Arm number body others) sound filled union n has bytes fits at e le
           (λ v. arm_spelling (Arm number body others) v) (λ v. Fits (Arm number body others) v × (arm_of (Arm number body others) v ≡ n)) (λ v k item. IsItemOfArm (Arm number body others) v k item) (λ v. inl v) bytes at e (λ v. [])
           (λ v fit. (fit, sym (eqb-true n number h.0))) (λ v fit. sym (append-nil (spelling body v))) (λ v k item there. there) (stopped_in body sounds.2 both.0 bytes fits at e le h.1)
       | inr h ↦
-          let more : IsTrue (has_arm n others) = elim (or_cases (eqb n number) (has_arm n others) has) [
-            | inl here ↦ absurd (both_ways (eqb n number) h.0 here)
-            | inr there ↦ there
-          ] in
-          let rest : IsTrue (is_filled others) = elim (or_cases (is_end others) (is_filled others) both.1) [
-            | inl end ↦ absurd (no_arm_at_end others n end more)
-            | inr there ↦ there
-          ] in
+          let rest = arm_of_others number n others h.0 has both.1 in
           stopped_first (λ v. arm_spelling others v) (λ v. Fits others v × (arm_of others v ≡ n)) (λ v k item. IsItemOfArm others v k item)
           (λ v. arm_spelling (Arm number body others) v) (λ v. Fits (Arm number body others) v × (arm_of (Arm number body others) v ≡ n)) (λ v k item. IsItemOfArm (Arm number body others) v k item) (λ v. inr v) bytes at e (λ v. [])
-          (λ v fit. fit) (λ v fit. sym (append-nil (arm_spelling others v))) (λ v k item there. there) (arm_stopped others sounds.3 rest union n more bytes fits at e le h.1)
+          (λ v fit. fit) (λ v fit. sym (append-nil (arm_spelling others v))) (λ v k item there. there) (arm_stopped others sounds.3 rest.1 union n rest.0 bytes fits at e le h.1)
     ]
 arm_stopped NoArm sound filled union n has bytes fits at e le is = absurd (false≢true has)
 arm_stopped _ sound filled union n has bytes fits at e le is = absurd (false≢true union)

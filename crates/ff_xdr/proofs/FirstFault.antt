@@ -218,9 +218,22 @@ first_whole_fault form sound filled = λ bytes at e fits le is other. elim (whol
 abbrev IsArmBegun : Form → ℕ → List ℕ → ℕ → ℕ → Type 0
 IsArmBegun form n bytes at place = Begun (λ v. arm_spelling form v) (λ v. Fits form v × (arm_of form v ≡ n)) bytes at place
 
-pub no_arm_at_end : (form : Form) (n : ℕ) → is_end form ≡ true → has_arm n form ≡ true → ⊥
+no_arm_at_end : (form : Form) (n : ℕ) → is_end form ≡ true → has_arm n form ≡ true → ⊥
 no_arm_at_end NoArm n end has = false≢true has
 no_arm_at_end _ n end has = false≢true end
+
+-- a number that is not the first arm's has its arm among the others, and they have values
+pub arm_of_others : (number n : ℕ) (others : Form) → eqb n number ≡ false → IsTrue (eqb n number || has_arm n others) → IsTrue (is_end others || is_filled others) → IsTrue (has_arm n others) × IsTrue (is_filled others)
+arm_of_others number n others other has filled =
+    let more : IsTrue (has_arm n others) = elim (or_cases (eqb n number) (has_arm n others) has) [
+      | inl here ↦ absurd (both_ways (eqb n number) other here)
+      | inr there ↦ there
+    ] in
+    let rest : IsTrue (is_filled others) = elim (or_cases (is_end others) (is_filled others) filled) [
+      | inl end ↦ absurd (no_arm_at_end others n end more)
+      | inr there ↦ there
+    ] in
+    (more, rest)
 
 arm_begun : (form : Form) → IsTrue (is_sound form) → IsTrue (is_filled form) → IsTrue (is_union form) → (n : ℕ) → IsTrue (has_arm n form) → (bytes : List ℕ) → IsBytes bytes → (at : ℕ) (e : XdrError) → at ≤ length bytes
     → arm_reading form n bytes at ≡ Err e → ¬ (e.why ≡ Short) → IsArmBegun form n bytes at e.place
@@ -232,16 +245,9 @@ arm_begun (Arm number body others) sound filled union n has bytes fits at e le i
           begun_second (λ v. spelling body v) (λ v. Fits body v) (λ v. arm_spelling (Arm number body others) v) (λ v. Fits (Arm number body others) v × (arm_of (Arm number body others) v ≡ n)) (λ v. inl v) bytes at e.place [] at (stands_nothing bytes at le)
           (λ v fit. (fit, sym (eqb-true n number h.0))) (λ v fit. refl) (begun_in body sounds.2 both.0 bytes fits at e le h.1 other)
       | inr h ↦
-          let more : IsTrue (has_arm n others) = elim (or_cases (eqb n number) (has_arm n others) has) [
-            | inl here ↦ absurd (both_ways (eqb n number) h.0 here)
-            | inr there ↦ there
-          ] in
-          let rest : IsTrue (is_filled others) = elim (or_cases (is_end others) (is_filled others) both.1) [
-            | inl end ↦ absurd (no_arm_at_end others n end more)
-            | inr there ↦ there
-          ] in
+          let rest = arm_of_others number n others h.0 has both.1 in
           begun_second (λ v. arm_spelling others v) (λ v. Fits others v × (arm_of others v ≡ n)) (λ v. arm_spelling (Arm number body others) v) (λ v. Fits (Arm number body others) v × (arm_of (Arm number body others) v ≡ n)) (λ v. inr v) bytes at e.place [] at (stands_nothing bytes at le)
-          (λ v fit. fit) (λ v fit. refl) (arm_begun others sounds.3 rest union n more bytes fits at e le h.1 other)
+          (λ v fit. fit) (λ v fit. refl) (arm_begun others sounds.3 rest.1 union n rest.0 bytes fits at e le h.1 other)
     ]
 arm_begun NoArm sound filled union n has bytes fits at e le is other = absurd (false≢true has)
 arm_begun _ sound filled union n has bytes fits at e le is other = absurd (false≢true union)

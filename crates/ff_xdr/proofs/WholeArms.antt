@@ -1,14 +1,13 @@
 -- The laws of a union whose number is known from outside, with nothing behind it.
-use Rattle.std.proofs.Common.{◌≡◌, ℕ, ◌+◌, ◌-◌, ◌≤◌, ◌<◌, Bool, true, false, cond, eqb, ltb, List, [], length, take, Result, Ok, Err, refl, sym, ap, subst, ◌∙◌, append-nil, arith, inl, inr}
+use Rattle.std.proofs.Common.{◌≡◌, ℕ, ◌+◌, ◌-◌, ◌≤◌, ◌<◌, Bool, true, false, cond, ltb, List, [], length, take, Result, Ok, Err, refl, sym, ap, subst, ◌∙◌, append-nil, arith, inl, inr}
 use Rattle.std.specs.Prelude.{IsTrue}
-use Rattle.std.proofs.lemmas.Bool.{false≢true, ltb-false, le-ltb, lt-ltb}
+use Rattle.std.proofs.lemmas.Bool.{ltb-false, le-ltb, lt-ltb}
 use Rattle.std.proofs.lemmas.List.{take_all}
 use Rattle.ff_xdr.specs.declared.error.XdrError.{XdrError}
 use Rattle.ff_xdr.specs.declared.error.XdrWhy.TheVariants.{Rest}
-use Rattle.ff_xdr.specs.Form.{Form, Arm, NoArm, Value, is_sound, arm_spelling, arm_of}
+use Rattle.ff_xdr.specs.Form.{Form, Value, is_sound, arm_spelling, arm_of}
 use Rattle.ff_xdr.specs.Laws.{is_union, behind, EndsShort, StopsThere, IsArmReadAgain, IsArmSpelledSo, IsArmShortAtEnd, IsArmRefusedThere, IsFirstArmFault}
-use Rattle.ff_xdr.specs.Reading.{Read, ◌>>=◌, reading, arm_reading, whole}
-use Rattle.ff_xdr.proofs.Again.{sound_case}
+use Rattle.ff_xdr.specs.Reading.{Read, ◌>>=◌, arm_reading, whole}
 use Rattle.ff_xdr.proofs.Places.{done, ok_is}
 use Rattle.ff_xdr.proofs.Refusals.{whole_cases, not_both}
 use Rattle.ff_xdr.proofs.ArmRefusals.{arm_seen}

@@ -1,8 +1,8 @@
 -- Forms that RFC 4506 knows and that have values.
-use Rattle.std.specs.Prelude.{◌≡◌, ℕ, ◌-◌, ◌^◌, ◌≤◌, Bool, true, false, ◌&&◌, nat_lt, min, IsTrue, refl}
-use Rattle.std.proofs.Common.{arith, subst, sym, ap, ◌∙◌}
+use Rattle.std.specs.Prelude.{ℕ, ◌-◌, ◌^◌, Bool, true, false, ◌&&◌, nat_lt, min, IsTrue, refl}
+use Rattle.std.proofs.Common.{arith}
 use Rattle.std.proofs.lemmas.Bool.{and_parts, lt-ltb}
-use Rattle.ff_xdr.specs.Form.{Form, Opaque, Text, Optional, Pair, Array, Arm, is_sound, avoids}
+use Rattle.ff_xdr.specs.Form.{Form, Opaque, Text, Optional, Pair, Array, is_sound}
 use Rattle.ff_xdr.specs.Laws.{is_filled}
 
 -- the form is sound, and each part of it has a value

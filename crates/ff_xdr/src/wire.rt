@@ -75,6 +75,7 @@ impl<'a> Wire<'a> for u32 {
     }
 
     fn fits(&self) -> bool {
+        // read, so that the proof knows that the number is in its range
         let _n = *self;
         true
     }
@@ -99,6 +100,7 @@ impl<'a> Wire<'a> for u64 {
     }
 
     fn fits(&self) -> bool {
+        // read, so that the proof knows that the number is in its range
         let _n = *self;
         true
     }
@@ -123,6 +125,7 @@ impl<'a> Wire<'a> for i64 {
     }
 
     fn fits(&self) -> bool {
+        // read, so that the proof knows that the number is in its range
         let _z = *self;
         true
     }
