@@ -2,3 +2,8 @@ pub mod Placing
 pub mod Files
 pub mod Moments
 pub mod MirrorLists
+pub mod Elements
+pub mod Servers
+pub mod ServerRestarts
+pub mod Permitted
+pub mod Runs

@@ -1,10 +1,9 @@
 -- The order of moments, and the times of a file.
-use Rattle.std.proofs.Common.{true, false, List, [], ◌∷◌, refl, arith, inl, inr}
-use Rattle.std.specs.List.{AllByRecursion}
+use Rattle.std.proofs.Common.{true, false, [], ◌∷◌, refl, arith, inl, inr}
 use Rattle.cluster_model.specs.declared.tick.Tick.{Tick}
 use Rattle.cluster_model.specs.declared.change.Changes.{Changes}
-use Rattle.cluster_model.specs.Ticks.{IsBefore, IsUpTo, next_tick, rebooted, Turn, Takes, Restarts, given, IsRising}
-use Rattle.cluster_model.specs.File.{FileState, FileOp, Writes, Commits, Sets, Restarts as RestartsWith}
+use Rattle.cluster_model.specs.Ticks.{IsBefore, IsUpTo, next_tick, rebooted}
+use Rattle.cluster_model.specs.File.{FileState, FileOp, Writes, Commits, Sets, Restarts}
 use Rattle.cluster_model.specs.Laws.{IsClocked, KeepsTimes, PassesGuards}
 
 pub up_to_same : (a : Tick) → IsUpTo a a
@@ -32,20 +31,6 @@ next_before t = inr (refl, omega arith)
 pub reboot_before : (t : Tick) → IsBefore t (rebooted t)
 reboot_before t = inl (omega arith)
 
--- all that are given are after the last that was
-given_after : (first last : Tick) (turns : List Turn) → IsUpTo first last → AllByRecursion (λ u. IsBefore first u) (given last turns)
-given_after first last [] h = tt
-given_after first last (Takes ∷ turns) h =
-    let here = up_to_before first last (next_tick last) h (next_before last) in
-    (here, given_after first (next_tick last) turns (before_up_to first (next_tick last) here))
-given_after first last (Restarts ∷ turns) h =
-    given_after first (rebooted last) turns (before_up_to first (rebooted last) (up_to_before first last (rebooted last) h (reboot_before last)))
-
-pub rising : (last : Tick) (turns : List Turn) → IsRising (given last turns)
-rising last [] = tt
-rising last (Takes ∷ turns) = (given_after (next_tick last) (next_tick last) turns (up_to_same (next_tick last)), rising (next_tick last) turns)
-rising last (Restarts ∷ turns) = rising (rebooted last) turns
-
 pub passes : (f : FileState) (clock : Tick) (c : Changes) → PassesGuards f clock c
 passes f clock c guard h = up_to_before guard clock (next_tick clock) h (next_before clock)
 
@@ -66,6 +51,6 @@ keeps_times f clock Commits k = record { clocked = record { stable = up_to_same 
 keeps_times f clock (Sets c) k =
     let next : IsUpTo clock (next_tick clock) = before_up_to clock (next_tick clock) (next_before clock) in
     record { clocked = record { stable = up_to_same (next_tick clock); shown = up_to_same (next_tick clock) }; rises = up_to_up_to f.stable_times.ctime clock (next_tick clock) (stable_up_to f clock k) next; ticks = next }
-keeps_times f clock (RestartsWith pieces) k =
+keeps_times f clock (Restarts pieces) k =
     let next : IsUpTo clock (rebooted clock) = before_up_to clock (rebooted clock) (reboot_before clock) in
     record { clocked = record { stable = up_to_same f.stable_times.ctime; shown = up_to_up_to f.stable_times.ctime clock (rebooted clock) (stable_up_to f clock k) next }; rises = up_to_same f.stable_times.ctime; ticks = next }

@@ -1,9 +1,12 @@
 pub mod Ticks
 pub mod Content
 pub mod File
+pub mod Server
+pub mod DsCalls
 pub mod Journal
 pub mod Mirrors
 pub mod Laws
+pub mod ServerLaws
 pub mod Print
 pub mod Prints
 pub mod Event

@@ -18,17 +18,6 @@ next_tick t = record { boot = t.boot; count = t.count + 1 }
 abbrev pub rebooted : Tick → Tick
 rebooted t = record { boot = t.boot + 1; count = 0 }
 
--- what happens to a server's clock
-pub data Turn : Type 0 where
-  Takes : Turn
-  Restarts : Turn
-
--- the ticks that are given
-abbrev pub given : Tick → List Turn → List Tick
-given t [] = []
-given t (Takes ∷ turns) = next_tick t ∷ given (next_tick t) turns
-given t (Restarts ∷ turns) = given (rebooted t) turns
-
 -- each is before all that come after it
 abbrev pub IsRising : List Tick → Type 0
 IsRising [] = Unit {0}

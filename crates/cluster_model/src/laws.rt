@@ -4,15 +4,9 @@
 ghost use Rattle.std.specs.Prelude.{◌≡◌, ℕ, Bool, List};
 ghost use Rattle.cluster_model.specs.declared.tick.Tick.{Tick};
 ghost use Rattle.cluster_model.specs.declared.change.Changes.{Changes};
-ghost use Rattle.cluster_model.specs.Ticks.{Turn, given, IsRising};
 ghost use Rattle.cluster_model.specs.Content.{overlay};
 ghost use Rattle.cluster_model.specs.File.{FileState, FileOp, shown, written};
 ghost use Rattle.cluster_model.specs.Laws.{IsClocked, KeepsTimes, PassesGuards, IsCommitted, IsWritten, AreDisjoint, Commute, StandsAt};
-
-/// Each tick that a server gives is after all that it gave before, over restarts too.
-pub fn ticks()
-    ensures { (last : Tick) (turns : List Turn) → IsRising (given last turns) }
-{}
 
 /// The ctime that a restart leaves never falls, and never passes the one that is shown, which never
 /// passes the last tick.

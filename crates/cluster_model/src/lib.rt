@@ -3,6 +3,7 @@
 #![tactic(auto)]
 
 mod change;
+mod ds_call;
 mod entry;
 mod ids;
 mod laws;
@@ -11,13 +12,16 @@ mod mirrors;
 mod mirrors_tests;
 mod outbox;
 mod piece;
+mod server_laws;
 mod tick;
 
 pub use change::{Changes, NewTime};
+pub use ds_call::{DsCall, DsReply, Shown};
 pub use entry::Entry;
 pub use ids::{Cred, FileId, Mirror, MirrorId, NodeId};
-pub use laws::{commits, guards, overlays, stable_times, ticks, writes};
+pub use laws::{commits, guards, overlays, stable_times, writes};
 pub use mirrors::Mirrors;
 pub use outbox::Outbox;
 pub use piece::{Piece, Pieces};
+pub use server_laws::{server_effects, server_restarts, server_runs};
 pub use tick::{Tick, Times};
