@@ -1,5 +1,8 @@
 //! When something happened to an object of a data server.
 
+ghost use Rattle.std.specs.Prelude.{◌≡◌, ◌<◌, ◌-◌, ◌^◌};
+ghost use Rattle.cluster_model.specs.Ticks.{next_tick};
+
 /// A moment of a data server: the boot number, and the count of changes since that boot. The boot is
 /// compared first.
 #[derive(Clone, Copy, Debug, PartialEq, Eq)]
@@ -15,4 +18,17 @@ pub struct Times {
     pub atime: Tick,
     pub mtime: Tick,
     pub ctime: Tick,
+}
+
+impl Tick {
+    /// The tick that the next change takes.
+    pub fn next(self) -> Tick
+        requires { self.count < 2 ^ 32 - 1 }
+        ensures { result ≡ next_tick self }
+    {
+        Tick {
+            boot: self.boot,
+            count: self.count + 1,
+        }
+    }
 }

@@ -12,8 +12,8 @@ use Rattle.cluster_model.specs.File.{FileState, shown}
 use Rattle.cluster_model.proofs.Placing.{length-overlay-ge}
 use Rattle.data_file.specs.Kept.{crashed}
 use Rattle.ds_files.specs.Kept.{disk_of, AreBounded, AreKept, KeepsPiece, IsOf, all_crashed}
-use Rattle.ds_files.proofs.Objects.{slice_get-set_other}
-use Rattle.ds_files.proofs.Kept.{slice_get-set_same}
+use Rattle.cluster_model.proofs.Elements.{slice_get-set_other}
+use Rattle.cluster_model.proofs.Elements.{slice_get-set_same}
 
 -- ---- nothing is kept yet
 

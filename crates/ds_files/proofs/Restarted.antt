@@ -8,8 +8,8 @@ use Rattle.cluster_model.specs.File.{FileState, shown}
 use Rattle.data_file.specs.Kept.{crashed}
 use Rattle.ds_files.specs.declared.head.Head.{Head}
 use Rattle.ds_files.specs.Heads.{IsServer}
-use Rattle.ds_files.specs.Server.{total_size}
-use Rattle.ds_files.specs.Restart.{files_restarted}
+use Rattle.cluster_model.specs.Server.{total_size}
+use Rattle.cluster_model.specs.Server.{files_restarted}
 use Rattle.ds_files.specs.Kept.{disk_of, AreBounded, AreKept, all_crashed}
 use Rattle.ds_files.proofs.Keeping.{length-all_crashed}
 

@@ -1,26 +1,28 @@
 -- The laws of a data server's rule.
-use Rattle.std.specs.Prelude.{◌≡◌, ◌≢◌, ℕ, ◌+◌, ◌≤◌, true, List, [], ◌∷◌, ◌++◌, length, Some, slice_get, ◌⊎◌}
+use Rattle.std.specs.Prelude.{◌≡◌, ℕ, false, List, [], ◌∷◌, ◌++◌, length, Some, None, slice_get, ◌==◌, if◌then◌else◌}
+use Rattle.std.specs.Option.{option_map}
 use Rattle.rpc_record.specs.Rpc.{Credential}
+use Rattle.nfs3_wire.specs.declared.stable_how.StableHow.{StableHow}
+use Rattle.nfs3_wire.specs.declared.attributes.Time3.{Time3}
+use Rattle.nfs3_wire.specs.declared.sattr.Sattr3.{Sattr3}
+use Rattle.nfs3_wire.specs.declared.create.CreateHow.{CreateHow}
 use Rattle.nfs3_wire.specs.Calls.{Nfs3Call}
 use Rattle.nfs3_wire.specs.Calls as calls
 use Rattle.nfs3_wire.specs.Replies.{Nfs3Reply}
 use Rattle.nfs3_wire.specs.Replies as replies
+use Rattle.std.specs.Prelude.{Option}
 use Rattle.cluster_model.specs.declared.piece.Piece.{Piece}
-use Rattle.cluster_model.specs.declared.ids.MirrorId.{MirrorId}
-use Rattle.cluster_model.specs.declared.entry.Entry.{Entry}
-use Rattle.cluster_model.specs.declared.entry.Entry.TheVariants.{Committed, Owner, Restarted}
-use Rattle.cluster_model.specs.Ticks.{IsBefore}
-use Rattle.cluster_model.specs.File.{FileState, FileOp, Writes, Commits, Sets, Restarts, file_after, clock_after, new_file}
-use Rattle.cluster_model.specs.Journal.{Copy, no_copy, copy_by}
-use Rattle.cluster_model.specs.Laws.{IsClocked}
-use Rattle.ds_files.specs.Server.{ServerState, may_write, max_ticks, clock, next_tick}
-use Rattle.ds_files.specs.Steps.{Step, step_of, with_file, mirror_of, root_after, applied_entries, committed_entries, owner_entries}
+use Rattle.cluster_model.specs.Ticks.{IsRising}
+use Rattle.cluster_model.specs.File.{FileState, Writes, Commits, Sets}
+use Rattle.cluster_model.specs.Journal.{content_of}
+use Rattle.cluster_model.specs.Server.{ServerState, new_server, differs, index_of, max_boot, mirror_of, Effect, NoEffect, OnFile, NewFile}
+use Rattle.cluster_model.specs.ServerLaws.{copy_of, Turn, Does, StartsAgain, run_after, run_entries, run_ticks, AreAllowed}
+use Rattle.ds_files.specs.Objects.{Root, File, object_of, caller_of}
+use Rattle.ds_files.specs.Write.{is_synced}
+use Rattle.ds_files.specs.Setattr.{changes_of, tick_of}
+use Rattle.ds_files.specs.Plans.{Step}
+use Rattle.ds_files.specs.Steps.{plan_of, step_of}
 use Rattle.ds_files.specs.Receive.{Received, Silent, Refused, Asked}
-
--- the file at an index stays as it is when one calls who is neither uid 0 nor its owner
-abbrev pub IsSafeFromStrangers : ServerState → Nfs3Call → Credential → ℕ → FileState → Type 0
-IsSafeFromStrangers s call cred index f =
-    slice_get s.files index ≡ Some f → cred.uid ≢ 0 → cred.uid ≢ f.owner → slice_get (step_of s call cred).server.files index ≡ Some f
 
 -- a call is refused
 abbrev pub IsRefusal : Nfs3Reply → Type 0
@@ -53,68 +55,39 @@ IsTurnedAway s Silent = Unit {0}
 IsTurnedAway s (Refused reply) = Unit {0}
 IsTurnedAway s (Asked xid call cred) = IsRefusal (step_of s call cred).reply
 
--- ---- what a step does: nothing, one thing to one file, or a new file
+-- ---- what is done is what the call asks for
 
--- the entries of what is done to a mirror for a user
-abbrev pub op_entries : MirrorId → ℕ → FileOp → List Entry
-op_entries m uid (Writes at synced bytes) = applied_entries m uid at bytes ++ committed_entries m synced
-op_entries m uid Commits = Committed m ∷ []
-op_entries m uid (Sets c) = owner_entries m c.owner
-op_entries m uid (Restarts pieces) = []
+-- nothing; bytes put into the file that the handle names, as many as the call says; all of it made stable; attributes set, where the
+-- guard, if there is one, is the ctime; or a file made in the root under a name that none has
+pub data IsAsked (s : ServerState) : Nfs3Call → Effect → Type 0 where
+  AsksNothing : (call : Nfs3Call) → IsAsked s call NoEffect
+  AsksWrite : (handle : List ℕ) (index : ℕ) (f : FileState) (offset count : ℕ) (how : StableHow) (bytes : List ℕ) → object_of s.files handle ≡ File index f → count ≡ length bytes
+      → IsAsked s (calls.Write handle offset count how bytes) (OnFile index (Writes offset (is_synced how) bytes))
+  AsksCommit : (handle : List ℕ) (index : ℕ) (f : FileState) (offset count : ℕ) → object_of s.files handle ≡ File index f → IsAsked s (calls.Commit handle offset count) (OnFile index Commits)
+  AsksSet : (handle : List ℕ) (index : ℕ) (f : FileState) (a : Sattr3) (guard : Option Time3) → object_of s.files handle ≡ File index f → differs (option_map tick_of guard) f.times.ctime ≡ false
+      → IsAsked s (calls.SetAttr handle a guard) (OnFile index (Sets (changes_of a)))
+  AsksFile : (handle name : List ℕ) (how : CreateHow) (owner group mode : ℕ) → object_of s.files handle ≡ Root → index_of s.names name ≡ None → IsAsked s (calls.Create handle name how) (NewFile name owner group mode)
 
--- who may do it, and that a tick is left where it takes one
-abbrev pub IsAllowed : ℕ → FileState → Credential → FileOp → Type 0
-IsAllowed count f cred (Writes at synced []) = may_write f cred ≡ true
-IsAllowed count f cred (Writes at synced (b ∷ bytes)) = (may_write f cred ≡ true) × (count ≢ max_ticks)
-IsAllowed count f cred Commits = may_write f cred ≡ true
-IsAllowed count f cred (Sets c) = (cred.uid ≡ 0) × (count ≢ max_ticks)
-IsAllowed count f cred (Restarts pieces) = ⊥
+-- ---- runs of calls and restarts
 
--- the server with one file more
-abbrev pub with_new : ServerState → List ℕ → FileState → ServerState
-with_new s name file = record { number = s.number; boot = s.boot; count = s.count + 1; root = root_after s.root (next_tick s); names = s.names ++ name ∷ []; files = s.files ++ file ∷ [] }
+pub data Happening : Type 0 where
+  Calls : (call : Nfs3Call) (cred : Credential) → Happening
+  Restarts : (pieces : List Piece) → Happening
 
-pub data Effect (s : ServerState) (cred : Credential) (t : Step) : Type 0 where
-  Nothing : t.server ≡ s → t.entries ≡ [] → Effect s cred t
-  Changes : (index : ℕ) (f : FileState) (op : FileOp) → slice_get s.files index ≡ Some f → IsAllowed s.count f cred op
-      → t.server ≡ with_file s index (file_after f (clock s) op) (clock_after (clock s) op).count → t.entries ≡ op_entries (mirror_of s index) cred.uid op → Effect s cred t
-  Makes : (name : List ℕ) (owner group mode : ℕ) → cred.uid ≡ 0 → s.count ≢ max_ticks
-      → t.server ≡ with_new s name (new_file owner group mode (next_tick s)) → t.entries ≡ Owner (mirror_of s (length s.files)) (record { 0 = owner }) ∷ [] → Effect s cred t
+-- what it does to the server; a restart at the last boot does nothing
+abbrev pub turns_by : ServerState → Happening → List Turn
+turns_by s (Calls call cred) = Does (caller_of cred) (plan_of s call (caller_of cred)).effect ∷ []
+turns_by s (Restarts pieces) = if s.clock.boot == max_boot then [] else StartsAgain pieces ∷ []
 
--- ---- moments
+abbrev pub turns_of : ServerState → List Happening → List Turn
+turns_of s [] = []
+turns_of s (h ∷ rest) = turns_by s h ++ turns_of (run_after s (turns_by s h)) rest
 
--- A step takes one tick or none, and never past the last. The server stays the same one in the same boot.
-pub record IsTimed (s : ServerState) (t : Step) : Type 0 where
-  pub number : t.server.number ≡ s.number
-  pub boot : t.server.boot ≡ s.boot
-  pub ticks : (t.server.count ≡ s.count) ⊎ (t.server.count ≡ s.count + 1)
-  pub bounded : s.count ≤ max_ticks → t.server.count ≤ max_ticks
+-- each tick is after all that were given before
+abbrev pub IsTimedRun : ServerState → List Happening → Type 0
+IsTimedRun s run = IsRising (run_ticks s (turns_of s run))
 
--- No file shows a ctime above the last tick, and a restart brings back none above the one that is shown.
-abbrev pub AreClocked : ServerState → Type 0
-AreClocked s = (index : ℕ) (f : FileState) → slice_get s.files index ≡ Some f → IsClocked f (clock s)
-
--- ---- what the journal says of each file
-
-abbrev pub copy_of : FileState → Copy
-copy_of f = record { content = f.content; owner = f.owner }
-
--- the bytes of a file and its owner, before and after, are what the entries of the step make of them
-abbrev pub TellsOld : ServerState → Step → Type 0
-TellsOld s t = (index : ℕ) (f : FileState) → slice_get s.files index ≡ Some f
-    → (g : FileState) × (slice_get t.server.files index ≡ Some g) × (copy_of g ≡ copy_by (mirror_of s index) (copy_of f) t.entries)
-
--- the same of a file that was not there before
-abbrev pub TellsNew : ServerState → Step → Type 0
-TellsNew s t = (index : ℕ) (g : FileState) → length s.files ≤ index → slice_get t.server.files index ≡ Some g → copy_of g ≡ copy_by (mirror_of s index) no_copy t.entries
-
--- ---- restarts
-
--- A restart is in the next boot, before any of its ticks and behind all of those before. Each file keeps its owner, and its
--- bytes are what the entry makes of them.
-pub record IsRestarted (s : ServerState) (pieces : List Piece) (new : ServerState) : Type 0 where
-  pub number : new.number ≡ s.number
-  pub later : IsBefore (clock s) (clock new)
-  pub clocked : AreClocked s → AreClocked new
-  pub tells : (index : ℕ) (f : FileState) → slice_get s.files index ≡ Some f
-      → (g : FileState) × (slice_get new.files index ≡ Some g) × (copy_of g ≡ copy_by (mirror_of s index) (copy_of f) (Restarted s.number pieces ∷ []))
+-- from a new server on the journal tells the bytes and the owner of each file
+abbrev pub IsToldRun : ServerState → List Happening → Type 0
+IsToldRun s run =
+    (index : ℕ) (f : FileState) → slice_get (run_after s (turns_of s run)).files index ≡ Some f → copy_of f ≡ content_of (run_entries s (turns_of s run)) (mirror_of s index)

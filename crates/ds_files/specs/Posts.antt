@@ -2,7 +2,7 @@
 use Rattle.std.specs.Prelude.{◌≡◌, ◌++◌}
 use Rattle.cluster_model.specs.declared.ids.NodeId.{NodeId}
 use Rattle.cluster_model.specs.declared.outbox.Outbox.{Outbox}
-use Rattle.ds_files.specs.Server.{ServerState}
+use Rattle.cluster_model.specs.Server.{ServerState}
 use Rattle.ds_files.specs.Receive.{Outcome}
 use Rattle.ds_files.specs.Records.{sent_to}
 

@@ -11,8 +11,9 @@ use Rattle.rpc_record.specs.Replies as rpc_reply
 use Rattle.nfs3_wire.specs.Calls.{Nfs3Call, calls, call_of}
 use Rattle.nfs3_wire.specs.Replies.{replies, reply_value}
 use Rattle.cluster_model.specs.declared.entry.Entry.{Entry}
-use Rattle.ds_files.specs.Server.{ServerState}
-use Rattle.ds_files.specs.Steps.{Step, step_of}
+use Rattle.cluster_model.specs.Server.{ServerState}
+use Rattle.ds_files.specs.Plans.{Step}
+use Rattle.ds_files.specs.Steps.{step_of}
 
 -- nothing, a refusal, or a call with its credential
 pub data Received : Type 0 where

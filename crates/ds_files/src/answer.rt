@@ -1,94 +1,94 @@
 //! The answer to a call.
 
-ghost use Rattle.std.specs.Prelude.{◌≡◌};
+ghost use Rattle.std.specs.Prelude.{◌≡◌, IfOk};
 ghost use Rattle.ff_xdr.specs.Form.{Fits};
 ghost use Rattle.nfs3_wire.specs.Replies.{replies, reply_value, plain_reply};
-ghost use Rattle.ds_files.specs.Answer.{reply_of};
+ghost use Rattle.ds_files.specs.Answer.{reply_with};
 
-use crate::stored::StoredReply;
+use crate::stored::{StoredReply, lend};
 use cluster_model::Entry;
-use nfs3_wire::{CreateOk, CreateReply, LookupOk, LookupReply, ReadOk, ReadReply, Reply3};
+use ff_xdr::{Data, NoMemory};
+use nfs3_wire::Reply3;
+use std::alloc::Global;
 use std::marker::Model;
+
+/// What a call is answered. The data of a READ are a slice of the file.
+#[derive(Drop)]
+pub struct Response<'s> {
+    reply: StoredReply,
+    bytes: &'s [u8],
+}
+
+impl<'s> Model for Response<'s> {
+    ghost use Rattle.ff_xdr.specs.Form.{Fits};
+    ghost use Rattle.nfs3_wire.specs.Replies.{Nfs3Reply, replies, reply_value};
+    ghost use Rattle.ds_files.specs.Answer.{reply_with};
+
+    ghost Value = { Nfs3Reply };
+
+    ghost view = { λ r. reply_with r.reply r.bytes.now };
+
+    ghost invariant = { λ r. Fits replies (reply_value (reply_with r.reply r.bytes.now)) };
+}
+
+impl<'s> Response<'s> {
+    /// This result, whose READ gave these bytes.
+    pub fn new(reply: StoredReply, bytes: &'s [u8]) -> Response<'s>
+        requires { Fits replies (reply_value (reply_with reply bytes.now)) }
+        ensures { result ≡ reply_with reply bytes.entry.now }
+    {
+        Response { reply, bytes }
+    }
+
+    /// The result; takes no memory.
+    pub fn reply(&self) -> Reply3<'_>
+        ensures same { plain_reply result ≡ self.now }
+        ensures fits { Fits replies (reply_value self.now) }
+    {
+        lend(&self.reply, self.bytes)
+    }
+
+    /// The result and the entries of the step, with bytes of their own.
+    pub fn keep(&self, alloc: Global, entries: Vec<Entry>) -> Result<Answer3, NoMemory>
+        ensures { IfOk result (λ answer. answer ≡ record { reply = self.now; entries = entries.items }) }
+    {
+        let bytes = Data::of(alloc, self.bytes)?;
+        Ok(Answer3 {
+            reply: self.reply,
+            bytes,
+            entries,
+        })
+    }
+}
 
 /// What a data server answers to a call, and the entries of that step.
 #[derive(Debug, Drop)]
 pub struct Answer3 {
     reply: StoredReply,
+    // the data of a READ, and none of another call
+    bytes: Data,
     entries: Vec<Entry>,
 }
 
 impl Model for Answer3 {
     ghost use Rattle.ff_xdr.specs.Form.{Fits};
     ghost use Rattle.nfs3_wire.specs.Replies.{replies, reply_value};
-    ghost use Rattle.ds_files.specs.Answer.{Answer, reply_of};
+    ghost use Rattle.ds_files.specs.Answer.{Answer, reply_with};
 
     ghost Value = { Answer };
 
-    ghost view = { λ a. record { reply = reply_of a.reply; entries = a.entries.items } };
+    ghost view = { λ a. record { reply = reply_with a.reply a.bytes; entries = a.entries.items } };
 
-    ghost invariant = { λ a. Fits replies (reply_value (reply_of a.reply)) };
+    ghost invariant = { λ a. Fits replies (reply_value (reply_with a.reply a.bytes)) };
 }
 
 impl Answer3 {
-    /// The answer with this result and these entries.
-    pub(crate) fn new(reply: StoredReply, entries: Vec<Entry>) -> Answer3
-        requires { Fits replies (reply_value (reply_of reply)) }
-        ensures { result ≡ record { reply = reply_of reply; entries = entries.items } }
-    {
-        Answer3 { reply, entries }
-    }
-
     /// The result; takes no memory.
     pub fn reply(&self) -> Reply3<'_>
         ensures same { plain_reply result ≡ self.now.reply }
         ensures fits { Fits replies (reply_value self.now.reply) }
     {
-        match &self.reply {
-            StoredReply::Null => Reply3::Null,
-            StoredReply::GetAttr(reply) => Reply3::GetAttr(*reply),
-            StoredReply::SetAttr(reply) => Reply3::SetAttr(*reply),
-            StoredReply::LookupDone {
-                file,
-                attributes,
-                directory,
-            } => Reply3::Lookup(LookupReply::Done(LookupOk {
-                file: file.as_slice(),
-                attributes: *attributes,
-                directory: *directory,
-            })),
-            StoredReply::LookupRefused { status, directory } => {
-                Reply3::Lookup(LookupReply::Refused(*status, *directory))
-            }
-            StoredReply::ReadDone {
-                attributes,
-                count,
-                eof,
-                bytes,
-            } => Reply3::Read(ReadReply::Done(ReadOk {
-                attributes: *attributes,
-                count: *count,
-                eof: *eof,
-                bytes: bytes.bytes(),
-            })),
-            StoredReply::ReadRefused { status, attributes } => {
-                Reply3::Read(ReadReply::Refused(*status, *attributes))
-            }
-            StoredReply::Write(reply) => Reply3::Write(*reply),
-            StoredReply::CreateDone {
-                file,
-                attributes,
-                wcc,
-            } => Reply3::Create(CreateReply::Done(CreateOk {
-                file: Some(file.as_slice()),
-                attributes: *attributes,
-                wcc: *wcc,
-            })),
-            StoredReply::CreateRefused { status, wcc } => {
-                Reply3::Create(CreateReply::Refused(*status, *wcc))
-            }
-            StoredReply::FsInfo(reply) => Reply3::FsInfo(*reply),
-            StoredReply::Commit(reply) => Reply3::Commit(*reply),
-        }
+        lend(&self.reply, self.bytes.bytes())
     }
 
     /// The entries of the step, in order; takes no memory.
@@ -96,12 +96,5 @@ impl Answer3 {
         ensures { result.now ≡ self.now.entries }
     {
         self.entries.as_slice()
-    }
-
-    /// The entries of the step, given away.
-    pub(crate) fn into_entries(self) -> Vec<Entry>
-        ensures { result.items ≡ self.entries }
-    {
-        self.entries
     }
 }

@@ -1,15 +1,14 @@
 //! A data server without its files.
 
 use crate::names::Names;
-use cluster_model::Times;
+use cluster_model::{Tick, Times};
 
 /// All of a data server but its files.
 #[derive(Drop)]
 pub struct Head {
     pub number: u32,
-    pub boot: u32,
-    /// The ticks that were given in this boot.
-    pub count: u32,
+    /// The last tick that was given, of count 0 where none was in this boot.
+    pub clock: Tick,
     /// The root's times.
     pub root: Times,
     /// The files' names in the root, in the files' order.

@@ -1,26 +1,30 @@
 //! A data server of NFS version 3 (RFC 1813): its files, and its answer to every record.
 #![tactic(auto)]
 
+mod access;
 mod answer;
-mod committing;
-mod creating;
-mod creation;
+mod attributes;
+mod carry;
+mod commit;
+mod create;
+mod fsinfo;
+mod getattr;
 mod head;
-mod judge;
 mod laws;
-mod looking;
+mod lookup;
 mod names;
 mod object;
-mod post;
-mod reading;
+mod objects;
+mod plan;
+mod read;
 mod receive;
 mod received;
-mod restarting;
-mod rules;
+mod record;
+mod restart;
 mod server;
-mod setting;
+mod setattr;
 mod stored;
-mod writing;
+mod write;
 
 pub use answer::Answer3;
 pub use cluster_model::{Cred, Entry, MirrorId, NodeId, Outbox, Piece, Tick, Times};

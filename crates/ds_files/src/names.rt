@@ -1,7 +1,7 @@
 //! The names of the files in the root.
 
 ghost use Rattle.std.specs.Prelude.{◌≡◌, [], ◌∷◌, ◌++◌, length, None, OnOk, OnErr, IfSome, ◌<◌};
-ghost use Rattle.ds_files.specs.Server.{index_of};
+ghost use Rattle.cluster_model.specs.Server.{index_of};
 
 use ff_xdr::NoMemory;
 use indexmap::IndexSet;

@@ -3,28 +3,34 @@
 ghost use Rattle.std.specs.Prelude.{◌≡◌, ◌≤◌, ◌↔◌, IfOk, OnOk, OnErr, Some, None, Err};
 ghost use Rattle.rpc_record.specs.Rpc.{plain_credential};
 ghost use Rattle.nfs3_wire.specs.Calls.{plain_call};
-ghost use Rattle.ds_files.specs.Server.{new_server, preset_server, max_boot};
-ghost use Rattle.ds_files.specs.Steps.{step_of};
-ghost use Rattle.ds_files.specs.Restart.{restart_of};
-ghost use Rattle.ds_files.specs.Effects.{answer_of};
+ghost use Rattle.cluster_model.specs.Server.{new_server, preset_server, restart_of};
+ghost use Rattle.ds_files.specs.Objects.{caller};
+ghost use Rattle.ds_files.specs.Steps.{plan_of, step_of};
+ghost use Rattle.ds_files.specs.Answer.{answer_of};
+ghost use Rattle.ds_files.specs.Heads.{IsServer, server_of};
+ghost use Rattle.ds_files.specs.CodePlans.{plain_plan, plain_effect, IsReady};
 ghost use Rattle.ds_files.specs.Receive.{received, outcome_of, outcome_of_step};
 ghost use Rattle.ds_files.specs.Laws.{IsRefusal, IsTurnedAway};
 ghost use Rattle.ds_files.specs.Posts.{Acts, IsAsBefore};
 
 use crate::answer::Answer3;
-use crate::committing::{commit_answer, commit_change};
-use crate::creating::{create_answer, create_change};
+use crate::carry::carry_out;
+use crate::commit::commit_plan;
+use crate::create::create_plan;
+use crate::fsinfo::fsinfo_reply;
+use crate::getattr::getattr_reply;
 use crate::head::Head;
-use crate::looking::{fsinfo_answer, getattr_answer, lookup_answer};
+use crate::lookup::lookup_reply;
 use crate::names::Names;
-use crate::post::{encode, post, success, take_back};
-use crate::reading::read_answer;
+use crate::plan::{Plan, answers, entries_of};
+use crate::read::read_plan;
 use crate::receive::receive;
 use crate::received::Received;
-use crate::restarting::restart_server;
-use crate::setting::{set_answer, set_change};
+use crate::record::{encode, post, success, take_back};
+use crate::restart::restart_server;
+use crate::setattr::set_plan;
 use crate::stored::StoredReply;
-use crate::writing::{write_answer, write_change};
+use crate::write::write_plan;
 use cluster_model::{NodeId, Outbox, Piece, Tick, Times};
 use data_file::DataFile;
 use ff_xdr::NoMemory;
@@ -56,6 +62,31 @@ impl From<AllocError> for RestartFault {
     }
 }
 
+/// What a call by a credential comes to. Takes no memory.
+fn plan_of<'s, 'c>(
+    alloc: Global,
+    head: &Head,
+    files: &'s [DataFile],
+    call: &Call3<'c>,
+    cred: &AuthSys<'_>,
+) -> Plan<'s, 'c>
+    requires { IsServer head.now files.now }
+    ensures plan { plain_plan result ≡ plan_of (server_of head.now files.now) (plain_call call.now) (caller cred.now) }
+    ensures ready { IsReady head.now files.now (plain_effect result.effect) }
+{
+    match call {
+        Call3::Null => answers(StoredReply::Null),
+        Call3::GetAttr(args) => answers(getattr_reply(head, files, args)),
+        Call3::SetAttr(args) => set_plan(head, files, args, cred),
+        Call3::Lookup(args) => answers(lookup_reply(head, files, args)),
+        Call3::Read(args) => read_plan(head, files, args, cred),
+        Call3::Write(args) => write_plan(head, files, args, cred),
+        Call3::Create(args) => create_plan(alloc, head, files, args, cred),
+        Call3::FsInfo(args) => answers(fsinfo_reply(head, files, args)),
+        Call3::Commit(args) => commit_plan(head, files, args, cred),
+    }
+}
+
 /// A data server of NFSv3: a root and its files.
 #[derive(Drop)]
 pub struct DataServer {
@@ -65,12 +96,12 @@ pub struct DataServer {
 }
 
 impl Model for DataServer {
-    ghost use Rattle.ds_files.specs.Server.{ServerState};
-    ghost use Rattle.ds_files.specs.Heads.{state_of, IsServer};
+    ghost use Rattle.cluster_model.specs.Server.{ServerState};
+    ghost use Rattle.ds_files.specs.Heads.{server_of, IsServer};
 
     ghost Value = { ServerState };
 
-    ghost view = { λ d. state_of d.head d.files.items };
+    ghost view = { λ d. server_of d.head d.files.items };
 
     ghost invariant = { λ d. IsServer d.head d.files.items };
 }
@@ -90,8 +121,7 @@ impl DataServer {
         };
         let head = Head {
             number,
-            boot,
-            count: 0,
+            clock: start,
             root,
             names: Names::new(alloc),
             total: 0,
@@ -122,8 +152,7 @@ impl DataServer {
         names.add(b"m1")?;
         let head = Head {
             number: 1,
-            boot: 1,
-            count: 1,
+            clock: first,
             root,
             names,
             total: 0,
@@ -135,50 +164,8 @@ impl DataServer {
     #[cfg(test)]
     pub(crate) fn at_last_tick(alloc: Global) -> Result<DataServer, NoMemory> {
         let mut server = DataServer::preset(alloc)?;
-        server.head.count = 999_999_998;
+        server.head.clock.count = 999_999_998;
         Ok(server)
-    }
-
-    /// What a call is answered; the server stays.
-    fn answer(&self, call: &Call3<'_>, cred: &AuthSys<'_>) -> Result<Answer3, NoMemory>
-        ensures { IfOk result (λ answer. answer ≡ answer_of (step_of self.now (plain_call call.now) (plain_credential cred.now))) }
-    {
-        match call {
-            Call3::Null => Ok(Answer3::new(StoredReply::Null, Vec::new(self.alloc))),
-            Call3::GetAttr(args) => {
-                Ok(getattr_answer(self.alloc, &self.head, &self.files, args))
-            }
-            Call3::SetAttr(args) => set_answer(self.alloc, &self.head, &self.files, args, cred),
-            Call3::Lookup(args) => Ok(lookup_answer(self.alloc, &self.head, &self.files, args)),
-            Call3::Read(args) => read_answer(self.alloc, &self.head, &self.files, args, cred),
-            Call3::Write(args) => write_answer(self.alloc, &self.head, &self.files, args, cred),
-            Call3::Create(args) => create_answer(self.alloc, &self.head, &self.files, args, cred),
-            Call3::FsInfo(args) => Ok(fsinfo_answer(self.alloc, &self.head, &self.files, args)),
-            Call3::Commit(args) => commit_answer(self.alloc, &self.head, &self.files, args, cred),
-        }
-    }
-
-    /// What a call changes. At an error nothing has changed.
-    fn change(&mut self, call: &Call3<'_>, cred: &AuthSys<'_>) -> Result<(), NoMemory>
-        ensures ok { OnOk result (self.new ≡ (step_of self.old (plain_call call.now) (plain_credential cred.now)).server) }
-        ensures err { OnErr result (self.new ≡ self.old) }
-    {
-        match call {
-            Call3::SetAttr(args) => {
-                set_change(&mut self.head, &mut self.files, args, cred);
-                Ok(())
-            }
-            Call3::Write(args) => write_change(&mut self.head, &mut self.files, args, cred),
-            Call3::Create(args) => {
-                create_change(self.alloc, &mut self.head, &mut self.files, args, cred)
-            }
-            Call3::Commit(args) => commit_change(&self.head, &mut self.files, args, cred),
-            Call3::Null
-            | Call3::GetAttr(_)
-            | Call3::Lookup(_)
-            | Call3::Read(_)
-            | Call3::FsInfo(_) => Ok(()),
-        }
     }
 
     /// Does a call by a credential, by the rule of a data server. Refusals are answers, and change
@@ -189,8 +176,11 @@ impl DataServer {
         ensures err { OnErr result (self.new ≡ self.old) }
         ensures refused { IfOk result (λ answer. IsRefusal answer.reply → self.new ≡ self.old) }
     {
-        let answer = self.answer(call, cred)?;
-        self.change(call, cred)?;
+        let plan = plan_of(self.alloc, &self.head, &self.files, call, cred);
+        let effect = plan.effect;
+        let entries = entries_of(self.alloc, &self.head, &self.files, &effect, cred.uid)?;
+        let answer = plan.response.keep(self.alloc, entries)?;
+        carry_out(self.alloc, &mut self.head, &mut self.files, &effect)?;
         Ok(answer)
     }
 
@@ -206,12 +196,14 @@ impl DataServer {
         ensures ok { OnOk result (Acts (outcome_of_step xid (step_of self.old (plain_call call.now) (plain_credential cred.now))) node self.new out.old out.new) }
         ensures err { OnErr result ((self.new ≡ self.old) × IsAsBefore out.old out.new) }
     {
-        let (sends, entries) = (out.sends.len(), out.entries.len());
-        let answer = self.answer(call, cred)?;
-        let bytes = success(self.alloc, xid, &answer)?;
-        post(out, node, bytes, answer.into_entries())?;
-        if let Err(error) = self.change(call, cred) {
-            take_back(out, sends, entries);
+        let (sends, entered) = (out.sends.len(), out.entries.len());
+        let plan = plan_of(self.alloc, &self.head, &self.files, call, cred);
+        let effect = plan.effect;
+        let bytes = success(self.alloc, xid, &plan.response)?;
+        let entries = entries_of(self.alloc, &self.head, &self.files, &effect, cred.uid)?;
+        post(out, node, bytes, entries)?;
+        if let Err(error) = carry_out(self.alloc, &mut self.head, &mut self.files, &effect) {
+            take_back(out, sends, entered);
             return Err(error);
         }
         Ok(())
@@ -224,7 +216,7 @@ impl DataServer {
         ensures spent { result ≡ Err RestartFault.BootsSpent ↔ restart_of self.old pieces.now ≡ None }
         ensures err { OnErr result (self.new ≡ self.old) }
     {
-        if self.head.boot == LAST_BOOT {
+        if self.head.clock.boot == LAST_BOOT {
             return Err(RestartFault::BootsSpent);
         }
         restart_server(self.alloc, &mut self.head, &mut self.files, pieces)?;

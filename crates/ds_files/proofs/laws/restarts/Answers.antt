@@ -1,4 +1,4 @@
-use Rattle.ds_files.proofs.Later.{restarts}
+use Rattle.cluster_model.proofs.ServerRestarts.{restarts}
 use Rattle.ds_files.proofs.laws.restarts.Goals as goal
 
 pub returns : goal.returns

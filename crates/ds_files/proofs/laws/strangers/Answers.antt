@@ -1,5 +1,8 @@
-use Rattle.ds_files.proofs.Kept.{strangers}
+use Rattle.cluster_model.proofs.Servers.{safe}
+use Rattle.ds_files.specs.Objects.{caller_of}
+use Rattle.ds_files.specs.Steps.{plan_of}
+use Rattle.ds_files.proofs.Asked.{permitted}
 use Rattle.ds_files.proofs.laws.strangers.Goals as goal
 
 pub returns : goal.returns
-returns c = strangers
+returns c = λ s call cred. safe s (caller_of cred) (plan_of s call (caller_of cred)).effect (permitted s call cred)

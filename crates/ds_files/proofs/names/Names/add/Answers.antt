@@ -2,7 +2,7 @@ use Rattle.std.proofs.Common.{◌≡◌, false, sym, ap, ◌∙◌, ◌∷◌, [
 use Rattle.std.specs.Prelude.{None, vec_items, bytes_eq, map}
 use Rattle.std.specs.List.{list_any}
 use Rattle.std.proofs.lemmas.Bool.{cond-false}
-use Rattle.ds_files.specs.Server.{index_of}
+use Rattle.cluster_model.specs.Server.{index_of}
 use Rattle.ds_files.proofs.Named.{position-map, none_there, map-push}
 use Rattle.ds_files.proofs.names.Names.add.Goals as goal
 

@@ -1,6 +1,0 @@
-use Rattle.std.proofs.Common.{◌≡◌, take}
-use Rattle.ds_files.specs.Server.{total_size}
-use Rattle.ds_files.proofs.restarting.total_size.Given as goal
-
-abbrev pub invariant-loop-file : goal.invariant-loop-file
-invariant-loop-file l = l.total ≡ total_size (take l.file-index l.files)

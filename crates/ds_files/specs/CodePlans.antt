@@ -1,0 +1,87 @@
+-- What the code's plans say, and what is known of them.
+use Rattle.std.specs.Prelude.{◌≡◌, ℕ, ◌+◌, ◌-◌, ◌<◌, ◌≤◌, ◌^◌, List, [], ◌∷◌, length, Option, Some, None, max, slice_get}
+use Rattle.nfs3_wire.specs.declared.create.CreateArgs.{CreateArgs}
+use Rattle.rpc_record.specs.declared.auth.AuthSys.{AuthSys}
+use Rattle.cluster_model.specs.declared.tick.Tick.{Tick}
+use Rattle.cluster_model.specs.Ticks.{next_tick}
+use Rattle.cluster_model.specs.File.{FileState, FileOp, Writes, Commits, Sets, Restarts, shown}
+use Rattle.cluster_model.specs.Server.{Effect as Effected, NoEffect, OnFile, NewFile, server_after, max_total, max_file, max_ticks, index_of}
+use Rattle.ds_files.specs.declared.head.Head.{Head}
+use Rattle.ds_files.specs.declared.plan.Effect.{Effect}
+use Rattle.ds_files.specs.declared.plan.Effect.TheVariants as effect
+use Rattle.ds_files.specs.declared.plan.Plan.{Plan as DeclaredPlan}
+use Rattle.ds_files.specs.declared.create.Creation.{Creation as DeclaredCreation}
+use Rattle.ds_files.specs.declared.create.Creation.TheVariants as declared
+use Rattle.ds_files.specs.Plans.{Plan}
+use Rattle.ds_files.specs.Objects.{caller}
+use Rattle.ds_files.specs.Create.{Creation, NotMade, IsThere, Makes, creation}
+use Rattle.ds_files.specs.Heads.{Refuses, IsServer, server_of}
+
+abbrev pub plain_effect : Effect → Effected
+plain_effect effect.Nothing = NoEffect
+plain_effect (effect.Writes index at synced bytes) = OnFile index (Writes at synced bytes.now)
+plain_effect (effect.Commits index) = OnFile index Commits
+plain_effect (effect.Sets index changes) = OnFile index (Sets changes)
+plain_effect (effect.Makes name owner group mode) = NewFile name.now owner group mode
+
+abbrev pub plain_plan : DeclaredPlan → Plan
+plain_plan p = record { reply = p.response; effect = plain_effect p.effect }
+
+-- ---- what can be carried out
+
+-- there is room and a tick for a WRITE of so many bytes to a file of this size
+pub record HasRoom (h : Head) (size at len : ℕ) : Type 0 where
+  pub short : 0 < len → at + len ≤ max_file
+  pub room : 0 < len → h.total - size + max size (at + len) ≤ max_total
+  pub tick : 0 < len → h.clock.count < max_ticks
+
+abbrev pub HasRoomFor : Head → FileState → FileOp → Type 0
+HasRoomFor h f (Writes at synced bytes) = HasRoom h (length (shown f)) at (length bytes)
+HasRoomFor h f Commits = Unit {0}
+HasRoomFor h f (Sets changes) = Unit {0}
+HasRoomFor h f (Restarts pieces) = ⊥
+
+-- there is a tick for a SETATTR
+abbrev pub HasTickFor : Head → FileOp → Type 0
+HasTickFor h (Writes at synced bytes) = Unit {0}
+HasTickFor h Commits = Unit {0}
+HasTickFor h (Sets changes) = h.clock.count < max_ticks
+HasTickFor h (Restarts pieces) = ⊥
+
+abbrev pub IsReady : Head → List FileState → Effected → Type 0
+IsReady h files NoEffect = Unit {0}
+IsReady h files (OnFile index op) = (index < length files) × ((f : FileState) → slice_get files index ≡ Some f → HasRoomFor h f op) × HasTickFor h op
+IsReady h files (NewFile name owner group mode) = (h.clock.count < max_ticks) × (index_of h.names name ≡ None)
+
+-- the plan of a call on the file at an index, by the file
+abbrev pub IsPlanOn : List FileState → ℕ → (FileState → Plan) → DeclaredPlan → Type 0
+IsPlanOn files index plan p = (f : FileState) → slice_get files index ≡ Some f → plain_plan p ≡ plan f
+
+-- what was to be done is done, and the server is one
+pub record IsCarriedOut (h : Head) (files : List FileState) (effect : Effected) (h' : Head) (files' : List FileState) : Type 0 where
+  pub state : server_of h' files' ≡ server_after (server_of h files) effect
+  pub keeps : IsServer h' files'
+
+-- the numbers after a WRITE, by the file's size before it and after it
+abbrev pub clock_by : Tick → List ℕ → Tick
+clock_by clock [] = clock
+clock_by clock (b ∷ bytes) = next_tick clock
+
+abbrev pub head_after : Head → ℕ → ℕ → List ℕ → Head
+head_after h before after bytes = record h { clock = clock_by h.clock bytes; total = h.total - before + after }
+
+-- ---- CREATE
+
+abbrev pub plain_creation : DeclaredCreation → Creation
+plain_creation (declared.Refuses status) = NotMade status
+plain_creation (declared.IsThere index) = IsThere index
+plain_creation (declared.Makes attributes) = Makes attributes
+
+abbrev pub creation_of : Head → CreateArgs → AuthSys → Creation
+creation_of h a cred = creation h.clock h.names a.name.now a.how (caller cred)
+
+-- A refusal is one, what is there has an index, and what is to be made has a free name and a tick.
+abbrev pub CreationFits : Head → List ℕ → DeclaredCreation → Type 0
+CreationFits h name (declared.Refuses status) = Refuses status
+CreationFits h name (declared.IsThere index) = index + 2 < 2 ^ 64
+CreationFits h name (declared.Makes attributes) = (h.clock.count < max_ticks) × (index_of h.names name ≡ None)

@@ -1,0 +1,66 @@
+//! Replies as bytes, and what a step puts out.
+
+ghost use Rattle.std.specs.Prelude.{◌≡◌, ◌++◌, take, IfOk, OnOk, OnErr, Some};
+ghost use Rattle.ff_xdr.specs.Form.{arm_spelling};
+ghost use Rattle.rpc_record.specs.Replies.{rpc_reply, reply_bytes, ReplyFits, Success};
+ghost use Rattle.nfs3_wire.specs.Replies as nfs;
+ghost use Rattle.ds_files.specs.Receive.{replies_with};
+ghost use Rattle.ds_files.specs.Records.{sent_to};
+
+use crate::answer::Response;
+use crate::receive::replies_with;
+use cluster_model::{Entry, NodeId, Outbox};
+use ff_xdr::{Data, NoMemory, Out};
+use nfs3_wire::write_reply;
+use rpc_record::{Reply, ReplyBody};
+use std::alloc::Global;
+
+/// The record of a reply.
+pub fn encode(alloc: Global, reply: &Reply<'_>) -> Result<Data, NoMemory>
+    requires { ReplyFits (rpc_reply reply.now) }
+    ensures { IfOk result (λ bytes. bytes ≡ reply_bytes (rpc_reply reply.now)) }
+{
+    let mut out = Out::new(alloc);
+    reply.write(&mut out)?;
+    Ok(Data::from_vec(out.into_bytes()))
+}
+
+/// The record of a result, for the call with this number: the header of a success, and behind it the
+/// result, whose bytes are copied once.
+pub fn success(alloc: Global, xid: u32, response: &Response<'_>) -> Result<Data, NoMemory>
+    ensures { IfOk result (λ bytes. bytes ≡ reply_bytes (replies_with xid (Success (arm_spelling nfs.replies (nfs.reply_value response.now))))) }
+{
+    let mut out = Out::new(alloc);
+    replies_with(xid, ReplyBody::Success(&[])).write(&mut out)?;
+    write_reply(&response.reply(), &mut out)?;
+    Ok(Data::from_vec(out.into_bytes()))
+}
+
+/// Puts a record for a node and the entries of a step out. At an error all is as before.
+pub fn post(
+    out: &mut Outbox,
+    node: NodeId,
+    bytes: Data,
+    mut entries: Vec<Entry>,
+) -> Result<(), NoMemory>
+    ensures sends { OnOk result (out.new.sends.items ≡ out.old.sends.items ++ sent_to node (Some bytes)) }
+    ensures entries { OnOk result (out.new.entries.items ≡ out.old.entries.items ++ entries.items) }
+    ensures sends_stay { OnErr result (out.new.sends.items ≡ out.old.sends.items) }
+    ensures entries_stay { OnErr result (out.new.entries.items ≡ out.old.entries.items) }
+{
+    out.sends.push((node, bytes))?;
+    if out.entries.append(&mut entries).is_err() {
+        let _ = out.sends.pop();
+        return Err(NoMemory);
+    }
+    Ok(())
+}
+
+/// Takes back what was put out since there were so many records and entries.
+pub fn take_back(out: &mut Outbox, sends: usize, entries: usize)
+    ensures sends { out.new.sends.items ≡ take sends out.old.sends.items }
+    ensures entries { out.new.entries.items ≡ take entries out.old.entries.items }
+{
+    out.sends.truncate(sends);
+    out.entries.truncate(entries);
+}
