@@ -2,7 +2,7 @@
 
 ghost use Rattle.std.specs.Prelude.{◌≡◌, ◌++◌, take, IfOk, OnOk, OnErr, Some};
 ghost use Rattle.ff_xdr.specs.Form.{arm_spelling};
-ghost use Rattle.rpc_record.specs.Replies.{rpc_reply, reply_bytes, ReplyFits, Success};
+ghost use Rattle.rpc_record.specs.Replies.{rpc_reply, reply_bytes, ReplyFits, success};
 ghost use Rattle.nfs3_wire.specs.Replies as nfs;
 ghost use Rattle.ds_files.specs.Receive.{replies_with};
 ghost use Rattle.ds_files.specs.Records.{sent_to};
@@ -27,7 +27,7 @@ pub fn encode(alloc: Global, reply: &Reply<'_>) -> Result<Data, NoMemory>
 
 /// The record of an answer to the call with this number.
 pub fn success(alloc: Global, xid: u32, answer: &Answer3) -> Result<Data, NoMemory>
-    ensures { IfOk result (λ bytes. bytes ≡ reply_bytes (replies_with xid (Success (arm_spelling nfs.replies (nfs.reply_value answer.now.reply))))) }
+    ensures { IfOk result (λ bytes. bytes ≡ reply_bytes (replies_with xid success (arm_spelling nfs.replies (nfs.reply_value answer.now.reply)))) }
 {
     let mut results = Out::new(alloc);
     write_reply(&answer.reply(), &mut results)?;
