@@ -38,13 +38,13 @@ args_text header (Ok v) = codes "good"
 args_text header (Err e) = bad_text (header + e.place) e.why
 
 -- all the arguments, read in the form of their procedure
-unfoldable pub read_args : RpcCall → Result (Value calls) XdrError
-read_args c = whole c.args (arm_reading calls c.procedure c.args 0)
+unfoldable pub args_of : RpcCall → Result (Value calls) XdrError
+args_of c = whole c.args (arm_reading calls c.procedure c.args 0)
 
 -- the procedures of NFSv3 (RFC 1813): program 100003, version 3
 unfoldable pub verdict_text : ℕ → RpcCall → List ℕ
 verdict_text header c =
-    if c.program == 100003 && (c.version == 3 && has_arm c.procedure calls) then args_text header (read_args c) else codes "unbuilt"
+    if c.program == 100003 && (c.version == 3 && has_arm c.procedure calls) then args_text header (args_of c) else codes "unbuilt"
 
 -- `call XID PROGRAM VERSION PROCEDURE LENGTH` and what the arguments are, of which there are LENGTH bytes
 unfoldable pub program_text : RpcCall → List ℕ
@@ -81,13 +81,13 @@ found_text bytes (Err (fault.RpcVersion xid)) = refused_text (record { place = 8
 found_text bytes (Err (fault.Bad xid e)) = refused_text e
 
 -- the line of a record
-abbrev pub shown : List ℕ → List ℕ
-shown bytes = found_text bytes (call_at bytes) ++ codes "\n"
+abbrev pub record_line : List ℕ → List ℕ
+record_line bytes = found_text bytes (call_at bytes) ++ codes "\n"
 
 -- What a line of the source adds: nothing where it is empty or begins with `#` (35), else the line of the record that it spells.
 abbrev pub line_shown : List ℕ → Option (List ℕ)
 line_shown [] = Some []
-line_shown (c ∷ rest) = if c == 35 then Some [] else option_map shown (bytes_of_digits (c ∷ rest))
+line_shown (c ∷ rest) = if c == 35 then Some [] else option_map record_line (bytes_of_digits (c ∷ rest))
 
 -- what the line with this number comes to, and the lines behind it
 abbrev pub by_shown : ℕ → Option (List ℕ) → Course → Course

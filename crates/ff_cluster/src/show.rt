@@ -4,11 +4,11 @@ ghost use Rattle.std.specs.Prelude.{◌≡◌, ⊤, IsTrue, Result};
 ghost use Rattle.ff_xdr.specs.Calls.{Puts, Grows, Finds};
 ghost use Rattle.ff_xdr.specs.Form.{has_arm};
 ghost use Rattle.rpc_record.specs.Calls.{RpcCall, rpc_call};
-ghost use Rattle.rpc_record.specs.declared.call.CallFault.{CallFault as AFault};
+ghost use Rattle.rpc_record.specs.declared.call.CallFault.{CallFault};
 ghost use Rattle.rpc_record.specs.Replies.{reply_stat, reply_at};
 ghost use Rattle.nfs3_wire.specs.Calls.{calls};
 ghost use Rattle.line_runs.specs.Runs.{Runs, ReadFaults, write_faults};
-ghost use Rattle.ff_cluster.specs.Show.{why_text, bad_text, read_args, args_text, verdict_text, program_text, procedure_text, call_text, stat_text, refused_text, reply_text, found_text, shown, line_shown, show_from, show_course, ShowsLine};
+ghost use Rattle.ff_cluster.specs.Show.{why_text, bad_text, args_of, args_text, verdict_text, program_text, procedure_text, call_text, stat_text, refused_text, reply_text, found_text, record_line, line_shown, show_from, show_course, ShowsLine};
 
 use crate::digits::Digits;
 use crate::print::put_numbered;
@@ -64,7 +64,7 @@ fn put_refused(error: XdrError, out: &mut Out) -> Result<(), NoMemory>
 /// bytes.
 fn put_args(header: usize, call: &Call<'_>, out: &mut Out) -> Result<(), NoMemory>
     requires { IsTrue (has_arm call.now.procedure calls) }
-    ensures { Grows out.old result out.new (args_text header (read_args (rpc_call call.now))) }
+    ensures { Grows out.old result out.new (args_text header (args_of (rpc_call call.now))) }
 {
     match read_call(call.procedure, call.args) {
         Ok(_) => out.raw(b"good"),
@@ -144,7 +144,7 @@ fn put_found(
     found: Result<Call<'_>, CallFault>,
     out: &mut Out,
 ) -> Result<(), NoMemory>
-    ensures { (read : Result RpcCall AFault) → Finds rpc_call found.entry read → Grows out.old result out.new (found_text message.now read) }
+    ensures { (read : Result RpcCall CallFault) → Finds rpc_call found.entry read → Grows out.old result out.new (found_text message.now read) }
 {
     match found {
         Ok(call) => put_call(message.len(), &call, out),
@@ -162,7 +162,7 @@ fn put_found(
 
 /// Appends the line of a record; at an error a part of it may stand in `out`.
 fn put_line(message: &[u8], out: &mut Out) -> Result<(), NoMemory>
-    ensures { Grows out.old result out.new (shown message.now) }
+    ensures { Grows out.old result out.new (record_line message.now) }
 {
     put_found(message, Call::read(message), out)?;
     out.raw(b"\n")
@@ -170,7 +170,7 @@ fn put_line(message: &[u8], out: &mut Out) -> Result<(), NoMemory>
 
 /// Appends the line that says what a record is, or nothing.
 pub fn put_shown(message: &[u8], out: &mut Out) -> Result<(), NoMemory>
-    ensures { Puts out.old result out.new (shown message.now) }
+    ensures { Puts out.old result out.new (record_line message.now) }
 {
     let mark = out.len();
     if put_line(message, out).is_err() {
