@@ -22,11 +22,11 @@ pub data Received : Type 0 where
   Asked : (xid : ℕ) (call : Nfs3Call) (cred : Credential) → Received
 
 -- a reply with no verifier, which is how a data server replies
-abbrev pub replies_with : ℕ → rpc_reply.Body → rpc_reply.RpcReply
-replies_with xid body = record { xid = xid; verf = rpc_reply.auth_none; body = body }
+abbrev pub replies_with : ℕ → rpc_reply.ReplyStat → List ℕ → rpc_reply.RpcReply
+replies_with xid stat results = record { xid = xid; verf = rpc_reply.auth_none; stat = stat; results = results }
 
-abbrev pub refuses : ℕ → rpc_reply.Body → Received
-refuses xid body = Refused (replies_with xid body)
+abbrev pub refuses : ℕ → rpc_reply.ReplyStat → Received
+refuses xid stat = Refused (replies_with xid stat [])
 
 -- the credential of a call that names no caller
 abbrev pub nobody : Credential
@@ -35,7 +35,7 @@ nobody = record { stamp = 0; machine = []; uid = 65534; gid = 65534; gids = [] }
 -- the arguments in their form, with no bytes behind them; else GARBAGE_ARGS
 abbrev pub with_args : ℕ → Credential → Result (Value calls) XdrError → Received
 with_args xid cred (Ok v) = Asked xid (call_of v) cred
-with_args xid cred (Err e) = refuses xid rpc_reply.GarbageArgs
+with_args xid cred (Err e) = refuses xid rpc_reply.garbage_args
 
 abbrev pub asked : rpc.RpcCall → Credential → Received
 asked c cred = with_args c.xid cred (whole c.args (arm_reading calls c.procedure c.args 0))
@@ -43,29 +43,29 @@ asked c cred = with_args c.xid cred (whole c.args (arm_reading calls c.procedure
 -- the AUTH_SYS body in its form, with no bytes behind it; else AUTH_ERROR AUTH_BADCRED 1
 abbrev pub with_cred : rpc.RpcCall → Result (Value authsys_parms) XdrError → Received
 with_cred c (Ok v) = asked c (credential_of v)
-with_cred c (Err e) = refuses c.xid (rpc_reply.AuthError 1)
+with_cred c (Err e) = refuses c.xid (rpc_reply.auth_error 1)
 
 -- NULL asks for no credential; any other procedure for AUTH_SYS 1, else AUTH_ERROR AUTH_TOOWEAK 5
 abbrev pub authenticated : rpc.RpcCall → Received
 authenticated c =
     if c.procedure == 0 then asked c nobody
-    else (if not (c.cred.flavor == 1) then refuses c.xid (rpc_reply.AuthError 5)
+    else (if not (c.cred.flavor == 1) then refuses c.xid (rpc_reply.auth_error 5)
     else with_cred c (whole c.cred.body (reading authsys_parms c.cred.body 0)))
 
 -- program 100003, version 3, a procedure that is built, and then the credential
 abbrev pub dispatched : rpc.RpcCall → Received
 dispatched c =
-    if not (c.program == 100003) then refuses c.xid rpc_reply.ProgUnavail
-    else (if not (c.version == 3) then refuses c.xid (rpc_reply.ProgMismatch 3 3)
-    else (if not (has_arm c.procedure calls) then refuses c.xid rpc_reply.ProcUnavail
+    if not (c.program == 100003) then refuses c.xid rpc_reply.prog_unavail
+    else (if not (c.version == 3) then refuses c.xid (rpc_reply.prog_mismatch 3 3)
+    else (if not (has_arm c.procedure calls) then refuses c.xid rpc_reply.proc_unavail
     else authenticated c))
 
 -- no call: nothing; another RPC version than 2: RPC_MISMATCH; a header out of its form: GARBAGE_ARGS
 abbrev pub with_call : Result rpc.RpcCall CallFault → Received
 with_call (Ok c) = dispatched c
 with_call (Err NotACall) = Silent
-with_call (Err (RpcVersion xid)) = refuses xid (rpc_reply.RpcMismatch 2 2)
-with_call (Err (Bad xid e)) = refuses xid rpc_reply.GarbageArgs
+with_call (Err (RpcVersion xid)) = refuses xid (rpc_reply.rpc_mismatch 2 2)
+with_call (Err (Bad xid e)) = refuses xid rpc_reply.garbage_args
 
 abbrev pub received : List ℕ → Received
 received bytes = with_call (rpc.call_at bytes)
@@ -77,7 +77,7 @@ pub record Outcome : Type 0 where
   pub reply : Option (List ℕ)
 
 abbrev pub success_bytes : ℕ → Step → List ℕ
-success_bytes xid t = rpc_reply.reply_bytes (replies_with xid (rpc_reply.Success (arm_spelling replies (reply_value t.reply))))
+success_bytes xid t = rpc_reply.reply_bytes (replies_with xid rpc_reply.success (arm_spelling replies (reply_value t.reply)))
 
 abbrev pub outcome_of_step : ℕ → Step → Outcome
 outcome_of_step xid t = record { server = t.server; entries = t.entries; reply = Some (success_bytes xid t) }

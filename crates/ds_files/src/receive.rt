@@ -5,9 +5,9 @@ ghost use Rattle.ff_xdr.specs.Form.{has_arm};
 ghost use Rattle.ff_xdr.specs.Reading.{reading, whole};
 ghost use Rattle.rpc_record.specs.Rpc.{authsys_parms, plain_credential};
 ghost use Rattle.rpc_record.specs.Calls.{rpc_call};
-ghost use Rattle.rpc_record.specs.Replies.{plain_body, rpc_reply, ReplyFits, HasVerifier};
+ghost use Rattle.rpc_record.specs.Replies.{reply_stat, reply_results, rpc_reply, ReplyFits, HasVerifier};
 ghost use Rattle.nfs3_wire.specs.Calls.{calls};
-ghost use Rattle.ds_files.specs.Receive.{received, dispatched, authenticated, asked, nobody, refuses, replies_with};
+ghost use Rattle.ds_files.specs.Receive.{Refused, received, dispatched, authenticated, asked, nobody, replies_with};
 ghost use Rattle.ds_files.specs.Records.{plain_received, ReceivedFits, FindsCredential};
 
 use crate::received::Received;
@@ -35,7 +35,7 @@ const NOBODY: u32 = 65_534;
 
 /// A reply with no verifier.
 pub fn replies_with<'a>(xid: u32, body: ReplyBody<'a>) -> Reply<'a>
-    ensures { rpc_reply result ≡ replies_with xid (plain_body body.entry) }
+    ensures { rpc_reply result ≡ replies_with xid (reply_stat body.entry) (reply_results body.entry) }
 {
     let verf = Auth {
         flavor: AUTH_NONE,
@@ -46,7 +46,7 @@ pub fn replies_with<'a>(xid: u32, body: ReplyBody<'a>) -> Reply<'a>
 
 /// The refusal of a record.
 fn refuses<'a>(xid: u32, body: ReplyBody<'a>) -> Received<'a>
-    ensures same { plain_received result ≡ refuses xid (plain_body body.entry) }
+    ensures same { plain_received result ≡ Refused (replies_with xid (reply_stat body.entry) (reply_results body.entry)) }
     ensures fits { ReceivedFits result }
 {
     Received::Refused(replies_with(xid, body))

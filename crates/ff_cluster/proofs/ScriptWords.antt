@@ -5,7 +5,7 @@ use Rattle.std.proofs.lemmas.Bool.Decides.{nat_tests}
 use Rattle.ff_cluster.specs.declared.line.Setup.{Setup}
 use Rattle.ff_cluster.specs.declared.line.Setup.TheVariants.{Bare}
 use Rattle.ff_cluster.specs.Digits.{bytes_of_digits}
-use Rattle.ff_cluster.specs.Line.{LineValue, Nothing, SetupLine, EventLine, line_at, words_at, setup_at, deliver_at, restart_at, event_at, first_of, behind, short_record, ◌>>=◌}
+use Rattle.ff_cluster.specs.Line.{LineValue, Nothing, SetupLine, EventLine, line_at, words_at, setup_at, deliver_at, restart_at, event_at, first_of, after_word, short_record, ◌>>=◌}
 use Rattle.rpc_record.specs.Frames.{max_record}
 use Rattle.cluster_model.specs.declared.piece.Piece.{Piece}
 use Rattle.cluster_model.specs.Event.{EventValue, Deliver, Restart}
@@ -39,7 +39,7 @@ first_deliver None two bytes h never = absurd (never h)
 event_short : (text bytes : List ℕ) → event_at text ≡ Some (Deliver bytes) → length bytes ≤ max_record
 event_short text bytes h =
     let delivers = first_deliver (deliver_at text) (restart_at text) bytes h (no_deliver _ _ bytes) in
-    let one = bind_some (behind (codes "deliver ") text) _ (Deliver bytes) delivers in
+    let one = bind_some (after_word (codes "deliver ") text) _ (Deliver bytes) delivers in
     let two = bind_some (bytes_of_digits one.0) _ (Deliver bytes) one.2 in
     let three = bind_some (short_record two.0) _ (Deliver bytes) two.2 in
     let same : three.0 ≡ bytes = let e = three.2 in cc in

@@ -19,8 +19,8 @@ pub data LineValue : Type 0 where
   EventLine : EventValue → LineValue
 
 -- what stands behind a word at the text's start
-abbrev pub behind : List ℕ → List ℕ → Option (List ℕ)
-behind word text = if bytes_eq (take (length word) text) word then Some (drop (length word) text) else None
+abbrev pub after_word : List ℕ → List ℕ → Option (List ℕ)
+after_word word text = if bytes_eq (take (length word) text) word then Some (drop (length word) text) else None
 
 -- a record that is not too long to be marked (RFC 5531, section 11)
 abbrev pub short_record : List ℕ → Option (List ℕ)
@@ -42,7 +42,7 @@ setup_at text = if bytes_eq text (codes "bare") then Some Bare else None
 -- `deliver`, one space and a record
 abbrev pub deliver_at : List ℕ → Option EventValue
 deliver_at text = do
-  digits ← behind (codes "deliver ") text
+  digits ← after_word (codes "deliver ") text
   bytes ← bytes_of_digits digits
   few ← short_record bytes
   Some (Deliver few)
@@ -51,7 +51,7 @@ deliver_at text = do
 abbrev pub restart_at : List ℕ → Option EventValue
 restart_at text =
     if bytes_eq text (codes "restart d1") then Some (Restart [])
-    else option_map Restart (behind (codes "restart d1 ") text >>= pieces_at)
+    else option_map Restart (after_word (codes "restart d1 ") text >>= pieces_at)
 
 -- the line of an event
 abbrev pub event_at : List ℕ → Option EventValue

@@ -16,8 +16,8 @@ value_of n [] = n
 value_of n (c ∷ cs) = value_of (n * 10 + (c - 48)) cs
 
 -- A number of at most ten digits and below 2^32: the text is its decimal, so it has no leading zero.
-unfoldable pub number_at : List ℕ → Option ℕ
-number_at text =
+unfoldable pub decimal_at : List ℕ → Option ℕ
+decimal_at text =
     let n = value_of 0 text in
     if nat_le (length text) 10 && nat_lt n (2 ^ 32) && bytes_eq (decimal n) text then Some n else None
 
@@ -29,10 +29,10 @@ parts sep (b ∷ bs) = if b == sep then [] ∷ parts sep bs else onto_first b (p
 -- four numbers with colons (58) between
 abbrev pub piece_from : List (List ℕ) → Option Piece
 piece_from (f ∷ i ∷ a ∷ n ∷ []) = do
-  fileid ← number_at f
-  index ← number_at i
-  from ← number_at a
-  count ← number_at n
+  fileid ← decimal_at f
+  index ← decimal_at i
+  from ← decimal_at a
+  count ← decimal_at n
   Some (record { fileid = fileid; index = index; from = from; count = count })
 piece_from _ = None
 

@@ -53,9 +53,9 @@ Ran Show end old new = Runs show_course old.left old.held end new.left new.held 
 Ran Ds end old new = ServesBy old.left old.coming old.sent (Err end) new.coming new.sent × (new.held ≡ old.held)
 
 -- what serving came to
-abbrev pub outcome_by : Result NodeEnd RunEnd → Outcome
-outcome_by (Ok end) = Served end
-outcome_by (Err end) = Ended end
+abbrev pub outcome_of_end : Result NodeEnd RunEnd → Outcome
+outcome_of_end (Ok end) = Served end
+outcome_of_end (Err end) = Ended end
 
 -- the status that the program ends with
 abbrev pub status_of : Outcome → ℕ
@@ -71,18 +71,18 @@ status_of (Served served.LinkFault) = 7
 status_of (Served served.NoMemory) = 8
 
 -- words, a number and a newline
-abbrev pub numbered : List ℕ → ℕ → List ℕ
-numbered word n = word ++ (decimal n ++ 10 ∷ [])
+abbrev pub with_number : List ℕ → ℕ → List ℕ
+with_number word n = word ++ (decimal n ++ 10 ∷ [])
 
 -- the line that the notes get, which is none where all went well
 abbrev pub note_of : Outcome → List ℕ
 note_of Usage = codes "usage\n"
 note_of (Ended Done) = []
-note_of (Ended (BadLine n)) = numbered (codes "line ") n
+note_of (Ended (BadLine n)) = with_number (codes "line ") n
 note_of (Ended ReadFault) = codes "read fault\n"
 note_of (Ended WriteFault) = codes "write fault\n"
 note_of (Ended NoMemory) = codes "no memory\n"
-note_of (Ended (Limit n)) = numbered (codes "limit ") n
+note_of (Ended (Limit n)) = with_number (codes "limit ") n
 note_of (Served served.Done) = []
 note_of (Served served.LinkFault) = codes "link fault\n"
 note_of (Served served.NoMemory) = codes "no memory\n"

@@ -1,5 +1,5 @@
 -- What the command `show` says of records.
-use Rattle.std.specs.Prelude.{ℕ, ◌+◌, ◌-◌, ◌==◌, ◌≡◌, ◌&&◌, false, List, [], ◌∷◌, ◌++◌, length, codes, decimal, Option, Some, None, Result, Ok, Err, if◌then◌else◌}
+use Rattle.std.specs.Prelude.{ℕ, ◌+◌, ◌-◌, ◌==◌, ◌≡◌, ◌&&◌, Bool, true, false, List, [], ◌∷◌, ◌++◌, length, codes, decimal, Option, Some, None, Result, Ok, Err, if◌then◌else◌}
 use Rattle.std.specs.Option.{option_map}
 use Rattle.ff_xdr.specs.declared.error.XdrError.{XdrError}
 use Rattle.ff_xdr.specs.declared.error.XdrWhy.{XdrWhy}
@@ -9,7 +9,7 @@ use Rattle.ff_xdr.specs.Reading.{arm_reading, whole}
 use Rattle.rpc_record.specs.declared.call.CallFault.{CallFault}
 use Rattle.rpc_record.specs.declared.call.CallFault.TheVariants as fault
 use Rattle.rpc_record.specs.Calls.{RpcCall, call_at}
-use Rattle.rpc_record.specs.Replies.{RpcReply, Body, Success, ProgUnavail, ProgMismatch, ProcUnavail, GarbageArgs, SystemErr, RpcMismatch, AuthError, reply_at}
+use Rattle.rpc_record.specs.Replies.{RpcReply, ReplyStat, is_denied, reply_stat_number, reply_at}
 use Rattle.nfs3_wire.specs.Calls.{calls}
 use Rattle.line_runs.specs.declared.end.Played.{Played}
 use Rattle.line_runs.specs.declared.end.Played.TheVariants as played
@@ -38,13 +38,13 @@ args_text header (Ok v) = codes "good"
 args_text header (Err e) = bad_text (header + e.place) e.why
 
 -- all the arguments, read in the form of their procedure
-unfoldable pub read_args : RpcCall → Result (Value calls) XdrError
-read_args c = whole c.args (arm_reading calls c.procedure c.args 0)
+unfoldable pub args_of : RpcCall → Result (Value calls) XdrError
+args_of c = whole c.args (arm_reading calls c.procedure c.args 0)
 
 -- the procedures of NFSv3 (RFC 1813): program 100003, version 3
 unfoldable pub verdict_text : ℕ → RpcCall → List ℕ
 verdict_text header c =
-    if c.program == 100003 && (c.version == 3 && has_arm c.procedure calls) then args_text header (read_args c) else codes "unbuilt"
+    if c.program == 100003 && (c.version == 3 && has_arm c.procedure calls) then args_text header (args_of c) else codes "unbuilt"
 
 -- `call XID PROGRAM VERSION PROCEDURE LENGTH` and what the arguments are, of which there are LENGTH bytes
 unfoldable pub program_text : RpcCall → List ℕ
@@ -57,15 +57,12 @@ abbrev pub call_text : ℕ → RpcCall → List ℕ
 call_text size c = program_text c ++ (procedure_text c ++ verdict_text (size - length c.args) c)
 
 -- how a call was answered: its accept_stat, or its reject_stat (RFC 5531, section 9)
-abbrev pub stat_text : Body → List ℕ
-stat_text (Success results) = codes " accepted 0"
-stat_text ProgUnavail = codes " accepted 1"
-stat_text (ProgMismatch low high) = codes " accepted 2"
-stat_text ProcUnavail = codes " accepted 3"
-stat_text GarbageArgs = codes " accepted 4"
-stat_text SystemErr = codes " accepted 5"
-stat_text (RpcMismatch low high) = codes " denied 0"
-stat_text (AuthError stat) = codes " denied 1"
+abbrev pub stat_word : Bool → List ℕ
+stat_word false = codes " accepted "
+stat_word true = codes " denied "
+
+abbrev pub stat_text : ReplyStat → List ℕ
+stat_text s = stat_word (is_denied s) ++ decimal (reply_stat_number s)
 
 -- a record that is neither a call nor a reply
 abbrev pub refused_text : XdrError → List ℕ
@@ -73,7 +70,7 @@ refused_text e = codes "record " ++ bad_text e.place e.why
 
 -- a record that is no call: a reply, or neither
 abbrev pub reply_text : Result RpcReply XdrError → List ℕ
-reply_text (Ok r) = (codes "reply " ++ decimal r.xid) ++ stat_text r.body
+reply_text (Ok r) = (codes "reply " ++ decimal r.xid) ++ stat_text r.stat
 reply_text (Err e) = refused_text e
 
 -- a record of so many bytes, as what it is; one of another RPC version than 2 has its third word refused
@@ -84,13 +81,13 @@ found_text bytes (Err (fault.RpcVersion xid)) = refused_text (record { place = 8
 found_text bytes (Err (fault.Bad xid e)) = refused_text e
 
 -- the line of a record
-abbrev pub shown : List ℕ → List ℕ
-shown bytes = found_text bytes (call_at bytes) ++ codes "\n"
+abbrev pub record_line : List ℕ → List ℕ
+record_line bytes = found_text bytes (call_at bytes) ++ codes "\n"
 
 -- What a line of the source adds: nothing where it is empty or begins with `#` (35), else the line of the record that it spells.
 abbrev pub line_shown : List ℕ → Option (List ℕ)
 line_shown [] = Some []
-line_shown (c ∷ rest) = if c == 35 then Some [] else option_map shown (bytes_of_digits (c ∷ rest))
+line_shown (c ∷ rest) = if c == 35 then Some [] else option_map record_line (bytes_of_digits (c ∷ rest))
 
 -- what the line with this number comes to, and the lines behind it
 abbrev pub by_shown : ℕ → Option (List ℕ) → Course → Course

@@ -1,7 +1,7 @@
 //! Pieces of pending writes, as text.
 
 ghost use Rattle.std.specs.Prelude.{◌≡◌, ◌≤◌, ◌<◌, ◌∷◌, [], ◌++◌, length, IfOk, IfSome, IfNone, is_some};
-ghost use Rattle.ff_cluster.specs.Pieces.{value_of, number_at, parts, piece_from, piece_at, pieces_at, listed};
+ghost use Rattle.ff_cluster.specs.Pieces.{value_of, decimal_at, parts, piece_from, piece_at, pieces_at, listed};
 
 use cluster_model::Piece;
 use ff_xdr::NoMemory;
@@ -26,8 +26,8 @@ fn value_of(text: &[u8]) -> u64
 }
 
 /// The number of which the text is the decimal, if there is one.
-fn number_at(text: &[u8]) -> Option<u32>
-    ensures { result ≡ number_at text.now }
+fn decimal_at(text: &[u8]) -> Option<u32>
+    ensures { result ≡ decimal_at text.now }
 {
     if text.len() > DIGITS {
         return None;
@@ -52,10 +52,10 @@ fn piece_from(file: &[u8], index: &[u8], from: &[u8], count: &[u8]) -> Option<Pi
     ensures { result ≡ piece_from (file.now ∷ index.now ∷ from.now ∷ count.now ∷ []) }
 {
     Some(Piece {
-        fileid: u64::from(number_at(file)?),
-        index: number_at(index)?,
-        from: number_at(from)?,
-        count: number_at(count)?,
+        fileid: u64::from(decimal_at(file)?),
+        index: decimal_at(index)?,
+        from: decimal_at(from)?,
+        count: decimal_at(count)?,
     })
 }
 

@@ -3,9 +3,9 @@
 ghost use Rattle.std.specs.Prelude.{◌≡◌, ◌++◌, map, OnOk};
 ghost use Rattle.std.specs.String.{string_bytes};
 ghost use Rattle.rpc_record.specs.Stream.{counted};
-ghost use Rattle.ff_cluster.specs.declared.run.Outcome.{Outcome as AnOutcome};
+ghost use Rattle.ff_cluster.specs.declared.run.Outcome.{Outcome};
 ghost use Rattle.line_runs.specs.Writing.{WritesText};
-ghost use Rattle.ff_cluster.specs.Run.{command_named, command_of, status_of, note_of, numbered, told, outcome_by, Did, DidRead, did_write, did_link, SaysOfRun};
+ghost use Rattle.ff_cluster.specs.Run.{command_named, command_of, status_of, note_of, with_number, told, outcome_of_end, Did, DidRead, did_write, did_link, SaysOfRun};
 
 use crate::print::put_numbered;
 use crate::replay::replay;
@@ -85,7 +85,7 @@ fn tell_number<E: Sink>(
     number: u64,
     notes: &mut E,
 ) -> Result<(), Failed>
-    ensures told { WritesText (E.held notes.old) (numbered word.now number) result (E.held notes.new) }
+    ensures told { WritesText (E.held notes.old) (with_number word.now number) result (E.held notes.new) }
     ensures faults { E.faults notes.new ≡ counted result (E.faults notes.old) }
 {
     let mut line = Out::new(alloc);
@@ -97,7 +97,7 @@ fn tell_number<E: Sink>(
 
 /// Appends a line of a word and a number.
 fn put_note(line: &mut Out, word: &[u8], number: u64) -> Result<(), NoMemory>
-    ensures { OnOk result (line.new ≡ line.old ++ numbered word.now number) }
+    ensures { OnOk result (line.new ≡ line.old ++ with_number word.now number) }
 {
     put_numbered(word, number, line)?;
     line.raw(b"\n")
@@ -128,7 +128,7 @@ fn command_named(word: &[u8]) -> Option<Command>
 
 /// What serving came to.
 fn served(ended: Result<NodeEnd, RunEnd>) -> Outcome
-    ensures { result ≡ outcome_by ended }
+    ensures { result ≡ outcome_of_end ended }
 {
     match ended {
         Ok(end) => Outcome::Served(end),
@@ -150,7 +150,7 @@ pub fn run<S: Source, K: Sink, E: Sink, L: Link>(
     notes: &mut E,
     link: &mut L,
 ) -> u8
-    ensures { (outcome : AnOutcome)
+    ensures { (outcome : Outcome)
         × Did (command_of (map string_bytes words.now)) outcome (told (S.left source.old) (K.held sink.old) (L.coming link.old) (L.sent link.old)) (told (S.left source.new) (K.held sink.new) (L.coming link.new) (L.sent link.new))
         × DidRead outcome (S.faults source.old) (S.faults source.new)
         × (K.faults sink.new ≡ did_write outcome (K.faults sink.old))

@@ -4,11 +4,11 @@ ghost use Rattle.std.specs.Prelude.{◌≡◌, ⊤, IsTrue, Result};
 ghost use Rattle.ff_xdr.specs.Calls.{Puts, Grows, Finds};
 ghost use Rattle.ff_xdr.specs.Form.{has_arm};
 ghost use Rattle.rpc_record.specs.Calls.{RpcCall, rpc_call};
-ghost use Rattle.rpc_record.specs.declared.call.CallFault.{CallFault as AFault};
-ghost use Rattle.rpc_record.specs.Replies.{plain_body, reply_at};
+ghost use Rattle.rpc_record.specs.declared.call.CallFault.{CallFault};
+ghost use Rattle.rpc_record.specs.Replies.{reply_stat, reply_at};
 ghost use Rattle.nfs3_wire.specs.Calls.{calls};
 ghost use Rattle.line_runs.specs.Runs.{Runs, ReadFaults, write_faults};
-ghost use Rattle.ff_cluster.specs.Show.{why_text, bad_text, read_args, args_text, verdict_text, program_text, procedure_text, call_text, stat_text, refused_text, reply_text, found_text, shown, line_shown, show_from, show_course, ShowsLine};
+ghost use Rattle.ff_cluster.specs.Show.{why_text, bad_text, args_of, args_text, verdict_text, program_text, procedure_text, call_text, stat_text, refused_text, reply_text, found_text, record_line, line_shown, show_from, show_course, ShowsLine};
 
 use crate::digits::Digits;
 use crate::print::put_numbered;
@@ -64,7 +64,7 @@ fn put_refused(error: XdrError, out: &mut Out) -> Result<(), NoMemory>
 /// bytes.
 fn put_args(header: usize, call: &Call<'_>, out: &mut Out) -> Result<(), NoMemory>
     requires { IsTrue (has_arm call.now.procedure calls) }
-    ensures { Grows out.old result out.new (args_text header (read_args (rpc_call call.now))) }
+    ensures { Grows out.old result out.new (args_text header (args_of (rpc_call call.now))) }
 {
     match read_call(call.procedure, call.args) {
         Ok(_) => out.raw(b"good"),
@@ -113,19 +113,15 @@ fn put_call(size: usize, call: &Call<'_>, out: &mut Out) -> Result<(), NoMemory>
     put_verdict(size.saturating_sub(call.args.len()), call, out)
 }
 
-/// How a call was answered.
-fn stat_text(body: &ReplyBody<'_>) -> &'static [u8]
-    ensures { result.now ≡ stat_text (plain_body body.now) }
+/// Appends how a call was answered.
+fn put_stat(body: &ReplyBody<'_>, out: &mut Out) -> Result<(), NoMemory>
+    ensures { Grows out.old result out.new (stat_text (reply_stat body.now)) }
 {
-    match body {
-        ReplyBody::Success(_) => b" accepted 0",
-        ReplyBody::ProgUnavail => b" accepted 1",
-        ReplyBody::ProgMismatch { .. } => b" accepted 2",
-        ReplyBody::ProcUnavail => b" accepted 3",
-        ReplyBody::GarbageArgs => b" accepted 4",
-        ReplyBody::SystemErr => b" accepted 5",
-        ReplyBody::RpcMismatch { .. } => b" denied 0",
-        ReplyBody::AuthError(_) => b" denied 1",
+    let number = u64::from(body.stat());
+    if body.is_denied() {
+        put_numbered(b" denied ", number, out)
+    } else {
+        put_numbered(b" accepted ", number, out)
     }
 }
 
@@ -136,7 +132,7 @@ fn put_reply(message: &[u8], out: &mut Out) -> Result<(), NoMemory>
     match Reply::read(message) {
         Ok(reply) => {
             put_numbered(b"reply ", u64::from(reply.xid), out)?;
-            out.raw(stat_text(&reply.body))
+            put_stat(&reply.body, out)
         }
         Err(error) => put_refused(error, out),
     }
@@ -148,7 +144,7 @@ fn put_found(
     found: Result<Call<'_>, CallFault>,
     out: &mut Out,
 ) -> Result<(), NoMemory>
-    ensures { (read : Result RpcCall AFault) → Finds rpc_call found.entry read → Grows out.old result out.new (found_text message.now read) }
+    ensures { (read : Result RpcCall CallFault) → Finds rpc_call found.entry read → Grows out.old result out.new (found_text message.now read) }
 {
     match found {
         Ok(call) => put_call(message.len(), &call, out),
@@ -166,7 +162,7 @@ fn put_found(
 
 /// Appends the line of a record; at an error a part of it may stand in `out`.
 fn put_line(message: &[u8], out: &mut Out) -> Result<(), NoMemory>
-    ensures { Grows out.old result out.new (shown message.now) }
+    ensures { Grows out.old result out.new (record_line message.now) }
 {
     put_found(message, Call::read(message), out)?;
     out.raw(b"\n")
@@ -174,7 +170,7 @@ fn put_line(message: &[u8], out: &mut Out) -> Result<(), NoMemory>
 
 /// Appends the line that says what a record is, or nothing.
 pub fn put_shown(message: &[u8], out: &mut Out) -> Result<(), NoMemory>
-    ensures { Puts out.old result out.new (shown message.now) }
+    ensures { Puts out.old result out.new (record_line message.now) }
 {
     let mark = out.len();
     if put_line(message, out).is_err() {

@@ -1,7 +1,7 @@
 //! The world of a bare script.
 
 ghost use Rattle.std.specs.Prelude.{◌≡◌, ◌+◌, ◌<◌, ◌≤◌, ◌^◌, List, ◌∷◌, ◌++◌, IfOk, OnOk, OnErr, Ok, Err, Some, None};
-ghost use Rattle.ff_cluster.specs.declared.world.WorldFault.{WorldFault as AFault};
+ghost use Rattle.ff_cluster.specs.declared.world.WorldFault.{WorldFault};
 ghost use Rattle.ff_cluster.specs.Line.{event_value};
 ghost use Rattle.cluster_model.specs.Event.{Deliver, Restart};
 ghost use Rattle.cluster_model.specs.declared.entry.Entry.{Entry};
@@ -201,7 +201,7 @@ impl World {
     /// and the world is spent: it answers each event by that error, and nothing changes.
     pub fn step(&mut self, event: &Event<'_>, journal: &mut Vec<Entry>) -> Result<(), WorldFault>
         ensures meets { self.old.spent ≡ None → Meets self.old.world (event_value event.now) journal.old.items result self.new journal.new.items }
-        ensures spent { (fault : AFault) → self.old.spent ≡ Some fault → (result ≡ Err fault) × (self.new ≡ self.old) × (journal.new.items ≡ journal.old.items) }
+        ensures spent { (fault : WorldFault) → self.old.spent ≡ Some fault → (result ≡ Err fault) × (self.new ≡ self.old) × (journal.new.items ≡ journal.old.items) }
     {
         if let Some(fault) = self.spent {
             return Err(fault);

@@ -70,8 +70,8 @@ pub record IsDotted (count : ℕ) (text : List ℕ) : Type 0 where
   pub is : text ≡ dotted numbers
 
 -- the numbers behind the first
-pub behind : (k m : ℕ) (text rest : List ℕ) → IsDotted (suc (suc k)) text → (m < 256) × BeginsWith text m rest → IsDotted (suc k) rest
-behind k m text rest d begins = of d.numbers d.many d.bytes d.is
+pub dotted_behind : (k m : ℕ) (text rest : List ℕ) → IsDotted (suc (suc k)) text → (m < 256) × BeginsWith text m rest → IsDotted (suc k) rest
+dotted_behind k m text rest d begins = of d.numbers d.many d.bytes d.is
   where
     of : (ns : List ℕ) → length ns ≡ suc (suc k) → All (λ n. n < 256) ns → text ≡ dotted ns → IsDotted (suc k) rest
     of [] many bytes is = absurd (omega arith)

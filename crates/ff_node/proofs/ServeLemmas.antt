@@ -1,16 +1,16 @@
 -- How serving goes on from turn to turn.
 use Rattle.std.proofs.Common.{◌≡◌, inl, inr, ℕ, ◌+◌, ◌-◌, ◌<◌, ◌≤◌, Bool, true, false, ◌⊎◌, List, [], ◌∷◌, ◌++◌, length, take, get_or, Option, Some, None, Result, Ok, Err, refl, sym, ap, subst, ◌∙◌, arith, append_assoc, append-nil}
 use Rattle.std.proofs.lemmas.List.{take_more}
-use Rattle.ff_xdr.specs.declared.error.NoMemory.{NoMemory as WantOfMemory}
+use Rattle.ff_xdr.specs.declared.error.NoMemory.{NoMemory}
 use Rattle.rpc_record.specs.declared.stream.Failed.{Failed}
 use Rattle.rpc_record.specs.declared.stream.Failed.TheVariants as failed
 use Rattle.cluster_model.specs.declared.ids.NodeId.{NodeId}
 use Rattle.ff_node.specs.declared.link.Arrival.{Arrival}
 use Rattle.ff_node.specs.declared.link.Arrival.TheVariants.{Closed}
 use Rattle.ff_node.specs.declared.serve.NodeEnd.{NodeEnd}
-use Rattle.ff_node.specs.declared.serve.NodeEnd.TheVariants.{Done, LinkFault, NoMemory}
+use Rattle.ff_node.specs.declared.serve.NodeEnd.TheVariants as ends
 use Rattle.ff_node.specs.Link.{Gives, Sends}
-use Rattle.ff_node.specs.Serve.{Served, ServedInPart, ClosedBy, IsDone, AreOpen, NodeServes, is_closed, state_after, sends_over, TakesTurn, SendsAll, Answers, end_of, sent_more}
+use Rattle.ff_node.specs.Serve.{Served, ServedInPart, ClosedBy, IsDone, AreOpen, NodeServes, is_closed, state_after, sends_over, TakesTurn, SendsAll, AnswersArrival, end_of, sent_more}
 
 abbrev pub Sent : Type 0
 Sent = List (NodeId × List ℕ)
@@ -29,7 +29,7 @@ pub sends_ok : (s : Option Sent) (to : NodeId) (bytes : List ℕ) (x : Unit {0})
 sends_ok None to bytes x s' h = h
 sends_ok (Some sent) to bytes x s' h = h
 
-pub sends_err : (s : Option Sent) (to : NodeId) (bytes : List ℕ) (e : WantOfMemory) (s' : Option Sent) → Sends s to bytes (Err e) s' → s' ≡ s
+pub sends_err : (s : Option Sent) (to : NodeId) (bytes : List ℕ) (e : NoMemory) (s' : Option Sent) → Sends s to bytes (Err e) s' → s' ≡ s
 sends_err None to bytes e s' h = h
 sends_err (Some sent) to bytes e s' h = h
 
@@ -44,8 +44,8 @@ sent_next s0 s s' records i item within is before after =
 
 module _ {S : Type 0} (step : S → Arrival → S × Sent) where
   -- what an arrival wants was sent, or fewer
-  pub answered : (s s' : S) (a : Arrival) (records : Sent) (sent sent' : Option Sent) (r : Result (Unit {0}) WantOfMemory)
-      → s' ≡ (step s a).0 → records ≡ (step s a).1 → SendsAll sent records r sent' → Answers step s a sent r s' sent'
+  pub answered : (s s' : S) (a : Arrival) (records : Sent) (sent sent' : Option Sent) (r : Result (Unit {0}) NoMemory)
+      → s' ≡ (step s a).0 → records ≡ (step s a).1 → SendsAll sent records r sent' → AnswersArrival step s a sent r s' sent'
   answered s s' a records sent sent' (Ok x) state is sends = (state, sends ∙ ap (sent_more sent) is)
   answered s s' a records sent sent' (Err e) state is sends =
       let fewer = sends.1 in
@@ -94,9 +94,9 @@ module _ {S : Type 0} (step : S → Arrival → S × Sent) where
     serves_more : (turns : ℕ) (coming : List Arrival) (sent : Sent) (end : NodeEnd) (s' : S) (coming' : Option (List Arrival)) (sent' : Option Sent)
         → NodeServes step (step s a).0 turns (Some coming) (Some (sent ++ (step s a).1)) end s' coming' sent' → NodeServes step s (turns + 1) (Some (a ∷ coming)) (Some sent) end s' coming' sent'
     unfolding served_more
-    serves_more turns coming sent Done s' coming' sent' serves = (served_more turns coming sent s' sent' serves.0, done_more a turns serves.0.taken serves.0.rest coming' serves.1)
-    serves_more turns coming sent LinkFault s' coming' sent' serves = (served_more turns coming sent s' sent' serves.0, serves.1)
-    serves_more turns coming sent NoMemory s' coming' sent' serves = in_part_more turns coming sent coming' sent' serves
+    serves_more turns coming sent ends.Done s' coming' sent' serves = (served_more turns coming sent s' sent' serves.0, done_more a turns serves.0.taken serves.0.rest coming' serves.1)
+    serves_more turns coming sent ends.LinkFault s' coming' sent' serves = (served_more turns coming sent s' sent' serves.0, serves.1)
+    serves_more turns coming sent ends.NoMemory s' coming' sent' serves = in_part_more turns coming sent coming' sent' serves
 
     -- the serving goes on after this arrival
     pub turn_goes_on : (coming coming' : Option (List Arrival)) (sent sent' : Option Sent) (s' : S) → Gives coming (Ok a) coming' → s' ≡ (step s a).0 → sent' ≡ sent_more sent (step s a).1
@@ -113,7 +113,7 @@ module _ {S : Type 0} (step : S → Arrival → S × Sent) where
 
     -- it was taken, and fewer was sent than it wants
     pub turn_in_part : (coming coming' : Option (List Arrival)) (sent sent' : Option Sent) (s' : S) (part : ℕ) → Gives coming (Ok a) coming' → (part ≡ 0) ⊎ (part < length (step s a).1) → sent' ≡ sent_more sent (take part (step s a).1)
-        → TakesTurn step s coming sent (Some NoMemory) s' coming' sent'
+        → TakesTurn step s coming sent (Some ends.NoMemory) s' coming' sent'
     turn_in_part None coming' sent sent' s' part gives fewer sends = λ turns. tt
     turn_in_part (Some []) coming' sent sent' s' part gives fewer sends = absurd (cc (live, ap is_closed gives.0))
     turn_in_part (Some (first ∷ rest)) coming' None sent' s' part gives fewer sends = λ turns. tt
@@ -164,7 +164,7 @@ module _ {S : Type 0} (step : S → Arrival → S × Sent) where
   }
 
   pub turn_closed : (s : S) (a : Arrival) (coming coming' : Option (List Arrival)) (sent sent' : Option Sent) → is_closed a ≡ true → Gives coming (Ok a) coming' → sent' ≡ sent
-      → TakesTurn step s coming sent (Some Done) s coming' sent'
+      → TakesTurn step s coming sent (Some ends.Done) s coming' sent'
   unfolding served_none
   turn_closed s a None coming' sent sent' closed gives same = λ turns. tt
   turn_closed s a (Some []) coming' None sent' closed gives same = λ turns. tt
@@ -193,7 +193,7 @@ module _ {S : Type 0} (step : S → Arrival → S × Sent) where
 
   -- ---- all turns
 
-  pub no_turns : (s : S) (coming : Option (List Arrival)) (sent : Option Sent) → NodeServes step s 0 coming sent Done s coming sent
+  pub no_turns : (s : S) (coming : Option (List Arrival)) (sent : Option Sent) → NodeServes step s 0 coming sent ends.Done s coming sent
   unfolding served_none
   no_turns s None sent = tt
   no_turns s (Some coming) None = tt

@@ -27,22 +27,22 @@ Sends (Some sent) to bytes (Ok x) new = new ≡ Some (sent ++ (to, bytes) ∷ []
 Sends (Some sent) to bytes (Err e) new = new ≡ Some sent
 
 -- the address of this number in a list, from 1
-abbrev pub numbered : List NetAddr → ℕ → Option NetAddr
-numbered servers number = if number == 0 then None else slice_get servers (number - 1)
+abbrev pub address_numbered : List NetAddr → ℕ → Option NetAddr
+address_numbered servers number = if number == 0 then None else slice_get servers (number - 1)
 
 -- the address where a node in this role listens; a client has none
 abbrev pub own_address : Config → Role → Option NetAddr
 own_address config Mds = Some config.mds
-own_address config Server = numbered config.servers.items config.own
+own_address config Server = address_numbered config.servers.items config.own
 own_address config Client = None
 
 abbrev pub opening_of : Config → Role → Opening
 opening_of config role = record { role = role; own = config.own; address = own_address config role }
 
 -- what opening did to what a link was last opened with
-abbrev pub Opens : Option Opening → Config → Role → Result (Unit {0}) Failed → Option Opening → Type 0
-Opens old config role (Ok x) new = new ≡ Some (opening_of config role)
-Opens old config role (Err e) new = new ≡ old
+abbrev pub OpensLink : Option Opening → Config → Role → Result (Unit {0}) Failed → Option Opening → Type 0
+OpensLink old config role (Ok x) new = new ≡ Some (opening_of config role)
+OpensLink old config role (Err e) new = new ≡ old
 
 -- a link over memory: what it was opened with, what is still to come, and what was sent
 pub record SureLinkState : Type 0 where

@@ -1,6 +1,6 @@
 -- What a node that serves over a link sends.
 use Rattle.std.specs.Prelude.{⊤, ◌⊎◌, ◌≡◌, ℕ, ◌+◌, ◌<◌, ◌≤◌, Bool, true, false, List, [], ◌∷◌, ◌++◌, length, take, Option, Some, None, Result, Ok, Err}
-use Rattle.ff_xdr.specs.declared.error.NoMemory.{NoMemory as WantOfMemory}
+use Rattle.ff_xdr.specs.declared.error.NoMemory.{NoMemory}
 use Rattle.rpc_record.specs.declared.stream.Failed.{Failed}
 use Rattle.rpc_record.specs.declared.stream.Failed.TheVariants as failed
 use Rattle.rpc_record.specs.Stream.{one_more}
@@ -15,7 +15,7 @@ use Rattle.ff_node.specs.declared.link.Opening.{Opening}
 use Rattle.ff_node.specs.declared.link.Role.{Role}
 use Rattle.ff_node.specs.Link.{opening_of}
 use Rattle.ff_node.specs.declared.serve.NodeEnd.{NodeEnd}
-use Rattle.ff_node.specs.declared.serve.NodeEnd.TheVariants.{Done, LinkFault, NoMemory}
+use Rattle.ff_node.specs.declared.serve.NodeEnd.TheVariants as ends
 
 -- One step of a data server: a record is answered to the node that it comes from, by the rule of the data server; no other arrival
 -- does anything.
@@ -84,9 +84,9 @@ IsDone turns taken rest coming' = ((length taken ≡ turns) × (coming' ≡ Some
 abbrev pub NodeServes : {S : Type 0} → (S → Arrival → S × List (NodeId × List ℕ)) → S → ℕ → Option (List Arrival) → Option (List (NodeId × List ℕ)) → NodeEnd → S → Option (List Arrival) → Option (List (NodeId × List ℕ)) → Type 0
 NodeServes step s turns None sent end s' coming' sent' = ⊤
 NodeServes step s turns (Some coming) None end s' coming' sent' = ⊤
-NodeServes step s turns (Some coming) (Some sent) Done s' coming' sent' = (served : Served step s turns coming sent s' sent') × IsDone turns served.taken served.rest coming'
-NodeServes step s turns (Some coming) (Some sent) LinkFault s' coming' sent' = (served : Served step s turns coming sent s' sent') × (coming' ≡ Some served.rest)
-NodeServes step s turns (Some coming) (Some sent) NoMemory s' coming' sent' = ServedInPart step s turns coming sent coming' sent'
+NodeServes step s turns (Some coming) (Some sent) ends.Done s' coming' sent' = (served : Served step s turns coming sent s' sent') × IsDone turns served.taken served.rest coming'
+NodeServes step s turns (Some coming) (Some sent) ends.LinkFault s' coming' sent' = (served : Served step s turns coming sent s' sent') × (coming' ≡ Some served.rest)
+NodeServes step s turns (Some coming) (Some sent) ends.NoMemory s' coming' sent' = ServedInPart step s turns coming sent coming' sent'
 
 -- what serving as a data server did
 abbrev pub Serves : ServerState → ℕ → Option (List Arrival) → Option (List (NodeId × List ℕ)) → NodeEnd → Option (List Arrival) → Option (List (NodeId × List ℕ)) → Type 0
@@ -95,18 +95,18 @@ Serves server turns coming sent end coming' sent' = (server' : ServerState) × N
 -- The link was opened so; or opening it failed, and nothing was taken or sent.
 abbrev pub OpensFor : Option Opening → Config → Role → NodeEnd → Option (List Arrival) → Option (List (NodeId × List ℕ)) → Option Opening → Option (List Arrival) → Option (List (NodeId × List ℕ)) → Type 0
 OpensFor opened config role end coming sent opened' coming' sent' =
-    (opened' ≡ Some (opening_of config role)) ⊎ (((end ≡ LinkFault) ⊎ (end ≡ NoMemory)) × (opened' ≡ opened) × (coming' ≡ coming) × (sent' ≡ sent))
+    (opened' ≡ Some (opening_of config role)) ⊎ (((end ≡ ends.LinkFault) ⊎ (end ≡ ends.NoMemory)) × (opened' ≡ opened) × (coming' ≡ coming) × (sent' ≡ sent))
 
 -- the count of the link's faults: one more exactly at LinkFault
 abbrev pub link_faults : NodeEnd → ℕ → ℕ
-link_faults Done n = n
-link_faults LinkFault n = one_more n
-link_faults NoMemory n = n
+link_faults ends.Done n = n
+link_faults ends.LinkFault n = one_more n
+link_faults ends.NoMemory n = n
 
 -- how a failed call of a link ends a node
 abbrev pub end_of : Failed → NodeEnd
-end_of failed.Fault = LinkFault
-end_of failed.NoMemory = NoMemory
+end_of failed.Fault = ends.LinkFault
+end_of failed.NoMemory = ends.NoMemory
 
 -- what is sent after more records, where the link tells it
 abbrev pub sent_more : Option (List (NodeId × List ℕ)) → List (NodeId × List ℕ) → Option (List (NodeId × List ℕ))
@@ -114,14 +114,14 @@ sent_more None more = None
 sent_more (Some sent) more = Some (sent ++ more)
 
 -- All of some records were sent, or, for want of memory, fewer from their front.
-abbrev pub SendsAll : Option (List (NodeId × List ℕ)) → List (NodeId × List ℕ) → Result (Unit {0}) WantOfMemory → Option (List (NodeId × List ℕ)) → Type 0
+abbrev pub SendsAll : Option (List (NodeId × List ℕ)) → List (NodeId × List ℕ) → Result (Unit {0}) NoMemory → Option (List (NodeId × List ℕ)) → Type 0
 SendsAll sent records (Ok x) sent' = sent' ≡ sent_more sent records
 SendsAll sent records (Err e) sent' = (n : ℕ) × (n < length records) × (sent' ≡ sent_more sent (take n records))
 
 -- What taking an arrival did: the node and what is sent are by its step; for want of memory fewer records were sent.
-abbrev pub Answers : {S : Type 0} → (S → Arrival → S × List (NodeId × List ℕ)) → S → Arrival → Option (List (NodeId × List ℕ)) → Result (Unit {0}) WantOfMemory → S → Option (List (NodeId × List ℕ)) → Type 0
-Answers step s arrival sent (Ok x) s' sent' = (s' ≡ (step s arrival).0) × (sent' ≡ sent_more sent (step s arrival).1)
-Answers step s arrival sent (Err e) s' sent' = (part : ℕ) × ((part ≡ 0) ⊎ (part < length (step s arrival).1)) × (sent' ≡ sent_more sent (take part (step s arrival).1))
+abbrev pub AnswersArrival : {S : Type 0} → (S → Arrival → S × List (NodeId × List ℕ)) → S → Arrival → Option (List (NodeId × List ℕ)) → Result (Unit {0}) NoMemory → S → Option (List (NodeId × List ℕ)) → Type 0
+AnswersArrival step s arrival sent (Ok x) s' sent' = (s' ≡ (step s arrival).0) × (sent' ≡ sent_more sent (step s arrival).1)
+AnswersArrival step s arrival sent (Err e) s' sent' = (part : ℕ) × ((part ≡ 0) ⊎ (part < length (step s arrival).1)) × (sent' ≡ sent_more sent (take part (step s arrival).1))
 
 -- What one turn of serving did: it ended the serving so, or whatever the serving does from there on, it has done from before the
 -- turn with one turn more.

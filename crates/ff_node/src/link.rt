@@ -5,7 +5,7 @@ ghost use Rattle.rpc_record.specs.Stream.{counted};
 ghost use Rattle.cluster_model.specs.declared.ids.NodeId.{NodeId};
 ghost use Rattle.ff_node.specs.declared.link.Arrival.{Arrival};
 ghost use Rattle.ff_node.specs.declared.link.Opening.{Opening};
-ghost use Rattle.ff_node.specs.Link.{Gives, Opens, Sends, numbered, opening_of, own_address};
+ghost use Rattle.ff_node.specs.Link.{Gives, OpensLink, Sends, address_numbered, opening_of, own_address};
 
 use crate::address::NetAddr;
 use crate::config::Config;
@@ -57,14 +57,14 @@ fn own_address(config: &Config, role: Role) -> Option<NetAddr>
 {
     match role {
         Role::Mds => Some(config.mds),
-        Role::Server => numbered(&config.servers, config.own),
+        Role::Server => address_numbered(&config.servers, config.own),
         Role::Client => None,
     }
 }
 
 /// The address of this number, from 1.
-fn numbered(servers: &[NetAddr], number: u32) -> Option<NetAddr>
-    ensures { result ≡ numbered servers.now number }
+fn address_numbered(servers: &[NetAddr], number: u32) -> Option<NetAddr>
+    ensures { result ≡ address_numbered servers.now number }
 {
     if number == 0 {
         return None;
@@ -101,7 +101,7 @@ pub trait Link {
 
     /// Makes the link ready for a node in its role. `Failed::Fault` is counted.
     fn open(&mut self, config: &Config, role: Role) -> Result<(), Failed>
-        ensures opened { Opens (opened self.old) config.now role result (opened self.new) }
+        ensures opened { OpensLink (opened self.old) config.now role result (opened self.new) }
         ensures coming { coming self.new ≡ coming self.old }
         ensures sent { sent self.new ≡ sent self.old }
         ensures faults { faults self.new ≡ counted result (faults self.old) };

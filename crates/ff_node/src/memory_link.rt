@@ -2,7 +2,7 @@
 
 ghost use Rattle.std.specs.Prelude.{◌≡◌, ◌↔◌, List, [], None, Some, Ok, Err, IsTrue, IsOk, if◌then◌else◌};
 ghost use Rattle.rpc_record.specs.Stream.{counted, one_more, fails_next};
-ghost use Rattle.ff_node.specs.Link.{Opens, Gives, Sends};
+ghost use Rattle.ff_node.specs.Link.{OpensLink, Gives, Sends};
 
 use crate::config::Config;
 use crate::link::{Arrival, Link, Role};
@@ -110,7 +110,7 @@ impl Link for MemoryLink {
 
     /// Fails where the call's number is on the list.
     fn open(&mut self, config: &Config, role: Role) -> Result<(), Failed>
-        ensures opened { Opens self.old.opened config.now role result self.new.opened }
+        ensures opened { OpensLink self.old.opened config.now role result self.new.opened }
         ensures coming { Some self.new.coming ≡ Some self.old.coming }
         ensures sent { Some self.new.sent ≡ Some self.old.sent }
         ensures faults { self.new.faults ≡ counted result self.old.faults }

@@ -3,7 +3,7 @@
 ghost use Rattle.std.specs.Prelude.{◌≡◌, List};
 ghost use Rattle.ds_files.specs.Server.{new_server};
 ghost use Rattle.ff_node.specs.declared.link.Role.{Role};
-ghost use Rattle.ff_node.specs.Serve.{Answers, NodeServes, OpensFor, SendsAll, Serves, TakesTurn, end_of, is_closed, link_faults, turn_faults};
+ghost use Rattle.ff_node.specs.Serve.{AnswersArrival, NodeServes, OpensFor, SendsAll, Serves, TakesTurn, end_of, is_closed, link_faults, turn_faults};
 
 use crate::config::Config;
 use crate::link::{Arrival, Link, Role};
@@ -69,7 +69,7 @@ fn answer<N: Node, L: Link>(
     node: &mut N,
     link: &mut L,
 ) -> Result<(), NoMemory>
-    ensures answers { Answers N.step node.old arrival (L.sent link.old) result node.new (L.sent link.new) }
+    ensures answers { AnswersArrival N.step node.old arrival (L.sent link.old) result node.new (L.sent link.new) }
     ensures coming { L.coming link.new ≡ L.coming link.old }
     ensures opened { L.opened link.new ≡ L.opened link.old }
     ensures faults { L.faults link.new ≡ L.faults link.old }

@@ -2,7 +2,7 @@
 
 ghost use Rattle.std.specs.Prelude.{◌≡◌, ◌≢◌, List, [], None, Some, Ok, Err, IsOk};
 ghost use Rattle.rpc_record.specs.Stream.{counted};
-ghost use Rattle.ff_node.specs.Link.{Opens, Gives};
+ghost use Rattle.ff_node.specs.Link.{OpensLink, Gives};
 
 use crate::config::Config;
 use crate::link::{Arrival, Link, Opening, Role};
@@ -62,7 +62,7 @@ impl Link for SureLink {
     ghost sent = { λ link. Some link.sent };
 
     fn open(&mut self, config: &Config, role: Role) -> Result<(), Failed>
-        ensures opened { Opens self.old.opened config.now role result self.new.opened }
+        ensures opened { OpensLink self.old.opened config.now role result self.new.opened }
         ensures coming { Some self.new.coming ≡ Some self.old.coming }
         ensures sent { Some self.new.sent ≡ Some self.old.sent }
         ensures faults { 0 ≡ counted result 0 }

@@ -1,9 +1,9 @@
 -- A run over the lines of a source to its end.
 use Rattle.std.specs.Prelude.{⊤, ◌⊎◌, ◌≡◌, ℕ, ◌<◌, ◌≤◌, Bool, true, false, List, [], ◌∷◌, ◌++◌, length, take, Option, Some, None, Result, Ok, Err}
-use Rattle.ff_xdr.specs.declared.error.NoMemory.{NoMemory as NoRoom}
+use Rattle.ff_xdr.specs.declared.error.NoMemory.{NoMemory}
 use Rattle.rpc_record.specs.Stream.{one_more}
 use Rattle.line_runs.specs.declared.end.RunEnd.{RunEnd}
-use Rattle.line_runs.specs.declared.end.RunEnd.TheVariants.{Done, BadLine, ReadFault, WriteFault, NoMemory, Limit}
+use Rattle.line_runs.specs.declared.end.RunEnd.TheVariants as ends
 use Rattle.line_runs.specs.declared.end.Played.{Played}
 use Rattle.line_runs.specs.declared.end.Played.TheVariants as played
 use Rattle.line_runs.specs.Lines.{script_lines, ended_lines}
@@ -54,12 +54,12 @@ IsPastLimit coming bytes = ((source_course coming bytes).past ≡ true) ⊎ (((s
 -- grammar; a limit would be passed, and there are so many entries.
 -- The other ends have their causes in the counts of faults.
 abbrev pub Ends : LinesMeaning → List ℕ → RunEnd → Type 0
-Ends coming bytes Done = ((source_course coming bytes).bad ≡ None) × ((source_course coming bytes).past ≡ false) × (length bytes ≤ max_source)
-Ends coming bytes (BadLine n) = ((source_course coming bytes).bad ≡ Some n) × ((source_course coming bytes).past ≡ false)
-Ends coming bytes (Limit count) = IsPastLimit coming bytes × (count ≡ (source_course coming bytes).count)
-Ends coming bytes ReadFault = ⊤
-Ends coming bytes WriteFault = ⊤
-Ends coming bytes NoMemory = ⊤
+Ends coming bytes ends.Done = ((source_course coming bytes).bad ≡ None) × ((source_course coming bytes).past ≡ false) × (length bytes ≤ max_source)
+Ends coming bytes (ends.BadLine n) = ((source_course coming bytes).bad ≡ Some n) × ((source_course coming bytes).past ≡ false)
+Ends coming bytes (ends.Limit count) = IsPastLimit coming bytes × (count ≡ (source_course coming bytes).count)
+Ends coming bytes ends.ReadFault = ⊤
+Ends coming bytes ends.WriteFault = ⊤
+Ends coming bytes ends.NoMemory = ⊤
 
 -- the sink took all of the text, or a beginning of it
 abbrev pub TookAll : List ℕ → List ℕ → Option (List ℕ) → Type 0
@@ -94,21 +94,21 @@ pub record TookOfRead (coming : LinesMeaning) (bytes held : List ℕ) (left' hel
 -- What a sink that held these bytes got: all of the text; all of the text of what was read before the source failed; or a
 -- beginning of the text of what was read.
 abbrev pub SinkGot : LinesMeaning → List ℕ → List ℕ → RunEnd → Option (List ℕ) → Option (List ℕ) → Type 0
-SinkGot coming bytes held Done left' new = TookAll held (source_course coming bytes).text new
-SinkGot coming bytes held (BadLine n) left' new = TookAll held (source_course coming bytes).text new
-SinkGot coming bytes held (Limit count) left' new = TookAll held (source_course coming bytes).text new
-SinkGot coming bytes held ReadFault left' new = FailedBehind coming bytes held left' new
-SinkGot coming bytes held WriteFault left' new = TookOfRead coming bytes held left' new
-SinkGot coming bytes held NoMemory left' new = TookOfRead coming bytes held left' new
+SinkGot coming bytes held ends.Done left' new = TookAll held (source_course coming bytes).text new
+SinkGot coming bytes held (ends.BadLine n) left' new = TookAll held (source_course coming bytes).text new
+SinkGot coming bytes held (ends.Limit count) left' new = TookAll held (source_course coming bytes).text new
+SinkGot coming bytes held ends.ReadFault left' new = FailedBehind coming bytes held left' new
+SinkGot coming bytes held ends.WriteFault left' new = TookOfRead coming bytes held left' new
+SinkGot coming bytes held ends.NoMemory left' new = TookOfRead coming bytes held left' new
 
 -- what is left of the source: nothing where all lines were played
 abbrev pub Leaves : RunEnd → Option (List ℕ) → Type 0
-Leaves Done left = left ≡ Some []
-Leaves (BadLine n) left = ⊤
-Leaves (Limit count) left = ⊤
-Leaves ReadFault left = ⊤
-Leaves WriteFault left = ⊤
-Leaves NoMemory left = ⊤
+Leaves ends.Done left = left ≡ Some []
+Leaves (ends.BadLine n) left = ⊤
+Leaves (ends.Limit count) left = ⊤
+Leaves ends.ReadFault left = ⊤
+Leaves ends.WriteFault left = ⊤
+Leaves ends.NoMemory left = ⊤
 
 -- What a run did, by what the source and the sink tell.
 abbrev pub Runs : LinesMeaning → Option (List ℕ) → Option (List ℕ) → RunEnd → Option (List ℕ) → Option (List ℕ) → Type 0
@@ -119,21 +119,21 @@ Runs coming (Some bytes) (Some held) end left' held' = Ends coming bytes end × 
 -- The count of the source's faults: one more at a fault, and as before where nothing failed. Where the text could not be
 -- written in the end, the source may have failed before.
 abbrev pub ReadFaults : RunEnd → ℕ → ℕ → Type 0
-ReadFaults Done old new = new ≡ old
-ReadFaults (BadLine line) old new = new ≡ old
-ReadFaults (Limit count) old new = new ≡ old
-ReadFaults ReadFault old new = new ≡ one_more old
-ReadFaults WriteFault old new = (new ≡ old) ⊎ (new ≡ one_more old)
-ReadFaults NoMemory old new = (new ≡ old) ⊎ (new ≡ one_more old)
+ReadFaults ends.Done old new = new ≡ old
+ReadFaults (ends.BadLine line) old new = new ≡ old
+ReadFaults (ends.Limit count) old new = new ≡ old
+ReadFaults ends.ReadFault old new = new ≡ one_more old
+ReadFaults ends.WriteFault old new = (new ≡ old) ⊎ (new ≡ one_more old)
+ReadFaults ends.NoMemory old new = (new ≡ old) ⊎ (new ≡ one_more old)
 
 -- the count of the sink's faults
 abbrev pub write_faults : RunEnd → ℕ → ℕ
-write_faults Done n = n
-write_faults (BadLine line) n = n
-write_faults (Limit count) n = n
-write_faults ReadFault n = n
-write_faults WriteFault n = one_more n
-write_faults NoMemory n = n
+write_faults ends.Done n = n
+write_faults (ends.BadLine line) n = n
+write_faults (ends.Limit count) n = n
+write_faults ends.ReadFault n = n
+write_faults ends.WriteFault n = one_more n
+write_faults ends.NoMemory n = n
 
 -- ---- what playing a line does
 
@@ -159,7 +159,7 @@ pub record HasPrintedPart (line : List ℕ) (coming : LinesMeaning) (text text' 
 
 -- What playing the line with this number did: the run goes on from there; the line is outside the grammar; it would pass a
 -- limit; or memory was wanted.
-abbrev pub PlaysLine : ℕ → List ℕ → LinesMeaning → List ℕ → Result Played NoRoom → LinesMeaning → List ℕ → Type 0
+abbrev pub PlaysLine : ℕ → List ℕ → LinesMeaning → List ℕ → Result Played NoMemory → LinesMeaning → List ℕ → Type 0
 PlaysLine number line old text (Ok played.Done) new text' = Goes line old text new text'
 PlaysLine number line old text (Ok played.Outside) new text' = IsOutside number line old × (text' ≡ text)
 PlaysLine number line old text (Ok (played.Limited count)) new text' = StopsAtLimit count line old × (text' ≡ text)

@@ -7,7 +7,7 @@ use Rattle.rpc_record.specs.FramesView.{resume}
 use Rattle.rpc_record.proofs.FrameSteps.{resume_of}
 use Rattle.rpc_record.proofs.FrameCalls.{front_start, given_taken}
 use Rattle.record_link.specs.Connection.{ConnectionState, is_refused, with_front, HasCome}
-use Rattle.record_link.specs.Kept.{front_with, IsBehind, IsKept}
+use Rattle.record_link.specs.Kept.{front_with, HoldsFront, IsKept}
 
 pub starts : (f : Front) → f ≡ front_of [] → IsKept f None false
 starts f e = record {
@@ -55,7 +55,7 @@ pub kept_front : (f g : Front) (r : Option (List ℕ)) → TakesOut f r g → fr
 kept_front f g None takes = takes.1
 kept_front f g (Some message) takes = sym takes.0
 
-kept_behind : (f g : Front) (r : Option (List ℕ)) → TakesOut f r g → IsBehind g r
+kept_behind : (f g : Front) (r : Option (List ℕ)) → TakesOut f r g → HoldsFront g r
 kept_behind f g None takes = ap is_whole takes.1 ∙ takes.0
 kept_behind f g (Some message) takes = takes.1
 

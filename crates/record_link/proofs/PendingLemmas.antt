@@ -5,7 +5,7 @@ use Rattle.std.proofs.Math.Seq.{take-append-add}
 use Rattle.record_link.specs.declared.stream.Halt.{Halt}
 use Rattle.record_link.specs.declared.stream.Halt.TheVariants.{WouldBlock, Ended, Lost, NoMemory}
 use Rattle.record_link.specs.Memory.{size_of}
-use Rattle.record_link.specs.Stream.{Comes, Reads, ReadsAt, gone_more}
+use Rattle.record_link.specs.Stream.{Comes, ReadsStream, ReadsAt, gone_more}
 
 pub gone_nil : (gone : Option (List ℕ)) → gone ≡ gone_more gone []
 gone_nil None = refl
@@ -40,7 +40,7 @@ module _ (mark : ℕ) (old piece rest : List ℕ) (within : mark ≤ length old)
   fits : (n : ℕ) → n ≤ length piece → mark + n ≤ length (take mark old ++ (piece ++ rest))
   fits n some = omega (arith, some, length-append (take mark old) (piece ++ rest), length-append piece rest, length-take-le mark old within)
 
-  pub reads_at : (r : Result ℕ Halt) → IfOk r (λ n. n ≤ length piece) → Reads coming piece r coming' → ReadsAt mark old coming r (take mark old ++ (piece ++ rest)) coming'
+  pub reads_at : (r : Result ℕ Halt) → IfOk r (λ n. n ≤ length piece) → ReadsStream coming piece r coming' → ReadsAt mark old coming r (take mark old ++ (piece ++ rest)) coming'
   reads_at (Ok n) some came = (take n piece, length-take-le n piece some, stands_behind mark old piece rest n within some, fits n some, size, came)
   reads_at (Err Ended) some came = (before, came.0, came.1)
   reads_at (Err WouldBlock) some came = (before, came)

@@ -1,12 +1,12 @@
 -- A connection: the bytes and records that came, and those that go.
 use Rattle.std.specs.Prelude.{◌≡◌, ℕ, ◌-◌, ◌==◌, Bool, true, false, ◌&&◌, ◌||◌, not, List, [], ◌++◌, length, drop, flat_map, Option, None, Some, Result, Ok, Err}
-use Rattle.ff_xdr.specs.declared.error.NoMemory.{NoMemory as WantOfMemory}
+use Rattle.ff_xdr.specs.declared.error.NoMemory.{NoMemory}
 use Rattle.rpc_record.specs.declared.frames.RecordFault.{RecordFault}
 use Rattle.rpc_record.specs.declared.frames.RecordFault.TheVariants as fault
 use Rattle.rpc_record.specs.Frames.{Front, Open, Whole, TooLong, TooManyFragments, front_of, is_whole, record_bytes, HasGiven, Takes}
 use Rattle.rpc_record.specs.Stream.{one_more}
 use Rattle.record_link.specs.declared.stream.Halt.{Halt}
-use Rattle.record_link.specs.declared.stream.Halt.TheVariants.{WouldBlock, Ended, Lost, NoMemory}
+use Rattle.record_link.specs.declared.stream.Halt.TheVariants as halt
 use Rattle.record_link.specs.Stream.{Comes, IsEnd, WritesOut}
 
 -- The front of the bytes that were read as records since the last whole one was handed out; the bytes that came behind those;
@@ -54,10 +54,10 @@ is_done s = is_spent s && ((s.unanswered == 0) && (length s.to_go == 0))
 -- What filling did: these bytes of the stream came behind the others; or the peer has ended its side; or nothing was done.
 abbrev pub Fills : ConnectionState → Option (List ℕ) → Result ℕ Halt → ConnectionState → Option (List ℕ) → Type 0
 Fills old coming (Ok n) new coming' = (piece : List ℕ) × (length piece ≡ n) × (new ≡ with_front old old.front (old.ahead ++ piece)) × Comes coming piece coming'
-Fills old coming (Err Ended) new coming' = (new ≡ with_ended old) × IsEnd coming × (coming' ≡ coming)
-Fills old coming (Err WouldBlock) new coming' = (new ≡ old) × (coming' ≡ coming)
-Fills old coming (Err Lost) new coming' = (new ≡ old) × (coming' ≡ coming)
-Fills old coming (Err NoMemory) new coming' = (new ≡ old) × (coming' ≡ coming)
+Fills old coming (Err halt.Ended) new coming' = (new ≡ with_ended old) × IsEnd coming × (coming' ≡ coming)
+Fills old coming (Err halt.WouldBlock) new coming' = (new ≡ old) × (coming' ≡ coming)
+Fills old coming (Err halt.Lost) new coming' = (new ≡ old) × (coming' ≡ coming)
+Fills old coming (Err halt.NoMemory) new coming' = (new ≡ old) × (coming' ≡ coming)
 
 -- What advancing did, where these bytes were read as records since the last one was handed out: of those ahead all were read, or
 -- all up to the end of a whole record; or a header in them passes a limit; or memory was wanted, and nothing has changed.
@@ -73,9 +73,9 @@ Hands old (Some message) new = (old.front ≡ Whole message []) × (new ≡ with
 Hands old None new = (is_whole old.front ≡ false) × (new ≡ old)
 
 -- what answering did: the record stands behind what is to go, with one fewer unanswered; or memory was wanted
-abbrev pub Answers : ConnectionState → List ℕ → Result (Unit {0}) WantOfMemory → ConnectionState → Type 0
-Answers old message (Ok x) new = new ≡ with_unanswered (with_to_go old (old.to_go ++ record_bytes message)) (old.unanswered - 1)
-Answers old message (Err e) new = new ≡ old
+abbrev pub PutsAnswer : ConnectionState → List ℕ → Result (Unit {0}) NoMemory → ConnectionState → Type 0
+PutsAnswer old message (Ok x) new = new ≡ with_unanswered (with_to_go old (old.to_go ++ record_bytes message)) (old.unanswered - 1)
+PutsAnswer old message (Err e) new = new ≡ old
 
 -- what draining did: of what is to go some went to the stream
 pub record Drains (old : ConnectionState) (gone : Option (List ℕ)) (result : Result (Unit {0}) Halt) (new : ConnectionState) (gone' : Option (List ℕ)) : Type 0 where

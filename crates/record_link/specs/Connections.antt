@@ -1,15 +1,15 @@
 -- Connections under numbers: which is read, handed out, answered and closed.
 use Rattle.std.specs.Prelude.{◌≡◌, ◌⊎◌, ◌≢◌, ℕ, ◌+◌, ◌-◌, ◌^◌, ◌<◌, ◌≤◌, ◌==◌, nat_lt, nat_le, max, Bool, true, false, ◌&&◌, ◌||◌, not, if◌then◌else◌, List, [], ◌∷◌, ◌++◌, length, take, drop, slice_get, slice_set, Option, None, Some, Result, Ok, Err}
-use Rattle.ff_xdr.specs.declared.error.NoMemory.{NoMemory as WantOfMemory}
+use Rattle.ff_xdr.specs.declared.error.NoMemory.{NoMemory}
 use Rattle.rpc_record.specs.declared.frames.RecordFault.{RecordFault}
 use Rattle.rpc_record.specs.declared.frames.RecordFault.TheVariants as fault
 use Rattle.rpc_record.specs.Frames.{front_of, is_whole, max_record}
 use Rattle.record_link.specs.declared.stream.Halt.{Halt}
-use Rattle.record_link.specs.declared.stream.Halt.TheVariants.{WouldBlock, Ended, Lost, NoMemory}
+use Rattle.record_link.specs.declared.stream.Halt.TheVariants as halt
 use Rattle.record_link.specs.declared.rank.Rank.{Rank}
 use Rattle.record_link.specs.declared.rank.Rank.TheVariants.{Numbered, Silent, Ready, Over}
 use Rattle.record_link.specs.declared.entry.Entry.{Entry}
-use Rattle.record_link.specs.Connection.{ConnectionState, new_connection, is_spent, Fills, Advances, Hands, Answers, Drains}
+use Rattle.record_link.specs.Connection.{ConnectionState, new_connection, is_spent, Fills, Advances, Hands, PutsAnswer, Drains}
 
 -- the most connections
 abbrev pub max_connections : ℕ
@@ -106,23 +106,23 @@ order_after e order = if is_whole e.connection.front then e.order else order
 abbrev pub FillsEntry : ℕ → ℕ → Entry → Option (List ℕ) → Result (Unit {0}) Halt → Entry → Option (List ℕ) → Type 0
 FillsEntry now order old coming (Ok x) new coming' =
     (n : ℕ) × (mid : ConnectionState) × Fills old.connection coming (Ok n) mid coming' × Settles mid new.connection × (new ≡ entry_with old new.connection now old.moved (order_after old order))
-FillsEntry now order old coming (Err Ended) new coming' = Fills old.connection coming (Err Ended) new.connection coming' × (new ≡ entry_with old new.connection now old.moved old.order)
-FillsEntry now order old coming (Err NoMemory) new coming' =
+FillsEntry now order old coming (Err halt.Ended) new coming' = Fills old.connection coming (Err halt.Ended) new.connection coming' × (new ≡ entry_with old new.connection now old.moved old.order)
+FillsEntry now order old coming (Err halt.NoMemory) new coming' =
     (r : Result ℕ Halt) × Fills old.connection coming r new.connection coming' × (new.number ≡ old.number)
-FillsEntry now order old coming (Err WouldBlock) new coming' = (new ≡ old) × (coming' ≡ coming)
-FillsEntry now order old coming (Err Lost) new coming' = (new ≡ old) × (coming' ≡ coming)
+FillsEntry now order old coming (Err halt.WouldBlock) new coming' = (new ≡ old) × (coming' ≡ coming)
+FillsEntry now order old coming (Err halt.Lost) new coming' = (new ≡ old) × (coming' ≡ coming)
 
 -- What handing out did: the record that is whole, and the bytes behind it were read; where memory was wanted it is lost.
-abbrev pub HandsEntry : ℕ → Entry → Result (Option (List ℕ)) WantOfMemory → Entry → Type 0
+abbrev pub HandsEntry : ℕ → Entry → Result (Option (List ℕ)) NoMemory → Entry → Type 0
 HandsEntry order old (Ok (Some message)) new =
     (mid : ConnectionState) × Hands old.connection (Some message) mid × Settles mid new.connection × (new ≡ entry_with old new.connection old.heard old.moved order)
 HandsEntry order old (Ok None) new = (is_whole old.connection.front ≡ false) × (new ≡ old)
 HandsEntry order old (Err e) new = (message : List ℕ) × Hands old.connection (Some message) new.connection × (new.number ≡ old.number)
 
 -- what answering did at this time; bytes begin to wait where none did
-abbrev pub AnswersEntry : ℕ → Entry → List ℕ → Result (Unit {0}) WantOfMemory → Entry → Type 0
+abbrev pub AnswersEntry : ℕ → Entry → List ℕ → Result (Unit {0}) NoMemory → Entry → Type 0
 AnswersEntry now old message (Ok x) new =
-    Answers old.connection message (Ok x) new.connection × (new ≡ entry_with old new.connection old.heard (if length old.connection.to_go == 0 then now else old.moved) old.order)
+    PutsAnswer old.connection message (Ok x) new.connection × (new ≡ entry_with old new.connection old.heard (if length old.connection.to_go == 0 then now else old.moved) old.order)
 AnswersEntry now old message (Err e) new = new ≡ old
 
 -- what draining did at this time
@@ -141,24 +141,24 @@ pub record Becomes (rank : Rank) (old : List Entry) (after : Entry) (new : List 
 -- reading from the stream of the connection of this number
 abbrev pub FillsOf : ℕ → ℕ → ℕ → List Entry → Option (List ℕ) → Result (Unit {0}) Halt → List Entry → Option (List ℕ) → Type 0
 FillsOf number now order old coming result new coming' =
-    (HasNone (Numbered number) old × (result ≡ Err Lost) × (new ≡ old) × (coming' ≡ coming))
+    (HasNone (Numbered number) old × (result ≡ Err halt.Lost) × (new ≡ old) × (coming' ≡ coming))
     ⊎ ((after : Entry) × (becomes : Becomes (Numbered number) old after new) × FillsEntry now order becomes.least.entry coming result after coming')
 
 -- writing to it
 abbrev pub DrainsOf : ℕ → ℕ → List Entry → Option (List ℕ) → Result (Unit {0}) Halt → List Entry → Option (List ℕ) → Type 0
 DrainsOf number now old gone result new gone' =
-    (HasNone (Numbered number) old × (result ≡ Err Lost) × (new ≡ old) × (gone' ≡ gone))
+    (HasNone (Numbered number) old × (result ≡ Err halt.Lost) × (new ≡ old) × (gone' ≡ gone))
     ⊎ ((after : Entry) × (becomes : Becomes (Numbered number) old after new) × DrainsEntry now becomes.least.entry gone result after gone')
 
 -- handing out the record that became whole first
-abbrev pub HandsOut : ℕ → List Entry → Result (Option (ℕ × List ℕ)) WantOfMemory → List Entry → Type 0
+abbrev pub HandsOut : ℕ → List Entry → Result (Option (ℕ × List ℕ)) NoMemory → List Entry → Type 0
 HandsOut order old (Ok None) new = HasNone Ready old × (new ≡ old)
 HandsOut order old (Ok (Some handed)) new =
     (after : Entry) × (becomes : Becomes Ready old after new) × (handed.0 ≡ becomes.least.entry.number) × HandsEntry order becomes.least.entry (Ok (Some handed.1)) after
 HandsOut order old (Err e) new = (after : Entry) × (becomes : Becomes Ready old after new) × HandsEntry order becomes.least.entry (Err e) after
 
 -- answering on the connection of this number: where it is gone, or the answer is too long, the answer is lost
-abbrev pub AnswersOf : ℕ → ℕ → List Entry → List ℕ → Result (Unit {0}) WantOfMemory → List Entry → Type 0
+abbrev pub AnswersOf : ℕ → ℕ → List Entry → List ℕ → Result (Unit {0}) NoMemory → List Entry → Type 0
 AnswersOf number now old message result new =
     ((HasNone (Numbered number) old ⊎ (max_record < length message)) × (result ≡ Ok tt) × (new ≡ old))
     ⊎ ((after : Entry) × (becomes : Becomes (Numbered number) old after new) × AnswersEntry now becomes.least.entry message result after)
@@ -185,12 +185,12 @@ abbrev pub IsNumberOf : Rank → List Entry → ℕ → Type 0
 IsNumberOf rank entries number = (place : ℕ) × (least : IsLeast rank entries place) × (number ≡ least.entry.number)
 
 -- what opening a connection did
-abbrev pub Opens : ConnectionsState → Result (Option ℕ) WantOfMemory → ConnectionsState → Type 0
-Opens old (Ok None) new = ((max_connections ≤ length old.entries) ⊎ (old.given ≡ 2 ^ 32 - 1)) × (new ≡ old)
-Opens old (Ok (Some number)) new =
+abbrev pub OpensConnection : ConnectionsState → Result (Option ℕ) NoMemory → ConnectionsState → Type 0
+OpensConnection old (Ok None) new = ((max_connections ≤ length old.entries) ⊎ (old.given ≡ 2 ^ 32 - 1)) × (new ≡ old)
+OpensConnection old (Ok (Some number)) new =
     (number ≡ old.given + 1) × (length old.entries < max_connections)
     × (new ≡ record { entries = old.entries ++ new_entry number old.time ∷ []; given = number; orders = old.orders; time = old.time })
-Opens old (Err e) new = new ≡ old
+OpensConnection old (Err e) new = new ≡ old
 
 -- what closing one did
 abbrev pub Closes : ℕ → List Entry → Bool → List Entry → Type 0

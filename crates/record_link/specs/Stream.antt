@@ -14,12 +14,12 @@ IsEnd None = ⊤
 IsEnd (Some coming) = coming ≡ []
 
 -- What reading did to the bytes that are to come. The piece is as it is afterwards.
-abbrev pub Reads : Option (List ℕ) → List ℕ → Result ℕ Halt → Option (List ℕ) → Type 0
-Reads coming piece (Ok n) new = Comes coming (take n piece) new
-Reads coming piece (Err Ended) new = IsEnd coming × (new ≡ coming)
-Reads coming piece (Err WouldBlock) new = new ≡ coming
-Reads coming piece (Err Lost) new = new ≡ coming
-Reads coming piece (Err NoMemory) new = new ≡ coming
+abbrev pub ReadsStream : Option (List ℕ) → List ℕ → Result ℕ Halt → Option (List ℕ) → Type 0
+ReadsStream coming piece (Ok n) new = Comes coming (take n piece) new
+ReadsStream coming piece (Err Ended) new = IsEnd coming × (new ≡ coming)
+ReadsStream coming piece (Err WouldBlock) new = new ≡ coming
+ReadsStream coming piece (Err Lost) new = new ≡ coming
+ReadsStream coming piece (Err NoMemory) new = new ≡ coming
 
 -- the bytes that went, with more behind them
 abbrev pub gone_more : Option (List ℕ) → List ℕ → Option (List ℕ)
@@ -27,9 +27,9 @@ gone_more None piece = None
 gone_more (Some gone) piece = Some (gone ++ piece)
 
 -- what writing did to the bytes that went
-abbrev pub Writes : Option (List ℕ) → List ℕ → Result ℕ Halt → Option (List ℕ) → Type 0
-Writes gone piece (Ok n) new = new ≡ gone_more gone (take n piece)
-Writes gone piece (Err e) new = new ≡ gone
+abbrev pub WritesStream : Option (List ℕ) → List ℕ → Result ℕ Halt → Option (List ℕ) → Type 0
+WritesStream gone piece (Ok n) new = new ≡ gone_more gone (take n piece)
+WritesStream gone piece (Err e) new = new ≡ gone
 
 -- What reading into a buffer from a place on did: the bytes that came stand there; at the end nothing is to come.
 abbrev pub ReadsAt : ℕ → List ℕ → Option (List ℕ) → Result ℕ Halt → List ℕ → Option (List ℕ) → Type 0

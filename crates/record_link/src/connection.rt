@@ -4,7 +4,7 @@ ghost use Rattle.std.specs.Prelude.{◌≡◌, ◌≤◌, ◌<◌, ◌++◌, ◌
 ghost use Rattle.std.specs.Option.{option_map};
 ghost use Rattle.rpc_record.specs.Frames.{front_of, max_record, record_bytes, is_whole, with_taken, TakesOut};
 ghost use Rattle.record_link.specs.Stream.{Comes};
-ghost use Rattle.record_link.specs.Connection.{new_connection, is_refused, is_spent, is_done, Fills, Advances, Hands, Answers, Drains, HasCome, HasGone};
+ghost use Rattle.record_link.specs.Connection.{new_connection, is_refused, is_spent, is_done, Fills, Advances, Hands, PutsAnswer, Drains, HasCome, HasGone};
 
 use crate::pending::Pending;
 use crate::stream::{Halt, Stream};
@@ -39,9 +39,9 @@ impl Model for Connection {
 
     ghost Value = { ConnectionState };
 
-    ghost use Rattle.record_link.specs.Kept.{state_of, IsKept};
+    ghost use Rattle.record_link.specs.Kept.{connection_state, IsKept};
 
-    ghost view = { λ c. state_of c.frames c.whole c.ahead c.to_go c.unanswered c.ended };
+    ghost view = { λ c. connection_state c.frames c.whole c.ahead c.to_go c.unanswered c.ended };
 
     ghost invariant = { λ c. IsKept c.frames c.whole c.refused };
 }
@@ -116,7 +116,7 @@ impl Connection {
     /// unanswered. At an error nothing has changed.
     pub fn answer(&mut self, message: &[u8]) -> Result<(), NoMemory>
         requires { length message.now ≤ max_record }
-        ensures told { Answers self.old message.now result self.new }
+        ensures told { PutsAnswer self.old message.now result self.new }
         ensures goes_on { (went : List ℕ) (answers : List (List ℕ)) → HasGone went answers self.old → OnOk result (HasGone went (answers ++ message.now ∷ []) self.new) }
     {
         self.to_go.put_record(message)?;

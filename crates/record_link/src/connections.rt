@@ -4,7 +4,7 @@ ghost use Rattle.std.specs.Prelude.{◌≡◌, ◌≤◌, ◌<◌, ◌+◌, max,
 ghost use Rattle.rpc_record.specs.Frames.{is_whole};
 ghost use Rattle.rpc_record.specs.Stream.{one_more};
 ghost use Rattle.record_link.specs.declared.rank.Rank.{Rank};
-ghost use Rattle.record_link.specs.Connections.{HasNone, IsNumberOf, no_connections, at_time, Opens, Closes, Crowds, FillsOf, HandsOut, AnswersOf, DrainsOf, with_entries, wants_bytes, Asks};
+ghost use Rattle.record_link.specs.Connections.{HasNone, IsNumberOf, no_connections, at_time, OpensConnection, Closes, Crowds, FillsOf, HandsOut, AnswersOf, DrainsOf, with_entries, wants_bytes, Asks};
 
 use crate::entry::Entry;
 use crate::rank::{Rank, least};
@@ -162,7 +162,7 @@ impl Connections {
     /// Opens a connection under the next number. `None` where as many are open as may be, or all
     /// numbers are given. At an error nothing has changed.
     pub fn open(&mut self) -> Result<Option<u32>, NoMemory>
-        ensures { Opens self.old result self.new }
+        ensures { OpensConnection self.old result self.new }
     {
         if self.entries.len() >= MAX_CONNECTIONS || self.given == u32::MAX {
             return Ok(None);

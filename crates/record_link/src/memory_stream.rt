@@ -1,7 +1,7 @@
 //! A stream over memory, which gives and takes in chosen pieces.
 
 ghost use Rattle.std.specs.Prelude.{◌≡◌, ◌↔◌, ℕ, ◌<◌, ◌≤◌, min, List, [], length, drop, Some, Ok, Err, IfOk, IfErr};
-ghost use Rattle.record_link.specs.Stream.{Reads, Writes};
+ghost use Rattle.record_link.specs.Stream.{ReadsStream, WritesStream};
 ghost use Rattle.record_link.specs.Memory.{MemoryState, size_of, read_size};
 
 use crate::stream::{Halt, Stream};
@@ -70,7 +70,7 @@ impl Stream for MemoryStream {
     fn read(&mut self, piece: &mut [u8]) -> Result<usize, Halt>
         ensures some { IfOk result (λ n. 0 < n) }
         ensures within { IfOk result (λ n. n ≤ length piece.new) }
-        ensures told { Reads (Some self.old.coming) piece.new result (Some self.new.coming) }
+        ensures told { ReadsStream (Some self.old.coming) piece.new result (Some self.new.coming) }
         ensures gone { Some self.new.gone ≡ Some self.old.gone }
         ensures exact { result ≡ read_size self.old (length piece.old) }
         ensures sizes { self.new.sizes ≡ drop 1 self.old.sizes }
@@ -93,7 +93,7 @@ impl Stream for MemoryStream {
     fn write(&mut self, piece: &[u8]) -> Result<usize, Halt>
         ensures some { IfOk result (λ n. 0 < n) }
         ensures within { IfOk result (λ n. n ≤ length piece.now) }
-        ensures told { Writes (Some self.old.gone) piece.now result (Some self.new.gone) }
+        ensures told { WritesStream (Some self.old.gone) piece.now result (Some self.new.gone) }
         ensures coming { Some self.new.coming ≡ Some self.old.coming }
         ensures exact { IfOk result (λ n. n ≡ size_of self.old.sizes (length piece.now)) }
         ensures blocks { (result ≡ Err Halt.WouldBlock) ↔ (size_of self.old.sizes (length piece.now) ≡ 0) }

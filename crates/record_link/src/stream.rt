@@ -1,7 +1,7 @@
 //! What carries bytes both ways.
 
 ghost use Rattle.std.specs.Prelude.{◌≡◌, ℕ, ◌<◌, ◌≤◌, List, Option, length, IfOk};
-ghost use Rattle.record_link.specs.Stream.{Reads, Writes};
+ghost use Rattle.record_link.specs.Stream.{ReadsStream, WritesStream};
 
 use ff_xdr::NoMemory;
 
@@ -42,7 +42,7 @@ pub trait Stream {
         requires { 0 < length piece.old }
         ensures some { IfOk result (λ n. 0 < n) }
         ensures within { IfOk result (λ n. n ≤ length piece.new) }
-        ensures told { Reads (coming self.old) piece.new result (coming self.new) }
+        ensures told { ReadsStream (coming self.old) piece.new result (coming self.new) }
         ensures gone { gone self.new ≡ gone self.old };
 
     /// Takes bytes from the front of `piece`, which is not empty, and returns how many, at least
@@ -51,6 +51,6 @@ pub trait Stream {
         requires { 0 < length piece.now }
         ensures some { IfOk result (λ n. 0 < n) }
         ensures within { IfOk result (λ n. n ≤ length piece.now) }
-        ensures told { Writes (gone self.old) piece.now result (gone self.new) }
+        ensures told { WritesStream (gone self.old) piece.now result (gone self.new) }
         ensures coming { coming self.new ≡ coming self.old };
 }

@@ -9,12 +9,12 @@ use Rattle.ff_xdr.specs.Reading.{reading}
 use Rattle.ff_xdr.proofs.Places.{stands_join}
 use Rattle.rpc_record.specs.Rpc.{opaque_auth_of}
 use Rattle.rpc_record.specs.Calls.{RpcCall, call_body, call_bytes, word_of}
-use Rattle.rpc_record.specs.Replies.{RpcReply, Success, ProgUnavail, ProgMismatch, ProcUnavail, GarbageArgs, SystemErr, RpcMismatch, AuthError, reply_header, auth_none, status_value, header_value, results_of, reply_bytes, HasVerifier, reply_at}
+use Rattle.rpc_record.specs.Replies.{reply_header, is_success, header_value, reply_bytes, reply_of_header, reply_at}
 use Rattle.rpc_record.specs.Laws.{HasBadHeader, BeginsCall, IsCallFirstFault, BeginsReply, IsReplyFirstFault}
 use Rattle.rpc_record.proofs.Records.{all_spelled, all_least}
 use Rattle.rpc_record.proofs.CallLaws.{number_is, length_front, kind_of}
 use Rattle.rpc_record.proofs.CallRefusals.{IsBad, bad_is}
-use Rattle.rpc_record.proofs.ReplyLaws.{status, one_is}
+use Rattle.rpc_record.proofs.ReplyLaws.{header_is, fits_none, verifier_is, one_is}
 use Rattle.rpc_record.proofs.ReplyRefusals.{reply_cases}
 
 -- ---- calls
@@ -66,40 +66,17 @@ call_least spelled least bytes xid e is_bytes is other = by_header parts.3
 
 -- ---- replies
 
--- a reply with this status, and without results
-record Answers (xid : ℕ) (s : Value status) : Type 0 where
-  reply : RpcReply
-  own : reply.xid ≡ xid
-  is : status_value reply.verf reply.body ≡ s
-  verifier : HasVerifier reply.verf reply.body
-  none : results_of reply.body ≡ []
-
-answers : (xid : ℕ) (s : Value status) → Answers xid s
-answers xid (inl ((flavor, text), inl nothing)) = record { reply = record { xid = xid; verf = record { flavor = flavor; body = text }; body = Success [] }; own = refl; is = refl; verifier = tt; none = refl }
-answers xid (inl ((flavor, text), inr (inl nothing))) = record { reply = record { xid = xid; verf = record { flavor = flavor; body = text }; body = ProgUnavail }; own = refl; is = refl; verifier = tt; none = refl }
-answers xid (inl ((flavor, text), inr (inr (inl (low, high))))) = record { reply = record { xid = xid; verf = record { flavor = flavor; body = text }; body = ProgMismatch low high }; own = refl; is = refl; verifier = tt; none = refl }
-answers xid (inl ((flavor, text), inr (inr (inr (inl nothing))))) = record { reply = record { xid = xid; verf = record { flavor = flavor; body = text }; body = ProcUnavail }; own = refl; is = refl; verifier = tt; none = refl }
-answers xid (inl ((flavor, text), inr (inr (inr (inr (inl nothing)))))) = record { reply = record { xid = xid; verf = record { flavor = flavor; body = text }; body = GarbageArgs }; own = refl; is = refl; verifier = tt; none = refl }
-answers xid (inl ((flavor, text), inr (inr (inr (inr (inr (inl nothing))))))) = record { reply = record { xid = xid; verf = record { flavor = flavor; body = text }; body = SystemErr }; own = refl; is = refl; verifier = tt; none = refl }
-answers xid (inl ((flavor, text), inr (inr (inr (inr (inr (inr none))))))) = absurd none
-answers xid (inr (inl (inl (low, high)))) = record { reply = record { xid = xid; verf = auth_none; body = RpcMismatch low high }; own = refl; is = refl; verifier = refl; none = refl }
-answers xid (inr (inl (inr (inl stat)))) = record { reply = record { xid = xid; verf = auth_none; body = AuthError stat }; own = refl; is = refl; verifier = refl; none = refl }
-answers xid (inr (inl (inr (inr none)))) = absurd none
-answers xid (inr (inr none)) = absurd none
-
 begun_reply : (bytes : List ℕ) (place : ℕ) → Begins reply_header bytes 0 place → BeginsReply bytes place
 begun_reply bytes place b =
     let v = b.value in
-    let one : v.1.0 ≡ 1 = one_is v.1.0 b.fits.1.0 in
-    let a = answers v.0 v.1.1 in
-    let same : header_value a.reply ≡ (v.0, (v.1.0, v.1.1)) = cc (a.own, a.is, one) in
-    let text : reply_bytes a.reply ≡ spelling reply_header v =
-    ap (λ (l : List ℕ). spelling reply_header (header_value a.reply) ++ l) a.none ∙ append-nil (spelling reply_header (header_value a.reply)) ∙ ap (λ (w : Value reply_header). spelling reply_header w) same in
+    let reply = reply_of_header v in
+    let same : header_value reply ≡ v = header_is v [] (one_is v.1.0 b.fits.1.0) in
+    let text : reply_bytes reply ≡ spelling reply_header v = append-nil (spelling reply_header (header_value reply)) ∙ ap (λ (w : Value reply_header). spelling reply_header w) same in
     let size : place - 0 ≡ place = omega arith in
-    let part : take place (reply_bytes a.reply) ≡ take (place - 0) (spelling reply_header v) = ap (λ (t : List ℕ). take place t) text ∙ ap (λ (n : ℕ). take n (spelling reply_header v)) (sym size) in
+    let part : take place (reply_bytes reply) ≡ take (place - 0) (spelling reply_header v) = ap (λ (t : List ℕ). take place t) text ∙ ap (λ (n : ℕ). take n (spelling reply_header v)) (sym size) in
     record {
-      reply = a.reply;
-      fits = (subst (λ (w : Value reply_header). Fits reply_header w) (sym same) b.fits, a.verifier);
+      reply = reply;
+      fits = (subst (λ (w : Value reply_header). Fits reply_header w) (sym same) b.fits, verifier_is v, fits_none (is_success reply.stat));
       begins = subst (λ (t : List ℕ). Stands bytes 0 t place) (sym part) b.begins;
     }
 

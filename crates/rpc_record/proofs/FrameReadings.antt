@@ -7,7 +7,7 @@ use Rattle.std.proofs.lemmas.Nat.{be_bytes_4}
 use Rattle.ff_xdr.specs.Form.{word}
 use Rattle.ff_xdr.specs.Laws.{IsBytes}
 use Rattle.rpc_record.specs.Calls.{word_of}
-use Rattle.rpc_record.specs.Frames.{max_record, max_fragments, header_word, length_in, is_last, Header, Body, Part, Open, Whole, TooLong, TooManyFragments, front_from, behind_header}
+use Rattle.rpc_record.specs.Frames.{max_record, max_fragments, header_word, length_in, is_last, Header, FragmentBody, Part, Open, Whole, TooLong, TooManyFragments, front_from, behind_header}
 use Rattle.rpc_record.specs.FrameLaws.{Fragment, fragment_bytes, stream_of, message_of, AreRecord, IsRecordSpelled}
 use Rattle.rpc_record.proofs.FrameSteps.{is_short, is_header}
 use Rattle.rpc_record.proofs.FrameRecords.{header_again, front_is}
@@ -99,7 +99,7 @@ kind_behind n g bytes m le are e short is =
     elim (cases_lt (length (drop 4 bytes)) len) [
       | inl lt ↦
           let cut : ltb (length (drop 4 bytes)) len ≡ true = lt-ltb _ _ lt in
-          Cut (record { gathered = g ++ drop 4 bytes; headers = m; coming = Body (len - length (drop 4 bytes)) (is_last (word_of bytes 0)) }) (is ∙ rw cut refl)
+          Cut (record { gathered = g ++ drop 4 bytes; headers = m; coming = FragmentBody (len - length (drop 4 bytes)) (is_last (word_of bytes 0)) }) (is ∙ rw cut refl)
       | inr room ↦
           let all : ltb (length (drop 4 bytes)) len ≡ false = le-ltb _ _ room in
           kind_of_fragment n g bytes m (is_last (word_of bytes 0)) (fragment_first n g bytes m le are e short room) refl (is ∙ rw all refl)

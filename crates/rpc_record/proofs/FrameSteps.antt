@@ -5,7 +5,7 @@ use Rattle.std.specs.Int.{w32, from_be_bytes}
 use Rattle.std.proofs.lemmas.Bool.{le-ltb, lt-ltb, cases_lt}
 use Rattle.std.proofs.lemmas.List.{length-append, append-nil, take_at, drop_at, take_all, take_more_set, length-set, take-append-le, drop-append-le}
 use Rattle.rpc_record.specs.Calls.{word_of}
-use Rattle.rpc_record.specs.Frames.{max_record, max_fragments, length_in, is_last, Header, Body, Front, Open, Whole, TooLong, TooManyFragments, front_from, front_of, behind_header}
+use Rattle.rpc_record.specs.Frames.{max_record, max_fragments, length_in, is_last, Header, FragmentBody, Front, Open, Whole, TooLong, TooManyFragments, front_from, front_of, behind_header}
 use Rattle.rpc_record.specs.FramesView.{front_settled, front_behind, resume, resume_part, Steps}
 
 -- ---- headers
@@ -178,6 +178,6 @@ byte_last h g bytes count byte four three more =
 
 -- ---- the bytes of a body
 
-pub body_steps : (h : ℕ) (g : List ℕ) (left : ℕ) (last : Bool) (p : List ℕ) → length p ≤ left → Steps (Open (record { gathered = g; headers = h; coming = Body left last })) p (front_settled (g ++ p) h (left - length p) last)
+pub body_steps : (h : ℕ) (g : List ℕ) (left : ℕ) (last : Bool) (p : List ℕ) → length p ≤ left → Steps (Open (record { gathered = g; headers = h; coming = FragmentBody left last })) p (front_settled (g ++ p) h (left - length p) last)
 unfolding resume resume_part
 body_steps h g left last p le more = behind_more h g left last p more le ∙ sym (settled_is h (g ++ p) (left - length p) last more)

@@ -1,19 +1,20 @@
--- A reply by its status.
-use Rattle.std.proofs.Common.{◌≡◌, ℕ, cond, List, drop, Ok, refl}
-use Rattle.rpc_record.specs.declared.status.AcceptStat.TheVariants as accept
-use Rattle.rpc_record.specs.declared.status.RejectStat.TheVariants as reject
-use Rattle.rpc_record.specs.declared.status.Status.{Status}
-use Rattle.rpc_record.specs.declared.status.Status.TheVariants as status
-use Rattle.rpc_record.specs.Replies.{with_status, ended}
-use Rattle.rpc_record.specs.Status.{stat_value, is_success, reply_of}
+-- The header of a reply by its parts.
+use Rattle.std.proofs.Common.{◌≡◌, ℕ, [], List, Ok, refl, ap, ◌∙◌}
+use Rattle.std.specs.Int.{w32}
+use Rattle.ff_xdr.specs.Reading.{Read, reading, number_at}
+use Rattle.ff_xdr.specs.Form.{Value}
+use Rattle.ff_xdr.proofs.Places.{bind_ok, ok_is}
+use Rattle.rpc_record.specs.Rpc.{OpaqueAuth}
+use Rattle.rpc_record.specs.Replies.{RpcReply, ReplyStat, reply_body, reply_body_of, reply_body_at, header_at}
 
-pub with_status_is : (xid : ℕ) (bytes : List ℕ) (at : ℕ) (s : Status)
-    → with_status xid bytes at (stat_value s) ≡ cond (is_success s) (Ok (reply_of xid s (drop at bytes))) (ended (reply_of xid s (drop at bytes)) bytes at)
-with_status_is xid bytes at (status.Accepted verf accept.Success) = refl
-with_status_is xid bytes at (status.Accepted verf accept.ProgUnavail) = refl
-with_status_is xid bytes at (status.Accepted verf (accept.ProgMismatch low high)) = refl
-with_status_is xid bytes at (status.Accepted verf accept.ProcUnavail) = refl
-with_status_is xid bytes at (status.Accepted verf accept.GarbageArgs) = refl
-with_status_is xid bytes at (status.Accepted verf accept.SystemErr) = refl
-with_status_is xid bytes at (status.Denied (reject.RpcMismatch low high)) = refl
-with_status_is xid bytes at (status.Denied (reject.AuthError stat)) = refl
+header_read : (bytes : List ℕ) (at : ℕ) (xid one : ℕ × ℕ) (v : Value reply_body × ℕ) → number_at w32 bytes at ≡ Ok xid → number_at w32 bytes xid.1 ≡ Ok one → one.0 ≡ 1
+    → reading reply_body bytes one.1 ≡ Ok v → header_at bytes at ≡ Ok (record { xid = xid.0; verf = (reply_body_of v.0).0; stat = (reply_body_of v.0).1; results = [] }, v.1)
+header_read bytes at xid one v first second is read = rw (first, second, is, read) refl
+
+-- a number of its own, 1, and a body
+pub header_of_parts : (bytes : List ℕ) (at : ℕ) (xid one : ℕ × ℕ) (b : (OpaqueAuth × ReplyStat) × ℕ) → number_at w32 bytes at ≡ Ok xid → number_at w32 bytes xid.1 ≡ Ok one → one.0 ≡ 1
+    → reply_body_at bytes one.1 ≡ Ok b → header_at bytes at ≡ Ok (record { xid = xid.0; verf = b.0.0; stat = b.0.1; results = [] }, b.1)
+header_of_parts bytes at xid one b first second is e =
+    let a = bind_ok (reading reply_body bytes one.1) (λ v. Ok (reply_body_of v.0, v.1)) b e in
+    let same : (reply_body_of a.0.0, a.0.1) ≡ b = ok_is (reply_body_of a.0.0, a.0.1) b a.2 in
+    header_read bytes at xid one a.0 first second is a.1 ∙ ap (λ (c : (OpaqueAuth × ReplyStat) × ℕ). Ok (record { xid = xid.0; verf = c.0.0; stat = c.0.1; results = [] }, c.1)) same

@@ -31,7 +31,7 @@ record_bytes message = word (header_word (length message) true) ++ message
 -- its bytes, of which so many are still to come.
 pub data Coming : Type 0 where
   Header : (bytes : List ℕ) → Coming
-  Body : (left : ℕ) (last : Bool) → Coming
+  FragmentBody : (left : ℕ) (last : Bool) → Coming
 
 -- a record that is not whole: the bytes of its fragments so far, how many headers may still come, and the next fragment
 pub record Part : Type 0 where
@@ -50,7 +50,7 @@ pub data Front : Type 0 where
 -- what stands behind a header of a fragment of so many bytes; behind a whole one that is not the last comes the next
 abbrev pub behind_header : ℕ → List ℕ → ℕ → Bool → List ℕ → (List ℕ → List ℕ → Front) → Front
 behind_header headers gathered len last bytes next =
-    if nat_lt (length bytes) len then Open (record { gathered = gathered ++ bytes; headers = headers; coming = Body (len - length bytes) last })
+    if nat_lt (length bytes) len then Open (record { gathered = gathered ++ bytes; headers = headers; coming = FragmentBody (len - length bytes) last })
     else (if last then Whole (gathered ++ take len bytes) (drop len bytes) else next (gathered ++ take len bytes) (drop len bytes))
 
 -- The front of these bytes, which stand behind fragments with so many bytes, where so many headers may still come. A header

@@ -4,12 +4,12 @@ use Rattle.rpc_record.specs.declared.frames.Stage.{Stage}
 use Rattle.rpc_record.specs.declared.frames.Stage.TheVariants as stage
 use Rattle.rpc_record.specs.declared.frames.RecordFault.{RecordFault}
 use Rattle.rpc_record.specs.declared.frames.RecordFault.TheVariants as fault
-use Rattle.rpc_record.specs.Frames.{max_record, length_in, is_last, Coming, Header, Body, Front, Open, Whole, TooLong, TooManyFragments, front_from, behind_header}
+use Rattle.rpc_record.specs.Frames.{max_record, length_in, is_last, Coming, Header, FragmentBody, Front, Open, Whole, TooLong, TooManyFragments, front_from, behind_header}
 
 -- the front that a stage stands for, where these bytes were gathered
 abbrev pub front_at : List ℕ → Stage → Front
 front_at gathered (stage.Header headers bytes count) = Open (record { gathered = gathered; headers = headers; coming = Header (take count bytes) })
-front_at gathered (stage.Body headers left last) = Open (record { gathered = gathered; headers = headers; coming = Body left last })
+front_at gathered (stage.Body headers left last) = Open (record { gathered = gathered; headers = headers; coming = FragmentBody left last })
 front_at gathered stage.Whole = Whole gathered []
 front_at gathered stage.TooLong = TooLong
 front_at gathered stage.TooManyFragments = TooManyFragments
@@ -41,7 +41,7 @@ is_more stage.TooManyFragments = false
 -- the front where so many bytes of a fragment are to come
 abbrev pub front_settled : List ℕ → ℕ → ℕ → Bool → Front
 front_settled gathered headers left last =
-    if nat_lt 0 left then Open (record { gathered = gathered; headers = headers; coming = Body left last })
+    if nat_lt 0 left then Open (record { gathered = gathered; headers = headers; coming = FragmentBody left last })
     else (if last then Whole gathered [] else Open (record { gathered = gathered; headers = headers; coming = Header [] }))
 
 -- the front behind a header
@@ -53,7 +53,7 @@ front_behind gathered headers w =
 -- what has come of a fragment, resumed with more bytes
 unfoldable pub resume_part : List ℕ → ℕ → Coming → List ℕ → Front
 resume_part gathered headers (Header bytes) more = front_from headers gathered (bytes ++ more)
-resume_part gathered headers (Body left last) more = behind_header headers gathered left last more (front_from headers)
+resume_part gathered headers (FragmentBody left last) more = behind_header headers gathered left last more (front_from headers)
 
 -- a front, resumed with more bytes
 unfoldable pub resume : Front → List ℕ → Front

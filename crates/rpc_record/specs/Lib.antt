@@ -2,7 +2,6 @@ pub mod Stream
 pub mod Rpc
 pub mod Calls
 pub mod Replies
-pub mod Status
 pub mod Laws
 pub mod Frames
 pub mod FramesView

@@ -12,11 +12,11 @@ mod frames;
 mod laws;
 mod memory;
 mod reply;
+mod reply_arms;
 mod reply_wire;
 mod standard;
 #[cfg(test)]
 mod standard_tests;
-mod status;
 mod stream;
 mod sure;
 #[cfg(test)]

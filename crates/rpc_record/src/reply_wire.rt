@@ -1,149 +1,54 @@
 //! Reading and writing of replies.
 
-ghost use Rattle.std.specs.Prelude.{◌≡◌, ◌↔◌, [], IsTrue, refl};
+ghost use Rattle.std.specs.Prelude.{◌≡◌, ◌↔◌, IsTrue};
 ghost use Rattle.ff_xdr.specs.Form.{spelling, Fits};
-ghost use Rattle.ff_xdr.specs.Reading.{reading};
 ghost use Rattle.ff_xdr.specs.Calls.{Decodes, Grows, Puts, Finds};
-ghost use Rattle.rpc_record.specs.Replies.{accept_stat, rejected_reply, reply_header, header_value, rpc_reply, plain_body, reply_bytes, ReplyFits, reply_at, results_of, status_value};
+ghost use Rattle.rpc_record.specs.Replies.{accepted_at, denied_at, reply_body, reply_stat, reply_results, rpc_reply, reply_header_of, auth_none, is_denied, reply_stat_number, reply_body_value, reply_body_at, reply_bytes, ReplyFits, header_at, reply_at};
 ghost use Rattle.rpc_record.specs.Rpc.{plain_auth};
-ghost use Rattle.rpc_record.specs.Status.{accept_value, reject_value, reply_stat, stat_value, reply_of, is_success};
 
 use crate::auth::{AUTH_NONE, Auth};
 use crate::call_wire::rest;
 use crate::reply::{Reply, ReplyBody};
-use crate::status::{AcceptStat, RejectStat, Status};
-use ff_xdr::{Cursor, Message, NoMemory, Out, Wire, XdrError};
+use crate::reply_arms::{
+    accepted_by, arm_number, denied_by, is_denied_arm, reply_arms, with_parts,
+};
+use ff_xdr::{Cursor, NoMemory, Out, Wire, XdrError};
 
-impl Message for AcceptStat {
-    ghost form = { accept_stat };
-
-    ghost meaning = { accept_value };
-
-    ghost sound = { refl };
+/// What an accepted reply says, without the results of a success.
+fn read_accepted<'a>(cursor: &mut Cursor<'a>) -> Result<ReplyBody<'a>, XdrError>
+    ensures { Decodes reply_stat cursor.old result cursor.new (accepted_at cursor.old.bytes cursor.old.at) }
+{
+    let mut fork = cursor.fork();
+    let stat = fork.number32()?;
+    let body = reply_arms!(
+        accepted_by,
+        stat,
+        &mut fork,
+        XdrError::not_enum(cursor.place())
+    );
+    *cursor = fork;
+    Ok(body)
 }
 
-impl<'a> Wire<'a> for AcceptStat {
-    fn read(cursor: &mut Cursor<'a>) -> Result<AcceptStat, XdrError> {
-        let mut fork = cursor.fork();
-        let stat = match fork.number32()? {
-            0 => AcceptStat::Success,
-            1 => AcceptStat::ProgUnavail,
-            2 => {
-                let (low, high) = <(u32, u32)>::read(&mut fork)?;
-                AcceptStat::ProgMismatch { low, high }
-            }
-            3 => AcceptStat::ProcUnavail,
-            4 => AcceptStat::GarbageArgs,
-            5 => AcceptStat::SystemErr,
-            _ => return Err(XdrError::not_enum(cursor.place())),
-        };
-        *cursor = fork;
-        Ok(stat)
-    }
-
-    fn put(&self, out: &mut Out) -> Result<(), NoMemory> {
-        match self {
-            AcceptStat::Success => 0u32.put(out),
-            AcceptStat::ProgUnavail => 1u32.put(out),
-            AcceptStat::ProgMismatch { low, high } => (2u32, *low, *high).put(out),
-            AcceptStat::ProcUnavail => 3u32.put(out),
-            AcceptStat::GarbageArgs => 4u32.put(out),
-            AcceptStat::SystemErr => 5u32.put(out),
-        }
-    }
-
-    fn fits(&self) -> bool {
-        match self {
-            AcceptStat::ProgMismatch { low, high } => (*low, *high).fits(),
-            AcceptStat::Success => true,
-            AcceptStat::ProgUnavail => true,
-            AcceptStat::ProcUnavail => true,
-            AcceptStat::GarbageArgs => true,
-            AcceptStat::SystemErr => true,
-        }
-    }
-}
-
-impl Message for RejectStat {
-    ghost form = { rejected_reply };
-
-    ghost meaning = { reject_value };
-
-    ghost sound = { refl };
-}
-
-impl<'a> Wire<'a> for RejectStat {
-    fn read(cursor: &mut Cursor<'a>) -> Result<RejectStat, XdrError> {
-        let mut fork = cursor.fork();
-        let stat = match fork.number32()? {
-            0 => {
-                let (low, high) = <(u32, u32)>::read(&mut fork)?;
-                RejectStat::RpcMismatch { low, high }
-            }
-            1 => RejectStat::AuthError(fork.number32()?),
-            _ => return Err(XdrError::not_enum(cursor.place())),
-        };
-        *cursor = fork;
-        Ok(stat)
-    }
-
-    fn put(&self, out: &mut Out) -> Result<(), NoMemory> {
-        match self {
-            RejectStat::RpcMismatch { low, high } => (0u32, *low, *high).put(out),
-            RejectStat::AuthError(stat) => (1u32, *stat).put(out),
-        }
-    }
-
-    fn fits(&self) -> bool {
-        match self {
-            RejectStat::RpcMismatch { low, high } => (*low, *high).fits(),
-            RejectStat::AuthError(stat) => stat.fits(),
-        }
-    }
-}
-
-impl<'a> Message for Status<'a> {
-    ghost form = { reply_stat };
-
-    ghost meaning = { stat_value };
-
-    ghost sound = { refl };
-}
-
-impl<'a> Wire<'a> for Status<'a> {
-    fn read(cursor: &mut Cursor<'a>) -> Result<Status<'a>, XdrError> {
-        let mut fork = cursor.fork();
-        let status = match fork.number32()? {
-            0 => {
-                let (verf, stat) = <(Auth<'a>, AcceptStat)>::read(&mut fork)?;
-                Status::Accepted(verf, stat)
-            }
-            1 => Status::Denied(RejectStat::read(&mut fork)?),
-            _ => return Err(XdrError::not_enum(cursor.place())),
-        };
-        *cursor = fork;
-        Ok(status)
-    }
-
-    fn put(&self, out: &mut Out) -> Result<(), NoMemory> {
-        match self {
-            Status::Accepted(verf, stat) => (0u32, *verf, *stat).put(out),
-            Status::Denied(stat) => (1u32, *stat).put(out),
-        }
-    }
-
-    fn fits(&self) -> bool {
-        match self {
-            Status::Accepted(verf, stat) => (*verf, *stat).fits(),
-            Status::Denied(stat) => stat.fits(),
-        }
-    }
+/// What a denied reply says.
+fn read_denied<'a>(cursor: &mut Cursor<'a>) -> Result<ReplyBody<'a>, XdrError>
+    ensures { Decodes reply_stat cursor.old result cursor.new (denied_at cursor.old.bytes cursor.old.at) }
+{
+    let mut fork = cursor.fork();
+    let stat = fork.number32()?;
+    let body = reply_arms!(
+        denied_by,
+        stat,
+        &mut fork,
+        XdrError::not_enum(cursor.place())
+    );
+    *cursor = fork;
+    Ok(body)
 }
 
 /// The verifier that says nothing.
 fn no_verifier() -> Auth<'static>
-    ensures flavor { result.flavor ≡ 0 }
-    ensures body { result.body.now ≡ [] }
+    ensures { plain_auth result ≡ auth_none }
 {
     Auth {
         flavor: AUTH_NONE,
@@ -151,30 +56,31 @@ fn no_verifier() -> Auth<'static>
     }
 }
 
-/// The reply of a status and the results behind it.
-fn reply_of<'a>(xid: u32, status: Status<'a>, results: &'a [u8]) -> Reply<'a>
-    ensures { rpc_reply result ≡ reply_of xid status.entry results.entry.now }
+/// The verifier and the status of a reply.
+fn read_reply_body<'a>(cursor: &mut Cursor<'a>) -> Result<(Auth<'a>, ReplyBody<'a>), XdrError>
+    ensures { Decodes (λ b. (plain_auth b.0, reply_stat b.1)) cursor.old result cursor.new (reply_body_at cursor.old.bytes cursor.old.at) }
 {
-    let (verf, body) = match status {
-        Status::Accepted(verf, AcceptStat::Success) => (verf, ReplyBody::Success(results)),
-        Status::Accepted(verf, AcceptStat::ProgUnavail) => (verf, ReplyBody::ProgUnavail),
-        Status::Accepted(verf, AcceptStat::ProgMismatch { low, high }) => {
-            (verf, ReplyBody::ProgMismatch { low, high })
+    let mut fork = cursor.fork();
+    match fork.number32()? {
+        0 => {
+            let verf = Auth::read(&mut fork)?;
+            let body = read_accepted(&mut fork)?;
+            *cursor = fork;
+            Ok((verf, body))
         }
-        Status::Accepted(verf, AcceptStat::ProcUnavail) => (verf, ReplyBody::ProcUnavail),
-        Status::Accepted(verf, AcceptStat::GarbageArgs) => (verf, ReplyBody::GarbageArgs),
-        Status::Accepted(verf, AcceptStat::SystemErr) => (verf, ReplyBody::SystemErr),
-        Status::Denied(RejectStat::RpcMismatch { low, high }) => {
-            (no_verifier(), ReplyBody::RpcMismatch { low, high })
+        1 => {
+            let body = read_denied(&mut fork)?;
+            *cursor = fork;
+            Ok((no_verifier(), body))
         }
-        Status::Denied(RejectStat::AuthError(stat)) => (no_verifier(), ReplyBody::AuthError(stat)),
-    };
-    Reply { xid, verf, body }
+        _ => Err(XdrError::not_enum(cursor.place())),
+    }
 }
 
-/// The header of a reply: the transaction's number and the status.
-fn read_header<'a>(cursor: &mut Cursor<'a>) -> Result<(u32, Status<'a>), XdrError>
-    ensures { Decodes (λ h. (h.0, (1, stat_value h.1))) cursor.old result cursor.new (reading reply_header cursor.old.bytes cursor.old.at) }
+/// The header of a reply: the transaction's number, and the body without results.
+#[tactic(auto, using(crate::proofs::Replies::header_of_parts))]
+fn read_header<'a>(cursor: &mut Cursor<'a>) -> Result<Reply<'a>, XdrError>
+    ensures { Decodes reply_header_of cursor.old result cursor.new (header_at cursor.old.bytes cursor.old.at) }
 {
     let mut fork = cursor.fork();
     let xid = fork.number32()?;
@@ -182,45 +88,43 @@ fn read_header<'a>(cursor: &mut Cursor<'a>) -> Result<(u32, Status<'a>), XdrErro
     if fork.number32()? != 1 {
         return Err(XdrError::not_enum(place));
     }
-    let status = Status::read(&mut fork)?;
+    let (verf, body) = read_reply_body(&mut fork)?;
     *cursor = fork;
-    Ok((xid, status))
+    Ok(Reply { xid, verf, body })
 }
 
-/// The status is a success.
-fn is_success(status: &Status<'_>) -> bool
-    ensures { result ≡ is_success status.now }
+/// Appends the body of a reply, without results.
+fn put_body(verf: Auth<'_>, body: ReplyBody<'_>, out: &mut Out) -> Result<(), NoMemory>
+    requires { Fits reply_body (reply_body_value (plain_auth verf) (reply_stat body)) }
+    ensures { Grows out.old result out.new (spelling reply_body (reply_body_value (plain_auth verf.entry) (reply_stat body.entry))) }
 {
-    matches!(status, Status::Accepted(_, AcceptStat::Success))
+    reply_arms!(with_parts, body, verf, parts => parts.put(out), parts.put(out))
 }
 
-/// The status of a reply's body.
-fn status_of<'a>(verf: Auth<'a>, body: ReplyBody<'a>) -> Status<'a>
-    ensures { stat_value result ≡ status_value (plain_auth verf.entry) (plain_body body.entry) }
-{
-    match body {
-        ReplyBody::Success(_) => Status::Accepted(verf, AcceptStat::Success),
-        ReplyBody::ProgUnavail => Status::Accepted(verf, AcceptStat::ProgUnavail),
-        ReplyBody::ProgMismatch { low, high } => {
-            Status::Accepted(verf, AcceptStat::ProgMismatch { low, high })
-        }
-        ReplyBody::ProcUnavail => Status::Accepted(verf, AcceptStat::ProcUnavail),
-        ReplyBody::GarbageArgs => Status::Accepted(verf, AcceptStat::GarbageArgs),
-        ReplyBody::SystemErr => Status::Accepted(verf, AcceptStat::SystemErr),
-        ReplyBody::RpcMismatch { low, high } => {
-            Status::Denied(RejectStat::RpcMismatch { low, high })
-        }
-        ReplyBody::AuthError(stat) => Status::Denied(RejectStat::AuthError(stat)),
+impl<'a> ReplyBody<'a> {
+    /// The call was refused, `MSG_DENIED`, and not accepted (RFC 5531, section 9).
+    pub fn is_denied(&self) -> bool
+        ensures { result ≡ is_denied (reply_stat self.now) }
+    {
+        reply_arms!(is_denied_arm, self)
     }
-}
 
-/// The results of a success; of another body none.
-fn results_of<'a>(body: &ReplyBody<'a>) -> &'a [u8]
-    ensures { result.now ≡ results_of (plain_body body.now) }
-{
-    match body {
-        ReplyBody::Success(results) => results,
-        _ => &[],
+    /// The number of the status (RFC 5531, section 9): the `reject_stat` of a denied reply, 0 or 1; the
+    /// `accept_stat` of any other, 0 to 5.
+    pub fn stat(&self) -> u32
+        ensures { result ≡ reply_stat_number (reply_stat self.now) }
+    {
+        reply_arms!(arm_number, self)
+    }
+
+    /// The results of a success; of another body none.
+    fn results(&self) -> &'a [u8]
+        ensures { result.now ≡ reply_results self.now }
+    {
+        match self {
+            ReplyBody::Success(results) => results,
+            _ => &[],
+        }
     }
 }
 
@@ -231,8 +135,8 @@ impl<'a> Reply<'a> {
     {
         out.number32(self.xid)?;
         out.number32(1)?;
-        status_of(self.verf, self.body).put(out)?;
-        out.raw(results_of(&self.body))?;
+        put_body(self.verf, self.body, out)?;
+        out.raw(self.body.results())?;
         Ok(())
     }
 
@@ -243,29 +147,28 @@ impl<'a> Reply<'a> {
     {
         // the number is looked at, so that the check knows that it fits a word
         let _xid = self.xid;
-        if !status_of(self.verf, self.body).fits() {
-            return false;
-        }
-        match self.body {
-            ReplyBody::RpcMismatch { .. } => self.verf.flavor == 0 && self.verf.body.is_empty(),
-            ReplyBody::AuthError(_) => self.verf.flavor == 0 && self.verf.body.is_empty(),
-            _ => true,
-        }
+        let is_none = self.verf.flavor == AUTH_NONE && self.verf.body.is_empty();
+        reply_arms!(with_parts, self.body, self.verf, parts => parts.fits(), is_none && parts.fits())
     }
 
     /// Reads a record as a reply, all the bytes. Results of a success stay in them. A refusal names
     /// the first byte that no reply has there.
-    #[tactic(auto, unfolding(crate::specs::Replies::reply_at), using(crate::proofs::Replies::with_status_is))]
+    #[tactic(auto, unfolding(crate::specs::Replies::reply_at))]
     pub fn read(message: &'a [u8]) -> Result<Reply<'a>, XdrError>
         ensures { Finds rpc_reply result (reply_at message.now) }
     {
         let mut cursor = Cursor::new(message);
-        let (xid, status) = read_header(&mut cursor)?;
-        let reply = reply_of(xid, status, rest(message, cursor.place()));
-        if !is_success(&status) {
-            cursor.finish()?;
+        let reply = read_header(&mut cursor)?;
+        match reply.body {
+            ReplyBody::Success(_) => {
+                let body = ReplyBody::Success(rest(message, cursor.place()));
+                Ok(Reply { body, ..reply })
+            }
+            _ => {
+                cursor.finish()?;
+                Ok(reply)
+            }
         }
-        Ok(reply)
     }
 
     /// Appends the reply's record, or nothing.

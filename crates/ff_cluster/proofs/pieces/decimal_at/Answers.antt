@@ -6,7 +6,7 @@ use Rattle.std.specs.Prelude.{decimal}
 use Rattle.std.specs.Str.{bytes_eq}
 use Rattle.ff_cluster.specs.Pieces.{value_of}
 use Rattle.ff_cluster.proofs.PieceLemmas.{number_long, number_big, number_fits}
-use Rattle.ff_cluster.proofs.pieces.number_at.Goals as goal
+use Rattle.ff_cluster.proofs.pieces.decimal_at.Goals as goal
 
 pub returns-then-text-gt-DIGITS : goal.returns-then-text-gt-DIGITS
 returns-then-text-gt-DIGITS c = sym (number_long c.args.text.now c.if-text-gt-DIGITS.true)
