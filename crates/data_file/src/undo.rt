@@ -1,6 +1,6 @@
 //! The undo log of a file: what each pending write wrote over.
 
-ghost use Rattle.std.specs.Prelude.{◌≡◌, ◌+◌, ◌<◌, ◌≤◌, [], ◌∷◌, ◌++◌, length, take, drop, IfOk, OnOk, OnErr};
+ghost use Rattle.std.specs.Prelude.{◌≡◌, ◌+◌, ◌<◌, ◌≤◌, [], ◌∷◌, ◌++◌, length, IfOk, OnOk, OnErr};
 ghost use Rattle.cluster_model.specs.Content.{overlay};
 ghost use Rattle.data_file.specs.declared.file.TheConstants.{MAX_FILE};
 ghost use Rattle.data_file.specs.Undo.{undo_of, undone, write_of, unrolled, AreUndoable};

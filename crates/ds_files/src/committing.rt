@@ -96,7 +96,7 @@ fn file_change(
 {
     let file = &mut files[index];
     if may_write(file, cred) {
-        file.commit()?;
+        file.commit();
     }
     Ok(())
 }
