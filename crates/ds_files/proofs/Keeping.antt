@@ -8,7 +8,7 @@ use Rattle.std.proofs.Math.Seq.{take-length}
 use Rattle.std.proofs.lemmas.Option.{same_Some, slice_get_within, slice_get_past}
 use Rattle.cluster_model.specs.declared.piece.Piece.{Piece}
 use Rattle.cluster_model.specs.Content.{Content, Pending, overlay, overlay_all, piece_of, kept_of, survived, pieces_of}
-use Rattle.cluster_model.specs.File.{FileState, shown}
+use Rattle.cluster_model.specs.File.{FileState}
 use Rattle.data_file.specs.Kept.{IsKeptOf, crashed}
 use Rattle.ds_files.specs.Kept.{disk_of, AreBounded, AreKept, KeepsPiece, IsOf, all_crashed}
 use Rattle.ds_files.proofs.Objects.{slice_get-set_other}
