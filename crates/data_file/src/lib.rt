@@ -3,8 +3,11 @@
 #![tactic(auto)]
 
 mod file;
+mod keeping;
 mod overlay;
 #[cfg(test)]
 mod tests;
+mod undo;
 
 pub use file::{DataFile, MAX_FILE};
+pub use keeping::Kept;

@@ -1,8 +1,7 @@
 //! Bytes put at a place of a slice or a vector, with zeros in a gap.
 
-ghost use Rattle.std.specs.Prelude.{◌≡◌, ◌+◌, ◌^◌, ◌<◌, ◌≤◌, length, take, drop, OnOk, OnErr};
+ghost use Rattle.std.specs.Prelude.{◌≡◌, ◌+◌, ◌-◌, ◌^◌, ◌<◌, ◌≤◌, ◌++◌, length, take, drop, replicate, OnOk, OnErr};
 ghost use Rattle.cluster_model.specs.Content.{overlay};
-ghost use Rattle.data_file.specs.Kept.{padded};
 
 use std::alloc::AllocError;
 
@@ -22,20 +21,28 @@ pub fn put_into(old: &mut [u8], at: usize, bytes: &[u8])
     old[at..at + bytes.len()].copy_from_slice(bytes);
 }
 
-/// Adds zeros at the end, up to a length.
+/// Adds zeros up to a length, and then the bytes. Room for both is made at once.
 ///
 /// An error leaves the vector as it was.
-pub fn grow_to(old: &mut Vec<u8>, len: usize) -> Result<(), AllocError>
-    ensures ok { OnOk result (old.new.items ≡ padded old.old.items len) }
+fn extend_at(old: &mut Vec<u8>, at: usize, bytes: &[u8]) -> Result<(), AllocError>
+    requires { at + length bytes.now < 2 ^ 64 }
+    ensures ok { OnOk result (old.new.items ≡ old.old.items ++ replicate (at - length old.old.items) 0 ++ bytes.now) }
     ensures err { OnErr result (old.new.items ≡ old.old.items) }
 {
-    if old.len() < len {
-        old.resize(len, 0)?;
+    let before = old.len();
+    if before < at {
+        old.reserve(at - before + bytes.len())?;
+        old.resize(at, 0)?;
+    }
+    if let Err(error) = old.extend_from_slice(bytes) {
+        old.truncate(before);
+        return Err(error);
     }
     Ok(())
 }
 
-/// Puts the bytes at a place, and fills a gap before it with zeros.
+/// Puts the bytes at a place, and fills a gap before it with zeros. No byte is zeroed that is written
+/// over.
 ///
 /// An error leaves the vector as it was.
 pub fn overlay_onto(old: &mut Vec<u8>, at: usize, bytes: &[u8]) -> Result<(), AllocError>
@@ -46,19 +53,8 @@ pub fn overlay_onto(old: &mut Vec<u8>, at: usize, bytes: &[u8]) -> Result<(), Al
     if bytes.is_empty() {
         return Ok(());
     }
-    grow_to(old, at + bytes.len())?;
-    put_into(old.as_mut_slice(), at, bytes);
+    let within = old.len().saturating_sub(at).min(bytes.len());
+    extend_at(old, at, &bytes[within..])?;
+    put_into(old.as_mut_slice(), at, &bytes[..within]);
     Ok(())
-}
-
-/// The length once the bytes are put at a place.
-pub fn length_with(old: &[u8], at: usize, bytes: &[u8]) -> usize
-    requires { at + length bytes.now < 2 ^ 64 }
-    ensures { result ≡ length (overlay old.now at bytes.now) }
-{
-    if bytes.is_empty() {
-        old.len()
-    } else {
-        old.len().max(at + bytes.len())
-    }
 }

@@ -1,6 +1,5 @@
 use super::{DataFile, MAX_FILE};
 use cluster_model::{Changes, NewTime, Piece, Tick, Times};
-use ff_xdr::Data;
 use std::alloc::Global;
 use std::process::Abort;
 use std::test::Fail;
@@ -94,7 +93,7 @@ fn a_file_has_its_last_byte(rt: HostRuntime) -> Result<(), Fail> {
 #[test]
 fn what_is_committed_outlives_a_restart(rt: HostRuntime) -> Result<(), Fail> {
     let mut file = half_stable(rt.alloc())?;
-    file.commit()?;
+    file.commit();
     assert_eq!(rt; file.read(0, 100), b"abXYef".as_slice());
     assert_eq!(rt; file.times(), times(0, 2, 2));
     file.write(tick(3), 6, false, b"gh")?;
@@ -105,7 +104,7 @@ fn what_is_committed_outlives_a_restart(rt: HostRuntime) -> Result<(), Fail> {
     assert_eq!(rt; file.times(), times(0, 2, 2));
     // nothing is pending, so no piece names anything
     assert!(rt; file.keep(&piece(0, 0, 1), None)?.is_none());
-    file.commit()?;
+    file.commit();
     assert_eq!(rt; file.read(0, 100), b"abXYef".as_slice());
     Ok(())
 }
@@ -139,6 +138,26 @@ fn what_is_set_is_stable(rt: HostRuntime) -> Result<(), Fail> {
     file.restart(None);
     assert_eq!(rt; (file.owner(), file.group(), file.mode()), (9, 10, 0o400));
     assert_eq!(rt; file.times(), times(4, 1, 4));
+    Ok(())
+}
+
+#[test]
+fn a_write_has_its_bytes_under_later_ones(rt: HostRuntime) -> Result<(), Fail> {
+    for is_kept in [true, false] {
+        let mut file = half_stable(rt.alloc())?;
+        file.write(tick(3), 3, false, b"123456")?;
+        file.write(tick(4), 8, false, b"gh")?;
+        assert_eq!(rt; file.read(0, 100), b"abX12345gh".as_slice());
+        if is_kept {
+            let kept = file.keep(&piece(1, 5, 1), None)?;
+            let kept = file.keep(&piece(0, 1, 1), kept)?;
+            file.restart(kept);
+            assert_eq!(rt; file.read(0, 100), b"abcYef\0\06".as_slice());
+        } else {
+            file.restart(None);
+            assert_eq!(rt; file.read(0, 100), b"abcdef".as_slice());
+        }
+    }
     Ok(())
 }
 

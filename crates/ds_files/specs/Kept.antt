@@ -1,25 +1,25 @@
 -- What a restart keeps of each file, on its way.
-use Rattle.std.specs.Prelude.{◌≡◌, ◌≢◌, ℕ, ◌+◌, ◌<◌, ◌≤◌, List, [], ◌∷◌, ◌++◌, length, Option, Some, None, slice_get}
+use Rattle.std.specs.Prelude.{◌≡◌, ◌≢◌, ℕ, ◌+◌, ◌<◌, List, [], ◌∷◌, ◌++◌, length, Option, Some, None, slice_get}
 use Rattle.cluster_model.specs.declared.piece.Piece.{Piece}
-use Rattle.cluster_model.specs.Content.{survived, pieces_of}
-use Rattle.cluster_model.specs.File.{FileState, shown}
-use Rattle.data_file.specs.Kept.{kept_bytes, crashed}
+use Rattle.cluster_model.specs.Content.{Content, survived, pieces_of}
+use Rattle.cluster_model.specs.File.{FileState}
+use Rattle.data_file.specs.Kept.{kept_content, IsKeptOf, crashed}
 
 -- what the disk of a file has, by what was kept for it
-abbrev pub disk_of : FileState → Option (List ℕ) → List ℕ
-disk_of f kept = kept_bytes f.content.stable kept
+abbrev pub disk_of : FileState → Option Content → List ℕ
+disk_of f kept = (kept_content f.content kept).stable
 
--- each file's disk has no more bytes than the file shows
-pub record AreBounded (files : List FileState) (kept : List (Option (List ℕ))) : Type 0 where
+-- what was kept of each file is of it
+pub record AreBounded (files : List FileState) (kept : List (Option Content)) : Type 0 where
   pub size : length kept ≡ length files
-  pub each : (i : ℕ) (f : FileState) (k : Option (List ℕ)) → slice_get files i ≡ Some f → slice_get kept i ≡ Some k → length (disk_of f k) ≤ length (shown f)
+  pub each : (i : ℕ) (f : FileState) (k : Option Content) → slice_get files i ≡ Some f → slice_get kept i ≡ Some k → IsKeptOf f k
 
 -- each file's disk has what these pieces have brought to it
-abbrev pub AreKept : List FileState → List Piece → List (Option (List ℕ)) → Type 0
-AreKept files pieces kept = (i : ℕ) (f : FileState) (k : Option (List ℕ)) → slice_get files i ≡ Some f → slice_get kept i ≡ Some k → disk_of f k ≡ (survived f.content (pieces_of (i + 2) pieces)).stable
+abbrev pub AreKept : List FileState → List Piece → List (Option Content) → Type 0
+AreKept files pieces kept = (i : ℕ) (f : FileState) (k : Option Content) → slice_get files i ≡ Some f → slice_get kept i ≡ Some k → disk_of f k ≡ (survived f.content (pieces_of (i + 2) pieces)).stable
 
 -- one piece more
-pub record KeepsPiece (files : List FileState) (piece : Piece) (old new : List (Option (List ℕ))) : Type 0 where
+pub record KeepsPiece (files : List FileState) (piece : Piece) (old new : List (Option Content)) : Type 0 where
   pub bounded : AreBounded files new
   pub kept : (pieces : List Piece) → AreKept files pieces old → AreKept files (pieces ++ piece ∷ []) new
 
@@ -29,6 +29,6 @@ IsOf files piece (Some index) = (index < length files) × (piece.fileid ≡ inde
 IsOf files piece None = (index : ℕ) → index < length files → piece.fileid ≢ index + 2
 
 -- all files after a restart that left these disks
-abbrev pub all_crashed : List FileState → List (Option (List ℕ)) → List FileState
+abbrev pub all_crashed : List FileState → List (Option Content) → List FileState
 all_crashed (f ∷ files) (k ∷ kept) = crashed f (disk_of f k) ∷ all_crashed files kept
 all_crashed _ _ = []

@@ -67,15 +67,13 @@ fn write_file(
     Ok(())
 }
 
-/// Does a COMMIT of the file at an index. At an error nothing has changed.
-fn commit_file(head: &Head, files: &mut [DataFile], index: usize) -> Result<(), NoMemory>
+/// Does a COMMIT of the file at an index. Takes no memory.
+fn commit_file(head: &Head, files: &mut [DataFile], index: usize)
     requires server { IsServer head.now files.old }
     requires within { index < length files.old }
-    ensures ok { OnOk result (IsCarriedOut head.now files.old (OnFile index Commits) head.now files.new) }
-    ensures err { OnErr result (files.new ≡ files.old) }
+    ensures { IsCarriedOut head.now files.old (OnFile index Commits) head.now files.new }
 {
-    files[index].commit()?;
-    Ok(())
+    files[index].commit();
 }
 
 /// Does a SETATTR of the file at an index. Takes no memory.
@@ -137,7 +135,10 @@ pub fn carry_out(
             synced,
             bytes,
         } => write_file(head, files, *index, *at, *synced, bytes),
-        Effect::Commits { index } => commit_file(head, files, *index),
+        Effect::Commits { index } => {
+            commit_file(head, files, *index);
+            Ok(())
+        }
         Effect::Sets { index, changes } => {
             set_file(head, files, *index, changes);
             Ok(())

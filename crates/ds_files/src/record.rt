@@ -25,16 +25,10 @@ pub fn encode(alloc: Global, reply: &Reply<'_>) -> Result<Data, NoMemory>
     Ok(Data::from_vec(out.into_bytes()))
 }
 
-<<<<<<< HEAD:crates/ds_files/src/record.rt
 /// The record of a result, for the call with this number: the header of a success, and behind it the
 /// result, whose bytes are copied once.
 pub fn success(alloc: Global, xid: u32, response: &Response<'_>) -> Result<Data, NoMemory>
     ensures { IfOk result (λ bytes. bytes ≡ reply_bytes (replies_with xid success (arm_spelling nfs.replies (nfs.reply_value response.now)))) }
-=======
-/// The record of an answer to the call with this number.
-pub fn success(alloc: Global, xid: u32, answer: &Answer3) -> Result<Data, NoMemory>
-    ensures { IfOk result (λ bytes. bytes ≡ reply_bytes (replies_with xid success (arm_spelling nfs.replies (nfs.reply_value answer.now.reply)))) }
->>>>>>> 83c501f8e6ea1c852470d1616241aecf5ed1be7b:crates/ds_files/src/post.rt
 {
     let mut out = Out::new(alloc);
     replies_with(xid, ReplyBody::Success(&[])).write(&mut out)?;

@@ -7,8 +7,7 @@ ghost use Rattle.ds_files.specs.Kept.{AreBounded, AreKept, KeepsPiece, IsOf, all
 
 use crate::head::Head;
 use cluster_model::{Piece, Tick};
-use data_file::DataFile;
-use ff_xdr::Data;
+use data_file::{DataFile, Kept};
 use std::alloc::{AllocError, Global};
 
 /// The fileid of the first file.
@@ -25,7 +24,7 @@ fn index_of_piece(files: &[DataFile], piece: &Piece) -> Option<usize>
 }
 
 /// Nothing yet for each file.
-fn none_kept(alloc: Global, files: &[DataFile]) -> Result<Vec<Option<Data>>, AllocError>
+fn none_kept(alloc: Global, files: &[DataFile]) -> Result<Vec<Option<Kept>>, AllocError>
     ensures bounded { IfOk result (λ kept. AreBounded files.now kept.items) }
     ensures kept { IfOk result (λ kept. AreKept files.now [] kept.items) }
 {
@@ -39,7 +38,7 @@ fn none_kept(alloc: Global, files: &[DataFile]) -> Result<Vec<Option<Data>>, All
 /// Keeps one piece more.
 fn keep_piece(
     files: &[DataFile],
-    kept: &mut Vec<Option<Data>>,
+    kept: &mut Vec<Option<Kept>>,
     piece: &Piece,
 ) -> Result<(), AllocError>
     requires { AreBounded files.now kept.old.items }
@@ -59,7 +58,7 @@ fn keep_pieces(
     alloc: Global,
     files: &[DataFile],
     pieces: &[Piece],
-) -> Result<Vec<Option<Data>>, AllocError>
+) -> Result<Vec<Option<Kept>>, AllocError>
     ensures bounded { IfOk result (λ kept. AreBounded files.now kept.items) }
     ensures kept { IfOk result (λ kept. AreKept files.now pieces.now kept.items) }
 {
@@ -71,7 +70,7 @@ fn keep_pieces(
 }
 
 /// Starts each file again with what was kept for it, from the last to the first. Takes no memory.
-fn restart_files(files: &mut [DataFile], mut kept: Vec<Option<Data>>)
+fn restart_files(files: &mut [DataFile], mut kept: Vec<Option<Kept>>)
     requires { AreBounded files.old kept.items }
     ensures { files.new ≡ all_crashed files.old kept.items }
 {

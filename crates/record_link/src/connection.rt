@@ -6,6 +6,7 @@ ghost use Rattle.rpc_record.specs.Frames.{front_of, max_record, record_bytes, is
 ghost use Rattle.record_link.specs.Stream.{Comes};
 ghost use Rattle.record_link.specs.Connection.{new_connection, is_refused, is_spent, is_done, Fills, Advances, Hands, PutsAnswer, Drains, HasCome, HasGone};
 
+use crate::ahead::Ahead;
 use crate::pending::Pending;
 use crate::stream::{Halt, Stream};
 use ff_xdr::{Data, NoMemory};
@@ -28,7 +29,7 @@ pub struct Connection {
     frames: Frames,
     whole: Option<Data>,
     refused: bool,
-    ahead: Pending,
+    ahead: Ahead,
     to_go: Pending,
     unanswered: u64,
     ended: bool,
@@ -55,7 +56,7 @@ impl Connection {
             frames: Frames::new(alloc),
             whole: None,
             refused: false,
-            ahead: Pending::new(alloc),
+            ahead: Ahead::new(alloc),
             to_go: Pending::new(alloc),
             unanswered: 0,
             ended: false,

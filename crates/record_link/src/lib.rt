@@ -2,6 +2,7 @@
 //! bytes that go out (RFC 5531, section 11).
 #![tactic(auto)]
 
+mod ahead;
 mod connection;
 mod connections;
 mod entry;

@@ -1,18 +1,15 @@
-//! Bytes that wait: they come behind the others, and are taken from the front.
+//! Bytes that are to go: they come behind the others, and are taken from the front.
 
-ghost use Rattle.std.specs.Prelude.{◌≡◌, ◌↔◌, ◌≤◌, ◌<◌, ◌+◌, ◌++◌, List, ℕ, [], length, take, drop, IfOk, IsTrue, true};
+ghost use Rattle.std.specs.Prelude.{◌≡◌, ◌↔◌, ◌≤◌, ◌<◌, ◌+◌, ◌++◌, List, ℕ, [], length, take, drop, IsTrue, true};
 ghost use Rattle.ff_xdr.specs.Calls.{Puts};
 ghost use Rattle.ff_xdr.specs.Form.{word};
 ghost use Rattle.rpc_record.specs.Frames.{max_record, record_bytes, header_word};
-ghost use Rattle.record_link.specs.Stream.{ReadsAt, ReadsInto, WritesOut};
+ghost use Rattle.record_link.specs.Stream.{WritesOut};
 
 use crate::stream::{Halt, Stream};
 use ff_xdr::NoMemory;
 use std::alloc::Global;
 use std::marker::Model;
-
-/// The most bytes that are read at once: a call with 64 KiB of data, and its header.
-const ROOM: usize = 73_728;
 
 /// Bytes that wait. Those that were taken are dropped once they are more than half.
 #[derive(Debug, Drop)]
@@ -27,34 +24,6 @@ impl Model for Pending {
     ghost view = { λ p. drop p.start p.bytes.items };
 
     ghost invariant = { λ p. p.start ≤ length p.bytes.items };
-}
-
-/// Reads once from a stream into a buffer, from a place on.
-fn read_at<S: Stream>(buffer: &mut [u8], mark: usize, stream: &mut S) -> Result<usize, Halt>
-    requires { mark < length buffer.old }
-    ensures told { ReadsAt mark buffer.old (S.coming stream.old) result buffer.new (S.coming stream.new) }
-    ensures some { IfOk result (λ n. 0 < n) }
-    ensures gone { S.gone stream.new ≡ S.gone stream.old }
-{
-    stream.read(&mut buffer[mark..])
-}
-
-/// Appends to a list what a stream gives at once.
-fn read_into<S: Stream>(bytes: &mut Vec<u8>, stream: &mut S) -> Result<usize, Halt>
-    ensures told { ReadsInto bytes.old.items (S.coming stream.old) result bytes.new.items (S.coming stream.new) }
-    ensures some { IfOk result (λ n. 0 < n) }
-    ensures gone { S.gone stream.new ≡ S.gone stream.old }
-{
-    let mark = bytes.len();
-    if bytes.resize(mark.saturating_add(ROOM), 0).is_err() || bytes.len() == mark {
-        return Err(Halt::NoMemory);
-    }
-    let came = read_at(bytes, mark, stream);
-    match came {
-        Ok(count) => bytes.truncate(mark + count),
-        Err(_) => bytes.truncate(mark),
-    }
-    came
 }
 
 /// The header of a record of one fragment (RFC 5531, section 11): its length, and the highest bit.
@@ -126,15 +95,6 @@ impl Pending {
             return Err(NoMemory);
         }
         Ok(())
-    }
-
-    /// Appends what a stream gives at once.
-    pub fn read_from<S: Stream>(&mut self, stream: &mut S) -> Result<usize, Halt>
-        ensures told { ReadsInto self.old (S.coming stream.old) result self.new (S.coming stream.new) }
-        ensures some { IfOk result (λ n. 0 < n) }
-        ensures gone { S.gone stream.new ≡ S.gone stream.old }
-    {
-        read_into(&mut self.bytes, stream)
     }
 
     /// Writes what waits to a stream, until all has gone or the stream takes no more.
