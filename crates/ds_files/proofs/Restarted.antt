@@ -47,7 +47,7 @@ fewer_bytes files kept bounded = fewer files kept (λ i f k there found. kept_le
 
 -- what holds of every server holds after a restart
 pub keeps : (h : Head) (files : List FileState) (kept : List (Option Content)) (total : ℕ) → IsServer h files → AreBounded files kept → total ≡ total_size (all_crashed files kept)
-    → IsServer (record h { boot = h.boot + 1; count = 0; total = total }) (all_crashed files kept)
+    → IsServer (record h { clock = rebooted h.clock; total = total }) (all_crashed files kept)
 keeps h files kept total k bounded is =
     let old = k.total in
     let most = k.bounded in

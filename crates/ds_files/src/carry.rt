@@ -16,13 +16,7 @@ use std::alloc::Global;
 
 /// Puts the bytes of a WRITE into a file.
 #[tactic(auto, using(cluster_model::proofs::Files::written_none))]
-fn put(
-    file: &mut DataFile,
-    tick: Tick,
-    at: u64,
-    synced: bool,
-    bytes: &[u8],
-) -> Result<(), NoMemory>
+fn put(file: &mut DataFile, tick: Tick, at: u64, synced: bool, bytes: &[u8]) -> Result<(), NoMemory>
     requires { 0 < length bytes.now → at + length bytes.now ≤ max_file }
     ensures ok { OnOk result (file.new ≡ written file.old tick at synced bytes.now) }
     ensures err { OnErr result (file.new ≡ file.old) }

@@ -69,12 +69,7 @@ fn size_refusal(head: &Head, size: u64, at: u64, length: u64) -> Option<Stat3>
 }
 
 /// Why a WRITE of a file is refused, the first reason in the order of the refusals.
-fn refusal(
-    head: &Head,
-    file: &DataFile,
-    args: &WriteArgs<'_>,
-    cred: &AuthSys<'_>,
-) -> Option<Stat3>
+fn refusal(head: &Head, file: &DataFile, args: &WriteArgs<'_>, cred: &AuthSys<'_>) -> Option<Stat3>
     requires part { length (shown file.now) ≤ head.now.total }
     requires bounded { head.now.total ≤ max_total }
     ensures exact { result ≡ option_map stat_of (sized_refusal head.now.total head.now.clock file.now (caller cred.now) (args.now.count == length args.now.bytes.now) args.now.offset args.now.bytes.now) }

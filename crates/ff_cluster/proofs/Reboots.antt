@@ -4,8 +4,8 @@ use Rattle.std.proofs.lemmas.Bool.{le-leb, lt-leb}
 use Rattle.cluster_model.specs.declared.piece.Piece.{Piece}
 use Rattle.cluster_model.specs.declared.entry.Entry.TheVariants.{Restarted}
 use Rattle.cluster_model.specs.Event.{Restart}
-use Rattle.ds_files.specs.Server.{ServerState}
-use Rattle.ds_files.specs.Restart.{restart_of}
+use Rattle.cluster_model.specs.Server.{ServerState}
+use Rattle.cluster_model.specs.Server.{restart_of}
 use Rattle.ff_cluster.specs.World.{WorldState, effect_of, world_step, max_entries, max_hex, IsBounded}
 
 -- the boots are spent: nothing happens

@@ -14,8 +14,8 @@ use Rattle.ff_cluster.specs.declared.line.Setup.{Setup}
 use Rattle.ff_cluster.specs.declared.line.Setup.TheVariants.{Bare}
 use Rattle.ff_cluster.specs.Line.{LineValue, EventLine, SetupLine, Nothing, setup_at, event_at, words_at, line_at}
 use Rattle.cluster_model.specs.Event.{EventValue, Deliver, Restart}
-use Rattle.ds_files.specs.Server.{ServerState}
-use Rattle.ds_files.specs.Restart.{restart_of}
+use Rattle.cluster_model.specs.Server.{ServerState}
+use Rattle.cluster_model.specs.Server.{restart_of}
 use Rattle.ff_cluster.specs.World.{WorldState, WorldStep, effect_of, world_step, Run, with_step, run_of, restart_step}
 use Rattle.ff_cluster.specs.Script.{Script, by_line, with_event, script_of, LinePlayed, Outside, Limited, Goes, played, played_by, played_step, entries_by, setup_of, world_of, count_of, script_from, run_from, course_from}
 use Rattle.ff_cluster.proofs.PlayLemmas.{print_append}

@@ -5,7 +5,7 @@ use Rattle.line_runs.specs.declared.end.RunEnd.{RunEnd}
 use Rattle.line_runs.specs.declared.end.RunEnd.TheVariants.{Done, BadLine, ReadFault, WriteFault, NoMemory, Limit}
 use Rattle.line_runs.specs.Lines.{Cut, Line, Last, Over, cut_line}
 use Rattle.line_runs.specs.Playback.{EndFaults}
-use Rattle.ds_files.specs.Server.{new_server}
+use Rattle.cluster_model.specs.Server.{new_server}
 use Rattle.ff_node.specs.declared.config.Config.{Config}
 use Rattle.ff_node.specs.declared.link.Arrival.{Arrival}
 use Rattle.ff_node.specs.declared.serve.NodeEnd.{NodeEnd}

@@ -6,8 +6,8 @@ use Rattle.cluster_model.specs.declared.entry.Entry.{Entry}
 use Rattle.cluster_model.specs.declared.entry.Entry.TheVariants.{Packet, Delivered, Restarted}
 use Rattle.cluster_model.specs.declared.piece.Piece.{Piece}
 use Rattle.cluster_model.specs.Print.{hex_of}
-use Rattle.ds_files.specs.Restart.{restart_of}
-use Rattle.ds_files.specs.Server.{ServerState, preset_server}
+use Rattle.cluster_model.specs.Server.{restart_of}
+use Rattle.cluster_model.specs.Server.{ServerState, preset_server}
 use Rattle.ds_files.specs.Receive.{Outcome, outcome_of}
 use Rattle.ff_cluster.specs.declared.world.WorldFault.{WorldFault}
 use Rattle.ff_cluster.specs.declared.world.WorldFault.TheVariants.{Limit, NoMemory}

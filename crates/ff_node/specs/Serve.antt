@@ -5,7 +5,7 @@ use Rattle.rpc_record.specs.declared.stream.Failed.{Failed}
 use Rattle.rpc_record.specs.declared.stream.Failed.TheVariants as failed
 use Rattle.rpc_record.specs.Stream.{one_more}
 use Rattle.cluster_model.specs.declared.ids.NodeId.{NodeId}
-use Rattle.ds_files.specs.Server.{ServerState}
+use Rattle.cluster_model.specs.Server.{ServerState}
 use Rattle.ds_files.specs.Receive.{outcome_of}
 use Rattle.ds_files.specs.Records.{sent_to}
 use Rattle.ff_node.specs.declared.link.Arrival.{Arrival}

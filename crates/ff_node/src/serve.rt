@@ -1,7 +1,7 @@
 //! Nodes that serve over a link.
 
 ghost use Rattle.std.specs.Prelude.{◌≡◌, List};
-ghost use Rattle.ds_files.specs.Server.{new_server};
+ghost use Rattle.cluster_model.specs.Server.{new_server};
 ghost use Rattle.ff_node.specs.declared.link.Role.{Role};
 ghost use Rattle.ff_node.specs.Serve.{AnswersArrival, NodeServes, OpensFor, SendsAll, Serves, TakesTurn, end_of, is_closed, link_faults, turn_faults};
 

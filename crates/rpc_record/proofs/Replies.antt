@@ -1,11 +1,11 @@
 -- The header of a reply by its parts.
 use Rattle.std.proofs.Common.{◌≡◌, ℕ, [], List, Ok, refl, ap, ◌∙◌}
 use Rattle.std.specs.Int.{w32}
-use Rattle.ff_xdr.specs.Reading.{Read, reading, number_at}
+use Rattle.ff_xdr.specs.Reading.{reading, number_at}
 use Rattle.ff_xdr.specs.Form.{Value}
 use Rattle.ff_xdr.proofs.Places.{bind_ok, ok_is}
 use Rattle.rpc_record.specs.Rpc.{OpaqueAuth}
-use Rattle.rpc_record.specs.Replies.{RpcReply, ReplyStat, reply_body, reply_body_of, reply_body_at, header_at}
+use Rattle.rpc_record.specs.Replies.{ReplyStat, reply_body, reply_body_of, reply_body_at, header_at}
 
 header_read : (bytes : List ℕ) (at : ℕ) (xid one : ℕ × ℕ) (v : Value reply_body × ℕ) → number_at w32 bytes at ≡ Ok xid → number_at w32 bytes xid.1 ≡ Ok one → one.0 ≡ 1
     → reading reply_body bytes one.1 ≡ Ok v → header_at bytes at ≡ Ok (record { xid = xid.0; verf = (reply_body_of v.0).0; stat = (reply_body_of v.0).1; results = [] }, v.1)

@@ -10,7 +10,7 @@ use Rattle.ff_xdr.specs.Reading.{Read, ◌>>=◌, reading}
 use Rattle.ff_xdr.proofs.Refusals.{below, seen}
 use Rattle.ff_xdr.proofs.Seen.{Seen, Took, end_of, same_byte}
 use Rattle.ff_xdr.proofs.Sequences.{take_less}
-use Rattle.rpc_record.specs.Replies.{RpcReply, reply_header, is_success, reply_of_header, header_at, results_at, reply_at}
+use Rattle.rpc_record.specs.Replies.{RpcReply, reply_header, is_success, reply_of_header, results_at, reply_at}
 use Rattle.rpc_record.specs.Laws.{IsReplyShortAtEnd, IsReplyRefusedThere}
 use Rattle.rpc_record.proofs.Records.{all_short, all_stop}
 use Rattle.rpc_record.proofs.ReplyLaws.{with_results, reply_behind}

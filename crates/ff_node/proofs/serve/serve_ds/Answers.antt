@@ -1,5 +1,5 @@
 use Rattle.std.proofs.Common.{sym, subst}
-use Rattle.ds_files.specs.Server.{new_server}
+use Rattle.cluster_model.specs.Server.{new_server}
 use Rattle.ff_node.specs.declared.serve.NodeEnd.{NodeEnd}
 use Rattle.ff_node.specs.Serve.{NodeServes, server_step}
 use Rattle.ff_node.proofs.ServeLemmas.{fails_so}
