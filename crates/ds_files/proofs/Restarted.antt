@@ -3,6 +3,7 @@ use Rattle.std.proofs.Common.{◌≡◌, ℕ, suc, ◌+◌, ◌≤◌, List, [],
 use Rattle.std.specs.Prelude.{slice_get}
 use Rattle.std.proofs.lemmas.List.Sums.{sum_by-cons}
 use Rattle.cluster_model.specs.declared.piece.Piece.{Piece}
+use Rattle.cluster_model.specs.Ticks.{rebooted}
 use Rattle.cluster_model.specs.Content.{Content, survived, pieces_of}
 use Rattle.cluster_model.specs.File.{FileState, shown}
 use Rattle.data_file.specs.Kept.{crashed}

@@ -1,8 +1,8 @@
 //! What a restart keeps, and what the files of a server have room for.
 
-use crate::judge::size_refusal;
 use crate::tables::{Bench, pieces_of};
-use crate::{DataServer, RestartFault};
+use crate::write::size_refusal;
+use crate::{DataServer, RestartFault, Tick};
 use nfs3_wire::Stat3;
 use std::alloc::Global;
 use std::process::Abort;
@@ -127,28 +127,39 @@ fn restarts_are_answered_by_the_tables(rt: HostRuntime) -> Result<(), Fail> {
     Ok(())
 }
 
+/// The last tick, of a server that gave so many.
+fn at(count: u32) -> Tick {
+    Tick { boot: 1, count }
+}
+
 #[test]
 fn the_files_share_their_room(rt: HostRuntime) {
     const ALL: u64 = 268_435_456;
     const FILE: u64 = 67_108_864;
     // the longest file, also where the files have no room for more
-    assert_eq!(rt; size_refusal(0, 0, 0, 0, FILE), None);
-    assert_eq!(rt; size_refusal(0, 0, 0, 1, FILE), Some(Stat3::Fbig));
-    assert_eq!(rt; size_refusal(ALL, 0, 0, FILE, 1), Some(Stat3::Fbig));
-    assert_eq!(rt; size_refusal(ALL, 0, FILE, 0, FILE), None);
+    assert_eq!(rt; size_refusal(0, at(0), 0, 0, FILE), None);
+    assert_eq!(rt; size_refusal(0, at(0), 0, 1, FILE), Some(Stat3::Fbig));
+    assert_eq!(rt; size_refusal(ALL, at(0), 0, FILE, 1), Some(Stat3::Fbig));
+    assert_eq!(rt; size_refusal(ALL, at(0), FILE, 0, FILE), None);
     // the last byte that the files have room for
-    assert_eq!(rt; size_refusal(ALL - 1, 0, 0, 0, 1), None);
-    assert_eq!(rt; size_refusal(ALL - 1, 0, 0, 0, 2), Some(Stat3::NoSpc));
-    assert_eq!(rt; size_refusal(ALL, 0, 1, 1, 1), Some(Stat3::NoSpc));
+    assert_eq!(rt; size_refusal(ALL - 1, at(0), 0, 0, 1), None);
+    assert_eq!(rt; size_refusal(ALL - 1, at(0), 0, 0, 2), Some(Stat3::NoSpc));
+    assert_eq!(rt; size_refusal(ALL, at(0), 1, 1, 1), Some(Stat3::NoSpc));
     // no tick is left, which is the last reason
-    assert_eq!(rt; size_refusal(0, 999_999_999, 0, 0, 1), Some(Stat3::Jukebox));
-    assert_eq!(rt; size_refusal(ALL, 999_999_999, 0, 0, 1), Some(Stat3::NoSpc));
     assert_eq!(rt;
-        size_refusal(ALL, 999_999_999, 0, FILE, 1),
+        size_refusal(0, at(999_999_999), 0, 0, 1),
+        Some(Stat3::Jukebox)
+    );
+    assert_eq!(rt;
+        size_refusal(ALL, at(999_999_999), 0, 0, 1),
+        Some(Stat3::NoSpc)
+    );
+    assert_eq!(rt;
+        size_refusal(ALL, at(999_999_999), 0, FILE, 1),
         Some(Stat3::Fbig)
     );
     // no bytes want neither room nor a tick
-    assert_eq!(rt; size_refusal(ALL, 999_999_999, 0, u64::MAX, 0), None);
+    assert_eq!(rt; size_refusal(ALL, at(999_999_999), 0, u64::MAX, 0), None);
 }
 
 /// Eight bytes that are stable, and three writes that are not, over and behind them.

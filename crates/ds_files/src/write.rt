@@ -50,10 +50,10 @@ fn stability_of(synced: bool) -> StableHow
 
 /// Why a WRITE of so many bytes at a place of a file of this size is refused for want of room or of
 /// ticks: the file would be too long, the files together would, or no tick is left.
-fn size_refusal(head: &Head, size: u64, at: u64, length: u64) -> Option<Stat3>
-    requires part { size ≤ head.now.total }
-    requires bounded { head.now.total ≤ max_total }
-    ensures exact { result ≡ option_map stat_of (size_refusal head.now.total head.now.clock size at length) }
+pub fn size_refusal(total: u64, clock: Tick, size: u64, at: u64, length: u64) -> Option<Stat3>
+    requires part { size ≤ total }
+    requires bounded { total ≤ max_total }
+    ensures exact { result ≡ option_map stat_of (size_refusal total clock size at length) }
     ensures status { IfSome result Refuses }
 {
     if length == 0 {
@@ -62,10 +62,10 @@ fn size_refusal(head: &Head, size: u64, at: u64, length: u64) -> Option<Stat3>
     if length > MAX_FILE || at > MAX_FILE - length {
         return Some(Stat3::Fbig);
     }
-    if head.total - size + size.max(at + length) > MAX_TOTAL {
+    if total - size + size.max(at + length) > MAX_TOTAL {
         return Some(Stat3::NoSpc);
     }
-    tick_refusal(head.clock)
+    tick_refusal(clock)
 }
 
 /// Why a WRITE of a file is refused, the first reason in the order of the refusals.
@@ -81,7 +81,13 @@ fn refusal(head: &Head, file: &DataFile, args: &WriteArgs<'_>, cred: &AuthSys<'_
     if args.count as usize != args.bytes.len() {
         return Some(Stat3::Inval);
     }
-    size_refusal(head, file.size(), args.offset, args.bytes.len() as u64)
+    size_refusal(
+        head.total,
+        head.clock,
+        file.size(),
+        args.offset,
+        args.bytes.len() as u64,
+    )
 }
 
 /// A file's attributes after a WRITE that is done.
