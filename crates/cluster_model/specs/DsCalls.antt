@@ -93,8 +93,8 @@ at_root s = refused Inval (shown_root s.root)
 
 -- what is done to a file, unless it is refused, and what is replied then
 abbrev pub unless : FileState → Option Refusal → DsReplyValue → Effect → DsPlan
-unless f (Some refusal) reply effect = replies (refused refusal (shown_by f))
-unless f None reply effect = record { reply = reply; effect = effect }
+unless f (Some refusal) reply does = replies (refused refusal (shown_by f))
+unless f None reply does = record { reply = reply; effect = does }
 
 -- the file as it is shown then
 abbrev pub shown_after : ServerState → FileState → FileOp → Option Shown
