@@ -1,0 +1,3 @@
+pub mod Unbuilt
+pub mod Steps
+pub mod Listings

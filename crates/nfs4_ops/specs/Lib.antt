@@ -1,9 +1,0 @@
-pub mod Objects
-pub mod Stability
-pub mod OpResults
-pub mod ArmZero
-pub mod CallbackSec
-pub mod Layout4
-pub mod Read
-pub mod LayoutGet
-pub mod CreateSession
