@@ -1,13 +1,15 @@
 -- The operations of a compound, step by step.
-use Rattle.std.proofs.Common.{◌≡◌, ℕ, zero, suc, ◌+◌, ◌-◌, ◌<◌, List, [], ◌∷◌, length, Option, Some, None, Result, Ok, Err, refl, sym, ap, subst, ◌∙◌, arith}
+use Rattle.std.proofs.Common.{◌≡◌, ℕ, zero, suc, ◌+◌, ◌-◌, ◌<◌, Bool, true, false, cond, List, [], ◌∷◌, length, Option, Some, None, Result, Ok, Err, refl, sym, ap, subst, ◌∙◌, arith}
 use Rattle.ff_xdr.specs.declared.error.XdrError.{XdrError}
 use Rattle.ff_xdr.specs.Form.{Form, Value}
-use Rattle.ff_xdr.specs.Reading.{Read, reading}
+use Rattle.std.specs.Int.{w32}
+use Rattle.ff_xdr.specs.Reading.{Read, number_at, reading}
+use Rattle.ff_xdr.specs.Unbuilt.{is_unbuilt}
 use Rattle.nfs4_compound.specs.declared.stop.Stop.{Stop}
 use Rattle.nfs4_compound.specs.declared.stop.Stop.TheVariants as stop
 use Rattle.nfs4_compound.specs.declared.stop.NextOp.{NextOp}
 use Rattle.nfs4_compound.specs.declared.stop.NextOp.TheVariants as next
-use Rattle.nfs4_compound.specs.Operations.{OpList, left_at, stop_at, stop_by, with_first, operations, GivesNext, rest_now, rest_of_stop}
+use Rattle.nfs4_compound.specs.Operations.{OpList, left_at, number_of_read, stop_at, stop_by, with_first, operations, GivesNext, rest_now, rest_of_stop}
 
 -- one operation, and the others
 one_more : (form : Form) (n : ℕ) (bytes : List ℕ) (at : ℕ) → 0 < n
@@ -23,7 +25,7 @@ pub gives_op : {O : Type 0} (form : Form) (view : O → Value form) (n : ℕ) (b
 gives_op form view n bytes at op to some read =
     let step = one_more form n bytes at some in
     let all = step ∙ ap (λ r. with_first r (λ e. stop_at form bytes at e) (λ place. operations form (n - 1) bytes place)) read in
-    (ap (λ l. l.values) all, ap (λ l. l.stop) all)
+    (ap (λ l. l.values) all, sym (ap (λ l. l.stop) all))
 
 -- none was
 stopped : (form : Form) (n : ℕ) (bytes : List ℕ) (at : ℕ) (e : XdrError) (s : Stop) → 0 < n → reading form bytes at ≡ Err e → stop_at form bytes at e ≡ s
@@ -52,3 +54,18 @@ pub gives_end : {O : Type 0} (form : Form) (view : O → Value form) (n : ℕ) (
 gives_end form view n bytes at none =
     let all = ap (λ k. operations form k bytes at) none in
     (ap (λ l. l.values) all, (left_at bytes at, ap (λ l. l.stop) all), refl)
+
+-- what is left behind the operations: where none is to come what is left of the bytes, else none is known
+pub rest_at_end : (form : Form) (n : ℕ) (bytes : List ℕ) (at : ℕ) → n ≡ 0 → rest_now (operations form n bytes at).values (operations form n bytes at).stop ≡ left_at bytes at
+rest_at_end form n bytes at none = ap (λ k. rest_now (operations form k bytes at).values (operations form k bytes at).stop) none
+
+no_rest : {form : Form} (read : Read (Value form)) (unbuilt : Bool) (number : ℕ) (others : ℕ → OpList form)
+    → rest_now (with_first read (λ e. cond unbuilt (stop.Unread number) (stop.Bad e)) others).values (with_first read (λ e. cond unbuilt (stop.Unread number) (stop.Bad e)) others).stop ≡ None
+no_rest (Ok v) unbuilt number others = refl
+no_rest (Err e) true number others = refl
+no_rest (Err e) false number others = refl
+
+pub rest_before : (form : Form) (n : ℕ) (bytes : List ℕ) (at : ℕ) → 0 < n → rest_now (operations form n bytes at).values (operations form n bytes at).stop ≡ None
+rest_before form n bytes at some =
+    ap (λ (l : OpList form). rest_now l.values l.stop) (one_more form n bytes at some)
+    ∙ no_rest (reading form bytes at) (is_unbuilt form bytes at) (number_of_read (number_at w32 bytes at)) (λ to. operations form (n - 1) bytes to)

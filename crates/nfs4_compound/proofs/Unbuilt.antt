@@ -1,19 +1,20 @@
 -- Which refused numbers are of an arm that is not built.
 use Rattle.std.proofs.Common.{◌≡◌, ℕ, zero, suc, ◌+◌, Bool, true, false, ◌&&◌, ◌||◌, not, cond, eqb, List, [], ◌∷◌, Option, Some, None, Result, Ok, Err, refl, sym, ap, subst, ◌∙◌, inl, inr}
 use Rattle.std.specs.Prelude.{nat_eq, ◌==◌, if◌then◌else◌}
-use Rattle.std.proofs.lemmas.Bool.{and_parts, eqb-true}
+use Rattle.std.proofs.lemmas.Bool.{and_parts, or_cases, eqb-true}
 use Rattle.std.specs.Int.{w32}
-use Rattle.std.specs.List.{list_any}
+use Rattle.std.specs.List.{AllByRecursion, list_any}
 use Rattle.ff_xdr.specs.declared.error.XdrError.{XdrError}
 use Rattle.ff_xdr.specs.declared.error.XdrWhy.{XdrWhy}
 use Rattle.ff_xdr.specs.declared.error.XdrWhy.TheVariants.{NotEnum}
 use Rattle.ff_xdr.specs.Form.{Form, Void, Number32, Number64, Hyper, Boolean, Enum, Optional, Fixed, Opaque, Text, Pair, Array, Arm, NoArm, Default, Value}
 use Rattle.ff_xdr.specs.Reading.{Read, ◌>>=◌, number_at, flag_at, length_at, arm_at, reading}
 use Rattle.ff_xdr.specs.Unbuilt.{at_value, one_unbuilt, is_unbuilt, has_enum, IsNotEnumAt}
+use Rattle.ff_xdr.proofs.Places.{err_is}
 use Rattle.ff_xdr.proofs.NotBuilt.{unbuilt_right}
 use Rattle.nfs4_compound.specs.declared.stop.Stop.{Stop}
 use Rattle.nfs4_compound.specs.declared.stop.Stop.TheVariants as stop
-use Rattle.nfs4_compound.specs.Operations.{number_of_read, stop_at, stop_by, IsRefusedNumber, arm_has_enum, has_union, is_split}
+use Rattle.nfs4_compound.specs.Operations.{number_of_read, stop_at, stop_by, IsRefusedNumber, arm_has_enum, with_arm, enum_arms, has_union, is_split}
 
 -- ---- tests
 
@@ -53,16 +54,16 @@ no_union _ none bytes at = refl
 
 -- ---- a body
 
-body_refused : {A B : Type 0} (body : Read A) (e : XdrError) → (body >>= λ v. Ok {E = XdrError} (inl {B = B} v.0, v.1)) ≡ Err e → body ≡ Err e
-body_refused (Ok v) e h = absurd cc
-body_refused (Err e2) e h = h
+body_refused : {A B : Type 0} (body : Read A) (others : Read B) (e : XdrError) → arm_at true body others ≡ Err e → body ≡ Err e
+body_refused (Ok v) others e h = absurd cc
+body_refused (Err e2) others e h = cc
 
-others_refused : {A B : Type 0} (others : Read B) (e : XdrError) → (others >>= λ v. Ok {E = XdrError} (inr {A = A} v.0, v.1)) ≡ Err e → others ≡ Err e
-others_refused (Ok v) e h = absurd cc
-others_refused (Err e2) e h = h
+others_refused : {A B : Type 0} (body : Read A) (others : Read B) (e : XdrError) → arm_at false body others ≡ Err e → others ≡ Err e
+others_refused body (Ok v) e h = absurd cc
+others_refused body (Err e2) e h = cc
 
 -- what is known of an operation of which a number was refused, by whether an enum stands in its arm
-is_known : Form → List ℕ → ℕ → ℕ → ℕ → Type 0
+abbrev pub is_known : Form → List ℕ → ℕ → ℕ → ℕ → Type 0
 is_known form bytes at n to =
     is_split form ≡ true → number_at w32 bytes at ≡ Ok (n, to) → IsNotEnumAt form bytes at → is_unbuilt form bytes at ≡ not (arm_has_enum n form)
 
@@ -77,11 +78,10 @@ at_arm : (here : Bool) (body others : Form) (bytes : List ℕ) (at n to : ℕ) �
     → (place : ℕ) → arm_at here (reading body bytes to) (reading others bytes at) ≡ Err (record { place = place; why = NotEnum })
     → cond here (is_unbuilt body bytes to) (is_unbuilt others bytes at) ≡ not (cond here (has_enum body) (arm_has_enum n others))
 at_arm true body others bytes at n to split known place h =
-    in_body body bytes to (has_enum body) (has_union body) refl refl split (place, body_refused (reading body bytes to) (record { place = place; why = NotEnum }) h)
-at_arm false body others bytes at n to split known place h = known (place, others_refused (reading others bytes at) (record { place = place; why = NotEnum }) h)
+    in_body body bytes to (has_enum body) (has_union body) refl refl split (place, body_refused (reading body bytes to) (reading others bytes at) (record { place = place; why = NotEnum }) h)
+at_arm false body others bytes at n to split known place h = known (place, others_refused (reading body bytes to) (reading others bytes at) (record { place = place; why = NotEnum }) h)
 
 pub known : (form : Form) (bytes : List ℕ) (at n to : ℕ) → is_known form bytes at n to
-unfolding is_known
 known (Arm number body others) bytes at n to split read (place, h) =
     let parts = and_parts (not (has_enum body) || not (has_union body)) (is_split others) split in
     let there = subst (λ (r : Read ℕ). (r >>= λ m. arm_at (eqb m.0 number) (reading body bytes m.1) (reading others bytes at)) ≡ Err (record { place = place; why = NotEnum })) read h in
@@ -93,15 +93,7 @@ known _ bytes at n to split read h = absurd cc
 
 known_at : (form : Form) (bytes : List ℕ) (at n to : ℕ) → is_split form ≡ true → number_at w32 bytes at ≡ Ok (n, to) → IsNotEnumAt form bytes at
     → is_unbuilt form bytes at ≡ not (arm_has_enum n form)
-unfolding is_known
 known_at form bytes at n to = known form bytes at n to
-
-abbrev why_in : {A : Type 0} → XdrError → Result A XdrError → XdrWhy
-why_in other (Ok x) = other.why
-why_in other (Err e) = e.why
-
-why_of : {A : Type 0} {e f : XdrError} → Err {A = A} e ≡ Err f → e.why ≡ f.why
-why_of {A} {e} {f} same = ap (why_in f) same
 
 -- of an arm that is not built a number stands there
 no_value : (read : Read ℕ) (f : ℕ × ℕ → Bool) → at_value read f ≡ true → ((n : ℕ × ℕ) → ¬ (read ≡ Ok n)) → ⊥
@@ -117,18 +109,18 @@ no_number _ bytes at split is none = absurd cc
 -- a number was refused, and no enum stands in its arm
 pub stop_unread : (form : Form) (bytes : List ℕ) (at n : ℕ) (e : XdrError) → is_split form ≡ true → reading form bytes at ≡ Err e
     → IsRefusedNumber bytes at e (Some n) → arm_has_enum n form ≡ false → stop_at form bytes at e ≡ stop_by e (Some n)
-stop_unread form bytes at n e split refused (why, read) none =
+stop_unread form bytes at n e split refused (why, (to, read)) none =
     let h : IsNotEnumAt form bytes at = (e.place, refused ∙ ap (λ w. Err (record { place = e.place; why = w })) why) in
-    let k = known_at form bytes at n (at + 4) split read h in
+    let k = known_at form bytes at n to split read h in
     let is : is_unbuilt form bytes at ≡ true = k ∙ ap not none in
     rw is (ap (λ r. stop.Unread (number_of_read r)) read)
 
 -- a number was refused, and an enum stands in its arm
 pub stop_bad : (form : Form) (bytes : List ℕ) (at n : ℕ) (e : XdrError) → is_split form ≡ true → reading form bytes at ≡ Err e
     → IsRefusedNumber bytes at e (Some n) → arm_has_enum n form ≡ true → stop_at form bytes at e ≡ stop_by e None
-stop_bad form bytes at n e split refused (why, read) some =
+stop_bad form bytes at n e split refused (why, (to, read)) some =
     let h : IsNotEnumAt form bytes at = (e.place, refused ∙ ap (λ w. Err (record { place = e.place; why = w })) why) in
-    let k = known_at form bytes at n (at + 4) split read h in
+    let k = known_at form bytes at n to split read h in
     let is : is_unbuilt form bytes at ≡ false = k ∙ ap not some in
     rw is refl
 
@@ -138,7 +130,7 @@ none_unbuilt : (form : Form) (bytes : List ℕ) (at : ℕ) (e : XdrError) (unbui
 none_unbuilt form bytes at e false is split refused none = refl
 none_unbuilt form bytes at e true is split refused none =
     let there = (unbuilt_right form bytes at).0 is in
-    let why : e.why ≡ NotEnum = why_of (sym refused ∙ there.1) in
+    let why : e.why ≡ NotEnum = sym (ap (λ x. x.why) (err_is {A = Value form × ℕ} e (record { place = there.0; why = NotEnum }) (sym refused ∙ there.1))) in
     absurd (no_number form bytes at split is (none why))
 
 pub stop_none : (form : Form) (bytes : List ℕ) (at : ℕ) (e : XdrError) → is_split form ≡ true → reading form bytes at ≡ Err e
@@ -148,14 +140,6 @@ stop_none form bytes at e split refused none =
     rw is refl
 
 -- ---- the arms in which an enum stands
-
-abbrev pub with_arm : Bool → ℕ → List ℕ → List ℕ
-with_arm true number rest = number ∷ rest
-with_arm false number rest = rest
-
-abbrev pub enum_arms : Form → List ℕ
-enum_arms (Arm number body others) = with_arm (has_enum body) number (enum_arms others)
-enum_arms form = []
 
 in_arms : (here enum : Bool) (n number : ℕ) (rest : List ℕ) (others : Bool) → eqb n number ≡ here → (others ≡ true → list_any (eqb n) rest ≡ true)
     → cond here enum others ≡ true → list_any (eqb n) (with_arm enum number rest) ≡ true
@@ -178,3 +162,12 @@ not_in false some in_it none = refl
 -- no enum stands in the arm of a number that is none of theirs
 pub no_enum : (form : Form) (n : ℕ) → list_any (eqb n) (enum_arms form) ≡ false → arm_has_enum n form ≡ false
 no_enum form n none = not_in (arm_has_enum n form) (list_any (eqb n) (enum_arms form)) (has_enum_in form n) none
+
+-- what holds of each number of a list holds of one of them
+pub one_of_numbers : (P : ℕ → Type 0) (n : ℕ) (numbers : List ℕ) → AllByRecursion P numbers → list_any (eqb n) numbers ≡ true → P n
+one_of_numbers P n [] all some = absurd cc
+one_of_numbers P n (k ∷ numbers) all some =
+    elim (or_cases (eqb n k) (list_any (eqb n) numbers) some) [
+      | inl same ↦ subst P (sym (eqb-true n k same)) all.0
+      | inr rest ↦ one_of_numbers P n numbers all.1 rest
+    ]

@@ -36,7 +36,7 @@ stop_by e None = stop.Bad e
 
 -- the number at the place of an operation, where a number was refused there
 abbrev pub IsRefusedNumber : List ℕ → ℕ → XdrError → Option ℕ → Type 0
-IsRefusedNumber bytes at e (Some number) = (e.why ≡ NotEnum) × (number_at w32 bytes at ≡ Ok (number, at + 4))
+IsRefusedNumber bytes at e (Some number) = (e.why ≡ NotEnum) × ((to : ℕ) × (number_at w32 bytes at ≡ Ok (number, to)))
 IsRefusedNumber bytes at e None = (e.why ≡ NotEnum) → ((n : ℕ × ℕ) → ¬ (number_at w32 bytes at ≡ Ok n))
 
 abbrev pub with_first : {form : Form} → Read (Value form) → (XdrError → Stop) → (ℕ → OpList form) → OpList form
@@ -80,6 +80,15 @@ verdict_of (stop.Bad e) = Err e
 abbrev pub arm_has_enum : ℕ → Form → Bool
 arm_has_enum n (Arm number body others) = if n == number then has_enum body else arm_has_enum n others
 arm_has_enum n form = false
+
+-- the numbers of the arms in which an enum stands
+abbrev pub with_arm : Bool → ℕ → List ℕ → List ℕ
+with_arm true number rest = number ∷ rest
+with_arm false number rest = rest
+
+abbrev pub enum_arms : Form → List ℕ
+enum_arms (Arm number body others) = with_arm (has_enum body) number (enum_arms others)
+enum_arms form = []
 
 -- a union stands in it
 abbrev pub has_union : Form → Bool

@@ -42,7 +42,7 @@ impl<'a> CbCompound<'a> {
         ensures { Finds (λ c. c) result (cb_compound_at args.now) }
     {
         let mut cursor = Cursor::new(args);
-        let (tag, minorversion, (callback_ident, count)) = <(Tag<'a>, u32, (u32, u32))>::read(
+        let (tag, minorversion, (callback_ident, count)) = <(Tag4<'a>, u32, (u32, u32))>::read(
             &mut cursor,
         )?;
         Ok(CbCompound {
@@ -169,7 +169,10 @@ impl<'a> CbOps<'a> {
     pub fn rest(&self) -> Option<usize>
         ensures { result ≡ rest_now self.now.values self.now.stop }
     {
-        if self.left == 0 && self.at < self.bytes.len() {
+        if self.left > 0 {
+            return None;
+        }
+        if self.at < self.bytes.len() {
             return Some(self.at);
         }
         None

@@ -41,7 +41,7 @@ impl<'a> Compound<'a> {
         ensures { Finds (λ c. c) result (compound_at args.now) }
     {
         let mut cursor = Cursor::new(args);
-        let (tag, minorversion, count) = <(Tag<'a>, u32, u32)>::read(&mut cursor)?;
+        let (tag, minorversion, count) = <(Tag4<'a>, u32, u32)>::read(&mut cursor)?;
         Ok(Compound {
             tag: tag.text,
             minorversion,
@@ -158,7 +158,10 @@ impl<'a> Ops<'a> {
     pub fn rest(&self) -> Option<usize>
         ensures { result ≡ rest_now self.now.values self.now.stop }
     {
-        if self.left == 0 && self.at < self.bytes.len() {
+        if self.left > 0 {
+            return None;
+        }
+        if self.at < self.bytes.len() {
             return Some(self.at);
         }
         None

@@ -1,8 +1,9 @@
 //! Which refused operations are not built.
 
-ghost use Rattle.std.specs.Prelude.{◌≡◌, ◌≤◌, Err, length};
+ghost use Rattle.std.specs.Prelude.{◌≡◌, ◌≤◌, Err, length, nat_eq};
+ghost use Rattle.std.specs.List.{list_any};
 ghost use Rattle.ff_xdr.specs.Reading.{reading};
-ghost use Rattle.nfs4_compound.specs.Operations.{stop_at, stop_by, IsRefusedNumber};
+ghost use Rattle.nfs4_compound.specs.Operations.{stop_at, stop_by, IsRefusedNumber, enum_arms};
 ghost use Rattle.nfs4_compound.specs.Args.{argop4};
 ghost use Rattle.nfs4_compound.specs.CbArgs.{cb_argop4};
 
@@ -22,18 +23,26 @@ fn refused_number(bytes: &[u8], at: usize, error: XdrError) -> Option<u32>
     }
 }
 
-/// The number of a refused operation that is not built, or of which an arm of a union is not. WRITE and
-/// BIND_CONN_TO_SESSION have an enum and no union: a number that one of them refuses is outside its form.
-/// A number that any other refuses is that of an arm, or the operation's own.
+/// An enum stands in the arguments of the operation: of WRITE and of BIND_CONN_TO_SESSION.
+fn has_enum(number: u32) -> bool
+    ensures { result ≡ list_any (nat_eq number) (enum_arms argop4) }
+{
+    number == 38 || number == 41
+}
+
+/// The number of a refused operation that is not built, or of which an arm of a union is not. Where an
+/// enum stands in the arguments, no union does: a number that is refused there is outside the form. Else
+/// it is that of an arm, or the operation's own.
 pub(crate) fn unbuilt_op(bytes: &[u8], at: usize, error: XdrError) -> Option<u32>
     requires at { at ≤ length bytes.now }
     requires refused { reading argop4 bytes.now at ≡ Err error }
     ensures { stop_at argop4 bytes.now at error ≡ stop_by error result }
 {
-    match refused_number(bytes, at, error)? {
-        38 | 41 => None,
-        number => Some(number),
+    let number = refused_number(bytes, at, error)?;
+    if has_enum(number) {
+        return None;
     }
+    Some(number)
 }
 
 /// The same of a callback, of which none has an enum.
