@@ -95,7 +95,7 @@ given_whole form zero bytes at values to is =
     let same = ok_is ([], at) (values, to) is in
     ap (λ p. record { values = p.0; stop = stop.End (left_at bytes p.1) }) same
 given_whole form (suc count) bytes at values to is =
-    let each = λ place. reading form bytes place in
+    let each : ℕ → Read (Value form) = λ place. reading form bytes place in
     let first = bind_ok (reading form bytes at) (λ v. many_at each count v.1 >>= λ others. Ok (v.0 ∷ others.0, others.1)) (values, to) is in
     let others = bind_ok (many_at each count first.0.1) (λ others. Ok (first.0.0 ∷ others.0, others.1)) (values, to) first.2 in
     let same = ok_is (first.0.0 ∷ others.0.0, others.0.1) (values, to) others.2 in

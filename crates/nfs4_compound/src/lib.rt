@@ -24,13 +24,13 @@ mod tests;
 
 pub use cb_compound::{CbCompound, CbOps, judge_cb_compound};
 pub use cb_op::CbOp;
-pub use cb_res::CbRes;
+pub use cb_res::{CbRes, is_built_cb_op};
 pub use compound::{Compound, Ops, judge_compound};
 pub use laws::{every_listing, every_operation};
 pub use nfs4_file_ops;
 pub use nfs4_session_ops;
 pub use op::Op;
-pub use op_res::OpRes;
+pub use op_res::{OpRes, is_built_op};
 pub use results::{put_cb_compound, put_cb_results, put_compound, put_results};
 pub use stop::{NextOp, Stop};
 pub use tag::{MAX_TAG4, Tag4};

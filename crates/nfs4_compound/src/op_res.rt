@@ -1,10 +1,14 @@
 //! The results of operations (RFC 8881, section 18).
 
 ghost use Rattle.std.specs.Prelude.{◌≡◌, refl};
+ghost use Rattle.std.specs.Prelude.{nat_eq};
+ghost use Rattle.std.specs.List.{list_any};
 ghost use Rattle.nfs4_compound.specs.Behind.{union_number};
-ghost use Rattle.nfs4_compound.specs.Results.{resop4, op_res_value};
+ghost use Rattle.nfs4_compound.specs.Results.{op_numbers, resop4, op_res_value};
 
-use crate::operations::{fits_result, number_of_result, operations, put_result, read_result};
+use crate::operations::{
+    fits_result, is_one, number_of_result, operations, put_result, read_result,
+};
 use ff_xdr::{Cursor, Message, NoMemory, Out, Wire, XdrError};
 use nfs4_file_ops::{
     CloseRes, Commit4Res, GetAttr4Res, GetDeviceInfoRes, GetFhRes, LayoutCommitRes, LayoutGetRes,
@@ -15,6 +19,13 @@ use nfs4_session_ops::{
     ReclaimCompleteRes, SequenceRes,
 };
 use nfs4_types::{Refusal, Stat4};
+
+/// The operation with this number is built.
+pub fn is_built_op(number: u32) -> bool
+    ensures { result ≡ list_any (nat_eq number) op_numbers }
+{
+    operations!(is_one, number)
+}
 
 /// The result of an operation, `nfs_resop4` (RFC 8881, section 16.2.3).
 #[derive(Clone, Copy)]
@@ -86,9 +97,12 @@ impl<'a> Wire<'a> for OpRes<'a> {
     fn read(cursor: &mut Cursor<'a>) -> Result<OpRes<'a>, XdrError> {
         let mut fork = cursor.fork();
         let number = fork.number32()?;
-        let result = operations!(read_result, OpRes number, &mut fork);
-        *cursor = fork;
-        Ok(result)
+        if !is_built_op(number) {
+            let refusal = Refusal::read(&mut fork)?;
+            *cursor = fork;
+            return Ok(OpRes::Unbuilt(number, refusal.status));
+        }
+        operations!(read_result, OpRes number, fork, cursor)
     }
 
     fn put(&self, out: &mut Out) -> Result<(), NoMemory> {
@@ -96,6 +110,6 @@ impl<'a> Wire<'a> for OpRes<'a> {
     }
 
     fn fits(&self) -> bool {
-        operations!(fits_result, OpRes self)
+        operations!(fits_result, OpRes self, is_built_op)
     }
 }

@@ -21,6 +21,13 @@ macro_rules! callbacks {
     };
 }
 
+/// Whether a number is one of the table's.
+macro_rules! is_one {
+    ([$($number:literal $variant:ident),*] [$($bare_number:literal $bare:ident),*] $of:expr) => {
+        matches!($of, $($number)|* $(| $bare_number)*)
+    };
+}
+
 /// The number of an operation.
 macro_rules! number_of {
     ([$($number:literal $variant:ident),*] [$($bare_number:literal $bare:ident),*] $kind:ident $op:expr) => {
@@ -81,16 +88,21 @@ macro_rules! number_of_result {
     };
 }
 
-/// The result under a number, read from a cursor.
+/// The result under a number that is built, read from a fork of a cursor, which goes on from there.
 macro_rules! read_result {
-    ([$($number:literal $variant:ident),*] [$($bare_number:literal $bare:ident),*] $kind:ident $of:expr, $cursor:expr) => {
+    ([$($number:literal $variant:ident),*] [$($bare_number:literal $bare:ident),*] $kind:ident $of:expr, $fork:ident, $cursor:expr) => {
         match $of {
-            $($number => $kind::$variant(Wire::read($cursor)?),)*
-            $($bare_number => $kind::$bare(Wire::read($cursor)?),)*
-            number => {
-                let refusal = Refusal::read($cursor)?;
-                $kind::Unbuilt(number, refusal.status)
-            }
+            $($number => {
+                let result = Wire::read(&mut $fork)?;
+                *$cursor = $fork;
+                Ok($kind::$variant(result))
+            })*
+            $($bare_number => {
+                let result = Wire::read(&mut $fork)?;
+                *$cursor = $fork;
+                Ok($kind::$bare(result))
+            })*
+            _ => unreachable!(),
         }
     };
 }
@@ -120,12 +132,12 @@ macro_rules! put_result {
 
 /// A result has a spelling: that under a number that is not built stands under no other.
 macro_rules! fits_result {
-    ([$($number:literal $variant:ident),*] [$($bare_number:literal $bare:ident),*] $kind:ident $result:expr) => {
+    ([$($number:literal $variant:ident),*] [$($bare_number:literal $bare:ident),*] $kind:ident $result:expr, $is_built:ident) => {
         match $result {
             $($kind::$variant(result) => Wire::fits(result),)*
             $($kind::$bare(result) => Wire::fits(result),)*
             $kind::Unbuilt(number, status) => {
-                !matches!(*number, $($number)|* $(| $bare_number)*) && Refusal { status: *status }.fits()
+                !$is_built(*number) && Refusal { status: *status }.fits()
             }
         }
     };
@@ -134,6 +146,7 @@ macro_rules! fits_result {
 pub(crate) use callbacks;
 pub(crate) use fits_args;
 pub(crate) use fits_result;
+pub(crate) use is_one;
 pub(crate) use number_of;
 pub(crate) use number_of_result;
 pub(crate) use operations;
