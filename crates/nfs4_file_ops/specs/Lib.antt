@@ -1,0 +1,17 @@
+pub mod Objects
+pub mod Stability
+pub mod OpResults
+pub mod ArmZero
+pub mod Fattr
+pub mod Layout4
+pub mod OpenHow
+pub mod CbLayoutRecall
+pub mod Close
+pub mod Commit
+pub mod GetDeviceInfo
+pub mod LayoutCommit
+pub mod LayoutGet
+pub mod LayoutReturn
+pub mod Open
+pub mod Read
+pub mod Write

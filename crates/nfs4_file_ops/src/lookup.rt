@@ -1,0 +1,9 @@
+//! LOOKUP: go to a name in the current directory (RFC 8881, section 18.13).
+
+use crate::{Component4, OpResult};
+
+/// The arguments, `LOOKUP4args`: the name.
+pub type Lookup4Args<'a> = Component4<'a>;
+
+/// The result, `LOOKUP4res`.
+pub type Lookup4Res = OpResult<()>;

@@ -1,0 +1,10 @@
+pub mod Directions
+pub mod ImplId
+pub mod CallbackSec
+pub mod ReferringCall
+pub mod ReferringCalls
+pub mod BindConn
+pub mod CbSequence
+pub mod CreateSession
+pub mod ExchangeId
+pub mod Sequence

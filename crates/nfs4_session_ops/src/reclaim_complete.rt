@@ -1,0 +1,9 @@
+//! RECLAIM_COMPLETE: nothing is reclaimed any more (RFC 8881, section 18.51).
+
+use nfs4_file_ops::OpResult;
+
+/// The arguments, `RECLAIM_COMPLETE4args`: of one file system alone.
+pub type ReclaimCompleteArgs = bool;
+
+/// The result, `RECLAIM_COMPLETE4res`.
+pub type ReclaimCompleteRes = OpResult<()>;

@@ -1,0 +1,10 @@
+pub mod Status
+pub mod AtMostOne
+pub mod Bitmaps
+pub mod Channels
+pub mod Handles
+pub mod Ids
+pub mod Stateids
+pub mod Times
+pub mod Sequences
+pub mod Laws

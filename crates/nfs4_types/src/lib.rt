@@ -1,0 +1,26 @@
+//! NFSv4.1 (RFC 8881): the values that operations have in common.
+#![tactic(auto)]
+
+mod at_most_one;
+mod bitmap;
+mod channel;
+mod handle;
+mod ids;
+mod laws;
+mod sequence;
+mod stateid;
+mod status;
+#[cfg(test)]
+mod tests;
+mod time;
+
+pub use at_most_one::AtMostOne;
+pub use bitmap::Bitmap;
+pub use channel::ChannelAttrs;
+pub use handle::{Handle4, MAX_HANDLE4, file_handle, file_number};
+pub use ids::{DeviceId, SessionId, device_of};
+pub use laws::different_ids;
+pub use sequence::Sequence;
+pub use stateid::{Stateid, layout_stateid, open_stateid};
+pub use status::{Refusal, Stat4};
+pub use time::Time4;
