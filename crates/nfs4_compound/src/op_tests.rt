@@ -2,7 +2,7 @@
 
 use crate::tests::{
     BACK, BACK_WORDS, FORE, FORE_WORDS, HANDLE, ID, ID_WORDS, SESSION, STATEID, STATEID_WORDS,
-    bytes_of, is_read, is_written, no_bits, spelled_by,
+    bytes_of, cb_op_is, is_read, no_bits, op_is, spelled_by,
 };
 use crate::{CbOp, Op};
 use ff_xdr::{Array, Items};
@@ -14,7 +14,7 @@ use nfs4_file_ops::{
 };
 use nfs4_session_ops::{
     BindConnArgs, CallbackSec, CbSequenceArgs, CreateSessionArgs, ExchangeIdArgs, FromClient,
-    ImplId, ReferringCall, ReferringCalls,
+    ImplId,
 };
 use nfs4_types::{AtMostOne, Bitmap, DeviceId, Handle4, Sequence, Time4};
 use rpc_record::AuthSys;
@@ -26,7 +26,7 @@ fn operations_of_files(rt: HostRuntime) -> Result<(), Fail> {
         mask: no_bits(),
         values: OpaqueBody { bytes: &[] },
     };
-    let mut open = OpenArgs {
+    let open = OpenArgs {
         seqid: 1,
         share_access: 2,
         share_deny: 3,
@@ -60,7 +60,7 @@ fn operations_of_files(rt: HostRuntime) -> Result<(), Fail> {
     let mask = Bitmap {
         words: Items::made(&bits),
     };
-    spelled_by!(rt Op:
+    spelled_by!(rt op_is:
         // the seqid, the stateid
         [&[4, 7], &STATEID_WORDS] => Op::Close(close);
         // the offset, the count
@@ -81,16 +81,22 @@ fn operations_of_files(rt: HostRuntime) -> Result<(), Fail> {
         [&[18, 1, 2, 3, 0, 4, 1, 0x4100_0000, 0, 0, 3, 0x6162_6300]] => Op::Open(open);
     );
     // CREATE with UNCHECKED and no attributes; with GUARDED, a word of bits and four bytes of values
-    open.how = OpenHow::Create(CreateHow4::Unchecked(none));
-    spelled_by!(rt Op:
-        [&[18, 1, 2, 3, 0, 4, 1, 0x4100_0000, 1, 0, 0, 0, 0, 3, 0x6162_6300]] => Op::Open(open);
+    let unchecked = OpenArgs {
+        how: OpenHow::Create(CreateHow4::Unchecked(none)),
+        ..open
+    };
+    spelled_by!(rt op_is:
+        [&[18, 1, 2, 3, 0, 4, 1, 0x4100_0000, 1, 0, 0, 0, 0, 3, 0x6162_6300]] => Op::Open(unchecked);
     );
-    open.how = OpenHow::Create(CreateHow4::Guarded(Fattr4 {
-        mask,
-        values: OpaqueBody { bytes: b"ABCD" },
-    }));
-    spelled_by!(rt Op:
-        [&[18, 1, 2, 3, 0, 4, 1, 0x4100_0000, 1, 1, 1, 0x1A, 4, 0x4142_4344, 0, 3, 0x6162_6300]] => Op::Open(open);
+    let guarded = OpenArgs {
+        how: OpenHow::Create(CreateHow4::Guarded(Fattr4 {
+            mask,
+            values: OpaqueBody { bytes: b"ABCD" },
+        })),
+        ..open
+    };
+    spelled_by!(rt op_is:
+        [&[18, 1, 2, 3, 0, 4, 1, 0x4100_0000, 1, 1, 1, 0x1A, 4, 0x4142_4344, 0, 3, 0x6162_6300]] => Op::Open(guarded);
     );
     Ok(())
 }
@@ -103,7 +109,7 @@ fn operations_of_layouts(rt: HostRuntime) -> Result<(), Fail> {
         maxcount: 5,
         notify_types: no_bits(),
     };
-    let mut commit = LayoutCommitArgs {
+    let commit = LayoutCommitArgs {
         offset: 1,
         length: 2,
         reclaim: false,
@@ -123,13 +129,13 @@ fn operations_of_layouts(rt: HostRuntime) -> Result<(), Fail> {
         stateid: STATEID,
         maxcount: 8,
     };
-    let mut back = LayoutReturnArgs {
+    let back = LayoutReturnArgs {
         reclaim: false,
         layout_type: 4,
         iomode: 3,
         kind: LayoutReturn::All,
     };
-    spelled_by!(rt Op:
+    spelled_by!(rt op_is:
         // the device, the type, the maxcount, no bits
         [&[47], &ID_WORDS, &[4, 5, 0]] => Op::GetDeviceInfo(device);
         // the offset, the length, reclaim, the stateid, no offset, no time, the type, no body
@@ -140,12 +146,15 @@ fn operations_of_layouts(rt: HostRuntime) -> Result<(), Fail> {
         [&[51, 0, 4, 3, 3]] => Op::LayoutReturn(back);
     );
     // the last offset 3, the time 4 s and 5 ns, and a body of one byte
-    commit.last_write_offset = Some(3);
-    commit.time_modify = Some(Time4 {
-        seconds: 4,
-        nanos: 5,
-    });
-    commit.body = OpaqueBody { bytes: b"A" };
+    let full = LayoutCommitArgs {
+        last_write_offset: Some(3),
+        time_modify: Some(Time4 {
+            seconds: 4,
+            nanos: 5,
+        }),
+        body: OpaqueBody { bytes: b"A" },
+        ..commit
+    };
     // of a file: the offset, the length, the stateid, no body
     let file = LayoutReturnFile {
         offset: 0,
@@ -153,14 +162,20 @@ fn operations_of_layouts(rt: HostRuntime) -> Result<(), Fail> {
         stateid: STATEID,
         body: OpaqueBody { bytes: &[] },
     };
-    back.kind = LayoutReturn::File(file);
-    spelled_by!(rt Op:
-        [&[49, 0, 1, 0, 2, 0], &STATEID_WORDS, &[1, 0, 3, 1, 0, 4, 5, 4, 1, 0x4100_0000]] => Op::LayoutCommit(commit);
-        [&[51, 0, 4, 3, 1, 0, 0, u32::MAX, u32::MAX], &STATEID_WORDS, &[0]] => Op::LayoutReturn(back);
+    let of_file = LayoutReturnArgs {
+        kind: LayoutReturn::File(file),
+        ..back
+    };
+    spelled_by!(rt op_is:
+        [&[49, 0, 1, 0, 2, 0], &STATEID_WORDS, &[1, 0, 3, 1, 0, 4, 5, 4, 1, 0x4100_0000]] => Op::LayoutCommit(full);
+        [&[51, 0, 4, 3, 1, 0, 0, u32::MAX, u32::MAX], &STATEID_WORDS, &[0]] => Op::LayoutReturn(of_file);
     );
-    back.kind = LayoutReturn::Fsid;
-    spelled_by!(rt Op:
-        [&[51, 0, 4, 3, 2]] => Op::LayoutReturn(back);
+    let of_system = LayoutReturnArgs {
+        kind: LayoutReturn::Fsid,
+        ..back
+    };
+    spelled_by!(rt op_is:
+        [&[51, 0, 4, 3, 2]] => Op::LayoutReturn(of_system);
     );
     Ok(())
 }
@@ -172,7 +187,7 @@ fn operations_of_sessions(rt: HostRuntime) -> Result<(), Fail> {
         direction: FromClient::BackOrBoth,
         rdma: true,
     };
-    let mut exchange = ExchangeIdArgs {
+    let exchange = ExchangeIdArgs {
         verifier: 5,
         owner: Owner4 { bytes: b"A" },
         flags: 6,
@@ -208,7 +223,7 @@ fn operations_of_sessions(rt: HostRuntime) -> Result<(), Fail> {
         highest: 3,
         cachethis: true,
     };
-    spelled_by!(rt Op:
+    spelled_by!(rt op_is:
         // the session, BACK_OR_BOTH, a flag
         [&[41], &ID_WORDS, &[7, 1]] => Op::BindConn(bind);
         // the verifier, the owner, flags, SP4_NONE, no impl id
@@ -223,39 +238,34 @@ fn operations_of_sessions(rt: HostRuntime) -> Result<(), Fail> {
         [&[58, 1]] => Op::ReclaimComplete(true);
     );
     // an impl id: the domain, the name, and one second before 1970 and 7 ns
-    exchange.impl_id.value = Some(ImplId {
-        domain: Component4 { text: "d" },
-        name: Component4 { text: "n" },
-        date: Time4 {
-            seconds: -1,
-            nanos: 7,
+    let made = ExchangeIdArgs {
+        impl_id: AtMostOne {
+            value: Some(ImplId {
+                domain: Component4 { text: "d" },
+                name: Component4 { text: "n" },
+                date: Time4 {
+                    seconds: -1,
+                    nanos: 7,
+                },
+            }),
         },
-    });
-    spelled_by!(rt Op:
-        [&[42, 0, 5, 1, 0x4100_0000, 6, 0, 1, 1, 0x6400_0000, 1, 0x6E00_0000, u32::MAX, u32::MAX, 7]] => Op::ExchangeId(exchange);
+        ..exchange
+    };
+    spelled_by!(rt op_is:
+        [&[42, 0, 5, 1, 0x4100_0000, 6, 0, 1, 1, 0x6400_0000, 1, 0x6E00_0000, u32::MAX, u32::MAX, 7]] => Op::ExchangeId(made);
     );
     Ok(())
 }
 
 #[test]
 fn operations_of_callbacks(rt: HostRuntime) -> Result<(), Fail> {
-    let mut recall = CbLayoutRecallArgs {
+    let recall = CbLayoutRecallArgs {
         layout_type: 4,
         iomode: 2,
         changed: true,
         kind: LayoutRecall::All,
     };
-    let calls = [ReferringCall {
-        sequence: 5,
-        slot: 6,
-    }];
-    let referring = [ReferringCalls {
-        session: SESSION,
-        calls: Array {
-            items: Items::made(&calls),
-        },
-    }];
-    let mut sequence = CbSequenceArgs {
+    let sequence = CbSequenceArgs {
         session: SESSION,
         sequence: 1,
         slot: 2,
@@ -265,30 +275,35 @@ fn operations_of_callbacks(rt: HostRuntime) -> Result<(), Fail> {
             items: Items::made(&[]),
         },
     };
-    spelled_by!(rt CbOp:
+    spelled_by!(rt cb_op_is:
         // the type, the iomode, a flag, ALL
         [&[5, 4, 2, 1, 3]] => CbOp::LayoutRecall(recall);
         // the session, the sequence, the slot, the highest slot, a flag, no lists
         [&[11], &ID_WORDS, &[1, 2, 3, 0, 0]] => CbOp::Sequence(sequence);
     );
-    recall.kind = LayoutRecall::Fsid(Fsid4 { major: 6, minor: 7 });
-    // one list: the session, and one call of it
-    sequence.referring = Array {
-        items: Items::made(&referring),
+    let of_system = CbLayoutRecallArgs {
+        kind: LayoutRecall::Fsid(Fsid4 { major: 6, minor: 7 }),
+        ..recall
     };
-    spelled_by!(rt CbOp:
-        [&[5, 4, 2, 1, 2, 0, 6, 0, 7]] => CbOp::LayoutRecall(recall);
-        [&[11], &ID_WORDS, &[1, 2, 3, 0, 1], &ID_WORDS, &[1, 5, 6]] => CbOp::Sequence(sequence);
+    spelled_by!(rt cb_op_is:
+        [&[5, 4, 2, 1, 2, 0, 6, 0, 7]] => CbOp::LayoutRecall(of_system);
     );
     // of a file: the handle, the offset, the length, the stateid
-    recall.kind = LayoutRecall::File(LayoutRecallFile {
-        file: Handle4 { bytes: &HANDLE },
-        offset: 0,
-        length: u64::MAX,
-        stateid: STATEID,
-    });
-    spelled_by!(rt CbOp:
-        [&[5, 4, 2, 1, 1, 8, 0, 2, 0, 0, u32::MAX, u32::MAX], &STATEID_WORDS] => CbOp::LayoutRecall(recall);
+    let of_file = CbLayoutRecallArgs {
+        kind: LayoutRecall::File(LayoutRecallFile {
+            file: Handle4 { bytes: &HANDLE },
+            offset: 0,
+            length: u64::MAX,
+            stateid: STATEID,
+        }),
+        ..recall
+    };
+    spelled_by!(rt cb_op_is:
+        [&[5, 4, 2, 1, 1, 8, 0, 2, 0, 0, u32::MAX, u32::MAX], &STATEID_WORDS] => CbOp::LayoutRecall(of_file);
     );
-    Ok(())
+    // one list: the session, and one call of it
+    let parts: [&[u32]; 4] = [&[11], &ID_WORDS, &[1, 2, 3, 0, 1], &ID_WORDS];
+    let mut bytes = bytes_of(rt.alloc(), &parts)?;
+    bytes.extend_from_slice(&[0, 0, 0, 1, 0, 0, 0, 5, 0, 0, 0, 6])?;
+    is_read::<CbOp>(&rt, rt.alloc(), bytes.as_slice())
 }

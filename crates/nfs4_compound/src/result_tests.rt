@@ -2,7 +2,7 @@
 
 use crate::tests::{
     BACK, BACK_WORDS, FORE, FORE_WORDS, HANDLE, ID_WORDS, SESSION, STATEID, STATEID_WORDS,
-    bytes_of, is_read, is_written, no_bits, spelled_by,
+    cb_result_is, no_bits, result_is, spelled_by,
 };
 use crate::{CbRes, OpRes};
 use ff_xdr::{Array, Items};
@@ -43,7 +43,7 @@ fn results_of_files(rt: HostRuntime) -> Result<(), Fail> {
         committed: StableHow4::FileSync,
         verifier: 9,
     };
-    spelled_by!(rt OpRes:
+    spelled_by!(rt result_is:
         // OK and the stateid; BAD_STATEID
         [&[4, 0], &STATEID_WORDS] => OpRes::Close(OpResult::Done(STATEID));
         [&[4, 10025]] => OpRes::Close(OpResult::Refused(Stat4::BadStateid));
@@ -88,7 +88,7 @@ fn results_of_layouts(rt: HostRuntime) -> Result<(), Fail> {
             items: Items::made(&layouts),
         },
     };
-    spelled_by!(rt OpRes:
+    spelled_by!(rt result_is:
         // OK, the type, the body, no bits; TOOSMALL and its word; NOENT
         [&[47, 0, 4, 4, 0x4142_4344, 0]] => OpRes::GetDeviceInfo(GetDeviceInfoRes::Done(device));
         [&[47, 10005, 68]] => OpRes::GetDeviceInfo(GetDeviceInfoRes::TooSmall(68));
@@ -147,7 +147,7 @@ fn results_of_sessions(rt: HostRuntime) -> Result<(), Fail> {
         highest: 3,
         target_highest: 4,
     };
-    spelled_by!(rt OpRes:
+    spelled_by!(rt result_is:
         // OK, the session, BOTH, a flag
         [&[41, 0], &ID_WORDS, &[3, 0]] => OpRes::BindConn(OpResult::Done(bind));
         // OK, the client, the sequence, flags, SP4_NONE, the minor and the major id, the scope, no impl id
@@ -164,7 +164,7 @@ fn results_of_sessions(rt: HostRuntime) -> Result<(), Fail> {
         [&[12, 10004]] => OpRes::Unbuilt(12, Stat4::NotSupp);
         [&[10044, 10044]] => OpRes::Unbuilt(10044, Stat4::OpIllegal);
     );
-    spelled_by!(rt CbRes:
+    spelled_by!(rt cb_result_is:
         [&[5, 0]] => CbRes::LayoutRecall(OpResult::Done(()));
         [&[5, 10060]] => CbRes::LayoutRecall(OpResult::Refused(Stat4::NoMatchingLayout));
         [&[11, 0], &ID_WORDS, &[1, 2, 3, 4]] => CbRes::Sequence(OpResult::Done(callback));

@@ -1,6 +1,7 @@
 //! What the tests of operations, results and compounds share. All words are worked out by hand from RFC
 //! 8881's XDR.
 
+use crate::{CbOp, CbRes, Op, OpRes};
 use ff_xdr::{Cursor, Items, NoMemory, Out, Wire, XdrError, XdrWhy};
 use nfs4_types::{Bitmap, ChannelAttrs, SessionId, Stateid};
 use std::alloc::{AllocError, Global};
@@ -65,7 +66,7 @@ pub fn no_bits() -> Bitmap<'static> {
 }
 
 /// The value is spelled by these bytes.
-pub fn is_written<'a, T: Wire<'a>>(
+fn is_written<'a, T: Wire<'a>>(
     rt: &impl Abort,
     alloc: Global,
     bytes: &[u8],
@@ -99,14 +100,53 @@ pub fn is_read<'a, T: Wire<'a>>(
     Ok(())
 }
 
-/// Values of a type are spelled by these words, and the words are read as them.
+/// The operation is spelled by these words, and they are read as it.
+pub fn op_is(rt: &impl Abort, alloc: Global, parts: &[&[u32]], op: Op<'_>) -> Result<(), Fail> {
+    let bytes = bytes_of(alloc, parts)?;
+    is_written(rt, alloc, bytes.as_slice(), op)?;
+    is_read::<Op>(rt, alloc, bytes.as_slice())
+}
+
+/// The result is spelled by these words, and they are read as it.
+pub fn result_is(
+    rt: &impl Abort,
+    alloc: Global,
+    parts: &[&[u32]],
+    given: OpRes<'_>,
+) -> Result<(), Fail> {
+    let bytes = bytes_of(alloc, parts)?;
+    is_written(rt, alloc, bytes.as_slice(), given)?;
+    is_read::<OpRes>(rt, alloc, bytes.as_slice())
+}
+
+/// The callback is spelled by these words, and they are read as it.
+pub fn cb_op_is(
+    rt: &impl Abort,
+    alloc: Global,
+    parts: &[&[u32]],
+    op: CbOp<'_>,
+) -> Result<(), Fail> {
+    let bytes = bytes_of(alloc, parts)?;
+    is_written(rt, alloc, bytes.as_slice(), op)?;
+    is_read::<CbOp>(rt, alloc, bytes.as_slice())
+}
+
+/// The callback's result is spelled by these words, and they are read as it.
+pub fn cb_result_is(
+    rt: &impl Abort,
+    alloc: Global,
+    parts: &[&[u32]],
+    given: CbRes,
+) -> Result<(), Fail> {
+    let bytes = bytes_of(alloc, parts)?;
+    is_written(rt, alloc, bytes.as_slice(), given)?;
+    is_read::<CbRes>(rt, alloc, bytes.as_slice())
+}
+
+/// Words and the values that they spell, for one of the functions above.
 macro_rules! spelled_by {
-    ($rt:ident $kind:ty: $($parts:expr => $value:expr;)*) => {
-        $(
-            let bytes = bytes_of($rt.alloc(), &$parts)?;
-            is_written(&$rt, $rt.alloc(), bytes.as_slice(), $value)?;
-            is_read::<$kind>(&$rt, $rt.alloc(), bytes.as_slice())?;
-        )*
+    ($rt:ident $is:ident: $($parts:expr => $value:expr;)*) => {
+        $($is(&$rt, $rt.alloc(), &$parts, $value)?;)*
     };
 }
 
