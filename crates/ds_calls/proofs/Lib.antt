@@ -1,0 +1,4 @@
+pub mod CallHeaders
+pub mod MirrorNames
+pub mod DsCallsAgain
+pub mod DsRepliesAgain

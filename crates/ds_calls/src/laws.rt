@@ -1,0 +1,20 @@
+//! The laws of calls to data servers and their replies.
+
+ghost use Rattle.std.specs.Prelude.{ℕ};
+ghost use Rattle.cluster_model.specs.DsCalls.{DsCallValue, DsReplyValue};
+ghost use Rattle.ds_calls.specs.DsCallLaws.{DsMessage, IsUnderstood, AreToldApart, Beside, IsAnswered};
+
+use nfs3_wire::every_call;
+use rpc_record::every_message;
+
+/// The laws of the definitions by which `put_ds_call` writes and `ds_reply_of` reads. The record of a call
+/// is read as this call, by this user; different calls, users, machines and numbers have different
+/// records; and a reply that says a data server's answer comes to that answer, whatever else it says.
+pub fn every_ds_call()
+    ensures understood { (m : DsMessage) → IsUnderstood m }
+    ensures told_apart { (m n : DsMessage) → AreToldApart m n }
+    ensures answered { (xid : ℕ) (b : Beside) (call : DsCallValue) (reply : DsReplyValue) → IsAnswered xid b call reply }
+{
+    every_call();
+    every_message();
+}
