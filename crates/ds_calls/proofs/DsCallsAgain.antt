@@ -143,7 +143,6 @@ ok_same : {A : Type 0} (E : Type 0) (a b : A) → found E a ≡ found E b → a 
 ok_same E a b e = cc
 
 module _ (header : (c : RpcCall) → IsCallReadAgain c) (arguments : (v : Value calls) → IsWholeArmReadAgain calls v) (known : (c : Nfs3Call) → IsCallOfItsValue c) where
-
   pub understood : (m : DsMessage) → IsUnderstood m
   understood m = λ h. record {
     header = header (message_call m) h.xid_fits (header_fits m h);

@@ -111,7 +111,6 @@ answer_back b call reply xid is fits = absurd is
 -- ---- the law
 
 module _ (header : (r : RpcReply) → IsReplyReadAgain r) where
-
   pub is_answered : (xid : ℕ) (b : Beside) (call : DsCallValue) (reply : DsReplyValue) → IsAnswered xid b call reply
   is_answered xid b call reply = λ small is fits. record {
     record_again = header (ds_rpc_reply xid (nfs_reply_of b call reply)) ((small, (refl, ((omega arith, omega arith), tt))), tt, tt);

@@ -2,3 +2,4 @@ pub mod CallHeaders
 pub mod MirrorNames
 pub mod DsCallsAgain
 pub mod DsRepliesAgain
+pub mod RuleAnswers

@@ -1,5 +1,5 @@
 -- The laws of calls to data servers and their replies.
-use Rattle.std.specs.Prelude.{◌≡◌, ◌≢◌, ℕ, ◌^◌, ◌<◌, ◌≤◌, List, [], ◌∷◌, length, Option, Some, None, Result, Ok, Err, IsTrue, nat_eq, ◌==◌, if◌then◌else◌}
+use Rattle.std.specs.Prelude.{◌≡◌, ◌≢◌, ℕ, ◌+◌, ◌^◌, ◌<◌, ◌≤◌, List, [], ◌∷◌, length, Option, Some, None, Result, Ok, Err, IsTrue, nat_eq, ◌==◌, if◌then◌else◌}
 use Rattle.std.specs.List.{list_any}
 use Rattle.std.specs.Option.{option_map}
 use Rattle.ff_xdr.specs.Form.{Fits, arm_spelling}
@@ -19,7 +19,8 @@ use Rattle.nfs3_wire.specs.Calls.{calls, call_value, call_of}
 use Rattle.nfs3_wire.specs.Replies.{Nfs3Reply, Null, SetAttrDone, SetAttrRefused, ReadDone, ReadRefused, WriteDone, WriteRefused, CreateDone, CreateRefused, CommitDone, CommitRefused, replies, reply_value}
 use Rattle.cluster_model.specs.declared.tick.Tick.{Tick}
 use Rattle.cluster_model.specs.declared.ds_call.Shown.{Shown}
-use Rattle.cluster_model.specs.DsCalls.{DsCallValue, DsReplyValue, Created, Set, Written, Committed, Bytes, NotSync, Failed}
+use Rattle.cluster_model.specs.Server.{ServerState, Caller}
+use Rattle.cluster_model.specs.DsCalls.{DsCallValue, DsReplyValue, Created, Set, Written, Committed, Bytes, NotSync, Failed, ds_plan}
 use Rattle.cluster_model.specs.DsCalls as ds
 use Rattle.ds_calls.specs.MadeCalls.{fileid_handle, guard_time, asked_stability, nfs_call_of, user_credential, credential_body, ds_rpc_call, ds_call_bytes}
 use Rattle.ds_calls.specs.GivenReplies.{reply_of_call}
@@ -140,3 +141,7 @@ pub record IsReadAsAnswer (xid : ℕ) (b : Beside) (call : DsCallValue) (reply :
 
 abbrev pub IsAnswered : ℕ → Beside → DsCallValue → DsReplyValue → Type 0
 IsAnswered xid b call reply = xid < 2 ^ 32 → IsAnswerTo call reply → Fits replies (reply_value (nfs_reply_of b call reply)) → IsReadAsAnswer xid b call reply
+
+-- what the rule of a data server replies is an answer to the call, where the fileids are in their range
+abbrev pub IsAnsweredByRule : ServerState → Caller → DsCallValue → Type 0
+IsAnsweredByRule s caller call = length s.files + 2 < 2 ^ 64 → IsAnswerTo call (ds_plan s caller call).reply

@@ -20,9 +20,7 @@ pub fn fileid_of(handle: &[u8]) -> Option<u64>
     ensures { result ≡ handle_fileid handle.now }
 {
     match handle {
-        [a, b, c, d, e, f, g, h] => {
-            Some(u64::from_be_bytes([*a, *b, *c, *d, *e, *f, *g, *h]))
-        }
+        [a, b, c, d, e, f, g, h] => { Some(u64::from_be_bytes([*a, *b, *c, *d, *e, *f, *g, *h])) }
         _ => None,
     }
 }

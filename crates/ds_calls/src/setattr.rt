@@ -22,12 +22,7 @@ use nfs3_wire::{
 };
 
 /// Appends the arguments, or nothing.
-pub fn put_setattr(
-    fileid: u64,
-    owner: Cred,
-    guard: Tick,
-    out: &mut Out,
-) -> Result<(), NoMemory>
+pub fn put_setattr(fileid: u64, owner: Cred, guard: Tick, out: &mut Out) -> Result<(), NoMemory>
     ensures { Puts out.old result out.new (arm_spelling calls (call_value (nfs_call_of (SetAttr fileid owner.0 guard)))) }
 {
     let file = handle_of(fileid);

@@ -63,18 +63,7 @@ fn call_is(
     // the number, a call, RPC 2, NFS 3, the procedure; AUTH_SYS of 24 bytes: stamp, name, uid, gid, no gids;
     // AUTH_NONE
     let start = [7, 0, 2, 0x186A3, 3, procedure];
-    let who = [
-        1,
-        0x18,
-        0,
-        2,
-        0x6331_0000,
-        0x1_0000,
-        0x1_0000,
-        0,
-        0,
-        0,
-    ];
+    let who = [1, 0x18, 0, 2, 0x6331_0000, 0x1_0000, 0x1_0000, 0, 0, 0];
     let want = bytes_of(alloc, &[&start, &who, args])?;
     assert!(rt; fits(b"c1", &call));
     let mut out = Out::new(alloc);
@@ -88,7 +77,21 @@ fn calls(rt: HostRuntime) -> Result<(), Fail> {
     let alloc = rt.alloc();
     // the root, m12, UNCHECKED; mode, uid, gid, no size, both times stay
     let args = [
-        8, 0, 1, 3, 0x6D31_3200, 0, 1, 0x1A0, 1, 0x1_0001, 1, 0x1_0001, 0, 0, 0,
+        8,
+        0,
+        1,
+        3,
+        0x6D31_3200,
+        0,
+        1,
+        0x1A0,
+        1,
+        0x1_0001,
+        1,
+        0x1_0001,
+        0,
+        0,
+        0,
     ];
     call_is(&rt, alloc, CREATE, 8, &args)?;
     // the longest name
@@ -152,9 +155,12 @@ const SHOWN: Shown = Shown {
     size: 2,
 };
 
-const ODD: DsReply<'static> = failed(10_006, None);
+const ODD: DsReply<'static> = DsReply::Failed {
+    status: 10_006,
+    shown: None,
+};
 
-const fn failed(status: u32, shown: Option<Shown>) -> DsReply<'static> {
+fn failed(status: u32, shown: Option<Shown>) -> DsReply<'static> {
     DsReply::Failed { status, shown }
 }
 
@@ -202,14 +208,38 @@ fn replies_of_files(rt: HostRuntime) -> Result<(), Fail> {
         verifier,
     };
     let table: [(DsCall<'_>, &[u32], &[u32], &[u32], DsReply<'_>); 8] = [
-        (SETATTR, &[0, 0], &AFTER, none, DsReply::Set { shown: Some(SHOWN) }),
+        (
+            SETATTR,
+            &[0, 0],
+            &AFTER,
+            none,
+            DsReply::Set { shown: Some(SHOWN) },
+        ),
         (SETATTR, &[0, 0], &[0], none, DsReply::Set { shown: None }),
-        (SETATTR, &[10_002, 0], &AFTER, none, DsReply::NotSync { shown: SHOWN }),
+        (
+            SETATTR,
+            &[10_002, 0],
+            &AFTER,
+            none,
+            DsReply::NotSync { shown: SHOWN },
+        ),
         (SETATTR, &[10_002, 0], &[0], none, ODD),
         (SETATTR, &[13, 0], &AFTER, none, failed(13, Some(SHOWN))),
-        (COMMIT, &[0, 0], &AFTER, &[0x0102_0304, 0x0506_0708], committed),
+        (
+            COMMIT,
+            &[0, 0],
+            &AFTER,
+            &[0x0102_0304, 0x0506_0708],
+            committed,
+        ),
         (COMMIT, &[0, 0], &[0], &[0x0102_0304], ODD),
-        (COMMIT, &[10_002, 0], &AFTER, none, failed(10_002, Some(SHOWN))),
+        (
+            COMMIT,
+            &[10_002, 0],
+            &AFTER,
+            none,
+            failed(10_002, Some(SHOWN)),
+        ),
     ];
     for (call, front, attributes, rest, want) in table {
         reply_is(&rt, alloc, call, &[&OK, front, attributes, rest], want)?;
@@ -236,7 +266,13 @@ fn replies_of_data(rt: HostRuntime) -> Result<(), Fail> {
         verifier: 1,
     };
     let before: [u32; 8] = [0, 1, 0, 0, 1, 1, 1, 1];
-    reply_is(&rt, alloc, SYNCED, &[&OK, &before, &WROTE, &[2, 2, 0, 1]], written)?;
+    reply_is(
+        &rt,
+        alloc,
+        SYNCED,
+        &[&OK, &before, &WROTE, &[2, 2, 0, 1]],
+        written,
+    )?;
     let unseen = DsReply::Written {
         shown: None,
         verifier: 1,
