@@ -1,5 +1,5 @@
 -- The credential's body, which is written in place.
-use Rattle.std.proofs.Common.{◌≡◌, ℕ, ◌+◌, ◌-◌, ◌%◌, List, [], ◌++◌, length, refl, sym, ap, ◌∙◌, arith, append-nil, append_assoc, length-append}
+use Rattle.std.proofs.Common.{◌≡◌, ℕ, ◌+◌, ◌%◌, List, ◌++◌, length, refl, sym, ap, ◌∙◌, arith, append-nil, append_assoc, length-append}
 use Rattle.std.specs.Int.{next_multiple_of}
 use Rattle.ff_xdr.specs.Form.{word, padded, pad_len}
 use Rattle.ff_xdr.proofs.Fields.{length-word}

@@ -1,7 +1,7 @@
 -- The records of calls are read again, and told apart.
-use Rattle.std.proofs.Common.{◌≡◌, ℕ, ◌+◌, ◌^◌, ◌<◌, ◌≤◌, Bool, true, false, ltb, List, [], ◌∷◌, ◌++◌, length, drop, Option, Some, None, Result, Ok, Err, refl, sym, ap, subst, ◌∙◌, arith, append-nil, length-append}
+use Rattle.std.proofs.Common.{◌≡◌, ℕ, ◌+◌, ◌^◌, ◌<◌, ◌≤◌, Bool, true, false, ltb, List, [], ◌∷◌, length, drop, Option, Some, None, Result, Ok, refl, sym, ap, subst, ◌∙◌, arith, append-nil, length-append}
 use Rattle.std.specs.Prelude.{IsTrue, nat_eq, codes, decimal}
-use Rattle.std.specs.Int.{w64, from_be_bytes, next_multiple_of}
+use Rattle.std.specs.Int.{w64, from_be_bytes}
 use Rattle.std.specs.List.{list_any}
 use Rattle.std.specs.Option.{option_map}
 use Rattle.std.proofs.lemmas.Bool.{le-ltb}
@@ -14,8 +14,8 @@ use Rattle.ff_xdr.specs.WholeArms.{whole_arm, IsWholeArmReadAgain}
 use Rattle.ff_xdr.proofs.Again.{again}
 use Rattle.ff_xdr.proofs.CutShort.{length-long}
 use Rattle.rpc_record.specs.declared.call.CallFault.{CallFault}
-use Rattle.rpc_record.specs.Rpc.{authsys_parms, Credential, credential_value}
-use Rattle.rpc_record.specs.Calls.{RpcCall, call_body, body_value, call_bytes, call_at}
+use Rattle.rpc_record.specs.Rpc.{authsys_parms, credential_value}
+use Rattle.rpc_record.specs.Calls.{RpcCall, call_body, body_value, call_at}
 use Rattle.rpc_record.specs.Laws.{IsCallReadAgain}
 use Rattle.nfs3_wire.specs.declared.attributes.Time3.{Time3}
 use Rattle.nfs3_wire.specs.declared.create.CreateHow.TheVariants.{Unchecked}
@@ -23,10 +23,9 @@ use Rattle.nfs3_wire.specs.Calls.{Nfs3Call, calls, call_value, call_of}
 use Rattle.nfs3_wire.specs.Calls as nfs
 use Rattle.nfs3_wire.specs.Laws.{IsCallOfItsValue}
 use Rattle.nfs3_wire.specs.Stability.{stable_how_number}
-use Rattle.cluster_model.specs.declared.tick.Tick.{Tick}
 use Rattle.cluster_model.specs.DsCalls.{DsCallValue, Create, SetAttr, Write, Commit, Read as ReadCall, mirror_name}
 use Rattle.ds_calls.specs.MadeCalls.{fileid_handle, asked_stability, nfs_call_of, user_credential, credential_body}
-use Rattle.ds_calls.specs.DsCallLaws.{IsSpeakable, DsMessage, HasRecord, record_of, message_call, IsReadAsCall, IsUnderstood, AreToldApart}
+use Rattle.ds_calls.specs.DsCallLaws.{IsSpeakable, DsMessage, HasRecord, message_call, IsUnderstood, AreToldApart}
 use Rattle.ds_calls.proofs.CallHeaders.{body_length}
 use Rattle.ds_calls.proofs.MirrorNames.{twenty_digits}
 

@@ -1,17 +1,15 @@
 -- The reply that says an answer comes to that answer.
-use Rattle.std.proofs.Common.{◌≡◌, ℕ, ◌^◌, ◌<◌, ◌≤◌, Bool, true, false, cond, ◌||◌, eqb, leb, List, [], ◌∷◌, length, map, Option, Some, None, Ok, refl, sym, ap, ◌∙◌, arith, inl, inr}
+use Rattle.std.proofs.Common.{◌≡◌, ℕ, ◌^◌, ◌<◌, ◌≤◌, Bool, true, false, cond, ◌||◌, eqb, List, [], ◌∷◌, length, map, Option, Some, None, refl, sym, ap, ◌∙◌, arith, inl, inr}
 use Rattle.std.specs.Prelude.{IsTrue, ◌≢◌}
 use Rattle.std.specs.List.{list_any}
 use Rattle.std.specs.Option.{option_map}
 use Rattle.std.proofs.lemmas.Bool.{eqb-true, eq-eqb, ne_eqb, le-leb}
 use Rattle.std.proofs.lemmas.Nat.{from_be_bytes-to_be_bytes_8}
 use Rattle.ff_xdr.specs.Form.{Form, Optional, Value, Fits, is_sound, spelling, long}
-use Rattle.ff_xdr.specs.Reading.{reading, whole}
 use Rattle.rpc_record.specs.Replies.{RpcReply}
 use Rattle.rpc_record.specs.Laws.{IsReplyReadAgain}
 use Rattle.nfs3_wire.specs.declared.attributes.Fattr3.{Fattr3}
 use Rattle.nfs3_wire.specs.declared.status.Stat3.{Stat3}
-use Rattle.nfs3_wire.specs.declared.status.Stat3.TheVariants as stat
 use Rattle.nfs3_wire.specs.Attributes.{fattr3_value}
 use Rattle.nfs3_wire.specs.Status.{stat_number}
 use Rattle.nfs3_wire.specs.Wcc.{post_op_value, wcc_attr, wcc_attr_value, wcc_data, wcc_data_value}
@@ -25,8 +23,8 @@ use Rattle.nfs3_wire.specs.Replies.{replies, reply_value}
 use Rattle.cluster_model.specs.declared.ds_call.Shown.{Shown}
 use Rattle.cluster_model.specs.DsCalls.{DsCallValue, Create, SetAttr, Write, Commit, Read, DsReplyValue, Created, Set, Written, Committed, Bytes, NotSync, Failed}
 use Rattle.ds_calls.specs.MadeCalls.{fileid_handle, asked_stability}
-use Rattle.ds_calls.specs.GivenReplies.{odd_answer, shown_where, handle_fileid, created_as, shown_in, setattr_answer, unsynced_answer, write_answer, commit_answer, read_answer, create_answer, answer_by, in_form, reply_of_call}
-use Rattle.ds_calls.specs.DsCallLaws.{IsRefusalNumber, IsAnswerTo, refusal_statuses, status_in, status_by, showing, wcc_showing, Beside, nfs_reply_of, ds_rpc_reply, IsReadAsAnswer, IsAnswered}
+use Rattle.ds_calls.specs.GivenReplies.{shown_where, handle_fileid, created_as, setattr_answer, write_answer, commit_answer, read_answer, create_answer, answer_by, in_form, reply_of_call}
+use Rattle.ds_calls.specs.DsCallLaws.{IsRefusalNumber, IsAnswerTo, refusal_statuses, status_in, status_by, showing, wcc_showing, Beside, nfs_reply_of, ds_rpc_reply, IsAnswered}
 use Rattle.ds_calls.proofs.DsCallsAgain.{whole_spelled}
 
 -- ---- statuses, handles and what is shown

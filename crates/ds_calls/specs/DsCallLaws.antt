@@ -1,5 +1,5 @@
 -- The laws of calls to data servers and their replies.
-use Rattle.std.specs.Prelude.{◌≡◌, ◌≢◌, ℕ, ◌+◌, ◌^◌, ◌<◌, ◌≤◌, List, [], ◌∷◌, length, Option, Some, None, Result, Ok, Err, IsTrue, nat_eq, ◌==◌, if◌then◌else◌}
+use Rattle.std.specs.Prelude.{◌≡◌, ◌≢◌, ℕ, ◌+◌, ◌^◌, ◌<◌, ◌≤◌, List, [], ◌∷◌, length, Option, Some, None, Ok, IsTrue, nat_eq, ◌==◌, if◌then◌else◌}
 use Rattle.std.specs.List.{list_any}
 use Rattle.std.specs.Option.{option_map}
 use Rattle.ff_xdr.specs.Form.{Fits, arm_spelling}
@@ -8,7 +8,6 @@ use Rattle.ff_xdr.specs.WholeArms.{whole_arm}
 use Rattle.rpc_record.specs.Rpc.{authsys_parms, credential_value}
 use Rattle.rpc_record.specs.Calls.{RpcCall, call_at}
 use Rattle.rpc_record.specs.Replies.{RpcReply, auth_none, success, reply_bytes, reply_at}
-use Rattle.nfs3_wire.specs.declared.attributes.Time3.{Time3}
 use Rattle.nfs3_wire.specs.declared.attributes.Fattr3.{Fattr3}
 use Rattle.nfs3_wire.specs.declared.wcc.WccAttr.{WccAttr}
 use Rattle.nfs3_wire.specs.declared.wcc.WccData.{WccData}
@@ -17,7 +16,6 @@ use Rattle.nfs3_wire.specs.declared.status.Stat3.TheVariants as stat
 use Rattle.nfs3_wire.specs.Status.{stat_number, refusals}
 use Rattle.nfs3_wire.specs.Calls.{calls, call_value, call_of}
 use Rattle.nfs3_wire.specs.Replies.{Nfs3Reply, Null, SetAttrDone, SetAttrRefused, ReadDone, ReadRefused, WriteDone, WriteRefused, CreateDone, CreateRefused, CommitDone, CommitRefused, replies, reply_value}
-use Rattle.cluster_model.specs.declared.tick.Tick.{Tick}
 use Rattle.cluster_model.specs.declared.ds_call.Shown.{Shown}
 use Rattle.cluster_model.specs.Server.{ServerState, Caller}
 use Rattle.cluster_model.specs.DsCalls.{DsCallValue, DsReplyValue, Created, Set, Written, Committed, Bytes, NotSync, Failed, ds_plan}

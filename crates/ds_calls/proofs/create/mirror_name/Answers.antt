@@ -1,4 +1,4 @@
-use Rattle.std.proofs.Common.{◌≡◌, ℕ, ◌+◌, ◌-◌, ◌≤◌, length, drop, ◌++◌, arith, ◌∙◌, ap, List, append-nil}
+use Rattle.std.proofs.Common.{◌≡◌, ◌+◌, ◌-◌, ◌≤◌, length, drop, arith, ◌∙◌, append-nil}
 use Rattle.std.specs.Fmt.{decimal}
 use Rattle.std.proofs.Math.ListN.{drop_of_length-le}
 use Rattle.ds_calls.proofs.MirrorNames.{twenty_digits, named_from}
