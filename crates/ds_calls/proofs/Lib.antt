@@ -1,0 +1,5 @@
+pub mod CallHeaders
+pub mod MirrorNames
+pub mod DsCallsAgain
+pub mod DsRepliesAgain
+pub mod RuleAnswers

@@ -1,0 +1,3 @@
+pub mod MadeCalls
+pub mod GivenReplies
+pub mod DsCallLaws
