@@ -15,12 +15,10 @@ use crate::setattr::put_setattr;
 use crate::write::put_write;
 use cluster_model::{Cred, DsCall};
 use ff_xdr::{NoMemory, Out};
+use nfs3_wire::MAX_DATA;
 
 /// The longest name of a machine, in bytes (RFC 5531, appendix A).
-pub const MAX_MACHINE: usize = 255;
-
-/// The most data in a WRITE, in bytes.
-pub const MAX_DATA: usize = 1_048_576;
+const MAX_MACHINE: usize = 255;
 
 /// The number of the call's procedure (RFC 1813, section 3.3).
 fn procedure_of(call: &DsCall<'_>) -> u32
@@ -85,7 +83,7 @@ pub fn fits(machine: &[u8], call: &DsCall<'_>) -> bool
         DsCall::Write { bytes, .. } => bytes.len(),
         _ => 0,
     };
-    machine.len() <= MAX_MACHINE && data <= MAX_DATA
+    machine.len() <= MAX_MACHINE && data <= MAX_DATA as usize
 }
 
 /// Appends the record of a call (RFC 5531, section 9), or nothing: transaction number `xid`, from this

@@ -12,14 +12,13 @@ ghost use Rattle.ds_calls.specs.GivenReplies.{create_answer, in_form};
 ghost use Rattle.std.proofs.Common.{inl};
 
 use crate::handle::{ROOT, fileid_of, handle_of};
+use crate::owner::owner_set;
 use crate::results::whole_message;
 use crate::shown::{odd_answer, shown_in};
 use cluster_model::{Cred, DsReply};
 use ff_xdr::{NoMemory, Out};
 use itoa::write_digits;
-use nfs3_wire::{
-    Call3, CreateArgs, CreateHow, CreateOk, CreateReply, Outcome, Sattr3, SetTime, write_call,
-};
+use nfs3_wire::{Call3, CreateArgs, CreateHow, CreateOk, CreateReply, Outcome, write_call};
 
 /// The mode of a mirror's file: the owner reads and writes, and the group reads (RFC 8435, section 2.2).
 const MODE: u32 = 0o640;
@@ -43,18 +42,10 @@ pub fn put_create(name: u64, owner: Cred, out: &mut Out) -> Result<(), NoMemory>
 {
     let mut room = [0; LONGEST];
     let directory = handle_of(ROOT);
-    let attributes = Sattr3 {
-        mode: Some(MODE),
-        uid: Some(owner.0),
-        gid: Some(owner.0),
-        size: None,
-        atime: SetTime::Keep,
-        mtime: SetTime::Keep,
-    };
     let args = CreateArgs {
         directory: &directory,
         name: mirror_name(name, &mut room),
-        how: CreateHow::Unchecked(attributes),
+        how: CreateHow::Unchecked(owner_set(Some(MODE), owner)),
     };
     write_call(&Call3::Create(args), out)
 }

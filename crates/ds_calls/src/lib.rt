@@ -7,6 +7,7 @@ mod create;
 mod handle;
 mod header;
 mod laws;
+mod owner;
 mod read;
 mod reply;
 mod results;
@@ -16,6 +17,6 @@ mod shown;
 mod tests;
 mod write;
 
-pub use call::{MAX_DATA, MAX_MACHINE, fits, put_ds_call};
+pub use call::{fits, put_ds_call};
 pub use laws::every_ds_call;
 pub use reply::ds_reply_of;

@@ -13,34 +13,25 @@ ghost use Rattle.ds_calls.specs.GivenReplies.{setattr_answer, in_form};
 ghost use Rattle.std.proofs.Common.{inr};
 
 use crate::handle::handle_of;
+use crate::owner::owner_set;
 use crate::results::whole_message;
 use crate::shown::{odd_answer, shown_where};
 use cluster_model::{Cred, DsReply, Tick};
 use ff_xdr::{NoMemory, Out};
-use nfs3_wire::{
-    Call3, Outcome, Sattr3, SetAttrArgs, SetAttrReply, SetTime, Stat3, Time3, WccData, write_call,
-};
+use nfs3_wire::{Call3, Outcome, SetAttrArgs, SetAttrReply, Stat3, Time3, WccData, write_call};
 
 /// Appends the arguments, or nothing.
 pub fn put_setattr(fileid: u64, owner: Cred, guard: Tick, out: &mut Out) -> Result<(), NoMemory>
     ensures { Puts out.old result out.new (arm_spelling calls (call_value (nfs_call_of (SetAttr fileid owner.0 guard)))) }
 {
     let file = handle_of(fileid);
-    let attributes = Sattr3 {
-        mode: None,
-        uid: Some(owner.0),
-        gid: Some(owner.0),
-        size: None,
-        atime: SetTime::Keep,
-        mtime: SetTime::Keep,
-    };
     let guard = Time3 {
         seconds: guard.boot,
         nanos: guard.count,
     };
     let args = SetAttrArgs {
         file: &file,
-        attributes,
+        attributes: owner_set(None, owner),
         guard: Some(guard),
     };
     write_call(&Call3::SetAttr(args), out)
