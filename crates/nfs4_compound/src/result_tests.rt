@@ -13,17 +13,14 @@ use nfs4_file_ops::{
 use nfs4_session_ops::{
     BindConnOk, CbSequenceOk, CreateSessionOk, ExchangeIdOk, FromServer, SequenceOk,
 };
-use nfs4_types::{AtMostOne, Bitmap, Handle4, Stat4};
+use nfs4_types::{AtMostOne, Handle4, Stat4};
 use std::test::Fail;
 
 #[test]
 fn results_of_files(rt: HostRuntime) -> Result<(), Fail> {
-    let bits = [0x1A];
-    let attributes = Fattr4 {
-        mask: Bitmap {
-            words: Items::made(&bits),
-        },
-        values: OpaqueBody { bytes: b"ABCD" },
+    let none = Fattr4 {
+        mask: no_bits(),
+        values: OpaqueBody { bytes: &[] },
     };
     let open = OpenOk {
         stateid: STATEID,
@@ -49,8 +46,8 @@ fn results_of_files(rt: HostRuntime) -> Result<(), Fail> {
         [&[4, 10025]] => OpRes::Close(OpResult::Refused(Stat4::BadStateid));
         // OK and the verifier
         [&[5, 0, 0, 9]] => OpRes::Commit(OpResult::Done(9));
-        // OK, a word of bits, four bytes of values
-        [&[9, 0, 1, 0x1A, 4, 0x4142_4344]] => OpRes::GetAttr(OpResult::Done(attributes));
+        // OK, no bits, no values
+        [&[9, 0, 0, 0]] => OpRes::GetAttr(OpResult::Done(none));
         // OK and the handle
         [&[10, 0, 8, 0, 2]] => OpRes::GetFh(OpResult::Done(Handle4 { bytes: &HANDLE }));
         [&[15, 0]] => OpRes::Lookup(OpResult::Done(()));
