@@ -1,5 +1,0 @@
-pub mod Unbuilt
-pub mod Steps
-pub mod Listings
-pub mod Statuses
-pub mod Unions
