@@ -2,26 +2,32 @@
 //! and what is done to a data file.
 #![tactic(auto)]
 
+mod answer;
 mod change;
 mod ds_call;
 mod entry;
 mod ids;
 mod laws;
+mod mirror_ids;
 mod mirrors;
 #[cfg(test)]
 mod mirrors_tests;
 mod outbox;
+mod phase;
 mod piece;
 mod server_laws;
 mod tick;
 
+pub use answer::{FailCause, UserAnswer};
 pub use change::{Changes, NewTime};
 pub use ds_call::{DsCall, DsReply, Shown};
 pub use entry::Entry;
 pub use ids::{Cred, FileId, Mirror, MirrorId, NodeId};
 pub use laws::{commits, guards, overlays, stable_times, writes};
+pub use mirror_ids::MirrorIds;
 pub use mirrors::Mirrors;
 pub use outbox::Outbox;
+pub use phase::{EndCause, LeftCause, Phase};
 pub use piece::{Piece, Pieces};
 pub use server_laws::{server_effects, server_restarts, server_runs};
 pub use tick::{Tick, Times};
