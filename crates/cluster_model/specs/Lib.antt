@@ -10,3 +10,4 @@ pub mod ServerLaws
 pub mod Print
 pub mod Prints
 pub mod Event
+pub mod Fences

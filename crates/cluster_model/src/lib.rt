@@ -3,11 +3,14 @@
 #![tactic(auto)]
 
 mod answer;
+mod call_stage;
 mod change;
 mod ds_call;
 mod entry;
+mod fence_mirror;
 mod ids;
 mod laws;
+mod layout_state;
 mod mirror_ids;
 mod mirrors;
 #[cfg(test)]
@@ -19,11 +22,14 @@ mod server_laws;
 mod tick;
 
 pub use answer::{FailCause, UserAnswer};
+pub use call_stage::CallStage;
 pub use change::{Changes, NewTime};
 pub use ds_call::{DsCall, DsReply, Shown};
 pub use entry::Entry;
+pub use fence_mirror::{FenceMirror, FenceStep};
 pub use ids::{Cred, FileId, Mirror, MirrorId, NodeId};
 pub use laws::{commits, guards, overlays, stable_times, writes};
+pub use layout_state::{CopyKind, FenceEnd, LayoutPhase, LayoutState, Reported};
 pub use mirror_ids::MirrorIds;
 pub use mirrors::Mirrors;
 pub use outbox::Outbox;
