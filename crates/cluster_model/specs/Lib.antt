@@ -7,6 +7,7 @@ pub mod Journal
 pub mod Mirrors
 pub mod Laws
 pub mod ServerLaws
+pub mod Wordings
 pub mod Print
 pub mod Prints
 pub mod Event
