@@ -7,3 +7,4 @@ pub mod Servers
 pub mod ServerRestarts
 pub mod Permitted
 pub mod Runs
+mod MirrorSteps

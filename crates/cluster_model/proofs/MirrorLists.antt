@@ -19,7 +19,7 @@ eq_swap a b = grind (arith, nat_tests)
 room : (n k : ℕ) → k ≡ n + 1 → nat_le k 4 ≡ nat_lt n 4
 room n k h = grind (arith, nat_tests)
 
-no_more : (n k : ℕ) → n ≤ k → nat_le k 4 ≡ true → nat_le n 4 ≡ true
+pub no_more : (n k : ℕ) → n ≤ k → nat_le k 4 ≡ true → nat_le n 4 ≡ true
 no_more n k h g = grind (arith, nat_tests)
 
 other_order : (a b c d : Bool) → (not (b || (a || false)) && (c && not d)) ≡ ((not b && c) && not (a || d))
@@ -32,10 +32,10 @@ neither : (a b : Bool) → not (a || b) ≡ true → not a ≡ true
 neither true b h = h
 neither false b h = refl
 
-le_from_test : (n : ℕ) → nat_le n 4 ≡ true → n ≤ 4
+pub le_from_test : (n : ℕ) → nat_le n 4 ≡ true → n ≤ 4
 le_from_test n h = grind (arith, nat_tests)
 
-both : (a b : Bool) → a ≡ true → b ≡ true → (a && b) ≡ true
+pub both : (a b : Bool) → a ≡ true → b ≡ true → (a && b) ≡ true
 both true b h g = g
 both false b h g = h
 
@@ -66,7 +66,7 @@ different_first (x ∷ ms) ns h =
     let parts = and_parts _ _ h in
     both _ _ (neither _ _ (ap not (sym (list_any-append (λ y. y.id.server == x.id.server) ms ns)) ∙ parts.0)) (different_first ms ns parts.1)
 
-mirrors_first : (ms ns : List Mirror) → are_mirrors (ms ++ ns) ≡ true → are_mirrors ms ≡ true
+pub mirrors_first : (ms ns : List Mirror) → are_mirrors (ms ++ ns) ≡ true → are_mirrors ms ≡ true
 mirrors_first ms ns h =
     let parts = and_parts _ _ h in
     both _ _ (no_more (length ms) (length (ms ++ ns)) (omega (arith, length-append ms ns)) parts.0) (different_first ms ns parts.1)

@@ -12,3 +12,4 @@ pub mod Print
 pub mod Prints
 pub mod Event
 pub mod Fences
+pub mod Phases

@@ -2,9 +2,10 @@
 
 /// A call that is sent until it is answered or given up. It is given up for an error or for three timeouts, and by
 /// nobody where no other call could take its place: then it is kept until the next tick, and sent again.
-#[derive(Clone, Copy, Debug, PartialEq, Eq)]
+#[derive(Clone, Copy, Debug, Default, PartialEq, Eq)]
 pub enum CallStage {
     /// It waits to be sent.
+    #[default]
     Waits,
     /// It is outstanding under this number, and timed out so often, at most twice.
     Out { xid: u32, timeouts: u32 },

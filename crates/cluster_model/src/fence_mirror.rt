@@ -7,7 +7,7 @@ use crate::tick::Tick;
 
 /// One mirror in a fence: the ctime last seen there, how often a SETATTR of this fence found another one and did not
 /// show the fresh uid, and where its SETATTR stands.
-#[derive(Clone, Copy, Debug, PartialEq, Eq)]
+#[derive(Clone, Copy, Debug, Default, PartialEq, Eq)]
 pub struct FenceMirror {
     pub id: MirrorId,
     pub seen: Tick,

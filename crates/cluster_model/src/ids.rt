@@ -22,7 +22,7 @@ pub struct FileId(pub u32);
 pub struct Cred(pub u32);
 
 /// One copy of a file's bytes: the data server that has it, and the file's number there.
-#[derive(Clone, Copy, Debug, PartialEq, Eq)]
+#[derive(Clone, Copy, Debug, Default, PartialEq, Eq)]
 pub struct MirrorId {
     /// The number of the data server, from 1.
     pub server: u32,

@@ -2,8 +2,11 @@
 
 ghost use Rattle.std.specs.Prelude.{◌≡◌, true, List, [], ◌∷◌, ◌++◌, length, Some, None, slice_get, if◌then◌else◌};
 ghost use Rattle.cluster_model.specs.Mirrors.{are_mirrors, can_add, has_server, mirrors_in};
+ghost use Rattle.cluster_model.specs.Phases.{unreported, but_for, seen_at, seen_if};
 
-use crate::ids::Mirror;
+use crate::ids::{Mirror, MirrorId};
+use crate::layout_state::Reported;
+use crate::tick::Tick;
 use std::marker::Model;
 
 /// The live mirrors of a file, in order: at most four, no two on one data server (RFC 8435, section 5.1
@@ -82,6 +85,67 @@ impl Mirrors {
         self.items[len] = Some(mirror);
         true
     }
+
+    /// All but those whose places are reported.
+    pub fn unreported(&self, reported: &Reported) -> Mirrors
+        ensures { result ≡ unreported reported.now.places self.now }
+    {
+        let mut kept = Mirrors::none();
+        for place in 0..self.len() {
+            let Some(mirror) = self.get(place) else {
+                return kept;
+            };
+            if reported.places[place] {
+                continue;
+            }
+            kept.add(mirror);
+        }
+        kept
+    }
+
+    /// All but this one.
+    pub fn but_for(&self, id: MirrorId) -> Mirrors
+        ensures { result ≡ but_for id self.now }
+    {
+        let mut kept = Mirrors::none();
+        for place in 0..self.len() {
+            let Some(mirror) = self.get(place) else {
+                return kept;
+            };
+            if mirror.id == id {
+                continue;
+            }
+            kept.add(mirror);
+        }
+        kept
+    }
+
+    /// The same, with this ctime as the one last seen at a mirror, where it is one of them.
+    pub fn seen_at(&self, id: MirrorId, seen: Tick) -> Mirrors
+        ensures { result ≡ seen_at id seen self.now }
+    {
+        let mut all = Mirrors::none();
+        for place in 0..self.len() {
+            let Some(mirror) = self.get(place) else {
+                return all;
+            };
+            all.add(seen_if(mirror, id, seen));
+        }
+        all
+    }
+}
+
+/// The mirror, with this ctime where it is the one that is named.
+fn seen_if(mirror: Mirror, id: MirrorId, seen: Tick) -> Mirror
+    ensures { result ≡ seen_if id seen mirror }
+{
+    if mirror.id == id {
+        return Mirror {
+            id: mirror.id,
+            seen,
+        };
+    }
+    mirror
 }
 
 /// How many places are filled.

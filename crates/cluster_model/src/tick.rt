@@ -5,7 +5,7 @@ ghost use Rattle.cluster_model.specs.Ticks.{next_tick};
 
 /// A moment of a data server: the boot number, and the count of changes since that boot. The boot is
 /// compared first.
-#[derive(Clone, Copy, Debug, PartialEq, Eq)]
+#[derive(Clone, Copy, Debug, Default, PartialEq, Eq)]
 pub struct Tick {
     pub boot: u32,
     pub count: u32,
