@@ -1,0 +1,12 @@
+//! The fence of a file: its mirrors are given to a fresh uid, so that nobody can write under the old one (RFC 8435,
+//! section 2.2).
+#![tactic(auto)]
+
+mod call;
+mod fence;
+mod mirror;
+#[cfg(test)]
+mod tests;
+
+pub use cluster_model::FenceStep;
+pub use fence::Fence;
