@@ -10,7 +10,7 @@ use Rattle.cluster_model.specs.declared.ids.Mirror.{Mirror}
 use Rattle.cluster_model.specs.declared.phase.Phase.{Phase}
 use Rattle.cluster_model.specs.declared.phase.Phase.TheVariants as name
 use Rattle.cluster_model.specs.declared.phase.EndCause.{EndCause}
-use Rattle.cluster_model.specs.declared.phase.EndCause.TheVariants.{Returned, Own, AllReported}
+use Rattle.cluster_model.specs.declared.phase.EndCause.TheVariants.{Returned, Own, AllReported, Recalled, Lease, NoLayout, ClientGone, ReturnedAll}
 use Rattle.cluster_model.specs.declared.phase.LeftCause.{LeftCause}
 use Rattle.cluster_model.specs.declared.phase.LeftCause.TheVariants.{Reported as WasReported}
 use Rattle.cluster_model.specs.declared.layout_state.LayoutState.{LayoutState}
@@ -75,6 +75,16 @@ holder_of (Fencing next end) = None
 holder_of (Settling copies) = None
 holder_of (Copying copier copies) = None
 
+abbrev pub is_clean : EndCause → Bool
+is_clean Returned = true
+is_clean Own = true
+is_clean AllReported = false
+is_clean Recalled = false
+is_clean Lease = false
+is_clean NoLayout = false
+is_clean ClientGone = false
+is_clean ReturnedAll = false
+
 abbrev pub with_phase : LayoutState → LayoutPhase → LayoutState
 with_phase s phase = record { wanted = s.wanted; cred = s.cred; live = s.live; phase = phase }
 
@@ -86,6 +96,9 @@ with_live s live = record { wanted = s.wanted; cred = s.cred; live = live; phase
 pub record PhaseStep : Type 0 where
   pub file : LayoutState
   pub entries : List Entry
+
+abbrev pub unchanged : LayoutState → PhaseStep
+unchanged s = record { file = s; entries = [] }
 
 -- the phase Free is entered with its entry
 abbrev pub freed : FileId → LayoutState → PhaseStep
@@ -114,6 +127,11 @@ ended file s live cause end next = record { file = with_phase (with_live s live)
 -- entries before those of a row
 abbrev pub behind : List Entry → PhaseStep → PhaseStep
 behind entries step = record { file = step.file; entries = entries ++ step.entries }
+
+-- the cause of the end, by the mirrors that are left: none where all were reported or failed
+abbrev pub end_cause : EndCause → List Mirror → EndCause
+end_cause cause [] = AllReported
+end_cause cause (m ∷ live) = cause
 
 -- Held by a client: LAYOUTRETURN of this grant. Where it reports every mirror, all stay.
 abbrev pub returned_by : FileId → LayoutState → List Entry → Cred → List Mirror → PhaseStep
@@ -173,6 +191,18 @@ fenced file s next end = record {
   file = record { wanted = s.wanted; cred = next; live = s.live; phase = phase_fenced end };
   entries = entry.Fenced file s.cred next (ids_of s.live) ∷ free_entries file end s.live;
 }
+
+abbrev pub fenced_by : FileId → LayoutState → LayoutPhase → PhaseStep
+fenced_by file s Making = unchanged s
+fenced_by file s Free = unchanged s
+fenced_by file s (Held holder recalled) = unchanged s
+fenced_by file s (Fencing next end) = fenced file s next end
+fenced_by file s (Settling copies) = unchanged s
+fenced_by file s (Copying copier copies) = unchanged s
+
+-- the fence of a file is done
+abbrev pub fence_done : FileId → LayoutState → PhaseStep
+fence_done file s = fenced_by file s s.phase
 
 -- Settling: the source is committed. Where there is something to copy, a uid is drawn for it.
 abbrev pub has_targets : CopyKind → ℕ → ℕ → Bool

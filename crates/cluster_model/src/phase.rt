@@ -1,5 +1,8 @@
 //! Where a file of the cluster stands at the metadata server, and why a period of writing ends and a mirror leaves.
 
+ghost use Rattle.std.specs.Prelude.{◌≡◌};
+ghost use Rattle.cluster_model.specs.Phases.{is_clean};
+
 /// The phase of a file.
 #[derive(Clone, Copy, Debug, PartialEq, Eq)]
 pub enum Phase {
@@ -36,6 +39,15 @@ pub enum EndCause {
     ClientGone,
     /// The holder returned all that it had, without naming the layout.
     ReturnedAll,
+}
+
+impl EndCause {
+    /// The mirrors agree then, but for those that were reported.
+    pub fn is_clean(self) -> bool
+        ensures { result ≡ is_clean self }
+    {
+        matches!(self, EndCause::Returned | EndCause::Own)
+    }
 }
 
 /// Why a mirror left the live list.

@@ -1,13 +1,10 @@
-// A library with one function.
+//! Where a file stands at the metadata server: who holds it, and which mirrors are live (RFC 8435, section 2.2).
 #![tactic(auto)]
 
-ghost use Rattle.std.specs.Prelude.{◌≡◌};
-ghost use Rattle.layout_state.specs.Echo.{echo_of};
+mod file_state;
+mod grant;
+#[cfg(test)]
+mod tests;
 
-// The `ensures` clause is the contract: what `echo` returns is `echo_of` of its argument, a definition
-// in `specs/Echo.antt`, which a caller's clause can cite too.
-pub fn echo(x: usize) -> usize
-    ensures { result ≡ echo_of x }
-{
-    x
-}
+pub use file_state::FileState;
+pub use grant::{Grant, GrantFault, ReturnFault};

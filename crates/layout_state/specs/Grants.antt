@@ -1,0 +1,94 @@
+-- Who is granted a file (RFC 8881, section 18.43; RFC 8435, section 2.2).
+use Rattle.std.specs.Prelude.{◌≡◌, ℕ, Bool, true, false, ◌==◌, List, Option, Some, None, Result, Ok, Err, nat_lt, if◌then◌else◌}
+use Rattle.cluster_model.specs.declared.ids.NodeId.{NodeId}
+use Rattle.cluster_model.specs.declared.ids.NodeId.TheVariants.{Mds, Server, Client}
+use Rattle.cluster_model.specs.declared.ids.FileId.{FileId}
+use Rattle.cluster_model.specs.declared.ids.Cred.{Cred}
+use Rattle.cluster_model.specs.declared.ids.Mirror.{Mirror}
+use Rattle.cluster_model.specs.declared.phase.Phase.TheVariants as name
+use Rattle.cluster_model.specs.declared.layout_state.LayoutState.{LayoutState}
+use Rattle.cluster_model.specs.declared.layout_state.LayoutPhase.{LayoutPhase}
+use Rattle.cluster_model.specs.declared.layout_state.LayoutPhase.TheVariants.{Making, Free, Held, Fencing, Settling, Copying}
+use Rattle.cluster_model.specs.Phases.{phase_of, granted, recalled}
+use Rattle.layout_state.specs.declared.grant.Grant.{Grant}
+use Rattle.layout_state.specs.declared.grant.GrantFault.{GrantFault}
+use Rattle.layout_state.specs.declared.grant.GrantFault.TheVariants.{Later, Recalling, Spent}
+
+-- ---- machines
+
+abbrev pub is_mds : NodeId → Bool
+is_mds Mds = true
+is_mds (Server n) = false
+is_mds (Client n) = false
+
+abbrev pub is_server : ℕ → NodeId → Bool
+is_server k Mds = false
+is_server k (Server n) = k == n
+is_server k (Client n) = false
+
+abbrev pub is_client : ℕ → NodeId → Bool
+is_client k Mds = false
+is_client k (Server n) = false
+is_client k (Client n) = k == n
+
+abbrev pub is_node : NodeId → NodeId → Bool
+is_node Mds node = is_mds node
+is_node (Server k) node = is_server k node
+is_node (Client k) node = is_client k node
+
+-- ---- a grant
+
+-- uids count as spent where fewer than this are left
+abbrev pub spare_uids : ℕ
+spare_uids = 65536
+
+-- Why a file is not granted. The holder gets its grant again, unless it is recalled.
+abbrev pub grant_fault_by : LayoutPhase → NodeId → ℕ → Option GrantFault
+grant_fault_by Making node uids_left = Some (Later name.Making)
+grant_fault_by Free node uids_left = if nat_lt uids_left spare_uids then Some Spent else None
+grant_fault_by (Held holder is_recalled) node uids_left = if is_node holder node then (if is_recalled then Some Recalling else None) else Some (Later name.Held)
+grant_fault_by (Fencing next end) node uids_left = Some (Later name.Fencing)
+grant_fault_by (Settling copies) node uids_left = Some (Later name.Settling)
+grant_fault_by (Copying copier copies) node uids_left = Some (Later name.Copying)
+
+abbrev pub grant_fault : LayoutState → NodeId → ℕ → Option GrantFault
+grant_fault s node uids_left = grant_fault_by s.phase node uids_left
+
+-- the file was granted before
+abbrev pub is_held : LayoutPhase → Bool
+is_held Making = false
+is_held Free = false
+is_held (Held holder is_recalled) = true
+is_held (Fencing next end) = false
+is_held (Settling copies) = false
+is_held (Copying copier copies) = false
+
+abbrev pub grant_of : LayoutState → Grant
+grant_of s = record { cred = s.cred; mirrors = s.live; again = is_held s.phase }
+
+abbrev pub after_grant : FileId → LayoutState → NodeId → LayoutState
+after_grant file s node = if is_held s.phase then s else (granted file s node).file
+
+abbrev pub Grants : LayoutState → NodeId → ℕ → Result Grant GrantFault → LayoutState → Type 0
+Grants old node uids_left (Ok grant) new = (grant_fault old node uids_left ≡ None) × (grant ≡ grant_of old) × ((file : FileId) → new ≡ after_grant file old node)
+Grants old node uids_left (Err fault) new = (grant_fault old node uids_left ≡ Some fault) × (new ≡ old)
+
+-- ---- a recall
+
+-- of a client's layout, where none is under way
+abbrev pub recalled_holder : NodeId → Bool → Option NodeId
+recalled_holder Mds is_recalled = None
+recalled_holder (Server n) is_recalled = None
+recalled_holder (Client n) is_recalled = if is_recalled then None else Some (Client n)
+
+abbrev pub holder_to_recall : LayoutPhase → Option NodeId
+holder_to_recall Making = None
+holder_to_recall Free = None
+holder_to_recall (Held holder is_recalled) = recalled_holder holder is_recalled
+holder_to_recall (Fencing next end) = None
+holder_to_recall (Settling copies) = None
+holder_to_recall (Copying copier copies) = None
+
+abbrev pub Recalls : LayoutState → Bool → LayoutState → Option NodeId → Type 0
+Recalls old result new None = (result ≡ false) × (new ≡ old)
+Recalls old result new (Some holder) = (result ≡ true) × (new ≡ recalled old holder)

@@ -1,0 +1,32 @@
+//! What is granted, and why a grant or a return is refused.
+
+use cluster_model::{Cred, Mirrors, Phase};
+
+/// A grant of a file for writing: the user to write as, and the mirrors to write to.
+#[derive(Clone, Copy, Debug, PartialEq, Eq)]
+pub struct Grant {
+    pub cred: Cred,
+    pub mirrors: Mirrors,
+    /// The asker holds it already.
+    pub again: bool,
+}
+
+/// Why a file is not granted.
+#[derive(Clone, Copy, Debug, PartialEq, Eq)]
+pub enum GrantFault {
+    /// It is in this phase, and not held by who asks.
+    Later(Phase),
+    /// Who asks holds it, and it is recalled.
+    Recalling,
+    /// Too few users are left for another period.
+    Spent,
+}
+
+/// Why a return is not taken.
+#[derive(Clone, Copy, Debug, PartialEq, Eq)]
+pub enum ReturnFault {
+    /// The file is not held.
+    Unknown,
+    /// Another node holds it, or under another user, which is the current one.
+    Other { current: Cred },
+}
