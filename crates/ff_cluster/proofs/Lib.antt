@@ -1,5 +1,4 @@
 pub mod Spelling
-pub mod Distinct
 pub mod ScriptWords
 pub mod PieceLemmas
 pub mod Deliveries

@@ -180,27 +180,3 @@ spelled_some text is = of (pieces_at text) is
     of : (o : Option (List Piece)) → is_some o ≡ true → o ≡ Some (all_listed o)
     of None h = absurd (cc)
     of (Some pieces) h = refl
-
--- ---- printed pieces
-
--- the first, and the others each behind a comma
-joined_more : (p : Piece) (ps : List Piece) → joined 44 (map piece_text (p ∷ ps)) ≡ piece_text p ++ flat_map (λ q. 44 ∷ piece_text q) ps
-joined_more p [] = sym (append-nil (piece_text p))
-joined_more p (q ∷ qs) = ap (λ l. piece_text p ++ 44 ∷ l) (joined_more q qs)
-
-pub grows_pieces : (old mid new : List ℕ) (p : Piece) (ps pieces : List Piece) (r : Result (Unit {0}) NoMemory) → pieces ≡ p ∷ ps → mid ≡ old ++ piece_text p
-    → Grows mid r new (flat_map (λ q. 44 ∷ piece_text q) ps) → Grows old r new (pieces_text pieces)
-grows_pieces old mid new p ps pieces (Ok x) is one more =
-    more ∙ ap (λ l. l ++ flat_map (λ q. 44 ∷ piece_text q) ps) one ∙ append_assoc old (piece_text p) _
-    ∙ ap (λ l. old ++ l) (sym (joined_more p ps)) ∙ ap (λ l. old ++ pieces_text l) (sym is)
-grows_pieces old mid new p ps pieces (Err e) is one more =
-    (piece_text p ++ more.0, more.1 ∙ ap (λ l. l ++ more.0) one ∙ append_assoc old (piece_text p) more.0)
-
--- words, a space, a text and the line's end
-pub grows_line : (old a b c new w text : List ℕ) (r : Result (Unit {0}) NoMemory) → a ≡ old ++ w → b ≡ a ++ codes " " → c ≡ b ++ text → Puts c r new (codes "\n")
-    → Grows old r new (w ++ 32 ∷ (text ++ 10 ∷ []))
-grows_line old a b c new w text (Ok x) one two three last =
-    last ∙ ap (λ l. l ++ codes "\n") (three ∙ ap (λ l. l ++ text) (two ∙ ap (λ l. l ++ codes " ") one))
-    ∙ append_assoc ((old ++ w) ++ codes " ") text (codes "\n") ∙ append_assoc (old ++ w) (codes " ") (text ++ codes "\n") ∙ append_assoc old w (32 ∷ (text ++ codes "\n"))
-grows_line old a b c new w text (Err e) one two three last =
-    (w ++ 32 ∷ text, last ∙ three ∙ ap (λ l. l ++ text) (two ∙ ap (λ l. l ++ codes " ") one) ∙ append_assoc (old ++ w) (codes " ") text ∙ append_assoc old w (32 ∷ text))

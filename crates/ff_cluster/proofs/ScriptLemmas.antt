@@ -13,6 +13,7 @@ use Rattle.ff_cluster.specs.Player.{PlayerValue, PlayerState, with_trace, Player
 use Rattle.ff_cluster.specs.declared.line.Setup.{Setup}
 use Rattle.ff_cluster.specs.declared.line.Setup.TheVariants.{Bare}
 use Rattle.ff_cluster.specs.Line.{LineValue, EventLine, SetupLine, Nothing, setup_at, event_at, words_at, line_at}
+use Rattle.cluster_model.specs.declared.piece.Piece.{Piece}
 use Rattle.cluster_model.specs.Event.{EventValue, Deliver, Restart}
 use Rattle.cluster_model.specs.Server.{ServerState}
 use Rattle.cluster_model.specs.Server.{restart_of}
@@ -63,16 +64,18 @@ let_through : (test : Bool) (effect step : WorldStep) → (if test then Some eff
 let_through true effect step is = cc
 let_through false effect step is = absurd (cc)
 
+counted_restart : (w : WorldState) (pieces : List Piece) (server : Option ServerState) → (restart_step w pieces server).world.count ≡ w.count + length (restart_step w pieces server).entries
+counted_restart w pieces None = omega arith
+counted_restart w pieces (Some server) = refl
+
 -- the journal's length goes with the entries
 counted : (w : WorldState) (event : EventValue) (step : WorldStep) → world_step w event ≡ Some step → step.world.count ≡ w.count + length step.entries
 counted w (Deliver bytes) step is =
     subst (λ (s : WorldStep). s.world.count ≡ w.count + length s.entries) (let_through _ (effect_of w (Deliver bytes)) step is) refl
-counted w (Restart pieces) step is =
-    subst (λ (s : WorldStep). s.world.count ≡ w.count + length s.entries) (let_through _ (effect_of w (Restart pieces)) step is) (counted_restart (restart_of w.server pieces))
-  where
-    counted_restart : (server : Option ServerState) → (restart_step w pieces server).world.count ≡ w.count + length (restart_step w pieces server).entries
-    counted_restart None = omega arith
-    counted_restart (Some server) = refl
+counted w (Restart server pieces) step is =
+    subst (λ (s : WorldStep). s.world.count ≡ w.count + length s.entries) (let_through _ (effect_of w (Restart server pieces)) step is) (counted_restart w pieces (restart_of w.server pieces))
+counted w event step is =
+    subst (λ (s : WorldStep). s.world.count ≡ w.count + length s.entries) (let_through _ (record { world = w; entries = [] }) step is) (omega arith)
 
 by_event : (number : ℕ) (w : WorldState) (event : EventValue) (rest : Option Setup → Script) (o : Option WorldStep) → world_step w event ≡ o
     → Splits number (Some w) (played_step o) rest (with_event event (rest (Some Bare))) (with_step o (λ next. run_of next (rest (Some Bare)).events))

@@ -27,7 +27,7 @@ short_bytes : (bytes few : List ℕ) → short_record bytes ≡ Some few → len
 short_bytes bytes few h = grind (arith, nat_tests)
 
 -- a restart is no delivery
-no_deliver : (b : Bool) (pieces : Option (List Piece)) (bytes : List ℕ) → cond b (Some (Restart [])) (option_map Restart pieces) ≡ Some (Deliver bytes) → ⊥
+no_deliver : (b : Bool) (pieces : Option (List Piece)) (bytes : List ℕ) → cond b (Some (Restart 1 [])) (option_map (Restart 1) pieces) ≡ Some (Deliver bytes) → ⊥
 no_deliver true pieces bytes h = cc
 no_deliver false None bytes h = cc
 no_deliver false (Some ps) bytes h = cc

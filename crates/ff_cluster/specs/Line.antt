@@ -50,8 +50,8 @@ deliver_at text = do
 -- `restart d1`, alone or with one space and pieces
 abbrev pub restart_at : List ℕ → Option EventValue
 restart_at text =
-    if bytes_eq text (codes "restart d1") then Some (Restart [])
-    else option_map Restart (after_word (codes "restart d1 ") text >>= pieces_at)
+    if bytes_eq text (codes "restart d1") then Some (Restart 1 [])
+    else option_map (Restart 1) (after_word (codes "restart d1 ") text >>= pieces_at)
 
 -- the line of an event
 abbrev pub event_at : List ℕ → Option EventValue
@@ -70,7 +70,7 @@ line_at setup (c ∷ rest) = if c == 35 then Some Nothing else words_at setup (c
 -- what the code's event says
 abbrev pub event_value : Event → EventValue
 event_value (event.Deliver bytes) = Deliver bytes
-event_value (event.Restart pieces) = Restart pieces
+event_value (event.Restart pieces) = Restart 1 pieces
 
 -- what the code's line says
 abbrev pub line_value : Line → LineValue

@@ -71,10 +71,12 @@ restart_step w pieces (Some server) = record {
   entries = Restarted 1 pieces ∷ [];
 }
 
--- what an event does where the limits let it
+-- What an event does where the limits let it: a delivery or a restart of the one data server. Nothing else is in a bare world,
+-- so nothing comes of the other events.
 abbrev pub effect_of : WorldState → EventValue → WorldStep
 effect_of w (Deliver bytes) = deliver_step w bytes (outcome_of w.server bytes)
-effect_of w (Restart pieces) = restart_step w pieces (restart_of w.server pieces)
+effect_of w (Restart server pieces) = restart_step w pieces (restart_of w.server pieces)
+effect_of w _ = record { world = w; entries = [] }
 
 -- the journal is within the limits
 abbrev pub is_within : WorldState → Bool

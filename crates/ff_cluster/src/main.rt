@@ -7,8 +7,6 @@ pub mod pieces;
 #[cfg(test)]
 mod pieces_tests;
 mod player;
-pub mod print;
-mod print_law;
 pub mod replay;
 pub mod run;
 #[cfg(test)]

@@ -1,12 +1,9 @@
-//! Pieces as text, the lines of restarts, and the entries that tell of them.
+//! Pieces as text, and the lines of restarts.
 
 use crate::line::{Event, Line, Setup, parse_line};
 use crate::pieces::PieceList;
-use crate::print::put_entry;
-use cluster_model::{Cred, Entry, MirrorId, Piece, Pieces};
-use ff_xdr::Out;
+use cluster_model::Piece;
 use std::alloc::Global;
-use std::str;
 use std::test::Fail;
 
 /// Pieces as the tables below write them.
@@ -103,53 +100,5 @@ fn lines_of_restarts(rt: HostRuntime) -> Result<(), Fail> {
         assert_eq!(rt; got.as_str(), want, "at {line:?}");
         assert!(rt; restart(None, line).is_none());
     }
-    Ok(())
-}
-
-#[test]
-fn prints_owners_and_restarts(rt: HostRuntime) -> Result<(), Fail> {
-    let two = vec![in rt.alloc();
-        Piece {
-            fileid: 2,
-            index: 0,
-            from: 0,
-            count: 3
-        },
-        Piece {
-            fileid: 3,
-            index: 1,
-            from: 2,
-            count: 4
-        },
-    ]?;
-    let journal = [
-        Entry::Owner {
-            mirror: MirrorId {
-                server: 1,
-                fileid: 2,
-            },
-            cred: Cred(65537),
-        },
-        Entry::Restarted {
-            server: 1,
-            pieces: Pieces::from_vec(Vec::new(rt.alloc())),
-        },
-        Entry::Restarted {
-            server: 1,
-            pieces: Pieces::from_vec(two),
-        },
-    ];
-    let mut out = Out::new(rt.alloc());
-    for entry in journal {
-        put_entry(&entry, &mut out)?;
-    }
-    assert_eq!(rt;
-        str::from_utf8(out.bytes())?,
-        "\
-owner d1.2 65537
-restarted d1 -
-restarted d1 2:0:0:3,3:1:2:4
-"
-    );
     Ok(())
 }

@@ -11,9 +11,9 @@ ghost use Rattle.line_runs.specs.Runs.{Runs, ReadFaults, write_faults};
 ghost use Rattle.ff_cluster.specs.Show.{why_text, bad_text, args_of, args_text, verdict_text, program_text, procedure_text, call_text, stat_text, refused_text, reply_text, found_text, record_line, line_shown, show_from, show_course, ShowsLine};
 
 use crate::digits::Digits;
-use crate::print::put_numbered;
 use ff_xdr::{NoMemory, Out, XdrError, XdrWhy};
 use itoa::Buffer;
+use journal_print::put_numbered;
 use line_runs::{LineTask, Played, RunEnd, run_lines};
 use nfs3_wire::{is_built, read_call};
 use rpc_record::{Call, CallFault, Reply, ReplyBody, Sink, Source};

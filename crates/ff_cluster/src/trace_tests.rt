@@ -1,12 +1,11 @@
-//! Lines of a script, and a journal's text.
+//! Lines of a script, and the bytes that a line holds.
 
-use crate::digits::{Digits, put_hex};
+use crate::digits::Digits;
 use crate::line::{Event, Line, Setup, parse_line};
-use crate::print::put_entry;
-use cluster_model::{Cred, Entry, MirrorId, NodeId};
+use cluster_model::{Entry, NodeId};
 use ff_xdr::{Data, Out};
+use journal_print::put_entry;
 use std::alloc::Global;
-use std::str;
 use std::test::Fail;
 
 /// A line as the table below writes it: the record's bytes behind `deliver`.
@@ -90,64 +89,25 @@ fn longest_record(rt: HostRuntime) -> Result<(), Fail> {
     Ok(())
 }
 
-/// An entry of each kind, and a packet of no bytes.
-fn journal(alloc: Global) -> Result<[Entry; 5], Fail> {
-    let mirror = MirrorId {
-        server: 1,
-        fileid: 2,
-    };
-    Ok([
-        Entry::Packet {
-            number: 1,
-            from: NodeId::Client(0),
-            to: NodeId::Server(1),
-            bytes: Data::of(alloc, &[0, 255])?,
-        },
-        Entry::Delivered { number: 1 },
-        Entry::Applied {
-            mirror,
-            cred: Cred(65536),
-            at: 0,
-            bytes: Data::of(alloc, b"AB")?,
-        },
-        Entry::Committed { mirror },
-        Entry::Packet {
-            number: 18_446_744_073_709_551_615,
-            from: NodeId::Mds,
-            to: NodeId::Client(4_294_967_295),
-            bytes: Data::of(alloc, &[])?,
-        },
-    ])
-}
-
-#[test]
-fn prints_a_journal(rt: HostRuntime) -> Result<(), Fail> {
-    let mut out = Out::new(rt.alloc());
-    for entry in journal(rt.alloc())? {
-        put_entry(&entry, &mut out)?;
-    }
-    assert_eq!(rt;
-        str::from_utf8(out.bytes())?,
-        "\
-packet 1 c0 d1 00ff
-delivered 1
-applied d1.2 65536 0 4142
-committed d1.2
-packet 18446744073709551615 m c4294967295 -
-"
-    );
-    Ok(())
-}
-
 /// A record of more than one chunk, there and back.
 #[test]
 fn prints_a_long_record(rt: HostRuntime) -> Result<(), Fail> {
     let mut bytes = Vec::new(rt.alloc());
     bytes.resize(5_000, 0xa5)?;
     let mut out = Out::new(rt.alloc());
-    put_hex(&bytes, &mut out)?;
-    assert_eq!(rt; out.len(), 10_000);
-    let digits = Digits::read(out.bytes()).ok_or("refused")?;
+    let entry = Entry::Packet {
+        number: 1,
+        from: NodeId::Client(0),
+        to: NodeId::Server(1),
+        bytes: Data::of(rt.alloc(), &bytes)?,
+    };
+    put_entry(&entry, &mut out)?;
+    let text = out
+        .bytes()
+        .strip_prefix(b"packet 1 c0 d1 ")
+        .ok_or("another front")?;
+    assert_eq!(rt; text.len(), 10_001);
+    let digits = Digits::read(&text[..10_000]).ok_or("refused")?;
     let again = digits.decode(rt.alloc())?;
     assert_eq!(rt; again.as_slice(), bytes.as_slice());
     Ok(())

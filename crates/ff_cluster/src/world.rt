@@ -11,7 +11,7 @@ ghost use Rattle.ff_cluster.specs.World.{preset_world, Meets, Happens, packets_o
 ghost use Rattle.cluster_model.specs.Print.{hex_len, hex_of};
 
 use crate::line::Event;
-use cluster_model::{Entry, NodeId, Outbox, Pieces};
+use cluster_model::{Entry, NodeId, Outbox, Pieces, UserAnswer};
 use ds_files::{DataServer, RestartFault};
 use ff_xdr::{Data, NoMemory};
 use std::alloc::Global;
@@ -81,12 +81,18 @@ fn hex_bytes(entry: &Entry) -> usize
     ensures { result ≡ hex_len entry.now }
 {
     match entry {
-        Entry::Packet { bytes, .. } => bytes.bytes().len(),
-        Entry::Delivered { .. } => 0,
-        Entry::Applied { bytes, .. } => bytes.bytes().len(),
-        Entry::Committed { .. } => 0,
-        Entry::Owner { .. } => 0,
-        Entry::Restarted { .. } => 0,
+        Entry::Packet { bytes, .. }
+        | Entry::Sent { bytes, .. }
+        | Entry::Rogue { bytes, .. }
+        | Entry::Told { bytes, .. }
+        | Entry::Applied { bytes, .. }
+        | Entry::ReadAnswer { bytes, .. }
+        | Entry::Audit { bytes, .. }
+        | Entry::Answer {
+            answer: UserAnswer::Bytes { bytes, .. },
+            ..
+        } => bytes.bytes().len(),
+        _ => 0,
     }
 }
 
@@ -237,7 +243,7 @@ impl World {
     /// Starts the data server again, which does nothing where its boots are spent. At an error the
     /// world is not to be used again.
     fn restart(&mut self, pieces: Pieces, journal: &mut Vec<Entry>) -> Result<(), WorldFault>
-        ensures happens { Happens self.old.world (Restart pieces) journal.old.items result self.new.world journal.new.items }
+        ensures happens { Happens self.old.world (Restart 1 pieces) journal.old.items result self.new.world journal.new.items }
         ensures spent { self.new.spent ≡ self.old.spent }
     {
         match self.server.restart(pieces.as_slice()) {

@@ -4,9 +4,9 @@ ghost use Rattle.std.specs.Prelude.{◌≡◌};
 ghost use Rattle.cluster_model.specs.Print.{print};
 ghost use Rattle.ff_cluster.specs.Writing.{PrintsText};
 
-use crate::print::put_entry;
 use cluster_model::Entry;
 use ff_xdr::{NoMemory, Out};
+use journal_print::put_entry;
 
 /// Appends the text of the entries. At an error `out` has a beginning of it.
 pub fn print_entries(entries: &[Entry], out: &mut Out) -> Result<(), NoMemory>

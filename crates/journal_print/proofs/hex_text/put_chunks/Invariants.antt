@@ -1,6 +1,6 @@
 use Rattle.std.proofs.Common.{◌≡◌, List, ℕ, ◌++◌, length}
 use Rattle.hex.specs.Hex.{encode_lower}
-use Rattle.ff_cluster.proofs.digits.put_chunks.Given as goal
+use Rattle.journal_print.proofs.hex_text.put_chunks.Given as goal
 
 abbrev pub invariant-loop-rest : goal.invariant-loop-rest
 invariant-loop-rest l =

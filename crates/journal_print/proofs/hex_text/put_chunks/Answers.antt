@@ -1,8 +1,8 @@
 use Rattle.std.proofs.Common.{◌≡◌, [], ◌++◌, sym, ap, ◌∙◌, append_assoc, append-nil, refl}
 use Rattle.std.proofs.lemmas.List.{take-append-drop}
 use Rattle.hex.specs.Hex.{encode_with}
-use Rattle.ff_cluster.proofs.Spelling.{encode_with-append}
-use Rattle.ff_cluster.proofs.digits.put_chunks.Goals as goal
+use Rattle.journal_print.proofs.Joins.{encode_with-append}
+use Rattle.journal_print.proofs.hex_text.put_chunks.Goals as goal
 
 pub loop-rest-init : goal.loop-rest-init
 unfolding encode_with
