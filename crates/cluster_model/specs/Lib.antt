@@ -13,3 +13,5 @@ pub mod Prints
 pub mod Event
 pub mod Fences
 pub mod Phases
+pub mod MdsFiles
+pub mod FilePhases
