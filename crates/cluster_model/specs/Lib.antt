@@ -11,7 +11,11 @@ pub mod Wordings
 pub mod Print
 pub mod Prints
 pub mod Event
+pub mod Nodes
 pub mod Fences
 pub mod Phases
 pub mod MdsFiles
 pub mod FilePhases
+pub mod Machine
+pub mod FenceLaw
+pub mod Agreement

@@ -9,32 +9,11 @@ use Rattle.cluster_model.specs.declared.phase.Phase.TheVariants as name
 use Rattle.cluster_model.specs.declared.layout_state.LayoutState.{LayoutState}
 use Rattle.cluster_model.specs.declared.layout_state.LayoutPhase.{LayoutPhase}
 use Rattle.cluster_model.specs.declared.layout_state.LayoutPhase.TheVariants.{Making, Free, Held, Fencing, Settling, Copying}
+use Rattle.cluster_model.specs.Nodes.{is_node}
 use Rattle.cluster_model.specs.Phases.{phase_of, granted, recalled}
 use Rattle.layout_state.specs.declared.grant.Grant.{Grant}
 use Rattle.layout_state.specs.declared.grant.GrantFault.{GrantFault}
 use Rattle.layout_state.specs.declared.grant.GrantFault.TheVariants.{Later, Recalling, Spent}
-
--- ---- machines
-
-abbrev pub is_mds : NodeId → Bool
-is_mds Mds = true
-is_mds (Server n) = false
-is_mds (Client n) = false
-
-abbrev pub is_server : ℕ → NodeId → Bool
-is_server k Mds = false
-is_server k (Server n) = k == n
-is_server k (Client n) = false
-
-abbrev pub is_client : ℕ → NodeId → Bool
-is_client k Mds = false
-is_client k (Server n) = false
-is_client k (Client n) = k == n
-
-abbrev pub is_node : NodeId → NodeId → Bool
-is_node Mds node = is_mds node
-is_node (Server k) node = is_server k node
-is_node (Client k) node = is_client k node
 
 -- ---- a grant
 

@@ -13,11 +13,11 @@ use Rattle.cluster_model.specs.declared.layout_state.LayoutState.{LayoutState}
 use Rattle.cluster_model.specs.declared.layout_state.LayoutPhase.{LayoutPhase}
 use Rattle.cluster_model.specs.declared.layout_state.LayoutPhase.TheVariants.{Making, Free, Held, Fencing, Settling, Copying}
 use Rattle.cluster_model.specs.declared.layout_state.FenceEnd.TheVariants.{Clean, Dirty}
+use Rattle.cluster_model.specs.Nodes.{is_node}
 use Rattle.cluster_model.specs.Journal.{is_mirror}
 use Rattle.cluster_model.specs.Phases.{unreported, end_cause, returned, with_phase, with_live}
 use Rattle.layout_state.specs.declared.grant.ReturnFault.{ReturnFault}
 use Rattle.layout_state.specs.declared.grant.ReturnFault.TheVariants.{Unknown, Other}
-use Rattle.layout_state.specs.Grants.{is_node}
 
 -- Why a return is not taken: the file is not held, or another node or under another uid.
 abbrev pub return_fault_by : LayoutPhase → Cred → NodeId → Cred → Option ReturnFault

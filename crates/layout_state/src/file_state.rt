@@ -5,8 +5,9 @@ ghost use Rattle.cluster_model.specs.declared.ids.FileId.{FileId};
 ghost use Rattle.cluster_model.specs.declared.entry.Entry.{Entry};
 ghost use Rattle.cluster_model.specs.declared.phase.LeftCause.{LeftCause};
 ghost use Rattle.cluster_model.specs.declared.phase.EndCause.TheVariants as cause_of;
+ghost use Rattle.cluster_model.specs.Nodes.{is_mds};
 ghost use Rattle.cluster_model.specs.Phases.{begun, made, with_live, seen_at, phase_of, holder_of, unreported, end_cause, revoked, own_done, is_last, is_source, mirror_left, fence_done, is_clean};
-ghost use Rattle.layout_state.specs.Grants.{Grants, Recalls, holder_to_recall, is_held, is_mds};
+ghost use Rattle.layout_state.specs.Grants.{Grants, Recalls, holder_to_recall, is_held};
 ghost use Rattle.layout_state.specs.Returns.{Returns, is_making, is_fencing, is_losing, is_live, left_with};
 
 use crate::grant::{Grant, GrantFault, ReturnFault};

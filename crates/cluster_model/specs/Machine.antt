@@ -1,0 +1,349 @@
+-- The machine of the fence law: data servers, the files of the metadata server, and a network that keeps every packet. A run is a list of
+-- moves, and all choice is in it: what is delivered, and how often; what is called, repeated or given up; what a restart keeps. A move
+-- that cannot be made does nothing. The journal has no packets (RFC 8435, section 2.2; RFC 1813; RFC 8881, section 12).
+use Rattle.std.specs.Prelude.{ℕ, ◌+◌, ◌-◌, Bool, true, false, ◌==◌, ◌&&◌, not, List, [], ◌∷◌, ◌++◌, length, position, Option, Some, None, nat_lt, if◌then◌else◌, slice_get, slice_set}
+use Rattle.std.specs.List.{list_any}
+use Rattle.cluster_model.specs.declared.tick.Tick.{Tick}
+use Rattle.cluster_model.specs.declared.ids.NodeId.{NodeId}
+use Rattle.cluster_model.specs.declared.ids.NodeId.TheVariants.{Mds, Server, Client}
+use Rattle.cluster_model.specs.declared.ids.FileId.{FileId}
+use Rattle.cluster_model.specs.declared.ids.MirrorId.{MirrorId}
+use Rattle.cluster_model.specs.declared.piece.Piece.{Piece}
+use Rattle.cluster_model.specs.declared.ds_call.Shown.{Shown}
+use Rattle.cluster_model.specs.declared.entry.Entry.{Entry}
+use Rattle.cluster_model.specs.declared.entry.Entry.TheVariants as entry
+use Rattle.cluster_model.specs.Nodes.{is_node}
+use Rattle.cluster_model.specs.Server.{ServerState, Caller, restart_of}
+use Rattle.cluster_model.specs.DsCalls.{DsCallValue, Create, SetAttr, Write, Commit, Read, DsReplyValue, Created, Set, Written, Committed, Bytes, NotSync, Failed, DsStep, ds_step}
+use Rattle.cluster_model.specs.MdsFiles.{MdsFile, Fresh, FileStep, a_uid}
+use Rattle.cluster_model.specs.FilePhases.{FileInput, AsksLayout, OwnWrite, Recall, Returns, Revokes, OwnEnds, Resilver, Answers, TimesOut, Ticks, Sees, TargetsHold, TargetFails, SourceFails, new_mds_file, are_spent, phase, CallOut, call_out, is_outstanding}
+
+-- ---- packets, of a call or of a reply, with the number of the call
+
+pub data PacketValue : Type 0 where
+  Call : (from : NodeId) (server xid uid : ℕ) (call : DsCallValue) → PacketValue
+  Reply : (server : ℕ) (to : NodeId) (xid : ℕ) (reply : DsReplyValue) → PacketValue
+
+-- a uid that a node was granted, or draws for a copy
+pub record Holding : Type 0 where
+  pub node : NodeId
+  pub file : FileId
+  pub uid : ℕ
+
+pub record Machine : Type 0 where
+  -- data server n stands at place n - 1, file f at place f - 1
+  pub servers : List ServerState
+  pub files : List MdsFile
+  pub next_uid : ℕ
+  pub next_name : ℕ
+  -- the number of the last new call of the metadata server
+  pub last_xid : ℕ
+  pub packets : List PacketValue
+  pub holdings : List Holding
+
+-- the machine after a move, and the entries of it
+pub record MachineStep : Type 0 where
+  pub machine : Machine
+  pub entries : List Entry
+
+abbrev pub no_move : Machine → MachineStep
+no_move m = record { machine = m; entries = [] }
+
+-- new data servers, numbered from 1, and no files
+abbrev pub new_machine : List ServerState → Machine
+new_machine servers = record { servers = servers; files = []; next_uid = 65536; next_name = 1; last_xid = 0; packets = []; holdings = [] }
+
+-- ---- moves
+
+pub data Move : Type 0 where
+  -- the packet at this place arrives; it may have come before
+  Deliver : (place : ℕ) → Move
+  -- a client creates a file, with a mirror at each of these servers
+  Creates : (at_servers : List ℕ) → Move
+  -- an input of the table of phases that is no answer and no timeout
+  Happens : (file : ℕ) (input : FileInput) → Move
+  -- the next call of a file goes out under a new number
+  CallsOut : (file xid : ℕ) → Move
+  -- a packet is sent again
+  SendsAgain : (place : ℕ) → Move
+  -- an outstanding call of a file times out
+  GivesUpWaiting : (file xid : ℕ) → Move
+  -- a node sends a WRITE or a COMMIT under a uid that it was granted, and a READ under any
+  Uses : (node : NodeId) (server xid uid : ℕ) (call : DsCallValue) → Move
+  -- an own write's answer showed the ctime of a mirror
+  Learns : (file place : ℕ) (id : MirrorId) → Move
+  -- a holder takes a write; a client that left the protocol strays; a write is told as committed
+  Takes : (holding at : ℕ) (bytes : List ℕ) → Move
+  Strays : (holding at : ℕ) (bytes : List ℕ) → Move
+  Tells : (holding at : ℕ) (bytes : List ℕ) → Move
+  -- a data server starts again; these pieces of its pending writes had reached its disk
+  Restarts : (server : ℕ) (pieces : List Piece) → Move
+
+-- ---- parts of the machine
+
+-- what has a number from 1, in a list
+abbrev pub numbered_at : {A : Type 0} → List A → ℕ → Option A
+numbered_at all n = if n == 0 then None else slice_get all (n - 1)
+
+abbrev pub with_server : Machine → ℕ → ServerState → List PacketValue → Machine
+with_server m n s packets = record {
+  servers = slice_set m.servers (n - 1) s;
+  files = m.files;
+  next_uid = m.next_uid;
+  next_name = m.next_name;
+  last_xid = m.last_xid;
+  packets = packets;
+  holdings = m.holdings;
+}
+
+abbrev pub with_packets : Machine → List PacketValue → Machine
+with_packets m packets = record {
+  servers = m.servers;
+  files = m.files;
+  next_uid = m.next_uid;
+  next_name = m.next_name;
+  last_xid = m.last_xid;
+  packets = packets;
+  holdings = m.holdings;
+}
+
+-- a packet goes out, by the metadata server under a new number
+abbrev pub puts_out : Machine → NodeId → ℕ → PacketValue → Machine
+puts_out m Mds xid packet = record {
+  servers = m.servers;
+  files = m.files;
+  next_uid = m.next_uid;
+  next_name = m.next_name;
+  last_xid = xid;
+  packets = m.packets ++ packet ∷ [];
+  holdings = m.holdings;
+}
+puts_out m (Server n) xid packet = with_packets m (m.packets ++ packet ∷ [])
+puts_out m (Client n) xid packet = with_packets m (m.packets ++ packet ∷ [])
+
+-- a file after a step, with what was drawn, and what is held from then on
+abbrev pub with_file : Machine → ℕ → FileStep → List Holding → Machine
+with_file m n s held = record {
+  servers = m.servers;
+  files = slice_set m.files (n - 1) s.file;
+  next_uid = m.next_uid + s.uids;
+  next_name = m.next_name + s.names;
+  last_xid = m.last_xid;
+  packets = m.packets;
+  holdings = m.holdings ++ held;
+}
+
+abbrev pub fresh_of : Machine → Fresh
+fresh_of m = record { uid = m.next_uid; name = m.next_name; servers = length m.servers }
+
+-- what the entries and the draws of a file's step let a node hold: a grant, and the uid of a copy
+abbrev pub held_by_entry : Entry → List Holding
+held_by_entry (entry.Granted file cred holder) = record { node = holder; file = file; uid = cred.0 } ∷ []
+held_by_entry _ = []
+
+abbrev pub held_by : List Entry → List Holding
+held_by [] = []
+held_by (e ∷ entries) = held_by_entry e ++ held_by entries
+
+-- the uids that a step drew, to which the metadata server itself may write: those of a copy
+abbrev pub drawn_by : FileId → ℕ → ℕ → List Holding
+drawn_by file uid drawn = if drawn == 0 then [] else record { node = Mds; file = file; uid = uid } ∷ []
+
+abbrev pub copier_of : FileId → ℕ → FileStep → List Holding
+copier_of file uid s = if s.names == 0 then [] else drawn_by file uid s.uids
+
+abbrev pub file_id : ℕ → FileId
+file_id n = record { 0 = n }
+
+abbrev pub file_stepped : Machine → ℕ → FileStep → MachineStep
+file_stepped m n s = record { machine = with_file m n s (held_by s.entries ++ copier_of (file_id n) m.next_uid s); entries = s.entries }
+
+abbrev pub file_takes : Machine → ℕ → FileInput → Option MdsFile → MachineStep
+file_takes m n input None = no_move m
+file_takes m n input (Some f) = file_stepped m n (phase (file_id n) f input (fresh_of m))
+
+-- ---- deliveries
+
+-- The group of a call is the user's number, and there are no further groups.
+abbrev pub caller_of : ℕ → Caller
+caller_of uid = record { uid = uid; gid = uid; gids = [] }
+
+abbrev pub served : Machine → NodeId → ℕ → ℕ → DsStep → MachineStep
+served m from n xid step = record { machine = with_server m n step.server (m.packets ++ Reply n from xid step.reply ∷ []); entries = step.entries }
+
+abbrev pub arrives_at : Machine → NodeId → ℕ → ℕ → ℕ → DsCallValue → Option ServerState → MachineStep
+arrives_at m from n xid uid call None = no_move m
+arrives_at m from n xid uid call (Some s) = served m from n xid (ds_step s (caller_of uid) call)
+
+-- the file whose call of this number to this server is outstanding
+abbrev pub file_of : List MdsFile → ℕ → ℕ → Option ℕ
+file_of files server xid = position (λ f. is_outstanding f server xid) files
+
+-- An answer is taken by the file whose call it answers; any other reply is passed over.
+abbrev pub answers_at : Machine → ℕ → DsReplyValue → Option ℕ → MachineStep
+answers_at m xid reply None = no_move m
+answers_at m xid reply (Some place) = file_takes m (place + 1) (Answers xid reply) (slice_get m.files place)
+
+abbrev pub comes_to : Machine → ℕ → ℕ → DsReplyValue → NodeId → MachineStep
+comes_to m server xid reply Mds = answers_at m xid reply (file_of m.files server xid)
+comes_to m server xid reply (Server n) = no_move m
+comes_to m server xid reply (Client n) = no_move m
+
+abbrev pub delivered : Machine → Option PacketValue → MachineStep
+delivered m None = no_move m
+delivered m (Some (Call from server xid uid call)) = arrives_at m from server xid uid call (numbered_at m.servers server)
+delivered m (Some (Reply server to xid reply)) = comes_to m server xid reply to
+
+-- ---- the other moves
+
+-- an input that comes from nowhere is none of those that a packet or the clock brings
+abbrev pub comes_by_itself : FileInput → Bool
+comes_by_itself (AsksLayout client) = true
+comes_by_itself (OwnWrite at bytes) = true
+comes_by_itself Recall = true
+comes_by_itself (Returns client claimed places) = true
+comes_by_itself (Revokes cause) = true
+comes_by_itself (OwnEnds causes at bytes) = true
+comes_by_itself Resilver = true
+comes_by_itself (Answers xid reply) = false
+comes_by_itself (TimesOut xid) = false
+comes_by_itself Ticks = true
+comes_by_itself (Sees id seen) = false
+comes_by_itself TargetsHold = true
+comes_by_itself (TargetFails place cause) = true
+comes_by_itself (SourceFails cause) = true
+
+-- the servers are there, and no two are the same
+abbrev pub are_servers : ℕ → List ℕ → Bool
+are_servers count [] = true
+are_servers count (n ∷ servers) = nat_lt 0 n && nat_lt n (count + 1) && not (list_any (λ k. k == n) servers) && are_servers count servers
+
+abbrev pub may_create : Machine → List ℕ → Bool
+may_create m servers = nat_lt 0 (length servers) && nat_lt (length servers) 5 && are_servers (length m.servers) servers && not (are_spent (fresh_of m))
+
+abbrev pub created : Machine → List ℕ → MachineStep
+created m servers = if may_create m servers then record {
+  machine = record {
+    servers = m.servers;
+    files = m.files ++ new_mds_file (fresh_of m) servers ∷ [];
+    next_uid = m.next_uid + 1;
+    next_name = m.next_name + 1;
+    last_xid = m.last_xid;
+    packets = m.packets;
+    holdings = m.holdings;
+  };
+  entries = [];
+} else no_move m
+
+abbrev pub goes_out : Machine → ℕ → ℕ → Option CallOut → MachineStep
+goes_out m n xid None = no_move m
+goes_out m n xid (Some c) = record {
+  machine = record {
+    servers = m.servers;
+    files = slice_set m.files (n - 1) c.file;
+    next_uid = m.next_uid;
+    next_name = m.next_name;
+    last_xid = xid;
+    packets = m.packets ++ Call Mds c.server xid 0 c.call ∷ [];
+    holdings = m.holdings;
+  };
+  entries = [];
+}
+
+abbrev pub call_out_from : Machine → ℕ → ℕ → Option MdsFile → MachineStep
+call_out_from m n xid None = no_move m
+call_out_from m n xid (Some f) = if nat_lt m.last_xid xid then goes_out m n xid (call_out f xid) else no_move m
+
+abbrev pub sent_again : Machine → Option PacketValue → MachineStep
+sent_again m None = no_move m
+sent_again m (Some packet) = record { machine = with_packets m (m.packets ++ packet ∷ []); entries = [] }
+
+-- a node holds a uid
+abbrev pub holds : Machine → NodeId → ℕ → Bool
+holds m node uid = list_any (λ h. is_node h.node node && h.uid == uid) m.holdings
+
+-- what a node may send: under a uid that it was granted, be its period over or not; reading is free
+abbrev pub may_use : Machine → NodeId → ℕ → DsCallValue → Bool
+may_use m node uid (Create name owner) = false
+may_use m node uid (SetAttr fileid owner guard) = false
+may_use m node uid (Write fileid at synced bytes) = holds m node uid
+may_use m node uid (Commit fileid) = holds m node uid
+may_use m node uid (Read fileid at count) = true
+
+-- the metadata server's calls have new numbers
+abbrev pub is_new_number : Machine → ℕ → NodeId → Bool
+is_new_number m xid Mds = nat_lt m.last_xid xid
+is_new_number m xid (Server n) = true
+is_new_number m xid (Client n) = true
+
+abbrev pub used : Machine → NodeId → ℕ → ℕ → ℕ → DsCallValue → MachineStep
+used m node server xid uid call =
+    if may_use m node uid call && is_new_number m xid node
+    then record { machine = puts_out m node xid (Call node server xid uid call); entries = [] }
+    else no_move m
+
+-- the ctime that a reply shows
+abbrev pub ctime_of : Option Shown → Option Tick
+ctime_of None = None
+ctime_of (Some shown) = Some shown.seen
+
+abbrev pub ctime_in : DsReplyValue → Option Tick
+ctime_in (Created fileid shown) = Some shown.seen
+ctime_in (Set shown) = ctime_of shown
+ctime_in (Written shown verifier) = ctime_of shown
+ctime_in (Committed shown verifier) = ctime_of shown
+ctime_in (Bytes shown eof bytes) = None
+ctime_in (NotSync shown) = Some shown.seen
+ctime_in (Failed status shown) = ctime_of shown
+
+abbrev pub learns_tick : Machine → ℕ → MirrorId → Option MdsFile → Option Tick → MachineStep
+learns_tick m n id file None = no_move m
+learns_tick m n id file (Some tick) = file_takes m n (Sees id tick) file
+
+abbrev pub learns_from : Machine → ℕ → MirrorId → Option MdsFile → ℕ → NodeId → DsReplyValue → MachineStep
+learns_from m n id file server Mds reply = if server == id.server then learns_tick m n id file (ctime_in reply) else no_move m
+learns_from m n id file server (Server k) reply = no_move m
+learns_from m n id file server (Client k) reply = no_move m
+
+abbrev pub learnt : Machine → ℕ → MirrorId → Option MdsFile → Option PacketValue → MachineStep
+learnt m n id file None = no_move m
+learnt m n id file (Some (Call from server xid uid call)) = no_move m
+learnt m n id file (Some (Reply server to xid reply)) = learns_from m n id file server to reply
+
+-- an entry of a holder, and nothing else
+abbrev pub noted : Machine → (FileId → ℕ → Entry) → Option Holding → MachineStep
+noted m note None = no_move m
+noted m note (Some h) = record { machine = m; entries = note h.file h.uid ∷ [] }
+
+abbrev pub started_again : Machine → ℕ → List Piece → Option ServerState → MachineStep
+started_again m n pieces None = no_move m
+started_again m n pieces (Some s) = record { machine = with_server m n s m.packets; entries = entry.Restarted n pieces ∷ [] }
+
+abbrev pub restarts_at : Machine → ℕ → List Piece → Option ServerState → MachineStep
+restarts_at m n pieces None = no_move m
+restarts_at m n pieces (Some s) = started_again m n pieces (restart_of s pieces)
+
+-- ---- a move, and a run
+
+abbrev pub moved : Machine → Move → MachineStep
+moved m (Deliver place) = delivered m (slice_get m.packets place)
+moved m (Creates at_servers) = created m at_servers
+moved m (Happens n input) = if comes_by_itself input then file_takes m n input (numbered_at m.files n) else no_move m
+moved m (CallsOut n xid) = call_out_from m n xid (numbered_at m.files n)
+moved m (SendsAgain place) = sent_again m (slice_get m.packets place)
+moved m (GivesUpWaiting n xid) = file_takes m n (TimesOut xid) (numbered_at m.files n)
+moved m (Uses node server xid uid call) = used m node server xid uid call
+moved m (Learns n place id) = learnt m n id (numbered_at m.files n) (slice_get m.packets place)
+moved m (Takes holding at bytes) = noted m (λ file uid. entry.Sent file (a_uid uid) at bytes) (slice_get m.holdings holding)
+moved m (Strays holding at bytes) = noted m (λ file uid. entry.Rogue file (a_uid uid) at bytes) (slice_get m.holdings holding)
+moved m (Tells holding at bytes) = noted m (λ file uid. entry.Told file (a_uid uid) at bytes) (slice_get m.holdings holding)
+moved m (Restarts n pieces) = restarts_at m n pieces (numbered_at m.servers n)
+
+abbrev pub machine_after : Machine → List Move → Machine
+machine_after m [] = m
+machine_after m (move ∷ moves) = machine_after (moved m move).machine moves
+
+-- the journal of a run
+abbrev pub journal_of : Machine → List Move → List Entry
+journal_of m [] = []
+journal_of m (move ∷ moves) = (moved m move).entries ++ journal_of (moved m move).machine moves
