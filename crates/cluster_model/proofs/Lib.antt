@@ -8,3 +8,4 @@ pub mod ServerRestarts
 pub mod Permitted
 pub mod Runs
 mod MirrorSteps
+mod GuardLemmas

@@ -19,3 +19,4 @@ pub mod FilePhases
 pub mod Machine
 pub mod FenceLaw
 pub mod Agreement
+pub mod GuardLaws

@@ -97,9 +97,6 @@ pub record PhaseStep : Type 0 where
   pub file : LayoutState
   pub entries : List Entry
 
-abbrev pub unchanged : LayoutState → PhaseStep
-unchanged s = record { file = s; entries = [] }
-
 -- the phase Free is entered with its entry
 abbrev pub freed : FileId → LayoutState → PhaseStep
 freed file s = record { file = with_phase s Free; entries = entry.Free file (ids_of s.live) ∷ [] }
@@ -109,52 +106,66 @@ abbrev pub begun : Cred → ℕ → LayoutState
 begun first wanted = record { wanted = wanted; cred = first; live = []; phase = Making }
 
 -- Making: each CREATE was answered or given up
+abbrev pub free_with : LayoutState → List Mirror → LayoutState
+free_with s live = with_phase (with_live s live) Free
+
 abbrev pub made : FileId → LayoutState → List Mirror → PhaseStep
-made file s live = freed file (with_live s live)
+made file s live = record { file = free_with s live; entries = entry.Free file (ids_of live) ∷ [] }
 
 -- Free: a layout for writing is granted to a client, or the file to the metadata server's own write
+abbrev pub held_by : LayoutState → NodeId → LayoutState
+held_by s holder = with_phase s (Held holder false)
+
 abbrev pub granted : FileId → LayoutState → NodeId → PhaseStep
-granted file s holder = record { file = with_phase s (Held holder false); entries = entry.Granted file s.cred holder ∷ [] }
+granted file s holder = record { file = held_by s holder; entries = entry.Granted file s.cred holder ∷ [] }
 
 -- Held by a client: its layout is recalled
 abbrev pub recalled : LayoutState → NodeId → LayoutState
 recalled s holder = with_phase s (Held holder true)
 
--- Held: the period ends with these mirrors left, and the fence to a fresh uid begins
-abbrev pub ended : FileId → LayoutState → List Mirror → EndCause → FenceEnd → Cred → PhaseStep
-ended file s live cause end next = record { file = with_phase (with_live s live) (Fencing next end); entries = entry.Ended file s.cred cause ∷ [] }
+-- Held: the period ends with these mirrors left, and their fence to a fresh uid begins. With none left all stay, and may differ.
+abbrev pub fencing : LayoutState → List Mirror → FenceEnd → Cred → LayoutState
+fencing s live end next = with_phase (with_live s live) (Fencing next end)
 
--- entries before those of a row
-abbrev pub behind : List Entry → PhaseStep → PhaseStep
-behind entries step = record { file = step.file; entries = entries ++ step.entries }
+abbrev pub left_with : LayoutState → Cred → List Mirror → LayoutState
+left_with s next [] = fencing s s.live Dirty next
+left_with s next (m ∷ live) = fencing s (m ∷ live) Clean next
 
--- the cause of the end, by the mirrors that are left: none where all were reported or failed
+-- the cause of the end, and its entries behind those of the mirrors that leave
 abbrev pub end_cause : EndCause → List Mirror → EndCause
 end_cause cause [] = AllReported
 end_cause cause (m ∷ live) = cause
 
--- Held by a client: LAYOUTRETURN of this grant. Where it reports every mirror, all stay.
-abbrev pub returned_by : FileId → LayoutState → List Entry → Cred → List Mirror → PhaseStep
-returned_by file s left next [] = ended file s s.live AllReported Dirty next
-returned_by file s left next (m ∷ live) = behind left (ended file s (m ∷ live) Returned Clean next)
+abbrev pub end_entries : FileId → Cred → List Entry → EndCause → List Mirror → List Entry
+end_entries file cred left cause [] = entry.Ended file cred AllReported ∷ []
+end_entries file cred left cause (m ∷ live) = left ++ entry.Ended file cred cause ∷ []
+
+-- Held by a client: LAYOUTRETURN of this grant, which reports the mirrors at some places
+abbrev pub after_return : LayoutState → List Bool → Cred → LayoutState
+after_return s places next = left_with s next (unreported places s.live)
 
 abbrev pub reported_cause : Bool → Option LeftCause
 reported_cause gone = if gone then Some WasReported else None
 
 abbrev pub returned : FileId → LayoutState → List Bool → Cred → PhaseStep
-returned file s places next = returned_by file s (left_entries file (map reported_cause places) s.live) next (unreported places s.live)
+returned file s places next = record {
+  file = after_return s places next;
+  entries = end_entries file s.cred (left_entries file (map reported_cause places) s.live) Returned (unreported places s.live);
+}
 
 -- Held by a client: the recall expired, the lease is over, the client knows of no such layout, is gone, or returned all that it had
+abbrev pub after_revocation : LayoutState → Cred → LayoutState
+after_revocation s next = fencing s s.live Dirty next
+
 abbrev pub revoked : FileId → LayoutState → EndCause → Cred → PhaseStep
-revoked file s cause next = ended file s s.live cause Dirty next
+revoked file s cause next = record { file = after_revocation s next; entries = entry.Ended file s.cred cause ∷ [] }
 
--- Held by the metadata server: its write is committed or has failed at each mirror. Where it failed at all of them, all stay.
-abbrev pub own_done_by : FileId → LayoutState → List Entry → Entry → Cred → List Mirror → PhaseStep
-own_done_by file s left told next [] = ended file s s.live AllReported Dirty next
-own_done_by file s left told next (m ∷ live) = behind (left ++ told ∷ []) (ended file s (m ∷ live) Own Clean next)
-
+-- Held by the metadata server: its write is committed or has failed at each mirror
 abbrev pub own_done : FileId → LayoutState → List (Option LeftCause) → Entry → Cred → PhaseStep
-own_done file s causes told next = own_done_by file s (left_entries file causes s.live) told next (unreported (map is_some causes) s.live)
+own_done file s causes told next = record {
+  file = after_return s (map is_some causes) next;
+  entries = end_entries file s.cred (left_entries file causes s.live ++ told ∷ []) Own (unreported (map is_some causes) s.live);
+}
 
 -- Fencing, Settling, Copying: a mirror leaves that is not the last; where it was the source of a copy, the next one is
 abbrev pub is_source : MirrorId → List Mirror → Bool
@@ -169,11 +180,11 @@ phase_without (Fencing next end) source = Fencing next end
 phase_without (Settling copies) source = Settling copies
 phase_without (Copying copier copies) source = if source then Settling copies else Copying copier copies
 
+abbrev pub after_loss : LayoutState → MirrorId → LayoutState
+after_loss s id = with_phase (with_live s (but_for id s.live)) (phase_without s.phase (is_source id s.live))
+
 abbrev pub mirror_left : FileId → LayoutState → MirrorId → LeftCause → PhaseStep
-mirror_left file s id cause = record {
-  file = with_phase (with_live s (but_for id s.live)) (phase_without s.phase (is_source id s.live));
-  entries = entry.Left file id cause ∷ [];
-}
+mirror_left file s id cause = record { file = after_loss s id; entries = entry.Left file id cause ∷ [] }
 
 -- Fencing: each mirror acknowledged or left. Behind a dirty end the first live mirror is to be committed.
 abbrev pub phase_fenced : FenceEnd → LayoutPhase
@@ -181,28 +192,32 @@ phase_fenced Clean = Free
 phase_fenced Dirty = Settling Replacing
 phase_fenced Copied = Free
 
+abbrev pub fenced_to : LayoutState → LayoutPhase → LayoutState
+fenced_to s Making = s
+fenced_to s Free = s
+fenced_to s (Held holder recalled) = s
+fenced_to s (Fencing next end) = record { wanted = s.wanted; cred = next; live = s.live; phase = phase_fenced end }
+fenced_to s (Settling copies) = s
+fenced_to s (Copying copier copies) = s
+
+abbrev pub after_fence : LayoutState → LayoutState
+after_fence s = fenced_to s s.phase
+
 abbrev pub free_entries : FileId → FenceEnd → List Mirror → List Entry
 free_entries file Clean live = entry.Free file (ids_of live) ∷ []
 free_entries file Dirty live = []
 free_entries file Copied live = entry.Free file (ids_of live) ∷ []
 
-abbrev pub fenced : FileId → LayoutState → Cred → FenceEnd → PhaseStep
-fenced file s next end = record {
-  file = record { wanted = s.wanted; cred = next; live = s.live; phase = phase_fenced end };
-  entries = entry.Fenced file s.cred next (ids_of s.live) ∷ free_entries file end s.live;
-}
+abbrev pub fence_entries : FileId → LayoutState → LayoutPhase → List Entry
+fence_entries file s Making = []
+fence_entries file s Free = []
+fence_entries file s (Held holder recalled) = []
+fence_entries file s (Fencing next end) = entry.Fenced file s.cred next (ids_of s.live) ∷ free_entries file end s.live
+fence_entries file s (Settling copies) = []
+fence_entries file s (Copying copier copies) = []
 
-abbrev pub fenced_by : FileId → LayoutState → LayoutPhase → PhaseStep
-fenced_by file s Making = unchanged s
-fenced_by file s Free = unchanged s
-fenced_by file s (Held holder recalled) = unchanged s
-fenced_by file s (Fencing next end) = fenced file s next end
-fenced_by file s (Settling copies) = unchanged s
-fenced_by file s (Copying copier copies) = unchanged s
-
--- the fence of a file is done
 abbrev pub fence_done : FileId → LayoutState → PhaseStep
-fence_done file s = fenced_by file s s.phase
+fence_done file s = record { file = after_fence s; entries = fence_entries file s s.phase }
 
 -- Settling: the source is committed. Where there is something to copy, a uid is drawn for it.
 abbrev pub has_targets : CopyKind → ℕ → ℕ → Bool

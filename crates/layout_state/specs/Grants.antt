@@ -2,7 +2,6 @@
 use Rattle.std.specs.Prelude.{◌≡◌, ℕ, Bool, true, false, ◌==◌, List, Option, Some, None, Result, Ok, Err, nat_lt, if◌then◌else◌}
 use Rattle.cluster_model.specs.declared.ids.NodeId.{NodeId}
 use Rattle.cluster_model.specs.declared.ids.NodeId.TheVariants.{Mds, Server, Client}
-use Rattle.cluster_model.specs.declared.ids.FileId.{FileId}
 use Rattle.cluster_model.specs.declared.ids.Cred.{Cred}
 use Rattle.cluster_model.specs.declared.ids.Mirror.{Mirror}
 use Rattle.cluster_model.specs.declared.phase.Phase.TheVariants as name
@@ -10,7 +9,7 @@ use Rattle.cluster_model.specs.declared.layout_state.LayoutState.{LayoutState}
 use Rattle.cluster_model.specs.declared.layout_state.LayoutPhase.{LayoutPhase}
 use Rattle.cluster_model.specs.declared.layout_state.LayoutPhase.TheVariants.{Making, Free, Held, Fencing, Settling, Copying}
 use Rattle.cluster_model.specs.Nodes.{is_node}
-use Rattle.cluster_model.specs.Phases.{phase_of, granted, recalled}
+use Rattle.cluster_model.specs.Phases.{phase_of, held_by, recalled}
 use Rattle.layout_state.specs.declared.grant.Grant.{Grant}
 use Rattle.layout_state.specs.declared.grant.GrantFault.{GrantFault}
 use Rattle.layout_state.specs.declared.grant.GrantFault.TheVariants.{Later, Recalling, Spent}
@@ -45,11 +44,11 @@ is_held (Copying copier copies) = false
 abbrev pub grant_of : LayoutState → Grant
 grant_of s = record { cred = s.cred; mirrors = s.live; again = is_held s.phase }
 
-abbrev pub after_grant : FileId → LayoutState → NodeId → LayoutState
-after_grant file s node = if is_held s.phase then s else (granted file s node).file
+abbrev pub after_grant : LayoutState → NodeId → LayoutState
+after_grant s node = if is_held s.phase then s else held_by s node
 
 abbrev pub Grants : LayoutState → NodeId → ℕ → Result Grant GrantFault → LayoutState → Type 0
-Grants old node uids_left (Ok grant) new = (grant_fault old node uids_left ≡ None) × (grant ≡ grant_of old) × ((file : FileId) → new ≡ after_grant file old node)
+Grants old node uids_left (Ok grant) new = (grant_fault old node uids_left ≡ None) × (grant ≡ grant_of old) × (new ≡ after_grant old node)
 Grants old node uids_left (Err fault) new = (grant_fault old node uids_left ≡ Some fault) × (new ≡ old)
 
 -- ---- a recall

@@ -1,9 +1,8 @@
 -- How a period ends, and how mirrors leave behind it (RFC 8881, section 18.44; RFC 8435, sections 2.2 and 9).
-use Rattle.std.specs.Prelude.{◌≡◌, Bool, true, false, ◌==◌, ◌&&◌, List, [], ◌∷◌, Option, Some, None, Result, Ok, Err, if◌then◌else◌}
+use Rattle.std.specs.Prelude.{◌≡◌, Bool, true, false, ◌==◌, ◌&&◌, List, Option, Some, None, Result, Ok, Err, if◌then◌else◌}
 use Rattle.std.specs.List.{list_any}
 use Rattle.cluster_model.specs.declared.ids.NodeId.{NodeId}
 use Rattle.cluster_model.specs.declared.ids.NodeId.TheVariants.{Mds, Server, Client}
-use Rattle.cluster_model.specs.declared.ids.FileId.{FileId}
 use Rattle.cluster_model.specs.declared.ids.Cred.{Cred}
 use Rattle.cluster_model.specs.declared.ids.Mirror.{Mirror}
 use Rattle.cluster_model.specs.declared.ids.MirrorId.{MirrorId}
@@ -12,10 +11,9 @@ use Rattle.cluster_model.specs.declared.phase.EndCause.TheVariants as cause
 use Rattle.cluster_model.specs.declared.layout_state.LayoutState.{LayoutState}
 use Rattle.cluster_model.specs.declared.layout_state.LayoutPhase.{LayoutPhase}
 use Rattle.cluster_model.specs.declared.layout_state.LayoutPhase.TheVariants.{Making, Free, Held, Fencing, Settling, Copying}
-use Rattle.cluster_model.specs.declared.layout_state.FenceEnd.TheVariants.{Clean, Dirty}
 use Rattle.cluster_model.specs.Nodes.{is_node}
 use Rattle.cluster_model.specs.Journal.{is_mirror}
-use Rattle.cluster_model.specs.Phases.{unreported, end_cause, returned, with_phase, with_live}
+use Rattle.cluster_model.specs.Phases.{unreported, end_cause, after_return}
 use Rattle.layout_state.specs.declared.grant.ReturnFault.{ReturnFault}
 use Rattle.layout_state.specs.declared.grant.ReturnFault.TheVariants.{Unknown, Other}
 
@@ -32,7 +30,7 @@ abbrev pub return_fault : LayoutState → NodeId → Cred → Option ReturnFault
 return_fault s node claimed = return_fault_by s.phase s.cred node claimed
 
 abbrev pub Returns : LayoutState → NodeId → Cred → List Bool → Cred → Result EndCause ReturnFault → LayoutState → Type 0
-Returns old node claimed places next (Ok end) new = (return_fault old node claimed ≡ None) × (end ≡ end_cause cause.Returned (unreported places old.live)) × ((file : FileId) → new ≡ (returned file old places next).file)
+Returns old node claimed places next (Ok end) new = (return_fault old node claimed ≡ None) × (end ≡ end_cause cause.Returned (unreported places old.live)) × (new ≡ after_return old places next)
 Returns old node claimed places next (Err fault) new = (return_fault old node claimed ≡ Some fault) × (new ≡ old)
 
 -- ---- what a call is for
@@ -64,8 +62,3 @@ is_losing (Copying copier copies) = true
 
 abbrev pub is_live : MirrorId → List Mirror → Bool
 is_live id live = list_any (λ m. is_mirror m.id id) live
-
--- the period ends with these mirrors left; with none left all stay, and may differ
-abbrev pub left_with : LayoutState → Cred → List Mirror → LayoutState
-left_with s next [] = with_phase s (Fencing next Dirty)
-left_with s next (m ∷ live) = with_phase (with_live s (m ∷ live)) (Fencing next Clean)

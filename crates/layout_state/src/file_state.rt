@@ -1,14 +1,11 @@
 //! One file's state.
 
-ghost use Rattle.std.specs.Prelude.{◌≡◌, ◌≤◌, ◌<◌, List, length, map, not, true, false, Option, is_some, IsSomeAnd, if◌then◌else◌};
-ghost use Rattle.cluster_model.specs.declared.ids.FileId.{FileId};
-ghost use Rattle.cluster_model.specs.declared.entry.Entry.{Entry};
-ghost use Rattle.cluster_model.specs.declared.phase.LeftCause.{LeftCause};
+ghost use Rattle.std.specs.Prelude.{◌≡◌, ◌≤◌, length, not, true, false, IsSomeAnd, if◌then◌else◌};
 ghost use Rattle.cluster_model.specs.declared.phase.EndCause.TheVariants as cause_of;
 ghost use Rattle.cluster_model.specs.Nodes.{is_mds};
-ghost use Rattle.cluster_model.specs.Phases.{begun, made, with_live, seen_at, phase_of, holder_of, unreported, end_cause, revoked, own_done, is_last, is_source, mirror_left, fence_done, is_clean};
+ghost use Rattle.cluster_model.specs.Phases.{begun, free_with, with_live, seen_at, phase_of, holder_of, unreported, end_cause, left_with, after_return, after_revocation, is_last, is_source, after_loss, after_fence, is_clean};
 ghost use Rattle.layout_state.specs.Grants.{Grants, Recalls, holder_to_recall, is_held};
-ghost use Rattle.layout_state.specs.Returns.{Returns, is_making, is_fencing, is_losing, is_live, left_with};
+ghost use Rattle.layout_state.specs.Returns.{Returns, is_making, is_fencing, is_losing, is_live};
 
 use crate::grant::{Grant, GrantFault, ReturnFault};
 use cluster_model::{
@@ -58,7 +55,7 @@ impl FileState {
         requires making { is_making self.old.phase ≡ true }
         requires some { 1 ≤ length live }
         requires wanted { length live ≤ self.old.wanted }
-        ensures { (file : FileId) → self.new ≡ (made file self.old live).file }
+        ensures { self.new ≡ free_with self.old live }
     {
         self.state.live = live;
         self.state.phase = LayoutPhase::Free;
@@ -198,7 +195,7 @@ impl FileState {
     pub fn revoke(&mut self, cause: EndCause, next: Cred)
         requires held { is_held self.old.phase ≡ true }
         requires dirty { is_clean cause ≡ false }
-        ensures { (file : FileId) → self.new ≡ (revoked file self.old cause next).file }
+        ensures { self.new ≡ after_revocation self.old next }
     {
         self.state.phase = LayoutPhase::Fencing {
             next,
@@ -211,7 +208,7 @@ impl FileState {
     pub fn own_done(&mut self, failed: Reported, next: Cred) -> EndCause
         requires { IsSomeAnd (holder_of self.old.phase) (λ h. is_mds h ≡ true) }
         ensures cause { result ≡ end_cause cause_of.Own (unreported failed.places self.old.live) }
-        ensures state { (file : FileId) (causes : List (Option LeftCause)) (told : Entry) → map is_some causes ≡ failed.places → self.new ≡ (own_done file self.old causes told next).file }
+        ensures state { self.new ≡ after_return self.old failed.places next }
     {
         self.end(&failed, EndCause::Own, next)
     }
@@ -222,7 +219,7 @@ impl FileState {
         requires losing { is_losing self.old.phase ≡ true }
         requires live { is_live id self.old.live ≡ true }
         ensures answer { result ≡ not (is_last self.old.live) }
-        ensures state { (file : FileId) → self.new ≡ (if result then (mirror_left file self.old id cause).file else self.old) }
+        ensures state { self.new ≡ (if result then after_loss self.old id else self.old) }
     {
         if self.state.live.len() < 2 {
             return false;
@@ -241,7 +238,7 @@ impl FileState {
     /// settled.
     pub fn fence_done(&mut self)
         requires { is_fencing self.old.phase ≡ true }
-        ensures { (file : FileId) → self.new ≡ (fence_done file self.old).file }
+        ensures { self.new ≡ after_fence self.old }
     {
         if let LayoutPhase::Fencing { next, end } = self.state.phase {
             self.state.cred = next;
