@@ -14,12 +14,13 @@ use Rattle.cluster_model.specs.Ticks.{IsBefore, IsUpTo, next_tick, rebooted}
 use Rattle.cluster_model.specs.File.{FileState, FileOp, Writes, Commits, Sets, Restarts, file_after, clock_after, new_file, restarted}
 use Rattle.cluster_model.specs.Content.{pieces_of}
 use Rattle.cluster_model.specs.Laws.{IsClocked, KeepsTimes}
-use Rattle.cluster_model.specs.Server.{ServerState, Caller, may_write, allows, mirror_of, Effect, NoEffect, OnFile, NewFile, with_file, on_file, server_after, op_entries, entries_of, applied_entries, committed_entries, server_restarted, restart_of, files_restarted, differs}
+use Rattle.cluster_model.specs.Server.{ServerState, Caller, may_write, allows, mirror_of, Effect, NoEffect, OnFile, NewFile, with_file, on_file, server_after, op_entries, entries_of, applied_entries, committed_entries, server_restarted, restart_of, max_boot}
 use Rattle.cluster_model.specs.ServerLaws.{MayDo, IsPermitted, AreClocked}
 use Rattle.cluster_model.specs.GuardLaws.{IsInOrder, WasAsked, Follows, IsByOwner, IsOwners}
 use Rattle.cluster_model.proofs.Moments.{keeps_times, up_to_up_to, up_to_before, up_to_same, before_up_to, next_before, passes}
 use Rattle.cluster_model.proofs.Elements.{slice_get-set_other, slice_get-set_same, slice_get-push, Pushed, Old, New, pushed}
 use Rattle.cluster_model.proofs.Servers.{clocked}
+use Rattle.cluster_model.proofs.ServerRestarts.{at_index, same_count, restarted_law, some_is}
 
 -- ---- moments
 
@@ -51,7 +52,7 @@ owner_is f clock (Restarts pieces) = refl
 
 -- A file stays shut out to a guard that was given: what leaves its owner leaves its stable ctime no lower, and what gives it away leaves a
 -- stable ctime above every tick that was given.
-shut_by : (f : FileState) (clock : Tick) (op : FileOp) (uid : ℕ) (guard : Tick) → IsClocked f clock → IsUpTo guard clock → (uid < f.owner → IsBefore guard f.stable_times.ctime) → uid < (file_after f clock op).owner → IsBefore guard (file_after f clock op).stable_times.ctime
+pub shut_by : (f : FileState) (clock : Tick) (op : FileOp) (uid : ℕ) (guard : Tick) → IsClocked f clock → IsUpTo guard clock → (uid < f.owner → IsBefore guard f.stable_times.ctime) → uid < (file_after f clock op).owner → IsBefore guard (file_after f clock op).stable_times.ctime
 shut_by f clock (Writes at true bytes) uid guard k given shut less = before_up guard f.stable_times.ctime _ (shut less) (keeps_times f clock (Writes at true bytes) k).rises
 shut_by f clock (Writes at false bytes) uid guard k given shut less = before_up guard f.stable_times.ctime _ (shut less) (keeps_times f clock (Writes at false bytes) k).rises
 shut_by f clock Commits uid guard k given shut less = before_up guard f.stable_times.ctime _ (shut less) (keeps_times f clock Commits k).rises
@@ -60,7 +61,7 @@ shut_by f clock (Restarts pieces) uid guard k given shut less = before_up guard 
 
 -- ---- a server
 
-clock_up : (clock : Tick) (op : FileOp) (f : FileState) → IsClocked f clock → IsUpTo clock (clock_after clock op)
+pub clock_up : (clock : Tick) (op : FileOp) (f : FileState) → IsClocked f clock → IsUpTo clock (clock_after clock op)
 clock_up clock op f k = (keeps_times f clock op k).ticks
 
 asked_here : (s : ServerState) (index : ℕ) (f : FileState) (op : FileOp) → slice_get s.files index ≡ Some f → IsInOrder s
@@ -81,13 +82,13 @@ asked_here s index f op there o fileid uid guard a =
             shut = shut_by f s.clock op uid guard k a.given (subst (λ (x : FileState). uid < x.owner → IsBefore guard x.stable_times.ctime) g_is a.shut);
           }
       | inr other ↦ record {
-          index = a.index;
-          place = a.place;
-          file = a.file;
-          there = slice_get-set_other s.files index a.index file other ∙ a.there;
-          given = up_to_up_to guard s.clock _ a.given up;
-          shut = a.shut;
-        }
+        index = a.index;
+        place = a.place;
+        file = a.file;
+        there = slice_get-set_other s.files index a.index file other ∙ a.there;
+        given = up_to_up_to guard s.clock _ a.given up;
+        shut = a.shut;
+      }
     ]
 
 owners_here : (s : ServerState) (index : ℕ) (f : FileState) (op : FileOp) → slice_get s.files index ≡ Some f → f.owner ≤ (file_after f s.clock op).owner
@@ -101,7 +102,7 @@ owners_here s index f op there up i g old =
       | inr other ↦ (g, slice_get-set_other s.files index i file other ∙ old, omega arith)
     ]
 
-root_up : (s : ServerState) (clock : Tick) → IsInOrder s → IsUpTo s.clock clock → IsUpTo s.root.ctime clock
+pub root_up : (s : ServerState) (clock : Tick) → IsInOrder s → IsUpTo s.clock clock → IsUpTo s.root.ctime clock
 root_up s clock o up = up_to_up_to s.root.ctime s.clock clock o.root up
 
 file_follows : (s : ServerState) (caller : Caller) (index : ℕ) (op : FileOp) (f : FileState) → slice_get s.files index ≡ Some f → MayDo s.clock f caller op → IsInOrder s → f.owner ≤ (file_after f s.clock op).owner
@@ -190,3 +191,32 @@ pub effect_own : (s : ServerState) (caller : Caller) (effect : Effect) → IsPer
 effect_own s caller NoEffect may = tt
 effect_own s caller (OnFile index op) may = op_own s caller index may.0 op may.1 may.2
 effect_own s caller (NewFile name owner group mode) may = (tt, tt)
+
+-- ---- a restart
+
+restart_up : (s : ServerState) → IsUpTo s.clock (rebooted s.clock)
+restart_up s = inl (omega arith)
+
+restarted_follows : (s : ServerState) (pieces : List Piece) → IsInOrder s → Follows s (server_restarted s pieces)
+restarted_follows s pieces o = record {
+  number = refl;
+  clock = restart_up s;
+  in_order = record {
+    files = (restarted_law s pieces).clocked o.files;
+    root = root_up s (rebooted s.clock) o (restart_up s);
+    names = o.names ∙ sym (same_count 2 s.files pieces);
+  };
+  names = λ i name is. is;
+  owners = λ i f there. (restarted f (pieces_of (i + 2) pieces), at_index 2 s.files pieces i f there, omega arith);
+  asked = λ fileid uid guard a. record {
+    index = a.index;
+    place = a.place;
+    file = restarted a.file (pieces_of (a.index + 2) pieces);
+    there = at_index 2 s.files pieces a.index a.file a.there;
+    given = up_to_up_to guard s.clock (rebooted s.clock) a.given (restart_up s);
+    shut = a.shut;
+  };
+}
+
+pub restart_follows : (s : ServerState) (pieces : List Piece) (new : ServerState) → restart_of s pieces ≡ Some new → IsInOrder s → Follows s new
+restart_follows s pieces new e o = subst (λ (x : ServerState). Follows s x) (some_is (eqb s.clock.boot max_boot) (server_restarted s pieces) new e) (restarted_follows s pieces o)

@@ -9,3 +9,4 @@ pub mod Permitted
 pub mod Runs
 mod MirrorSteps
 mod GuardLemmas
+mod CallGuards

@@ -14,7 +14,7 @@ use Rattle.cluster_model.specs.ServerLaws.{AreClocked, TellsOld, IsRestarted}
 use Rattle.cluster_model.proofs.Moments.{keeps_times}
 
 -- each file after a restart
-at_index : (n : ℕ) (files : List FileState) (pieces : List Piece) (i : ℕ) (f : FileState) → slice_get files i ≡ Some f → slice_get (files_restarted n files pieces) i ≡ Some (restarted f (pieces_of (i + n) pieces))
+pub at_index : (n : ℕ) (files : List FileState) (pieces : List Piece) (i : ℕ) (f : FileState) → slice_get files i ≡ Some f → slice_get (files_restarted n files pieces) i ≡ Some (restarted f (pieces_of (i + n) pieces))
 at_index n [] pieces i f e = absurd (cc)
 at_index n (g ∷ files) pieces zero f e =
     let number : 0 + n ≡ n = omega arith in
@@ -29,7 +29,7 @@ from_index n [] pieces i g e = absurd (cc)
 from_index n (f ∷ files) pieces zero g e = (f, refl)
 from_index n (f ∷ files) pieces (suc i) g e = from_index (n + 1) files pieces i g e
 
-same_count : (n : ℕ) (files : List FileState) (pieces : List Piece) → length (files_restarted n files pieces) ≡ length files
+pub same_count : (n : ℕ) (files : List FileState) (pieces : List Piece) → length (files_restarted n files pieces) ≡ length files
 same_count n [] pieces = refl
 same_count n (f ∷ files) pieces = ap suc (same_count (n + 1) files pieces)
 
@@ -52,7 +52,7 @@ restarted_law s pieces = record {
   same_count = same_count 2 s.files pieces;
 }
 
-some_is : (b : Bool) (x y : ServerState) → cond b None (Some x) ≡ Some y → x ≡ y
+pub some_is : (b : Bool) (x y : ServerState) → cond b None (Some x) ≡ Some y → x ≡ y
 some_is true x y e = absurd (cc)
 some_is false x y e = same_Some x y e
 

@@ -35,5 +35,5 @@ pub use mirrors::Mirrors;
 pub use outbox::Outbox;
 pub use phase::{EndCause, LeftCause, Phase};
 pub use piece::{Piece, Pieces};
-pub use server_laws::{server_effects, server_restarts, server_runs};
+pub use server_laws::{server_effects, server_guards, server_restarts, server_runs};
 pub use tick::{Tick, Times};

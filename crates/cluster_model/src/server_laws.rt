@@ -5,7 +5,8 @@ ghost use Rattle.std.specs.Prelude.{◌≡◌, ℕ, List, Some};
 ghost use Rattle.cluster_model.specs.declared.piece.Piece.{Piece};
 ghost use Rattle.cluster_model.specs.File.{FileState};
 ghost use Rattle.cluster_model.specs.Server.{ServerState, new_server, Caller, Effect, server_after, entries_of, restart_of};
-ghost use Rattle.cluster_model.specs.DsCalls.{DsCallValue, ds_plan};
+ghost use Rattle.cluster_model.specs.DsCalls.{DsCallValue, ds_plan, ds_step};
+ghost use Rattle.cluster_model.specs.GuardLaws.{IsInOrder, Follows, CallLaws};
 ghost use Rattle.cluster_model.specs.ServerLaws.{IsPermitted, IsSafe, IsTimed, AreClocked, TellsOld, TellsNew, IsRestarted, Turn, HasRisingTicks, IsToldByJournal};
 
 /// What is done to a server by one who may: no stranger changes a file; it takes one tick or none, and no file
@@ -29,4 +30,14 @@ pub fn server_restarts()
 pub fn server_runs()
     ensures ticks { (s : ServerState) (turns : List Turn) → HasRisingTicks s turns }
     ensures told { (number boot : ℕ) (turns : List Turn) → IsToldByJournal (new_server number boot) turns }
+{}
+
+/// What carries the fence law at one server. A call leaves what was asked of it before shut out, so that no owner
+/// falls; an owner comes from a SETATTR of the file or from the CREATE that made it; what a reply shows is so behind
+/// the call; and an entry of a write is under the caller's user, which is 0 or the file's owner. A restart loses none
+/// of this, and a new server has it.
+pub fn server_guards()
+    ensures calls { (s : ServerState) (caller : Caller) (call : DsCallValue) → IsInOrder s → CallLaws s caller call (ds_step s caller call).server (ds_step s caller call).reply (ds_step s caller call).entries }
+    ensures restarts { (s : ServerState) (pieces : List Piece) (new : ServerState) → restart_of s pieces ≡ Some new → IsInOrder s → Follows s new }
+    ensures new { (number boot : ℕ) → IsInOrder (new_server number boot) }
 {}
