@@ -1,26 +1,24 @@
 -- What a call does to a server, seen from what was asked of it.
-use Rattle.std.proofs.Common.{◌≡◌, ◌≢◌, ℕ, zero, suc, ◌+◌, ◌-◌, ◌<◌, ◌≤◌, Bool, true, false, eqb, ltb, cond, List, [], ◌∷◌, ◌++◌, length, set, Option, Some, None, refl, sym, ap, subst, ◌∙◌, arith, ◌⊎◌, inl, inr, get_or}
-use Rattle.std.specs.Prelude.{◌&&◌, not, slice_get}
-use Rattle.std.specs.List.{position, position_from}
+use Rattle.std.proofs.Common.{◌≡◌, ℕ, suc, ◌+◌, ◌-◌, ◌<◌, ◌≤◌, Bool, true, false, eqb, ltb, cond, List, [], ◌∷◌, ◌++◌, length, set, Option, Some, None, refl, sym, ap, subst, ◌∙◌, arith, ◌⊎◌, inl, inr, get_or}
+use Rattle.std.specs.Prelude.{not, slice_get}
+use Rattle.std.specs.List.{position_from}
 use Rattle.std.specs.Str.{bytes_eq}
-use Rattle.std.proofs.lemmas.Bool.{cases_eq, and_parts, cases_lt, eqb-true, eqb-false, eq-eqb, ne_eqb, cond_both, ltb-false}
+use Rattle.std.proofs.lemmas.Bool.{cases_eq, and_parts, cases_lt, eqb-true, cond_both, ltb-false}
 use Rattle.std.proofs.lemmas.Option.{same_Some, slice_get_within, slice_get_past, slice_get_cases}
 use Rattle.std.proofs.lemmas.Iterator.Adapters.{position_from-zero}
 use Rattle.std.proofs.lemmas.Slice.Eq.{bytes_eq-Decides}
 use Rattle.cluster_model.specs.declared.tick.Tick.{Tick}
-use Rattle.cluster_model.specs.declared.change.Changes.{Changes}
-use Rattle.cluster_model.specs.declared.ds_call.Shown.{Shown}
 use Rattle.cluster_model.specs.Ticks.{IsBefore, IsUpTo, next_tick}
 use Rattle.cluster_model.specs.File.{FileState, FileOp, Writes, Commits, Sets, Restarts, file_after, clock_after, new_file}
-use Rattle.cluster_model.specs.Laws.{IsClocked, KeepsTimes}
 use Rattle.cluster_model.specs.Server.{ServerState, Caller, Named, Nothing, Root, File, file_at, named, Refusal, Acces, Inval, NotSync as OutOfSync, Fbig, NoSpc, Jukebox, tick_refusal, read_refusal, write_refusal, commit_refusal, set_refusal, differs, index_of, Effect, NoEffect, OnFile, NewFile, with_file, on_file, server_after, entries_of}
-use Rattle.cluster_model.specs.DsCalls.{DsCallValue, Create, SetAttr, Write, Commit, Read, DsReplyValue, Created, Set, Written, Committed, Bytes, NotSync, Failed, DsPlan, replies, refused, no_file, at_root, unless, owner_changes, ds_plan, ds_step, write_at, commit_at, set_at, read_at, bytes_reply, made_unless, created_by, created_before, create_in_root, mirror_name, shown_by, shown_root, shown_after}
-use Rattle.cluster_model.specs.ServerLaws.{MayDo, IsPermitted, AreClocked}
-use Rattle.cluster_model.specs.GuardLaws.{IsInOrder, WasAsked, MayCome, Follows, Came, Stayed, WasGiven, WasMade, target, IsShownAt, WasCreated, WasSet, IsSeen, Shows, CallLaws}
-use Rattle.cluster_model.proofs.Moments.{keeps_times, up_to_up_to, up_to_same}
+use Rattle.cluster_model.specs.DsCalls.{DsCallValue, Create, SetAttr, Write, Commit, Read, DsReplyValue, Created, Set, DsPlan, refused, unless, owner_changes, ds_plan, ds_step, write_at, commit_at, set_at, read_at, bytes_reply, made_unless, created_by, created_before, mirror_name, shown_by, shown_after}
+use Rattle.cluster_model.specs.ServerLaws.{Does}
+use Rattle.cluster_model.specs.GuardLaws.{IsInOrder, WasAsked, MayCome, Came, Stayed, WasGiven, WasMade, target, Shows, CallLaws}
+use Rattle.cluster_model.proofs.Moments.{keeps_times, up_to_same}
 use Rattle.cluster_model.proofs.Elements.{slice_get-set_other, slice_get-set_same, slice_get-push, Pushed, Old, New, pushed}
 use Rattle.cluster_model.proofs.Permitted.{permitted, stops}
-use Rattle.cluster_model.proofs.GuardLemmas.{before_up, not_before_itself, Rises, effect_follows, effect_own}
+use Rattle.cluster_model.proofs.GuardLemmas.{before_up, not_before_itself, Rises, effect_follows, effect_own, effect_of}
+use Rattle.cluster_model.proofs.Runs.{turn_tells, told_turn}
 
 -- ---- what a call may come to
 
@@ -276,4 +274,6 @@ call_laws s caller call o =
       came = facts.came;
       shows = facts.shows;
       owners = effect_own s caller plan.effect may;
+      of_server = effect_of s caller.uid plan.effect;
+      told = λ journal t. told_turn s (server_after s plan.effect) journal (entries_of s caller.uid plan.effect) t (turn_tells s (Does caller plan.effect) may);
     }

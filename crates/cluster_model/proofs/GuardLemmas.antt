@@ -1,26 +1,27 @@
 -- What is done to a server keeps what was asked of it shut out.
-use Rattle.std.proofs.Common.{◌≡◌, ◌≢◌, ℕ, ◌+◌, ◌-◌, ◌<◌, ◌≤◌, Bool, true, false, eqb, ltb, cond, List, [], ◌∷◌, ◌++◌, length, set, Option, Some, None, refl, sym, ap, subst, ◌∙◌, arith, ◌⊎◌, inl, inr, unwrap_or}
-use Rattle.std.specs.Prelude.{◌&&◌, not, slice_get}
+use Rattle.std.proofs.Common.{◌≡◌, ◌≢◌, ℕ, ◌+◌, ◌<◌, ◌≤◌, Bool, true, false, eqb, cond, List, [], ◌∷◌, set, Option, Some, None, refl, sym, ap, subst, ◌∙◌, arith, ◌⊎◌, inl, inr, unwrap_or}
+use Rattle.std.specs.Prelude.{◌&&◌, slice_get}
 use Rattle.std.specs.List.{AllByRecursion}
-use Rattle.std.proofs.lemmas.Bool.{cases_eq, or_cases, and_parts, eqb-true, eqb-false, eq-eqb, ne_eqb, cond_both}
+use Rattle.std.proofs.lemmas.Bool.{cases_eq, or_cases, and_parts, eqb-true, eqb-false}
 use Rattle.std.proofs.lemmas.List.{length-set, length-append}
-use Rattle.std.proofs.lemmas.Option.{same_Some, slice_get_within, slice_get_past}
+use Rattle.std.proofs.lemmas.Option.{same_Some}
 use Rattle.cluster_model.specs.declared.tick.Tick.{Tick}
-use Rattle.cluster_model.specs.declared.change.Changes.{Changes}
 use Rattle.cluster_model.specs.declared.piece.Piece.{Piece}
-use Rattle.cluster_model.specs.declared.entry.Entry.{Entry}
-use Rattle.cluster_model.specs.declared.ds_call.Shown.{Shown}
 use Rattle.cluster_model.specs.Ticks.{IsBefore, IsUpTo, next_tick, rebooted}
 use Rattle.cluster_model.specs.File.{FileState, FileOp, Writes, Commits, Sets, Restarts, file_after, clock_after, new_file, restarted}
 use Rattle.cluster_model.specs.Content.{pieces_of}
-use Rattle.cluster_model.specs.Laws.{IsClocked, KeepsTimes}
-use Rattle.cluster_model.specs.Server.{ServerState, Caller, may_write, allows, mirror_of, Effect, NoEffect, OnFile, NewFile, with_file, on_file, server_after, op_entries, entries_of, applied_entries, committed_entries, server_restarted, restart_of, max_boot}
+use Rattle.cluster_model.specs.Laws.{IsClocked}
+use Rattle.cluster_model.specs.Server.{ServerState, Caller, may_write, allows, mirror_of, Effect, NoEffect, OnFile, NewFile, with_file, on_file, server_after, op_entries, entries_of, committed_entries, server_restarted, restart_of, max_boot}
 use Rattle.cluster_model.specs.ServerLaws.{MayDo, IsPermitted, AreClocked}
-use Rattle.cluster_model.specs.GuardLaws.{IsInOrder, WasAsked, Follows, IsByOwner, IsOwners}
-use Rattle.cluster_model.proofs.Moments.{keeps_times, up_to_up_to, up_to_before, up_to_same, before_up_to, next_before, passes}
-use Rattle.cluster_model.proofs.Elements.{slice_get-set_other, slice_get-set_same, slice_get-push, Pushed, Old, New, pushed}
+use Rattle.cluster_model.specs.declared.entry.Entry.TheVariants.{Restarted}
+use Rattle.cluster_model.specs.declared.ids.MirrorId.{MirrorId}
+use Rattle.cluster_model.specs.ServerLaws.{StartsAgain}
+use Rattle.cluster_model.specs.GuardLaws.{IsInOrder, WasAsked, Follows, IsByOwner, IsOfServer, RestartLaws}
+use Rattle.cluster_model.proofs.Moments.{keeps_times, up_to_up_to, up_to_same, before_up_to, next_before, passes}
+use Rattle.cluster_model.proofs.Elements.{slice_get-set_other, slice_get-set_same, slice_get-push}
 use Rattle.cluster_model.proofs.Servers.{clocked}
-use Rattle.cluster_model.proofs.ServerRestarts.{at_index, same_count, restarted_law, some_is}
+use Rattle.cluster_model.proofs.ServerRestarts.{at_index, from_index, same_count, restarted_law, some_is}
+use Rattle.cluster_model.proofs.Runs.{turn_tells, told_turn}
 
 -- ---- moments
 
@@ -218,5 +219,44 @@ restarted_follows s pieces o = record {
   };
 }
 
-pub restart_follows : (s : ServerState) (pieces : List Piece) (new : ServerState) → restart_of s pieces ≡ Some new → IsInOrder s → Follows s new
-restart_follows s pieces new e o = subst (λ (x : ServerState). Follows s x) (some_is (eqb s.clock.boot max_boot) (server_restarted s pieces) new e) (restarted_follows s pieces o)
+restarted_laws : (s : ServerState) (pieces : List Piece) → s.clock.boot ≢ max_boot → IsInOrder s → RestartLaws s pieces (server_restarted s pieces)
+restarted_laws s pieces left o = record {
+  follows = restarted_follows s pieces o;
+  owners = λ i g there.
+      let old = from_index 2 s.files pieces i g there in
+      let same = same_Some _ g (sym (at_index 2 s.files pieces i old.0 old.1) ∙ there) in
+      (old.0, old.1, ap (λ (x : FileState). x.owner) (sym same));
+  names = refl;
+  told = λ journal t. told_turn s (server_restarted s pieces) journal (Restarted s.number pieces ∷ []) t (turn_tells s (StartsAgain pieces) left);
+}
+
+boot_left : (b : Bool) (x y : ServerState) → cond b None (Some x) ≡ Some y → b ≡ false
+boot_left true x y e = absurd cc
+boot_left false x y e = refl
+
+pub restart_laws : (s : ServerState) (pieces : List Piece) (new : ServerState) → restart_of s pieces ≡ Some new → IsInOrder s → RestartLaws s pieces new
+restart_laws s pieces new e o =
+    subst (λ (x : ServerState). RestartLaws s pieces x) (some_is (eqb s.clock.boot max_boot) (server_restarted s pieces) new e)
+    (restarted_laws s pieces (eqb-false _ _ (boot_left (eqb s.clock.boot max_boot) (server_restarted s pieces) new e)) o)
+
+-- ---- whose entries they are
+
+committed_of : (m : MirrorId) (synced : Bool) → AllByRecursion (IsOfServer m.server) (committed_entries m synced)
+committed_of m true = (refl, tt)
+committed_of m false = tt
+
+op_of : (m : MirrorId) (uid : ℕ) (op : FileOp) → AllByRecursion (IsOfServer m.server) (op_entries m uid op)
+op_of m uid (Writes at synced []) = committed_of m synced
+op_of m uid (Writes at synced (b ∷ bytes)) = (refl, committed_of m synced)
+op_of m uid Commits = (refl, tt)
+op_of m uid (Sets c) = named c.owner
+  where
+    named : (owner : Option ℕ) → AllByRecursion (IsOfServer m.server) (op_entries m uid (Sets (record c { owner = owner })))
+    named None = tt
+    named (Some owner) = (refl, tt)
+op_of m uid (Restarts pieces) = tt
+
+pub effect_of : (s : ServerState) (uid : ℕ) (effect : Effect) → AllByRecursion (IsOfServer s.number) (entries_of s uid effect)
+effect_of s uid NoEffect = tt
+effect_of s uid (OnFile index op) = op_of (mirror_of s index) uid op
+effect_of s uid (NewFile name owner group mode) = (refl, tt)

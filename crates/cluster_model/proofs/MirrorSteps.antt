@@ -1,9 +1,8 @@
 -- Going over a list of mirrors from its first to its last, and making another list of it.
-use Rattle.std.proofs.Common.{◌≡◌, ℕ, ◌+◌, ◌<◌, ◌≤◌, Bool, true, false, List, [], ◌∷◌, ◌++◌, length, drop, cond, Option, Some, None, refl, sym, ap, ◌∙◌, arith, append_assoc, append-nil, length-append, get_or, drop-cons, add-one, inl, inr}
-use Rattle.std.specs.Prelude.{◌==◌, ◌&&◌, ◌||◌, not, nat_le, nat_lt, slice_get}
+use Rattle.std.proofs.Common.{◌≡◌, ℕ, ◌+◌, ◌<◌, ◌≤◌, Bool, true, false, List, [], ◌∷◌, ◌++◌, length, drop, cond, Some, refl, sym, ap, ◌∙◌, arith, append_assoc, length-append, get_or, drop-cons, add-one}
+use Rattle.std.specs.Prelude.{◌==◌, ◌&&◌, ◌||◌, not, slice_get}
 use Rattle.std.specs.List.{list_any}
 use Rattle.std.proofs.lemmas.Bool.{and_parts}
-use Rattle.std.proofs.lemmas.Bool.Decides.{nat_tests}
 use Rattle.std.proofs.lemmas.List.Folds.{list_any-append}
 use Rattle.std.proofs.lemmas.Option.{slice_get_within, get_or_from_slice_get}
 use Rattle.cluster_model.specs.declared.ids.Mirror.{Mirror}
@@ -12,7 +11,7 @@ use Rattle.cluster_model.specs.declared.tick.Tick.{Tick}
 use Rattle.cluster_model.specs.Journal.{is_mirror}
 use Rattle.cluster_model.specs.Phases.{but_for, seen_if, seen_at, unreported}
 use Rattle.cluster_model.specs.Mirrors.{has_server, are_on_different_servers, are_mirrors, can_add}
-use Rattle.cluster_model.proofs.MirrorLists.{both, no_more, le_from_test, mirrors_push, mirrors_first}
+use Rattle.cluster_model.proofs.MirrorLists.{both, no_more, mirrors_push, mirrors_first}
 
 -- ---- one of them left out, or with another ctime
 

@@ -16,6 +16,7 @@ use Rattle.cluster_model.specs.File.{FileState, FileOp, Writes, Commits, Sets, R
 use Rattle.cluster_model.specs.Journal.{Copy, no_copy, copy_by, copy_after}
 use Rattle.cluster_model.specs.Server.{ServerState, Caller, new_server, mirror_of, Effect, NoEffect, OnFile, NewFile, server_after, entries_of, server_restarted}
 use Rattle.cluster_model.specs.ServerLaws.{MayDo, IsPermitted, copy_of, TellsOld, TellsNew, Turn, Does, StartsAgain, turn_after, turn_entries, IsAllowed, AreAllowed, run_after, run_entries, op_ticks, turn_ticks, run_ticks, HasRisingTicks, IsToldByJournal}
+use Rattle.cluster_model.specs.GuardLaws.{IsTold}
 use Rattle.cluster_model.proofs.Moments.{up_to_same, up_to_up_to, up_to_before, before_up_to, next_before, reboot_before}
 use Rattle.cluster_model.proofs.Servers.{timed, tells_old, tells_new, told_other, other_mirror}
 use Rattle.cluster_model.proofs.ServerRestarts.{restarted_law}
@@ -85,12 +86,12 @@ restart_blank m server pieces =
     (λ e. ap (λ (kept : List Pending). let c : Copy = record { content = record { stable = overlay_all [] kept; pending = [] }; owner = 0 } in c) (kept_none (pieces_of m.fileid pieces))) (λ e. refl)
 
 -- One turn tells the files that were there, and those that were not; it says nothing of others, and keeps the number.
-record TurnTells (s new : ServerState) (entries : List Entry) : Type 0 where
-  old : TellsOld s new entries
-  fresh : TellsNew s new entries
-  blank : (index : ℕ) → length new.files ≤ index → copy_by (mirror_of s index) no_copy entries ≡ no_copy
-  grows : length s.files ≤ length new.files
-  number : new.number ≡ s.number
+pub record TurnTells (s new : ServerState) (entries : List Entry) : Type 0 where
+  pub old : TellsOld s new entries
+  pub fresh : TellsNew s new entries
+  pub blank : (index : ℕ) → length new.files ≤ index → copy_by (mirror_of s index) no_copy entries ≡ no_copy
+  pub grows : length s.files ≤ length new.files
+  pub number : new.number ≡ s.number
 
 effect_blank : (s : ServerState) (caller : Caller) (effect : Effect) → IsPermitted s caller effect → (index : ℕ) → length (server_after s effect).files ≤ index → copy_by (mirror_of s index) no_copy (entries_of s caller.uid effect) ≡ no_copy
 effect_blank s caller NoEffect may index past = refl
@@ -108,7 +109,7 @@ effect_grows s caller NoEffect may = omega arith
 effect_grows s caller (OnFile at op) may = let size = length-set s.files at (file_after may.0 s.clock op) in rw may.1 (omega (arith, size))
 effect_grows s caller (NewFile name owner group mode) may = let size = length-append s.files (new_file owner group mode (next_tick s.clock) ∷ []) in omega (arith, size)
 
-turn_tells : (s : ServerState) (turn : Turn) → IsAllowed s turn → TurnTells s (turn_after s turn) (turn_entries s turn)
+pub turn_tells : (s : ServerState) (turn : Turn) → IsAllowed s turn → TurnTells s (turn_after s turn) (turn_entries s turn)
 turn_tells s (Does caller effect) may = record {
   old = tells_old s caller effect may;
   fresh = tells_new s caller effect may;
@@ -127,11 +128,6 @@ turn_tells s (StartsAgain pieces) may =
       number = refl;
     }
 
--- the files are what the entries so far say, which say nothing where there is no file
-record IsTold (s : ServerState) (front : List Entry) : Type 0 where
-  each : (index : ℕ) (f : FileState) → slice_get s.files index ≡ Some f → copy_of f ≡ copy_by (mirror_of s index) no_copy front
-  none : (index : ℕ) → length s.files ≤ index → copy_by (mirror_of s index) no_copy front ≡ no_copy
-
 told_each : (s new : ServerState) (front entries : List Entry) → IsTold s front → TurnTells s new entries → (index : ℕ) (g : FileState) → slice_get new.files index ≡ Some g → copy_of g ≡ copy_by (mirror_of s index) no_copy (front ++ entries)
 told_each s new front entries k t index g there =
     elim (slice_get_cases s.files index).1 [
@@ -144,7 +140,7 @@ told_each s new front entries k t index g there =
           t.fresh index g past.0 there ∙ sym (ap (λ (c : Copy). copy_by (mirror_of s index) c entries) (k.none index past.0)) ∙ sym (copy_by-append (mirror_of s index) no_copy front entries)
     ]
 
-told_turn : (s new : ServerState) (front entries : List Entry) → IsTold s front → TurnTells s new entries → IsTold new (front ++ entries)
+pub told_turn : (s new : ServerState) (front entries : List Entry) → IsTold s front → TurnTells s new entries → IsTold new (front ++ entries)
 told_turn s new front entries k t =
     let mirror : (index : ℕ) → mirror_of s index ≡ mirror_of new index = λ index. ap (λ (n : ℕ). let m : MirrorId = record { server = n; fileid = index + 2 } in m) (sym t.number) in
     record {

@@ -24,7 +24,7 @@ at_index n (g ∷ files) pieces (suc i) f e =
     at_index (n + 1) files pieces i f e ∙ ap (λ m. Some (restarted f (pieces_of m pieces))) next
 
 -- each is of a file before
-from_index : (n : ℕ) (files : List FileState) (pieces : List Piece) (i : ℕ) (g : FileState) → slice_get (files_restarted n files pieces) i ≡ Some g → (f : FileState) × (slice_get files i ≡ Some f)
+pub from_index : (n : ℕ) (files : List FileState) (pieces : List Piece) (i : ℕ) (g : FileState) → slice_get (files_restarted n files pieces) i ≡ Some g → (f : FileState) × (slice_get files i ≡ Some f)
 from_index n [] pieces i g e = absurd (cc)
 from_index n (f ∷ files) pieces zero g e = (f, refl)
 from_index n (f ∷ files) pieces (suc i) g e = from_index (n + 1) files pieces i g e

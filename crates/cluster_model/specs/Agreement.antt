@@ -1,6 +1,6 @@
 -- The agreement law: whenever a file is free all its live mirrors have the bytes of one flat file, which knows of no mirrors, users,
 -- packets or phases (RFC 8435, section 8).
-use Rattle.std.specs.Prelude.{◌≡◌, ℕ, ◌+◌, ◌-◌, ◌<◌, ◌≤◌, ◌⊎◌, Bool, true, false, ◌==◌, ◌||◌, List, [], ◌∷◌, ◌++◌, length, get_or, max, Option, Some, None, if◌then◌else◌, slice_get}
+use Rattle.std.specs.Prelude.{◌≡◌, ℕ, ◌+◌, ◌-◌, ◌<◌, ◌≤◌, ◌⊎◌, Bool, true, false, ◌==◌, List, [], ◌∷◌, ◌++◌, length, max, Option, Some, None, if◌then◌else◌, slice_get}
 use Rattle.std.specs.List.{flat_map, list_any, AllByRecursion}
 use Rattle.cluster_model.specs.declared.ids.FileId.{FileId}
 use Rattle.cluster_model.specs.declared.ids.MirrorId.{MirrorId}
@@ -8,7 +8,7 @@ use Rattle.cluster_model.specs.declared.phase.EndCause.{EndCause}
 use Rattle.cluster_model.specs.declared.entry.Entry.{Entry}
 use Rattle.cluster_model.specs.declared.entry.Entry.TheVariants.{Free, Granted, Sent, Rogue, Told, Ended}
 use Rattle.cluster_model.specs.Content.{Pending, Content, shown_of, overlay_all}
-use Rattle.cluster_model.specs.Journal.{Copy, content_of}
+use Rattle.cluster_model.specs.Journal.{content_of}
 use Rattle.cluster_model.specs.Laws.{AreDisjoint, byte_at}
 use Rattle.cluster_model.specs.Phases.{is_clean}
 use Rattle.cluster_model.specs.FenceLaw.{is_file, live_in}

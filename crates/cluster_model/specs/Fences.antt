@@ -1,8 +1,7 @@
 -- A fence: a SETATTR at each live mirror of a file, to a fresh uid, guarded by the ctime last seen there (RFC 8435, section 2.2;
 -- RFC 1813, section 3.3.2).
-use Rattle.std.specs.Prelude.{ℕ, ◌+◌, Bool, true, false, List, [], ◌∷◌, map, Option, Some, None, position, nat_lt, ◌==◌, ◌&&◌, if◌then◌else◌, slice_get, slice_set}
+use Rattle.std.specs.Prelude.{ℕ, ◌+◌, Bool, true, false, List, map, Option, Some, None, position, nat_lt, ◌==◌, if◌then◌else◌, slice_get, slice_set}
 use Rattle.std.specs.List.{list_all}
-use Rattle.cluster_model.specs.declared.tick.Tick.{Tick}
 use Rattle.cluster_model.specs.declared.ids.Mirror.{Mirror}
 use Rattle.cluster_model.specs.declared.ids.MirrorId.{MirrorId}
 use Rattle.cluster_model.specs.declared.phase.LeftCause.{LeftCause}

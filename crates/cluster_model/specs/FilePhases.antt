@@ -1,6 +1,6 @@
 -- The table of phases as one function: a file at the metadata server, an input and what may be drawn give the file after it and its
 -- entries (RFC 8435, section 2.2; RFC 8881, sections 12.5.5, 18.43 and 18.44).
-use Rattle.std.specs.Prelude.{ℕ, ◌+◌, ◌-◌, Bool, true, false, ◌==◌, ◌&&◌, List, [], ◌∷◌, ◌++◌, length, map, position, Option, Some, None, nat_lt, if◌then◌else◌, slice_get}
+use Rattle.std.specs.Prelude.{ℕ, ◌+◌, Bool, true, false, ◌==◌, ◌&&◌, List, [], ◌∷◌, length, map, position, Option, Some, None, nat_lt, if◌then◌else◌, slice_get}
 use Rattle.std.specs.List.{list_all, list_any}
 use Rattle.cluster_model.specs.declared.tick.Tick.{Tick}
 use Rattle.cluster_model.specs.declared.ids.NodeId.{NodeId}
@@ -13,16 +13,16 @@ use Rattle.cluster_model.specs.declared.phase.EndCause.{EndCause}
 use Rattle.cluster_model.specs.declared.phase.LeftCause.{LeftCause}
 use Rattle.cluster_model.specs.declared.entry.Entry.{Entry}
 use Rattle.cluster_model.specs.declared.entry.Entry.TheVariants as entry
-use Rattle.cluster_model.specs.declared.call_stage.CallStage.{CallStage}
-use Rattle.cluster_model.specs.declared.call_stage.CallStage.TheVariants.{Waits, Out, KeptOut, KeptBack, Done, GivenUp}
+use Rattle.cluster_model.specs.declared.call_stage.CallStage.TheVariants.{Waits, Out}
 use Rattle.cluster_model.specs.declared.layout_state.LayoutState.{LayoutState}
 use Rattle.cluster_model.specs.declared.layout_state.LayoutPhase.{LayoutPhase}
 use Rattle.cluster_model.specs.declared.layout_state.LayoutPhase.TheVariants.{Making, Free, Held, Fencing, Settling, Copying}
 use Rattle.cluster_model.specs.declared.layout_state.CopyKind.{CopyKind}
+use Rattle.cluster_model.specs.Mirrors.{are_on_different_servers}
 use Rattle.cluster_model.specs.DsCalls.{DsCallValue, Create, Commit, DsReplyValue}
-use Rattle.cluster_model.specs.Fences.{waits, is_out, is_over, stage_at_tick, FenceState, outstanding_at, FenceCall, next_call, after_tick}
-use Rattle.cluster_model.specs.Phases.{seen_at, with_live, is_clean, begun, granted, recalled, returned, revoked, own_done, resilvered}
-use Rattle.cluster_model.specs.MdsFiles.{Creation, Creations, Activity, Idle, Makes, Fences, Settles, Copies, MdsFile, Fresh, FileStep, nothing, stays, a_uid, goes_idle, goes_fencing, with_entries, fence_answered, fence_timed_out, in_stage, with_creation, creation_of, creation_answered, creation_timed_out, making_by, source_left, settling_answered, settling_timed_out, copied_by, swaps_of, target_failed, target_answered, target_timed_out, target_by}
+use Rattle.cluster_model.specs.Fences.{waits, is_out, is_over, stage_at_tick, FenceCall, next_call, after_tick}
+use Rattle.cluster_model.specs.Phases.{seen_at, with_live, with_targets, is_clean, begun, granted, recalled, returned, revoked, own_done, resilvered}
+use Rattle.cluster_model.specs.MdsFiles.{Creation, Creations, Activity, Idle, Makes, Fences, Settles, Copies, MdsFile, Fresh, FileStep, nothing, stays, a_uid, goes_fencing, with_entries, fence_answered, fence_timed_out, in_stage, with_creation, creation_of, creation_answered, creation_timed_out, making_by, source_left, settling_answered, settling_timed_out, copied_by, swaps_of, target_failed, target_answered, target_timed_out, target_by}
 
 pub data FileInput : Type 0 where
   -- a client asks for a layout for writing
@@ -166,9 +166,12 @@ copies_in f row phase (Fences fence) = nothing f
 copies_in f row phase (Settles stage) = nothing f
 copies_in f row phase (Copies all) = row (a_uid all.owner) all
 
--- each target was made or thrown away
+-- each target was made or thrown away; no two mirrors come to one server, as in every plan
+abbrev pub may_swap : LayoutState → Creations → Bool
+may_swap layout all = list_all (λ c. is_over c.stage) all.items && are_on_different_servers (with_targets (swaps_of all) layout.live)
+
 abbrev pub targets_hold : FileId → MdsFile → Fresh → Cred → Creations → FileStep
-targets_hold file f fresh copier all = if list_all (λ c. is_over c.stage) all.items then copied_by file f.layout copier (swaps_of all) fresh else nothing f
+targets_hold file f fresh copier all = if may_swap f.layout all then copied_by file f.layout copier (swaps_of all) fresh else nothing f
 
 -- ---- the table
 

@@ -1,19 +1,20 @@
 -- What carries the fence law at one data server: a SETATTR under an earlier user than a file's owner never succeeds again, so that the
 -- owner never falls (RFC 1813, section 3.3.2).
-use Rattle.std.specs.Prelude.{◌≡◌, ◌≢◌, ℕ, ◌+◌, ◌<◌, ◌≤◌, ◌⊎◌, List, [], ◌∷◌, length, Option, Some, None, slice_get}
+use Rattle.std.specs.Prelude.{◌≡◌, ℕ, ◌+◌, ◌<◌, ◌≤◌, ◌⊎◌, List, [], ◌∷◌, ◌++◌, length, Option, Some, None, slice_get}
 use Rattle.std.specs.List.{AllByRecursion}
 use Rattle.cluster_model.specs.declared.tick.Tick.{Tick}
 use Rattle.cluster_model.specs.declared.ids.Cred.{Cred}
 use Rattle.cluster_model.specs.declared.ids.MirrorId.{MirrorId}
 use Rattle.cluster_model.specs.declared.entry.Entry.{Entry}
-use Rattle.cluster_model.specs.declared.entry.Entry.TheVariants.{Applied}
+use Rattle.cluster_model.specs.declared.entry.Entry.TheVariants.{Applied, Committed as AllCommitted, Owner, Restarted}
+use Rattle.cluster_model.specs.declared.piece.Piece.{Piece}
+use Rattle.cluster_model.specs.Journal.{no_copy, content_of}
 use Rattle.cluster_model.specs.declared.ds_call.Shown.{Shown}
 use Rattle.cluster_model.specs.Ticks.{IsBefore, IsUpTo}
 use Rattle.cluster_model.specs.File.{FileState}
-use Rattle.cluster_model.specs.Laws.{IsClocked}
 use Rattle.cluster_model.specs.Server.{ServerState, Caller, mirror_of}
-use Rattle.cluster_model.specs.ServerLaws.{AreClocked}
-use Rattle.cluster_model.specs.DsCalls.{DsCallValue, Create, SetAttr, Write, Commit, Read, DsReplyValue, Created, Set, Written, Committed, Bytes, NotSync, Failed, shown_by, mirror_name}
+use Rattle.cluster_model.specs.ServerLaws.{AreClocked, copy_of}
+use Rattle.cluster_model.specs.DsCalls.{DsCallValue, Create, SetAttr, Write, Commit, Read, DsReplyValue, Created, Set, Written, Committed, Bytes, NotSync, Failed, mirror_name}
 
 -- no ctime is above the last tick, and each file has its name
 pub record IsInOrder (s : ServerState) : Type 0 where
@@ -118,9 +119,33 @@ abbrev pub IsByOwner : ServerState → Caller → Entry → Type 0
 IsByOwner s caller (Applied mirror cred at bytes) = IsOwners s caller mirror cred
 IsByOwner s caller _ = Unit {0}
 
--- all that holds of a call, and of a restart
+-- ---- what a journal says
+
+-- each file is what the journal says, which says nothing where there is no file
+pub record IsTold (s : ServerState) (journal : List Entry) : Type 0 where
+  pub each : (index : ℕ) (file : FileState) → slice_get s.files index ≡ Some file → copy_of file ≡ content_of journal (mirror_of s index)
+  pub none : (index : ℕ) → length s.files ≤ index → content_of journal (mirror_of s index) ≡ no_copy
+
+-- an entry of this data server's files
+abbrev pub IsOfServer : ℕ → Entry → Type 0
+IsOfServer n (Applied mirror cred at bytes) = mirror.server ≡ n
+IsOfServer n (AllCommitted mirror) = mirror.server ≡ n
+IsOfServer n (Owner mirror cred) = mirror.server ≡ n
+IsOfServer n (Restarted server pieces) = server ≡ n
+IsOfServer n _ = ⊥
+
+-- all that holds of a call
 pub record CallLaws (s : ServerState) (caller : Caller) (call : DsCallValue) (new : ServerState) (reply : DsReplyValue) (entries : List Entry) : Type 0 where
   pub follows : MayCome s call → Follows s new
   pub came : (index : ℕ) (file : FileState) → slice_get new.files index ≡ Some file → Came s call new index file
   pub shows : Shows new call reply
   pub owners : AllByRecursion (IsByOwner s caller) entries
+  pub of_server : AllByRecursion (IsOfServer s.number) entries
+  pub told : (journal : List Entry) → IsTold s journal → IsTold new (journal ++ entries)
+
+-- and of a restart
+pub record RestartLaws (s : ServerState) (pieces : List Piece) (new : ServerState) : Type 0 where
+  pub follows : Follows s new
+  pub owners : (index : ℕ) (file : FileState) → slice_get new.files index ≡ Some file → (before : FileState) × (slice_get s.files index ≡ Some before) × (file.owner ≡ before.owner)
+  pub names : new.names ≡ s.names
+  pub told : (journal : List Entry) → IsTold s journal → IsTold new (journal ++ Restarted s.number pieces ∷ [])

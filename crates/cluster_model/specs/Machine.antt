@@ -16,7 +16,7 @@ use Rattle.cluster_model.specs.Nodes.{is_node}
 use Rattle.cluster_model.specs.Server.{ServerState, Caller, restart_of}
 use Rattle.cluster_model.specs.DsCalls.{DsCallValue, Create, SetAttr, Write, Commit, Read, DsReplyValue, Created, Set, Written, Committed, Bytes, NotSync, Failed, DsStep, ds_step}
 use Rattle.cluster_model.specs.MdsFiles.{MdsFile, Fresh, FileStep, a_uid}
-use Rattle.cluster_model.specs.FilePhases.{FileInput, AsksLayout, OwnWrite, Recall, Returns, Revokes, OwnEnds, Resilver, Answers, TimesOut, Ticks, Sees, TargetsHold, TargetFails, SourceFails, new_mds_file, are_spent, phase, CallOut, call_out, is_outstanding}
+use Rattle.cluster_model.specs.FilePhases.{FileInput, AsksLayout, OwnWrite, Recall, Returns, Revokes, OwnEnds, Resilver, Answers, TimesOut, Ticks, Sees, TargetsHold, TargetFails, SourceFails, new_mds_file, end_of_uids, are_spent, phase, CallOut, call_out, is_outstanding}
 
 -- ---- packets, of a call or of a reply, with the number of the call
 
@@ -155,8 +155,15 @@ copier_of file uid s = if s.names == 0 then [] else drawn_by file uid s.uids
 abbrev pub file_id : ℕ → FileId
 file_id n = record { 0 = n }
 
+-- what is to be drawn is there: uids end at 4,294,967,293, and the numbers of names at 2^64 - 1
+abbrev pub can_draw : Machine → ℕ → ℕ → Bool
+can_draw m uids names = nat_lt (m.next_uid + uids) (end_of_uids + 1) && nat_lt (m.next_name + names) 18446744073709551616
+
 abbrev pub file_stepped : Machine → ℕ → FileStep → MachineStep
-file_stepped m n s = record { machine = with_file m n s (held_by s.entries ++ copier_of (file_id n) m.next_uid s); entries = s.entries }
+file_stepped m n s =
+    if can_draw m s.uids s.names
+    then record { machine = with_file m n s (held_by s.entries ++ copier_of (file_id n) m.next_uid s); entries = s.entries }
+    else no_move m
 
 abbrev pub file_takes : Machine → ℕ → FileInput → Option MdsFile → MachineStep
 file_takes m n input None = no_move m
@@ -219,7 +226,7 @@ are_servers count [] = true
 are_servers count (n ∷ servers) = nat_lt 0 n && nat_lt n (count + 1) && not (list_any (λ k. k == n) servers) && are_servers count servers
 
 abbrev pub may_create : Machine → List ℕ → Bool
-may_create m servers = nat_lt 0 (length servers) && nat_lt (length servers) 5 && are_servers (length m.servers) servers && not (are_spent (fresh_of m))
+may_create m servers = nat_lt 0 (length servers) && nat_lt (length servers) 5 && are_servers (length m.servers) servers && not (are_spent (fresh_of m)) && can_draw m 1 1
 
 abbrev pub created : Machine → List ℕ → MachineStep
 created m servers = if may_create m servers then record {

@@ -1,12 +1,12 @@
 //! What holds of a data server, whatever is done to it by those who may. Each law speaks of the definitions that
 //! the rule of NFSv3 cites.
 
-ghost use Rattle.std.specs.Prelude.{◌≡◌, ℕ, List, Some};
+ghost use Rattle.std.specs.Prelude.{◌≡◌, ℕ, List, [], Some};
 ghost use Rattle.cluster_model.specs.declared.piece.Piece.{Piece};
 ghost use Rattle.cluster_model.specs.File.{FileState};
 ghost use Rattle.cluster_model.specs.Server.{ServerState, new_server, Caller, Effect, server_after, entries_of, restart_of};
 ghost use Rattle.cluster_model.specs.DsCalls.{DsCallValue, ds_plan, ds_step};
-ghost use Rattle.cluster_model.specs.GuardLaws.{IsInOrder, Follows, CallLaws};
+ghost use Rattle.cluster_model.specs.GuardLaws.{IsInOrder, CallLaws, RestartLaws, IsTold};
 ghost use Rattle.cluster_model.specs.ServerLaws.{IsPermitted, IsSafe, IsTimed, AreClocked, TellsOld, TellsNew, IsRestarted, Turn, HasRisingTicks, IsToldByJournal};
 
 /// What is done to a server by one who may: no stranger changes a file; it takes one tick or none, and no file
@@ -38,6 +38,6 @@ pub fn server_runs()
 /// of this, and a new server has it.
 pub fn server_guards()
     ensures calls { (s : ServerState) (caller : Caller) (call : DsCallValue) → IsInOrder s → CallLaws s caller call (ds_step s caller call).server (ds_step s caller call).reply (ds_step s caller call).entries }
-    ensures restarts { (s : ServerState) (pieces : List Piece) (new : ServerState) → restart_of s pieces ≡ Some new → IsInOrder s → Follows s new }
-    ensures new { (number boot : ℕ) → IsInOrder (new_server number boot) }
+    ensures restarts { (s : ServerState) (pieces : List Piece) (new : ServerState) → restart_of s pieces ≡ Some new → IsInOrder s → RestartLaws s pieces new }
+    ensures new { (number boot : ℕ) → IsInOrder (new_server number boot) × IsTold (new_server number boot) [] }
 {}

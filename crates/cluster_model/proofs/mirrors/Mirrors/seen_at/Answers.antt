@@ -1,6 +1,6 @@
 use Rattle.std.proofs.Common.{◌≡◌, ◌+◌, Some, drop, sym, ap, ◌∷◌, ◌∙◌}
 use Rattle.std.specs.Prelude.{slice_get}
-use Rattle.cluster_model.specs.Phases.{seen_at, seen_if}
+use Rattle.cluster_model.specs.Phases.{seen_at}
 use Rattle.cluster_model.proofs.MirrorSteps.{adds, seen_here, same_server}
 use Rattle.cluster_model.proofs.mirrors.Mirrors.seen_at.Goals as goal
 
