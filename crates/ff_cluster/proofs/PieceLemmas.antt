@@ -1,9 +1,5 @@
 -- How pieces are cut out of a text.
-use Rattle.std.proofs.Common.{◌≡◌, ◌≢◌, ℕ, zero, suc, ◌+◌, ◌<◌, ◌≤◌, ◌==◌, true, false, List, [], ◌∷◌, ◌++◌, length, take, drop, get_or, Option, Some, None, is_some, cond, nat_le, ◌&&◌, ◌^◌, refl, sym, ap, ◌∙◌, arith, append_assoc, append-nil, codes, map, Result, Ok, Err, eqb}
-use Rattle.std.specs.List.{flat_map}
-use Rattle.ff_xdr.specs.declared.error.NoMemory.{NoMemory}
-use Rattle.ff_xdr.specs.Calls.{Grows, Puts}
-use Rattle.cluster_model.specs.Print.{joined, piece_text, pieces_text}
+use Rattle.std.proofs.Common.{◌≡◌, ◌≢◌, ℕ, zero, suc, ◌+◌, ◌<◌, ◌≤◌, ◌==◌, true, false, List, [], ◌∷◌, ◌++◌, length, take, drop, get_or, Option, Some, None, is_some, cond, nat_le, ◌&&◌, ◌^◌, refl, sym, ap, ◌∙◌, arith, append_assoc, eqb}
 use Rattle.std.proofs.lemmas.Bool.{eq-eqb, eqb-true, ne_eqb, cond-true, cond-false, lt-leb, le-leb, le-ltb, lt-ltb}
 use Rattle.memchr.specs.Find.{IsFirstByte, is_byte}
 use Rattle.cluster_model.specs.declared.piece.Piece.{Piece}

@@ -1,10 +1,10 @@
 -- The configuration in a source's first line.
 use Rattle.std.specs.Prelude.{⊤}
-use Rattle.std.proofs.Common.{◌≡◌, ℕ, ◌+◌, ◌≤◌, ◌<◌, List, [], ◌∷◌, ◌++◌, length, Option, Some, None, Result, Ok, Err, refl, sym, ap, subst, ◌∙◌, arith}
+use Rattle.std.proofs.Common.{◌≡◌, ℕ, ◌+◌, ◌<◌, List, [], length, Option, Some, None, Result, Ok, Err, sym, ap, subst, ◌∙◌, arith}
 use Rattle.line_runs.specs.declared.lines.Ended.TheVariants.{Newline, End, Over as RanOver}
 use Rattle.line_runs.specs.declared.end.RunEnd.{RunEnd}
 use Rattle.line_runs.specs.declared.end.RunEnd.TheVariants.{Done, BadLine, ReadFault, WriteFault, NoMemory, Limit}
-use Rattle.line_runs.specs.Lines.{Line, Last, Over, cut_line, ReadsLine}
+use Rattle.line_runs.specs.Lines.{cut_line, ReadsLine}
 use Rattle.line_runs.proofs.LineLemmas.{cut_more-line, cut_more-over}
 use Rattle.ff_node.specs.declared.config.Config.{Config}
 use Rattle.ff_node.specs.Config.{ConfigValue, Configures, max_line}
