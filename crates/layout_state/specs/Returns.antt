@@ -1,18 +1,17 @@
 -- How a period ends, and how mirrors leave behind it (RFC 8881, section 18.44; RFC 8435, sections 2.2 and 9).
 use Rattle.std.specs.Prelude.{◌≡◌, Bool, true, false, ◌==◌, ◌&&◌, List, Option, Some, None, Result, Ok, Err, if◌then◌else◌}
-use Rattle.std.specs.List.{list_any}
 use Rattle.cluster_model.specs.declared.ids.NodeId.{NodeId}
 use Rattle.cluster_model.specs.declared.ids.NodeId.TheVariants.{Mds, Server, Client}
 use Rattle.cluster_model.specs.declared.ids.Cred.{Cred}
 use Rattle.cluster_model.specs.declared.ids.Mirror.{Mirror}
-use Rattle.cluster_model.specs.declared.ids.MirrorId.{MirrorId}
+use Rattle.cluster_model.specs.declared.phase.Phase.{Phase}
+use Rattle.cluster_model.specs.declared.phase.Phase.TheVariants as name
 use Rattle.cluster_model.specs.declared.phase.EndCause.{EndCause}
 use Rattle.cluster_model.specs.declared.phase.EndCause.TheVariants as cause
 use Rattle.cluster_model.specs.declared.layout_state.LayoutState.{LayoutState}
 use Rattle.cluster_model.specs.declared.layout_state.LayoutPhase.{LayoutPhase}
 use Rattle.cluster_model.specs.declared.layout_state.LayoutPhase.TheVariants.{Making, Free, Held, Fencing, Settling, Copying}
 use Rattle.cluster_model.specs.Nodes.{is_node}
-use Rattle.cluster_model.specs.Journal.{is_mirror}
 use Rattle.cluster_model.specs.Phases.{unreported, end_cause, after_return}
 use Rattle.layout_state.specs.declared.grant.ReturnFault.{ReturnFault}
 use Rattle.layout_state.specs.declared.grant.ReturnFault.TheVariants.{Unknown, Other}
@@ -35,30 +34,11 @@ Returns old node claimed places next (Err fault) new = (return_fault old node cl
 
 -- ---- what a call is for
 
-abbrev pub is_making : LayoutPhase → Bool
-is_making Making = true
-is_making Free = false
-is_making (Held holder is_recalled) = false
-is_making (Fencing next end) = false
-is_making (Settling copies) = false
-is_making (Copying copier copies) = false
-
-abbrev pub is_fencing : LayoutPhase → Bool
-is_fencing Making = false
-is_fencing Free = false
-is_fencing (Held holder is_recalled) = false
-is_fencing (Fencing next end) = true
-is_fencing (Settling copies) = false
-is_fencing (Copying copier copies) = false
-
 -- mirrors may leave by themselves
-abbrev pub is_losing : LayoutPhase → Bool
-is_losing Making = false
-is_losing Free = false
-is_losing (Held holder is_recalled) = false
-is_losing (Fencing next end) = true
-is_losing (Settling copies) = true
-is_losing (Copying copier copies) = true
-
-abbrev pub is_live : MirrorId → List Mirror → Bool
-is_live id live = list_any (λ m. is_mirror m.id id) live
+abbrev pub may_lose : Phase → Bool
+may_lose name.Making = false
+may_lose name.Free = false
+may_lose name.Held = false
+may_lose name.Fencing = true
+may_lose name.Settling = true
+may_lose name.Copying = true

@@ -1,11 +1,12 @@
 //! One file's state.
 
-ghost use Rattle.std.specs.Prelude.{◌≡◌, ◌≤◌, length, not, true, false, IsSomeAnd, if◌then◌else◌};
+ghost use Rattle.std.specs.Prelude.{◌≡◌, ◌≤◌, length, not, true, false, is_some, IsSomeAnd, if◌then◌else◌};
 ghost use Rattle.cluster_model.specs.declared.phase.EndCause.TheVariants as cause_of;
+ghost use Rattle.cluster_model.specs.declared.phase.Phase.TheVariants as name;
 ghost use Rattle.cluster_model.specs.Nodes.{is_mds};
 ghost use Rattle.cluster_model.specs.Phases.{begun, free_with, with_live, seen_at, phase_of, holder_of, unreported, end_cause, left_with, after_return, after_revocation, is_last, is_source, after_loss, after_fence, is_clean};
-ghost use Rattle.layout_state.specs.Grants.{Grants, Recalls, holder_to_recall, is_held};
-ghost use Rattle.layout_state.specs.Returns.{Returns, is_making, is_fencing, is_losing, is_live};
+ghost use Rattle.layout_state.specs.Grants.{Grants, Recalls, holder_to_recall};
+ghost use Rattle.layout_state.specs.Returns.{Returns, may_lose};
 
 use crate::grant::{Grant, GrantFault, ReturnFault};
 use cluster_model::{
@@ -52,7 +53,7 @@ impl FileState {
 
     /// Its mirrors are made, and it is free.
     pub fn made(&mut self, live: Mirrors)
-        requires making { is_making self.old.phase ≡ true }
+        requires making { phase_of self.old.phase ≡ name.Making }
         requires some { 1 ≤ length live }
         requires wanted { length live ≤ self.old.wanted }
         ensures { self.new ≡ free_with self.old live }
@@ -193,7 +194,7 @@ impl FileState {
 
     /// Its period ends in another way, and the fence to the user `next` begins.
     pub fn revoke(&mut self, cause: EndCause, next: Cred)
-        requires held { is_held self.old.phase ≡ true }
+        requires held { is_some (holder_of self.old.phase) ≡ true }
         requires dirty { is_clean cause ≡ false }
         ensures { self.new ≡ after_revocation self.old next }
     {
@@ -213,11 +214,10 @@ impl FileState {
         self.end(&failed, EndCause::Own, next)
     }
 
-    /// A mirror failed: it leaves, unless it is the last one, which stays, with the answer false. Where it was the source
-    /// of a copy, the next one is to be settled.
+    /// A live mirror failed: it leaves, unless it is the last one, which stays, with the answer false. Where it was the
+    /// source of a copy, the next one is to be settled.
     pub fn mirror_failed(&mut self, id: MirrorId, cause: LeftCause) -> bool
-        requires losing { is_losing self.old.phase ≡ true }
-        requires live { is_live id self.old.live ≡ true }
+        requires { may_lose (phase_of self.old.phase) ≡ true }
         ensures answer { result ≡ not (is_last self.old.live) }
         ensures state { self.new ≡ (if result then after_loss self.old id else self.old) }
     {
@@ -237,7 +237,7 @@ impl FileState {
     /// Each mirror of its fence acknowledged or left: it is free, or behind a dirty end its first mirror is to be
     /// settled.
     pub fn fence_done(&mut self)
-        requires { is_fencing self.old.phase ≡ true }
+        requires { phase_of self.old.phase ≡ name.Fencing }
         ensures { self.new ≡ after_fence self.old }
     {
         if let LayoutPhase::Fencing { next, end } = self.state.phase {

@@ -35,8 +35,12 @@ fn mirrors(servers: &[u32]) -> Mirrors {
 
 /// A free file with mirrors on these servers.
 fn free(servers: &[u32]) -> FileState {
+    let live = mirrors(servers);
     let mut file = FileState::making(FIRST, 4);
-    file.made(mirrors(servers));
+    let count = live.len();
+    if count >= 1 && count <= 4 {
+        file.made(live);
+    }
     file
 }
 
@@ -50,8 +54,33 @@ fn held(servers: &[u32]) -> FileState {
 /// The same, in a fence behind a dirty end.
 fn fencing(servers: &[u32]) -> FileState {
     let mut file = held(servers);
-    file.revoke(EndCause::Lease, SECOND);
+    if file.holder().is_some() {
+        file.revoke(EndCause::Lease, SECOND);
+    }
     file
+}
+
+/// Its fence is done, where it is in one.
+fn fenced(file: &mut FileState) {
+    if let Phase::Fencing = file.phase() {
+        file.fence_done();
+    }
+}
+
+/// The metadata server's own write is over, where it has one.
+fn own_done(file: &mut FileState, failed: Reported) -> Option<EndCause> {
+    match file.holder() {
+        Some(NodeId::Mds) => Some(file.own_done(failed, SECOND)),
+        _ => None,
+    }
+}
+
+/// A mirror fails, where mirrors may leave by themselves.
+fn fails(file: &mut FileState, server: u32, cause: LeftCause) -> Option<bool> {
+    match file.phase() {
+        Phase::Fencing | Phase::Settling => Some(file.mirror_failed(id(server), cause)),
+        _ => None,
+    }
 }
 
 fn places(first: bool, second: bool, third: bool) -> Reported {
@@ -103,7 +132,7 @@ fn grants(rt: HostRuntime) {
         shut.grant(ONE, 100_000),
         Err(GrantFault::Later(Phase::Fencing))
     );
-    shut.fence_done();
+    fenced(&mut shut);
     assert_eq!(rt;
         shut.grant(ONE, 100_000),
         Err(GrantFault::Later(Phase::Settling))
@@ -165,7 +194,7 @@ fn returns(rt: HostRuntime) {
             Err(_) => assert_eq!(rt; file.phase(), Phase::Held),
             Ok(cause) => {
                 assert_eq!(rt; (file.phase(), file.cred()), (Phase::Fencing, FIRST));
-                file.fence_done();
+                fenced(&mut file);
                 let behind = if cause == EndCause::Returned {
                     Phase::Free
                 } else {
@@ -210,12 +239,12 @@ fn own_writes(rt: HostRuntime) {
     for (failed, cause, left, behind) in rows {
         let mut file = free(&[1, 2]);
         assert!(rt; file.grant(NodeId::Mds, 100_000).is_ok());
-        assert_eq!(rt; file.own_done(failed, SECOND), cause);
+        assert_eq!(rt; own_done(&mut file, failed), Some(cause));
         assert_eq!(rt;
             (file.live(), file.phase()),
             (mirrors(left), Phase::Fencing)
         );
-        file.fence_done();
+        fenced(&mut file);
         assert_eq!(rt; (file.phase(), file.cred()), (behind, SECOND));
     }
 }
@@ -223,19 +252,19 @@ fn own_writes(rt: HostRuntime) {
 #[test]
 fn mirrors_fail(rt: HostRuntime) {
     let mut file = fencing(&[1, 2, 3]);
-    assert!(rt; file.mirror_failed(id(2), LeftCause::Timeouts));
+    assert_eq!(rt; fails(&mut file, 2, LeftCause::Timeouts), Some(true));
     assert_eq!(rt;
         (file.live(), file.phase()),
         (mirrors(&[1, 3]), Phase::Fencing)
     );
-    file.fence_done();
-    assert!(rt; file.mirror_failed(id(1), LeftCause::Error(5)));
+    fenced(&mut file);
+    assert_eq!(rt; fails(&mut file, 1, LeftCause::Error(5)), Some(true));
     assert_eq!(rt;
         (file.live(), file.phase()),
         (mirrors(&[3]), Phase::Settling)
     );
     // the last one stays
-    assert!(rt; !file.mirror_failed(id(3), LeftCause::Unsynced));
+    assert_eq!(rt; fails(&mut file, 3, LeftCause::Unsynced), Some(false));
     assert_eq!(rt;
         (file.live(), file.phase()),
         (mirrors(&[3]), Phase::Settling)
