@@ -23,7 +23,7 @@ use Rattle.ds_files.specs.Lookup.{max_name}
 use Rattle.ds_files.specs.Write.{is_synced, write_plan, write_unless}
 use Rattle.ds_files.specs.Commit.{commit_plan, commit_unless}
 use Rattle.ds_files.specs.Setattr.{changes_of, tick_of, set_plan, set_unless}
-use Rattle.ds_files.specs.Create.{Creation, NotMade, IsThere, Makes, has_size, made_unless, made_by, named_by, made_how, creation, create_in, create_plan}
+use Rattle.ds_files.specs.Create.{Creation, NotMade, IsThere, Makes, has_size, creation_unless, made_by, named_by, made_how, creation, create_in, create_plan}
 use Rattle.ds_files.specs.Steps.{plan_of}
 use Rattle.ds_files.specs.Laws.{IsAsked, AsksNothing, AsksWrite, AsksCommit, AsksSet, AsksFile}
 use Rattle.ds_files.proofs.AtObject.{at_object}
@@ -84,7 +84,7 @@ goes_on false status r a e = (refl, e)
 abbrev IsFree : Tick → Option ℕ → Type 0
 IsFree clock found = (clock.count ≢ max_ticks) × (found ≡ None)
 
-made_when : (a b : Sattr3) (refusal : Option Refusal) → made_unless a refusal ≡ Makes b → refusal ≡ None
+made_when : (a b : Sattr3) (refusal : Option Refusal) → creation_unless a refusal ≡ Makes b → refusal ≡ None
 made_when a b (Some refusal) e = absurd (cc)
 made_when a b None e = refl
 

@@ -127,39 +127,44 @@ fn restarts_are_answered_by_the_tables(rt: HostRuntime) -> Result<(), Fail> {
     Ok(())
 }
 
-/// The last tick, of a server that gave so many.
-fn at(count: u32) -> Tick {
-    Tick { boot: 1, count }
-}
+/// The files' sizes together, the ticks that were given, a file's size, a WRITE's place and its length, and
+/// why it is refused.
+const ROOM: [(u64, u32, u64, u64, u64, Option<Stat3>); 11] = [
+    // the longest file, also where the files have no room for more
+    (0, 0, 0, 0, FILE, None),
+    (0, 0, 0, 1, FILE, Some(Stat3::Fbig)),
+    (ALL, 0, 0, FILE, 1, Some(Stat3::Fbig)),
+    (ALL, 0, FILE, 0, FILE, None),
+    // the last byte that the files have room for
+    (LAST, 0, 0, 0, 1, None),
+    (LAST, 0, 0, 0, 2, Some(Stat3::NoSpc)),
+    (ALL, 0, 1, 1, 1, Some(Stat3::NoSpc)),
+    // no tick is left, which is the last reason
+    (0, SPENT, 0, 0, 1, Some(Stat3::Jukebox)),
+    (ALL, SPENT, 0, 0, 1, Some(Stat3::NoSpc)),
+    (ALL, SPENT, 0, FILE, 1, Some(Stat3::Fbig)),
+    // no bytes want neither room nor a tick
+    (ALL, SPENT, 0, u64::MAX, 0, None),
+];
+
+const ALL: u64 = 268_435_456;
+
+const LAST: u64 = 268_435_455;
+
+const FILE: u64 = 67_108_864;
+
+const SPENT: u32 = 999_999_999;
 
 #[test]
 fn the_files_share_their_room(rt: HostRuntime) {
-    const ALL: u64 = 268_435_456;
-    const FILE: u64 = 67_108_864;
-    // the longest file, also where the files have no room for more
-    assert_eq!(rt; size_refusal(0, at(0), 0, 0, FILE), None);
-    assert_eq!(rt; size_refusal(0, at(0), 0, 1, FILE), Some(Stat3::Fbig));
-    assert_eq!(rt; size_refusal(ALL, at(0), 0, FILE, 1), Some(Stat3::Fbig));
-    assert_eq!(rt; size_refusal(ALL, at(0), FILE, 0, FILE), None);
-    // the last byte that the files have room for
-    assert_eq!(rt; size_refusal(ALL - 1, at(0), 0, 0, 1), None);
-    assert_eq!(rt; size_refusal(ALL - 1, at(0), 0, 0, 2), Some(Stat3::NoSpc));
-    assert_eq!(rt; size_refusal(ALL, at(0), 1, 1, 1), Some(Stat3::NoSpc));
-    // no tick is left, which is the last reason
-    assert_eq!(rt;
-        size_refusal(0, at(999_999_999), 0, 0, 1),
-        Some(Stat3::Jukebox)
-    );
-    assert_eq!(rt;
-        size_refusal(ALL, at(999_999_999), 0, 0, 1),
-        Some(Stat3::NoSpc)
-    );
-    assert_eq!(rt;
-        size_refusal(ALL, at(999_999_999), 0, FILE, 1),
-        Some(Stat3::Fbig)
-    );
-    // no bytes want neither room nor a tick
-    assert_eq!(rt; size_refusal(ALL, at(999_999_999), 0, u64::MAX, 0), None);
+    for (total, count, size, at, len, refusal) in ROOM {
+        let last = Tick { boot: 1, count };
+        if size <= total && total <= ALL {
+            assert!(rt; size_refusal(total, last, size, at, len) == refusal);
+        } else {
+            assert!(rt; false);
+        }
+    }
 }
 
 /// Eight bytes that are stable, and three writes that are not, over and behind them.
