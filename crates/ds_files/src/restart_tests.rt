@@ -9,7 +9,7 @@ use std::process::Abort;
 use std::test::Fail;
 
 /// A file changes its owner, is written and is started again; then names are made.
-const FENCED: &str = "\
+pub const FENCED: &str = "\
 the owner is another, by the ctime that was seen; the old one is a guard no more
 > call nfs setattr root verf file keep set #65537 set #65537 keep keep keep guard 1.1
 < success ok attr empty_before attr reg640 #65537 #65537 0_bytes at2 1.1 1.1 1.2
@@ -40,7 +40,7 @@ names after a restart
 ";
 
 /// A time that a SETATTR made stable stays, while the bytes that it told of are gone.
-const STABLE_TIMES: &str = "\
+pub const STABLE_TIMES: &str = "\
 a write is pending, and a SETATTR names nothing
 > call nfs write owner verf file first 00000002 unstable AB
 < success ok attr empty_before attr reg640 #65536 #65536 2_bytes at2 1.1 1.2 1.2 00000002 unstable boot
@@ -75,7 +75,7 @@ what is pending no more is not named by a piece, and no tick is given twice
 ";
 
 /// Pieces of the writes of two files; a third has none that is pending.
-const TWO_FILES: &str = "\
+pub const TWO_FILES: &str = "\
 > call nfs create root verf dir 'x guarded keep set #65536 set #65536 keep keep keep
 < success ok handle file3 attr reg640 #65536 #65536 0_bytes at3 1.2 1.2 1.2 attr dir_before attr dir_is 1.0 1.2 1.2
 + owner 1.3 65536
@@ -109,23 +109,6 @@ the root's times and its names stay
 > call nfs lookup owner verf dir 'y
 < success ok file4 attr reg640 #65536 #65536 2_bytes at4 1.3 1.4 1.4 attr dir_is 1.0 1.3 1.3
 ";
-
-#[test]
-fn a_new_owner_outlives_a_restart(rt: HostRuntime) -> Result<(), Fail> {
-    let alloc = rt.alloc();
-    let mut bench = Bench::new(alloc, DataServer::preset(alloc)?);
-    bench.table(&rt, FENCED)
-}
-
-#[test]
-fn restarts_are_answered_by_the_tables(rt: HostRuntime) -> Result<(), Fail> {
-    let alloc = rt.alloc();
-    for table in [STABLE_TIMES, TWO_FILES] {
-        let mut bench = Bench::new(alloc, DataServer::preset(alloc)?);
-        bench.table(&rt, table)?;
-    }
-    Ok(())
-}
 
 /// The files' sizes together, the ticks that were given, a file's size, a WRITE's place and its length, and
 /// why it is refused.

@@ -384,3 +384,14 @@ impl Bench {
         Ok(())
     }
 }
+
+/// Asks a server by the lines of a table.
+pub fn answers(
+    rt: &impl Abort,
+    alloc: Global,
+    server: DataServer,
+    table: &str,
+) -> Result<(), Fail> {
+    let mut bench = Bench::new(alloc, server);
+    bench.table(rt, table)
+}

@@ -1,5 +1,5 @@
-use crate::DataServer;
-use crate::tables::{Bench, bytes_of};
+use crate::tables::{Bench, answers, bytes_of};
+use crate::{DataServer, meta_tests, restart_tests};
 use ff_xdr::Items;
 use nfs3_wire::{Call3, Reply3, StableHow, WriteArgs, WriteReply};
 use rpc_record::AuthSys;
@@ -400,14 +400,46 @@ what takes no tick
 < success ok attr who 2_bytes where last_tick 00000002 00000001 00000002 41420000
 ";
 
+/// The tables that are answered by a server as it is preset.
+const PRESET: [&str; 14] = [
+    ORDER,
+    EXCHANGE,
+    OBJECTS,
+    BYTES,
+    meta_tests::QUERIES,
+    meta_tests::SETATTR_REFUSED,
+    meta_tests::SETATTR_DONE,
+    meta_tests::MODES,
+    meta_tests::CREATE_REFUSED,
+    meta_tests::CREATE_DONE,
+    meta_tests::COMMITS,
+    restart_tests::FENCED,
+    restart_tests::STABLE_TIMES,
+    restart_tests::TWO_FILES,
+];
+
+/// Those that are answered where one tick is left.
+const SPENT: [&str; 3] = [LAST_TICK, meta_tests::LAST_SETATTR, meta_tests::LAST_CREATE];
+
 #[test]
 fn records_are_answered_by_the_tables(rt: HostRuntime) -> Result<(), Fail> {
-    for table in [ORDER, EXCHANGE, OBJECTS, BYTES] {
-        let mut bench = Bench::new(rt.alloc(), DataServer::preset(rt.alloc())?);
-        bench.table(&rt, table)?;
+    for table in PRESET {
+        answers(&rt, rt.alloc(), DataServer::preset(rt.alloc())?, table)?;
     }
-    let mut bench = Bench::new(rt.alloc(), DataServer::at_last_tick(rt.alloc())?);
-    bench.table(&rt, LAST_TICK)
+    Ok(())
+}
+
+#[test]
+fn the_last_tick_is_answered_by_the_tables(rt: HostRuntime) -> Result<(), Fail> {
+    for table in SPENT {
+        answers(
+            &rt,
+            rt.alloc(),
+            DataServer::at_last_tick(rt.alloc())?,
+            table,
+        )?;
+    }
+    Ok(())
 }
 
 #[test]
