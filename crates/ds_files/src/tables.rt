@@ -324,6 +324,16 @@ impl Bench {
         Ok(())
     }
 
+    /// Sends a record to the server as one whose journal nobody keeps.
+    pub fn ask_untold(&mut self, message: &[u8]) -> Result<(), Fail> {
+        self.out = Outbox::new(self.alloc);
+        self.answered = false;
+        self.entered = 0;
+        self.server
+            .answer_record(NodeId::Client(0), message, &mut self.out)?;
+        Ok(())
+    }
+
     /// Compares the reply, or that there is none where these bytes are none.
     pub fn compare_reply(&mut self, rt: &impl Abort, reply: &[u8], line: &str) {
         let sends = self.out.sends.as_slice();

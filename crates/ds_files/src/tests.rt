@@ -471,6 +471,30 @@ fn a_call_that_is_cut_does_nothing(rt: HostRuntime) -> Result<(), Fail> {
     Ok(())
 }
 
+/// A write where no journal is kept, and what is read then.
+const UNTOLD: [(&str, &str); 2] = [
+    (
+        "call nfs write owner verf file first 00000002 file_sync AB",
+        "success ok attr empty_before attr who 2_bytes where tick2 00000002 file_sync boot",
+    ),
+    (
+        "call nfs read owner verf file first 00000002",
+        "success ok attr who 2_bytes where tick2 00000002 00000001 00000002 41420000",
+    ),
+];
+
+#[test]
+fn an_answer_makes_no_entries(rt: HostRuntime) -> Result<(), Fail> {
+    let alloc = rt.alloc();
+    let mut bench = Bench::new(alloc, DataServer::preset(alloc)?);
+    for (call, reply) in UNTOLD {
+        bench.ask_untold(&bytes_of(&rt, alloc, call)?)?;
+        bench.compare_reply(&rt, &bytes_of(&rt, alloc, reply)?, call);
+        bench.end(&rt, call);
+    }
+    Ok(())
+}
+
 #[test]
 fn a_call_is_applied(rt: HostRuntime) -> Result<(), Fail> {
     let alloc = rt.alloc();
