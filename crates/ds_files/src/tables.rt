@@ -2,6 +2,7 @@
 
 ghost use Rattle.std.specs.Prelude.{◌<◌, IfSome};
 
+use crate::journal::Journal;
 use crate::{Cred, DataServer, Entry, MirrorId, NodeId, Outbox, Piece};
 use std::alloc::Global;
 use std::process::Abort;
@@ -176,9 +177,7 @@ fn add_number(bytes: &mut Vec<u8>, number: u32) -> Result<(), Fail> {
 
 /// Adds so many zeros.
 fn add_zeros(bytes: &mut Vec<u8>, count: usize) -> Result<(), Fail> {
-    for _ in 0..count {
-        bytes.push(0)?;
-    }
+    bytes.resize(bytes.len().saturating_add(count), 0)?;
     Ok(())
 }
 
@@ -314,23 +313,16 @@ impl Bench {
         assert_eq!(rt; self.out.entries.len(), self.entered, "before {line}");
     }
 
-    /// Sends a record.
-    pub fn ask(&mut self, message: &[u8]) -> Result<(), Fail> {
+    /// Sends a record, to a server whose journal is kept or is not.
+    pub fn ask(&mut self, message: &[u8], journal: Journal) -> Result<(), Fail> {
         self.out = Outbox::new(self.alloc);
         self.answered = false;
         self.entered = 0;
-        self.server
-            .on_record(NodeId::Client(0), message, &mut self.out)?;
-        Ok(())
-    }
-
-    /// Sends a record to the server as one whose journal nobody keeps.
-    pub fn ask_untold(&mut self, message: &[u8]) -> Result<(), Fail> {
-        self.out = Outbox::new(self.alloc);
-        self.answered = false;
-        self.entered = 0;
-        self.server
-            .answer_record(NodeId::Client(0), message, &mut self.out)?;
+        let from = NodeId::Client(0);
+        match journal {
+            Journal::Kept => self.server.on_record(from, message, &mut self.out)?,
+            Journal::Absent => self.server.answer_record(from, message, &mut self.out)?,
+        }
         Ok(())
     }
 
@@ -368,7 +360,11 @@ impl Bench {
         if let Some(words) = line.strip_prefix(">") {
             self.end(rt, line);
             let message = bytes_of(rt, self.alloc, words)?;
-            self.ask(&message)?;
+            self.ask(&message, Journal::Kept)?;
+        } else if let Some(words) = line.strip_prefix("?") {
+            self.end(rt, line);
+            let message = bytes_of(rt, self.alloc, words)?;
+            self.ask(&message, Journal::Absent)?;
         } else if let Some(words) = line.strip_prefix("<") {
             let reply = bytes_of(rt, self.alloc, words)?;
             self.compare_reply(rt, &reply, line);
@@ -384,8 +380,9 @@ impl Bench {
         Ok(())
     }
 
-    /// Does the lines of a table: '>' sends a record, '<' is the whole reply and '+' an entry, and '!'
-    /// starts the server again by the pieces that had reached its disk. Any other line says what follows.
+    /// Does the lines of a table: '>' sends a record, '?' one to a server whose journal nobody keeps, '<'
+    /// is the whole reply and '+' an entry, and '!' starts the server again by the pieces that had
+    /// reached its disk. Any other line says what follows.
     pub fn table(&mut self, rt: &impl Abort, table: &str) -> Result<(), Fail> {
         for line in table.lines() {
             self.line(rt, line)?;

@@ -1,3 +1,4 @@
+use crate::journal::Journal;
 use crate::tables::{Bench, answers, bytes_of};
 use crate::{DataServer, meta_tests, restart_tests};
 use ff_xdr::Items;
@@ -400,8 +401,22 @@ what takes no tick
 < success ok attr who 2_bytes where last_tick 00000002 00000001 00000002 41420000
 ";
 
+/// Calls where no journal is kept.
+const UNTOLD: &str = "\
+a write is done and makes no entry
+? call nfs write owner verf file first 00000002 file_sync AB
+< success ok attr empty_before attr who 2_bytes where tick2 00000002 file_sync boot
+? call nfs read owner verf file first 00000002
+< success ok attr who 2_bytes where tick2 00000002 00000001 00000002 41420000
+a refusal and a record that is no call
+? call 000186a4 00000003 null none verf
+< prog_unavail
+? 000000
+<
+";
+
 /// The tables that are answered by a server as it is preset.
-const PRESET: [&str; 14] = [
+const PRESET: [&str; 15] = [
     ORDER,
     EXCHANGE,
     OBJECTS,
@@ -416,6 +431,7 @@ const PRESET: [&str; 14] = [
     restart_tests::FENCED,
     restart_tests::STABLE_TIMES,
     restart_tests::TWO_FILES,
+    UNTOLD,
 ];
 
 /// Those that are answered where one tick is left.
@@ -461,36 +477,12 @@ fn a_call_that_is_cut_does_nothing(rt: HostRuntime) -> Result<(), Fail> {
     assert_eq!(rt; write.len(), 100);
     for n in 0..write.len() {
         let line = format!(in alloc; "cut at {n}")?;
-        bench.ask(&write[..n])?;
+        bench.ask(&write[..n], Journal::Kept)?;
         bench.compare_reply(&rt, if n < 8 { &[] } else { &refusal }, &line);
         bench.end(&rt, &line);
-        bench.ask(&read)?;
+        bench.ask(&read, Journal::Kept)?;
         bench.compare_reply(&rt, &nothing, &line);
         bench.end(&rt, &line);
-    }
-    Ok(())
-}
-
-/// A write where no journal is kept, and what is read then.
-const UNTOLD: [(&str, &str); 2] = [
-    (
-        "call nfs write owner verf file first 00000002 file_sync AB",
-        "success ok attr empty_before attr who 2_bytes where tick2 00000002 file_sync boot",
-    ),
-    (
-        "call nfs read owner verf file first 00000002",
-        "success ok attr who 2_bytes where tick2 00000002 00000001 00000002 41420000",
-    ),
-];
-
-#[test]
-fn an_answer_makes_no_entries(rt: HostRuntime) -> Result<(), Fail> {
-    let alloc = rt.alloc();
-    let mut bench = Bench::new(alloc, DataServer::preset(alloc)?);
-    for (call, reply) in UNTOLD {
-        bench.ask_untold(&bytes_of(&rt, alloc, call)?)?;
-        bench.compare_reply(&rt, &bytes_of(&rt, alloc, reply)?, call);
-        bench.end(&rt, call);
     }
     Ok(())
 }
