@@ -508,13 +508,12 @@ fn a_call_is_applied(rt: HostRuntime) -> Result<(), Fail> {
     let answer = server.apply(&call, &cred)?;
     match answer.reply() {
         Reply3::Write(WriteReply::Done(done)) => {
-            assert_eq!(rt;
-                (done.count, done.committed, done.verifier),
-                (2, StableHow::FileSync, 1)
-            );
+            assert!(rt; done.count == 2);
+            assert!(rt; matches!(done.committed, StableHow::FileSync));
+            assert!(rt; done.verifier == 1);
         }
         _ => assert!(rt; false),
     }
-    assert_eq!(rt; answer.entries().len(), 2);
+    assert!(rt; answer.entries().len() == 2);
     Ok(())
 }
