@@ -1,11 +1,10 @@
 -- The plan of a call on a file, by what the code found of it.
 use Rattle.std.proofs.Common.{◌≡◌, ℕ, ◌+◌, ◌<◌, Bool, List, length, get_or, Option, Some, None, refl, sym, ap, subst, ◌∙◌}
-use Rattle.std.specs.Prelude.{slice_get, not, is_some}
+use Rattle.std.specs.Prelude.{slice_get}
 use Rattle.std.specs.Option.{option_map}
 use Rattle.std.proofs.lemmas.Option.{slice_get_read}
 use Rattle.nfs3_wire.specs.declared.status.Stat3.{Stat3}
 use Rattle.nfs3_wire.specs.declared.stable_how.StableHow.{StableHow}
-use Rattle.nfs3_wire.specs.declared.attributes.Fattr3.{Fattr3}
 use Rattle.nfs3_wire.specs.Replies.{WriteRefused, SetAttrRefused}
 use Rattle.cluster_model.specs.declared.tick.Tick.{Tick}
 use Rattle.cluster_model.specs.declared.change.Changes.{Changes}
@@ -15,7 +14,7 @@ use Rattle.ds_files.specs.declared.head.Head.{Head}
 use Rattle.ds_files.specs.Objects.{stat_of, file_attributes, wcc_same}
 use Rattle.ds_files.specs.Write.{is_synced, write_done, write_unless}
 use Rattle.ds_files.specs.Setattr.{set_done, set_unless}
-use Rattle.ds_files.specs.Plans.{Plan, reply_alone}
+use Rattle.ds_files.specs.Plans.{reply_alone}
 use Rattle.ds_files.specs.Heads.{IsServer, server_of, sized_refusal}
 use Rattle.ds_files.specs.CodePlans.{HasRoom, IsReady}
 use Rattle.ds_files.proofs.Places.{refusal_is, granted, same_file}

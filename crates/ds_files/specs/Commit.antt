@@ -1,7 +1,7 @@
 -- COMMIT: all of a file made stable, whatever range is named (RFC 1813, section 3.3.21). It takes no tick.
 use Rattle.std.specs.Prelude.{ℕ, ◌+◌, Option, Some, None}
 use Rattle.nfs3_wire.specs.declared.status.Stat3.TheVariants as stat
-use Rattle.nfs3_wire.specs.Replies.{Nfs3Reply, CommitDone, CommitRefused}
+use Rattle.nfs3_wire.specs.Replies.{CommitDone, CommitRefused}
 use Rattle.cluster_model.specs.File.{FileState, Commits, file_after}
 use Rattle.cluster_model.specs.Server.{ServerState, Caller, Refusal, OnFile, commit_refusal}
 use Rattle.ds_files.specs.Objects.{Object, Missing, Root, File, attributes_of, file_attributes, wcc_between, wcc_same, stat_of}

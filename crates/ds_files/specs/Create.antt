@@ -5,9 +5,9 @@ use Rattle.nfs3_wire.specs.declared.status.Stat3.TheVariants as stat
 use Rattle.nfs3_wire.specs.declared.sattr.Sattr3.{Sattr3}
 use Rattle.nfs3_wire.specs.declared.create.CreateHow.{CreateHow}
 use Rattle.nfs3_wire.specs.declared.create.CreateHow.TheVariants as how
-use Rattle.nfs3_wire.specs.Replies.{Nfs3Reply, CreateDone, CreateRefused}
+use Rattle.nfs3_wire.specs.Replies.{CreateDone, CreateRefused}
 use Rattle.cluster_model.specs.declared.tick.Tick.{Tick}
-use Rattle.cluster_model.specs.File.{FileState, new_file}
+use Rattle.cluster_model.specs.File.{new_file}
 use Rattle.cluster_model.specs.Ticks.{next_tick}
 use Rattle.cluster_model.specs.Server.{ServerState, Caller, Refusal, NewFile, index_of, tick_refusal, root_after}
 use Rattle.ds_files.specs.Objects.{Object, Missing, Root, File, attributes_of, attributes_at, root_attributes, file_attributes, handle_of, wcc_between, wcc_same, stat_of}

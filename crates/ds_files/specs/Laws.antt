@@ -15,8 +15,8 @@ use Rattle.cluster_model.specs.declared.piece.Piece.{Piece}
 use Rattle.cluster_model.specs.Ticks.{IsRising}
 use Rattle.cluster_model.specs.File.{FileState, Writes, Commits, Sets}
 use Rattle.cluster_model.specs.Journal.{content_of}
-use Rattle.cluster_model.specs.Server.{ServerState, new_server, differs, index_of, max_boot, mirror_of, Effect, NoEffect, OnFile, NewFile}
-use Rattle.cluster_model.specs.ServerLaws.{copy_of, Turn, Does, StartsAgain, run_after, run_entries, run_ticks, AreAllowed}
+use Rattle.cluster_model.specs.Server.{ServerState, differs, index_of, max_boot, mirror_of, Effect, NoEffect, OnFile, NewFile}
+use Rattle.cluster_model.specs.ServerLaws.{copy_of, Turn, Does, StartsAgain, run_after, run_entries, run_ticks}
 use Rattle.ds_files.specs.Objects.{Root, File, object_of, caller_of}
 use Rattle.ds_files.specs.Write.{is_synced}
 use Rattle.ds_files.specs.Setattr.{changes_of, tick_of}

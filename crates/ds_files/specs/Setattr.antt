@@ -6,7 +6,7 @@ use Rattle.nfs3_wire.specs.declared.attributes.Time3.{Time3}
 use Rattle.nfs3_wire.specs.declared.sattr.SetTime.{SetTime}
 use Rattle.nfs3_wire.specs.declared.sattr.SetTime.TheVariants as set_time
 use Rattle.nfs3_wire.specs.declared.sattr.Sattr3.{Sattr3}
-use Rattle.nfs3_wire.specs.Replies.{Nfs3Reply, SetAttrDone, SetAttrRefused}
+use Rattle.nfs3_wire.specs.Replies.{SetAttrDone, SetAttrRefused}
 use Rattle.cluster_model.specs.declared.tick.Tick.{Tick}
 use Rattle.cluster_model.specs.declared.change.NewTime.{NewTime}
 use Rattle.cluster_model.specs.declared.change.NewTime.TheVariants as new

@@ -3,7 +3,7 @@ use Rattle.std.specs.Prelude.{ℕ, ◌+◌, Bool, true, false, List, length, Opt
 use Rattle.nfs3_wire.specs.declared.stable_how.StableHow.{StableHow}
 use Rattle.nfs3_wire.specs.declared.stable_how.StableHow.TheVariants.{Unstable, DataSync, FileSync}
 use Rattle.nfs3_wire.specs.declared.status.Stat3.TheVariants as stat
-use Rattle.nfs3_wire.specs.Replies.{Nfs3Reply, WriteDone, WriteRefused}
+use Rattle.nfs3_wire.specs.Replies.{WriteDone, WriteRefused}
 use Rattle.cluster_model.specs.File.{FileState, FileOp, Writes, file_after}
 use Rattle.cluster_model.specs.Server.{ServerState, Caller, Refusal, OnFile, write_refusal}
 use Rattle.ds_files.specs.Objects.{Object, Missing, Root, File, attributes_of, file_attributes, wcc_between, wcc_same, stat_of}
