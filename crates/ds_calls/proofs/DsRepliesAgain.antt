@@ -19,7 +19,7 @@ use Rattle.nfs3_wire.specs.Write.{write_result}
 use Rattle.nfs3_wire.specs.Commit.{commit_result}
 use Rattle.nfs3_wire.specs.Read.{read_result}
 use Rattle.nfs3_wire.specs.Stability.{stable_how_number}
-use Rattle.nfs3_wire.specs.Replies.{replies, reply_value}
+use Rattle.nfs3_wire.specs.Replies.{nfs3_results, reply_value}
 use Rattle.cluster_model.specs.declared.ds_call.Shown.{Shown}
 use Rattle.cluster_model.specs.DsCalls.{DsCallValue, Create, SetAttr, Write, Commit, Read, DsReplyValue, Created, Set, Written, Committed, Bytes, NotSync, Failed}
 use Rattle.ds_calls.specs.MadeCalls.{fileid_handle, asked_stability}
@@ -79,7 +79,7 @@ given form sound answer v fits = ap (answer_by answer) (whole_spelled form sound
 abbrev wcc : Beside → Option Shown → Value wcc_data
 wcc b shown = wcc_data_value (wcc_showing b shown)
 
-answer_back : (b : Beside) (call : DsCallValue) (reply : DsReplyValue) (xid : ℕ) → IsAnswerTo call reply → Fits replies (reply_value (nfs_reply_of b call reply))
+answer_back : (b : Beside) (call : DsCallValue) (reply : DsReplyValue) (xid : ℕ) → IsAnswerTo call reply → Fits nfs3_results (reply_value (nfs_reply_of b call reply))
     → reply_of_call call (ds_rpc_reply xid (nfs_reply_of b call reply)) ≡ reply
 answer_back b (Create name owner) (Created fileid shown) xid is fits =
     given create_result refl create_answer (inl (Some (fileid_handle fileid), (Some (fattr3_value (showing b.attributes shown)), wcc_data_value b.directory))) fits

@@ -15,7 +15,7 @@ use Rattle.nfs3_wire.specs.declared.status.Stat3.{Stat3}
 use Rattle.nfs3_wire.specs.declared.status.Stat3.TheVariants as stat
 use Rattle.nfs3_wire.specs.Status.{stat_number, refusals}
 use Rattle.nfs3_wire.specs.Calls.{calls, call_value, call_of}
-use Rattle.nfs3_wire.specs.Replies.{Nfs3Reply, Null, SetAttrDone, SetAttrRefused, ReadDone, ReadRefused, WriteDone, WriteRefused, CreateDone, CreateRefused, CommitDone, CommitRefused, replies, reply_value}
+use Rattle.nfs3_wire.specs.Replies.{Nfs3Reply, Null, SetAttrDone, SetAttrRefused, ReadDone, ReadRefused, WriteDone, WriteRefused, CreateDone, CreateRefused, CommitDone, CommitRefused, nfs3_results, reply_value}
 use Rattle.cluster_model.specs.declared.ds_call.Shown.{Shown}
 use Rattle.cluster_model.specs.Server.{ServerState, Caller}
 use Rattle.cluster_model.specs.DsCalls.{DsCallValue, DsReplyValue, Created, Set, Written, Committed, Bytes, NotSync, Failed, ds_plan}
@@ -130,7 +130,7 @@ nfs_reply_of b (ds.Read fileid at count) (Failed status shown) = ReadRefused (st
 nfs_reply_of b call reply = Null
 
 abbrev pub ds_rpc_reply : ℕ → Nfs3Reply → RpcReply
-ds_rpc_reply xid reply = record { xid = xid; verf = auth_none; stat = success; results = arm_spelling replies (reply_value reply) }
+ds_rpc_reply xid reply = record { xid = xid; verf = auth_none; stat = success; results = arm_spelling nfs3_results (reply_value reply) }
 
 -- the reply's record is read again, and comes to the answer
 pub record IsReadAsAnswer (xid : ℕ) (b : Beside) (call : DsCallValue) (reply : DsReplyValue) : Type 0 where
@@ -138,7 +138,7 @@ pub record IsReadAsAnswer (xid : ℕ) (b : Beside) (call : DsCallValue) (reply :
   pub answer : reply_of_call call (ds_rpc_reply xid (nfs_reply_of b call reply)) ≡ reply
 
 abbrev pub IsAnswered : ℕ → Beside → DsCallValue → DsReplyValue → Type 0
-IsAnswered xid b call reply = xid < 2 ^ 32 → IsAnswerTo call reply → Fits replies (reply_value (nfs_reply_of b call reply)) → IsReadAsAnswer xid b call reply
+IsAnswered xid b call reply = xid < 2 ^ 32 → IsAnswerTo call reply → Fits nfs3_results (reply_value (nfs_reply_of b call reply)) → IsReadAsAnswer xid b call reply
 
 -- what the rule of a data server replies is an answer to the call, where the fileids are in their range
 abbrev pub IsAnsweredByRule : ServerState → Caller → DsCallValue → Type 0

@@ -1,8 +1,7 @@
 -- What each call does one may do who calls, and it is what the call asks for.
-use Rattle.std.proofs.Common.{◌≡◌, ◌≢◌, ℕ, ◌+◌, ◌-◌, Bool, true, false, eqb, ltb, cond, List, [], length, Option, Some, None, refl, ap, ◌∙◌, sym}
+use Rattle.std.proofs.Common.{◌≡◌, ◌≢◌, ℕ, Bool, true, false, eqb, ltb, cond, List, length, Option, Some, None, refl}
 use Rattle.std.specs.Prelude.{not, is_some, ◌&&◌, ◌||◌, slice_get}
 use Rattle.std.specs.Option.{option_map}
-use Rattle.std.specs.Int.{w64, from_be_bytes}
 use Rattle.std.proofs.lemmas.Bool.{eqb-true}
 use Rattle.rpc_record.specs.Rpc.{Credential}
 use Rattle.nfs3_wire.specs.declared.stable_how.StableHow.{StableHow}
@@ -14,8 +13,8 @@ use Rattle.nfs3_wire.specs.declared.create.CreateHow.{CreateHow}
 use Rattle.nfs3_wire.specs.declared.create.CreateHow.TheVariants as how
 use Rattle.nfs3_wire.specs.Calls.{Nfs3Call, Null, GetAttr, SetAttr, Lookup, Read, Write, Create, FsInfo, Commit}
 use Rattle.cluster_model.specs.declared.tick.Tick.{Tick}
-use Rattle.cluster_model.specs.File.{FileState, Writes, Commits, Sets}
-use Rattle.cluster_model.specs.Server.{ServerState, Caller, Refusal, Acces, Inval, NotSync, max_ticks, differs, write_refusal, commit_refusal, set_refusal, tick_refusal, index_of, Effect, NoEffect, OnFile, NewFile}
+use Rattle.cluster_model.specs.File.{FileState}
+use Rattle.cluster_model.specs.Server.{ServerState, Caller, Refusal, Acces, Inval, NotSync, max_ticks, differs, write_refusal, commit_refusal, set_refusal, tick_refusal, index_of, Effect, NoEffect}
 use Rattle.cluster_model.specs.ServerLaws.{IsPermitted}
 use Rattle.cluster_model.proofs.Permitted.{stops, not_false, tick_left, write_may, commit_may, set_may}
 use Rattle.ds_files.specs.Objects.{Object, Missing, Root, File, object_of, caller_of}
@@ -23,7 +22,7 @@ use Rattle.ds_files.specs.Lookup.{max_name}
 use Rattle.ds_files.specs.Write.{is_synced, write_plan, write_unless}
 use Rattle.ds_files.specs.Commit.{commit_plan, commit_unless}
 use Rattle.ds_files.specs.Setattr.{changes_of, tick_of, set_plan, set_unless}
-use Rattle.ds_files.specs.Create.{Creation, NotMade, IsThere, Makes, has_size, made_unless, made_by, named_by, made_how, creation, create_in, create_plan}
+use Rattle.ds_files.specs.Create.{Creation, NotMade, IsThere, Makes, has_size, creation_unless, made_by, named_by, made_how, creation, create_in, create_plan}
 use Rattle.ds_files.specs.Steps.{plan_of}
 use Rattle.ds_files.specs.Laws.{IsAsked, AsksNothing, AsksWrite, AsksCommit, AsksSet, AsksFile}
 use Rattle.ds_files.proofs.AtObject.{at_object}
@@ -84,7 +83,7 @@ goes_on false status r a e = (refl, e)
 abbrev IsFree : Tick → Option ℕ → Type 0
 IsFree clock found = (clock.count ≢ max_ticks) × (found ≡ None)
 
-made_when : (a b : Sattr3) (refusal : Option Refusal) → made_unless a refusal ≡ Makes b → refusal ≡ None
+made_when : (a b : Sattr3) (refusal : Option Refusal) → creation_unless a refusal ≡ Makes b → refusal ≡ None
 made_when a b (Some refusal) e = absurd (cc)
 made_when a b None e = refl
 

@@ -1,5 +1,5 @@
 -- What holds of a call whatever object its handle names: of none, of the root, and of each file.
-use Rattle.std.proofs.Common.{◌≡◌, ℕ, eqb, List, length, Some, refl}
+use Rattle.std.proofs.Common.{◌≡◌, ℕ, eqb, List, length, Some}
 use Rattle.std.specs.Prelude.{slice_get}
 use Rattle.std.specs.Int.{w64, from_be_bytes}
 use Rattle.std.proofs.lemmas.Bool.{cond_both}

@@ -1,15 +1,15 @@
 -- What is carried out keeps what holds of every server.
-use Rattle.std.proofs.Common.{◌≡◌, ◌≢◌, ℕ, ◌+◌, ◌-◌, ◌<◌, ◌≤◌, Bool, List, [], ◌∷◌, ◌++◌, length, get_or, set, Some, max, refl, sym, ap, subst, ◌∙◌, arith}
+use Rattle.std.proofs.Common.{◌≡◌, ℕ, ◌+◌, ◌-◌, ◌<◌, ◌≤◌, Bool, List, [], ◌∷◌, length, get_or, set, Some, max, refl, sym, ap, ◌∙◌, arith}
 use Rattle.std.specs.Prelude.{slice_get}
-use Rattle.std.proofs.lemmas.List.{length-set, length-append}
-use Rattle.std.proofs.lemmas.List.Sums.{sum_by-set, sum_by-cons, sum_by-append}
+use Rattle.std.proofs.lemmas.List.{length-set}
+use Rattle.std.proofs.lemmas.List.Sums.{sum_by-set}
 use Rattle.std.proofs.lemmas.Option.{slice_get_read}
 use Rattle.cluster_model.specs.declared.tick.Tick.{Tick}
 use Rattle.cluster_model.specs.declared.change.Changes.{Changes}
 use Rattle.cluster_model.specs.Ticks.{next_tick}
 use Rattle.cluster_model.specs.Content.{overlay}
 use Rattle.cluster_model.specs.File.{FileState, FileOp, Writes, Commits, Sets, shown, written, committed, file_after, clock_after, set as set_attributes}
-use Rattle.cluster_model.specs.Server.{ServerState, max_total, max_ticks, OnFile, on_file}
+use Rattle.cluster_model.specs.Server.{max_total, max_ticks, OnFile, on_file}
 use Rattle.cluster_model.proofs.Placing.{length-overlay}
 use Rattle.cluster_model.proofs.Files.{shown-written}
 use Rattle.ds_files.specs.declared.head.Head.{Head}

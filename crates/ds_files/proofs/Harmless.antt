@@ -12,7 +12,9 @@ use Rattle.cluster_model.specs.declared.outbox.Outbox.{Outbox}
 use Rattle.cluster_model.specs.File.{FileState}
 use Rattle.cluster_model.specs.Server.{ServerState, Caller, Refusal, NoEffect, server_after, write_refusal, commit_refusal, set_refusal}
 use Rattle.nfs3_wire.specs.Replies.{Nfs3Reply}
-use Rattle.ds_files.specs.Posts.{Acts, IsAsBefore}
+use Rattle.ds_files.specs.declared.journal.Journal.{Journal}
+use Rattle.ds_files.specs.Posts.{Acts, IsAsBefore, entries_made, outcome_made}
+use Rattle.ds_files.proofs.Journals.{none_made}
 use Rattle.ds_files.specs.Objects.{Object, caller_of}
 use Rattle.ds_files.specs.Write.{write_plan, write_unless}
 use Rattle.ds_files.specs.Commit.{commit_plan, commit_unless}
@@ -21,11 +23,11 @@ use Rattle.ds_files.specs.Create.{Creation, NotMade, IsThere, Makes, creation, c
 use Rattle.ds_files.specs.Plans.{Plan, Step, carried_out}
 use Rattle.ds_files.specs.Steps.{plan_of, step_of}
 use Rattle.ds_files.specs.Receive.{Received, Silent, Refused, Asked, outcome_by, outcome_of_step}
-use Rattle.ds_files.specs.Laws.{IsRefusal, IsQuery, HasNoEffect, IsTurnedAway}
+use Rattle.ds_files.specs.Laws.{IsRefusedReply, IsQuery, HasNoEffect, IsTurnedAway}
 use Rattle.ds_files.proofs.AtObject.{at_object}
 
 abbrev IsHarmless : Plan → Type 0
-IsHarmless p = IsRefusal p.reply → p.effect ≡ NoEffect
+IsHarmless p = IsRefusedReply p.reply → p.effect ≡ NoEffect
 
 write_at : (s : ServerState) (index : ℕ) (f : FileState) (offset : ℕ) (how : StableHow) (bytes : List ℕ) (refusal : Option Refusal) → IsHarmless (write_unless s index f offset how bytes refusal)
 write_at s index f offset how bytes (Some refusal) h = refl
@@ -62,7 +64,7 @@ harmless s (Commit handle offset count) caller h =
 nothing_done : (s : ServerState) (uid : ℕ) (p : Plan) → p.effect ≡ NoEffect → HasNoEffect s (carried_out s uid p)
 nothing_done s uid p none = rw none (refl, refl)
 
-pub refusals : (s : ServerState) (call : Nfs3Call) (cred : Credential) → IsRefusal (step_of s call cred).reply → HasNoEffect s (step_of s call cred)
+pub refusals : (s : ServerState) (call : Nfs3Call) (cred : Credential) → IsRefusedReply (step_of s call cred).reply → HasNoEffect s (step_of s call cred)
 refusals s call cred h = nothing_done s cred.uid (plan_of s call (caller_of cred)) (harmless s call (caller_of cred) h)
 
 -- a call that only asks changes nothing
@@ -84,17 +86,18 @@ turned_away s (Refused reply) h = (refl, refl)
 turned_away s (Asked xid call cred) h = refusals s call cred h
 
 -- what a step that has no effect leaves
-acts_stay : (s new : ServerState) (xid : ℕ) (t : Step) (node : NodeId) (before after : Outbox) → HasNoEffect s t → Acts (outcome_of_step xid t) node new before after → (new ≡ s) × (after.entries.items ≡ before.entries.items)
-acts_stay s new xid t node before after none acts = (acts.state ∙ none.0, acts.entries ∙ ap (λ (entries : List Entry). before.entries.items ++ entries) none.1 ∙ append-nil before.entries.items)
+acts_stay : (j : Journal) (s new : ServerState) (xid : ℕ) (t : Step) (node : NodeId) (before after : Outbox) → HasNoEffect s t → Acts (outcome_made j (outcome_of_step xid t)) node new before after → (new ≡ s) × (after.entries.items ≡ before.entries.items)
+acts_stay j s new xid t node before after none acts =
+    (acts.state ∙ none.0, acts.entries ∙ ap (λ (entries : List Entry). before.entries.items ++ entries_made j entries) none.1 ∙ ap (λ (entries : List Entry). before.entries.items ++ entries) (none_made j) ∙ append-nil before.entries.items)
 
 -- the same after a record whose call was served
-pub served_stays : {E : Type 0} (result : Result Unit E) (s new : ServerState) (received : Received) (xid : ℕ) (call : Nfs3Call) (cred : Credential) (node : NodeId) (before after : Outbox) → Asked xid call cred ≡ received
-    → OnOk result (Acts (outcome_of_step xid (step_of s call cred)) node new before after) → OnErr result ((new ≡ s) × IsAsBefore before after) → IsTurnedAway s received → (new ≡ s) × (after.entries.items ≡ before.entries.items)
-served_stays (Ok u) s new received xid call cred node before after is ok err h = acts_stay s new xid (step_of s call cred) node before after (refusals s call cred (subst (λ (r : Received). IsTurnedAway s r) (sym is) h)) ok
-served_stays (Err e) s new received xid call cred node before after is ok err h = (err.0, err.1.entries)
+pub served_stays : {E : Type 0} (j : Journal) (result : Result Unit E) (s new : ServerState) (received : Received) (xid : ℕ) (call : Nfs3Call) (cred : Credential) (node : NodeId) (before after : Outbox) → Asked xid call cred ≡ received
+    → OnOk result (Acts (outcome_made j (outcome_of_step xid (step_of s call cred))) node new before after) → OnErr result ((new ≡ s) × IsAsBefore before after) → IsTurnedAway s received → (new ≡ s) × (after.entries.items ≡ before.entries.items)
+served_stays j (Ok u) s new received xid call cred node before after is ok err h = acts_stay j s new xid (step_of s call cred) node before after (refusals s call cred (subst (λ (r : Received). IsTurnedAway s r) (sym is) h)) ok
+served_stays j (Err e) s new received xid call cred node before after is ok err h = (err.0, err.1.entries)
 
 -- what a plan that was carried out leaves, where it answers a refusal
-pub applied_stays : (s new : ServerState) (call : Nfs3Call) (cred : Credential) (p : Plan) (reply : Nfs3Reply) → p ≡ plan_of s call (caller_of cred) → reply ≡ p.reply → new ≡ server_after s p.effect → IsRefusal reply → new ≡ s
+pub applied_stays : (s new : ServerState) (call : Nfs3Call) (cred : Credential) (p : Plan) (reply : Nfs3Reply) → p ≡ plan_of s call (caller_of cred) → reply ≡ p.reply → new ≡ server_after s p.effect → IsRefusedReply reply → new ≡ s
 applied_stays s new call cred p reply is same after h =
-    let none : p.effect ≡ NoEffect = rw is (harmless s call (caller_of cred) (subst IsRefusal (same ∙ ap (λ (q : Plan). q.reply) is) h)) in
+    let none : p.effect ≡ NoEffect = rw is (harmless s call (caller_of cred) (subst IsRefusedReply (same ∙ ap (λ (q : Plan). q.reply) is) h)) in
     after ∙ ap (server_after s) none

@@ -1,3 +1,4 @@
+pub mod Journals
 pub mod Places
 pub mod AttributesAfter
 pub mod Carried

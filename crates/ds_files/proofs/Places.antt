@@ -1,14 +1,14 @@
 -- What a handle names, and what a write is refused for.
-use Rattle.std.proofs.Common.{◌≡◌, ◌≢◌, ℕ, zero, suc, ◌+◌, ◌-◌, ◌<◌, ◌≤◌, Bool, true, false, cond, eqb, ltb, List, [], ◌∷◌, length, get_or, set, Option, Some, None, max, refl, sym, ap, ◌∙◌, arith, inl, inr}
+use Rattle.std.proofs.Common.{◌≡◌, ◌≢◌, ℕ, zero, suc, ◌+◌, ◌-◌, ◌<◌, ◌≤◌, Bool, true, false, eqb, ltb, List, [], ◌∷◌, length, get_or, set, Option, Some, None, max, refl, sym, ap, ◌∙◌, arith, inl, inr}
 use Rattle.std.specs.Prelude.{slice_get, not}
-use Rattle.std.proofs.lemmas.Bool.{ltb-false, le-ltb, eqb-true, eq-eqb, false≢true}
+use Rattle.std.proofs.lemmas.Bool.{ltb-false, le-ltb, eq-eqb, false≢true}
 use Rattle.std.proofs.lemmas.Bool.Decides.{nat_tests}
 use Rattle.std.proofs.lemmas.Option.{slice_get_cases, slice_get_within, get_or_from_slice_get}
 use Rattle.std.proofs.lemmas.List.Sums.{sum_by-set, get_or-le-sum_by}
 use Rattle.cluster_model.specs.declared.tick.Tick.{Tick}
 use Rattle.cluster_model.specs.Ticks.{next_tick}
 use Rattle.cluster_model.specs.Content.{overlay}
-use Rattle.cluster_model.specs.File.{FileState, shown, taken, written}
+use Rattle.cluster_model.specs.File.{FileState, shown, taken}
 use Rattle.cluster_model.specs.Server.{file_at, named, total_size, Caller, may_write, max_total, max_file, max_ticks, Acces, Inval, Fbig, NoSpc, Jukebox, room_refusal, write_refusal}
 use Rattle.cluster_model.proofs.Placing.{length-overlay}
 use Rattle.cluster_model.proofs.Files.{shown-written}

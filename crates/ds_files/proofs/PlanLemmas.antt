@@ -1,11 +1,10 @@
 -- The plan of a call on a file, by what the code found of it.
 use Rattle.std.proofs.Common.{◌≡◌, ℕ, ◌+◌, ◌<◌, Bool, List, length, get_or, Option, Some, None, refl, sym, ap, subst, ◌∙◌}
-use Rattle.std.specs.Prelude.{slice_get, not, is_some}
+use Rattle.std.specs.Prelude.{slice_get}
 use Rattle.std.specs.Option.{option_map}
 use Rattle.std.proofs.lemmas.Option.{slice_get_read}
 use Rattle.nfs3_wire.specs.declared.status.Stat3.{Stat3}
 use Rattle.nfs3_wire.specs.declared.stable_how.StableHow.{StableHow}
-use Rattle.nfs3_wire.specs.declared.attributes.Fattr3.{Fattr3}
 use Rattle.nfs3_wire.specs.Replies.{WriteRefused, SetAttrRefused}
 use Rattle.cluster_model.specs.declared.tick.Tick.{Tick}
 use Rattle.cluster_model.specs.declared.change.Changes.{Changes}
@@ -15,25 +14,25 @@ use Rattle.ds_files.specs.declared.head.Head.{Head}
 use Rattle.ds_files.specs.Objects.{stat_of, file_attributes, wcc_same}
 use Rattle.ds_files.specs.Write.{is_synced, write_done, write_unless}
 use Rattle.ds_files.specs.Setattr.{set_done, set_unless}
-use Rattle.ds_files.specs.Plans.{Plan, answers}
+use Rattle.ds_files.specs.Plans.{reply_alone}
 use Rattle.ds_files.specs.Heads.{IsServer, server_of, sized_refusal}
 use Rattle.ds_files.specs.CodePlans.{HasRoom, IsReady}
 use Rattle.ds_files.proofs.Places.{refusal_is, granted, same_file}
 
 -- what a status says, that is of a refusal
 write_status : (s : ServerState) (index : ℕ) (x : FileState) (offset : ℕ) (how : StableHow) (bytes : List ℕ) (r : Option Refusal) (status : Stat3) → Some status ≡ option_map stat_of r
-    → answers (WriteRefused status (wcc_same (Some (file_attributes (index + 2) x)))) ≡ write_unless s index x offset how bytes r
+    → reply_alone (WriteRefused status (wcc_same (Some (file_attributes (index + 2) x)))) ≡ write_unless s index x offset how bytes r
 write_status s index x offset how bytes None status e = absurd (cc)
 write_status s index x offset how bytes (Some refusal) status e =
     let same : status ≡ stat_of refusal = cc in
-    ap (λ (st : Stat3). answers (WriteRefused st (wcc_same (Some (file_attributes (index + 2) x))))) same
+    ap (λ (st : Stat3). reply_alone (WriteRefused st (wcc_same (Some (file_attributes (index + 2) x))))) same
 
 set_status : (s : ServerState) (index : ℕ) (x : FileState) (changes : Changes) (r : Option Refusal) (status : Stat3) → Some status ≡ option_map stat_of r
-    → answers (SetAttrRefused status (wcc_same (Some (file_attributes (index + 2) x)))) ≡ set_unless s index x changes r
+    → reply_alone (SetAttrRefused status (wcc_same (Some (file_attributes (index + 2) x)))) ≡ set_unless s index x changes r
 set_status s index x changes None status e = absurd (cc)
 set_status s index x changes (Some refusal) status e =
     let same : status ≡ stat_of refusal = cc in
-    ap (λ (st : Stat3). answers (SetAttrRefused st (wcc_same (Some (file_attributes (index + 2) x))))) same
+    ap (λ (st : Stat3). reply_alone (SetAttrRefused st (wcc_same (Some (file_attributes (index + 2) x))))) same
 
 pub none_by : (r : Option Refusal) → None ≡ option_map stat_of r → r ≡ None
 none_by None e = refl
@@ -50,11 +49,11 @@ module _ (h : Head) (files : List FileState) (index : ℕ) (x : FileState) (call
     same_refusal = refusal_is h files index x caller agree offset bytes k there_is
 
     pub write_refused : (status : Stat3) → Some status ≡ option_map stat_of (sized_refusal h.total h.clock x caller agree offset bytes) → (f : FileState) → slice_get files index ≡ Some f
-        → answers (WriteRefused status (wcc_same (Some (file_attributes (index + 2) x)))) ≡ write_unless (server_of h files) index f offset how bytes (write_refusal (server_of h files) index f caller agree offset bytes)
+        → reply_alone (WriteRefused status (wcc_same (Some (file_attributes (index + 2) x)))) ≡ write_unless (server_of h files) index f offset how bytes (write_refusal (server_of h files) index f caller agree offset bytes)
     write_refused status e f there =
-        let here : answers (WriteRefused status (wcc_same (Some (file_attributes (index + 2) x)))) ≡ write_unless (server_of h files) index x offset how bytes (write_refusal (server_of h files) index x caller agree offset bytes) =
+        let here : reply_alone (WriteRefused status (wcc_same (Some (file_attributes (index + 2) x)))) ≡ write_unless (server_of h files) index x offset how bytes (write_refusal (server_of h files) index x caller agree offset bytes) =
         write_status (server_of h files) index x offset how bytes (write_refusal (server_of h files) index x caller agree offset bytes) status (e ∙ ap (option_map stat_of) same_refusal) in
-        subst (λ (g : FileState). answers (WriteRefused status (wcc_same (Some (file_attributes (index + 2) x)))) ≡ write_unless (server_of h files) index g offset how bytes (write_refusal (server_of h files) index g caller agree offset bytes)) (same_file files index x f is there) here
+        subst (λ (g : FileState). reply_alone (WriteRefused status (wcc_same (Some (file_attributes (index + 2) x)))) ≡ write_unless (server_of h files) index g offset how bytes (write_refusal (server_of h files) index g caller agree offset bytes)) (same_file files index x f is there) here
 
     pub write_granted : None ≡ option_map stat_of (sized_refusal h.total h.clock x caller agree offset bytes) → (f : FileState) → slice_get files index ≡ Some f
         → write_done (server_of h files) index x (Writes offset (is_synced how) bytes) (length bytes) (is_synced how) ≡ write_unless (server_of h files) index f offset how bytes (write_refusal (server_of h files) index f caller agree offset bytes)
@@ -73,11 +72,11 @@ module _ (h : Head) (files : List FileState) (index : ℕ) (x : FileState) (call
 
   module _ (agree : Bool) (guard : Option Tick) (changes : Changes) where
     pub set_refused : (status : Stat3) → Some status ≡ option_map stat_of (set_refusal (server_of h files) x caller agree guard) → (f : FileState) → slice_get files index ≡ Some f
-        → answers (SetAttrRefused status (wcc_same (Some (file_attributes (index + 2) x)))) ≡ set_unless (server_of h files) index f changes (set_refusal (server_of h files) f caller agree guard)
+        → reply_alone (SetAttrRefused status (wcc_same (Some (file_attributes (index + 2) x)))) ≡ set_unless (server_of h files) index f changes (set_refusal (server_of h files) f caller agree guard)
     set_refused status e f there =
-        let here : answers (SetAttrRefused status (wcc_same (Some (file_attributes (index + 2) x)))) ≡ set_unless (server_of h files) index x changes (set_refusal (server_of h files) x caller agree guard) =
+        let here : reply_alone (SetAttrRefused status (wcc_same (Some (file_attributes (index + 2) x)))) ≡ set_unless (server_of h files) index x changes (set_refusal (server_of h files) x caller agree guard) =
         set_status (server_of h files) index x changes (set_refusal (server_of h files) x caller agree guard) status e in
-        subst (λ (g : FileState). answers (SetAttrRefused status (wcc_same (Some (file_attributes (index + 2) x)))) ≡ set_unless (server_of h files) index g changes (set_refusal (server_of h files) g caller agree guard)) (same_file files index x f is there) here
+        subst (λ (g : FileState). reply_alone (SetAttrRefused status (wcc_same (Some (file_attributes (index + 2) x)))) ≡ set_unless (server_of h files) index g changes (set_refusal (server_of h files) g caller agree guard)) (same_file files index x f is there) here
 
     pub set_granted : None ≡ option_map stat_of (set_refusal (server_of h files) x caller agree guard) → (f : FileState) → slice_get files index ≡ Some f
         → set_done (server_of h files) index x changes ≡ set_unless (server_of h files) index f changes (set_refusal (server_of h files) f caller agree guard)

@@ -1,12 +1,9 @@
 -- Runs of calls and restarts.
-use Rattle.std.proofs.Common.{◌≡◌, ℕ, eqb, cond, List, [], ◌∷◌, ◌++◌, Some, refl, subst, sym, ap, ◌∙◌}
+use Rattle.std.proofs.Common.{ℕ, eqb, List, [], ◌∷◌, ◌++◌}
 use Rattle.std.proofs.lemmas.Bool.{cond_both, eqb-false}
-use Rattle.std.specs.Prelude.{slice_get}
-use Rattle.cluster_model.specs.declared.piece.Piece.{Piece}
 use Rattle.cluster_model.specs.Server.{ServerState, new_server, max_boot}
 use Rattle.cluster_model.specs.ServerLaws.{Turn, StartsAgain, turn_after, AreAllowed, run_after}
 use Rattle.cluster_model.proofs.Runs.{rising as rising_run, told as told_run}
-use Rattle.ds_files.specs.Objects.{caller_of}
 use Rattle.ds_files.specs.Laws.{Happening, Calls, Restarts, turns_by, turns_of, IsTimedRun, IsToldRun}
 use Rattle.ds_files.proofs.Asked.{permitted}
 

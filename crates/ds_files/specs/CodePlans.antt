@@ -1,5 +1,5 @@
 -- What the code's plans say, and what is known of them.
-use Rattle.std.specs.Prelude.{◌≡◌, ℕ, ◌+◌, ◌-◌, ◌<◌, ◌≤◌, ◌^◌, List, [], ◌∷◌, length, Option, Some, None, max, slice_get}
+use Rattle.std.specs.Prelude.{◌≡◌, ℕ, ◌+◌, ◌-◌, ◌<◌, ◌≤◌, ◌^◌, List, [], ◌∷◌, length, Some, None, max, slice_get}
 use Rattle.nfs3_wire.specs.declared.create.CreateArgs.{CreateArgs}
 use Rattle.rpc_record.specs.declared.auth.AuthSys.{AuthSys}
 use Rattle.cluster_model.specs.declared.tick.Tick.{Tick}

@@ -5,15 +5,15 @@ use Rattle.nfs3_wire.specs.declared.status.Stat3.TheVariants as stat
 use Rattle.nfs3_wire.specs.declared.sattr.Sattr3.{Sattr3}
 use Rattle.nfs3_wire.specs.declared.create.CreateHow.{CreateHow}
 use Rattle.nfs3_wire.specs.declared.create.CreateHow.TheVariants as how
-use Rattle.nfs3_wire.specs.Replies.{Nfs3Reply, CreateDone, CreateRefused}
+use Rattle.nfs3_wire.specs.Replies.{CreateDone, CreateRefused}
 use Rattle.cluster_model.specs.declared.tick.Tick.{Tick}
-use Rattle.cluster_model.specs.File.{FileState, new_file}
+use Rattle.cluster_model.specs.File.{new_file}
 use Rattle.cluster_model.specs.Ticks.{next_tick}
 use Rattle.cluster_model.specs.Server.{ServerState, Caller, Refusal, NewFile, index_of, tick_refusal, root_after}
 use Rattle.ds_files.specs.Objects.{Object, Missing, Root, File, attributes_of, attributes_at, root_attributes, file_attributes, handle_of, wcc_between, wcc_same, stat_of}
 use Rattle.ds_files.specs.Lookup.{max_name}
 use Rattle.ds_files.specs.Setattr.{mode_of}
-use Rattle.ds_files.specs.Plans.{Plan, answers}
+use Rattle.ds_files.specs.Plans.{Plan, reply_alone}
 
 -- why a file is not made; the file that has the name; or none has, and it is to be made
 pub data Creation : Type 0 where
@@ -26,13 +26,13 @@ abbrev pub has_size : Option ℕ → Bool
 has_size None = false
 has_size (Some size) = not (size == 0)
 
-abbrev pub made_unless : Sattr3 → Option Refusal → Creation
-made_unless a (Some refusal) = NotMade (stat_of refusal)
-made_unless a None = Makes a
+abbrev pub creation_unless : Sattr3 → Option Refusal → Creation
+creation_unless a (Some refusal) = NotMade (stat_of refusal)
+creation_unless a None = Makes a
 
 abbrev pub made_by : Tick → Sattr3 → Option ℕ → Creation
 made_by clock a (Some index) = IsThere index
-made_by clock a None = made_unless a (tick_refusal clock)
+made_by clock a None = creation_unless a (tick_refusal clock)
 
 -- GUARDED refuses a name that is there
 abbrev pub named_by : Tick → List ℕ → Bool → Sattr3 → Option ℕ → Creation
@@ -70,11 +70,11 @@ create_done s name owner group mode = record {
 }
 
 abbrev pub create_in : ServerState → List ℕ → Caller → Creation → Plan
-create_in s name caller (NotMade status) = answers (CreateRefused status (wcc_same (attributes_of s Root)))
-create_in s name caller (IsThere index) = answers (CreateDone (Some (handle_of index)) (attributes_at s.files index) (wcc_same (attributes_of s Root)))
+create_in s name caller (NotMade status) = reply_alone (CreateRefused status (wcc_same (attributes_of s Root)))
+create_in s name caller (IsThere index) = reply_alone (CreateDone (Some (handle_of index)) (attributes_at s.files index) (wcc_same (attributes_of s Root)))
 create_in s name caller (Makes a) = create_done s name (owner_of a caller) (group_of a caller) (file_mode_of a)
 
 abbrev pub create_plan : ServerState → Object → List ℕ → CreateHow → Caller → Plan
-create_plan s (Missing status) name manner caller = answers (CreateRefused status (wcc_same None))
-create_plan s (File index f) name manner caller = answers (CreateRefused stat.NotDir (wcc_same (attributes_of s (File index f))))
+create_plan s (Missing status) name manner caller = reply_alone (CreateRefused status (wcc_same None))
+create_plan s (File index f) name manner caller = reply_alone (CreateRefused stat.NotDir (wcc_same (attributes_of s (File index f))))
 create_plan s Root name manner caller = create_in s name caller (creation s.clock s.names name manner caller)

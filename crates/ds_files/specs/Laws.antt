@@ -15,8 +15,8 @@ use Rattle.cluster_model.specs.declared.piece.Piece.{Piece}
 use Rattle.cluster_model.specs.Ticks.{IsRising}
 use Rattle.cluster_model.specs.File.{FileState, Writes, Commits, Sets}
 use Rattle.cluster_model.specs.Journal.{content_of}
-use Rattle.cluster_model.specs.Server.{ServerState, new_server, differs, index_of, max_boot, mirror_of, Effect, NoEffect, OnFile, NewFile}
-use Rattle.cluster_model.specs.ServerLaws.{copy_of, Turn, Does, StartsAgain, run_after, run_entries, run_ticks, AreAllowed}
+use Rattle.cluster_model.specs.Server.{ServerState, differs, index_of, max_boot, mirror_of, Effect, NoEffect, OnFile, NewFile}
+use Rattle.cluster_model.specs.ServerLaws.{copy_of, Turn, Does, StartsAgain, run_after, run_entries, run_ticks}
 use Rattle.ds_files.specs.Objects.{Root, File, object_of, caller_of}
 use Rattle.ds_files.specs.Write.{is_synced}
 use Rattle.ds_files.specs.Setattr.{changes_of, tick_of}
@@ -25,16 +25,16 @@ use Rattle.ds_files.specs.Steps.{plan_of, step_of}
 use Rattle.ds_files.specs.Receive.{Received, Silent, Refused, Asked}
 
 -- a call is refused
-abbrev pub IsRefusal : Nfs3Reply → Type 0
-IsRefusal (replies.GetAttrRefused status) = Unit {0}
-IsRefusal (replies.SetAttrRefused status wcc) = Unit {0}
-IsRefusal (replies.LookupRefused status directory) = Unit {0}
-IsRefusal (replies.ReadRefused status attributes) = Unit {0}
-IsRefusal (replies.WriteRefused status wcc) = Unit {0}
-IsRefusal (replies.CreateRefused status wcc) = Unit {0}
-IsRefusal (replies.FsInfoRefused status attributes) = Unit {0}
-IsRefusal (replies.CommitRefused status wcc) = Unit {0}
-IsRefusal _ = ⊥
+abbrev pub IsRefusedReply : Nfs3Reply → Type 0
+IsRefusedReply (replies.GetAttrRefused status) = Unit {0}
+IsRefusedReply (replies.SetAttrRefused status wcc) = Unit {0}
+IsRefusedReply (replies.LookupRefused status directory) = Unit {0}
+IsRefusedReply (replies.ReadRefused status attributes) = Unit {0}
+IsRefusedReply (replies.WriteRefused status wcc) = Unit {0}
+IsRefusedReply (replies.CreateRefused status wcc) = Unit {0}
+IsRefusedReply (replies.FsInfoRefused status attributes) = Unit {0}
+IsRefusedReply (replies.CommitRefused status wcc) = Unit {0}
+IsRefusedReply _ = ⊥
 
 -- a call that only asks
 abbrev pub IsQuery : Nfs3Call → Type 0
@@ -53,7 +53,7 @@ HasNoEffect s t = (t.server ≡ s) × (t.entries ≡ [])
 abbrev pub IsTurnedAway : ServerState → Received → Type 0
 IsTurnedAway s Silent = Unit {0}
 IsTurnedAway s (Refused reply) = Unit {0}
-IsTurnedAway s (Asked xid call cred) = IsRefusal (step_of s call cred).reply
+IsTurnedAway s (Asked xid call cred) = IsRefusedReply (step_of s call cred).reply
 
 -- ---- what is done is what the call asks for
 

@@ -9,8 +9,8 @@ pub record Plan : Type 0 where
   pub effect : Effect
 
 -- an answer alone
-abbrev pub answers : Nfs3Reply → Plan
-answers reply = record { reply = reply; effect = NoEffect }
+abbrev pub reply_alone : Nfs3Reply → Plan
+reply_alone reply = record { reply = reply; effect = NoEffect }
 
 -- one step: the server after it, the answer, and the entries of the journal
 pub record Step : Type 0 where

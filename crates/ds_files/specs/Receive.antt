@@ -9,7 +9,7 @@ use Rattle.rpc_record.specs.Rpc.{Credential, credential_of, authsys_parms}
 use Rattle.rpc_record.specs.Calls as rpc
 use Rattle.rpc_record.specs.Replies as rpc_reply
 use Rattle.nfs3_wire.specs.Calls.{Nfs3Call, calls, call_of}
-use Rattle.nfs3_wire.specs.Replies.{replies, reply_value}
+use Rattle.nfs3_wire.specs.Replies.{nfs3_results, reply_value}
 use Rattle.cluster_model.specs.declared.entry.Entry.{Entry}
 use Rattle.cluster_model.specs.Server.{ServerState}
 use Rattle.ds_files.specs.Plans.{Step}
@@ -77,7 +77,7 @@ pub record Outcome : Type 0 where
   pub reply : Option (List ℕ)
 
 abbrev pub success_bytes : ℕ → Step → List ℕ
-success_bytes xid t = rpc_reply.reply_bytes (replies_with xid rpc_reply.success (arm_spelling replies (reply_value t.reply)))
+success_bytes xid t = rpc_reply.reply_bytes (replies_with xid rpc_reply.success (arm_spelling nfs3_results (reply_value t.reply)))
 
 abbrev pub outcome_of_step : ℕ → Step → Outcome
 outcome_of_step xid t = record { server = t.server; entries = t.entries; reply = Some (success_bytes xid t) }

@@ -6,7 +6,7 @@ use Rattle.nfs3_wire.specs.declared.attributes.Time3.{Time3}
 use Rattle.nfs3_wire.specs.declared.sattr.SetTime.{SetTime}
 use Rattle.nfs3_wire.specs.declared.sattr.SetTime.TheVariants as set_time
 use Rattle.nfs3_wire.specs.declared.sattr.Sattr3.{Sattr3}
-use Rattle.nfs3_wire.specs.Replies.{Nfs3Reply, SetAttrDone, SetAttrRefused}
+use Rattle.nfs3_wire.specs.Replies.{SetAttrDone, SetAttrRefused}
 use Rattle.cluster_model.specs.declared.tick.Tick.{Tick}
 use Rattle.cluster_model.specs.declared.change.NewTime.{NewTime}
 use Rattle.cluster_model.specs.declared.change.NewTime.TheVariants as new
@@ -14,7 +14,7 @@ use Rattle.cluster_model.specs.declared.change.Changes.{Changes}
 use Rattle.cluster_model.specs.File.{FileState, Sets, file_after}
 use Rattle.cluster_model.specs.Server.{ServerState, Caller, Refusal, OnFile, set_refusal}
 use Rattle.ds_files.specs.Objects.{Object, Missing, Root, File, attributes_of, file_attributes, wcc_between, wcc_same, stat_of}
-use Rattle.ds_files.specs.Plans.{Plan, answers}
+use Rattle.ds_files.specs.Plans.{Plan, reply_alone}
 
 -- a time as a tick: the seconds are the boot, the nanoseconds the count
 abbrev pub tick_of : Time3 → Tick
@@ -39,10 +39,10 @@ set_done s index f changes = record {
 }
 
 abbrev pub set_unless : ServerState → ℕ → FileState → Changes → Option Refusal → Plan
-set_unless s index f changes (Some refusal) = answers (SetAttrRefused (stat_of refusal) (wcc_same (attributes_of s (File index f))))
+set_unless s index f changes (Some refusal) = reply_alone (SetAttrRefused (stat_of refusal) (wcc_same (attributes_of s (File index f))))
 set_unless s index f changes None = set_done s index f changes
 
 abbrev pub set_plan : ServerState → Object → Sattr3 → Option Time3 → Caller → Plan
-set_plan s (Missing status) a guard caller = answers (SetAttrRefused status (wcc_same None))
-set_plan s Root a guard caller = answers (SetAttrRefused stat.Inval (wcc_same (attributes_of s Root)))
+set_plan s (Missing status) a guard caller = reply_alone (SetAttrRefused status (wcc_same None))
+set_plan s Root a guard caller = reply_alone (SetAttrRefused stat.Inval (wcc_same (attributes_of s Root)))
 set_plan s (File index f) a guard caller = set_unless s index f (changes_of a) (set_refusal s f caller (not (is_some a.size)) (option_map tick_of guard))

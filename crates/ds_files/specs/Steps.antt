@@ -8,7 +8,7 @@ use Rattle.nfs3_wire.specs.Calls as calls
 use Rattle.nfs3_wire.specs.Replies as replies
 use Rattle.cluster_model.specs.Server.{ServerState, Caller}
 use Rattle.ds_files.specs.Objects.{object_of, caller_of}
-use Rattle.ds_files.specs.Plans.{Plan, answers, Step, carried_out}
+use Rattle.ds_files.specs.Plans.{Plan, reply_alone, Step, carried_out}
 use Rattle.ds_files.specs.Getattr.{getattr_reply}
 use Rattle.ds_files.specs.Setattr.{set_plan}
 use Rattle.ds_files.specs.Lookup.{lookup_reply}
@@ -20,14 +20,14 @@ use Rattle.ds_files.specs.Commit.{commit_plan}
 
 -- what a call comes to
 abbrev pub plan_of : ServerState → Nfs3Call → Caller → Plan
-plan_of s calls.Null caller = answers replies.Null
-plan_of s (calls.GetAttr handle) caller = answers (getattr_reply s (object_of s.files handle))
+plan_of s calls.Null caller = reply_alone replies.Null
+plan_of s (calls.GetAttr handle) caller = reply_alone (getattr_reply s (object_of s.files handle))
 plan_of s (calls.SetAttr handle a guard) caller = set_plan s (object_of s.files handle) a guard caller
-plan_of s (calls.Lookup handle name) caller = answers (lookup_reply s (object_of s.files handle) name)
-plan_of s (calls.Read handle offset count) caller = answers (read_reply s (object_of s.files handle) offset count caller)
+plan_of s (calls.Lookup handle name) caller = reply_alone (lookup_reply s (object_of s.files handle) name)
+plan_of s (calls.Read handle offset count) caller = reply_alone (read_reply s (object_of s.files handle) offset count caller)
 plan_of s (calls.Write handle offset count stability bytes) caller = write_plan s (object_of s.files handle) offset count stability bytes caller
 plan_of s (calls.Create handle name manner) caller = create_plan s (object_of s.files handle) name manner caller
-plan_of s (calls.FsInfo handle) caller = answers (fsinfo_reply s (object_of s.files handle))
+plan_of s (calls.FsInfo handle) caller = reply_alone (fsinfo_reply s (object_of s.files handle))
 plan_of s (calls.Commit handle offset count) caller = commit_plan s (object_of s.files handle) caller
 
 -- what a call by this credential does

@@ -3,11 +3,11 @@ use Rattle.std.specs.Prelude.{ℕ, ◌+◌, Bool, true, false, List, length, Opt
 use Rattle.nfs3_wire.specs.declared.stable_how.StableHow.{StableHow}
 use Rattle.nfs3_wire.specs.declared.stable_how.StableHow.TheVariants.{Unstable, DataSync, FileSync}
 use Rattle.nfs3_wire.specs.declared.status.Stat3.TheVariants as stat
-use Rattle.nfs3_wire.specs.Replies.{Nfs3Reply, WriteDone, WriteRefused}
+use Rattle.nfs3_wire.specs.Replies.{WriteDone, WriteRefused}
 use Rattle.cluster_model.specs.File.{FileState, FileOp, Writes, file_after}
 use Rattle.cluster_model.specs.Server.{ServerState, Caller, Refusal, OnFile, write_refusal}
 use Rattle.ds_files.specs.Objects.{Object, Missing, Root, File, attributes_of, file_attributes, wcc_between, wcc_same, stat_of}
-use Rattle.ds_files.specs.Plans.{Plan, answers}
+use Rattle.ds_files.specs.Plans.{Plan, reply_alone}
 
 abbrev pub is_synced : StableHow → Bool
 is_synced Unstable = false
@@ -25,11 +25,11 @@ write_done s index f op count synced = record {
 }
 
 abbrev pub write_unless : ServerState → ℕ → FileState → ℕ → StableHow → List ℕ → Option Refusal → Plan
-write_unless s index f offset stability bytes (Some refusal) = answers (WriteRefused (stat_of refusal) (wcc_same (attributes_of s (File index f))))
+write_unless s index f offset stability bytes (Some refusal) = reply_alone (WriteRefused (stat_of refusal) (wcc_same (attributes_of s (File index f))))
 write_unless s index f offset stability bytes None = write_done s index f (Writes offset (is_synced stability) bytes) (length bytes) (is_synced stability)
 
 -- the count that is named is that of the bytes
 abbrev pub write_plan : ServerState → Object → ℕ → ℕ → StableHow → List ℕ → Caller → Plan
-write_plan s (Missing status) offset count stability bytes caller = answers (WriteRefused status (wcc_same None))
-write_plan s Root offset count stability bytes caller = answers (WriteRefused stat.Inval (wcc_same (attributes_of s Root)))
+write_plan s (Missing status) offset count stability bytes caller = reply_alone (WriteRefused status (wcc_same None))
+write_plan s Root offset count stability bytes caller = reply_alone (WriteRefused stat.Inval (wcc_same (attributes_of s Root)))
 write_plan s (File index f) offset count stability bytes caller = write_unless s index f offset stability bytes (write_refusal s index f caller (count == length bytes) offset bytes)

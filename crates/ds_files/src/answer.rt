@@ -2,7 +2,7 @@
 
 ghost use Rattle.std.specs.Prelude.{◌≡◌, IfOk};
 ghost use Rattle.ff_xdr.specs.Form.{Fits};
-ghost use Rattle.nfs3_wire.specs.Replies.{replies, reply_value, plain_reply};
+ghost use Rattle.nfs3_wire.specs.Replies.{nfs3_results, reply_value, plain_reply};
 ghost use Rattle.ds_files.specs.Answer.{reply_with};
 
 use crate::stored::{StoredReply, lend};
@@ -21,20 +21,20 @@ pub struct Response<'s> {
 
 impl<'s> Model for Response<'s> {
     ghost use Rattle.ff_xdr.specs.Form.{Fits};
-    ghost use Rattle.nfs3_wire.specs.Replies.{Nfs3Reply, replies, reply_value};
+    ghost use Rattle.nfs3_wire.specs.Replies.{Nfs3Reply, nfs3_results, reply_value};
     ghost use Rattle.ds_files.specs.Answer.{reply_with};
 
     ghost Value = { Nfs3Reply };
 
     ghost view = { λ r. reply_with r.reply r.bytes.now };
 
-    ghost invariant = { λ r. Fits replies (reply_value (reply_with r.reply r.bytes.now)) };
+    ghost invariant = { λ r. Fits nfs3_results (reply_value (reply_with r.reply r.bytes.now)) };
 }
 
 impl<'s> Response<'s> {
     /// This result, whose READ gave these bytes.
     pub fn new(reply: StoredReply, bytes: &'s [u8]) -> Response<'s>
-        requires { Fits replies (reply_value (reply_with reply bytes.now)) }
+        requires { Fits nfs3_results (reply_value (reply_with reply bytes.now)) }
         ensures { result ≡ reply_with reply bytes.entry.now }
     {
         Response { reply, bytes }
@@ -43,7 +43,7 @@ impl<'s> Response<'s> {
     /// The result; takes no memory.
     pub fn reply(&self) -> Reply3<'_>
         ensures same { plain_reply result ≡ self.now }
-        ensures fits { Fits replies (reply_value self.now) }
+        ensures fits { Fits nfs3_results (reply_value self.now) }
     {
         lend(&self.reply, self.bytes)
     }
@@ -72,21 +72,21 @@ pub struct Answer3 {
 
 impl Model for Answer3 {
     ghost use Rattle.ff_xdr.specs.Form.{Fits};
-    ghost use Rattle.nfs3_wire.specs.Replies.{replies, reply_value};
+    ghost use Rattle.nfs3_wire.specs.Replies.{nfs3_results, reply_value};
     ghost use Rattle.ds_files.specs.Answer.{Answer, reply_with};
 
     ghost Value = { Answer };
 
     ghost view = { λ a. record { reply = reply_with a.reply a.bytes; entries = a.entries.items } };
 
-    ghost invariant = { λ a. Fits replies (reply_value (reply_with a.reply a.bytes)) };
+    ghost invariant = { λ a. Fits nfs3_results (reply_value (reply_with a.reply a.bytes)) };
 }
 
 impl Answer3 {
     /// The result; takes no memory.
     pub fn reply(&self) -> Reply3<'_>
         ensures same { plain_reply result ≡ self.now.reply }
-        ensures fits { Fits replies (reply_value self.now.reply) }
+        ensures fits { Fits nfs3_results (reply_value self.now.reply) }
     {
         lend(&self.reply, self.bytes.bytes())
     }

@@ -13,7 +13,7 @@ use crate::attributes::{file_attributes, root_attributes, wcc_between, wcc_same}
 use crate::head::Head;
 use crate::object::Place;
 use crate::objects::place_of;
-use crate::plan::{Effect, Plan, answers};
+use crate::plan::{Effect, Plan, reply_alone};
 use crate::stored::StoredReply;
 use data_file::DataFile;
 use nfs3_wire::{CommitArgs, CommitOk, CommitReply, Stat3};
@@ -35,7 +35,7 @@ fn on_file<'s, 'c>(
     let attributes = file_attributes(index as u64 + 2, file);
     if !may_write(file, cred) {
         let same = wcc_same(Some(attributes));
-        return answers(StoredReply::Commit(CommitReply::Refused(Stat3::Acces, same)));
+        return reply_alone(StoredReply::Commit(CommitReply::Refused(Stat3::Acces, same)));
     }
     let reply = StoredReply::Commit(CommitReply::Done(CommitOk {
         wcc: wcc_between(&attributes, attributes),
@@ -59,11 +59,11 @@ pub fn commit_plan<'s, 'c>(
 {
     match place_of(files, args.file) {
         Place::Missing(status) => {
-            answers(StoredReply::Commit(CommitReply::Refused(status, wcc_same(None))))
+            reply_alone(StoredReply::Commit(CommitReply::Refused(status, wcc_same(None))))
         }
         Place::Root => {
             let same = wcc_same(Some(root_attributes(head.root)));
-            answers(StoredReply::Commit(CommitReply::Refused(Stat3::Inval, same)))
+            reply_alone(StoredReply::Commit(CommitReply::Refused(Stat3::Inval, same)))
         }
         Place::File(index) => on_file(head, files, index, cred),
     }

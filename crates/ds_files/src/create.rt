@@ -14,7 +14,7 @@ use crate::head::Head;
 use crate::lookup::MAX_NAME;
 use crate::object::Place;
 use crate::objects::{attributes_at, attributes_of_file, handle_of, place_of};
-use crate::plan::{Effect, Plan, answers};
+use crate::plan::{Effect, Plan, reply_alone};
 use crate::setattr::mode_of;
 use crate::stored::StoredReply;
 use cluster_model::{Tick, Times};
@@ -167,8 +167,8 @@ fn in_root<'s, 'c>(
 {
     let same = wcc_same(Some(root_attributes(head.root)));
     match creation_in_root(head, args, cred) {
-        Creation::Refuses(status) => answers(StoredReply::CreateRefused { status, wcc: same }),
-        Creation::IsThere(index) => answers(StoredReply::CreateDone {
+        Creation::Refuses(status) => reply_alone(StoredReply::CreateRefused { status, wcc: same }),
+        Creation::IsThere(index) => reply_alone(StoredReply::CreateDone {
             file: handle_of(index),
             attributes: attributes_at(files, index),
             wcc: same,
@@ -195,11 +195,11 @@ pub fn create_plan<'s, 'c>(
     ensures ready { IsReady head.now files.now (plain_effect result.effect) }
 {
     match place_of(files, args.directory) {
-        Place::Missing(status) => answers(StoredReply::CreateRefused {
+        Place::Missing(status) => reply_alone(StoredReply::CreateRefused {
             status,
             wcc: wcc_same(None),
         }),
-        Place::File(index) => answers(StoredReply::CreateRefused {
+        Place::File(index) => reply_alone(StoredReply::CreateRefused {
             status: Stat3::NotDir,
             wcc: wcc_same(Some(attributes_of_file(files, index))),
         }),

@@ -2,7 +2,7 @@
 
 ghost use Rattle.std.specs.Prelude.{◌≡◌, []};
 ghost use Rattle.ff_xdr.specs.Form.{Fits};
-ghost use Rattle.nfs3_wire.specs.Replies.{replies, reply_value};
+ghost use Rattle.nfs3_wire.specs.Replies.{nfs3_results, reply_value};
 ghost use Rattle.ds_files.specs.Objects.{object_of};
 ghost use Rattle.ds_files.specs.Fsinfo.{server_info, fsinfo_reply};
 ghost use Rattle.ds_files.specs.Answer.{reply_with};
@@ -49,7 +49,7 @@ fn server_info(attributes: Option<Fattr3>) -> FsInfoOk
 /// What an FSINFO is answered.
 pub fn fsinfo_reply(head: &Head, files: &[DataFile], args: &FsInfoArgs<'_>) -> StoredReply
     ensures reply { reply_with result [] ≡ fsinfo_reply (server_of head.now files.now) (object_of files.now args.now.root.now) }
-    ensures fits { Fits replies (reply_value (reply_with result [])) }
+    ensures fits { Fits nfs3_results (reply_value (reply_with result [])) }
 {
     StoredReply::FsInfo(match place_of(files, args.root) {
         Place::Missing(status) => FsInfoReply::Refused(status, None),

@@ -6,7 +6,7 @@ ghost use Rattle.ds_files.specs.Getattr.{getattr_reply};
 ghost use Rattle.ds_files.specs.Answer.{reply_with};
 ghost use Rattle.ds_files.specs.Heads.{server_of};
 ghost use Rattle.ff_xdr.specs.Form.{Fits};
-ghost use Rattle.nfs3_wire.specs.Replies.{replies, reply_value};
+ghost use Rattle.nfs3_wire.specs.Replies.{nfs3_results, reply_value};
 ghost use Rattle.std.specs.Prelude.{[]};
 
 use crate::attributes::root_attributes;
@@ -20,7 +20,7 @@ use nfs3_wire::{GetAttrArgs, GetAttrReply};
 /// What a GETATTR is answered.
 pub fn getattr_reply(head: &Head, files: &[DataFile], args: &GetAttrArgs<'_>) -> StoredReply
     ensures reply { reply_with result [] ≡ getattr_reply (server_of head.now files.now) (object_of files.now args.now.file.now) }
-    ensures fits { Fits replies (reply_value (reply_with result [])) }
+    ensures fits { Fits nfs3_results (reply_value (reply_with result [])) }
 {
     StoredReply::GetAttr(match place_of(files, args.file) {
         Place::Missing(status) => GetAttrReply::Refused(status, ()),

@@ -9,7 +9,7 @@ ghost use Rattle.cluster_model.specs.Server.{ServerState, new_server, restart_of
 ghost use Rattle.cluster_model.specs.ServerLaws.{IsPermitted, IsSafe, IsTimed, AreClocked, TellsOld, TellsNew, IsRestarted};
 ghost use Rattle.ds_files.specs.Objects.{caller_of};
 ghost use Rattle.ds_files.specs.Steps.{plan_of, step_of};
-ghost use Rattle.ds_files.specs.Laws.{IsRefusal, IsQuery, HasNoEffect, IsAsked, Happening, IsTimedRun, IsToldRun};
+ghost use Rattle.ds_files.specs.Laws.{IsRefusedReply, IsQuery, HasNoEffect, IsAsked, Happening, IsTimedRun, IsToldRun};
 
 /// A caller that is neither uid 0 nor the owner of a file changes nothing of it.
 pub fn strangers()
@@ -18,7 +18,7 @@ pub fn strangers()
 
 /// A call that is refused changes nothing and is not entered in the journal, nor is one that only asks.
 pub fn refusals()
-    ensures refused { (s : ServerState) (call : Nfs3Call) (cred : Credential) → IsRefusal (step_of s call cred).reply → HasNoEffect s (step_of s call cred) }
+    ensures refused { (s : ServerState) (call : Nfs3Call) (cred : Credential) → IsRefusedReply (step_of s call cred).reply → HasNoEffect s (step_of s call cred) }
     ensures queries { (s : ServerState) (call : Nfs3Call) (cred : Credential) → IsQuery call → HasNoEffect s (step_of s call cred) }
 {}
 

@@ -10,6 +10,7 @@ mod create;
 mod fsinfo;
 mod getattr;
 mod head;
+mod journal;
 mod laws;
 mod lookup;
 mod names;

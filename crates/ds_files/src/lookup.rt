@@ -2,7 +2,7 @@
 
 ghost use Rattle.std.specs.Prelude.{◌≡◌, []};
 ghost use Rattle.ff_xdr.specs.Form.{Fits};
-ghost use Rattle.nfs3_wire.specs.Replies.{replies, reply_value};
+ghost use Rattle.nfs3_wire.specs.Replies.{nfs3_results, reply_value};
 ghost use Rattle.ds_files.specs.Objects.{object_of, Root};
 ghost use Rattle.ds_files.specs.Lookup.{lookup_reply};
 ghost use Rattle.ds_files.specs.Answer.{reply_with};
@@ -23,7 +23,7 @@ pub const MAX_NAME: usize = 255;
 fn root_reply(head: &Head, files: &[DataFile], name: &[u8]) -> StoredReply
     requires { IsServer head.now files.now }
     ensures reply { reply_with result [] ≡ lookup_reply (server_of head.now files.now) Root name.now }
-    ensures fits { Fits replies (reply_value (reply_with result [])) }
+    ensures fits { Fits nfs3_results (reply_value (reply_with result [])) }
 {
     let directory = Some(root_attributes(head.root));
     if name.len() > MAX_NAME {
@@ -49,7 +49,7 @@ fn root_reply(head: &Head, files: &[DataFile], name: &[u8]) -> StoredReply
 pub fn lookup_reply(head: &Head, files: &[DataFile], args: &LookupArgs<'_>) -> StoredReply
     requires { IsServer head.now files.now }
     ensures reply { reply_with result [] ≡ lookup_reply (server_of head.now files.now) (object_of files.now args.now.directory.now) args.now.name.now }
-    ensures fits { Fits replies (reply_value (reply_with result [])) }
+    ensures fits { Fits nfs3_results (reply_value (reply_with result [])) }
 {
     match place_of(files, args.directory) {
         Place::Missing(status) => StoredReply::LookupRefused {

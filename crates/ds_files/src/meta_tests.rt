@@ -1,11 +1,7 @@
 //! Calls that ask for attributes and names or set them, and what makes a file or commits one.
 
-use crate::DataServer;
-use crate::tables::Bench;
-use std::test::Fail;
-
 /// GETATTR, LOOKUP and FSINFO, which anyone may ask.
-const QUERIES: &str = "\
+pub const QUERIES: &str = "\
 GETATTR of the root and of a file, by anyone
 > call nfs getattr owner verf dir
 < success ok dir_attr
@@ -83,7 +79,7 @@ a handle names nothing
 ";
 
 /// What a SETATTR is refused for, the first reason of all that hold.
-const SETATTR_REFUSED: &str = "\
+pub const SETATTR_REFUSED: &str = "\
 a handle has not eight bytes, also by a stranger, with a size and with another guard
 > call nfs setattr root verf short no_sattr no_guard
 < success bad_handle no_attr no_attr
@@ -138,7 +134,7 @@ nothing was changed
 ";
 
 /// What a SETATTR sets, one after the other.
-const SETATTR_DONE: &str = "\
+pub const SETATTR_DONE: &str = "\
 nothing is named, and the guard is the ctime: that alone is another one
 > call nfs setattr root verf file no_sattr guard 1.1
 < success ok attr empty_before attr reg640 #65536 #65536 0_bytes at2 1.1 1.1 1.2
@@ -175,7 +171,7 @@ the root's times stay
 ";
 
 /// Who may do what with a file, by its mode.
-const MODES: &str = "\
+pub const MODES: &str = "\
 mode 0: only uid 0 may do anything
 > call nfs setattr root verf file set 00000000 keep keep keep keep keep no_guard
 < success ok attr empty_before attr reg 00000000 one_link #65536 #65536 0_bytes at2 1.1 1.1 1.2
@@ -236,7 +232,7 @@ mode 0200: the owner writes and commits; mode 0027 lets no one do anything
 ";
 
 /// What a CREATE is refused for, the first reason of all that hold.
-const CREATE_REFUSED: &str = "\
+pub const CREATE_REFUSED: &str = "\
 a handle has not eight bytes, also by a stranger with a long name
 > call nfs create root verf short 'x unchecked no_sattr
 < success bad_handle no_attr no_attr
@@ -314,7 +310,7 @@ nothing was made
 ";
 
 /// What a CREATE makes, one after the other.
-const CREATE_DONE: &str = "\
+pub const CREATE_DONE: &str = "\
 UNCHECKED finds a name that is there, and changes nothing, whatever is named
 > call nfs create root verf dir 'm1 unchecked no_sattr
 < success ok handle file attr empty attr dir_before attr dir_attr
@@ -365,7 +361,7 @@ the first file is as it was, and the handle behind the last names nothing
 ";
 
 /// COMMITs.
-const COMMITS: &str = "\
+pub const COMMITS: &str = "\
 a handle has not eight bytes, also by a stranger
 > call nfs commit owner verf short first 00000000
 < success bad_handle no_attr no_attr
@@ -418,7 +414,7 @@ what was committed outlives a restart
 ";
 
 /// The last tick of a boot goes to a SETATTR, and the next boot has others.
-const LAST_SETATTR: &str = "\
+pub const LAST_SETATTR: &str = "\
 the last tick
 > call nfs setattr root verf file no_sattr no_guard
 < success ok attr empty_before attr reg640 #65536 #65536 0_bytes at2 1.1 1.1 1.999999999
@@ -470,7 +466,7 @@ the next boot counts from the first tick
 ";
 
 /// The last tick of a boot goes to a CREATE.
-const LAST_CREATE: &str = "\
+pub const LAST_CREATE: &str = "\
 > call nfs create root verf dir 'x guarded no_sattr
 < success ok handle file3 attr reg640 #0 #0 0_bytes at3 1.999999999 1.999999999 1.999999999 attr dir_before attr dir_is 1.0 1.999999999 1.999999999
 + owner 1.3 0
@@ -481,26 +477,3 @@ const LAST_CREATE: &str = "\
 > call nfs write root verf file first 00000002 unstable AB
 < success jukebox attr empty_before attr empty
 ";
-
-#[test]
-fn names_and_attributes_are_answered_by_the_tables(rt: HostRuntime) -> Result<(), Fail> {
-    let alloc = rt.alloc();
-    let tables = [
-        QUERIES,
-        SETATTR_REFUSED,
-        SETATTR_DONE,
-        MODES,
-        CREATE_REFUSED,
-        CREATE_DONE,
-        COMMITS,
-    ];
-    for table in tables {
-        let mut bench = Bench::new(alloc, DataServer::preset(alloc)?);
-        bench.table(&rt, table)?;
-    }
-    for table in [LAST_SETATTR, LAST_CREATE] {
-        let mut bench = Bench::new(alloc, DataServer::at_last_tick(alloc)?);
-        bench.table(&rt, table)?;
-    }
-    Ok(())
-}

@@ -2,15 +2,17 @@
 
 ghost use Rattle.std.specs.Prelude.{◌≡◌, ◌+◌, ◌<◌, ◌^◌, ◌++◌, [], IfOk};
 ghost use Rattle.ff_xdr.specs.Form.{Fits};
-ghost use Rattle.nfs3_wire.specs.Replies.{replies, reply_value};
+ghost use Rattle.nfs3_wire.specs.Replies.{nfs3_results, reply_value};
 ghost use Rattle.cluster_model.specs.Server.{applied_entries, committed_entries, owner_entries, entries_of, NoEffect};
 ghost use Rattle.ds_files.specs.Answer.{reply_with};
 ghost use Rattle.ds_files.specs.Heads.{server_of};
-ghost use Rattle.ds_files.specs.Plans.{answers};
+ghost use Rattle.ds_files.specs.Plans.{reply_alone};
 ghost use Rattle.ds_files.specs.CodePlans.{plain_effect, plain_plan, IsReady};
+ghost use Rattle.ds_files.specs.Posts.{entries_made};
 
 use crate::answer::Response;
 use crate::head::Head;
+use crate::journal::Journal;
 use crate::stored::StoredReply;
 use cluster_model::{Changes, Cred, Entry, MirrorId};
 use data_file::DataFile;
@@ -51,9 +53,9 @@ pub struct Plan<'s, 'c> {
 }
 
 /// The plan of an answer alone.
-pub fn answers<'s, 'c>(reply: StoredReply) -> Plan<'s, 'c>
-    requires { Fits replies (reply_value (reply_with reply [])) }
-    ensures plan { plain_plan result ≡ answers (reply_with reply []) }
+pub fn reply_alone<'s, 'c>(reply: StoredReply) -> Plan<'s, 'c>
+    requires { Fits nfs3_results (reply_value (reply_with reply [])) }
+    ensures plan { plain_plan result ≡ reply_alone (reply_with reply []) }
     ensures nothing { plain_effect result.effect ≡ NoEffect }
 {
     Plan {
@@ -146,5 +148,23 @@ pub fn entries_of(
         Effect::Makes { owner, .. } => {
             owner_entries(alloc, mirror_of(head, files.len()), Some(*owner))
         }
+    }
+}
+
+/// Those of them that a journal wants; takes no memory where none is kept.
+pub fn entries_made(
+    journal: Journal,
+    alloc: Global,
+    head: &Head,
+    files: &[DataFile],
+    effect: &Effect<'_>,
+    uid: u32,
+) -> Result<Vec<Entry>, NoMemory>
+    requires { IsReady head.now files.now (plain_effect effect.now) }
+    ensures { IfOk result (λ entries. entries.items ≡ entries_made journal (entries_of (server_of head.now files.now) uid (plain_effect effect.now))) }
+{
+    match journal {
+        Journal::Kept => entries_of(alloc, head, files, effect, uid),
+        Journal::Absent => Ok(Vec::new(alloc)),
     }
 }

@@ -28,7 +28,7 @@ pub fn encode(alloc: Global, reply: &Reply<'_>) -> Result<Data, NoMemory>
 /// The record of a result, for the call with this number: the header of a success, and behind it the
 /// result, whose bytes are copied once.
 pub fn success(alloc: Global, xid: u32, response: &Response<'_>) -> Result<Data, NoMemory>
-    ensures { IfOk result (λ bytes. bytes ≡ reply_bytes (replies_with xid success (arm_spelling nfs.replies (nfs.reply_value response.now)))) }
+    ensures { IfOk result (λ bytes. bytes ≡ reply_bytes (replies_with xid success (arm_spelling nfs.nfs3_results (nfs.reply_value response.now)))) }
 {
     let mut out = Out::new(alloc);
     replies_with(xid, ReplyBody::Success(&[])).write(&mut out)?;

@@ -9,7 +9,7 @@ use std::process::Abort;
 use std::test::Fail;
 
 /// A file changes its owner, is written and is started again; then names are made.
-const FENCED: &str = "\
+pub const FENCED: &str = "\
 the owner is another, by the ctime that was seen; the old one is a guard no more
 > call nfs setattr root verf file keep set #65537 set #65537 keep keep keep guard 1.1
 < success ok attr empty_before attr reg640 #65537 #65537 0_bytes at2 1.1 1.1 1.2
@@ -40,7 +40,7 @@ names after a restart
 ";
 
 /// A time that a SETATTR made stable stays, while the bytes that it told of are gone.
-const STABLE_TIMES: &str = "\
+pub const STABLE_TIMES: &str = "\
 a write is pending, and a SETATTR names nothing
 > call nfs write owner verf file first 00000002 unstable AB
 < success ok attr empty_before attr reg640 #65536 #65536 2_bytes at2 1.1 1.2 1.2 00000002 unstable boot
@@ -75,7 +75,7 @@ what is pending no more is not named by a piece, and no tick is given twice
 ";
 
 /// Pieces of the writes of two files; a third has none that is pending.
-const TWO_FILES: &str = "\
+pub const TWO_FILES: &str = "\
 > call nfs create root verf dir 'x guarded keep set #65536 set #65536 keep keep keep
 < success ok handle file3 attr reg640 #65536 #65536 0_bytes at3 1.2 1.2 1.2 attr dir_before attr dir_is 1.0 1.2 1.2
 + owner 1.3 65536
@@ -110,56 +110,44 @@ the root's times and its names stay
 < success ok file4 attr reg640 #65536 #65536 2_bytes at4 1.3 1.4 1.4 attr dir_is 1.0 1.3 1.3
 ";
 
-#[test]
-fn a_new_owner_outlives_a_restart(rt: HostRuntime) -> Result<(), Fail> {
-    let alloc = rt.alloc();
-    let mut bench = Bench::new(alloc, DataServer::preset(alloc)?);
-    bench.table(&rt, FENCED)
-}
+/// The files' sizes together, the ticks that were given, a file's size, a WRITE's place and its length, and
+/// why it is refused.
+const ROOM: [(u64, u32, u64, u64, u64, Option<Stat3>); 11] = [
+    // the longest file, also where the files have no room for more
+    (0, 0, 0, 0, FILE, None),
+    (0, 0, 0, 1, FILE, Some(Stat3::Fbig)),
+    (ALL, 0, 0, FILE, 1, Some(Stat3::Fbig)),
+    (ALL, 0, FILE, 0, FILE, None),
+    // the last byte that the files have room for
+    (LAST, 0, 0, 0, 1, None),
+    (LAST, 0, 0, 0, 2, Some(Stat3::NoSpc)),
+    (ALL, 0, 1, 1, 1, Some(Stat3::NoSpc)),
+    // no tick is left, which is the last reason
+    (0, SPENT, 0, 0, 1, Some(Stat3::Jukebox)),
+    (ALL, SPENT, 0, 0, 1, Some(Stat3::NoSpc)),
+    (ALL, SPENT, 0, FILE, 1, Some(Stat3::Fbig)),
+    // no bytes want neither room nor a tick
+    (ALL, SPENT, 0, u64::MAX, 0, None),
+];
 
-#[test]
-fn restarts_are_answered_by_the_tables(rt: HostRuntime) -> Result<(), Fail> {
-    let alloc = rt.alloc();
-    for table in [STABLE_TIMES, TWO_FILES] {
-        let mut bench = Bench::new(alloc, DataServer::preset(alloc)?);
-        bench.table(&rt, table)?;
-    }
-    Ok(())
-}
+const ALL: u64 = 268_435_456;
 
-/// The last tick, of a server that gave so many.
-fn at(count: u32) -> Tick {
-    Tick { boot: 1, count }
-}
+const LAST: u64 = 268_435_455;
+
+const FILE: u64 = 67_108_864;
+
+const SPENT: u32 = 999_999_999;
 
 #[test]
 fn the_files_share_their_room(rt: HostRuntime) {
-    const ALL: u64 = 268_435_456;
-    const FILE: u64 = 67_108_864;
-    // the longest file, also where the files have no room for more
-    assert_eq!(rt; size_refusal(0, at(0), 0, 0, FILE), None);
-    assert_eq!(rt; size_refusal(0, at(0), 0, 1, FILE), Some(Stat3::Fbig));
-    assert_eq!(rt; size_refusal(ALL, at(0), 0, FILE, 1), Some(Stat3::Fbig));
-    assert_eq!(rt; size_refusal(ALL, at(0), FILE, 0, FILE), None);
-    // the last byte that the files have room for
-    assert_eq!(rt; size_refusal(ALL - 1, at(0), 0, 0, 1), None);
-    assert_eq!(rt; size_refusal(ALL - 1, at(0), 0, 0, 2), Some(Stat3::NoSpc));
-    assert_eq!(rt; size_refusal(ALL, at(0), 1, 1, 1), Some(Stat3::NoSpc));
-    // no tick is left, which is the last reason
-    assert_eq!(rt;
-        size_refusal(0, at(999_999_999), 0, 0, 1),
-        Some(Stat3::Jukebox)
-    );
-    assert_eq!(rt;
-        size_refusal(ALL, at(999_999_999), 0, 0, 1),
-        Some(Stat3::NoSpc)
-    );
-    assert_eq!(rt;
-        size_refusal(ALL, at(999_999_999), 0, FILE, 1),
-        Some(Stat3::Fbig)
-    );
-    // no bytes want neither room nor a tick
-    assert_eq!(rt; size_refusal(ALL, at(999_999_999), 0, u64::MAX, 0), None);
+    for (total, count, size, at, len, refusal) in ROOM {
+        let last = Tick { boot: 1, count };
+        if size <= total && total <= ALL {
+            assert!(rt; size_refusal(total, last, size, at, len) == refusal);
+        } else {
+            assert!(rt; false);
+        }
+    }
 }
 
 /// Eight bytes that are stable, and three writes that are not, over and behind them.
@@ -181,51 +169,51 @@ const PENDING: &str = "\
 < success ok attr reg640 #65536 #65536 00000000 0000000b 00000000 0000000b at2 1.1 1.5 1.5 0000000b 00000001 0000000b 61625859 5a363738 00002b00
 ";
 
-/// The pieces that reached the disk before a restart, and the bytes that a READ then gives: as many as
-/// were stable, or eleven.
-const KEPT: [(&str, &str); 32] = [
-    ("", "'12345678"),
-    // one write, whole and in part
-    ("2:0:0:3", "'abc45678"),
-    ("2:0:1:1", "'1b345678"),
-    ("2:0:1:2", "'1bc45678"),
-    ("2:1:0:3", "'12XYZ678"),
-    ("2:1:2:1", "'1234Z678"),
-    // behind a gap
-    ("2:2:0:1", "0000000b 31323334 35363738 00002b00"),
-    ("2:2:0:1 2:0:0:2", "0000000b 61623334 35363738 00002b00"),
-    // writes that overlap, in both orders
-    ("2:0:0:3 2:1:0:3", "'abXYZ678"),
-    ("2:1:0:3 2:0:0:3", "'abcYZ678"),
-    ("2:0:2:1 2:1:0:1", "'12X45678"),
-    ("2:1:0:1 2:0:2:1", "'12c45678"),
-    // repeated
-    ("2:0:0:3 2:0:0:3", "'abc45678"),
-    ("2:0:0:3 2:1:0:1 2:0:2:1", "'abc45678"),
-    ("2:1:0:2 2:0:0:3 2:1:0:2", "'abXY5678"),
-    ("2:2:0:1 2:2:0:1", "0000000b 31323334 35363738 00002b00"),
-    // no bytes, also where the file has none yet
-    ("2:0:0:0", "'12345678"),
-    ("2:0:3:0", "'12345678"),
-    ("2:2:0:0", "'12345678"),
-    ("2:2:1:0", "'12345678"),
-    // no pending write has the index
-    ("2:3:0:1", "'12345678"),
-    ("2:4294967295:0:1", "'12345678"),
-    // the write has fewer bytes
-    ("2:0:0:4", "'12345678"),
-    ("2:0:3:1", "'12345678"),
-    ("2:0:4:0", "'12345678"),
-    ("2:0:1:4294967295", "'12345678"),
-    ("2:0:4294967295:4294967295", "'12345678"),
-    // no file has the fileid
-    ("0:0:0:3", "'12345678"),
-    ("1:0:0:3", "'12345678"),
-    ("3:0:0:3", "'12345678"),
-    ("18446744073709551615:0:0:3", "'12345678"),
-    // and among others
-    ("2:0:0:4 2:1:0:3 3:0:0:1 2:9:0:1 2:0:0:1", "'a2XYZ678"),
-];
+/// The pieces that reached the disk before a restart, and behind a bar the bytes that a READ then gives: as
+/// many as were stable, or eleven. A line with no bar says what follows.
+const KEPT: &str = "\
+|'12345678
+# one write, whole and in part
+2:0:0:3|'abc45678
+2:0:1:1|'1b345678
+2:0:1:2|'1bc45678
+2:1:0:3|'12XYZ678
+2:1:2:1|'1234Z678
+# behind a gap
+2:2:0:1|0000000b 31323334 35363738 00002b00
+2:2:0:1 2:0:0:2|0000000b 61623334 35363738 00002b00
+# writes that overlap, in both orders
+2:0:0:3 2:1:0:3|'abXYZ678
+2:1:0:3 2:0:0:3|'abcYZ678
+2:0:2:1 2:1:0:1|'12X45678
+2:1:0:1 2:0:2:1|'12c45678
+# repeated
+2:0:0:3 2:0:0:3|'abc45678
+2:0:0:3 2:1:0:1 2:0:2:1|'abc45678
+2:1:0:2 2:0:0:3 2:1:0:2|'abXY5678
+2:2:0:1 2:2:0:1|0000000b 31323334 35363738 00002b00
+# no bytes, also where the file has none yet
+2:0:0:0|'12345678
+2:0:3:0|'12345678
+2:2:0:0|'12345678
+2:2:1:0|'12345678
+# no pending write has the index
+2:3:0:1|'12345678
+2:4294967295:0:1|'12345678
+# the write has fewer bytes
+2:0:0:4|'12345678
+2:0:3:1|'12345678
+2:0:4:0|'12345678
+2:0:1:4294967295|'12345678
+2:0:4294967295:4294967295|'12345678
+# no file has the fileid
+0:0:0:3|'12345678
+1:0:0:3|'12345678
+3:0:0:3|'12345678
+18446744073709551615:0:0:3|'12345678
+# and among others
+2:0:0:4 2:1:0:3 3:0:0:1 2:9:0:1 2:0:0:1|'a2XYZ678
+";
 
 /// Starts the server again with some writes that are pending, and reads what is left.
 fn restart_keeps(rt: &impl Abort, alloc: Global, pieces: &str, bytes: &str) -> Result<(), Fail> {
@@ -254,8 +242,10 @@ fn restart_keeps(rt: &impl Abort, alloc: Global, pieces: &str, bytes: &str) -> R
 #[test]
 fn pieces_of_pending_writes_outlive_a_restart(rt: HostRuntime) -> Result<(), Fail> {
     let alloc = rt.alloc();
-    for (pieces, bytes) in KEPT {
-        restart_keeps(&rt, alloc, pieces, bytes)?;
+    for line in KEPT.lines() {
+        if let Some((pieces, bytes)) = line.split_once("|") {
+            restart_keeps(&rt, alloc, pieces, bytes)?;
+        }
     }
     Ok(())
 }

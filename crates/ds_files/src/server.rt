@@ -10,8 +10,9 @@ ghost use Rattle.ds_files.specs.Answer.{answer_of};
 ghost use Rattle.ds_files.specs.Heads.{IsServer, server_of};
 ghost use Rattle.ds_files.specs.CodePlans.{plain_plan, plain_effect, IsReady};
 ghost use Rattle.ds_files.specs.Receive.{received, outcome_of, outcome_of_step};
-ghost use Rattle.ds_files.specs.Laws.{IsRefusal, IsTurnedAway};
-ghost use Rattle.ds_files.specs.Posts.{Acts, IsAsBefore};
+ghost use Rattle.ds_files.specs.Laws.{IsRefusedReply, IsTurnedAway};
+ghost use Rattle.ds_files.specs.declared.journal.Journal.TheVariants.{Absent};
+ghost use Rattle.ds_files.specs.Posts.{Acts, IsAsBefore, outcome_made};
 
 use crate::answer::Answer3;
 use crate::carry::carry_out;
@@ -20,9 +21,10 @@ use crate::create::create_plan;
 use crate::fsinfo::fsinfo_reply;
 use crate::getattr::getattr_reply;
 use crate::head::Head;
+use crate::journal::Journal;
 use crate::lookup::lookup_reply;
 use crate::names::Names;
-use crate::plan::{Plan, answers, entries_of};
+use crate::plan::{Plan, entries_made, entries_of, reply_alone};
 use crate::read::read_plan;
 use crate::receive::receive;
 use crate::received::Received;
@@ -75,14 +77,14 @@ fn plan_of<'s, 'c>(
     ensures ready { IsReady head.now files.now (plain_effect result.effect) }
 {
     match call {
-        Call3::Null => answers(StoredReply::Null),
-        Call3::GetAttr(args) => answers(getattr_reply(head, files, args)),
+        Call3::Null => reply_alone(StoredReply::Null),
+        Call3::GetAttr(args) => reply_alone(getattr_reply(head, files, args)),
         Call3::SetAttr(args) => set_plan(head, files, args, cred),
-        Call3::Lookup(args) => answers(lookup_reply(head, files, args)),
+        Call3::Lookup(args) => reply_alone(lookup_reply(head, files, args)),
         Call3::Read(args) => read_plan(head, files, args, cred),
         Call3::Write(args) => write_plan(head, files, args, cred),
         Call3::Create(args) => create_plan(alloc, head, files, args, cred),
-        Call3::FsInfo(args) => answers(fsinfo_reply(head, files, args)),
+        Call3::FsInfo(args) => reply_alone(fsinfo_reply(head, files, args)),
         Call3::Commit(args) => commit_plan(head, files, args, cred),
     }
 }
@@ -174,7 +176,7 @@ impl DataServer {
         ensures answer { IfOk result (λ answer. answer ≡ answer_of (step_of self.old (plain_call call.now) (plain_credential cred.now))) }
         ensures ok { OnOk result (self.new ≡ (step_of self.old (plain_call call.now) (plain_credential cred.now)).server) }
         ensures err { OnErr result (self.new ≡ self.old) }
-        ensures refused { IfOk result (λ answer. IsRefusal answer.reply → self.new ≡ self.old) }
+        ensures refused { IfOk result (λ answer. IsRefusedReply answer.reply → self.new ≡ self.old) }
     {
         let plan = plan_of(self.alloc, &self.head, &self.files, call, cred);
         let effect = plan.effect;
@@ -191,16 +193,24 @@ impl DataServer {
         xid: u32,
         call: &Call3<'_>,
         cred: &AuthSys<'_>,
+        journal: Journal,
         out: &mut Outbox,
     ) -> Result<(), NoMemory>
-        ensures ok { OnOk result (Acts (outcome_of_step xid (step_of self.old (plain_call call.now) (plain_credential cred.now))) node self.new out.old out.new) }
+        ensures ok { OnOk result (Acts (outcome_made journal (outcome_of_step xid (step_of self.old (plain_call call.now) (plain_credential cred.now)))) node self.new out.old out.new) }
         ensures err { OnErr result ((self.new ≡ self.old) × IsAsBefore out.old out.new) }
     {
         let (sends, entered) = (out.sends.len(), out.entries.len());
         let plan = plan_of(self.alloc, &self.head, &self.files, call, cred);
         let effect = plan.effect;
         let bytes = success(self.alloc, xid, &plan.response)?;
-        let entries = entries_of(self.alloc, &self.head, &self.files, &effect, cred.uid)?;
+        let entries = entries_made(
+            journal,
+            self.alloc,
+            &self.head,
+            &self.files,
+            &effect,
+            cred.uid,
+        )?;
         post(out, node, bytes, entries)?;
         if let Err(error) = carry_out(self.alloc, &mut self.head, &mut self.files, &effect) {
             take_back(out, sends, entered);
@@ -223,6 +233,33 @@ impl DataServer {
         Ok(())
     }
 
+    /// Takes a record from a node, and puts out the reply to it, and the entries of the step where a
+    /// journal is kept. At an error all is as before.
+    #[tactic(auto, using(crate::proofs::Journals::none_made))]
+    fn take_record(
+        &mut self,
+        from: NodeId,
+        message: &[u8],
+        journal: Journal,
+        out: &mut Outbox,
+    ) -> Result<(), NoMemory>
+        ensures ok { OnOk result (Acts (outcome_made journal (outcome_of self.old message.now)) from self.new out.old out.new) }
+        ensures err { OnErr result ((self.new ≡ self.old) × IsAsBefore out.old out.new) }
+        ensures turned_away { IsTurnedAway self.old (received message.now) → (self.new ≡ self.old) × (out.new.entries.items ≡ out.old.entries.items) }
+    {
+        match receive(message) {
+            Received::Silent => Ok(()),
+            Received::Refused(reply) => {
+                let bytes = encode(self.alloc, &reply)?;
+                post(out, from, bytes, Vec::new(self.alloc))?;
+                Ok(())
+            }
+            Received::Asked { xid, call, cred } => {
+                self.serve(from, xid, &call, &cred, journal, out)
+            }
+        }
+    }
+
     /// Takes a record from a node, and puts out the reply to it and the entries of the step. Nothing
     /// is put out for a record that is no call. A record that is refused changes nothing and makes no
     /// entry. At an error all is as before.
@@ -236,14 +273,22 @@ impl DataServer {
         ensures err { OnErr result ((self.new ≡ self.old) × IsAsBefore out.old out.new) }
         ensures turned_away { IsTurnedAway self.old (received message.now) → (self.new ≡ self.old) × (out.new.entries.items ≡ out.old.entries.items) }
     {
-        match receive(message) {
-            Received::Silent => Ok(()),
-            Received::Refused(reply) => {
-                let bytes = encode(self.alloc, &reply)?;
-                post(out, from, bytes, Vec::new(self.alloc))?;
-                Ok(())
-            }
-            Received::Asked { xid, call, cred } => self.serve(from, xid, &call, &cred, out),
-        }
+        self.take_record(from, message, Journal::Kept, out)
+    }
+
+    /// Takes a record from a node, and puts out the reply to it as `on_record` does, but no entry, for
+    /// a server whose journal nobody keeps: so a WRITE's bytes are copied into the file alone. At an
+    /// error all is as before.
+    pub fn answer_record(
+        &mut self,
+        from: NodeId,
+        message: &[u8],
+        out: &mut Outbox,
+    ) -> Result<(), NoMemory>
+        ensures ok { OnOk result (Acts (outcome_made Absent (outcome_of self.old message.now)) from self.new out.old out.new) }
+        ensures err { OnErr result ((self.new ≡ self.old) × IsAsBefore out.old out.new) }
+        ensures turned_away { IsTurnedAway self.old (received message.now) → self.new ≡ self.old }
+    {
+        self.take_record(from, message, Journal::Absent, out)
     }
 }

@@ -15,7 +15,7 @@ use crate::attributes::{file_attributes, root_attributes, time_of, wcc_between, 
 use crate::head::Head;
 use crate::object::Place;
 use crate::objects::place_of;
-use crate::plan::{Effect, Plan, answers};
+use crate::plan::{Effect, Plan, reply_alone};
 use crate::stored::StoredReply;
 use cluster_model::{Changes, NewTime, Tick};
 use data_file::DataFile;
@@ -161,7 +161,7 @@ fn on_file<'s, 'c>(
     let file = &files[index];
     if let Some(status) = refusal(head, file, args, cred) {
         let same = wcc_same(Some(file_attributes(index as u64 + 2, file)));
-        return answers(StoredReply::SetAttr(SetAttrReply::Refused(status, same)));
+        return reply_alone(StoredReply::SetAttr(SetAttrReply::Refused(status, same)));
     }
     done(head, index, file, changes_of(&args.attributes))
 }
@@ -179,11 +179,11 @@ pub fn set_plan<'s, 'c>(
 {
     match place_of(files, args.file) {
         Place::Missing(status) => {
-            answers(StoredReply::SetAttr(SetAttrReply::Refused(status, wcc_same(None))))
+            reply_alone(StoredReply::SetAttr(SetAttrReply::Refused(status, wcc_same(None))))
         }
         Place::Root => {
             let same = wcc_same(Some(root_attributes(head.root)));
-            answers(StoredReply::SetAttr(SetAttrReply::Refused(Stat3::Inval, same)))
+            reply_alone(StoredReply::SetAttr(SetAttrReply::Refused(Stat3::Inval, same)))
         }
         Place::File(index) => on_file(head, files, index, args, cred),
     }

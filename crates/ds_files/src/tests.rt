@@ -1,5 +1,6 @@
-use crate::DataServer;
-use crate::tables::{Bench, bytes_of};
+use crate::journal::Journal;
+use crate::tables::{Bench, answers, bytes_of};
+use crate::{DataServer, meta_tests, restart_tests};
 use ff_xdr::Items;
 use nfs3_wire::{Call3, Reply3, StableHow, WriteArgs, WriteReply};
 use rpc_record::AuthSys;
@@ -400,14 +401,61 @@ what takes no tick
 < success ok attr who 2_bytes where last_tick 00000002 00000001 00000002 41420000
 ";
 
+/// Calls where no journal is kept.
+const UNTOLD: &str = "\
+a write is done and makes no entry
+? call nfs write owner verf file first 00000002 file_sync AB
+< success ok attr empty_before attr who 2_bytes where tick2 00000002 file_sync boot
+? call nfs read owner verf file first 00000002
+< success ok attr who 2_bytes where tick2 00000002 00000001 00000002 41420000
+a refusal and a record that is no call
+? call 000186a4 00000003 null none verf
+< prog_unavail
+? 000000
+<
+";
+
+/// The tables that are answered by a server as it is preset.
+const PRESET: [&str; 15] = [
+    ORDER,
+    EXCHANGE,
+    OBJECTS,
+    BYTES,
+    meta_tests::QUERIES,
+    meta_tests::SETATTR_REFUSED,
+    meta_tests::SETATTR_DONE,
+    meta_tests::MODES,
+    meta_tests::CREATE_REFUSED,
+    meta_tests::CREATE_DONE,
+    meta_tests::COMMITS,
+    restart_tests::FENCED,
+    restart_tests::STABLE_TIMES,
+    restart_tests::TWO_FILES,
+    UNTOLD,
+];
+
+/// Those that are answered where one tick is left.
+const SPENT: [&str; 3] = [LAST_TICK, meta_tests::LAST_SETATTR, meta_tests::LAST_CREATE];
+
 #[test]
 fn records_are_answered_by_the_tables(rt: HostRuntime) -> Result<(), Fail> {
-    for table in [ORDER, EXCHANGE, OBJECTS, BYTES] {
-        let mut bench = Bench::new(rt.alloc(), DataServer::preset(rt.alloc())?);
-        bench.table(&rt, table)?;
+    for table in PRESET {
+        answers(&rt, rt.alloc(), DataServer::preset(rt.alloc())?, table)?;
     }
-    let mut bench = Bench::new(rt.alloc(), DataServer::at_last_tick(rt.alloc())?);
-    bench.table(&rt, LAST_TICK)
+    Ok(())
+}
+
+#[test]
+fn the_last_tick_is_answered_by_the_tables(rt: HostRuntime) -> Result<(), Fail> {
+    for table in SPENT {
+        answers(
+            &rt,
+            rt.alloc(),
+            DataServer::at_last_tick(rt.alloc())?,
+            table,
+        )?;
+    }
+    Ok(())
 }
 
 #[test]
@@ -429,10 +477,10 @@ fn a_call_that_is_cut_does_nothing(rt: HostRuntime) -> Result<(), Fail> {
     assert_eq!(rt; write.len(), 100);
     for n in 0..write.len() {
         let line = format!(in alloc; "cut at {n}")?;
-        bench.ask(&write[..n])?;
+        bench.ask(&write[..n], Journal::Kept)?;
         bench.compare_reply(&rt, if n < 8 { &[] } else { &refusal }, &line);
         bench.end(&rt, &line);
-        bench.ask(&read)?;
+        bench.ask(&read, Journal::Kept)?;
         bench.compare_reply(&rt, &nothing, &line);
         bench.end(&rt, &line);
     }
@@ -460,13 +508,12 @@ fn a_call_is_applied(rt: HostRuntime) -> Result<(), Fail> {
     let answer = server.apply(&call, &cred)?;
     match answer.reply() {
         Reply3::Write(WriteReply::Done(done)) => {
-            assert_eq!(rt;
-                (done.count, done.committed, done.verifier),
-                (2, StableHow::FileSync, 1)
-            );
+            assert!(rt; done.count == 2);
+            assert!(rt; matches!(done.committed, StableHow::FileSync));
+            assert!(rt; done.verifier == 1);
         }
         _ => assert!(rt; false),
     }
-    assert_eq!(rt; answer.entries().len(), 2);
+    assert!(rt; answer.entries().len() == 2);
     Ok(())
 }

@@ -16,7 +16,7 @@ use crate::attributes::{file_attributes, root_attributes, time_of, wcc_between, 
 use crate::head::Head;
 use crate::object::Place;
 use crate::objects::place_of;
-use crate::plan::{Effect, Plan, answers};
+use crate::plan::{Effect, Plan, reply_alone};
 use crate::stored::StoredReply;
 use cluster_model::Tick;
 use data_file::{DataFile, MAX_FILE};
@@ -165,7 +165,7 @@ fn on_file<'s, 'c>(
     let file = &files[index];
     if let Some(status) = refusal(head, file, args, cred) {
         let same = wcc_same(Some(file_attributes(index as u64 + 2, file)));
-        return answers(StoredReply::Write(WriteReply::Refused(status, same)));
+        return reply_alone(StoredReply::Write(WriteReply::Refused(status, same)));
     }
     done(head, index, file, args)
 }
@@ -183,11 +183,11 @@ pub fn write_plan<'s, 'c>(
 {
     match place_of(files, args.file) {
         Place::Missing(status) => {
-            answers(StoredReply::Write(WriteReply::Refused(status, wcc_same(None))))
+            reply_alone(StoredReply::Write(WriteReply::Refused(status, wcc_same(None))))
         }
         Place::Root => {
             let same = wcc_same(Some(root_attributes(head.root)));
-            answers(StoredReply::Write(WriteReply::Refused(Stat3::Inval, same)))
+            reply_alone(StoredReply::Write(WriteReply::Refused(Stat3::Inval, same)))
         }
         Place::File(index) => on_file(head, files, index, args, cred),
     }

@@ -27,7 +27,7 @@ impl Node for DataServer {
     /// A record is answered to the node that it comes from; no other arrival does anything.
     fn take(&mut self, arrival: Arrival, out: &mut Outbox) -> Result<(), NoMemory> {
         match arrival {
-            Arrival::Record { from, bytes } => self.on_record(from, bytes.bytes(), out),
+            Arrival::Record { from, bytes } => self.answer_record(from, bytes.bytes(), out),
             Arrival::TimedOut(_) => Ok(()),
             Arrival::Closed => Ok(()),
         }

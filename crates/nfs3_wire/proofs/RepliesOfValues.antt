@@ -1,5 +1,5 @@
 -- A result and its value: each is known by the other.
-use Rattle.std.proofs.Common.{◌≡◌, ℕ, true, false, ◌||◌, cond, eqb, List, [], ◌∷◌, Option, Some, None, refl, sym, ap, subst, ◌∙◌, inl, inr}
+use Rattle.std.proofs.Common.{◌≡◌, ℕ, true, cond, eqb, List, [], ◌∷◌, Option, Some, None, refl, sym, ap, subst, ◌∙◌, inl, inr}
 use Rattle.std.proofs.lemmas.Bool.{eqb-true, or_cases}
 use Rattle.std.specs.List.{AllByRecursion, list_any}
 use Rattle.std.specs.Option.{option_map}
@@ -28,7 +28,7 @@ use Rattle.nfs3_wire.specs.Write.{write_result}
 use Rattle.nfs3_wire.specs.Create.{create_result}
 use Rattle.nfs3_wire.specs.Fsinfo.{fsinfo_ok, fsinfo_ok_value, fsinfo_result}
 use Rattle.nfs3_wire.specs.Commit.{commit_result}
-use Rattle.nfs3_wire.specs.Replies.{replies, Nfs3Reply, Null, GetAttrDone, GetAttrRefused, SetAttrDone, SetAttrRefused, LookupDone, LookupRefused, ReadDone, ReadRefused, WriteDone, WriteRefused, CreateDone, CreateRefused, FsInfoDone, FsInfoRefused, CommitDone, CommitRefused, reply_value}
+use Rattle.nfs3_wire.specs.Replies.{nfs3_results, Nfs3Reply, Null, GetAttrDone, GetAttrRefused, SetAttrDone, SetAttrRefused, LookupDone, LookupRefused, ReadDone, ReadRefused, WriteDone, WriteRefused, CreateDone, CreateRefused, FsInfoDone, FsInfoRefused, CommitDone, CommitRefused, reply_value}
 use Rattle.nfs3_wire.specs.Laws.{IsReplyOfItsValue, IsReplysValue}
 
 -- ---- a value as a result
@@ -127,8 +127,8 @@ abbrev commit_of : Value commit_result → Nfs3Reply
 commit_of (inl (w, verifier)) = CommitDone (wcc_data_of w) verifier
 commit_of (inr (n, w)) = CommitRefused (stat_of n) (wcc_data_of w)
 
-abbrev reply_of : Value replies → Nfs3Reply
-reply_of = by_arm replies (λ nothing. Null, (getattr_of, (setattr_of, (lookup_of, (read_of, (write_of, (create_of, (fsinfo_reply_of, (commit_of, tt)))))))))
+abbrev reply_of : Value nfs3_results → Nfs3Reply
+reply_of = by_arm nfs3_results (λ nothing. Null, (getattr_of, (setattr_of, (lookup_of, (read_of, (write_of, (create_of, (fsinfo_reply_of, (commit_of, tt)))))))))
 
 -- ---- a result by its value
 
@@ -256,43 +256,43 @@ fsinfo_is (attributes, (((rtmax, (rtpref, rtmult)), (wtmax, (wtpref, wtmult))), 
     ap (λ (a : Option (Value fattr3)). (a, (((rtmax, (rtpref, rtmult)), (wtmax, (wtpref, wtmult))), (dtpref, (maxfilesize, ((seconds, nanos), properties))))))
     (attributes_is attributes fits.0)
 
-getattr_is : (v : Value getattr_result) → Fits getattr_result v → arm 1 replies v ≡ reply_value (getattr_of v)
+getattr_is : (v : Value getattr_result) → Fits getattr_result v → arm 1 nfs3_results v ≡ reply_value (getattr_of v)
 getattr_is (inl a) fits = cc (fattr3_is a fits)
-getattr_is (inr (n, nothing)) fits = ap (λ (k : ℕ). arm 1 replies (inr (k, tt))) (stat_is n fits.0)
+getattr_is (inr (n, nothing)) fits = ap (λ (k : ℕ). arm 1 nfs3_results (inr (k, tt))) (stat_is n fits.0)
 
-setattr_is : (v : Value setattr_result) → Fits setattr_result v → arm 2 replies v ≡ reply_value (setattr_of v)
+setattr_is : (v : Value setattr_result) → Fits setattr_result v → arm 2 nfs3_results v ≡ reply_value (setattr_of v)
 setattr_is (inl w) fits = cc (wcc_data_is w fits)
 setattr_is (inr (n, w)) fits = cc (stat_is n fits.0, wcc_data_is w fits.1)
 
-lookup_is : (v : Value lookup_result) → Fits lookup_result v → arm 3 replies v ≡ reply_value (lookup_of v)
+lookup_is : (v : Value lookup_result) → Fits lookup_result v → arm 3 nfs3_results v ≡ reply_value (lookup_of v)
 lookup_is (inl (file, (a, d))) fits = cc (attributes_is a fits.1.0, attributes_is d fits.1.1)
 lookup_is (inr (n, d)) fits = cc (stat_is n fits.0, attributes_is d fits.1)
 
-read_is : (v : Value read_result) → Fits read_result v → arm 6 replies v ≡ reply_value (read_of v)
+read_is : (v : Value read_result) → Fits read_result v → arm 6 nfs3_results v ≡ reply_value (read_of v)
 read_is (inl (a, (count, (eof, bytes)))) fits = cc (attributes_is a fits.0)
 read_is (inr (n, a)) fits = cc (stat_is n fits.0, attributes_is a fits.1)
 
-write_is : (v : Value write_result) → Fits write_result v → arm 7 replies v ≡ reply_value (write_of v)
+write_is : (v : Value write_result) → Fits write_result v → arm 7 nfs3_results v ≡ reply_value (write_of v)
 write_is (inl (w, (count, (s, verifier)))) fits = cc (wcc_data_is w fits.0, stable_is s fits.1.1.0)
 write_is (inr (n, w)) fits = cc (stat_is n fits.0, wcc_data_is w fits.1)
 
-create_is : (v : Value create_result) → Fits create_result v → arm 8 replies v ≡ reply_value (create_of v)
+create_is : (v : Value create_result) → Fits create_result v → arm 8 nfs3_results v ≡ reply_value (create_of v)
 create_is (inl (file, (a, w))) fits = cc (attributes_is a fits.1.0, wcc_data_is w fits.1.1)
 create_is (inr (n, w)) fits = cc (stat_is n fits.0, wcc_data_is w fits.1)
 
-fsinfo_reply_is : (v : Value fsinfo_result) → Fits fsinfo_result v → arm 19 replies v ≡ reply_value (fsinfo_reply_of v)
+fsinfo_reply_is : (v : Value fsinfo_result) → Fits fsinfo_result v → arm 19 nfs3_results v ≡ reply_value (fsinfo_reply_of v)
 fsinfo_reply_is (inl info) fits = cc (fsinfo_is info fits)
 fsinfo_reply_is (inr (n, a)) fits = cc (stat_is n fits.0, attributes_is a fits.1)
 
-commit_is : (v : Value commit_result) → Fits commit_result v → arm 21 replies v ≡ reply_value (commit_of v)
+commit_is : (v : Value commit_result) → Fits commit_result v → arm 21 nfs3_results v ≡ reply_value (commit_of v)
 commit_is (inl (w, verifier)) fits = cc (wcc_data_is w fits.0)
 commit_is (inr (n, w)) fits = cc (stat_is n fits.0, wcc_data_is w fits.1)
 
-is_value : (v : Value replies) → Fits replies v → v ≡ reply_value (reply_of v)
-is_value = of_each_arm replies (λ v. Fits replies v → v ≡ reply_value (reply_of v)) (
+is_value : (v : Value nfs3_results) → Fits nfs3_results v → v ≡ reply_value (reply_of v)
+is_value = of_each_arm nfs3_results (λ v. Fits nfs3_results v → v ≡ reply_value (reply_of v)) (
   λ nothing fits. refl,
   (getattr_is, (setattr_is, (lookup_is, (read_is, (write_is, (create_is, (fsinfo_reply_is, (commit_is, tt)))))))),
 )
 
-pub replys_value : (v : Value replies) → IsReplysValue v
+pub replys_value : (v : Value nfs3_results) → IsReplysValue v
 replys_value v fits = (reply_of v, is_value v fits)

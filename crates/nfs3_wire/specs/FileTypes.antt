@@ -1,5 +1,5 @@
 -- What an object is (RFC 1813, section 2.5).
-use Rattle.std.specs.Prelude.{ℕ, List, [], ◌∷◌}
+use Rattle.std.specs.Prelude.{ℕ, [], ◌∷◌}
 use Rattle.ff_xdr.specs.Form.{Form, Enum}
 use Rattle.nfs3_wire.specs.declared.file_type.FileType.{FileType}
 use Rattle.nfs3_wire.specs.declared.file_type.FileType.TheVariants.{Regular, Directory}

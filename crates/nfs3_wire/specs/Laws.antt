@@ -2,7 +2,7 @@
 use Rattle.std.specs.Prelude.{◌≡◌}
 use Rattle.ff_xdr.specs.Form.{Value, Fits}
 use Rattle.nfs3_wire.specs.Calls.{calls, Nfs3Call, call_value, call_of}
-use Rattle.nfs3_wire.specs.Replies.{replies, Nfs3Reply, reply_value}
+use Rattle.nfs3_wire.specs.Replies.{nfs3_results, Nfs3Reply, reply_value}
 
 -- different calls have different values
 abbrev pub IsCallOfItsValue : Nfs3Call → Type 0
@@ -17,5 +17,5 @@ abbrev pub IsReplyOfItsValue : Nfs3Reply → Nfs3Reply → Type 0
 IsReplyOfItsValue r s = reply_value r ≡ reply_value s → r ≡ s
 
 -- what is read is one result's value
-abbrev pub IsReplysValue : Value replies → Type 0
-IsReplysValue v = Fits replies v → (r : Nfs3Reply) × (v ≡ reply_value r)
+abbrev pub IsReplysValue : Value nfs3_results → Type 0
+IsReplysValue v = Fits nfs3_results v → (r : Nfs3Reply) × (v ≡ reply_value r)

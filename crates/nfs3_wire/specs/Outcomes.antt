@@ -1,5 +1,5 @@
 -- What calls come to: a union by the status (RFC 1813, section 2.6).
-use Rattle.std.specs.Prelude.{ℕ, ◌^◌, true, ◌&&◌, ◌||◌, nat_lt, IsTrue, refl}
+use Rattle.std.specs.Prelude.{◌^◌, ◌&&◌, nat_lt, IsTrue, refl}
 use Rattle.std.proofs.Common.{inl, inr}
 use Rattle.ff_xdr.specs.Form.{Form, Value, Pair, Arm, is_sound, avoids}
 use Rattle.ff_xdr.specs.Laws.{is_filled}

@@ -26,8 +26,8 @@ use Rattle.nfs3_wire.specs.Fsinfo.{fsinfo_result, fsinfo_ok_value}
 use Rattle.nfs3_wire.specs.Commit.{commit_result}
 
 -- the result of each procedure that is built, by its number
-abbrev pub replies : Form
-replies =
+abbrev pub nfs3_results : Form
+nfs3_results =
     Arm 0 Void (Arm 1 getattr_result (Arm 2 setattr_result (Arm 3 lookup_result (Arm 6 read_result
     (Arm 7 write_result (Arm 8 create_result (Arm 19 fsinfo_result (Arm 21 commit_result NoArm))))))))
 
@@ -51,24 +51,24 @@ pub data Nfs3Reply : Type 0 where
   CommitRefused : (status : Stat3) (wcc : WccData) → Nfs3Reply
 
 -- a result as a value of the form
-abbrev pub reply_value : Nfs3Reply → Value replies
-reply_value Null = arm 0 replies tt
-reply_value (GetAttrDone attributes) = arm 1 replies (inl (fattr3_value attributes))
-reply_value (GetAttrRefused status) = arm 1 replies (inr (stat_number status, tt))
-reply_value (SetAttrDone wcc) = arm 2 replies (inl (wcc_data_value wcc))
-reply_value (SetAttrRefused status wcc) = arm 2 replies (inr (stat_number status, wcc_data_value wcc))
-reply_value (LookupDone file attributes directory) = arm 3 replies (inl (file, (post_op_value attributes, post_op_value directory)))
-reply_value (LookupRefused status directory) = arm 3 replies (inr (stat_number status, post_op_value directory))
-reply_value (ReadDone attributes count eof bytes) = arm 6 replies (inl (post_op_value attributes, (count, (eof, bytes))))
-reply_value (ReadRefused status attributes) = arm 6 replies (inr (stat_number status, post_op_value attributes))
-reply_value (WriteDone wcc count committed verifier) = arm 7 replies (inl (wcc_data_value wcc, (count, (stable_how_number committed, verifier))))
-reply_value (WriteRefused status wcc) = arm 7 replies (inr (stat_number status, wcc_data_value wcc))
-reply_value (CreateDone file attributes wcc) = arm 8 replies (inl (file, (post_op_value attributes, wcc_data_value wcc)))
-reply_value (CreateRefused status wcc) = arm 8 replies (inr (stat_number status, wcc_data_value wcc))
-reply_value (FsInfoDone info) = arm 19 replies (inl (fsinfo_ok_value info))
-reply_value (FsInfoRefused status attributes) = arm 19 replies (inr (stat_number status, post_op_value attributes))
-reply_value (CommitDone wcc verifier) = arm 21 replies (inl (wcc_data_value wcc, verifier))
-reply_value (CommitRefused status wcc) = arm 21 replies (inr (stat_number status, wcc_data_value wcc))
+abbrev pub reply_value : Nfs3Reply → Value nfs3_results
+reply_value Null = arm 0 nfs3_results tt
+reply_value (GetAttrDone attributes) = arm 1 nfs3_results (inl (fattr3_value attributes))
+reply_value (GetAttrRefused status) = arm 1 nfs3_results (inr (stat_number status, tt))
+reply_value (SetAttrDone wcc) = arm 2 nfs3_results (inl (wcc_data_value wcc))
+reply_value (SetAttrRefused status wcc) = arm 2 nfs3_results (inr (stat_number status, wcc_data_value wcc))
+reply_value (LookupDone file attributes directory) = arm 3 nfs3_results (inl (file, (post_op_value attributes, post_op_value directory)))
+reply_value (LookupRefused status directory) = arm 3 nfs3_results (inr (stat_number status, post_op_value directory))
+reply_value (ReadDone attributes count eof bytes) = arm 6 nfs3_results (inl (post_op_value attributes, (count, (eof, bytes))))
+reply_value (ReadRefused status attributes) = arm 6 nfs3_results (inr (stat_number status, post_op_value attributes))
+reply_value (WriteDone wcc count committed verifier) = arm 7 nfs3_results (inl (wcc_data_value wcc, (count, (stable_how_number committed, verifier))))
+reply_value (WriteRefused status wcc) = arm 7 nfs3_results (inr (stat_number status, wcc_data_value wcc))
+reply_value (CreateDone file attributes wcc) = arm 8 nfs3_results (inl (file, (post_op_value attributes, wcc_data_value wcc)))
+reply_value (CreateRefused status wcc) = arm 8 nfs3_results (inr (stat_number status, wcc_data_value wcc))
+reply_value (FsInfoDone info) = arm 19 nfs3_results (inl (fsinfo_ok_value info))
+reply_value (FsInfoRefused status attributes) = arm 19 nfs3_results (inr (stat_number status, post_op_value attributes))
+reply_value (CommitDone wcc verifier) = arm 21 nfs3_results (inl (wcc_data_value wcc, verifier))
+reply_value (CommitRefused status wcc) = arm 21 nfs3_results (inr (stat_number status, wcc_data_value wcc))
 
 -- a result of the code without where its bytes lie
 abbrev pub plain_reply : Reply3 → Nfs3Reply

@@ -1,5 +1,5 @@
 -- How stable written data are (RFC 1813, section 3.3.7).
-use Rattle.std.specs.Prelude.{ℕ, List, [], ◌∷◌, ◌==◌, if◌then◌else◌}
+use Rattle.std.specs.Prelude.{ℕ, [], ◌∷◌, ◌==◌, if◌then◌else◌}
 use Rattle.ff_xdr.specs.Form.{Form, Enum}
 use Rattle.nfs3_wire.specs.declared.stable_how.StableHow.{StableHow}
 use Rattle.nfs3_wire.specs.declared.stable_how.StableHow.TheVariants.{Unstable, DataSync, FileSync}

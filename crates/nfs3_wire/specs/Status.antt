@@ -33,6 +33,6 @@ abbrev pub refusal : Form
 refusal = Enum refusals
 
 -- the refusal with this number, where there is one
-abbrev pub IsRefusal : ℕ → Option Stat3 → Type 0
-IsRefusal number (Some status) = (stat_number status ≡ number) × (list_any (nat_eq number) refusals ≡ true)
-IsRefusal number None = list_any (nat_eq number) refusals ≡ false
+abbrev pub IsRefusalNumbered : ℕ → Option Stat3 → Type 0
+IsRefusalNumbered number (Some status) = (stat_number status ≡ number) × (list_any (nat_eq number) refusals ≡ true)
+IsRefusalNumbered number None = list_any (nat_eq number) refusals ≡ false

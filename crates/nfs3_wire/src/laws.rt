@@ -3,7 +3,7 @@
 ghost use Rattle.ff_xdr.specs.Form.{Value};
 ghost use Rattle.ff_xdr.specs.Exact.{IsExactByNumber};
 ghost use Rattle.nfs3_wire.specs.Calls.{Nfs3Call, calls};
-ghost use Rattle.nfs3_wire.specs.Replies.{Nfs3Reply, replies};
+ghost use Rattle.nfs3_wire.specs.Replies.{Nfs3Reply, nfs3_results};
 ghost use Rattle.nfs3_wire.specs.Laws.{IsCallOfItsValue, IsCallsValue, IsReplyOfItsValue, IsReplysValue};
 
 use ff_xdr::every_arm;
@@ -21,9 +21,9 @@ pub fn every_call()
 
 /// The same laws of results.
 pub fn every_reply()
-    ensures exact { IsExactByNumber replies }
+    ensures exact { IsExactByNumber nfs3_results }
     ensures known { (r s : Nfs3Reply) → IsReplyOfItsValue r s }
-    ensures a_reply { (v : Value replies) → IsReplysValue v }
+    ensures a_reply { (v : Value nfs3_results) → IsReplysValue v }
 {
     every_arm();
 }

@@ -4,7 +4,7 @@ ghost use Rattle.std.specs.Prelude.{◌≡◌, ◌↔◌, IsTrue};
 ghost use Rattle.ff_xdr.specs.Form.{Fits, arm_spelling, arm_of, has_arm};
 ghost use Rattle.ff_xdr.specs.Reading.{arm_reading, whole};
 ghost use Rattle.ff_xdr.specs.Calls.{Puts, Finds};
-ghost use Rattle.nfs3_wire.specs.Replies.{replies, reply_value, plain_reply};
+ghost use Rattle.nfs3_wire.specs.Replies.{nfs3_results, reply_value, plain_reply};
 
 use crate::procedures::{number_of, procedures, read_by, with_part};
 use crate::{
@@ -31,7 +31,7 @@ pub enum Reply3<'a> {
 impl<'a> Reply3<'a> {
     /// The procedure's number.
     pub fn procedure(&self) -> u32
-        ensures { result ≡ arm_of replies (reply_value (plain_reply self.now)) }
+        ensures { result ≡ arm_of nfs3_results (reply_value (plain_reply self.now)) }
     {
         procedures!(number_of, Reply3 self)
     }
@@ -39,7 +39,7 @@ impl<'a> Reply3<'a> {
     /// The result has a spelling: every length is within its form's maximum, and a refusal's status
     /// is not OK.
     pub fn fits(&self) -> bool
-        ensures { IsTrue result ↔ Fits replies (reply_value (plain_reply self.now)) }
+        ensures { IsTrue result ↔ Fits nfs3_results (reply_value (plain_reply self.now)) }
     {
         procedures!(with_part, Reply3 self, true, reply => Wire::fits(reply))
     }
@@ -48,8 +48,8 @@ impl<'a> Reply3<'a> {
 /// Reads the result of a procedure that is built, all the bytes. Handles and the
 /// data of a READ are slices of them. A refusal names the first byte that no result has there.
 pub fn read_reply(procedure: u32, bytes: &[u8]) -> Result<Reply3<'_>, XdrError>
-    requires { IsTrue (has_arm procedure replies) }
-    ensures { Finds (λ reply. reply_value (plain_reply reply)) result (whole bytes.now (arm_reading replies procedure bytes.now 0)) }
+    requires { IsTrue (has_arm procedure nfs3_results) }
+    ensures { Finds (λ reply. reply_value (plain_reply reply)) result (whole bytes.now (arm_reading nfs3_results procedure bytes.now 0)) }
 {
     let mut cursor = Cursor::new(bytes);
     let reply = procedures!(read_by, Reply3 procedure, &mut cursor);
@@ -59,8 +59,8 @@ pub fn read_reply(procedure: u32, bytes: &[u8]) -> Result<Reply3<'_>, XdrError>
 
 /// Appends a result, or nothing.
 pub fn write_reply(reply: &Reply3<'_>, out: &mut Out) -> Result<(), NoMemory>
-    requires { Fits replies (reply_value (plain_reply reply.now)) }
-    ensures { Puts out.old result out.new (arm_spelling replies (reply_value (plain_reply reply.now))) }
+    requires { Fits nfs3_results (reply_value (plain_reply reply.now)) }
+    ensures { Puts out.old result out.new (arm_spelling nfs3_results (reply_value (plain_reply reply.now))) }
 {
     procedures!(with_part, Reply3 reply, Ok(()), part => Wire::write(part, out))
 }

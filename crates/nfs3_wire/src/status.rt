@@ -1,7 +1,7 @@
 //! The status of a result.
 
 ghost use Rattle.std.specs.Prelude.{◌≡◌, refl};
-ghost use Rattle.nfs3_wire.specs.Status.{refusal, stat_number, IsRefusal};
+ghost use Rattle.nfs3_wire.specs.Status.{refusal, stat_number, IsRefusalNumbered};
 
 use ff_xdr::{Cursor, Message, NoMemory, Out, Wire, XdrError};
 
@@ -65,7 +65,7 @@ impl Message for Stat3 {
 
 /// The refusal with this number.
 fn refusal_of(number: u32) -> Option<Stat3>
-    ensures { IsRefusal number result }
+    ensures { IsRefusalNumbered number result }
 {
     Some(match number {
         2 => Stat3::NoEnt,

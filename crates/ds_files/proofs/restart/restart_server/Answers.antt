@@ -1,4 +1,4 @@
-use Rattle.std.proofs.Common.{◌+◌, List, arith, ap, ◌∙◌}
+use Rattle.std.proofs.Common.{List, arith, ap, ◌∙◌}
 use Rattle.cluster_model.specs.Ticks.{rebooted}
 use Rattle.cluster_model.specs.File.{FileState}
 use Rattle.cluster_model.specs.Server.{ServerState, total_size}

@@ -9,7 +9,7 @@ use Rattle.ds_files.proofs.setattr.on_file.Goals as goal
 pub returns-in-Some-clause-plan : goal.returns-in-Some-clause-plan
 returns-in-Some-clause-plan c = λ f there.
     let a = c.args.args.now in
-    c.answers.ensures.plan
+    c.reply_alone.ensures.plan
     ∙ rw (c.wcc_same-same.ensures, c.file_attributes.ensures) (set_refused c.args.head.now c.args.files.now c.args.index c.index-files-index.result (caller c.args.cred.now) c.requires.server c.index-files-index.is c.requires.within (not (is_some a.attributes.size)) (option_map tick_of a.guard) (changes_of a.attributes) c.in-Some.status (sym c.in-Some.is ∙ c.refusal.ensures.exact) f there)
 
 pub returns-clause-plan : goal.returns-clause-plan

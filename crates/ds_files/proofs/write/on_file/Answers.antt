@@ -10,7 +10,7 @@ use Rattle.ds_files.proofs.write.on_file.Goals as goal
 pub returns-in-Some-clause-plan : goal.returns-in-Some-clause-plan
 returns-in-Some-clause-plan c = λ f there.
     let a = c.args.args.now in
-    c.answers.ensures.plan
+    c.reply_alone.ensures.plan
     ∙ rw (c.wcc_same-same.ensures, c.file_attributes.ensures) (write_refused c.args.head.now c.args.files.now c.args.index c.index-files-index.result (caller c.args.cred.now) c.requires.server c.index-files-index.is c.requires.within (a.count == length a.bytes.now) a.offset a.stable a.bytes.now c.in-Some.status (sym c.in-Some.is ∙ c.refusal.ensures.exact) f there)
 
 pub returns-clause-plan : goal.returns-clause-plan

@@ -1,10 +1,10 @@
 use Rattle.std.proofs.Common.{refl}
-use Rattle.nfs3_wire.specs.Replies.{replies}
+use Rattle.nfs3_wire.specs.Replies.{nfs3_results}
 use Rattle.nfs3_wire.proofs.RepliesOfValues.{reply_known, replys_value}
 use Rattle.nfs3_wire.proofs.laws.every_reply.Goals as goal
 
 pub returns-clause-exact : goal.returns-clause-exact
-returns-clause-exact c = c.every_arm.ensures replies refl refl
+returns-clause-exact c = c.every_arm.ensures nfs3_results refl refl
 
 pub returns-clause-known : goal.returns-clause-known
 returns-clause-known c = reply_known

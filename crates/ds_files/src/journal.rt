@@ -1,0 +1,10 @@
+//! Whether a journal is kept.
+
+/// Whether the entries of a step are made.
+#[derive(Clone, Copy, Debug, PartialEq, Eq)]
+pub enum Journal {
+    /// They are, with bytes of their own.
+    Kept,
+    /// They are not, since nobody keeps them.
+    Absent,
+}
