@@ -1,5 +1,0 @@
-mod Lists
-mod Facts
-mod Invariant
-mod Journals
-mod Onward
