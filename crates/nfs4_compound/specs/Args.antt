@@ -15,7 +15,8 @@ use Rattle.nfs4_file_ops.specs.Objects.{component4}
 use Rattle.nfs4_file_ops.specs.Open.{open4_args, open4_args_value}
 use Rattle.nfs4_file_ops.specs.Read.{read4_args, read4_args_value}
 use Rattle.nfs4_file_ops.specs.Write.{write4_args, write4_args_value}
-use Rattle.nfs4_session_ops.specs.BindConn.{bind_conn4_args, bind_conn4_args_value}
+use Rattle.nfs4_session_ops.specs.BindConn.{bind_conn4_args, bind_conn4_value}
+use Rattle.nfs4_session_ops.specs.Directions.{from_client4, from_client4_number}
 use Rattle.nfs4_session_ops.specs.CreateSession.{create_session4_args, create_session4_args_value}
 use Rattle.nfs4_session_ops.specs.ExchangeId.{exchange_id4_args, exchange_id4_args_value}
 use Rattle.nfs4_compound.specs.declared.op.Op.{Op}
@@ -57,7 +58,7 @@ op_value (op.PutFh a) = arm 22 argop4 a.bytes.now
 op_value op.PutRootFh = arm 24 argop4 tt
 op_value (op.Read a) = arm 25 argop4 (read4_args_value a)
 op_value (op.Write a) = arm 38 argop4 (write4_args_value a)
-op_value (op.BindConn a) = arm 41 argop4 (bind_conn4_args_value a)
+op_value (op.BindConn a) = arm 41 argop4 (bind_conn4_value from_client4 from_client4_number a)
 op_value (op.ExchangeId a) = arm 42 argop4 (exchange_id4_args_value a)
 op_value (op.CreateSession a) = arm 43 argop4 (create_session4_args_value a)
 op_value (op.DestroySession a) = arm 44 argop4 a.0

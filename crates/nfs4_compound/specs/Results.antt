@@ -6,17 +6,18 @@ use Rattle.ff_xdr.specs.Arms.{arm}
 use Rattle.nfs4_types.specs.Handles.{nfs_fh4}
 use Rattle.nfs4_types.specs.Stateids.{stateid4, stateid4_value}
 use Rattle.nfs4_types.specs.Status.{refusal4, stat4_number}
-use Rattle.nfs4_file_ops.specs.Fattr.{fattr4, fattr4_value}
+use Rattle.nfs4_file_ops.specs.Fattr4.{fattr4, fattr4_value}
 use Rattle.nfs4_file_ops.specs.GetDeviceInfo.{getdeviceinfo4_res, getdeviceinfo4_res_value}
 use Rattle.nfs4_file_ops.specs.LayoutGet.{layoutget4_res, layoutget4_res_value}
 use Rattle.nfs4_file_ops.specs.OpResults.{result4, result4_value}
 use Rattle.nfs4_file_ops.specs.Open.{open4_ok, open4_ok_value}
 use Rattle.nfs4_file_ops.specs.Read.{read4_ok, read4_ok_value}
 use Rattle.nfs4_file_ops.specs.Write.{write4_ok, write4_ok_value}
-use Rattle.nfs4_session_ops.specs.BindConn.{bind_conn4_ok, bind_conn4_ok_value}
+use Rattle.nfs4_session_ops.specs.BindConn.{bind_conn4_ok, bind_conn4_value}
+use Rattle.nfs4_session_ops.specs.Directions.{from_server4, from_server4_number}
 use Rattle.nfs4_session_ops.specs.CreateSession.{create_session4_ok, create_session4_ok_value}
 use Rattle.nfs4_session_ops.specs.ExchangeId.{exchange_id4_ok, exchange_id4_ok_value}
-use Rattle.nfs4_session_ops.specs.Sequence.{sequence4_ok, sequence4_ok_value}
+use Rattle.nfs4_session_ops.specs.SequenceRes.{sequence4_ok, sequence4_ok_value}
 use Rattle.nfs4_compound.specs.Behind.{behind_arms}
 use Rattle.nfs4_compound.specs.declared.op_res.OpRes.{OpRes}
 use Rattle.nfs4_compound.specs.declared.op_res.OpRes.TheVariants as res
@@ -61,7 +62,7 @@ op_res_value (res.PutFh r) = arm 22 resop4 (result4_value Void (λ nothing. tt) 
 op_res_value (res.PutRootFh r) = arm 24 resop4 (result4_value Void (λ nothing. tt) r)
 op_res_value (res.Read r) = arm 25 resop4 (result4_value read4_ok read4_ok_value r)
 op_res_value (res.Write r) = arm 38 resop4 (result4_value write4_ok write4_ok_value r)
-op_res_value (res.BindConn r) = arm 41 resop4 (result4_value bind_conn4_ok bind_conn4_ok_value r)
+op_res_value (res.BindConn r) = arm 41 resop4 (result4_value bind_conn4_ok (bind_conn4_value from_server4 from_server4_number) r)
 op_res_value (res.ExchangeId r) = arm 42 resop4 (result4_value exchange_id4_ok exchange_id4_ok_value r)
 op_res_value (res.CreateSession r) = arm 43 resop4 (result4_value create_session4_ok create_session4_ok_value r)
 op_res_value (res.DestroySession r) = arm 44 resop4 (result4_value Void (λ nothing. tt) r)

@@ -12,7 +12,7 @@ use crate::operations::{
 use ff_xdr::{Cursor, Message, NoMemory, Out, Wire, XdrError};
 use nfs4_file_ops::CbLayoutRecallRes;
 use nfs4_session_ops::CbSequenceRes;
-use nfs4_types::{Refusal, Stat4};
+use nfs4_types::{Refusal4, Stat4};
 
 /// The callback with this number is built.
 pub fn is_built_cb_op(number: u32) -> bool
@@ -54,7 +54,7 @@ impl<'a> Wire<'a> for CbRes {
         let mut fork = cursor.fork();
         let number = fork.number32()?;
         if !is_built_cb_op(number) {
-            let refusal = Refusal::read(&mut fork)?;
+            let refusal = Refusal4::read(&mut fork)?;
             *cursor = fork;
             return Ok(CbRes::Unbuilt(number, refusal.status));
         }

@@ -18,7 +18,7 @@ use nfs4_session_ops::{
     BindConnRes, CreateSessionRes, DestroyClientIdRes, DestroySessionRes, ExchangeIdRes,
     ReclaimCompleteRes, SequenceRes,
 };
-use nfs4_types::{Refusal, Stat4};
+use nfs4_types::{Refusal4, Stat4};
 
 /// The operation with this number is built.
 pub fn is_built_op(number: u32) -> bool
@@ -98,7 +98,7 @@ impl<'a> Wire<'a> for OpRes<'a> {
         let mut fork = cursor.fork();
         let number = fork.number32()?;
         if !is_built_op(number) {
-            let refusal = Refusal::read(&mut fork)?;
+            let refusal = Refusal4::read(&mut fork)?;
             *cursor = fork;
             return Ok(OpRes::Unbuilt(number, refusal.status));
         }

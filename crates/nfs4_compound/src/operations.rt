@@ -123,7 +123,7 @@ macro_rules! put_result {
             })*
             $kind::Unbuilt(number, status) => {
                 $out.number32(*number)?;
-                Refusal { status: *status }.put($out)?;
+                Refusal4 { status: *status }.put($out)?;
                 Ok(())
             }
         }
@@ -137,7 +137,7 @@ macro_rules! fits_result {
             $($kind::$variant(result) => Wire::fits(result),)*
             $($kind::$bare(result) => Wire::fits(result),)*
             $kind::Unbuilt(number, status) => {
-                !$is_built(*number) && Refusal { status: *status }.fits()
+                !$is_built(*number) && Refusal4 { status: *status }.fits()
             }
         }
     };

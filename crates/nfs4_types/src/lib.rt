@@ -22,5 +22,5 @@ pub use ids::{DeviceId, SessionId, device_of};
 pub use laws::different_ids;
 pub use sequence::Sequence;
 pub use stateid::{Stateid, layout_stateid, open_stateid};
-pub use status::{Refusal, Stat4};
+pub use status::{Refusal4, Stat4};
 pub use time::Time4;

@@ -204,7 +204,7 @@ fn statuses(rt: HostRuntime) -> Result<(), Fail> {
     for (name, number) in names.into_iter().zip(numbers) {
         assert_eq!(rt; name.number(), number);
         assert_eq!(rt; Stat4::of_number(number), Some(name));
-        let refusal = Refusal { status: name };
+        let refusal = Refusal4 { status: name };
         assert_eq!(rt; refusal.fits(), number != 0);
     }
     Ok(())
