@@ -5,22 +5,14 @@ mod cb_compound;
 mod cb_op;
 mod cb_res;
 mod compound;
-#[cfg(test)]
-mod compound_tests;
 mod laws;
 mod op;
 mod op_res;
-#[cfg(test)]
-mod op_tests;
 mod operations;
 mod refused;
-#[cfg(test)]
-mod result_tests;
 mod results;
 mod stop;
 mod tag;
-#[cfg(test)]
-mod tests;
 
 pub use cb_compound::{CbCompound, CbOps, judge_cb_compound};
 pub use cb_op::CbOp;

@@ -1,8 +1,8 @@
 //! Compounds against their words: what their operations are read as, and where they stop.
 
 use crate::tests::{ID_WORDS, SESSION, STATEID_WORDS, bytes_of};
-use crate::*;
 use ff_xdr::{Out, XdrError, XdrWhy};
+use nfs4_compound::*;
 use nfs4_file_ops::OpResult;
 use nfs4_session_ops::CbSequenceOk;
 use nfs4_types::{Handle4, Stat4};

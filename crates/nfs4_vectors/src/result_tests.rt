@@ -4,8 +4,8 @@ use crate::tests::{
     BACK, BACK_WORDS, FORE, FORE_WORDS, HANDLE, ID_WORDS, SESSION, STATEID, STATEID_WORDS,
     cb_result_is, no_bits, result_is, spelled_by,
 };
-use crate::{CbRes, OpRes};
 use ff_xdr::{Array, Items};
+use nfs4_compound::{CbRes, OpRes};
 use nfs4_file_ops::{
     ArmZero, Fattr4, GetDeviceInfoOk, GetDeviceInfoRes, Layout4, LayoutGetOk, LayoutGetRes,
     OpResult, OpaqueBody, OpenOk, Owner4, Read4Ok, StableHow4, Write4Ok,

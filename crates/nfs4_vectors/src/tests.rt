@@ -1,8 +1,8 @@
 //! What the tests of operations, results and compounds share. All words are worked out by hand from RFC
 //! 8881's XDR.
 
-use crate::{CbOp, CbRes, Op, OpRes};
 use ff_xdr::{Cursor, Items, NoMemory, Out, Wire, XdrError, XdrWhy};
+use nfs4_compound::{CbOp, CbRes, Op, OpRes};
 use nfs4_types::{Bitmap, ChannelAttrs, SessionId, Stateid};
 use std::alloc::{AllocError, Global};
 use std::process::Abort;

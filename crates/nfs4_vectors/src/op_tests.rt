@@ -4,8 +4,8 @@ use crate::tests::{
     BACK, BACK_WORDS, FORE, FORE_WORDS, HANDLE, ID, ID_WORDS, SESSION, STATEID, STATEID_WORDS,
     bytes_of, cb_op_is, is_read, no_bits, op_is, spelled_by,
 };
-use crate::{CbOp, Op};
 use ff_xdr::{Array, Items};
+use nfs4_compound::{CbOp, Op};
 use nfs4_file_ops::{
     ArmZero, CbLayoutRecallArgs, CloseArgs, Commit4Args, Component4, CreateHow4, Fattr4, Fsid4,
     GetDeviceInfoArgs, LayoutCommitArgs, LayoutGetArgs, LayoutRecall, LayoutRecallFile,
