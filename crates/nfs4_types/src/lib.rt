@@ -10,8 +10,6 @@ mod laws;
 mod sequence;
 mod stateid;
 mod status;
-#[cfg(test)]
-mod tests;
 mod time;
 
 pub use at_most_one::AtMostOne;

@@ -10,3 +10,5 @@ mod op_tests;
 mod result_tests;
 #[cfg(test)]
 mod tests;
+#[cfg(test)]
+mod value_tests;

@@ -66,7 +66,7 @@ pub fn no_bits() -> Bitmap<'static> {
 }
 
 /// The value is spelled by these bytes.
-fn is_written<'a, T: Wire<'a>>(
+pub fn is_written<'a, T: Wire<'a>>(
     rt: &impl Abort,
     alloc: Global,
     bytes: &[u8],
