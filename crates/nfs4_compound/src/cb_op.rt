@@ -1,9 +1,12 @@
 //! The operations of a callback compound (RFC 8881, section 20).
 
-ghost use Rattle.std.specs.Prelude.{◌≡◌, refl};
-ghost use Rattle.ff_xdr.specs.Form.{arm_of};
+ghost use Rattle.std.specs.Prelude.{◌≡◌, IsTrue, refl};
+ghost use Rattle.ff_xdr.specs.Calls.{Decodes};
+ghost use Rattle.ff_xdr.specs.Form.{arm_of, has_arm};
+ghost use Rattle.ff_xdr.specs.Reading.{arm_reading};
 ghost use Rattle.nfs4_compound.specs.CbArgs.{cb_argop4, cb_op_value};
 
+use crate::is_built_cb_op;
 use crate::operations::{callbacks, fits_args, number_of, put_args, read_args};
 use ff_xdr::{Cursor, Message, NoMemory, Out, Wire, XdrError};
 use nfs4_file_ops::CbLayoutRecallArgs;
@@ -28,6 +31,14 @@ impl<'a> CbOp<'a> {
     }
 }
 
+/// Reads the arguments of a callback that is built, behind its number.
+fn read_cb_op_args<'a>(number: u32, cursor: &mut Cursor<'a>) -> Result<CbOp<'a>, XdrError>
+    requires { IsTrue (has_arm number cb_argop4) }
+    ensures { Decodes cb_op_value cursor.old result cursor.new (arm_reading cb_argop4 number cursor.old.bytes cursor.old.at) }
+{
+    callbacks!(read_args, CbOp number, cursor)
+}
+
 impl<'a> Message for CbOp<'a> {
     ghost form = { cb_argop4 };
 
@@ -40,7 +51,10 @@ impl<'a> Wire<'a> for CbOp<'a> {
     fn read(cursor: &mut Cursor<'a>) -> Result<CbOp<'a>, XdrError> {
         let mut fork = cursor.fork();
         let number = fork.number32()?;
-        let op = callbacks!(read_args, CbOp number, &mut fork, cursor.place());
+        if !is_built_cb_op(number) {
+            return Err(XdrError::not_enum(cursor.place()));
+        }
+        let op = read_cb_op_args(number, &mut fork)?;
         *cursor = fork;
         Ok(op)
     }

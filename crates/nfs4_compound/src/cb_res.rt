@@ -1,8 +1,10 @@
 //! The results of the operations of a callback compound (RFC 8881, section 20).
 
-ghost use Rattle.std.specs.Prelude.{◌≡◌, refl};
-ghost use Rattle.std.specs.Prelude.{nat_eq};
+ghost use Rattle.std.specs.Prelude.{◌≡◌, IsTrue, nat_eq, refl};
 ghost use Rattle.std.specs.List.{list_any};
+ghost use Rattle.ff_xdr.specs.Calls.{Decodes};
+ghost use Rattle.ff_xdr.specs.Form.{has_arm};
+ghost use Rattle.ff_xdr.specs.Reading.{arm_reading};
 ghost use Rattle.nfs4_compound.specs.Behind.{union_number};
 ghost use Rattle.nfs4_compound.specs.CbResults.{cb_op_numbers, cb_resop4, cb_res_value};
 
@@ -41,6 +43,14 @@ impl CbRes {
     }
 }
 
+/// Reads the result of a callback that is built, behind its number.
+fn read_cb_op_result<'a>(number: u32, cursor: &mut Cursor<'a>) -> Result<CbRes, XdrError>
+    requires { IsTrue (has_arm number cb_resop4) }
+    ensures { Decodes cb_res_value cursor.old result cursor.new (arm_reading cb_resop4 number cursor.old.bytes cursor.old.at) }
+{
+    callbacks!(read_result, CbRes number, cursor)
+}
+
 impl Message for CbRes {
     ghost form = { cb_resop4 };
 
@@ -58,7 +68,9 @@ impl<'a> Wire<'a> for CbRes {
             *cursor = fork;
             return Ok(CbRes::Unbuilt(number, refusal.status));
         }
-        callbacks!(read_result, CbRes number, fork, cursor)
+        let result = read_cb_op_result(number, &mut fork)?;
+        *cursor = fork;
+        Ok(result)
     }
 
     fn put(&self, out: &mut Out) -> Result<(), NoMemory> {

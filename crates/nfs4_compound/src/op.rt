@@ -1,9 +1,12 @@
 //! The operations of a compound (RFC 8881, section 18).
 
-ghost use Rattle.std.specs.Prelude.{◌≡◌, refl};
-ghost use Rattle.ff_xdr.specs.Form.{arm_of};
+ghost use Rattle.std.specs.Prelude.{◌≡◌, IsTrue, refl};
+ghost use Rattle.ff_xdr.specs.Calls.{Decodes};
+ghost use Rattle.ff_xdr.specs.Form.{arm_of, has_arm};
+ghost use Rattle.ff_xdr.specs.Reading.{arm_reading};
 ghost use Rattle.nfs4_compound.specs.Args.{argop4, op_value};
 
+use crate::is_built_op;
 use crate::operations::{fits_args, number_of, operations, put_args, read_args};
 use ff_xdr::{Cursor, Message, NoMemory, Out, Wire, XdrError};
 use nfs4_file_ops::{
@@ -73,6 +76,14 @@ impl<'a> Op<'a> {
     }
 }
 
+/// Reads the arguments of an operation that is built, behind its number.
+fn read_op_args<'a>(number: u32, cursor: &mut Cursor<'a>) -> Result<Op<'a>, XdrError>
+    requires { IsTrue (has_arm number argop4) }
+    ensures { Decodes op_value cursor.old result cursor.new (arm_reading argop4 number cursor.old.bytes cursor.old.at) }
+{
+    operations!(read_args, Op number, cursor)
+}
+
 impl<'a> Message for Op<'a> {
     ghost form = { argop4 };
 
@@ -85,7 +96,10 @@ impl<'a> Wire<'a> for Op<'a> {
     fn read(cursor: &mut Cursor<'a>) -> Result<Op<'a>, XdrError> {
         let mut fork = cursor.fork();
         let number = fork.number32()?;
-        let op = operations!(read_args, Op number, &mut fork, cursor.place());
+        if !is_built_op(number) {
+            return Err(XdrError::not_enum(cursor.place()));
+        }
+        let op = read_op_args(number, &mut fork)?;
         *cursor = fork;
         Ok(op)
     }

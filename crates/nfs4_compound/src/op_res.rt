@@ -1,8 +1,10 @@
 //! The results of operations (RFC 8881, section 18).
 
-ghost use Rattle.std.specs.Prelude.{◌≡◌, refl};
-ghost use Rattle.std.specs.Prelude.{nat_eq};
+ghost use Rattle.std.specs.Prelude.{◌≡◌, IsTrue, nat_eq, refl};
 ghost use Rattle.std.specs.List.{list_any};
+ghost use Rattle.ff_xdr.specs.Calls.{Decodes};
+ghost use Rattle.ff_xdr.specs.Form.{has_arm};
+ghost use Rattle.ff_xdr.specs.Reading.{arm_reading};
 ghost use Rattle.nfs4_compound.specs.Behind.{union_number};
 ghost use Rattle.nfs4_compound.specs.Results.{op_numbers, resop4, op_res_value};
 
@@ -85,6 +87,14 @@ impl<'a> OpRes<'a> {
     }
 }
 
+/// Reads the result of an operation that is built, behind its number.
+fn read_op_result<'a>(number: u32, cursor: &mut Cursor<'a>) -> Result<OpRes<'a>, XdrError>
+    requires { IsTrue (has_arm number resop4) }
+    ensures { Decodes op_res_value cursor.old result cursor.new (arm_reading resop4 number cursor.old.bytes cursor.old.at) }
+{
+    operations!(read_result, OpRes number, cursor)
+}
+
 impl<'a> Message for OpRes<'a> {
     ghost form = { resop4 };
 
@@ -102,7 +112,9 @@ impl<'a> Wire<'a> for OpRes<'a> {
             *cursor = fork;
             return Ok(OpRes::Unbuilt(number, refusal.status));
         }
-        operations!(read_result, OpRes number, fork, cursor)
+        let result = read_op_result(number, &mut fork)?;
+        *cursor = fork;
+        Ok(result)
     }
 
     fn put(&self, out: &mut Out) -> Result<(), NoMemory> {

@@ -38,14 +38,13 @@ macro_rules! number_of {
     };
 }
 
-/// The operation with a number, its arguments read from a cursor; where it is not built, a refusal of the
-/// number at its place.
+/// The operation with a number that is built, its arguments read from a cursor.
 macro_rules! read_args {
-    ([$($number:literal $variant:ident),*] [$($bare_number:literal $bare:ident),*] $kind:ident $of:expr, $cursor:expr, $place:expr) => {
+    ([$($number:literal $variant:ident),*] [$($bare_number:literal $bare:ident),*] $kind:ident $of:expr, $cursor:expr) => {
         match $of {
-            $($number => $kind::$variant(Wire::read($cursor)?),)*
-            $($bare_number => $kind::$bare,)*
-            _ => return Err(XdrError::not_enum($place)),
+            $($number => Ok($kind::$variant(Wire::read($cursor)?)),)*
+            $($bare_number => Ok($kind::$bare),)*
+            _ => unreachable!(),
         }
     };
 }
@@ -55,13 +54,12 @@ macro_rules! put_args {
     ([$($number:literal $variant:ident),*] [$($bare_number:literal $bare:ident),*] $kind:ident $op:expr, $out:expr) => {
         match $op {
             $($kind::$variant(args) => {
-                $out.number32($number)?;
-                args.put($out)?;
-                Ok(())
+                let number: u32 = $number;
+                (number, *args).put($out)
             })*
             $($kind::$bare => {
-                $out.number32($bare_number)?;
-                Ok(())
+                let number: u32 = $bare_number;
+                number.put($out)
             })*
         }
     };
@@ -88,20 +86,12 @@ macro_rules! number_of_result {
     };
 }
 
-/// The result under a number that is built, read from a fork of a cursor, which goes on from there.
+/// The result under a number that is built, read from a cursor.
 macro_rules! read_result {
-    ([$($number:literal $variant:ident),*] [$($bare_number:literal $bare:ident),*] $kind:ident $of:expr, $fork:ident, $cursor:expr) => {
+    ([$($number:literal $variant:ident),*] [$($bare_number:literal $bare:ident),*] $kind:ident $of:expr, $cursor:expr) => {
         match $of {
-            $($number => {
-                let result = Wire::read(&mut $fork)?;
-                *$cursor = $fork;
-                Ok($kind::$variant(result))
-            })*
-            $($bare_number => {
-                let result = Wire::read(&mut $fork)?;
-                *$cursor = $fork;
-                Ok($kind::$bare(result))
-            })*
+            $($number => Ok($kind::$variant(Wire::read($cursor)?)),)*
+            $($bare_number => Ok($kind::$bare(Wire::read($cursor)?)),)*
             _ => unreachable!(),
         }
     };
@@ -112,20 +102,14 @@ macro_rules! put_result {
     ([$($number:literal $variant:ident),*] [$($bare_number:literal $bare:ident),*] $kind:ident $result:expr, $out:expr) => {
         match $result {
             $($kind::$variant(result) => {
-                $out.number32($number)?;
-                result.put($out)?;
-                Ok(())
+                let number: u32 = $number;
+                (number, *result).put($out)
             })*
             $($kind::$bare(result) => {
-                $out.number32($bare_number)?;
-                result.put($out)?;
-                Ok(())
+                let number: u32 = $bare_number;
+                (number, *result).put($out)
             })*
-            $kind::Unbuilt(number, status) => {
-                $out.number32(*number)?;
-                Refusal4 { status: *status }.put($out)?;
-                Ok(())
-            }
+            $kind::Unbuilt(number, status) => (*number, Refusal4 { status: *status }).put($out),
         }
     };
 }
