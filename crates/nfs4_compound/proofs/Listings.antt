@@ -1,8 +1,7 @@
 -- The operations of a compound and the bytes that spell them.
-use Rattle.std.proofs.Common.{◌≡◌, ℕ, zero, suc, ◌+◌, ◌-◌, ◌≤◌, List, [], ◌∷◌, ◌++◌, length, Result, Ok, Err, refl, sym, ap, subst, ◌∙◌, arith, append_assoc}
+use Rattle.std.proofs.Common.{◌≡◌, ℕ, zero, suc, ◌+◌, ◌≤◌, List, [], ◌∷◌, ◌++◌, length, Ok, Err, refl, sym, ap, subst, ◌∙◌, arith, append_assoc}
 use Rattle.std.proofs.lemmas.List.{length-append}
-use Rattle.std.specs.List.{AllByRecursion, flat_map}
-use Rattle.ff_xdr.specs.declared.error.XdrError.{XdrError}
+use Rattle.std.specs.List.{flat_map}
 use Rattle.ff_xdr.specs.Form.{Form, Value, Fits, spelling}
 use Rattle.ff_xdr.specs.Reading.{Read, ◌>>=◌, reading, many_at}
 use Rattle.ff_xdr.specs.Laws.{IsBytes, Stands, IsReadAgain, IsSpelledSo}

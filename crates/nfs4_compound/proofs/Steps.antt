@@ -1,5 +1,5 @@
 -- The operations of a compound, step by step.
-use Rattle.std.proofs.Common.{◌≡◌, ℕ, zero, suc, ◌+◌, ◌-◌, ◌<◌, Bool, true, false, cond, List, [], ◌∷◌, length, Option, Some, None, Result, Ok, Err, refl, sym, ap, subst, ◌∙◌, arith}
+use Rattle.std.proofs.Common.{◌≡◌, ℕ, zero, suc, ◌-◌, ◌<◌, Bool, true, false, cond, List, [], Some, None, Ok, Err, refl, sym, ap, ◌∙◌, arith}
 use Rattle.ff_xdr.specs.declared.error.XdrError.{XdrError}
 use Rattle.ff_xdr.specs.Form.{Form, Value}
 use Rattle.std.specs.Int.{w32}
@@ -7,9 +7,8 @@ use Rattle.ff_xdr.specs.Reading.{Read, number_at, reading}
 use Rattle.ff_xdr.specs.Unbuilt.{is_unbuilt}
 use Rattle.nfs4_compound.specs.declared.stop.Stop.{Stop}
 use Rattle.nfs4_compound.specs.declared.stop.Stop.TheVariants as stop
-use Rattle.nfs4_compound.specs.declared.stop.NextOp.{NextOp}
 use Rattle.nfs4_compound.specs.declared.stop.NextOp.TheVariants as next
-use Rattle.nfs4_compound.specs.Operations.{OpList, left_at, number_of_read, stop_at, stop_by, with_first, operations, GivesNext, rest_now, rest_of_stop}
+use Rattle.nfs4_compound.specs.Operations.{OpList, left_at, number_of_read, stop_at, stop_by, with_first, operations, GivesNext, rest_now}
 
 -- one operation, and the others
 one_more : (form : Form) (n : ℕ) (bytes : List ℕ) (at : ℕ) → 0 < n

@@ -1,18 +1,15 @@
 -- Which refused numbers are of an arm that is not built.
-use Rattle.std.proofs.Common.{◌≡◌, ℕ, zero, suc, ◌+◌, Bool, true, false, ◌&&◌, ◌||◌, not, cond, eqb, List, [], ◌∷◌, Option, Some, None, Result, Ok, Err, refl, sym, ap, subst, ◌∙◌, inl, inr}
-use Rattle.std.specs.Prelude.{nat_eq, ◌==◌, if◌then◌else◌}
+use Rattle.std.proofs.Common.{◌≡◌, ℕ, zero, suc, Bool, true, false, ◌&&◌, ◌||◌, not, cond, eqb, List, [], ◌∷◌, Some, None, Result, Ok, Err, refl, sym, ap, subst, ◌∙◌, inl, inr}
 use Rattle.std.proofs.lemmas.Bool.{and_parts, or_cases, eqb-true}
 use Rattle.std.specs.Int.{w32}
 use Rattle.std.specs.List.{AllByRecursion, list_any}
 use Rattle.ff_xdr.specs.declared.error.XdrError.{XdrError}
-use Rattle.ff_xdr.specs.declared.error.XdrWhy.{XdrWhy}
 use Rattle.ff_xdr.specs.declared.error.XdrWhy.TheVariants.{NotEnum}
-use Rattle.ff_xdr.specs.Form.{Form, Void, Number32, Number64, Hyper, Boolean, Enum, Optional, Fixed, Opaque, Text, Pair, Array, Arm, NoArm, Default, Value}
+use Rattle.ff_xdr.specs.Form.{Form, Optional, Pair, Array, Arm, NoArm, Value}
 use Rattle.ff_xdr.specs.Reading.{Read, ◌>>=◌, number_at, flag_at, length_at, arm_at, reading}
 use Rattle.ff_xdr.specs.Unbuilt.{at_value, one_unbuilt, is_unbuilt, has_enum, IsNotEnumAt}
 use Rattle.ff_xdr.proofs.Places.{err_is}
 use Rattle.ff_xdr.proofs.NotBuilt.{unbuilt_right}
-use Rattle.nfs4_compound.specs.declared.stop.Stop.{Stop}
 use Rattle.nfs4_compound.specs.declared.stop.Stop.TheVariants as stop
 use Rattle.nfs4_compound.specs.Operations.{number_of_read, stop_at, stop_by, IsRefusedNumber, arm_has_enum, with_arm, enum_arms, has_union, is_split}
 

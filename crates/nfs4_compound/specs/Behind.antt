@@ -1,7 +1,7 @@
 -- What stands behind the arms of a union (RFC 4506, section 4.15).
-use Rattle.std.specs.Prelude.{ℕ, ◌⊎◌}
+use Rattle.std.specs.Prelude.{ℕ}
 use Rattle.std.proofs.Common.{inl, inr}
-use Rattle.ff_xdr.specs.Form.{Form, Void, Number32, Number64, Hyper, Boolean, Enum, Optional, Fixed, Opaque, Text, Pair, Array, Arm, NoArm, Default, Value}
+use Rattle.ff_xdr.specs.Form.{Form, Pair, Arm, Default, Value}
 
 -- the form behind the last arm, and a value of it as one of the union
 abbrev pub behind_form : Form → Form

@@ -1,5 +1,5 @@
 -- Compounds and callback compounds: what stands before the operations, and the whole (RFC 8881, sections 16.2.3 and 20.2.3).
-use Rattle.std.specs.Prelude.{ℕ, List, Result, Ok, Err}
+use Rattle.std.specs.Prelude.{ℕ, List, Result, Ok}
 use Rattle.ff_xdr.specs.declared.error.XdrError.{XdrError}
 use Rattle.ff_xdr.specs.Form.{Form, Number32, Text, Pair, Array, Value}
 use Rattle.ff_xdr.specs.Reading.{◌>>=◌, reading}

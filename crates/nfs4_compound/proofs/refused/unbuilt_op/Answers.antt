@@ -1,4 +1,4 @@
-use Rattle.std.proofs.Common.{◌≡◌, ℕ, true, [], ◌∷◌, refl, sym}
+use Rattle.std.proofs.Common.{◌≡◌, true, [], ◌∷◌, refl, sym}
 use Rattle.nfs4_compound.specs.Args.{argop4}
 use Rattle.nfs4_compound.specs.Operations.{arm_has_enum}
 use Rattle.nfs4_compound.proofs.Unbuilt.{stop_none, stop_unread, stop_bad, no_enum, one_of_numbers}

@@ -1,4 +1,4 @@
-use Rattle.std.proofs.Common.{◌≡◌, ℕ, length}
+use Rattle.std.proofs.Common.{◌≡◌, length}
 use Rattle.nfs4_compound.proofs.cb_compound.CbCompound.stop.Given as goal
 
 -- the operations that are left stop where all do

@@ -1,4 +1,4 @@
-use Rattle.std.proofs.Common.{◌≡◌, ℕ, length}
+use Rattle.std.proofs.Common.{◌≡◌, length}
 use Rattle.nfs4_compound.proofs.compound.Compound.stop.Given as goal
 
 -- the operations that are left stop where all do

@@ -1,4 +1,4 @@
-use Rattle.std.proofs.Common.{◌≡◌, ℕ, ◌<◌, Ok, sym, subst, arith}
+use Rattle.std.proofs.Common.{◌≡◌, ◌<◌, Ok, sym, subst, arith}
 use Rattle.ff_xdr.specs.Reading.{reading}
 use Rattle.nfs4_compound.specs.declared.stop.NextOp.TheVariants as next
 use Rattle.nfs4_compound.specs.Args.{argop4, op_value}
