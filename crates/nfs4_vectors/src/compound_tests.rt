@@ -53,7 +53,7 @@ fn stops_behind(
 fn stops(rt: HostRuntime) -> Result<(), Fail> {
     let alloc = rt.alloc();
     let short = |place| Stop::Bad(refused(place, XdrWhy::Short));
-    let table: [(&[u32], u32, Stop); 24] = [
+    let table: [(&[u32], u32, Stop); 25] = [
         // no tag, minor version 1, a count; no operation, one, bytes behind it
         (&[0, 1, 0], 0, Stop::End(None)),
         (&[0, 1, 1, 24], 1, Stop::End(None)),
@@ -82,6 +82,12 @@ fn stops(rt: HostRuntime) -> Result<(), Fail> {
             &[0, 1, 1, 42, 0, 0, 1025],
             0,
             Stop::Bad(refused(24, XdrWhy::TooLong)),
+        ),
+        // OPEN with an owner of 1,025 bytes
+        (
+            &[0, 1, 1, 18, 1, 2, 3, 0, 4, 1025],
+            0,
+            Stop::Bad(refused(36, XdrWhy::TooLong)),
         ),
         // an impl id whose domain is not UTF-8
         (
@@ -133,6 +139,10 @@ fn stops(rt: HostRuntime) -> Result<(), Fail> {
     stops_behind(&rt, alloc, &[&head, &channel, &[2, 7, 8]], 0, stop)?;
     let parts: [&[u32]; 4] = [&head, &channel, &[0, 1, 2, 3, 4, 5, 6, 0], &[9, 1, 6]];
     stops_behind(&rt, alloc, &parts, 0, Stop::Unread(43))?;
+    // EXCHANGE_ID with an owner of 1,024 bytes
+    let owner = [0x4141_4141; 256];
+    let parts: [&[u32]; 3] = [&[0, 1, 1, 42, 0, 5, 1024], &owner, &[6, 0, 0]];
+    stops_behind(&rt, alloc, &parts, 1, Stop::End(None))?;
     // seventeen operations
     let ops = [24; 17];
     stops_behind(&rt, alloc, &[&[0, 1, 17], &ops], 17, Stop::End(None))?;
