@@ -4,7 +4,7 @@ use Rattle.std.proofs.lemmas.List.{append-nil}
 use Rattle.ff_xdr.specs.declared.error.NoMemory.{NoMemory}
 use Rattle.ff_xdr.specs.declared.error.XdrError.{XdrError}
 use Rattle.ff_xdr.specs.Form.{Value}
-use Rattle.ff_xdr.specs.Calls.{Puts, Grows}
+use Rattle.ff_xdr.specs.Calls.{Grows}
 use Rattle.ff_xdr.specs.Reading.{arm_reading, whole}
 use Rattle.nfs3_wire.specs.Calls.{calls}
 use Rattle.rpc_record.specs.Calls.{RpcCall}
@@ -13,17 +13,13 @@ use Rattle.line_runs.specs.declared.end.Played.TheVariants as played
 use Rattle.line_runs.specs.Runs.{PlaysLine}
 use Rattle.ff_cluster.specs.Show.{bad_text, args_of, args_text, line_shown, show_from, by_shown, ShowsLine}
 
-puts_grows : (old new text : List ℕ) (r : Result (Unit {0}) NoMemory) → Puts old r new text → Grows old r new text
-puts_grows old new text (Ok x) puts = puts
-puts_grows old new text (Err e) puts = ([], puts ∙ sym (append-nil old))
-
 read_so : (c : RpcCall) (v : Value calls) → whole c.args (arm_reading calls c.procedure c.args 0) ≡ Ok v → args_of c ≡ Ok v
 unfolding args_of
 read_so c v is = is
 
 -- arguments in their form
-pub puts_good : (header : ℕ) (c : RpcCall) (v : Value calls) (old new : List ℕ) (r : Result (Unit {0}) NoMemory) → whole c.args (arm_reading calls c.procedure c.args 0) ≡ Ok v → Puts old r new (codes "good") → Grows old r new (args_text header (args_of c))
-puts_good header c v old new r is puts = subst (λ x. Grows old r new (args_text header x)) (sym (read_so c v is)) (puts_grows old new (codes "good") r puts)
+pub grows_good : (header : ℕ) (c : RpcCall) (v : Value calls) (old new : List ℕ) (r : Result (Unit {0}) NoMemory) → whole c.args (arm_reading calls c.procedure c.args 0) ≡ Ok v → Grows old r new (codes "good") → Grows old r new (args_text header (args_of c))
+grows_good header c v old new r is grows = subst (λ (x : Result (Value calls) XdrError). Grows old r new (args_text header x)) (sym (read_so c v is)) grows
 
 refused_so : (c : RpcCall) (e : XdrError) → whole c.args (arm_reading calls c.procedure c.args 0) ≡ Err e → args_of c ≡ Err e
 unfolding args_of
@@ -31,7 +27,7 @@ refused_so c e is = is
 
 -- arguments that are refused
 pub grows_bad : (header : ℕ) (c : RpcCall) (e : XdrError) (old new : List ℕ) (r : Result (Unit {0}) NoMemory) → whole c.args (arm_reading calls c.procedure c.args 0) ≡ Err e → Grows old r new (bad_text (header + e.place) e.why) → Grows old r new (args_text header (args_of c))
-grows_bad header c e old new r is grows = subst (λ x. Grows old r new (args_text header x)) (sym (refused_so c e is)) grows
+grows_bad header c e old new r is grows = subst (λ (x : Result (Value calls) XdrError). Grows old r new (args_text header x)) (sym (refused_so c e is)) grows
 
 -- what playing a line did is what a task does
 pub shows_line : (number : ℕ) (line text text' : List ℕ) (r : Result Played NoMemory) → ShowsLine text (line_shown line) r text' → PlaysLine number line (show_from number) text r (show_from (number + 1)) text'

@@ -5,12 +5,13 @@ use Rattle.ff_xdr.specs.declared.error.XdrError.{XdrError}
 use Rattle.ff_xdr.specs.declared.error.XdrWhy.{XdrWhy}
 use Rattle.ff_xdr.specs.declared.error.XdrWhy.TheVariants as why
 use Rattle.ff_xdr.specs.Form.{Value, has_arm}
-use Rattle.ff_xdr.specs.Reading.{arm_reading, whole}
+use Rattle.ff_xdr.specs.Reading.{arm_reading, rest_of, whole}
 use Rattle.rpc_record.specs.declared.call.CallFault.{CallFault}
 use Rattle.rpc_record.specs.declared.call.CallFault.TheVariants as fault
 use Rattle.rpc_record.specs.Calls.{RpcCall, call_at}
 use Rattle.rpc_record.specs.Replies.{RpcReply, ReplyStat, is_denied, reply_stat_number, reply_at}
 use Rattle.nfs3_wire.specs.Calls.{calls}
+use Rattle.nfs4_compound.specs.Compounds.{compound_verdict, cb_compound_verdict}
 use Rattle.line_runs.specs.declared.end.Played.{Played}
 use Rattle.line_runs.specs.declared.end.Played.TheVariants as played
 use Rattle.line_runs.specs.Runs.{Course, LinesMeaning, at_end, after_text}
@@ -31,9 +32,9 @@ why_text why.Rest = codes "rest"
 unfoldable pub bad_text : ℕ → XdrWhy → List ℕ
 bad_text place refusal = codes "bad " ++ (decimal place ++ (codes " " ++ why_text refusal))
 
--- What the arguments are, which stand behind a header of so many bytes: in their form; refused at a place, counted from the
--- record's first byte; or not read, since the procedure is not built.
-abbrev pub args_text : ℕ → Result (Value calls) XdrError → List ℕ
+-- What the arguments are, which stand behind a header of so many bytes: in their form, or refused at a place, counted from the
+-- record's first byte.
+abbrev pub args_text : {A : Type 0} → ℕ → Result A XdrError → List ℕ
 args_text header (Ok v) = codes "good"
 args_text header (Err e) = bad_text (header + e.place) e.why
 
@@ -41,10 +42,26 @@ args_text header (Err e) = bad_text (header + e.place) e.why
 unfoldable pub args_of : RpcCall → Result (Value calls) XdrError
 args_of c = whole c.args (arm_reading calls c.procedure c.args 0)
 
--- the procedures of NFSv3 (RFC 1813): program 100003, version 3
+-- Of NFSv4.1 and of its callbacks: procedure 0 is NULL, which has no arguments, and procedure 1 is COMPOUND (RFC 8881, sections 16
+-- and 20.1). An operation that is not built counts as good and ends the check.
+unfoldable pub compound_text : ℕ → RpcCall → List ℕ
+compound_text header c =
+    if c.procedure == 0 then args_text header (rest_of c.args 0)
+    else (if c.procedure == 1 then args_text header (compound_verdict c.args) else codes "unbuilt")
+
+unfoldable pub cb_compound_text : ℕ → RpcCall → List ℕ
+cb_compound_text header c =
+    if c.procedure == 0 then args_text header (rest_of c.args 0)
+    else (if c.procedure == 1 then args_text header (cb_compound_verdict c.args) else codes "unbuilt")
+
+-- The procedures of NFS (RFC 1813; RFC 8881): program 100003, versions 3 and 4; and the callbacks of the cluster's clients, program
+-- 1073741824, version 1. All others are not built.
 unfoldable pub verdict_text : ℕ → RpcCall → List ℕ
 verdict_text header c =
-    if c.program == 100003 && (c.version == 3 && has_arm c.procedure calls) then args_text header (args_of c) else codes "unbuilt"
+    if c.program == 100003 && (c.version == 3 && has_arm c.procedure calls) then args_text header (args_of c)
+    else (if c.program == 100003 && c.version == 4 then compound_text header c
+    else (if c.program == 1073741824 && c.version == 1 then cb_compound_text header c
+    else codes "unbuilt"))
 
 -- `call XID PROGRAM VERSION PROCEDURE LENGTH` and what the arguments are, of which there are LENGTH bytes
 unfoldable pub program_text : RpcCall → List ℕ

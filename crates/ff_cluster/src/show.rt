@@ -3,27 +3,35 @@
 ghost use Rattle.std.specs.Prelude.{◌≡◌, ⊤, IsTrue, Result};
 ghost use Rattle.ff_xdr.specs.Calls.{Puts, Grows, Finds};
 ghost use Rattle.ff_xdr.specs.Form.{has_arm};
+ghost use Rattle.ff_xdr.specs.Reading.{rest_of};
 ghost use Rattle.rpc_record.specs.Calls.{RpcCall, rpc_call};
 ghost use Rattle.rpc_record.specs.declared.call.CallFault.{CallFault};
 ghost use Rattle.rpc_record.specs.Replies.{reply_stat, reply_at};
 ghost use Rattle.nfs3_wire.specs.Calls.{calls};
 ghost use Rattle.line_runs.specs.Runs.{Runs, ReadFaults, write_faults};
-ghost use Rattle.ff_cluster.specs.Show.{why_text, bad_text, args_of, args_text, verdict_text, program_text, procedure_text, call_text, stat_text, refused_text, reply_text, found_text, record_line, line_shown, show_from, show_course, ShowsLine};
+ghost use Rattle.ff_cluster.specs.Show.{why_text, bad_text, args_of, args_text, compound_text, cb_compound_text, verdict_text, program_text, procedure_text, call_text, stat_text, refused_text, reply_text, found_text, record_line, line_shown, show_from, show_course, ShowsLine};
 
 use crate::digits::Digits;
-use ff_xdr::{NoMemory, Out, XdrError, XdrWhy};
+use ff_xdr::{Cursor, NoMemory, Out, XdrError, XdrWhy};
 use itoa::Buffer;
 use journal_print::put_numbered;
 use line_runs::{LineTask, Played, RunEnd, run_lines};
 use nfs3_wire::{is_built, read_call};
+use nfs4_compound::{judge_cb_compound, judge_compound};
 use rpc_record::{Call, CallFault, Reply, ReplyBody, Sink, Source};
 use std::alloc::Global;
 
 /// The program number of NFS (RFC 1813, section 2.1).
 const NFS_PROGRAM: u32 = 100_003;
 
-/// The version of NFS that is built.
-const NFS_VERSION: u32 = 3;
+/// The program number of the callbacks of the cluster's clients, in the transient range (RFC 5531, section 8.3).
+const CALLBACK_PROGRAM: u32 = 1_073_741_824;
+
+/// Do nothing (RFC 8881, section 16.1).
+const NULL: u32 = 0;
+
+/// A compound (RFC 8881, sections 16.2 and 20.2).
+const COMPOUND: u32 = 1;
 
 /// The name of a refusal.
 fn why_text(why: XdrWhy) -> &'static [u8]
@@ -60,15 +68,56 @@ fn put_refused(error: XdrError, out: &mut Out) -> Result<(), NoMemory>
     put_bad(error.place as u128, error.why, out)
 }
 
-/// Appends what the arguments of a procedure that is built are, which stand behind a header of so many
-/// bytes.
+/// Appends what arguments are that were judged so.
+fn put_judged(header: usize, judged: Result<(), XdrError>, out: &mut Out) -> Result<(), NoMemory>
+    ensures { Grows out.old result out.new (args_text header judged) }
+{
+    match judged {
+        Ok(()) => out.raw(b"good"),
+        Err(error) => put_bad(header as u128 + error.place as u128, error.why, out),
+    }
+}
+
+/// Appends what the arguments of a procedure of NFSv3 that is built are, which stand behind a header of
+/// so many bytes.
 fn put_args(header: usize, call: &Call<'_>, out: &mut Out) -> Result<(), NoMemory>
     requires { IsTrue (has_arm call.now.procedure calls) }
     ensures { Grows out.old result out.new (args_text header (args_of (rpc_call call.now))) }
 {
     match read_call(call.procedure, call.args) {
-        Ok(_) => out.raw(b"good"),
-        Err(error) => put_bad(header as u128 + error.place as u128, error.why, out),
+        Ok(_) => put_judged(header, Ok(()), out),
+        Err(error) => put_judged(header, Err(error), out),
+    }
+}
+
+/// Judges the arguments of a NULL: there are none.
+fn judge_null(args: &[u8]) -> Result<(), XdrError>
+    ensures { result ≡ rest_of args.now 0 }
+{
+    Cursor::new(args).finish()
+}
+
+/// Appends what the arguments of a procedure of NFSv4.1 are.
+#[tactic(auto, unfolding(crate::specs::Show::compound_text))]
+fn put_compound(header: usize, call: &Call<'_>, out: &mut Out) -> Result<(), NoMemory>
+    ensures { Grows out.old result out.new (compound_text header (rpc_call call.now)) }
+{
+    match call.procedure {
+        NULL => put_judged(header, judge_null(call.args), out),
+        COMPOUND => put_judged(header, judge_compound(call.args), out),
+        _ => out.raw(b"unbuilt"),
+    }
+}
+
+/// Appends what the arguments of a callback are.
+#[tactic(auto, unfolding(crate::specs::Show::cb_compound_text))]
+fn put_cb_compound(header: usize, call: &Call<'_>, out: &mut Out) -> Result<(), NoMemory>
+    ensures { Grows out.old result out.new (cb_compound_text header (rpc_call call.now)) }
+{
+    match call.procedure {
+        NULL => put_judged(header, judge_null(call.args), out),
+        COMPOUND => put_judged(header, judge_cb_compound(call.args), out),
+        _ => out.raw(b"unbuilt"),
     }
 }
 
@@ -77,10 +126,11 @@ fn put_args(header: usize, call: &Call<'_>, out: &mut Out) -> Result<(), NoMemor
 fn put_verdict(header: usize, call: &Call<'_>, out: &mut Out) -> Result<(), NoMemory>
     ensures { Grows out.old result out.new (verdict_text header (rpc_call call.now)) }
 {
-    if call.program == NFS_PROGRAM && call.version == NFS_VERSION && is_built(call.procedure) {
-        put_args(header, call, out)
-    } else {
-        out.raw(b"unbuilt")
+    match (call.program, call.version) {
+        (NFS_PROGRAM, 3) if is_built(call.procedure) => put_args(header, call, out),
+        (NFS_PROGRAM, 4) => put_compound(header, call, out),
+        (CALLBACK_PROGRAM, 1) => put_cb_compound(header, call, out),
+        _ => out.raw(b"unbuilt"),
     }
 }
 

@@ -2,7 +2,7 @@ pub mod Objects
 pub mod Stability
 pub mod OpResults
 pub mod ArmZero
-pub mod Fattr
+pub mod Fattr4
 pub mod Layout4
 pub mod OpenHow
 pub mod CbLayoutRecall

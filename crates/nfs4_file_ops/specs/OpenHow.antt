@@ -5,7 +5,7 @@ use Rattle.nfs4_file_ops.specs.declared.open_how.CreateHow4.{CreateHow4}
 use Rattle.nfs4_file_ops.specs.declared.open_how.CreateHow4.TheVariants.{Unchecked, Guarded}
 use Rattle.nfs4_file_ops.specs.declared.open_how.OpenHow.{OpenHow}
 use Rattle.nfs4_file_ops.specs.declared.open_how.OpenHow.TheVariants.{NoCreate, Create}
-use Rattle.nfs4_file_ops.specs.Fattr.{fattr4, fattr4_value}
+use Rattle.nfs4_file_ops.specs.Fattr4.{fattr4, fattr4_value}
 
 -- createhow4: UNCHECKED4 0 and GUARDED4 1 with attributes
 abbrev pub createhow4 : Form

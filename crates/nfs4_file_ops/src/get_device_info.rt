@@ -5,7 +5,7 @@ ghost use Rattle.nfs4_file_ops.specs.GetDeviceInfo.{getdeviceinfo4_res, getdevic
 
 use crate::OpaqueBody;
 use ff_xdr::{Cursor, Message, NoMemory, Out, Wire, XdrError};
-use nfs4_types::{Bitmap, DeviceId, Refusal, Stat4};
+use nfs4_types::{Bitmap, DeviceId, Refusal4, Stat4};
 
 /// The arguments, `GETDEVICEINFO4args`.
 #[derive(Clone, Copy)]
@@ -117,7 +117,7 @@ impl<'a> Wire<'a> for GetDeviceInfoRes<'a> {
             0 => GetDeviceInfoRes::Done(Wire::read(&mut fork)?),
             10005 => GetDeviceInfoRes::TooSmall(fork.number32()?),
             _ => {
-                let refusal = Refusal::read(cursor)?;
+                let refusal = Refusal4::read(cursor)?;
                 return Ok(GetDeviceInfoRes::Refused(refusal.status));
             }
         };
@@ -129,7 +129,7 @@ impl<'a> Wire<'a> for GetDeviceInfoRes<'a> {
         match self {
             GetDeviceInfoRes::Done(done) => (0u32, *done).put(out),
             GetDeviceInfoRes::TooSmall(mincount) => (10005u32, *mincount).put(out),
-            GetDeviceInfoRes::Refused(status) => Refusal { status: *status }.put(out),
+            GetDeviceInfoRes::Refused(status) => Refusal4 { status: *status }.put(out),
         }
     }
 

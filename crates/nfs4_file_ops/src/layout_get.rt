@@ -5,7 +5,7 @@ ghost use Rattle.nfs4_file_ops.specs.LayoutGet.{layoutget4_res, layoutget4_res_v
 
 use crate::Layout4;
 use ff_xdr::{Array, Cursor, Message, NoMemory, Out, Wire, XdrError};
-use nfs4_types::{Refusal, Stat4, Stateid};
+use nfs4_types::{Refusal4, Stat4, Stateid};
 
 /// The arguments, `LAYOUTGET4args`.
 #[derive(Clone, Copy, Debug, PartialEq, Eq)]
@@ -137,7 +137,7 @@ impl<'a> Wire<'a> for LayoutGetRes<'a> {
             0 => LayoutGetRes::Done(Wire::read(&mut fork)?),
             10058 => LayoutGetRes::TryLater(fork.flag()?),
             _ => {
-                let refusal = Refusal::read(cursor)?;
+                let refusal = Refusal4::read(cursor)?;
                 return Ok(LayoutGetRes::Refused(refusal.status));
             }
         };
@@ -149,7 +149,7 @@ impl<'a> Wire<'a> for LayoutGetRes<'a> {
         match self {
             LayoutGetRes::Done(done) => (0u32, *done).put(out),
             LayoutGetRes::TryLater(signal) => (10058u32, *signal).put(out),
-            LayoutGetRes::Refused(status) => Refusal { status: *status }.put(out),
+            LayoutGetRes::Refused(status) => Refusal4 { status: *status }.put(out),
         }
     }
 

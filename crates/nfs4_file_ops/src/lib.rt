@@ -5,7 +5,7 @@ mod arm_zero;
 mod cb_layout_recall;
 mod close;
 mod commit;
-mod fattr;
+mod fattr4;
 mod get_device_info;
 mod getattr;
 mod getfh;
@@ -30,7 +30,7 @@ pub use cb_layout_recall::{
 };
 pub use close::{CloseArgs, CloseRes};
 pub use commit::{Commit4Args, Commit4Res};
-pub use fattr::Fattr4;
+pub use fattr4::Fattr4;
 pub use get_device_info::{GetDeviceInfoArgs, GetDeviceInfoOk, GetDeviceInfoRes};
 pub use getattr::{GetAttr4Args, GetAttr4Res};
 pub use getfh::GetFhRes;

@@ -3,7 +3,7 @@
 ghost use Rattle.nfs4_file_ops.specs.OpResults.{result4, result4_value, result4_is_proper};
 
 use ff_xdr::{Cursor, Message, NoMemory, Out, Wire, XdrError};
-use nfs4_types::{Refusal, Stat4};
+use nfs4_types::{Refusal4, Stat4};
 
 /// What an operation came to, a union by its status (RFC 8881, section 16.2.3): it was done, with what it
 /// gave; or it was not, by a status other than OK and nothing more.
@@ -29,7 +29,7 @@ impl<'a, D: Wire<'a>> Wire<'a> for OpResult<D> {
             *cursor = fork;
             return Ok(OpResult::Done(done));
         }
-        let refusal = Refusal::read(cursor)?;
+        let refusal = Refusal4::read(cursor)?;
         Ok(OpResult::Refused(refusal.status))
     }
 
@@ -40,14 +40,14 @@ impl<'a, D: Wire<'a>> Wire<'a> for OpResult<D> {
                 done.put(out)?;
                 Ok(())
             }
-            OpResult::Refused(status) => Refusal { status: *status }.put(out),
+            OpResult::Refused(status) => Refusal4 { status: *status }.put(out),
         }
     }
 
     fn fits(&self) -> bool {
         match self {
             OpResult::Done(done) => done.fits(),
-            OpResult::Refused(status) => Refusal { status: *status }.fits(),
+            OpResult::Refused(status) => Refusal4 { status: *status }.fits(),
         }
     }
 }

@@ -7,4 +7,4 @@ pub mod BindConn
 pub mod CbSequence
 pub mod CreateSession
 pub mod ExchangeId
-pub mod Sequence
+pub mod SequenceRes

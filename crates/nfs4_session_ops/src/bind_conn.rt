@@ -1,34 +1,34 @@
 //! BIND_CONN_TO_SESSION: a connection for a session's channels (RFC 8881, section 18.34).
 
-ghost use Rattle.std.specs.Prelude.{refl};
-ghost use Rattle.nfs4_session_ops.specs.BindConn.{bind_conn4_args, bind_conn4_args_value, bind_conn4_ok, bind_conn4_ok_value};
+ghost use Rattle.nfs4_session_ops.specs.BindConn.{bind_conn4, bind_conn4_value, bind_conn4_is_proper};
 
 use crate::{FromClient, FromServer};
 use ff_xdr::{Cursor, Message, NoMemory, Out, Wire, XdrError};
 use nfs4_file_ops::OpResult;
 use nfs4_types::SessionId;
 
-/// The arguments, `BIND_CONN_TO_SESSION4args`.
+/// A connection and a session: as a client asks for it, or as a server grants it. The two differ in the
+/// directions that there are.
 #[derive(Clone, Copy, Debug, PartialEq, Eq)]
-pub struct BindConnArgs {
+pub struct BindConn<D> {
     pub session: SessionId,
-    pub direction: FromClient,
+    pub direction: D,
     /// The connection is to go over to RDMA.
     pub rdma: bool,
 }
 
-impl Message for BindConnArgs {
-    ghost form = { bind_conn4_args };
+impl<D: Message> Message for BindConn<D> {
+    ghost form = { bind_conn4 D.form };
 
-    ghost meaning = { bind_conn4_args_value };
+    ghost meaning = { bind_conn4_value D.form D.meaning };
 
-    ghost sound = { refl };
+    ghost sound = { bind_conn4_is_proper D.form D.sound };
 }
 
-impl<'a> Wire<'a> for BindConnArgs {
-    fn read(cursor: &mut Cursor<'a>) -> Result<BindConnArgs, XdrError> {
+impl<'a, D: Wire<'a> + Copy> Wire<'a> for BindConn<D> {
+    fn read(cursor: &mut Cursor<'a>) -> Result<BindConn<D>, XdrError> {
         let (session, direction, rdma) = Wire::read(cursor)?;
-        Ok(BindConnArgs {
+        Ok(BindConn {
             session,
             direction,
             rdma,
@@ -43,41 +43,12 @@ impl<'a> Wire<'a> for BindConnArgs {
         (self.session, self.direction, self.rdma).fits()
     }
 }
+
+/// The arguments, `BIND_CONN_TO_SESSION4args`.
+pub type BindConnArgs = BindConn<FromClient>;
 
 /// The result of a BIND_CONN_TO_SESSION that was done, `BIND_CONN_TO_SESSION4resok`.
-#[derive(Clone, Copy, Debug, PartialEq, Eq)]
-pub struct BindConnOk {
-    pub session: SessionId,
-    pub direction: FromServer,
-    pub rdma: bool,
-}
-
-impl Message for BindConnOk {
-    ghost form = { bind_conn4_ok };
-
-    ghost meaning = { bind_conn4_ok_value };
-
-    ghost sound = { refl };
-}
-
-impl<'a> Wire<'a> for BindConnOk {
-    fn read(cursor: &mut Cursor<'a>) -> Result<BindConnOk, XdrError> {
-        let (session, direction, rdma) = Wire::read(cursor)?;
-        Ok(BindConnOk {
-            session,
-            direction,
-            rdma,
-        })
-    }
-
-    fn put(&self, out: &mut Out) -> Result<(), NoMemory> {
-        (self.session, self.direction, self.rdma).put(out)
-    }
-
-    fn fits(&self) -> bool {
-        (self.session, self.direction, self.rdma).fits()
-    }
-}
+pub type BindConnOk = BindConn<FromServer>;
 
 /// The result, `BIND_CONN_TO_SESSION4res`.
 pub type BindConnRes = OpResult<BindConnOk>;

@@ -14,7 +14,7 @@ mod impl_id;
 mod reclaim_complete;
 mod referring_call;
 mod referring_calls;
-mod sequence;
+mod sequence_res;
 
 pub use bind_conn::{BindConnArgs, BindConnOk, BindConnRes};
 pub use callback_sec::CallbackSec;
@@ -28,4 +28,4 @@ pub use impl_id::ImplId;
 pub use reclaim_complete::{ReclaimCompleteArgs, ReclaimCompleteRes};
 pub use referring_call::ReferringCall;
 pub use referring_calls::ReferringCalls;
-pub use sequence::{SequenceOk, SequenceRes};
+pub use sequence_res::{SequenceOk, SequenceRes};

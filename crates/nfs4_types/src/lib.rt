@@ -10,8 +10,6 @@ mod laws;
 mod sequence;
 mod stateid;
 mod status;
-#[cfg(test)]
-mod tests;
 mod time;
 
 pub use at_most_one::AtMostOne;
@@ -22,5 +20,5 @@ pub use ids::{DeviceId, SessionId, device_of};
 pub use laws::different_ids;
 pub use sequence::Sequence;
 pub use stateid::{Stateid, layout_stateid, open_stateid};
-pub use status::{Refusal, Stat4};
+pub use status::{Refusal4, Stat4};
 pub use time::Time4;

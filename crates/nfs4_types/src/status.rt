@@ -186,11 +186,11 @@ impl<'a> Wire<'a> for Stat4 {
 
 /// The status of an operation that was not done: any but OK, which does not fit its form.
 #[derive(Clone, Copy, Debug, PartialEq, Eq)]
-pub struct Refusal {
+pub struct Refusal4 {
     pub status: Stat4,
 }
 
-impl Message for Refusal {
+impl Message for Refusal4 {
     ghost form = { refusal4 };
 
     ghost meaning = { λ refusal. stat4_number refusal.status };
@@ -198,15 +198,15 @@ impl Message for Refusal {
     ghost sound = { refl };
 }
 
-impl<'a> Wire<'a> for Refusal {
-    fn read(cursor: &mut Cursor<'a>) -> Result<Refusal, XdrError> {
+impl<'a> Wire<'a> for Refusal4 {
+    fn read(cursor: &mut Cursor<'a>) -> Result<Refusal4, XdrError> {
         let mut fork = cursor.fork();
         let status = Stat4::read(&mut fork)?;
         if status == Stat4::Ok {
             return Err(XdrError::not_enum(cursor.place()));
         }
         *cursor = fork;
-        Ok(Refusal { status })
+        Ok(Refusal4 { status })
     }
 
     fn put(&self, out: &mut Out) -> Result<(), NoMemory> {

@@ -1,7 +1,7 @@
 -- Attributes (RFC 8881, section 3.3.7).
 use Rattle.ff_xdr.specs.Form.{Form, Pair, Value}
 use Rattle.nfs4_types.specs.Bitmaps.{bitmap4, bitmap4_value}
-use Rattle.nfs4_file_ops.specs.declared.fattr.Fattr4.{Fattr4}
+use Rattle.nfs4_file_ops.specs.declared.fattr4.Fattr4.{Fattr4}
 use Rattle.nfs4_file_ops.specs.Objects.{opaque_body}
 
 -- fattr4: attrmask, attr_vals

@@ -1,7 +1,7 @@
 //! SEQUENCE: where a compound stands in its session (RFC 8881, section 18.46).
 
 ghost use Rattle.std.specs.Prelude.{refl};
-ghost use Rattle.nfs4_session_ops.specs.Sequence.{sequence4_ok, sequence4_ok_value};
+ghost use Rattle.nfs4_session_ops.specs.SequenceRes.{sequence4_ok, sequence4_ok_value};
 
 use ff_xdr::{Cursor, Message, NoMemory, Out, Wire, XdrError};
 use nfs4_file_ops::OpResult;

@@ -1,7 +1,7 @@
 -- SEQUENCE: where a compound stands in its session (RFC 8881, section 18.46).
 use Rattle.ff_xdr.specs.Form.{Form, Number32, Pair, Value}
 use Rattle.nfs4_types.specs.Ids.{sessionid4}
-use Rattle.nfs4_session_ops.specs.declared.sequence.SequenceOk.{SequenceOk}
+use Rattle.nfs4_session_ops.specs.declared.sequence_res.SequenceOk.{SequenceOk}
 
 -- SEQUENCE4resok: sessionid, sequenceid, slotid, highest_slotid, target_highest_slotid, status_flags
 abbrev pub sequence4_ok : Form

@@ -1,92 +1,45 @@
-//! Values against bytes that were worked out by hand from RFC 8881's XDR.
+//! The values that operations share, against their words.
 
-use super::*;
-use ff_xdr::{Cursor, Items, NoMemory, Out, Wire, XdrError, XdrWhy};
-use std::alloc::{AllocError, Global};
-use std::process::Abort;
+use crate::tests::{
+    BACK, BACK_WORDS, FORE, FORE_WORDS, ID, ID_WORDS, SESSION, STATEID, STATEID_WORDS, bytes_of,
+    is_read, is_written,
+};
+use ff_xdr::{Cursor, Items, Wire, XdrError, XdrWhy};
+use nfs4_types::{
+    Bitmap, ChannelAttrs, DeviceId, Handle4, Refusal4, Sequence, SessionId, Stat4, Stateid, Time4,
+    device_of, file_handle, file_number, layout_stateid, open_stateid,
+};
 use std::test::Fail;
 
-/// The bytes of these words.
-fn bytes_of(alloc: Global, words: &[u32]) -> Result<Vec<u8>, AllocError> {
-    let mut bytes = Vec::new(alloc);
-    for word in words {
-        bytes.extend_from_slice(&word.to_be_bytes())?;
-    }
-    Ok(bytes)
-}
-
-/// The value is spelled by these bytes.
-fn is_written<'a, T: Wire<'a>>(
-    rt: &impl Abort,
-    alloc: Global,
-    bytes: &[u8],
-    value: T,
-) -> Result<(), NoMemory> {
-    assert!(rt; value.fits());
-    let mut out = Out::new(alloc);
-    value.write(&mut out)?;
-    assert_eq!(rt; out.bytes(), bytes);
-    Ok(())
-}
-
-/// The bytes are read as a value that they spell, and are short of one without the last of them.
-fn is_read<'a, T: Wire<'a>>(rt: &impl Abort, alloc: Global, bytes: &'a [u8]) -> Result<(), Fail> {
-    let mut cursor = Cursor::new(bytes);
-    let value = T::read(&mut cursor)?;
-    cursor.finish()?;
-    is_written(rt, alloc, bytes, value)?;
-    if let Some((_, front)) = bytes.split_last() {
-        let found = T::read(&mut Cursor::new(front));
-        let want = XdrError {
-            place: front.len(),
-            why: XdrWhy::Short,
-        };
-        assert_eq!(rt; found.err(), Some(want));
-    }
-    Ok(())
-}
-
 /// A value of this type is spelled by these words, and they are read as one.
-macro_rules! spelled_by {
-    ($rt:ident, $words:expr, $kind:ty, $value:expr) => {
-        let bytes = bytes_of($rt.alloc(), $words)?;
+macro_rules! spelled_as {
+    ($rt:ident, $parts:expr, $kind:ty, $value:expr) => {
+        let bytes = bytes_of($rt.alloc(), $parts)?;
         is_written(&$rt, $rt.alloc(), bytes.as_slice(), $value)?;
         is_read::<$kind>(&$rt, $rt.alloc(), bytes.as_slice())?;
     };
 }
 
-const OTHER: [u8; 12] = [1, 2, 3, 4, 5, 6, 7, 8, 9, 10, 11, 12];
-
-const ID: [u8; 16] = [1, 2, 3, 4, 5, 6, 7, 8, 9, 10, 11, 12, 13, 14, 15, 16];
-
-const ID_WORDS: [u32; 4] = [0x0102_0304, 0x0506_0708, 0x090A_0B0C, 0x0D0E_0F10];
-
 #[test]
 fn spelled(rt: HostRuntime) -> Result<(), Fail> {
-    // the seqid, twelve bytes
-    let stateid = Stateid {
-        seqid: 7,
-        other: OTHER,
-    };
-    let words = [7, 0x0102_0304, 0x0506_0708, 0x090A_0B0C];
-    spelled_by!(rt, &words, Stateid, stateid);
-    spelled_by!(rt, &ID_WORDS, SessionId, SessionId(ID));
-    spelled_by!(rt, &ID_WORDS, DeviceId, DeviceId(ID));
+    spelled_as!(rt, &[&STATEID_WORDS], Stateid, STATEID);
+    spelled_as!(rt, &[&ID_WORDS], SessionId, SESSION);
+    spelled_as!(rt, &[&ID_WORDS], DeviceId, DeviceId(ID));
     // a count, and the words
     let words = [0x41B, 0x4000_0000];
     let bitmap = Bitmap {
         words: Items::made(&words),
     };
-    spelled_by!(rt, &[2, 0x41B, 0x4000_0000], Bitmap, bitmap);
+    spelled_as!(rt, &[&[2, 0x41B, 0x4000_0000]], Bitmap, bitmap);
     // a length, and five bytes with their padding
-    let handle = Handle4 { bytes: &OTHER[..5] };
-    spelled_by!(rt, &[5, 0x0102_0304, 0x0500_0000], Handle4, handle);
+    let handle = Handle4 { bytes: &ID[..5] };
+    spelled_as!(rt, &[&[5, 0x0102_0304, 0x0500_0000]], Handle4, handle);
     // seconds in two's complement, nanoseconds
     let time = Time4 {
         seconds: -2,
         nanos: 9,
     };
-    spelled_by!(rt, &[0xFFFF_FFFF, 0xFFFF_FFFE, 9], Time4, time);
+    spelled_as!(rt, &[&[0xFFFF_FFFF, 0xFFFF_FFFE, 9]], Time4, time);
     Ok(())
 }
 
@@ -94,36 +47,16 @@ fn spelled(rt: HostRuntime) -> Result<(), Fail> {
 fn spelled_of_sessions(rt: HostRuntime) -> Result<(), Fail> {
     // the session, the number, the slot, the highest slot, a flag
     let sequence = Sequence {
-        session: SessionId(ID),
+        session: SESSION,
         sequence: 1,
         slot: 2,
         highest: 3,
         cachethis: true,
     };
-    let words = [
-        0x0102_0304,
-        0x0506_0708,
-        0x090A_0B0C,
-        0x0D0E_0F10,
-        1,
-        2,
-        3,
-        1,
-    ];
-    spelled_by!(rt, &words, Sequence, sequence);
-    // six numbers, and a list of one or of none
-    let mut channel = ChannelAttrs {
-        headerpadsize: 1,
-        maxrequestsize: 2,
-        maxresponsesize: 3,
-        maxresponsesize_cached: 4,
-        maxoperations: 5,
-        maxrequests: 6,
-        rdma_ird: Some(7),
-    };
-    spelled_by!(rt, &[1, 2, 3, 4, 5, 6, 1, 7], ChannelAttrs, channel);
-    channel.rdma_ird = None;
-    spelled_by!(rt, &[1, 2, 3, 4, 5, 6, 0], ChannelAttrs, channel);
+    spelled_as!(rt, &[&ID_WORDS, &[1, 2, 3, 1]], Sequence, sequence);
+    // six numbers, and a list of none or of one
+    spelled_as!(rt, &[&FORE_WORDS], ChannelAttrs, FORE);
+    spelled_as!(rt, &[&BACK_WORDS], ChannelAttrs, BACK);
     Ok(())
 }
 
@@ -131,14 +64,14 @@ fn spelled_of_sessions(rt: HostRuntime) -> Result<(), Fail> {
 fn refused(rt: HostRuntime) -> Result<(), Fail> {
     let alloc = rt.alloc();
     // a list of two where one is the most; a handle of 129 bytes
-    let bytes = bytes_of(alloc, &[1, 2, 3, 4, 5, 6, 2, 7, 8])?;
+    let bytes = bytes_of(alloc, &[&[1, 2, 3, 4, 5, 6, 2, 7, 8]])?;
     let found = ChannelAttrs::read(&mut Cursor::new(bytes.as_slice()));
     let want = XdrError {
         place: 24,
         why: XdrWhy::TooLong,
     };
     assert_eq!(rt; found.err(), Some(want));
-    let bytes = bytes_of(alloc, &[129, 0, 0])?;
+    let bytes = bytes_of(alloc, &[&[129, 0, 0]])?;
     let found = Handle4::read(&mut Cursor::new(bytes.as_slice()));
     let want = XdrError {
         place: 0,
@@ -204,7 +137,7 @@ fn statuses(rt: HostRuntime) -> Result<(), Fail> {
     for (name, number) in names.into_iter().zip(numbers) {
         assert_eq!(rt; name.number(), number);
         assert_eq!(rt; Stat4::of_number(number), Some(name));
-        let refusal = Refusal { status: name };
+        let refusal = Refusal4 { status: name };
         assert_eq!(rt; refusal.fits(), number != 0);
     }
     Ok(())

@@ -1,7 +1,7 @@
 //! Attributes (RFC 8881, section 3.3.7).
 
 ghost use Rattle.std.specs.Prelude.{refl};
-ghost use Rattle.nfs4_file_ops.specs.Fattr.{fattr4, fattr4_value};
+ghost use Rattle.nfs4_file_ops.specs.Fattr4.{fattr4, fattr4_value};
 
 use crate::OpaqueBody;
 use ff_xdr::{Cursor, Message, NoMemory, Out, Wire, XdrError};

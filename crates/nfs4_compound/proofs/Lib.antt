@@ -1,0 +1,5 @@
+pub mod Unbuilt
+pub mod Steps
+pub mod Listings
+pub mod Statuses
+pub mod Unions

@@ -1,0 +1,39 @@
+-- What the list of a compound's operations says of its bytes.
+use Rattle.std.specs.Prelude.{◌≡◌, ℕ, zero, suc, ◌+◌, ◌≤◌, List, ◌++◌, length, Ok, Err}
+use Rattle.std.specs.List.{AllByRecursion, flat_map}
+use Rattle.ff_xdr.specs.declared.error.XdrError.{XdrError}
+use Rattle.ff_xdr.specs.Form.{Form, Value, Fits, spelling}
+use Rattle.ff_xdr.specs.Reading.{reading, many_at}
+use Rattle.ff_xdr.specs.Laws.{IsBytes, Stands}
+use Rattle.nfs4_compound.specs.declared.stop.Stop.{Stop}
+use Rattle.nfs4_compound.specs.declared.stop.Stop.TheVariants as stop
+use Rattle.nfs4_compound.specs.Operations.{OpList, left_at, stop_at, operations}
+
+-- Why no operation is read at a place where so many are to come: none are; or the one that stands there is refused.
+abbrev pub IsStop : Form → List ℕ → ℕ → ℕ → Stop → Type 0
+IsStop form bytes at zero s = s ≡ stop.End (left_at bytes at)
+IsStop form bytes at (suc left) s = (e : XdrError) × (reading form bytes at ≡ Err e) × (s ≡ stop_at form bytes at e)
+
+-- So many operations are to come from a place on: the bytes spell those of the list, and behind them no further one is read.
+pub record SpellsOps (form : Form) (count : ℕ) (bytes : List ℕ) (at : ℕ) (list : OpList form) : Type 0 where
+  pub to : ℕ
+  pub left : ℕ
+  pub all : count ≡ length list.values + left
+  pub fits : AllByRecursion (λ v. Fits form v) list.values
+  pub stands : Stands bytes at (flat_map (λ v. spelling form v) list.values) to
+  pub stops : IsStop form bytes to left list.stop
+
+-- The operations that are given are spelled so,
+abbrev pub AreSpelledSo : Form → Type 0
+AreSpelledSo form = (count : ℕ) (bytes : List ℕ) (at : ℕ) → IsBytes bytes → at ≤ length bytes → SpellsOps form count bytes at (operations form count bytes at)
+
+-- and what is spelled is given.
+abbrev pub AreReadAgain : Form → Type 0
+AreReadAgain form = (values : List (Value form)) (left : ℕ) (front rest : List ℕ) (s : Stop) → AllByRecursion (λ v. Fits form v) values
+    → IsStop form (front ++ flat_map (λ v. spelling form v) values ++ rest) (length front + length (flat_map (λ v. spelling form v) values)) left s
+    → operations form (length values + left) (front ++ flat_map (λ v. spelling form v) values ++ rest) (length front) ≡ record { values = values; stop = s }
+
+-- What is read as an array is given whole.
+abbrev pub AreGivenWhole : Form → Type 0
+AreGivenWhole form = (count : ℕ) (bytes : List ℕ) (at : ℕ) (values : List (Value form)) (to : ℕ)
+    → many_at (λ place. reading form bytes place) count at ≡ Ok (values, to) → operations form count bytes at ≡ record { values = values; stop = stop.End (left_at bytes to) }

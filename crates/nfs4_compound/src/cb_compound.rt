@@ -1,0 +1,190 @@
+//! Reading a callback compound (RFC 8881, section 20.2), its operations one by one.
+
+ghost use Rattle.std.specs.Prelude.{◌≡◌};
+ghost use Rattle.ff_xdr.specs.Calls.{Finds};
+ghost use Rattle.nfs4_compound.specs.CbArgs.{cb_argop4, cb_op_value};
+ghost use Rattle.nfs4_compound.specs.Operations.{GivesNext, rest_now, rest_of_stop};
+ghost use Rattle.nfs4_compound.specs.Compounds.{cb_compound_at, cb_compound_verdict};
+
+use crate::refused::unbuilt_cb_op;
+use crate::{CbOp, NextOp, Stop, Tag4};
+use ff_xdr::{Cursor, Wire, XdrError};
+use std::marker::Model;
+
+/// The arguments of a callback compound. Its operations stay unread, and it takes no memory.
+#[derive(Drop)]
+pub struct CbCompound<'a> {
+    tag: &'a str,
+    minorversion: u32,
+    callback_ident: u32,
+    count: u32,
+    bytes: &'a [u8],
+    at: usize,
+}
+
+impl<'a> Model for CbCompound<'a> {
+    ghost use Rattle.std.specs.Prelude.{◌≤◌, length};
+    ghost use Rattle.nfs4_compound.specs.CbArgs.{cb_argop4};
+    ghost use Rattle.nfs4_compound.specs.Operations.{operations};
+    ghost use Rattle.nfs4_compound.specs.Compounds.{CbCompoundValue};
+
+    ghost Value = { CbCompoundValue };
+
+    ghost view = { λ c. record { tag = c.tag.now; minorversion = c.minorversion; callback_ident = c.callback_ident; count = c.count; ops = operations cb_argop4 c.count c.bytes.now c.at } };
+
+    ghost invariant = { λ c. c.at ≤ length c.bytes.now };
+}
+
+impl<'a> CbCompound<'a> {
+    /// Reads what stands before the operations. The tag has at most 1,024 bytes, which is a limit of the
+    /// project's own. A refusal names the first byte that no callback compound has there.
+    pub fn read(args: &'a [u8]) -> Result<CbCompound<'a>, XdrError>
+        ensures { Finds (λ c. c) result (cb_compound_at args.now) }
+    {
+        let mut cursor = Cursor::new(args);
+        let (tag, minorversion, (callback_ident, count)) = <(Tag4<'a>, u32, (u32, u32))>::read(
+            &mut cursor,
+        )?;
+        Ok(CbCompound {
+            tag: tag.text,
+            minorversion,
+            callback_ident,
+            count,
+            bytes: args,
+            at: cursor.place(),
+        })
+    }
+
+    /// The tag, which the result bears too.
+    pub fn tag(&self) -> &'a str
+        ensures { result.now ≡ self.now.tag }
+    {
+        self.tag
+    }
+
+    /// The minor version.
+    pub fn minorversion(&self) -> u32
+        ensures { result ≡ self.now.minorversion }
+    {
+        self.minorversion
+    }
+
+    /// Which the client's callback program is, a number that NFSv4.1 does not use.
+    pub fn callback_ident(&self) -> u32
+        ensures { result ≡ self.now.callback_ident }
+    {
+        self.callback_ident
+    }
+
+    /// How many operations there are to be. They need not stand in the bytes.
+    pub fn count(&self) -> u32
+        ensures { result ≡ self.now.count }
+    {
+        self.count
+    }
+
+    /// The operations, one by one.
+    pub fn ops(&self) -> CbOps<'a>
+        ensures { result ≡ self.now.ops }
+    {
+        CbOps {
+            bytes: self.bytes,
+            at: self.at,
+            left: self.count,
+        }
+    }
+
+    /// Why there is no operation behind those that are read. All are gone over.
+    pub fn stop(&self) -> Stop
+        ensures { result ≡ self.now.ops.stop }
+    {
+        let mut ops = self.ops();
+        loop {
+            match ops.next() {
+                NextOp::Op(_) => {}
+                NextOp::Unread(number) => return Stop::Unread(number),
+                NextOp::Bad(error) => return Stop::Bad(error),
+                NextOp::End => return Stop::End(ops.rest()),
+            }
+        }
+    }
+
+    /// The place of the first byte behind the last operation, where all operations are read and bytes are
+    /// left: from the first byte of the arguments.
+    pub fn rest(&self) -> Option<usize>
+        ensures { result ≡ rest_of_stop self.now.ops.stop }
+    {
+        match self.stop() {
+            Stop::End(rest) => rest,
+            Stop::Unread(_) | Stop::Bad(_) => None,
+        }
+    }
+}
+
+/// The operations of a callback compound that are left.
+#[derive(Drop)]
+pub struct CbOps<'a> {
+    bytes: &'a [u8],
+    at: usize,
+    left: u32,
+}
+
+impl<'a> Model for CbOps<'a> {
+    ghost use Rattle.std.specs.Prelude.{◌≤◌, length};
+    ghost use Rattle.nfs4_compound.specs.CbArgs.{cb_argop4};
+    ghost use Rattle.nfs4_compound.specs.Operations.{OpList, operations};
+
+    ghost Value = { OpList cb_argop4 };
+
+    ghost view = { λ o. operations cb_argop4 o.left o.bytes.now o.at };
+
+    ghost invariant = { λ o. o.at ≤ length o.bytes.now };
+}
+
+impl<'a> CbOps<'a> {
+    /// The next operation, read in place. Behind the last, and where one is not read, each call answers
+    /// the same.
+    pub fn next(&mut self) -> NextOp<CbOp<'a>>
+        ensures { GivesNext cb_argop4 cb_op_value self.old result self.new }
+    {
+        if self.left == 0 {
+            return NextOp::End;
+        }
+        let mut cursor = Cursor::at(self.bytes, self.at);
+        match CbOp::read(&mut cursor) {
+            Ok(op) => {
+                self.at = cursor.place();
+                self.left -= 1;
+                NextOp::Op(op)
+            }
+            Err(error) => match unbuilt_cb_op(self.bytes, self.at, error) {
+                Some(number) => NextOp::Unread(number),
+                None => NextOp::Bad(error),
+            },
+        }
+    }
+
+    /// The place of the first byte behind the last operation, where all operations were read and bytes are
+    /// left: from the first byte of the arguments.
+    pub fn rest(&self) -> Option<usize>
+        ensures { result ≡ rest_now self.now.values self.now.stop }
+    {
+        if self.left > 0 {
+            return None;
+        }
+        if self.at < self.bytes.len() {
+            return Some(self.at);
+        }
+        None
+    }
+}
+
+/// What the arguments of a callback compound are: in their form, or the first byte at which they are not, and why.
+/// An operation that is not built counts as good and ends the check; bytes behind the last are refused as
+/// `Rest`.
+pub fn judge_cb_compound(args: &[u8]) -> Result<(), XdrError>
+    ensures { result ≡ cb_compound_verdict args.now }
+{
+    let compound = CbCompound::read(args)?;
+    compound.stop().verdict()
+}
