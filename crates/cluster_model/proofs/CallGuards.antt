@@ -9,7 +9,7 @@ use Rattle.std.proofs.lemmas.Iterator.Adapters.{position_from-zero}
 use Rattle.std.proofs.lemmas.Slice.Eq.{bytes_eq-Decides}
 use Rattle.cluster_model.specs.declared.tick.Tick.{Tick}
 use Rattle.cluster_model.specs.Ticks.{IsBefore, IsUpTo, next_tick}
-use Rattle.cluster_model.specs.File.{FileState, FileOp, Writes, Commits, Sets, Restarts, file_after, clock_after, new_file}
+use Rattle.cluster_model.specs.File.{StoredFile, FileOp, Writes, Commits, Sets, Restarts, file_after, clock_after, new_file}
 use Rattle.cluster_model.specs.Server.{ServerState, Caller, Named, Nothing, Root, File, file_at, named, Refusal, Acces, Inval, NotSync as OutOfSync, Fbig, NoSpc, Jukebox, tick_refusal, read_refusal, write_refusal, commit_refusal, set_refusal, differs, index_of, Effect, NoEffect, OnFile, NewFile, with_file, on_file, server_after, entries_of}
 use Rattle.cluster_model.specs.DsCalls.{DsCallValue, Create, SetAttr, Write, Commit, Read, DsReplyValue, Created, Set, DsPlan, refused, unless, owner_changes, ds_plan, ds_step, write_at, commit_at, set_at, read_at, bytes_reply, made_unless, created_by, created_before, mirror_name, shown_by, shown_after}
 use Rattle.cluster_model.specs.ServerLaws.{Does}
@@ -29,7 +29,7 @@ LeavesOwner Commits = Unit {0}
 LeavesOwner (Sets c) = ⊥
 LeavesOwner (Restarts pieces) = Unit {0}
 
-leaves_owner : (f : FileState) (clock : Tick) (op : FileOp) → LeavesOwner op → (file_after f clock op).owner ≡ f.owner
+leaves_owner : (f : StoredFile) (clock : Tick) (op : FileOp) → LeavesOwner op → (file_after f clock op).owner ≡ f.owner
 leaves_owner f clock (Writes at true bytes) h = refl
 leaves_owner f clock (Writes at false bytes) h = refl
 leaves_owner f clock Commits h = refl
@@ -40,17 +40,17 @@ leaves_owner f clock (Restarts pieces) h = refl
 -- ctime; or a file is made.
 pub data PlanIs (s : ServerState) (call : DsCallValue) (plan : DsPlan) : Type 0 where
   Only : plan.effect ≡ NoEffect → Shows s call plan.reply → PlanIs s call plan
-  Keeps : (index : ℕ) (f : FileState) (op : FileOp) → slice_get s.files index ≡ Some f → LeavesOwner op → plan.effect ≡ OnFile index op
+  Keeps : (index : ℕ) (f : StoredFile) (op : FileOp) → slice_get s.files index ≡ Some f → LeavesOwner op → plan.effect ≡ OnFile index op
       → Shows (with_file s index (file_after f s.clock op) (clock_after s.clock op)) call plan.reply → PlanIs s call plan
-  Gives : (index : ℕ) (f : FileState) (owner : ℕ) (guard : Tick) → slice_get s.files index ≡ Some f → call ≡ SetAttr (index + 2) owner guard → guard ≡ f.times.ctime
+  Gives : (index : ℕ) (f : StoredFile) (owner : ℕ) (guard : Tick) → slice_get s.files index ≡ Some f → call ≡ SetAttr (index + 2) owner guard → guard ≡ f.times.ctime
       → plan.effect ≡ OnFile index (Sets (owner_changes owner)) → plan.reply ≡ Set (shown_after s f (Sets (owner_changes owner))) → PlanIs s call plan
   Makes : (name owner : ℕ) → call ≡ Create name owner → plan.effect ≡ NewFile (mirror_name name) owner owner 416
       → plan.reply ≡ Created (length s.files + 2) (shown_by (new_file owner owner 416 (next_tick s.clock))) → PlanIs s call plan
 
 -- ---- by what a fileid names
 
-module _ (files : List FileState) (fileid : ℕ) (P : Named → Type 0) (nothing : P Nothing) (root : P Root) (file : (index : ℕ) (f : FileState) → fileid ≡ index + 2 → slice_get files index ≡ Some f → P (File index f)) where
-  found_at : (index : ℕ) (found : Option FileState) → fileid ≡ index + 2 → slice_get files index ≡ found → P (file_at index found)
+module _ (files : List StoredFile) (fileid : ℕ) (P : Named → Type 0) (nothing : P Nothing) (root : P Root) (file : (index : ℕ) (f : StoredFile) → fileid ≡ index + 2 → slice_get files index ≡ Some f → P (File index f)) where
+  found_at : (index : ℕ) (found : Option StoredFile) → fileid ≡ index + 2 → slice_get files index ≡ found → P (file_at index found)
   found_at index None place e = nothing
   found_at index (Some f) place e = file index f place e
 
@@ -63,10 +63,10 @@ module _ (files : List FileState) (fileid : ℕ) (P : Named → Type 0) (nothing
 
 -- ---- refusals
 
-seen_file : (s : ServerState) (o : IsInOrder s) (index : ℕ) (f : FileState) → slice_get s.files index ≡ Some f → IsUpTo f.times.ctime s.clock
+seen_file : (s : ServerState) (o : IsInOrder s) (index : ℕ) (f : StoredFile) → slice_get s.files index ≡ Some f → IsUpTo f.times.ctime s.clock
 seen_file s o index f there = (o.files index f there).shown
 
-refused_shows : (s : ServerState) (o : IsInOrder s) (call : DsCallValue) (index : ℕ) (f : FileState) (refusal : Refusal) → target call ≡ index + 2 → slice_get s.files index ≡ Some f → Shows s call (refused refusal (shown_by f))
+refused_shows : (s : ServerState) (o : IsInOrder s) (call : DsCallValue) (index : ℕ) (f : StoredFile) (refusal : Refusal) → target call ≡ index + 2 → slice_get s.files index ≡ Some f → Shows s call (refused refusal (shown_by f))
 refused_shows s o call index f OutOfSync place there = record { index = index; place = place; file = f; there = there; owner = refl; seen = seen_file s o index f there }
 refused_shows s o call index f Acces place there = seen_file s o index f there
 refused_shows s o call index f Inval place there = seen_file s o index f there
@@ -76,12 +76,12 @@ refused_shows s o call index f Jukebox place there = seen_file s o index f there
 
 -- ---- WRITE, COMMIT, READ
 
-keeping : (s : ServerState) (o : IsInOrder s) (call : DsCallValue) (index : ℕ) (f : FileState) (op : FileOp) (refusal : Option Refusal) (reply : DsReplyValue) → target call ≡ index + 2 → slice_get s.files index ≡ Some f → LeavesOwner op
+keeping : (s : ServerState) (o : IsInOrder s) (call : DsCallValue) (index : ℕ) (f : StoredFile) (op : FileOp) (refusal : Option Refusal) (reply : DsReplyValue) → target call ≡ index + 2 → slice_get s.files index ≡ Some f → LeavesOwner op
     → (IsUpTo (file_after f s.clock op).times.ctime (clock_after s.clock op) → Shows (with_file s index (file_after f s.clock op) (clock_after s.clock op)) call reply) → PlanIs s call (unless f refusal reply (OnFile index op))
 keeping s o call index f op (Some refusal) reply place there leaves shows = Only refl (refused_shows s o call index f refusal place there)
 keeping s o call index f op None reply place there leaves shows = Keeps index f op there leaves refl (shows (keeps_times f s.clock op (o.files index f there)).clocked.shown)
 
-asking : (s : ServerState) (o : IsInOrder s) (call : DsCallValue) (index : ℕ) (f : FileState) (refusal : Option Refusal) (at : ℕ) (bytes : List ℕ) → target call ≡ index + 2 → slice_get s.files index ≡ Some f → PlanIs s call (unless f refusal (bytes_reply f at bytes) NoEffect)
+asking : (s : ServerState) (o : IsInOrder s) (call : DsCallValue) (index : ℕ) (f : StoredFile) (refusal : Option Refusal) (at : ℕ) (bytes : List ℕ) → target call ≡ index + 2 → slice_get s.files index ≡ Some f → PlanIs s call (unless f refusal (bytes_reply f at bytes) NoEffect)
 asking s o call index f (Some refusal) at bytes place there = Only refl (refused_shows s o call index f refusal place there)
 asking s o call index f None at bytes place there = Only refl (seen_file s o index f there)
 
@@ -99,13 +99,13 @@ same_tick guard ctime e =
     not_not true h = refl
     not_not false h = absurd cc
 
-guard_met : (s : ServerState) (f : FileState) (caller : Caller) (guard : Tick) → set_refusal s f caller true (Some guard) ≡ None → guard ≡ f.times.ctime
+guard_met : (s : ServerState) (f : StoredFile) (caller : Caller) (guard : Tick) → set_refusal s f caller true (Some guard) ≡ None → guard ≡ f.times.ctime
 guard_met s f caller guard e =
     let access = stops (not (eqb caller.uid 0)) Acces _ e in
     let good = stops (not true) Inval _ access.1 in
     same_tick guard f.times.ctime (stops (differs (Some guard) f.times.ctime) OutOfSync _ good.1).0
 
-giving : (s : ServerState) (o : IsInOrder s) (fileid owner : ℕ) (guard : Tick) (index : ℕ) (f : FileState) (refusal : Option Refusal) → fileid ≡ index + 2 → slice_get s.files index ≡ Some f → (refusal ≡ None → guard ≡ f.times.ctime)
+giving : (s : ServerState) (o : IsInOrder s) (fileid owner : ℕ) (guard : Tick) (index : ℕ) (f : StoredFile) (refusal : Option Refusal) → fileid ≡ index + 2 → slice_get s.files index ≡ Some f → (refusal ≡ None → guard ≡ f.times.ctime)
     → PlanIs s (SetAttr fileid owner guard) (unless f refusal (Set (shown_after s f (Sets (owner_changes owner)))) (OnFile index (Sets (owner_changes owner))))
 giving s o fileid owner guard index f (Some refusal) place there met = Only refl (refused_shows s o (SetAttr fileid owner guard) index f refusal place there)
 giving s o fileid owner guard index f None place there met = Gives index f owner guard there (ap (λ (n : ℕ). SetAttr n owner guard) place) (met refl) refl refl
@@ -130,7 +130,7 @@ name_found names name i e =
     let same : found.0 ≡ i = omega (arith, found.1) in
     rw (← same) found.2
 
-creating : (s : ServerState) (o : IsInOrder s) (name owner : ℕ) (index : ℕ) (found : Option FileState) → slice_get s.names index ≡ Some (mirror_name name) → slice_get s.files index ≡ found → PlanIs s (Create name owner) (created_before index found)
+creating : (s : ServerState) (o : IsInOrder s) (name owner : ℕ) (index : ℕ) (found : Option StoredFile) → slice_get s.names index ≡ Some (mirror_name name) → slice_get s.files index ≡ found → PlanIs s (Create name owner) (created_before index found)
 creating s o name owner index None bears there = Only refl tt
 creating s o name owner index (Some f) bears there =
     Only refl (record { name = name; owner = owner; asked = refl; at = record { index = index; place = refl; file = f; there = there; owner = refl; seen = seen_file s o index f there }; named = bears })
@@ -165,15 +165,15 @@ plan_is s caller (Read fileid at count) o =
 
 record Facts (s : ServerState) (call : DsCallValue) (effect : Effect) (reply : DsReplyValue) : Type 0 where
   rises : MayCome s call → Rises s effect
-  came : (index : ℕ) (file : FileState) → slice_get (server_after s effect).files index ≡ Some file → Came s call (server_after s effect) index file
+  came : (index : ℕ) (file : StoredFile) → slice_get (server_after s effect).files index ≡ Some file → Came s call (server_after s effect) index file
   shows : Shows (server_after s effect) call reply
 
 facts_only : (s : ServerState) (call : DsCallValue) (reply : DsReplyValue) → Shows s call reply → Facts s call NoEffect reply
 facts_only s call reply shows = record { rises = λ may. tt; came = λ index file there. Stayed file there refl refl; shows = shows }
 
 -- of a file that was changed, and of the others
-came_by : (s : ServerState) (call : DsCallValue) (index : ℕ) (f file : FileState) (clock : Tick) → slice_get s.files index ≡ Some f → Came s call (with_file s index file clock) index file
-    → (i : ℕ) (g : FileState) → slice_get (set s.files index file) i ≡ Some g → Came s call (with_file s index file clock) i g
+came_by : (s : ServerState) (call : DsCallValue) (index : ℕ) (f file : StoredFile) (clock : Tick) → slice_get s.files index ≡ Some f → Came s call (with_file s index file clock) index file
+    → (i : ℕ) (g : StoredFile) → slice_get (set s.files index file) i ≡ Some g → Came s call (with_file s index file clock) i g
 came_by s call index f file clock there here i g is =
     elim (cases_eq i index) [
       | inl same ↦
@@ -182,32 +182,32 @@ came_by s call index f file clock there here i g is =
       | inr other ↦ Stayed g (sym (slice_get-set_other s.files index i file other) ∙ is) refl refl
     ]
 
-facts_file : (s : ServerState) (call : DsCallValue) (index : ℕ) (op : FileOp) (f : FileState) (reply : DsReplyValue) → slice_get s.files index ≡ Some f → (MayCome s call → f.owner ≤ (file_after f s.clock op).owner)
+facts_file : (s : ServerState) (call : DsCallValue) (index : ℕ) (op : FileOp) (f : StoredFile) (reply : DsReplyValue) → slice_get s.files index ≡ Some f → (MayCome s call → f.owner ≤ (file_after f s.clock op).owner)
     → Came s call (with_file s index (file_after f s.clock op) (clock_after s.clock op)) index (file_after f s.clock op)
     → Shows (with_file s index (file_after f s.clock op) (clock_after s.clock op)) call reply → Facts s call (OnFile index op) reply
 facts_file s call index op f reply there rises came shows = record {
-  rises = λ may g is. subst (λ (x : FileState). x.owner ≤ (file_after x s.clock op).owner) (same_Some f g (sym there ∙ is)) (rises may);
-  came = subst (λ (found : Option FileState). (i : ℕ) (g : FileState) → slice_get (on_file s index op found).files i ≡ Some g → Came s call (on_file s index op found) i g) (sym there)
+  rises = λ may g is. subst (λ (x : StoredFile). x.owner ≤ (file_after x s.clock op).owner) (same_Some f g (sym there ∙ is)) (rises may);
+  came = subst (λ (found : Option StoredFile). (i : ℕ) (g : StoredFile) → slice_get (on_file s index op found).files i ≡ Some g → Came s call (on_file s index op found) i g) (sym there)
       (came_by s call index f (file_after f s.clock op) (clock_after s.clock op) there came);
-  shows = subst (λ (found : Option FileState). Shows (on_file s index op found) call reply) (sym there) shows;
+  shows = subst (λ (found : Option StoredFile). Shows (on_file s index op found) call reply) (sym there) shows;
 }
 
 at_place : (a b : ℕ) → a + 2 ≡ b + 2 → a ≡ b
 at_place a b e = omega (arith, e)
 
 -- a SETATTR that was asked never gives a file to an earlier user
-not_earlier : (s : ServerState) (o : IsInOrder s) (index : ℕ) (f : FileState) (owner : ℕ) (guard : Tick) → slice_get s.files index ≡ Some f → guard ≡ f.times.ctime → WasAsked s (index + 2) owner guard → f.owner ≤ owner
+not_earlier : (s : ServerState) (o : IsInOrder s) (index : ℕ) (f : StoredFile) (owner : ℕ) (guard : Tick) → slice_get s.files index ≡ Some f → guard ≡ f.times.ctime → WasAsked s (index + 2) owner guard → f.owner ≤ owner
 not_earlier s o index f owner guard there met a =
     let file_is : a.file ≡ f = same_Some a.file f (sym a.there ∙ ap (slice_get s.files) (sym (at_place index a.index a.place)) ∙ there) in
     elim (cases_lt owner f.owner) [
       | inl less ↦
-          let shut : IsBefore guard f.stable_times.ctime = subst (λ (x : FileState). owner < x.owner → IsBefore guard x.stable_times.ctime) file_is a.shut less in
+          let shut : IsBefore guard f.stable_times.ctime = subst (λ (x : StoredFile). owner < x.owner → IsBefore guard x.stable_times.ctime) file_is a.shut less in
           let before : IsBefore guard f.times.ctime = before_up guard f.stable_times.ctime f.times.ctime shut (o.files index f there).stable in
           absurd (not_before_itself f.times.ctime (subst (λ (t : Tick). IsBefore t f.times.ctime) met before))
       | inr up ↦ up
     ]
 
-facts_gives : (s : ServerState) (o : IsInOrder s) (index : ℕ) (f : FileState) (owner : ℕ) (guard : Tick) → slice_get s.files index ≡ Some f → guard ≡ f.times.ctime
+facts_gives : (s : ServerState) (o : IsInOrder s) (index : ℕ) (f : StoredFile) (owner : ℕ) (guard : Tick) → slice_get s.files index ≡ Some f → guard ≡ f.times.ctime
     → Facts s (SetAttr (index + 2) owner guard) (OnFile index (Sets (owner_changes owner))) (Set (shown_after s f (Sets (owner_changes owner))))
 facts_gives s o index f owner guard there met =
     let op : FileOp = Sets (owner_changes owner) in
@@ -239,14 +239,14 @@ facts_makes s o name owner =
     same_name i (inl there) less = slice_get-push s.names i there.0 (mirror_name name) there.2 ∙ sym there.2
     same_name i (inr past) less = absurd (let le = past.0 in omega (arith, le, less))
 
-    by_place : (index : ℕ) (g : FileState) → Pushed s.files (new_file owner owner 416 (next_tick s.clock)) index g
+    by_place : (index : ℕ) (g : StoredFile) → Pushed s.files (new_file owner owner 416 (next_tick s.clock)) index g
         → Came s (Create name owner) (server_after s (NewFile (mirror_name name) owner owner 416)) index g
     by_place index g (Old old) =
         let within = slice_get_within s.files index g old in
         Stayed g old refl (same_name index (slice_get_cases s.names index).1 (omega (arith, within, o.names)))
     by_place index g (New at is) =
         let names : slice_get (s.names ++ mirror_name name ∷ []) index ≡ Some (mirror_name name) = ap (slice_get (s.names ++ mirror_name name ∷ [])) (at ∙ sym o.names) ∙ last s.names (mirror_name name) in
-        WasMade name (ap (λ (x : FileState). Create name x.owner) (sym is)) names (slice_get_past s.files index (omega (arith, at)))
+        WasMade name (ap (λ (x : StoredFile). Create name x.owner) (sym is)) names (slice_get_past s.files index (omega (arith, at)))
 
 facts_of : (s : ServerState) (call : DsCallValue) (plan : DsPlan) → IsInOrder s → PlanIs s call plan → Facts s call plan.effect plan.reply
 facts_of s call plan o (Only e shows) = subst (λ (x : Effect). Facts s call x plan.reply) (sym e) (facts_only s call plan.reply shows)

@@ -8,7 +8,7 @@ use Rattle.std.proofs.lemmas.Option.{same_Some}
 use Rattle.cluster_model.specs.declared.tick.Tick.{Tick}
 use Rattle.cluster_model.specs.declared.piece.Piece.{Piece}
 use Rattle.cluster_model.specs.Ticks.{IsBefore, IsUpTo, next_tick, rebooted}
-use Rattle.cluster_model.specs.File.{FileState, FileOp, Writes, Commits, Sets, Restarts, file_after, clock_after, new_file, restarted}
+use Rattle.cluster_model.specs.File.{StoredFile, FileOp, Writes, Commits, Sets, Restarts, file_after, clock_after, new_file, restarted}
 use Rattle.cluster_model.specs.Content.{pieces_of}
 use Rattle.cluster_model.specs.Laws.{IsClocked}
 use Rattle.cluster_model.specs.Server.{ServerState, Caller, may_write, allows, mirror_of, Effect, NoEffect, OnFile, NewFile, with_file, on_file, server_after, op_entries, entries_of, committed_entries, server_restarted, restart_of, max_boot}
@@ -44,7 +44,7 @@ owner_after owner Commits = owner
 owner_after owner (Sets c) = unwrap_or c.owner owner
 owner_after owner (Restarts pieces) = owner
 
-owner_is : (f : FileState) (clock : Tick) (op : FileOp) → (file_after f clock op).owner ≡ owner_after f.owner op
+owner_is : (f : StoredFile) (clock : Tick) (op : FileOp) → (file_after f clock op).owner ≡ owner_after f.owner op
 owner_is f clock (Writes at true bytes) = refl
 owner_is f clock (Writes at false bytes) = refl
 owner_is f clock Commits = refl
@@ -53,7 +53,7 @@ owner_is f clock (Restarts pieces) = refl
 
 -- A file stays shut out to a guard that was given: what leaves its owner leaves its stable ctime no lower, and what gives it away leaves a
 -- stable ctime above every tick that was given.
-pub shut_by : (f : FileState) (clock : Tick) (op : FileOp) (uid : ℕ) (guard : Tick) → IsClocked f clock → IsUpTo guard clock → (uid < f.owner → IsBefore guard f.stable_times.ctime) → uid < (file_after f clock op).owner → IsBefore guard (file_after f clock op).stable_times.ctime
+pub shut_by : (f : StoredFile) (clock : Tick) (op : FileOp) (uid : ℕ) (guard : Tick) → IsClocked f clock → IsUpTo guard clock → (uid < f.owner → IsBefore guard f.stable_times.ctime) → uid < (file_after f clock op).owner → IsBefore guard (file_after f clock op).stable_times.ctime
 shut_by f clock (Writes at true bytes) uid guard k given shut less = before_up guard f.stable_times.ctime _ (shut less) (keeps_times f clock (Writes at true bytes) k).rises
 shut_by f clock (Writes at false bytes) uid guard k given shut less = before_up guard f.stable_times.ctime _ (shut less) (keeps_times f clock (Writes at false bytes) k).rises
 shut_by f clock Commits uid guard k given shut less = before_up guard f.stable_times.ctime _ (shut less) (keeps_times f clock Commits k).rises
@@ -62,10 +62,10 @@ shut_by f clock (Restarts pieces) uid guard k given shut less = before_up guard 
 
 -- ---- a server
 
-pub clock_up : (clock : Tick) (op : FileOp) (f : FileState) → IsClocked f clock → IsUpTo clock (clock_after clock op)
+pub clock_up : (clock : Tick) (op : FileOp) (f : StoredFile) → IsClocked f clock → IsUpTo clock (clock_after clock op)
 clock_up clock op f k = (keeps_times f clock op k).ticks
 
-asked_here : (s : ServerState) (index : ℕ) (f : FileState) (op : FileOp) → slice_get s.files index ≡ Some f → IsInOrder s
+asked_here : (s : ServerState) (index : ℕ) (f : StoredFile) (op : FileOp) → slice_get s.files index ≡ Some f → IsInOrder s
     → (fileid uid : ℕ) (guard : Tick) → WasAsked s fileid uid guard → WasAsked (with_file s index (file_after f s.clock op) (clock_after s.clock op)) fileid uid guard
 asked_here s index f op there o fileid uid guard a =
     let file = file_after f s.clock op in
@@ -80,7 +80,7 @@ asked_here s index f op there o fileid uid guard a =
             file = file;
             there = ap (slice_get (set s.files index file)) same ∙ slice_get-set_same s.files index f file there;
             given = up_to_up_to guard s.clock _ a.given up;
-            shut = shut_by f s.clock op uid guard k a.given (subst (λ (x : FileState). uid < x.owner → IsBefore guard x.stable_times.ctime) g_is a.shut);
+            shut = shut_by f s.clock op uid guard k a.given (subst (λ (x : StoredFile). uid < x.owner → IsBefore guard x.stable_times.ctime) g_is a.shut);
           }
       | inr other ↦ record {
         index = a.index;
@@ -92,21 +92,21 @@ asked_here s index f op there o fileid uid guard a =
       }
     ]
 
-owners_here : (s : ServerState) (index : ℕ) (f : FileState) (op : FileOp) → slice_get s.files index ≡ Some f → f.owner ≤ (file_after f s.clock op).owner
-    → (i : ℕ) (g : FileState) → slice_get s.files i ≡ Some g → (later : FileState) × (slice_get (set s.files index (file_after f s.clock op)) i ≡ Some later) × (g.owner ≤ later.owner)
+owners_here : (s : ServerState) (index : ℕ) (f : StoredFile) (op : FileOp) → slice_get s.files index ≡ Some f → f.owner ≤ (file_after f s.clock op).owner
+    → (i : ℕ) (g : StoredFile) → slice_get s.files i ≡ Some g → (later : StoredFile) × (slice_get (set s.files index (file_after f s.clock op)) i ≡ Some later) × (g.owner ≤ later.owner)
 owners_here s index f op there up i g old =
     let file = file_after f s.clock op in
     elim (cases_eq i index) [
       | inl same ↦
           let g_is : f ≡ g = same_Some f g (sym there ∙ sym (ap (slice_get s.files) same) ∙ old) in
-          (file, ap (slice_get (set s.files index file)) same ∙ slice_get-set_same s.files index f file there, subst (λ (x : FileState). x.owner ≤ file.owner) g_is up)
+          (file, ap (slice_get (set s.files index file)) same ∙ slice_get-set_same s.files index f file there, subst (λ (x : StoredFile). x.owner ≤ file.owner) g_is up)
       | inr other ↦ (g, slice_get-set_other s.files index i file other ∙ old, omega arith)
     ]
 
 pub root_up : (s : ServerState) (clock : Tick) → IsInOrder s → IsUpTo s.clock clock → IsUpTo s.root.ctime clock
 root_up s clock o up = up_to_up_to s.root.ctime s.clock clock o.root up
 
-file_follows : (s : ServerState) (caller : Caller) (index : ℕ) (op : FileOp) (f : FileState) → slice_get s.files index ≡ Some f → MayDo s.clock f caller op → IsInOrder s → f.owner ≤ (file_after f s.clock op).owner
+file_follows : (s : ServerState) (caller : Caller) (index : ℕ) (op : FileOp) (f : StoredFile) → slice_get s.files index ≡ Some f → MayDo s.clock f caller op → IsInOrder s → f.owner ≤ (file_after f s.clock op).owner
     → Follows s (with_file s index (file_after f s.clock op) (clock_after s.clock op))
 file_follows s caller index op f there may o up =
     let file = file_after f s.clock op in
@@ -116,7 +116,7 @@ file_follows s caller index op f there may o up =
       number = refl;
       clock = rises;
       in_order = record {
-        files = subst (λ (x : Option FileState). AreClocked (on_file s index op x)) there after;
+        files = subst (λ (x : Option StoredFile). AreClocked (on_file s index op x)) there after;
         root = root_up s (clock_after s.clock op) o rises;
         names = o.names ∙ sym (length-set s.files index file);
       };
@@ -156,7 +156,7 @@ new_follows s caller name owner group mode may o =
 -- no owner falls by it
 abbrev pub Rises : ServerState → Effect → Type 0
 Rises s NoEffect = Unit {0}
-Rises s (OnFile index op) = (f : FileState) → slice_get s.files index ≡ Some f → f.owner ≤ (file_after f s.clock op).owner
+Rises s (OnFile index op) = (f : StoredFile) → slice_get s.files index ≡ Some f → f.owner ≤ (file_after f s.clock op).owner
 Rises s (NewFile name owner group mode) = Unit {0}
 
 pub effect_follows : (s : ServerState) (caller : Caller) (effect : Effect) → IsPermitted s caller effect → IsInOrder s → Rises s effect → Follows s (server_after s effect)
@@ -166,7 +166,7 @@ effect_follows s caller (NewFile name owner group mode) may o up = new_follows s
 
 -- ---- who writes
 
-may_own : (f : FileState) (caller : Caller) → may_write f caller ≡ true → (caller.uid ≡ 0) ⊎ (caller.uid ≡ f.owner)
+may_own : (f : StoredFile) (caller : Caller) → may_write f caller ≡ true → (caller.uid ≡ 0) ⊎ (caller.uid ≡ f.owner)
 may_own f caller may =
     elim (or_cases (eqb caller.uid 0) (eqb caller.uid f.owner && allows f.mode 128) may) [
       | inl root ↦ inl (eqb-true _ _ root)
@@ -177,7 +177,7 @@ committed_own : (s : ServerState) (caller : Caller) (index : ℕ) (synced : Bool
 committed_own s caller index true = (tt, tt)
 committed_own s caller index false = tt
 
-op_own : (s : ServerState) (caller : Caller) (index : ℕ) (f : FileState) (op : FileOp) → slice_get s.files index ≡ Some f → MayDo s.clock f caller op → AllByRecursion (IsByOwner s caller) (op_entries (mirror_of s index) caller.uid op)
+op_own : (s : ServerState) (caller : Caller) (index : ℕ) (f : StoredFile) (op : FileOp) → slice_get s.files index ≡ Some f → MayDo s.clock f caller op → AllByRecursion (IsByOwner s caller) (op_entries (mirror_of s index) caller.uid op)
 op_own s caller index f (Writes at synced []) there may = committed_own s caller index synced
 op_own s caller index f (Writes at synced (b ∷ bytes)) there may = (record { index = index; is = refl; file = f; there = there; uid = refl; owner = may_own f caller may.0 }, committed_own s caller index synced)
 op_own s caller index f Commits there may = (tt, tt)
@@ -225,7 +225,7 @@ restarted_laws s pieces left o = record {
   owners = λ i g there.
       let old = from_index 2 s.files pieces i g there in
       let same = same_Some _ g (sym (at_index 2 s.files pieces i old.0 old.1) ∙ there) in
-      (old.0, old.1, ap (λ (x : FileState). x.owner) (sym same));
+      (old.0, old.1, ap (λ (x : StoredFile). x.owner) (sym same));
   names = refl;
   told = λ journal t. told_turn s (server_restarted s pieces) journal (Restarted s.number pieces ∷ []) t (turn_tells s (StartsAgain pieces) left);
 }

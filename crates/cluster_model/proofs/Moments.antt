@@ -3,7 +3,7 @@ use Rattle.std.proofs.Common.{true, false, [], ◌∷◌, refl, arith, inl, inr}
 use Rattle.cluster_model.specs.declared.tick.Tick.{Tick}
 use Rattle.cluster_model.specs.declared.change.Changes.{Changes}
 use Rattle.cluster_model.specs.Ticks.{IsBefore, IsUpTo, next_tick, rebooted}
-use Rattle.cluster_model.specs.File.{FileState, FileOp, Writes, Commits, Sets, Restarts}
+use Rattle.cluster_model.specs.File.{StoredFile, FileOp, Writes, Commits, Sets, Restarts}
 use Rattle.cluster_model.specs.Laws.{IsClocked, KeepsTimes, PassesGuards}
 
 pub up_to_same : (a : Tick) → IsUpTo a a
@@ -31,14 +31,14 @@ next_before t = inr (refl, omega arith)
 pub reboot_before : (t : Tick) → IsBefore t (rebooted t)
 reboot_before t = inl (omega arith)
 
-pub passes : (f : FileState) (clock : Tick) (c : Changes) → PassesGuards f clock c
+pub passes : (f : StoredFile) (clock : Tick) (c : Changes) → PassesGuards f clock c
 passes f clock c guard h = up_to_before guard clock (next_tick clock) h (next_before clock)
 
 -- the stable ctime is not above the last tick
-stable_up_to : (f : FileState) (clock : Tick) → IsClocked f clock → IsUpTo f.stable_times.ctime clock
+stable_up_to : (f : StoredFile) (clock : Tick) → IsClocked f clock → IsUpTo f.stable_times.ctime clock
 stable_up_to f clock k = up_to_up_to f.stable_times.ctime f.times.ctime clock k.stable k.shown
 
-pub keeps_times : (f : FileState) (clock : Tick) (op : FileOp) → IsClocked f clock → KeepsTimes f clock op
+pub keeps_times : (f : StoredFile) (clock : Tick) (op : FileOp) → IsClocked f clock → KeepsTimes f clock op
 keeps_times f clock (Writes at false []) k = record { clocked = k; rises = up_to_same f.stable_times.ctime; ticks = up_to_same clock }
 keeps_times f clock (Writes at true []) k = record { clocked = record { stable = up_to_same f.times.ctime; shown = k.shown }; rises = k.stable; ticks = up_to_same clock }
 keeps_times f clock (Writes at false (b ∷ bytes)) k =

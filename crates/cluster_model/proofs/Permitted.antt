@@ -4,7 +4,7 @@ use Rattle.std.specs.Prelude.{not, slice_get, slice_set}
 use Rattle.std.proofs.lemmas.Bool.{cond_both, eqb-true, eqb-false}
 use Rattle.cluster_model.specs.declared.tick.Tick.{Tick}
 use Rattle.cluster_model.specs.declared.change.Changes.{Changes}
-use Rattle.cluster_model.specs.File.{FileState, FileOp, Writes, Commits, Sets, taken}
+use Rattle.cluster_model.specs.File.{StoredFile, FileOp, Writes, Commits, Sets, taken}
 use Rattle.cluster_model.specs.Ticks.{next_tick}
 use Rattle.cluster_model.specs.Server.{ServerState, Named, Nothing, Root, File, file_at, named, total_size, Caller, may_write, max_file, max_total, max_ticks, Refusal, Acces, Inval, NotSync, Fbig, NoSpc, Jukebox, tick_refusal, write_refusal, commit_refusal, set_refusal, differs, index_of, NoEffect, OnFile}
 use Rattle.cluster_model.specs.DsCalls.{DsCallValue, Create, SetAttr, Write, Commit, Read, DsReplyValue, DsPlan, unless, owner_changes, ds_plan, write_at, commit_at, set_at, read_at, made_unless, created_by, created_before, mirror_name}
@@ -23,7 +23,7 @@ pub tick_left : (clock : Tick) → tick_refusal clock ≡ None → clock.count �
 tick_left clock e = eqb-false _ _ (stops (eqb clock.count max_ticks) Jukebox None e).0
 
 -- a WRITE that is not refused
-pub write_may : (s : ServerState) (index : ℕ) (f : FileState) (caller : Caller) (agree : Bool) (at : ℕ) (synced : Bool) (bytes : List ℕ) → write_refusal s index f caller agree at bytes ≡ None → MayDo s.clock f caller (Writes at synced bytes)
+pub write_may : (s : ServerState) (index : ℕ) (f : StoredFile) (caller : Caller) (agree : Bool) (at : ℕ) (synced : Bool) (bytes : List ℕ) → write_refusal s index f caller agree at bytes ≡ None → MayDo s.clock f caller (Writes at synced bytes)
 write_may s index f caller agree at synced [] e = not_false _ (stops (not (may_write f caller)) Acces _ e).0
 write_may s index f caller agree at synced (b ∷ bytes) e =
     let access = stops (not (may_write f caller)) Acces _ e in
@@ -33,7 +33,7 @@ write_may s index f caller agree at synced (b ∷ bytes) e =
     (not_false _ access.0, tick_left s.clock room.1)
 
 -- a COMMIT
-pub commit_may : (clock : Tick) (f : FileState) (caller : Caller) → commit_refusal f caller ≡ None → MayDo clock f caller Commits
+pub commit_may : (clock : Tick) (f : StoredFile) (caller : Caller) → commit_refusal f caller ≡ None → MayDo clock f caller Commits
 commit_may clock f caller = commit_by (may_write f caller)
   where
     commit_by : (may : Bool) → cond may None (Some Acces) ≡ None → may ≡ true
@@ -41,7 +41,7 @@ commit_may clock f caller = commit_by (may_write f caller)
     commit_by false e = absurd cc
 
 -- a SETATTR
-pub set_may : (s : ServerState) (f : FileState) (caller : Caller) (agree : Bool) (guard : Option Tick) (changes : Changes) → set_refusal s f caller agree guard ≡ None → MayDo s.clock f caller (Sets changes)
+pub set_may : (s : ServerState) (f : StoredFile) (caller : Caller) (agree : Bool) (guard : Option Tick) (changes : Changes) → set_refusal s f caller agree guard ≡ None → MayDo s.clock f caller (Sets changes)
 set_may s f caller agree guard changes e =
     let access = stops (not (eqb caller.uid 0)) Acces _ e in
     let good = stops (not agree) Inval _ access.1 in
@@ -49,8 +49,8 @@ set_may s f caller agree guard changes e =
     (eqb-true _ _ (not_false _ access.0), tick_left s.clock same.1)
 
 -- what holds of a call whatever its fileid names
-module _ (files : List FileState) (P : Named → Type 0) (nothing : P Nothing) (root : P Root) (file : (index : ℕ) (f : FileState) → slice_get files index ≡ Some f → P (File index f)) where
-  at_found : (index : ℕ) (found : Option FileState) → slice_get files index ≡ found → P (file_at index found)
+module _ (files : List StoredFile) (P : Named → Type 0) (nothing : P Nothing) (root : P Root) (file : (index : ℕ) (f : StoredFile) → slice_get files index ≡ Some f → P (File index f)) where
+  at_found : (index : ℕ) (found : Option StoredFile) → slice_get files index ≡ found → P (file_at index found)
   at_found index None e = nothing
   at_found index (Some f) e = file index f e
 
@@ -59,11 +59,11 @@ module _ (files : List FileState) (P : Named → Type 0) (nothing : P Nothing) (
       cond_both (eqb fileid 1) Root (cond (ltb fileid 2) Nothing (file_at (fileid - 2) (slice_get files (fileid - 2)))) P (λ e. root) (λ e.
       cond_both (ltb fileid 2) Nothing (file_at (fileid - 2) (slice_get files (fileid - 2))) P (λ e. nothing) (λ e. at_found (fileid - 2) (slice_get files (fileid - 2)) refl))
 
-done_unless : (s : ServerState) (caller : Caller) (index : ℕ) (f : FileState) (op : FileOp) (reply : DsReplyValue) (refusal : Option Refusal) → slice_get s.files index ≡ Some f → (refusal ≡ None → MayDo s.clock f caller op) → IsPermitted s caller (unless f refusal reply (OnFile index op)).effect
+done_unless : (s : ServerState) (caller : Caller) (index : ℕ) (f : StoredFile) (op : FileOp) (reply : DsReplyValue) (refusal : Option Refusal) → slice_get s.files index ≡ Some f → (refusal ≡ None → MayDo s.clock f caller op) → IsPermitted s caller (unless f refusal reply (OnFile index op)).effect
 done_unless s caller index f op reply (Some refusal) there may = tt
 done_unless s caller index f op reply None there may = (f, there, may refl)
 
-asks : (s : ServerState) (caller : Caller) (f : FileState) (reply : DsReplyValue) (refusal : Option Refusal) → IsPermitted s caller (unless f refusal reply NoEffect).effect
+asks : (s : ServerState) (caller : Caller) (f : StoredFile) (reply : DsReplyValue) (refusal : Option Refusal) → IsPermitted s caller (unless f refusal reply NoEffect).effect
 asks s caller f reply (Some refusal) = tt
 asks s caller f reply None = tt
 
@@ -71,7 +71,7 @@ made_by : (s : ServerState) (caller : Caller) (name : List ℕ) (owner : ℕ) (r
 made_by s caller name owner (Some refusal) root left = tt
 made_by s caller name owner None root left = (root, left refl)
 
-before : (s : ServerState) (caller : Caller) (index : ℕ) (found : Option FileState) → IsPermitted s caller (created_before index found).effect
+before : (s : ServerState) (caller : Caller) (index : ℕ) (found : Option StoredFile) → IsPermitted s caller (created_before index found).effect
 before s caller index None = tt
 before s caller index (Some f) = tt
 

@@ -12,7 +12,7 @@ use Rattle.cluster_model.specs.declared.entry.Entry.{Entry}
 use Rattle.cluster_model.specs.declared.entry.Entry.TheVariants.{Restarted}
 use Rattle.cluster_model.specs.Content.{Pending, no_content, overlay_all, kept_of, survived, pieces_of}
 use Rattle.cluster_model.specs.Ticks.{IsBefore, IsUpTo, IsRising, next_tick, rebooted}
-use Rattle.cluster_model.specs.File.{FileState, FileOp, Writes, Commits, Sets, Restarts, clock_after, file_after, new_file}
+use Rattle.cluster_model.specs.File.{StoredFile, FileOp, Writes, Commits, Sets, Restarts, clock_after, file_after, new_file}
 use Rattle.cluster_model.specs.Journal.{Copy, no_copy, copy_by, copy_after}
 use Rattle.cluster_model.specs.Server.{ServerState, Caller, new_server, mirror_of, Effect, NoEffect, OnFile, NewFile, server_after, entries_of, server_restarted}
 use Rattle.cluster_model.specs.ServerLaws.{MayDo, IsPermitted, copy_of, TellsOld, TellsNew, Turn, Does, StartsAgain, turn_after, turn_entries, IsAllowed, AreAllowed, run_after, run_entries, op_ticks, turn_ticks, run_ticks, HasRisingTicks, IsToldByJournal}
@@ -32,7 +32,7 @@ data Gives (clock new : Tick) (ticks : List Tick) : Type 0 where
   None_ : ticks ≡ [] → IsUpTo clock new → Gives clock new ticks
   Next : ticks ≡ next_tick clock ∷ [] → new ≡ next_tick clock → Gives clock new ticks
 
-op_gives : (clock : Tick) (f : FileState) (caller : Caller) (op : FileOp) → MayDo clock f caller op → Gives clock (clock_after clock op) (op_ticks clock op)
+op_gives : (clock : Tick) (f : StoredFile) (caller : Caller) (op : FileOp) → MayDo clock f caller op → Gives clock (clock_after clock op) (op_ticks clock op)
 op_gives clock f caller (Writes at synced []) may = None_ refl (up_to_same clock)
 op_gives clock f caller (Writes at synced (b ∷ bytes)) may = Next refl refl
 op_gives clock f caller Commits may = None_ refl (up_to_same clock)
@@ -128,7 +128,7 @@ turn_tells s (StartsAgain pieces) may =
       number = refl;
     }
 
-told_each : (s new : ServerState) (front entries : List Entry) → IsTold s front → TurnTells s new entries → (index : ℕ) (g : FileState) → slice_get new.files index ≡ Some g → copy_of g ≡ copy_by (mirror_of s index) no_copy (front ++ entries)
+told_each : (s new : ServerState) (front entries : List Entry) → IsTold s front → TurnTells s new entries → (index : ℕ) (g : StoredFile) → slice_get new.files index ≡ Some g → copy_of g ≡ copy_by (mirror_of s index) no_copy (front ++ entries)
 told_each s new front entries k t index g there =
     elim (slice_get_cases s.files index).1 [
       | inl found ↦

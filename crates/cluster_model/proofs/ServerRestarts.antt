@@ -7,14 +7,14 @@ use Rattle.cluster_model.specs.declared.piece.Piece.{Piece}
 use Rattle.cluster_model.specs.declared.entry.Entry.TheVariants.{Restarted}
 use Rattle.cluster_model.specs.Ticks.{rebooted}
 use Rattle.cluster_model.specs.Content.{pieces_of}
-use Rattle.cluster_model.specs.File.{FileState, Restarts, restarted}
+use Rattle.cluster_model.specs.File.{StoredFile, Restarts, restarted}
 use Rattle.cluster_model.specs.Laws.{IsClocked, KeepsTimes}
 use Rattle.cluster_model.specs.Server.{ServerState, max_boot, files_restarted, server_restarted, restart_of}
 use Rattle.cluster_model.specs.ServerLaws.{AreClocked, TellsOld, IsRestarted}
 use Rattle.cluster_model.proofs.Moments.{keeps_times}
 
 -- each file after a restart
-pub at_index : (n : ℕ) (files : List FileState) (pieces : List Piece) (i : ℕ) (f : FileState) → slice_get files i ≡ Some f → slice_get (files_restarted n files pieces) i ≡ Some (restarted f (pieces_of (i + n) pieces))
+pub at_index : (n : ℕ) (files : List StoredFile) (pieces : List Piece) (i : ℕ) (f : StoredFile) → slice_get files i ≡ Some f → slice_get (files_restarted n files pieces) i ≡ Some (restarted f (pieces_of (i + n) pieces))
 at_index n [] pieces i f e = absurd (cc)
 at_index n (g ∷ files) pieces zero f e =
     let number : 0 + n ≡ n = omega arith in
@@ -24,12 +24,12 @@ at_index n (g ∷ files) pieces (suc i) f e =
     at_index (n + 1) files pieces i f e ∙ ap (λ m. Some (restarted f (pieces_of m pieces))) next
 
 -- each is of a file before
-pub from_index : (n : ℕ) (files : List FileState) (pieces : List Piece) (i : ℕ) (g : FileState) → slice_get (files_restarted n files pieces) i ≡ Some g → (f : FileState) × (slice_get files i ≡ Some f)
+pub from_index : (n : ℕ) (files : List StoredFile) (pieces : List Piece) (i : ℕ) (g : StoredFile) → slice_get (files_restarted n files pieces) i ≡ Some g → (f : StoredFile) × (slice_get files i ≡ Some f)
 from_index n [] pieces i g e = absurd (cc)
 from_index n (f ∷ files) pieces zero g e = (f, refl)
 from_index n (f ∷ files) pieces (suc i) g e = from_index (n + 1) files pieces i g e
 
-pub same_count : (n : ℕ) (files : List FileState) (pieces : List Piece) → length (files_restarted n files pieces) ≡ length files
+pub same_count : (n : ℕ) (files : List StoredFile) (pieces : List Piece) → length (files_restarted n files pieces) ≡ length files
 same_count n [] pieces = refl
 same_count n (f ∷ files) pieces = ap suc (same_count (n + 1) files pieces)
 
@@ -38,7 +38,7 @@ clocked s pieces k i g there =
     let old = from_index 2 s.files pieces i g there in
     let after : KeepsTimes old.0 s.clock (Restarts (pieces_of (i + 2) pieces)) = keeps_times old.0 s.clock (Restarts (pieces_of (i + 2) pieces)) (k i old.0 old.1) in
     let same : restarted old.0 (pieces_of (i + 2) pieces) ≡ g = same_Some _ g (sym (at_index 2 s.files pieces i old.0 old.1) ∙ there) in
-    subst (λ (x : FileState). IsClocked x (rebooted s.clock)) same after.clocked
+    subst (λ (x : StoredFile). IsClocked x (rebooted s.clock)) same after.clocked
 
 tells : (s : ServerState) (pieces : List Piece) → TellsOld s (server_restarted s pieces) (Restarted s.number pieces ∷ [])
 tells s pieces i f there = (restarted f (pieces_of (i + 2) pieces), at_index 2 s.files pieces i f there, rw (eq-eqb s.number s.number refl) refl)

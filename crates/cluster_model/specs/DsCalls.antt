@@ -11,7 +11,7 @@ use Rattle.cluster_model.specs.declared.ds_call.DsCall.{DsCall}
 use Rattle.cluster_model.specs.declared.ds_call.DsCall.TheVariants as declared
 use Rattle.cluster_model.specs.declared.ds_call.DsReply.{DsReply}
 use Rattle.cluster_model.specs.declared.ds_call.DsReply.TheVariants as declared_reply
-use Rattle.cluster_model.specs.File.{FileState, FileOp, Writes, Commits, Sets, shown, file_after, new_file}
+use Rattle.cluster_model.specs.File.{StoredFile, FileOp, Writes, Commits, Sets, shown, file_after, new_file}
 use Rattle.cluster_model.specs.Ticks.{next_tick}
 use Rattle.cluster_model.specs.Server.{ServerState, Named, Nothing, Root, File, named, index_of, Caller, Refusal, Acces, Inval, NotSync as OutOfSync, Fbig, NoSpc, Jukebox, tick_refusal, read_refusal, write_refusal, commit_refusal, set_refusal, bytes_read, ends_at, Effect, NoEffect, OnFile, NewFile, server_after, entries_of}
 
@@ -51,7 +51,7 @@ plain_ds_reply (declared_reply.Failed status shown) = Failed status shown
 
 -- ---- what is shown of a file, and of the root
 
-abbrev pub shown_by : FileState → Shown
+abbrev pub shown_by : StoredFile → Shown
 shown_by f = record { owner = record { 0 = f.owner }; seen = f.times.ctime; size = length (shown f) }
 
 abbrev pub shown_root : Times → Shown
@@ -92,12 +92,12 @@ abbrev pub at_root : ServerState → DsReplyValue
 at_root s = refused Inval (shown_root s.root)
 
 -- what is done to a file, unless it is refused, and what is replied then
-abbrev pub unless : FileState → Option Refusal → DsReplyValue → Effect → DsPlan
+abbrev pub unless : StoredFile → Option Refusal → DsReplyValue → Effect → DsPlan
 unless f (Some refusal) reply does = replies (refused refusal (shown_by f))
 unless f None reply does = record { reply = reply; effect = does }
 
 -- the file as it is shown then
-abbrev pub shown_after : ServerState → FileState → FileOp → Option Shown
+abbrev pub shown_after : ServerState → StoredFile → FileOp → Option Shown
 shown_after s f op = Some (shown_by (file_after f s.clock op))
 
 abbrev pub write_at : ServerState → Caller → ℕ → Bool → List ℕ → Named → DsPlan
@@ -121,7 +121,7 @@ set_at s caller owner guard Root = replies (at_root s)
 set_at s caller owner guard (File index f) =
     unless f (set_refusal s f caller true (Some guard)) (Set (shown_after s f (Sets (owner_changes owner)))) (OnFile index (Sets (owner_changes owner)))
 
-abbrev pub bytes_reply : FileState → ℕ → List ℕ → DsReplyValue
+abbrev pub bytes_reply : StoredFile → ℕ → List ℕ → DsReplyValue
 bytes_reply f at bytes = Bytes (Some (shown_by f)) (ends_at f at bytes) bytes
 
 abbrev pub read_at : ServerState → Caller → ℕ → ℕ → Named → DsPlan
@@ -134,7 +134,7 @@ abbrev pub mirror_name : ℕ → List ℕ
 mirror_name number = codes "m" ++ decimal number
 
 -- a file that has the name already stays as it is
-abbrev pub created_before : ℕ → Option FileState → DsPlan
+abbrev pub created_before : ℕ → Option StoredFile → DsPlan
 created_before index None = replies no_file
 created_before index (Some f) = replies (Created (index + 2) (shown_by f))
 

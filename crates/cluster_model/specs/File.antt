@@ -10,7 +10,7 @@ use Rattle.cluster_model.specs.Content.{Content, no_content, shown_of, joined, s
 use Rattle.cluster_model.specs.Ticks.{next_tick, rebooted}
 
 -- The owner, the group and the mode are stable at once; the times may be ahead of those that a restart leaves.
-pub record FileState : Type 0 where
+pub record StoredFile : Type 0 where
   pub content : Content
   pub owner : ℕ
   pub group : ℕ
@@ -19,14 +19,14 @@ pub record FileState : Type 0 where
   pub stable_times : Times
 
 -- what a reader sees
-abbrev pub shown : FileState → List ℕ
+abbrev pub shown : StoredFile → List ℕ
 shown f = shown_of f.content
 
 abbrev pub all_at : Tick → Times
 all_at tick = record { atime = tick; mtime = tick; ctime = tick }
 
 -- CREATE: no bytes, and every time is the tick
-abbrev pub new_file : ℕ → ℕ → ℕ → Tick → FileState
+abbrev pub new_file : ℕ → ℕ → ℕ → Tick → StoredFile
 new_file owner group mode tick = record {
   content = no_content;
   owner = owner;
@@ -42,15 +42,15 @@ times_after times tick [] = times
 times_after times tick (b ∷ bytes) = record times { mtime = tick; ctime = tick }
 
 -- an unstable WRITE
-abbrev pub taken : FileState → Tick → ℕ → List ℕ → FileState
+abbrev pub taken : StoredFile → Tick → ℕ → List ℕ → StoredFile
 taken f tick at bytes = record f { content = joined f.content at bytes; times = times_after f.times tick bytes }
 
 -- COMMIT: all that is shown becomes stable, and so do the times
-abbrev pub committed : FileState → FileState
+abbrev pub committed : StoredFile → StoredFile
 committed f = record f { content = settled f.content; stable_times = f.times }
 
 -- WRITE, which is committed with all before it where it is to be stable
-abbrev pub written : FileState → Tick → ℕ → Bool → List ℕ → FileState
+abbrev pub written : StoredFile → Tick → ℕ → Bool → List ℕ → StoredFile
 written f tick at false bytes = taken f tick at bytes
 written f tick at true bytes = committed (taken f tick at bytes)
 
@@ -64,7 +64,7 @@ time_set (At t) tick old = t
 abbrev pub times_set : Times → Tick → Changes → Times
 times_set times tick c = record { atime = time_set c.atime tick times.atime; mtime = time_set c.mtime tick times.mtime; ctime = tick }
 
-abbrev pub set : FileState → Tick → Changes → FileState
+abbrev pub set : StoredFile → Tick → Changes → StoredFile
 set f tick c = record {
   content = f.content;
   owner = unwrap_or c.owner f.owner;
@@ -75,7 +75,7 @@ set f tick c = record {
 }
 
 -- a restart, before which these pieces of the file's pending writes had reached the disk
-abbrev pub restarted : FileState → List Piece → FileState
+abbrev pub restarted : StoredFile → List Piece → StoredFile
 restarted f pieces = record f { content = survived f.content pieces; times = f.stable_times }
 
 -- ---- whatever is done to a file
@@ -87,7 +87,7 @@ pub data FileOp : Type 0 where
   Restarts : List Piece → FileOp
 
 -- the file after it, by the last tick that the server gave; and the last tick then
-abbrev pub file_after : FileState → Tick → FileOp → FileState
+abbrev pub file_after : StoredFile → Tick → FileOp → StoredFile
 file_after f clock (Writes at synced bytes) = written f (next_tick clock) at synced bytes
 file_after f clock Commits = committed f
 file_after f clock (Sets c) = set f (next_tick clock) c

@@ -11,7 +11,7 @@ use Rattle.cluster_model.specs.declared.piece.Piece.{Piece}
 use Rattle.cluster_model.specs.Journal.{no_copy, content_of}
 use Rattle.cluster_model.specs.declared.ds_call.Shown.{Shown}
 use Rattle.cluster_model.specs.Ticks.{IsBefore, IsUpTo}
-use Rattle.cluster_model.specs.File.{FileState}
+use Rattle.cluster_model.specs.File.{StoredFile}
 use Rattle.cluster_model.specs.Server.{ServerState, Caller, mirror_of}
 use Rattle.cluster_model.specs.ServerLaws.{AreClocked, copy_of}
 use Rattle.cluster_model.specs.DsCalls.{DsCallValue, Create, SetAttr, Write, Commit, Read, DsReplyValue, Created, Set, Written, Committed, Bytes, NotSync, Failed, mirror_name}
@@ -27,7 +27,7 @@ pub record IsInOrder (s : ServerState) : Type 0 where
 pub record WasAsked (s : ServerState) (fileid uid : ℕ) (guard : Tick) : Type 0 where
   pub index : ℕ
   pub place : fileid ≡ index + 2
-  pub file : FileState
+  pub file : StoredFile
   pub there : slice_get s.files index ≡ Some file
   pub given : IsUpTo guard s.clock
   pub shut : uid < file.owner → IsBefore guard file.stable_times.ctime
@@ -46,13 +46,13 @@ pub record Follows (s new : ServerState) : Type 0 where
   pub clock : IsUpTo s.clock new.clock
   pub in_order : IsInOrder new
   pub names : (index : ℕ) (name : List ℕ) → slice_get s.names index ≡ Some name → slice_get new.names index ≡ Some name
-  pub owners : (index : ℕ) (file : FileState) → slice_get s.files index ≡ Some file → (later : FileState) × (slice_get new.files index ≡ Some later) × (file.owner ≤ later.owner)
+  pub owners : (index : ℕ) (file : StoredFile) → slice_get s.files index ≡ Some file → (later : StoredFile) × (slice_get new.files index ≡ Some later) × (file.owner ≤ later.owner)
   pub asked : (fileid uid : ℕ) (guard : Tick) → WasAsked s fileid uid guard → WasAsked new fileid uid guard
 
 -- where the owner of a file is from: it stayed, a SETATTR of the file named it, or a CREATE made the file for it
-pub data Came (s : ServerState) (call : DsCallValue) (new : ServerState) (index : ℕ) (file : FileState) : Type 0 where
-  Stayed : (before : FileState) → slice_get s.files index ≡ Some before → file.owner ≡ before.owner → slice_get new.names index ≡ slice_get s.names index → Came s call new index file
-  WasGiven : (before : FileState) (guard : Tick) → slice_get s.files index ≡ Some before → call ≡ SetAttr (index + 2) file.owner guard → slice_get new.names index ≡ slice_get s.names index → Came s call new index file
+pub data Came (s : ServerState) (call : DsCallValue) (new : ServerState) (index : ℕ) (file : StoredFile) : Type 0 where
+  Stayed : (before : StoredFile) → slice_get s.files index ≡ Some before → file.owner ≡ before.owner → slice_get new.names index ≡ slice_get s.names index → Came s call new index file
+  WasGiven : (before : StoredFile) (guard : Tick) → slice_get s.files index ≡ Some before → call ≡ SetAttr (index + 2) file.owner guard → slice_get new.names index ≡ slice_get s.names index → Came s call new index file
   WasMade : (name : ℕ) → call ≡ Create name file.owner → slice_get new.names index ≡ Some (mirror_name name) → slice_get s.files index ≡ None → Came s call new index file
 
 -- ---- what a reply shows is so behind the call
@@ -67,7 +67,7 @@ target (Read fileid at count) = fileid
 pub record IsShownAt (new : ServerState) (fileid : ℕ) (shown : Shown) : Type 0 where
   pub index : ℕ
   pub place : fileid ≡ index + 2
-  pub file : FileState
+  pub file : StoredFile
   pub there : slice_get new.files index ≡ Some file
   pub owner : shown.owner.0 ≡ file.owner
   pub seen : IsUpTo shown.seen new.clock
@@ -86,7 +86,7 @@ pub record WasSet (new : ServerState) (call : DsCallValue) : Type 0 where
   pub asked : call ≡ SetAttr fileid uid guard
   pub index : ℕ
   pub place : fileid ≡ index + 2
-  pub file : FileState
+  pub file : StoredFile
   pub there : slice_get new.files index ≡ Some file
   pub owner : file.owner ≡ uid
 
@@ -110,7 +110,7 @@ Shows new call (Failed status shown) = IsSeen new shown
 pub record IsOwners (s : ServerState) (caller : Caller) (mirror : MirrorId) (cred : Cred) : Type 0 where
   pub index : ℕ
   pub is : mirror ≡ mirror_of s index
-  pub file : FileState
+  pub file : StoredFile
   pub there : slice_get s.files index ≡ Some file
   pub uid : cred.0 ≡ caller.uid
   pub owner : (caller.uid ≡ 0) ⊎ (caller.uid ≡ file.owner)
@@ -123,7 +123,7 @@ IsByOwner s caller _ = Unit {0}
 
 -- each file is what the journal says, which says nothing where there is no file
 pub record IsTold (s : ServerState) (journal : List Entry) : Type 0 where
-  pub each : (index : ℕ) (file : FileState) → slice_get s.files index ≡ Some file → copy_of file ≡ content_of journal (mirror_of s index)
+  pub each : (index : ℕ) (file : StoredFile) → slice_get s.files index ≡ Some file → copy_of file ≡ content_of journal (mirror_of s index)
   pub none : (index : ℕ) → length s.files ≤ index → content_of journal (mirror_of s index) ≡ no_copy
 
 -- an entry of this data server's files
@@ -137,7 +137,7 @@ IsOfServer n _ = ⊥
 -- all that holds of a call
 pub record CallLaws (s : ServerState) (caller : Caller) (call : DsCallValue) (new : ServerState) (reply : DsReplyValue) (entries : List Entry) : Type 0 where
   pub follows : MayCome s call → Follows s new
-  pub came : (index : ℕ) (file : FileState) → slice_get new.files index ≡ Some file → Came s call new index file
+  pub came : (index : ℕ) (file : StoredFile) → slice_get new.files index ≡ Some file → Came s call new index file
   pub shows : Shows new call reply
   pub owners : AllByRecursion (IsByOwner s caller) entries
   pub of_server : AllByRecursion (IsOfServer s.number) entries
@@ -146,6 +146,6 @@ pub record CallLaws (s : ServerState) (caller : Caller) (call : DsCallValue) (ne
 -- and of a restart
 pub record RestartLaws (s : ServerState) (pieces : List Piece) (new : ServerState) : Type 0 where
   pub follows : Follows s new
-  pub owners : (index : ℕ) (file : FileState) → slice_get new.files index ≡ Some file → (before : FileState) × (slice_get s.files index ≡ Some before) × (file.owner ≡ before.owner)
+  pub owners : (index : ℕ) (file : StoredFile) → slice_get new.files index ≡ Some file → (before : StoredFile) × (slice_get s.files index ≡ Some before) × (file.owner ≡ before.owner)
   pub names : new.names ≡ s.names
   pub told : (journal : List Entry) → IsTold s journal → IsTold new (journal ++ Restarted s.number pieces ∷ [])

@@ -4,26 +4,26 @@ use Rattle.cluster_model.specs.declared.tick.Tick.{Tick}
 use Rattle.cluster_model.specs.declared.change.Changes.{Changes}
 use Rattle.cluster_model.specs.Ticks.{IsBefore, IsUpTo, next_tick}
 use Rattle.cluster_model.specs.Content.{overlay}
-use Rattle.cluster_model.specs.File.{FileState, FileOp, shown, committed, set, file_after, clock_after}
+use Rattle.cluster_model.specs.File.{StoredFile, FileOp, shown, committed, set, file_after, clock_after}
 
 -- A file at a server that gave this tick last: no ctime is above it, and a restart brings back one that is not above the
 -- one that is shown.
-pub record IsClocked (f : FileState) (clock : Tick) : Type 0 where
+pub record IsClocked (f : StoredFile) (clock : Tick) : Type 0 where
   pub stable : IsUpTo f.stable_times.ctime f.times.ctime
   pub shown : IsUpTo f.times.ctime clock
 
 -- So it stays, whatever is done to the file, and the ctime that a restart leaves never falls.
-pub record KeepsTimes (f : FileState) (clock : Tick) (op : FileOp) : Type 0 where
+pub record KeepsTimes (f : StoredFile) (clock : Tick) (op : FileOp) : Type 0 where
   pub clocked : IsClocked (file_after f clock op) (clock_after clock op)
   pub rises : IsUpTo f.stable_times.ctime (file_after f clock op).stable_times.ctime
   pub ticks : IsUpTo clock (clock_after clock op)
 
 -- A SETATTR leaves a stable ctime above each tick that was given before, so above each guard that any SETATTR can have.
-abbrev pub PassesGuards : FileState → Tick → Changes → Type 0
+abbrev pub PassesGuards : StoredFile → Tick → Changes → Type 0
 PassesGuards f clock c = (guard : Tick) → IsUpTo guard clock → IsBefore guard (set f (next_tick clock) c).stable_times.ctime
 
 -- A COMMIT changes nothing that is shown, and makes it stable.
-pub record IsCommitted (f : FileState) : Type 0 where
+pub record IsCommitted (f : StoredFile) : Type 0 where
   pub shown_stays : shown (committed f) ≡ shown f
   pub stable : (committed f).content.stable ≡ shown f
   pub pending : (committed f).content.pending ≡ []

@@ -9,7 +9,7 @@ use Rattle.cluster_model.specs.declared.piece.Piece.{Piece}
 use Rattle.cluster_model.specs.declared.tick.Tick.{Tick}
 use Rattle.cluster_model.specs.declared.tick.Times.{Times}
 use Rattle.cluster_model.specs.Content.{pieces_of}
-use Rattle.cluster_model.specs.File.{FileState, FileOp, Writes, Commits, Sets, Restarts, shown, all_at, new_file, taken, restarted, file_after, clock_after}
+use Rattle.cluster_model.specs.File.{StoredFile, FileOp, Writes, Commits, Sets, Restarts, shown, all_at, new_file, taken, restarted, file_after, clock_after}
 use Rattle.cluster_model.specs.Ticks.{next_tick, rebooted}
 
 -- A data server: its number; the last tick that it gave, of count 0 where it gave none in this boot; the root's times; and its
@@ -19,7 +19,7 @@ pub record ServerState : Type 0 where
   pub clock : Tick
   pub root : Times
   pub names : List (List ℕ)
-  pub files : List FileState
+  pub files : List StoredFile
 
 -- a root and no files
 abbrev pub new_server : ℕ → ℕ → ServerState
@@ -63,13 +63,13 @@ max_boot = 4294967295
 pub data Named : Type 0 where
   Nothing : Named
   Root : Named
-  File : (index : ℕ) (file : FileState) → Named
+  File : (index : ℕ) (file : StoredFile) → Named
 
-abbrev pub file_at : ℕ → Option FileState → Named
+abbrev pub file_at : ℕ → Option StoredFile → Named
 file_at index None = Nothing
 file_at index (Some f) = File index f
 
-abbrev pub named : List FileState → ℕ → Named
+abbrev pub named : List StoredFile → ℕ → Named
 named files fileid = if fileid == 1 then Root else (if nat_lt fileid 2 then Nothing else file_at (fileid - 2) (slice_get files (fileid - 2)))
 
 -- the mirror that the file at an index is
@@ -81,7 +81,7 @@ abbrev pub index_of : List (List ℕ) → List ℕ → Option ℕ
 index_of names name = position (bytes_eq name) names
 
 -- the shown bytes of all files together
-abbrev pub total_size : List FileState → ℕ
+abbrev pub total_size : List StoredFile → ℕ
 total_size files = sum_by (λ f. length (shown f)) files
 
 -- ---- access (sections 3.3.6 and 3.3.7)
@@ -100,11 +100,11 @@ abbrev pub is_member : Caller → ℕ → Bool
 is_member caller group = caller.gid == group || list_any (λ gid. gid == group) caller.gids
 
 -- uid 0, the owner by bit 0400, the group's members by bit 0040
-abbrev pub may_read : FileState → Caller → Bool
+abbrev pub may_read : StoredFile → Caller → Bool
 may_read f caller = caller.uid == 0 || (caller.uid == f.owner && allows f.mode 256) || (is_member caller f.group && allows f.mode 32)
 
 -- uid 0, the owner by bit 0200
-abbrev pub may_write : FileState → Caller → Bool
+abbrev pub may_write : StoredFile → Caller → Bool
 may_write f caller = caller.uid == 0 || (caller.uid == f.owner && allows f.mode 128)
 
 -- ---- refusals of a call on a file, behind what names the file: access, the arguments, the guard, the room, the ticks
@@ -121,11 +121,11 @@ pub data Refusal : Type 0 where
 abbrev pub tick_refusal : Tick → Option Refusal
 tick_refusal clock = if clock.count == max_ticks then Some Jukebox else None
 
-abbrev pub read_refusal : FileState → Caller → Option Refusal
+abbrev pub read_refusal : StoredFile → Caller → Option Refusal
 read_refusal f caller = if may_read f caller then None else Some Acces
 
 -- what a WRITE of at least one byte is refused for, once its caller and its arguments are good
-abbrev pub room_refusal : ServerState → ℕ → FileState → ℕ → List ℕ → Option Refusal
+abbrev pub room_refusal : ServerState → ℕ → StoredFile → ℕ → List ℕ → Option Refusal
 room_refusal s index f at [] = None
 room_refusal s index f at (b ∷ bytes) =
     if nat_lt max_file (at + length (b ∷ bytes)) then Some Fbig
@@ -133,13 +133,13 @@ room_refusal s index f at (b ∷ bytes) =
     else tick_refusal s.clock)
 
 -- of a WRITE, whose arguments agree with each other or not
-abbrev pub write_refusal : ServerState → ℕ → FileState → Caller → Bool → ℕ → List ℕ → Option Refusal
+abbrev pub write_refusal : ServerState → ℕ → StoredFile → Caller → Bool → ℕ → List ℕ → Option Refusal
 write_refusal s index f caller agree at bytes =
     if not (may_write f caller) then Some Acces
     else (if not agree then Some Inval
     else room_refusal s index f at bytes)
 
-abbrev pub commit_refusal : FileState → Caller → Option Refusal
+abbrev pub commit_refusal : StoredFile → Caller → Option Refusal
 commit_refusal f caller = if may_write f caller then None else Some Acces
 
 -- the guard asks for another ctime (section 3.3.2)
@@ -148,7 +148,7 @@ differs None ctime = false
 differs (Some guard) ctime = not (guard.boot == ctime.boot && guard.count == ctime.count)
 
 -- of a SETATTR, whose arguments are such as can be set or not: only uid 0 may
-abbrev pub set_refusal : ServerState → FileState → Caller → Bool → Option Tick → Option Refusal
+abbrev pub set_refusal : ServerState → StoredFile → Caller → Bool → Option Tick → Option Refusal
 set_refusal s f caller agree guard =
     if not (caller.uid == 0) then Some Acces
     else (if not agree then Some Inval
@@ -156,10 +156,10 @@ set_refusal s f caller agree guard =
     else tick_refusal s.clock))
 
 -- at most `count` bytes of those that are shown, and whether they end where the file does
-abbrev pub bytes_read : FileState → ℕ → ℕ → List ℕ
+abbrev pub bytes_read : StoredFile → ℕ → ℕ → List ℕ
 bytes_read f at count = take (min count max_read) (drop at (shown f))
 
-abbrev pub ends_at : FileState → ℕ → List ℕ → Bool
+abbrev pub ends_at : StoredFile → ℕ → List ℕ → Bool
 ends_at f at bytes = nat_le (length (shown f)) (at + length bytes)
 
 -- ---- what a call does
@@ -171,10 +171,10 @@ pub data Effect : Type 0 where
   NewFile : (name : List ℕ) (owner group mode : ℕ) → Effect
 
 -- the server with another file in one's place, and another last tick
-abbrev pub with_file : ServerState → ℕ → FileState → Tick → ServerState
+abbrev pub with_file : ServerState → ℕ → StoredFile → Tick → ServerState
 with_file s index f clock = record { number = s.number; clock = clock; root = s.root; names = s.names; files = slice_set s.files index f }
 
-abbrev pub on_file : ServerState → ℕ → FileOp → Option FileState → ServerState
+abbrev pub on_file : ServerState → ℕ → FileOp → Option StoredFile → ServerState
 on_file s index op None = s
 on_file s index op (Some f) = with_file s index (file_after f s.clock op) (clock_after s.clock op)
 
@@ -182,7 +182,7 @@ on_file s index op (Some f) = with_file s index (file_after f s.clock op) (clock
 abbrev pub root_after : Times → Tick → Times
 root_after root tick = record { atime = root.atime; mtime = tick; ctime = tick }
 
-abbrev pub with_new : ServerState → List ℕ → FileState → ServerState
+abbrev pub with_new : ServerState → List ℕ → StoredFile → ServerState
 with_new s name f = record { number = s.number; clock = next_tick s.clock; root = root_after s.root (next_tick s.clock); names = s.names ++ name ∷ []; files = s.files ++ f ∷ [] }
 
 abbrev pub server_after : ServerState → Effect → ServerState
@@ -221,7 +221,7 @@ entries_of s uid (NewFile name owner group mode) = Owner (mirror_of s (length s.
 -- ---- a restart
 
 -- each file with its own pieces, from this fileid on
-abbrev pub files_restarted : ℕ → List FileState → List Piece → List FileState
+abbrev pub files_restarted : ℕ → List StoredFile → List Piece → List StoredFile
 files_restarted fileid [] pieces = []
 files_restarted fileid (f ∷ files) pieces = restarted f (pieces_of fileid pieces) ∷ files_restarted (fileid + 1) files pieces
 

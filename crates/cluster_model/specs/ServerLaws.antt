@@ -5,13 +5,13 @@ use Rattle.cluster_model.specs.declared.tick.Tick.{Tick}
 use Rattle.cluster_model.specs.declared.entry.Entry.{Entry}
 use Rattle.cluster_model.specs.declared.entry.Entry.TheVariants.{Restarted}
 use Rattle.cluster_model.specs.Ticks.{IsBefore, IsRising, next_tick}
-use Rattle.cluster_model.specs.File.{FileState, FileOp, Writes, Commits, Sets, Restarts}
+use Rattle.cluster_model.specs.File.{StoredFile, FileOp, Writes, Commits, Sets, Restarts}
 use Rattle.cluster_model.specs.Journal.{Copy, no_copy, copy_by, content_of}
 use Rattle.cluster_model.specs.Laws.{IsClocked}
 use Rattle.cluster_model.specs.Server.{ServerState, Caller, may_write, max_ticks, max_boot, mirror_of, Effect, NoEffect, OnFile, NewFile, server_after, entries_of, server_restarted}
 
 -- who may do it to a file, and that a tick is left where it takes one
-abbrev pub MayDo : Tick → FileState → Caller → FileOp → Type 0
+abbrev pub MayDo : Tick → StoredFile → Caller → FileOp → Type 0
 MayDo clock f caller (Writes at synced []) = may_write f caller ≡ true
 MayDo clock f caller (Writes at synced (b ∷ bytes)) = (may_write f caller ≡ true) × (clock.count ≢ max_ticks)
 MayDo clock f caller Commits = may_write f caller ≡ true
@@ -21,11 +21,11 @@ MayDo clock f caller (Restarts pieces) = ⊥
 -- a caller may do it to a server
 abbrev pub IsPermitted : ServerState → Caller → Effect → Type 0
 IsPermitted s caller NoEffect = Unit {0}
-IsPermitted s caller (OnFile index op) = (f : FileState) × (slice_get s.files index ≡ Some f) × MayDo s.clock f caller op
+IsPermitted s caller (OnFile index op) = (f : StoredFile) × (slice_get s.files index ≡ Some f) × MayDo s.clock f caller op
 IsPermitted s caller (NewFile name owner group mode) = (caller.uid ≡ 0) × (s.clock.count ≢ max_ticks)
 
 -- a file stays as it is when one calls who is neither uid 0 nor its owner
-abbrev pub IsSafe : ServerState → Caller → ℕ → FileState → ServerState → Type 0
+abbrev pub IsSafe : ServerState → Caller → ℕ → StoredFile → ServerState → Type 0
 IsSafe s caller index f new = slice_get s.files index ≡ Some f → caller.uid ≢ 0 → caller.uid ≢ f.owner → slice_get new.files index ≡ Some f
 
 -- One tick is taken or none, and never past the last. The server stays the same one in the same boot.
@@ -37,21 +37,21 @@ pub record IsTimed (s new : ServerState) : Type 0 where
 
 -- No file shows a ctime above the last tick, and a restart brings back none above the one that is shown.
 abbrev pub AreClocked : ServerState → Type 0
-AreClocked s = (index : ℕ) (f : FileState) → slice_get s.files index ≡ Some f → IsClocked f s.clock
+AreClocked s = (index : ℕ) (f : StoredFile) → slice_get s.files index ≡ Some f → IsClocked f s.clock
 
 -- ---- what the journal says of each file
 
-abbrev pub copy_of : FileState → Copy
+abbrev pub copy_of : StoredFile → Copy
 copy_of f = record { content = f.content; owner = f.owner }
 
 -- the bytes of a file and its owner, before and after, are what the entries make of them
 abbrev pub TellsOld : ServerState → ServerState → List Entry → Type 0
-TellsOld s new entries = (index : ℕ) (f : FileState) → slice_get s.files index ≡ Some f
-    → (g : FileState) × (slice_get new.files index ≡ Some g) × (copy_of g ≡ copy_by (mirror_of s index) (copy_of f) entries)
+TellsOld s new entries = (index : ℕ) (f : StoredFile) → slice_get s.files index ≡ Some f
+    → (g : StoredFile) × (slice_get new.files index ≡ Some g) × (copy_of g ≡ copy_by (mirror_of s index) (copy_of f) entries)
 
 -- the same of a file that was not there before
 abbrev pub TellsNew : ServerState → ServerState → List Entry → Type 0
-TellsNew s new entries = (index : ℕ) (g : FileState) → length s.files ≤ index → slice_get new.files index ≡ Some g → copy_of g ≡ copy_by (mirror_of s index) no_copy entries
+TellsNew s new entries = (index : ℕ) (g : StoredFile) → length s.files ≤ index → slice_get new.files index ≡ Some g → copy_of g ≡ copy_by (mirror_of s index) no_copy entries
 
 -- ---- restarts
 
@@ -121,4 +121,4 @@ HasRisingTicks s turns = AreAllowed s turns → IsRising (run_ticks s turns)
 
 -- The bytes and the owner of each file of a server that began with none are what its journal says.
 abbrev pub IsToldByJournal : ServerState → List Turn → Type 0
-IsToldByJournal s turns = AreAllowed s turns → (index : ℕ) (f : FileState) → slice_get (run_after s turns).files index ≡ Some f → copy_of f ≡ content_of (run_entries s turns) (mirror_of s index)
+IsToldByJournal s turns = AreAllowed s turns → (index : ℕ) (f : StoredFile) → slice_get (run_after s turns).files index ≡ Some f → copy_of f ≡ content_of (run_entries s turns) (mirror_of s index)

@@ -3,7 +3,7 @@
 
 ghost use Rattle.std.specs.Prelude.{◌≡◌, ℕ, List, [], Some};
 ghost use Rattle.cluster_model.specs.declared.piece.Piece.{Piece};
-ghost use Rattle.cluster_model.specs.File.{FileState};
+ghost use Rattle.cluster_model.specs.File.{StoredFile};
 ghost use Rattle.cluster_model.specs.Server.{ServerState, new_server, Caller, Effect, server_after, entries_of, restart_of};
 ghost use Rattle.cluster_model.specs.DsCalls.{DsCallValue, ds_plan, ds_step};
 ghost use Rattle.cluster_model.specs.GuardLaws.{IsInOrder, CallLaws, RestartLaws, IsTold};
@@ -12,7 +12,7 @@ ghost use Rattle.cluster_model.specs.ServerLaws.{IsPermitted, IsSafe, IsTimed, A
 /// What is done to a server by one who may: no stranger changes a file; it takes one tick or none, and no file
 /// shows a ctime above the last one; the entries say what came of each file's bytes and owner.
 pub fn server_effects()
-    ensures safe { (s : ServerState) (caller : Caller) (effect : Effect) → IsPermitted s caller effect → (index : ℕ) (f : FileState) → IsSafe s caller index f (server_after s effect) }
+    ensures safe { (s : ServerState) (caller : Caller) (effect : Effect) → IsPermitted s caller effect → (index : ℕ) (f : StoredFile) → IsSafe s caller index f (server_after s effect) }
     ensures timed { (s : ServerState) (caller : Caller) (effect : Effect) → IsPermitted s caller effect → IsTimed s (server_after s effect) }
     ensures clocked { (s : ServerState) (caller : Caller) (effect : Effect) → IsPermitted s caller effect → AreClocked s → AreClocked (server_after s effect) }
     ensures old { (s : ServerState) (caller : Caller) (effect : Effect) → IsPermitted s caller effect → TellsOld s (server_after s effect) (entries_of s caller.uid effect) }

@@ -9,7 +9,7 @@ use Rattle.data_file.specs.declared.file.TheConstants.{MAX_FILE}
 use Rattle.cluster_model.specs.declared.piece.Piece.{Piece}
 use Rattle.cluster_model.specs.declared.tick.Tick.{Tick}
 use Rattle.cluster_model.specs.Content.{overlay, overlay_all, joined, shown_of, piece_of, Pending, Content}
-use Rattle.cluster_model.specs.File.{FileState, shown, written, times_after}
+use Rattle.cluster_model.specs.File.{StoredFile, shown, written, times_after}
 use Rattle.cluster_model.proofs.Placing.{length-overlay-le, length-overlay-ge, length-overlay-end, take-drop-overlay, overlay_all_push}
 use Rattle.data_file.specs.Kept.{kept_content, IsKeptOf}
 use Rattle.data_file.specs.Undo.{Undo, undo_of, undone, write_of, unrolled, IsUndoable, AreUndoable, IsLogged}
@@ -107,7 +107,7 @@ pub logged_none : (xs : List ℕ) → length xs ≤ MAX_FILE → IsLogged [] xs
 logged_none xs h = record { undoable = tt; bounded = h }
 
 -- a write that is stable at once, by what is shown
-pub written_synced : (f : FileState) (xs : List ℕ) (tick : Tick) (at : ℕ) (bs : List ℕ) → shown f ≡ xs → written f tick at true bs ≡ record f { content = record { stable = overlay xs at bs; pending = [] }; times = times_after f.times tick bs; stable_times = times_after f.times tick bs }
+pub written_synced : (f : StoredFile) (xs : List ℕ) (tick : Tick) (at : ℕ) (bs : List ℕ) → shown f ≡ xs → written f tick at true bs ≡ record f { content = record { stable = overlay xs at bs; pending = [] }; times = times_after f.times tick bs; stable_times = times_after f.times tick bs }
 written_synced f xs tick at [] is = rw is refl
 written_synced f xs tick at (b ∷ bs) is = rw (overlay_all_push f.content.stable f.content.pending (record { at = at; bytes = b ∷ bs }), is) refl
 
@@ -175,16 +175,16 @@ stable_le stable [] = omega arith
 stable_le stable (w ∷ ws) = omega (arith, length-overlay-ge stable w.at w.bytes, stable_le (overlay stable w.at w.bytes) ws)
 
 -- what was kept of a file has no more bytes than it shows, and its writes are the pending ones
-pub kept_le : (f : FileState) (kept : Option Content) → IsKeptOf f kept → length (kept_content f.content kept).stable ≤ length (shown f)
+pub kept_le : (f : StoredFile) (kept : Option Content) → IsKeptOf f kept → length (kept_content f.content kept).stable ≤ length (shown f)
 kept_le f None k = stable_le f.content.stable f.content.pending
 kept_le f (Some kept) k = k.0
 
-kept_pending : (f : FileState) (kept : Option Content) → IsKeptOf f kept → (kept_content f.content kept).pending ≡ f.content.pending
+kept_pending : (f : StoredFile) (kept : Option Content) → IsKeptOf f kept → (kept_content f.content kept).pending ≡ f.content.pending
 kept_pending f None k = refl
 kept_pending f (Some kept) k = k.1
 
 -- what was kept of a file, with a piece more, is of the file
-pub kept_more : (f : FileState) (us : List Undo) (bytes : List ℕ) (p : Piece) (kept : Option Content) (start new : Content) → f.content ≡ unrolled us bytes → AreUndoable us bytes → IsKeptOf f kept → start ≡ kept_content (unrolled us bytes) kept
+pub kept_more : (f : StoredFile) (us : List Undo) (bytes : List ℕ) (p : Piece) (kept : Option Content) (start new : Content) → f.content ≡ unrolled us bytes → AreUndoable us bytes → IsKeptOf f kept → start ≡ kept_content (unrolled us bytes) kept
     → new ≡ record start { stable = overlay_all start.stable (piece_of p (slice_get start.pending p.index)) } → IsKeptOf f (Some new)
 kept_more f us bytes p kept start new content undoable k start_is new_is =
     let same : start ≡ kept_content f.content kept = start_is ∙ ap (λ (c : Content). kept_content c kept) (sym content) in

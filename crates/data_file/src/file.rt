@@ -108,10 +108,10 @@ pub struct DataFile {
 }
 
 impl Model for DataFile {
-    ghost use Rattle.cluster_model.specs.File.{FileState};
+    ghost use Rattle.cluster_model.specs.File.{StoredFile};
     ghost use Rattle.data_file.specs.Undo.{unrolled, IsLogged};
 
-    ghost Value = { FileState };
+    ghost Value = { StoredFile };
 
     ghost view = { λ f. record { content = unrolled f.log.items f.bytes.items; owner = f.owner; group = f.group; mode = f.mode; times = f.times; stable_times = f.stable_times } };
 

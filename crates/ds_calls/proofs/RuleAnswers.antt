@@ -5,7 +5,7 @@ use Rattle.cluster_model.specs.Ticks.{next_tick}
 use Rattle.std.proofs.lemmas.List.{length-take}
 use Rattle.std.proofs.lemmas.Option.{slice_get_within}
 use Rattle.cluster_model.specs.declared.tick.Tick.{Tick}
-use Rattle.cluster_model.specs.File.{FileState, taken}
+use Rattle.cluster_model.specs.File.{StoredFile, taken}
 use Rattle.cluster_model.specs.Server.{ServerState, Named, Nothing, Root, File, named, index_of, Caller, Refusal, Acces, Inval, NotSync as OutOfSync, Fbig, NoSpc, Jukebox, tick_refusal, may_read, may_write, max_ticks, max_file, max_total, total_size, read_refusal, room_refusal, write_refusal, commit_refusal, set_refusal, bytes_read, Effect}
 use Rattle.cluster_model.specs.DsCalls.{DsCallValue, Create, SetAttr, Write, Commit, Read, DsReplyValue, DsPlan, shown_by, refused, unless, write_at, commit_at, set_at, read_at, created_before, created_by, made_unless, mirror_name, ds_plan}
 use Rattle.ds_calls.specs.DsCallLaws.{IsAnswerTo}
@@ -18,23 +18,23 @@ either : (t : Bool) (a b : Option Refusal) → asks_again a ≡ false → asks_a
 either true a b p q = p
 either false a b p q = q
 
-room_again : (s : ServerState) (index : ℕ) (f : FileState) (at : ℕ) (bytes : List ℕ) → asks_again (room_refusal s index f at bytes) ≡ false
+room_again : (s : ServerState) (index : ℕ) (f : StoredFile) (at : ℕ) (bytes : List ℕ) → asks_again (room_refusal s index f at bytes) ≡ false
 room_again s index f at [] = refl
 room_again s index f at (b ∷ bytes) =
     let ticks = either (s.clock.count == max_ticks) (Some Jukebox) None refl refl in
     let rooms = either (nat_lt max_total (total_size (slice_set s.files index (taken f (next_tick s.clock) at (b ∷ bytes))))) (Some NoSpc) (tick_refusal s.clock) refl ticks in
     either (nat_lt max_file (at + length (b ∷ bytes))) (Some Fbig) _ refl rooms
 
-write_again : (s : ServerState) (index : ℕ) (f : FileState) (caller : Caller) (at : ℕ) (bytes : List ℕ) → asks_again (write_refusal s index f caller true at bytes) ≡ false
+write_again : (s : ServerState) (index : ℕ) (f : StoredFile) (caller : Caller) (at : ℕ) (bytes : List ℕ) → asks_again (write_refusal s index f caller true at bytes) ≡ false
 write_again s index f caller at bytes = either (not (may_write f caller)) (Some Acces) (room_refusal s index f at bytes) refl (room_again s index f at bytes)
 
-unless_answers : (call : DsCallValue) (f : FileState) (refusal : Option Refusal) (reply : DsReplyValue) (does : Effect)
+unless_answers : (call : DsCallValue) (f : StoredFile) (refusal : Option Refusal) (reply : DsReplyValue) (does : Effect)
     → ((r : Refusal) → refusal ≡ Some r → IsAnswerTo call (refused r (shown_by f))) → IsAnswerTo call reply → IsAnswerTo call (unless f refusal reply does).reply
 unless_answers call f None reply does refuses done = done
 unless_answers call f (Some r) reply does refuses done = refuses r refl
 
 -- a call whose refusals are all but NOT_SYNC
-plain_refusal : (call : DsCallValue) (refusal : Option Refusal) → asks_again refusal ≡ false → (f : FileState)
+plain_refusal : (call : DsCallValue) (refusal : Option Refusal) → asks_again refusal ≡ false → (f : StoredFile)
     → IsAnswerTo call (refused Acces (shown_by f)) → IsAnswerTo call (refused Inval (shown_by f)) → IsAnswerTo call (refused Fbig (shown_by f)) → IsAnswerTo call (refused NoSpc (shown_by f)) → IsAnswerTo call (refused Jukebox (shown_by f))
     → (r : Refusal) → refusal ≡ Some r → IsAnswerTo call (refused r (shown_by f))
 plain_refusal call refusal never f a i b n j Acces is = a
@@ -61,7 +61,7 @@ commit_answers s caller fileid Root = refl
 commit_answers s caller fileid (File index f) =
     unless_answers (Commit fileid) f (commit_refusal f caller) _ _ (plain_refusal (Commit fileid) (commit_refusal f caller) (either (may_write f caller) None (Some Acces) refl refl) f refl refl refl refl refl) tt
 
-few_bytes : (f : FileState) (at count : ℕ) → length (bytes_read f at count) ≤ count
+few_bytes : (f : StoredFile) (at count : ℕ) → length (bytes_read f at count) ≤ count
 few_bytes f at count = grind (arith, length-take)
 
 read_answers : (s : ServerState) (caller : Caller) (fileid at count : ℕ) (object : Named) → IsAnswerTo (Read fileid at count) (read_at s caller at count object).reply
@@ -87,7 +87,7 @@ plan_either : (call : DsCallValue) (t : Bool) (a b : DsPlan) → IsAnswerTo call
 plan_either call true a b p q = p
 plan_either call false a b p q = q
 
-before_answers : (s : ServerState) (name owner index : ℕ) (found : Option FileState) → slice_get s.files index ≡ found → length s.files + 2 < 2 ^ 64
+before_answers : (s : ServerState) (name owner index : ℕ) (found : Option StoredFile) → slice_get s.files index ≡ found → length s.files + 2 < 2 ^ 64
     → IsAnswerTo (Create name owner) (created_before index found).reply
 before_answers s name owner index None is room = refl
 before_answers s name owner index (Some f) is room = omega (arith, slice_get_within s.files index f is, room)

@@ -13,7 +13,7 @@ use Rattle.nfs3_wire.specs.declared.create.CreateHow.{CreateHow}
 use Rattle.nfs3_wire.specs.declared.create.CreateHow.TheVariants as how
 use Rattle.nfs3_wire.specs.Calls.{Nfs3Call, Null, GetAttr, SetAttr, Lookup, Read, Write, Create, FsInfo, Commit}
 use Rattle.cluster_model.specs.declared.tick.Tick.{Tick}
-use Rattle.cluster_model.specs.File.{FileState}
+use Rattle.cluster_model.specs.File.{StoredFile}
 use Rattle.cluster_model.specs.Server.{ServerState, Caller, Refusal, Acces, Inval, NotSync, max_ticks, differs, write_refusal, commit_refusal, set_refusal, tick_refusal, index_of, Effect, NoEffect}
 use Rattle.cluster_model.specs.ServerLaws.{IsPermitted}
 use Rattle.cluster_model.proofs.Permitted.{stops, not_false, tick_left, write_may, commit_may, set_may}
@@ -36,14 +36,14 @@ nothing : (s : ServerState) (call : Nfs3Call) (caller : Caller) → Follows s ca
 nothing s call caller = record { permitted = tt; asked = AsksNothing call }
 
 -- what holds of the object that a handle names, and that it names it
-at_handle : (files : List FileState) (handle : List ℕ) (P : Object → Type 0) → ((status : Stat3) → P (Missing status)) → (object_of files handle ≡ Root → P Root)
-    → ((index : ℕ) (f : FileState) → slice_get files index ≡ Some f → object_of files handle ≡ File index f → P (File index f)) → P (object_of files handle)
+at_handle : (files : List StoredFile) (handle : List ℕ) (P : Object → Type 0) → ((status : Stat3) → P (Missing status)) → (object_of files handle ≡ Root → P Root)
+    → ((index : ℕ) (f : StoredFile) → slice_get files index ≡ Some f → object_of files handle ≡ File index f → P (File index f)) → P (object_of files handle)
 at_handle files handle P missing root file =
     at_object files (λ (o : Object). object_of files handle ≡ o → P o) (λ status is. missing status) root file handle refl
 
 -- ---- WRITE
 
-write_at : (s : ServerState) (handle : List ℕ) (index : ℕ) (f : FileState) (offset count : ℕ) (how : StableHow) (bytes : List ℕ) (caller : Caller) → slice_get s.files index ≡ Some f → object_of s.files handle ≡ File index f
+write_at : (s : ServerState) (handle : List ℕ) (index : ℕ) (f : StoredFile) (offset count : ℕ) (how : StableHow) (bytes : List ℕ) (caller : Caller) → slice_get s.files index ≡ Some f → object_of s.files handle ≡ File index f
     → (refusal : Option Refusal) → write_refusal s index f caller (eqb count (length bytes)) offset bytes ≡ refusal → Follows s (Write handle offset count how bytes) caller (write_unless s index f offset how bytes refusal).effect
 write_at s handle index f offset count how bytes caller there names (Some refusal) is = nothing s (Write handle offset count how bytes) caller
 write_at s handle index f offset count how bytes caller there names None is =
@@ -55,14 +55,14 @@ write_at s handle index f offset count how bytes caller there names None is =
 
 -- ---- COMMIT
 
-commit_at : (s : ServerState) (handle : List ℕ) (index : ℕ) (f : FileState) (offset count : ℕ) (caller : Caller) → slice_get s.files index ≡ Some f → object_of s.files handle ≡ File index f
+commit_at : (s : ServerState) (handle : List ℕ) (index : ℕ) (f : StoredFile) (offset count : ℕ) (caller : Caller) → slice_get s.files index ≡ Some f → object_of s.files handle ≡ File index f
     → (refusal : Option Refusal) → commit_refusal f caller ≡ refusal → Follows s (Commit handle offset count) caller (commit_unless s index f refusal).effect
 commit_at s handle index f offset count caller there names (Some refusal) is = nothing s (Commit handle offset count) caller
 commit_at s handle index f offset count caller there names None is = record { permitted = (f, there, commit_may s.clock f caller is); asked = AsksCommit handle index f offset count names }
 
 -- ---- SETATTR
 
-set_at : (s : ServerState) (handle : List ℕ) (index : ℕ) (f : FileState) (a : Sattr3) (guard : Option Time3) (caller : Caller) → slice_get s.files index ≡ Some f → object_of s.files handle ≡ File index f
+set_at : (s : ServerState) (handle : List ℕ) (index : ℕ) (f : StoredFile) (a : Sattr3) (guard : Option Time3) (caller : Caller) → slice_get s.files index ≡ Some f → object_of s.files handle ≡ File index f
     → (refusal : Option Refusal) → set_refusal s f caller (not (is_some a.size)) (option_map tick_of guard) ≡ refusal → Follows s (SetAttr handle a guard) caller (set_unless s index f (changes_of a) refusal).effect
 set_at s handle index f a guard caller there names (Some refusal) is = nothing s (SetAttr handle a guard) caller
 set_at s handle index f a guard caller there names None is =

@@ -8,7 +8,7 @@ use Rattle.cluster_model.specs.declared.tick.Tick.{Tick}
 use Rattle.cluster_model.specs.declared.change.Changes.{Changes}
 use Rattle.cluster_model.specs.Ticks.{next_tick}
 use Rattle.cluster_model.specs.Content.{overlay}
-use Rattle.cluster_model.specs.File.{FileState, FileOp, Writes, Commits, Sets, shown, written, committed, file_after, clock_after, set as set_attributes}
+use Rattle.cluster_model.specs.File.{StoredFile, FileOp, Writes, Commits, Sets, shown, written, committed, file_after, clock_after, set as set_attributes}
 use Rattle.cluster_model.specs.Server.{max_total, max_ticks, OnFile, on_file}
 use Rattle.cluster_model.proofs.Placing.{length-overlay}
 use Rattle.cluster_model.proofs.Files.{shown-written}
@@ -18,18 +18,18 @@ use Rattle.ds_files.specs.CodePlans.{HasRoom, IsReady, IsCarriedOut, head_after,
 use Rattle.ds_files.proofs.Places.{size_le_total}
 
 -- one file is changed: the sizes together, and the count of ticks
-pub keeps_sizes : (h : Head) (files : List FileState) (index : ℕ) (f file : FileState) (clock : Tick) → IsServer h files → f ≡ get_or files index f → index < length files
+pub keeps_sizes : (h : Head) (files : List StoredFile) (index : ℕ) (f file : StoredFile) (clock : Tick) → IsServer h files → f ≡ get_or files index f → index < length files
     → h.total - length (shown f) + length (shown file) ≤ max_total → clock.count ≤ max_ticks → IsServer (record h { clock = clock; total = h.total - length (shown f) + length (shown file) }) (set files index file)
 keeps_sizes h files index f file clock k is lt room le =
     let there = slice_get_read files (length files) index f refl lt is in
-    let one = sum_by-set (λ (g : FileState). length (shown g)) files index file f lt in
-    let old : length (shown (get_or files index f)) ≡ length (shown f) = ap (λ (g : FileState). length (shown g)) (sym is) in
+    let one = sum_by-set (λ (g : StoredFile). length (shown g)) files index file f lt in
+    let old : length (shown (get_or files index f)) ≡ length (shown f) = ap (λ (g : StoredFile). length (shown g)) (sym is) in
     let total = k.total in
     let part = size_le_total files index f there in
     record { total = omega (arith, one, old, total, part); bounded = room; ticks = le; named = k.named ∙ sym (length-set files index file) }
 
 -- the state after what is done to the file at an index
-state_is : (h h' : Head) (files : List FileState) (index : ℕ) (f file : FileState) (op : FileOp) → f ≡ get_or files index f → index < length files → file ≡ file_after f h.clock op
+state_is : (h h' : Head) (files : List StoredFile) (index : ℕ) (f file : StoredFile) (op : FileOp) → f ≡ get_or files index f → index < length files → file ≡ file_after f h.clock op
     → h'.number ≡ h.number → h'.clock ≡ clock_after h.clock op → h'.root ≡ h.root → h'.names ≡ h.names → server_of h' (set files index file) ≡ on_file (server_of h files) index op (slice_get files index)
 state_is h h' files index f file op is lt made number clock root names =
     let there : slice_get files index ≡ Some f = slice_get_read files (length files) index f refl lt is in
@@ -54,19 +54,19 @@ clock_is : (clock : Tick) (at : ℕ) (synced : Bool) (bytes : List ℕ) → cloc
 clock_is clock at synced [] = refl
 clock_is clock at synced (b ∷ bytes) = refl
 
-module _ (h : Head) (files : List FileState) (index : ℕ) (f : FileState) (at : ℕ) (synced : Bool) (bytes : List ℕ) (k : IsServer h files) (is : f ≡ get_or files index f) (ready : IsReady h files (OnFile index (Writes at synced bytes))) where
+module _ (h : Head) (files : List StoredFile) (index : ℕ) (f : StoredFile) (at : ℕ) (synced : Bool) (bytes : List ℕ) (k : IsServer h files) (is : f ≡ get_or files index f) (ready : IsReady h files (OnFile index (Writes at synced bytes))) where
   pub room_of : HasRoom h (length (shown f)) at (length bytes)
   room_of = ready.1 f (slice_get_read files (length files) index f refl ready.0 is)
 
-  pub bounded_after : (file : FileState) → file ≡ written f (next_tick h.clock) at synced bytes → h.total - length (shown f) + length (shown file) ≤ max_total
+  pub bounded_after : (file : StoredFile) → file ≡ written f (next_tick h.clock) at synced bytes → h.total - length (shown f) + length (shown file) ≤ max_total
   bounded_after file made =
       let there = slice_get_read files (length files) index f refl ready.0 is in
-      let size : length (shown file) ≡ length (overlay (shown f) at bytes) = ap (λ (g : FileState). length (shown g)) made ∙ ap length (shown-written f (next_tick h.clock) at synced bytes) in
+      let size : length (shown file) ≡ length (overlay (shown f) at bytes) = ap (λ (g : StoredFile). length (shown g)) made ∙ ap length (shown-written f (next_tick h.clock) at synced bytes) in
       let total = k.total in
       let part : length (shown f) ≤ h.total = omega (arith, size_le_total files index f there, total) in
       omega (arith, size, room_after h at (shown f) bytes part k.bounded room_of)
 
-  pub writes : (file : FileState) → file ≡ written f (next_tick h.clock) at synced bytes → IsCarriedOut h files (OnFile index (Writes at synced bytes)) (head_after h (length (shown f)) (length (shown file)) bytes) (set files index file)
+  pub writes : (file : StoredFile) → file ≡ written f (next_tick h.clock) at synced bytes → IsCarriedOut h files (OnFile index (Writes at synced bytes)) (head_after h (length (shown f)) (length (shown file)) bytes) (set files index file)
   writes file made =
       let h' = head_after h (length (shown f)) (length (shown file)) bytes in
       record {
@@ -76,24 +76,24 @@ module _ (h : Head) (files : List FileState) (index : ℕ) (f : FileState) (at :
 
 -- ---- COMMIT and SETATTR, which show as many bytes as before
 
-same_total : (h : Head) (files : List FileState) (index : ℕ) (f file : FileState) (clock : Tick) → IsServer h files → f ≡ get_or files index f → index < length files → length (shown file) ≡ length (shown f) → clock.count ≤ max_ticks
+same_total : (h : Head) (files : List StoredFile) (index : ℕ) (f file : StoredFile) (clock : Tick) → IsServer h files → f ≡ get_or files index f → index < length files → length (shown file) ≡ length (shown f) → clock.count ≤ max_ticks
     → IsServer (record h { clock = clock }) (set files index file)
 same_total h files index f file clock k is lt same le =
     let there = slice_get_read files (length files) index f refl lt is in
-    let one = sum_by-set (λ (g : FileState). length (shown g)) files index file f lt in
-    let old : length (shown (get_or files index f)) ≡ length (shown f) = ap (λ (g : FileState). length (shown g)) (sym is) in
+    let one = sum_by-set (λ (g : StoredFile). length (shown g)) files index file f lt in
+    let old : length (shown (get_or files index f)) ≡ length (shown f) = ap (λ (g : StoredFile). length (shown g)) (sym is) in
     let total = k.total in
     let part = size_le_total files index f there in
     record { total = omega (arith, one, old, total, part, same); bounded = k.bounded; ticks = le; named = k.named ∙ sym (length-set files index file) }
 
-pub commits : (h : Head) (files : List FileState) (index : ℕ) (f file : FileState) → IsServer h files → f ≡ get_or files index f → index < length files → file ≡ committed f → IsCarriedOut h files (OnFile index Commits) h (set files index file)
+pub commits : (h : Head) (files : List StoredFile) (index : ℕ) (f file : StoredFile) → IsServer h files → f ≡ get_or files index f → index < length files → file ≡ committed f → IsCarriedOut h files (OnFile index Commits) h (set files index file)
 commits h files index f file k is lt made =
-    let size : length (shown file) ≡ length (shown f) = ap (λ (x : FileState). length (shown x)) made in
+    let size : length (shown file) ≡ length (shown f) = ap (λ (x : StoredFile). length (shown x)) made in
     record { state = state_is h h files index f file Commits is lt made refl refl refl refl; keeps = same_total h files index f file h.clock k is lt size k.ticks }
 
-pub sets : (h : Head) (files : List FileState) (index : ℕ) (f file : FileState) (changes : Changes) → IsServer h files → f ≡ get_or files index f → index < length files → h.clock.count < max_ticks
+pub sets : (h : Head) (files : List StoredFile) (index : ℕ) (f file : StoredFile) (changes : Changes) → IsServer h files → f ≡ get_or files index f → index < length files → h.clock.count < max_ticks
     → file ≡ set_attributes f (next_tick h.clock) changes → IsCarriedOut h files (OnFile index (Sets changes)) (record h { clock = next_tick h.clock }) (set files index file)
 sets h files index f file changes k is lt less made =
-    let size : length (shown file) ≡ length (shown f) = ap (λ (x : FileState). length (shown x)) made in
+    let size : length (shown file) ≡ length (shown f) = ap (λ (x : StoredFile). length (shown x)) made in
     let h' : Head = record h { clock = next_tick h.clock } in
     record { state = state_is h h' files index f file (Sets changes) is lt made refl refl refl refl; keeps = same_total h files index f file (next_tick h.clock) k is lt size (omega (arith, less)) }

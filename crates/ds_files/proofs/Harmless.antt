@@ -9,7 +9,7 @@ use Rattle.cluster_model.specs.declared.change.Changes.{Changes}
 use Rattle.cluster_model.specs.declared.entry.Entry.{Entry}
 use Rattle.cluster_model.specs.declared.ids.NodeId.{NodeId}
 use Rattle.cluster_model.specs.declared.outbox.Outbox.{Outbox}
-use Rattle.cluster_model.specs.File.{FileState}
+use Rattle.cluster_model.specs.File.{StoredFile}
 use Rattle.cluster_model.specs.Server.{ServerState, Caller, Refusal, NoEffect, server_after, write_refusal, commit_refusal, set_refusal}
 use Rattle.nfs3_wire.specs.Replies.{Nfs3Reply}
 use Rattle.ds_files.specs.declared.journal.Journal.{Journal}
@@ -29,15 +29,15 @@ use Rattle.ds_files.proofs.AtObject.{at_object}
 abbrev IsHarmless : Plan → Type 0
 IsHarmless p = IsRefusedReply p.reply → p.effect ≡ NoEffect
 
-write_at : (s : ServerState) (index : ℕ) (f : FileState) (offset : ℕ) (how : StableHow) (bytes : List ℕ) (refusal : Option Refusal) → IsHarmless (write_unless s index f offset how bytes refusal)
+write_at : (s : ServerState) (index : ℕ) (f : StoredFile) (offset : ℕ) (how : StableHow) (bytes : List ℕ) (refusal : Option Refusal) → IsHarmless (write_unless s index f offset how bytes refusal)
 write_at s index f offset how bytes (Some refusal) h = refl
 write_at s index f offset how bytes None h = absurd h
 
-set_at : (s : ServerState) (index : ℕ) (f : FileState) (changes : Changes) (refusal : Option Refusal) → IsHarmless (set_unless s index f changes refusal)
+set_at : (s : ServerState) (index : ℕ) (f : StoredFile) (changes : Changes) (refusal : Option Refusal) → IsHarmless (set_unless s index f changes refusal)
 set_at s index f changes (Some refusal) h = refl
 set_at s index f changes None h = absurd h
 
-commit_at : (s : ServerState) (index : ℕ) (f : FileState) (refusal : Option Refusal) → IsHarmless (commit_unless s index f refusal)
+commit_at : (s : ServerState) (index : ℕ) (f : StoredFile) (refusal : Option Refusal) → IsHarmless (commit_unless s index f refusal)
 commit_at s index f (Some refusal) h = refl
 commit_at s index f None h = absurd h
 

@@ -8,7 +8,7 @@ use Rattle.std.proofs.Math.Seq.{take-length}
 use Rattle.std.proofs.lemmas.Option.{same_Some, slice_get_within, slice_get_past}
 use Rattle.cluster_model.specs.declared.piece.Piece.{Piece}
 use Rattle.cluster_model.specs.Content.{Content, Pending, overlay, overlay_all, piece_of, kept_of, survived, pieces_of}
-use Rattle.cluster_model.specs.File.{FileState}
+use Rattle.cluster_model.specs.File.{StoredFile}
 use Rattle.data_file.specs.Kept.{IsKeptOf, crashed}
 use Rattle.ds_files.specs.Kept.{disk_of, AreBounded, AreKept, KeepsPiece, IsOf, all_crashed}
 use Rattle.cluster_model.proofs.Elements.{slice_get-set_other}
@@ -21,13 +21,13 @@ is_none zero i k e = absurd (cc)
 is_none (suc n) zero k e = sym (same_Some None k e)
 is_none (suc n) (suc i) k e = is_none n i k e
 
-pub none_bounded : (files : List FileState) (kept : List (Option Content)) → kept ≡ replicate {A = Option Content} (length files) None → AreBounded files kept
+pub none_bounded : (files : List StoredFile) (kept : List (Option Content)) → kept ≡ replicate {A = Option Content} (length files) None → AreBounded files kept
 none_bounded files kept is = record {
   size = ap length is ∙ length-replicate (length files) None;
   each = λ i f k there found. rw (is_none (length files) i k (sym (ap (λ (ks : List (Option Content)). slice_get ks i) is) ∙ found)) tt;
 }
 
-pub none_kept : (files : List FileState) (kept : List (Option Content)) → kept ≡ replicate {A = Option Content} (length files) None → AreKept files [] kept
+pub none_kept : (files : List StoredFile) (kept : List (Option Content)) → kept ≡ replicate {A = Option Content} (length files) None → AreKept files [] kept
 none_kept files kept is i f k there found = rw (is_none (length files) i k (sym (ap (λ (ks : List (Option Content)). slice_get ks i) is) ∙ found)) refl
 
 -- ---- one piece more
@@ -60,23 +60,23 @@ overlay_all_append s [] b = refl
 overlay_all_append s (w ∷ a) b = overlay_all_append (overlay s w.at w.bytes) a b
 
 -- what the stable bytes are once one piece more has reached them
-survived_push : (f : FileState) (pieces : List Piece) (p : Piece) → (survived f.content (pieces ++ p ∷ [])).stable ≡ overlay_all (survived f.content pieces).stable (piece_of p (slice_get f.content.pending p.index))
+survived_push : (f : StoredFile) (pieces : List Piece) (p : Piece) → (survived f.content (pieces ++ p ∷ [])).stable ≡ overlay_all (survived f.content pieces).stable (piece_of p (slice_get f.content.pending p.index))
 survived_push f pieces p =
     ap (overlay_all f.content.stable) (flat_map_push (λ q. piece_of q (slice_get f.content.pending q.index)) pieces p)
     ∙ overlay_all_append f.content.stable (kept_of f.content.pending pieces) (piece_of p (slice_get f.content.pending p.index))
 
 -- the piece is of no file
-pub keeps_none : (files : List FileState) (p : Piece) (kept : List (Option Content)) → AreBounded files kept → IsOf files p None → KeepsPiece files p kept kept
+pub keeps_none : (files : List StoredFile) (p : Piece) (kept : List (Option Content)) → AreBounded files kept → IsOf files p None → KeepsPiece files p kept kept
 keeps_none files p kept bounded of = record {
   bounded = bounded;
   kept = λ pieces all i f k there found. all i f k there found ∙ ap (λ ps. (survived f.content ps).stable) (sym (pieces_other (i + 2) pieces p (of i (slice_get_within files i f there))));
 }
 
 -- it is of a file
-module _ (files : List FileState) (p : Piece) (old new : List (Option Content)) (j : ℕ) (g : FileState) (before after : Option Content) (bounded : AreBounded files old)
+module _ (files : List StoredFile) (p : Piece) (old new : List (Option Content)) (j : ℕ) (g : StoredFile) (before after : Option Content) (bounded : AreBounded files old)
     (of : p.fileid ≡ j + 2) (file : slice_get files j ≡ Some g) (was : slice_get old j ≡ Some before) (size : length new ≡ length old) (here : slice_get new j ≡ Some after) (others : (i : ℕ) → i ≢ j → slice_get new i ≡ slice_get old i)
     (bytes : disk_of g after ≡ overlay_all (disk_of g before) (piece_of p (slice_get g.content.pending p.index))) (of_it : IsKeptOf g after) where
-  bounded_at : (i : ℕ) (f : FileState) (k : Option Content) → slice_get files i ≡ Some f → slice_get new i ≡ Some k → IsKeptOf f k
+  bounded_at : (i : ℕ) (f : StoredFile) (k : Option Content) → slice_get files i ≡ Some f → slice_get new i ≡ Some k → IsKeptOf f k
   bounded_at i f k there found =
       elim (cases_eq i j) [
         | inl same ↦
@@ -86,7 +86,7 @@ module _ (files : List FileState) (p : Piece) (old new : List (Option Content)) 
         | inr other ↦ bounded.each i f k there (sym (others i other) ∙ found)
       ]
 
-  kept_at : (pieces : List Piece) → AreKept files pieces old → (i : ℕ) (f : FileState) (k : Option Content) → slice_get files i ≡ Some f → slice_get new i ≡ Some k → disk_of f k ≡ (survived f.content (pieces_of (i + 2) (pieces ++ p ∷ []))).stable
+  kept_at : (pieces : List Piece) → AreKept files pieces old → (i : ℕ) (f : StoredFile) (k : Option Content) → slice_get files i ≡ Some f → slice_get new i ≡ Some k → disk_of f k ≡ (survived f.content (pieces_of (i + 2) (pieces ++ p ∷ []))).stable
   kept_at pieces all i f k there found =
       elim (cases_eq i j) [
         | inl same ↦
@@ -109,20 +109,20 @@ module _ (files : List FileState) (p : Piece) (old new : List (Option Content)) 
 -- ---- all files, from the last to the first
 
 -- the last are done, and the first are as they were
-pub record IsHalfDone (old : List FileState) (all : List (Option Content)) (files : List FileState) (kept : List (Option Content)) : Type 0 where
+pub record IsHalfDone (old : List StoredFile) (all : List (Option Content)) (files : List StoredFile) (kept : List (Option Content)) : Type 0 where
   pub size : length files ≡ length old
   pub within : length kept ≤ length old
   pub left : kept ≡ take (length kept) all
   pub first : (i : ℕ) → i < length kept → slice_get files i ≡ slice_get old i
   pub last : (i : ℕ) → length kept ≤ i → slice_get files i ≡ slice_get (all_crashed old all) i
 
-pub length-all_crashed : (files : List FileState) (kept : List (Option Content)) → length kept ≡ length files → length (all_crashed files kept) ≡ length files
+pub length-all_crashed : (files : List StoredFile) (kept : List (Option Content)) → length kept ≡ length files → length (all_crashed files kept) ≡ length files
 length-all_crashed [] [] e = refl
 length-all_crashed [] (k ∷ kept) e = absurd (omega arith)
 length-all_crashed (f ∷ files) [] e = absurd (omega arith)
 length-all_crashed (f ∷ files) (k ∷ kept) e = ap suc (length-all_crashed files kept (omega arith))
 
-pub crashed_at : (files : List FileState) (kept : List (Option Content)) (i : ℕ) (f : FileState) (k : Option Content) → slice_get files i ≡ Some f → slice_get kept i ≡ Some k → slice_get (all_crashed files kept) i ≡ Some (crashed f (disk_of f k))
+pub crashed_at : (files : List StoredFile) (kept : List (Option Content)) (i : ℕ) (f : StoredFile) (k : Option Content) → slice_get files i ≡ Some f → slice_get kept i ≡ Some k → slice_get (all_crashed files kept) i ≡ Some (crashed f (disk_of f k))
 crashed_at [] kept i f k there found = absurd (cc)
 crashed_at (g ∷ files) [] i f k there found = absurd (cc)
 crashed_at (g ∷ files) (h ∷ kept) zero f k there found = rw (same_Some g f there, same_Some h k found) refl
@@ -145,7 +145,7 @@ front_of (a ∷ all) (r ∷ rest) k e =
     (rw (same_Some r a head, ← tail.0) refl, tail.1)
 
 -- before the first
-pub begins : (files : List FileState) (kept : List (Option Content)) → length kept ≡ length files → IsHalfDone files kept files kept
+pub begins : (files : List StoredFile) (kept : List (Option Content)) → length kept ≡ length files → IsHalfDone files kept files kept
 begins files kept e = record {
   size = refl;
   within = omega (arith, e);
@@ -155,11 +155,11 @@ begins files kept e = record {
 }
 
 -- once all are done
-pub ends : (old : List FileState) (all : List (Option Content)) (files : List FileState) (kept : List (Option Content)) → length kept ≡ 0 → IsHalfDone old all files kept → files ≡ all_crashed old all
+pub ends : (old : List StoredFile) (all : List (Option Content)) (files : List StoredFile) (kept : List (Option Content)) → length kept ≡ 0 → IsHalfDone old all files kept → files ≡ all_crashed old all
 ends old all files kept e h = same_elements files (all_crashed old all) (λ i. h.last i (omega (arith, e)))
 
 -- one file more
-pub one_more : (old : List FileState) (all : List (Option Content)) (files : List FileState) (kept rest : List (Option Content)) (f : FileState) (k : Option Content) → IsHalfDone old all files kept → kept ≡ rest ++ k ∷ []
+pub one_more : (old : List StoredFile) (all : List (Option Content)) (files : List StoredFile) (kept rest : List (Option Content)) (f : StoredFile) (k : Option Content) → IsHalfDone old all files kept → kept ≡ rest ++ k ∷ []
     → slice_get files (length rest) ≡ Some f → IsHalfDone old all (set files (length rest) (crashed f (disk_of f k))) rest
 one_more old all files kept rest f k h is there =
     let n = length rest in
@@ -167,7 +167,7 @@ one_more old all files kept rest f k h is there =
     let front = front_of all rest k (sym is ∙ h.left ∙ ap (λ m. take m all) long) in
     let was : slice_get old n ≡ Some f = sym (h.first n (omega (arith, long))) ∙ there in
     let within = h.within in
-    let done : FileState = crashed f (disk_of f k) in
+    let done : StoredFile = crashed f (disk_of f k) in
     record {
       size = length-set files n done ∙ h.size;
       within = omega (arith, long, within);
@@ -180,7 +180,7 @@ one_more old all files kept rest f k h is there =
     }
 
 -- what was kept for a file that is not yet done is of it
-pub bounded_next : (old : List FileState) (all : List (Option Content)) (files : List FileState) (kept rest : List (Option Content)) (f : FileState) (k : Option Content) → IsHalfDone old all files kept → kept ≡ rest ++ k ∷ [] → AreBounded old all
+pub bounded_next : (old : List StoredFile) (all : List (Option Content)) (files : List StoredFile) (kept rest : List (Option Content)) (f : StoredFile) (k : Option Content) → IsHalfDone old all files kept → kept ≡ rest ++ k ∷ [] → AreBounded old all
     → slice_get files (length rest) ≡ Some f → IsKeptOf f k
 bounded_next old all files kept rest f k h is bounded there =
     let n = length rest in

@@ -5,7 +5,7 @@ use Rattle.std.proofs.lemmas.List.Sums.{sum_by-cons}
 use Rattle.cluster_model.specs.declared.piece.Piece.{Piece}
 use Rattle.cluster_model.specs.Ticks.{rebooted}
 use Rattle.cluster_model.specs.Content.{Content, survived, pieces_of}
-use Rattle.cluster_model.specs.File.{FileState, shown}
+use Rattle.cluster_model.specs.File.{StoredFile, shown}
 use Rattle.data_file.specs.Kept.{crashed}
 use Rattle.data_file.proofs.Undoing.{kept_le}
 use Rattle.ds_files.specs.declared.head.Head.{Head}
@@ -16,8 +16,8 @@ use Rattle.ds_files.specs.Kept.{disk_of, AreBounded, AreKept, all_crashed}
 use Rattle.ds_files.proofs.Keeping.{length-all_crashed}
 
 -- what was kept is what the rule keeps, from any fileid on
-all_from : (n : ℕ) (files : List FileState) (kept : List (Option Content)) (pieces : List Piece) → length kept ≡ length files
-    → ((i : ℕ) (f : FileState) (k : Option Content) → slice_get files i ≡ Some f → slice_get kept i ≡ Some k → disk_of f k ≡ (survived f.content (pieces_of (i + n) pieces)).stable)
+all_from : (n : ℕ) (files : List StoredFile) (kept : List (Option Content)) (pieces : List Piece) → length kept ≡ length files
+    → ((i : ℕ) (f : StoredFile) (k : Option Content) → slice_get files i ≡ Some f → slice_get kept i ≡ Some k → disk_of f k ≡ (survived f.content (pieces_of (i + n) pieces)).stable)
     → all_crashed files kept ≡ files_restarted n files pieces
 all_from n [] [] pieces size h = refl
 all_from n [] (k ∷ kept) pieces size h = absurd (omega arith)
@@ -28,26 +28,26 @@ all_from n (f ∷ files) (k ∷ kept) pieces size h =
     let others = all_from (n + 1) files kept pieces (omega arith) (λ i g m there found. let next : suc i + n ≡ i + (n + 1) = omega arith in h (suc i) g m there found ∙ ap (λ m'. (survived g.content (pieces_of m' pieces)).stable) next) in
     rw (first, others) refl
 
-pub all_restarted : (files : List FileState) (kept : List (Option Content)) (pieces : List Piece) → AreBounded files kept → AreKept files pieces kept → all_crashed files kept ≡ files_restarted 2 files pieces
+pub all_restarted : (files : List StoredFile) (kept : List (Option Content)) (pieces : List Piece) → AreBounded files kept → AreKept files pieces kept → all_crashed files kept ≡ files_restarted 2 files pieces
 all_restarted files kept pieces bounded are = all_from 2 files kept pieces bounded.size are
 
 -- no file shows more
-fewer : (files : List FileState) (kept : List (Option Content)) → ((i : ℕ) (f : FileState) (k : Option Content) → slice_get files i ≡ Some f → slice_get kept i ≡ Some k → length (disk_of f k) ≤ length (shown f))
+fewer : (files : List StoredFile) (kept : List (Option Content)) → ((i : ℕ) (f : StoredFile) (k : Option Content) → slice_get files i ≡ Some f → slice_get kept i ≡ Some k → length (disk_of f k) ≤ length (shown f))
     → total_size (all_crashed files kept) ≤ total_size files
 fewer [] kept h = omega arith
 fewer (f ∷ files) [] h = omega arith
 fewer (f ∷ files) (k ∷ kept) h =
     let first : length (disk_of f k) ≤ length (shown f) = h 0 f k refl refl in
     let others = fewer files kept (λ i g m there found. h (suc i) g m there found) in
-    let old : total_size (f ∷ files) ≡ length (shown f) + total_size files = sum_by-cons (λ (g : FileState). length (shown g)) f files in
-    let new : total_size (all_crashed (f ∷ files) (k ∷ kept)) ≡ length (disk_of f k) + total_size (all_crashed files kept) = sum_by-cons (λ (g : FileState). length (shown g)) (crashed f (disk_of f k)) (all_crashed files kept) in
+    let old : total_size (f ∷ files) ≡ length (shown f) + total_size files = sum_by-cons (λ (g : StoredFile). length (shown g)) f files in
+    let new : total_size (all_crashed (f ∷ files) (k ∷ kept)) ≡ length (disk_of f k) + total_size (all_crashed files kept) = sum_by-cons (λ (g : StoredFile). length (shown g)) (crashed f (disk_of f k)) (all_crashed files kept) in
     omega (arith, first, others, old, new)
 
-pub fewer_bytes : (files : List FileState) (kept : List (Option Content)) → AreBounded files kept → total_size (all_crashed files kept) ≤ total_size files
+pub fewer_bytes : (files : List StoredFile) (kept : List (Option Content)) → AreBounded files kept → total_size (all_crashed files kept) ≤ total_size files
 fewer_bytes files kept bounded = fewer files kept (λ i f k there found. kept_le f k (bounded.each i f k there found))
 
 -- what holds of every server holds after a restart
-pub keeps : (h : Head) (files : List FileState) (kept : List (Option Content)) (total : ℕ) → IsServer h files → AreBounded files kept → total ≡ total_size (all_crashed files kept)
+pub keeps : (h : Head) (files : List StoredFile) (kept : List (Option Content)) (total : ℕ) → IsServer h files → AreBounded files kept → total ≡ total_size (all_crashed files kept)
     → IsServer (record h { clock = rebooted h.clock; total = total }) (all_crashed files kept)
 keeps h files kept total k bounded is =
     let old = k.total in

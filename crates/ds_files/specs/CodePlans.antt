@@ -4,7 +4,7 @@ use Rattle.nfs3_wire.specs.declared.create.CreateArgs.{CreateArgs}
 use Rattle.rpc_record.specs.declared.auth.AuthSys.{AuthSys}
 use Rattle.cluster_model.specs.declared.tick.Tick.{Tick}
 use Rattle.cluster_model.specs.Ticks.{next_tick}
-use Rattle.cluster_model.specs.File.{FileState, FileOp, Writes, Commits, Sets, Restarts, shown}
+use Rattle.cluster_model.specs.File.{StoredFile, FileOp, Writes, Commits, Sets, Restarts, shown}
 use Rattle.cluster_model.specs.Server.{Effect as Effected, NoEffect, OnFile, NewFile, server_after, max_total, max_file, max_ticks, index_of}
 use Rattle.ds_files.specs.declared.head.Head.{Head}
 use Rattle.ds_files.specs.declared.plan.Effect.{Effect}
@@ -35,7 +35,7 @@ pub record HasRoom (h : Head) (size at len : ℕ) : Type 0 where
   pub room : 0 < len → h.total - size + max size (at + len) ≤ max_total
   pub tick : 0 < len → h.clock.count < max_ticks
 
-abbrev pub HasRoomFor : Head → FileState → FileOp → Type 0
+abbrev pub HasRoomFor : Head → StoredFile → FileOp → Type 0
 HasRoomFor h f (Writes at synced bytes) = HasRoom h (length (shown f)) at (length bytes)
 HasRoomFor h f Commits = Unit {0}
 HasRoomFor h f (Sets changes) = Unit {0}
@@ -48,17 +48,17 @@ HasTickFor h Commits = Unit {0}
 HasTickFor h (Sets changes) = h.clock.count < max_ticks
 HasTickFor h (Restarts pieces) = ⊥
 
-abbrev pub IsReady : Head → List FileState → Effected → Type 0
+abbrev pub IsReady : Head → List StoredFile → Effected → Type 0
 IsReady h files NoEffect = Unit {0}
-IsReady h files (OnFile index op) = (index < length files) × ((f : FileState) → slice_get files index ≡ Some f → HasRoomFor h f op) × HasTickFor h op
+IsReady h files (OnFile index op) = (index < length files) × ((f : StoredFile) → slice_get files index ≡ Some f → HasRoomFor h f op) × HasTickFor h op
 IsReady h files (NewFile name owner group mode) = (h.clock.count < max_ticks) × (index_of h.names name ≡ None)
 
 -- the plan of a call on the file at an index, by the file
-abbrev pub IsPlanOn : List FileState → ℕ → (FileState → Plan) → DeclaredPlan → Type 0
-IsPlanOn files index plan p = (f : FileState) → slice_get files index ≡ Some f → plain_plan p ≡ plan f
+abbrev pub IsPlanOn : List StoredFile → ℕ → (StoredFile → Plan) → DeclaredPlan → Type 0
+IsPlanOn files index plan p = (f : StoredFile) → slice_get files index ≡ Some f → plain_plan p ≡ plan f
 
 -- what was to be done is done, and the server is one
-pub record IsCarriedOut (h : Head) (files : List FileState) (effect : Effected) (h' : Head) (files' : List FileState) : Type 0 where
+pub record IsCarriedOut (h : Head) (files : List StoredFile) (effect : Effected) (h' : Head) (files' : List StoredFile) : Type 0 where
   pub state : server_of h' files' ≡ server_after (server_of h files) effect
   pub keeps : IsServer h' files'
 

@@ -2,12 +2,12 @@
 use Rattle.std.specs.Prelude.{ℕ, ◌+◌, Option, Some, None}
 use Rattle.nfs3_wire.specs.declared.status.Stat3.TheVariants as stat
 use Rattle.nfs3_wire.specs.Replies.{CommitDone, CommitRefused}
-use Rattle.cluster_model.specs.File.{FileState, Commits, file_after}
+use Rattle.cluster_model.specs.File.{StoredFile, Commits, file_after}
 use Rattle.cluster_model.specs.Server.{ServerState, Caller, Refusal, OnFile, commit_refusal}
 use Rattle.ds_files.specs.Objects.{Object, Missing, Root, File, attributes_of, file_attributes, wcc_between, wcc_same, stat_of}
 use Rattle.ds_files.specs.Plans.{Plan, reply_alone}
 
-abbrev pub commit_unless : ServerState → ℕ → FileState → Option Refusal → Plan
+abbrev pub commit_unless : ServerState → ℕ → StoredFile → Option Refusal → Plan
 commit_unless s index f (Some refusal) = reply_alone (CommitRefused (stat_of refusal) (wcc_same (attributes_of s (File index f))))
 commit_unless s index f None = record {
   reply = CommitDone (wcc_between (file_attributes (index + 2) f) (file_attributes (index + 2) (file_after f s.clock Commits))) s.clock.boot;

@@ -13,7 +13,7 @@ use Rattle.nfs3_wire.specs.Replies as replies
 use Rattle.std.specs.Prelude.{Option}
 use Rattle.cluster_model.specs.declared.piece.Piece.{Piece}
 use Rattle.cluster_model.specs.Ticks.{IsRising}
-use Rattle.cluster_model.specs.File.{FileState, Writes, Commits, Sets}
+use Rattle.cluster_model.specs.File.{StoredFile, Writes, Commits, Sets}
 use Rattle.cluster_model.specs.Journal.{content_of}
 use Rattle.cluster_model.specs.Server.{ServerState, differs, index_of, max_boot, mirror_of, Effect, NoEffect, OnFile, NewFile}
 use Rattle.cluster_model.specs.ServerLaws.{copy_of, Turn, Does, StartsAgain, run_after, run_entries, run_ticks}
@@ -61,10 +61,10 @@ IsTurnedAway s (Asked xid call cred) = IsRefusedReply (step_of s call cred).repl
 -- guard, if there is one, is the ctime; or a file made in the root under a name that none has
 pub data IsAsked (s : ServerState) : Nfs3Call → Effect → Type 0 where
   AsksNothing : (call : Nfs3Call) → IsAsked s call NoEffect
-  AsksWrite : (handle : List ℕ) (index : ℕ) (f : FileState) (offset count : ℕ) (how : StableHow) (bytes : List ℕ) → object_of s.files handle ≡ File index f → count ≡ length bytes
+  AsksWrite : (handle : List ℕ) (index : ℕ) (f : StoredFile) (offset count : ℕ) (how : StableHow) (bytes : List ℕ) → object_of s.files handle ≡ File index f → count ≡ length bytes
       → IsAsked s (calls.Write handle offset count how bytes) (OnFile index (Writes offset (is_synced how) bytes))
-  AsksCommit : (handle : List ℕ) (index : ℕ) (f : FileState) (offset count : ℕ) → object_of s.files handle ≡ File index f → IsAsked s (calls.Commit handle offset count) (OnFile index Commits)
-  AsksSet : (handle : List ℕ) (index : ℕ) (f : FileState) (a : Sattr3) (guard : Option Time3) → object_of s.files handle ≡ File index f → differs (option_map tick_of guard) f.times.ctime ≡ false
+  AsksCommit : (handle : List ℕ) (index : ℕ) (f : StoredFile) (offset count : ℕ) → object_of s.files handle ≡ File index f → IsAsked s (calls.Commit handle offset count) (OnFile index Commits)
+  AsksSet : (handle : List ℕ) (index : ℕ) (f : StoredFile) (a : Sattr3) (guard : Option Time3) → object_of s.files handle ≡ File index f → differs (option_map tick_of guard) f.times.ctime ≡ false
       → IsAsked s (calls.SetAttr handle a guard) (OnFile index (Sets (changes_of a)))
   AsksFile : (handle name : List ℕ) (how : CreateHow) (owner group mode : ℕ) → object_of s.files handle ≡ Root → index_of s.names name ≡ None → IsAsked s (calls.Create handle name how) (NewFile name owner group mode)
 
@@ -90,4 +90,4 @@ IsTimedRun s run = IsRising (run_ticks s (turns_of s run))
 -- from a new server on the journal tells the bytes and the owner of each file
 abbrev pub IsToldRun : ServerState → List Happening → Type 0
 IsToldRun s run =
-    (index : ℕ) (f : FileState) → slice_get (run_after s (turns_of s run)).files index ≡ Some f → copy_of f ≡ content_of (run_entries s (turns_of s run)) (mirror_of s index)
+    (index : ℕ) (f : StoredFile) → slice_get (run_after s (turns_of s run)).files index ≡ Some f → copy_of f ≡ content_of (run_entries s (turns_of s run)) (mirror_of s index)

@@ -14,7 +14,7 @@ use Rattle.nfs3_wire.specs.declared.wcc.WccAttr.{WccAttr}
 use Rattle.nfs3_wire.specs.declared.wcc.WccData.{WccData}
 use Rattle.cluster_model.specs.declared.tick.Tick.{Tick}
 use Rattle.cluster_model.specs.declared.tick.Times.{Times}
-use Rattle.cluster_model.specs.File.{FileState, shown}
+use Rattle.cluster_model.specs.File.{StoredFile, shown}
 use Rattle.cluster_model.specs.Server.{ServerState, Named, Caller, Refusal, Acces, Inval, NotSync, Fbig, NoSpc, Jukebox, named}
 use Rattle.cluster_model.specs.Server as model
 
@@ -24,14 +24,14 @@ pub data Object : Type 0 where
   -- the handle is none, or names nothing
   Missing : (status : Stat3) → Object
   Root : Object
-  File : (index : ℕ) (file : FileState) → Object
+  File : (index : ℕ) (file : StoredFile) → Object
 
 abbrev pub object_by : Named → Object
 object_by model.Nothing = Missing stat.Stale
 object_by model.Root = Root
 object_by (model.File index f) = File index f
 
-abbrev pub object_of : List FileState → List ℕ → Object
+abbrev pub object_of : List StoredFile → List ℕ → Object
 object_of files handle = if length handle == 8 then object_by (named files (from_be_bytes w64 handle)) else Missing stat.BadHandle
 
 -- the handle of the file at an index
@@ -61,7 +61,7 @@ root_attributes times = record {
   ctime = time_of times.ctime;
 }
 
-abbrev pub file_attributes : ℕ → FileState → Fattr3
+abbrev pub file_attributes : ℕ → StoredFile → Fattr3
 file_attributes fileid f = record {
   kind = Regular;
   mode = f.mode;
@@ -85,7 +85,7 @@ attributes_of s Root = Some (root_attributes s.root)
 attributes_of s (File index f) = Some (file_attributes (index + 2) f)
 
 -- of the file at an index
-abbrev pub attributes_at : List FileState → ℕ → Option Fattr3
+abbrev pub attributes_at : List StoredFile → ℕ → Option Fattr3
 attributes_at files index = option_map (file_attributes (index + 2)) (slice_get files index)
 
 -- ---- wcc_data: the attributes before an operation and after it

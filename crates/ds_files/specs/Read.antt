@@ -2,16 +2,16 @@
 use Rattle.std.specs.Prelude.{ℕ, ◌+◌, length, Option, Some, None}
 use Rattle.nfs3_wire.specs.declared.status.Stat3.TheVariants as stat
 use Rattle.nfs3_wire.specs.Replies.{Nfs3Reply, ReadDone, ReadRefused}
-use Rattle.cluster_model.specs.File.{FileState}
+use Rattle.cluster_model.specs.File.{StoredFile}
 use Rattle.cluster_model.specs.Server.{ServerState, Caller, Refusal, read_refusal, bytes_read, ends_at}
 use Rattle.ds_files.specs.Objects.{Object, Missing, Root, File, attributes_of, file_attributes, stat_of}
 
-abbrev pub read_done : ℕ → FileState → ℕ → ℕ → Nfs3Reply
+abbrev pub read_done : ℕ → StoredFile → ℕ → ℕ → Nfs3Reply
 read_done index f offset count =
     let bytes = bytes_read f offset count in
     ReadDone (Some (file_attributes (index + 2) f)) (length bytes) (ends_at f offset bytes) bytes
 
-abbrev pub read_unless : ℕ → FileState → ℕ → ℕ → Option Refusal → Nfs3Reply
+abbrev pub read_unless : ℕ → StoredFile → ℕ → ℕ → Option Refusal → Nfs3Reply
 read_unless index f offset count (Some refusal) = ReadRefused (stat_of refusal) (Some (file_attributes (index + 2) f))
 read_unless index f offset count None = read_done index f offset count
 

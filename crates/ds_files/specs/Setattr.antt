@@ -11,7 +11,7 @@ use Rattle.cluster_model.specs.declared.tick.Tick.{Tick}
 use Rattle.cluster_model.specs.declared.change.NewTime.{NewTime}
 use Rattle.cluster_model.specs.declared.change.NewTime.TheVariants as new
 use Rattle.cluster_model.specs.declared.change.Changes.{Changes}
-use Rattle.cluster_model.specs.File.{FileState, Sets, file_after}
+use Rattle.cluster_model.specs.File.{StoredFile, Sets, file_after}
 use Rattle.cluster_model.specs.Server.{ServerState, Caller, Refusal, OnFile, set_refusal}
 use Rattle.ds_files.specs.Objects.{Object, Missing, Root, File, attributes_of, file_attributes, wcc_between, wcc_same, stat_of}
 use Rattle.ds_files.specs.Plans.{Plan, reply_alone}
@@ -32,13 +32,13 @@ mode_of mode = option_map (λ m. m % 4096) mode
 abbrev pub changes_of : Sattr3 → Changes
 changes_of a = record { owner = a.uid; group = a.gid; mode = mode_of a.mode; atime = new_time a.atime; mtime = new_time a.mtime }
 
-abbrev pub set_done : ServerState → ℕ → FileState → Changes → Plan
+abbrev pub set_done : ServerState → ℕ → StoredFile → Changes → Plan
 set_done s index f changes = record {
   reply = SetAttrDone (wcc_between (file_attributes (index + 2) f) (file_attributes (index + 2) (file_after f s.clock (Sets changes))));
   effect = OnFile index (Sets changes);
 }
 
-abbrev pub set_unless : ServerState → ℕ → FileState → Changes → Option Refusal → Plan
+abbrev pub set_unless : ServerState → ℕ → StoredFile → Changes → Option Refusal → Plan
 set_unless s index f changes (Some refusal) = reply_alone (SetAttrRefused (stat_of refusal) (wcc_same (attributes_of s (File index f))))
 set_unless s index f changes None = set_done s index f changes
 

@@ -4,7 +4,7 @@ use Rattle.nfs3_wire.specs.declared.stable_how.StableHow.{StableHow}
 use Rattle.nfs3_wire.specs.declared.stable_how.StableHow.TheVariants.{Unstable, DataSync, FileSync}
 use Rattle.nfs3_wire.specs.declared.status.Stat3.TheVariants as stat
 use Rattle.nfs3_wire.specs.Replies.{WriteDone, WriteRefused}
-use Rattle.cluster_model.specs.File.{FileState, FileOp, Writes, file_after}
+use Rattle.cluster_model.specs.File.{StoredFile, FileOp, Writes, file_after}
 use Rattle.cluster_model.specs.Server.{ServerState, Caller, Refusal, OnFile, write_refusal}
 use Rattle.ds_files.specs.Objects.{Object, Missing, Root, File, attributes_of, file_attributes, wcc_between, wcc_same, stat_of}
 use Rattle.ds_files.specs.Plans.{Plan, reply_alone}
@@ -18,13 +18,13 @@ abbrev pub stability_of : Bool → StableHow
 stability_of false = Unstable
 stability_of true = FileSync
 
-abbrev pub write_done : ServerState → ℕ → FileState → FileOp → ℕ → Bool → Plan
+abbrev pub write_done : ServerState → ℕ → StoredFile → FileOp → ℕ → Bool → Plan
 write_done s index f op count synced = record {
   reply = WriteDone (wcc_between (file_attributes (index + 2) f) (file_attributes (index + 2) (file_after f s.clock op))) count (stability_of synced) s.clock.boot;
   effect = OnFile index op;
 }
 
-abbrev pub write_unless : ServerState → ℕ → FileState → ℕ → StableHow → List ℕ → Option Refusal → Plan
+abbrev pub write_unless : ServerState → ℕ → StoredFile → ℕ → StableHow → List ℕ → Option Refusal → Plan
 write_unless s index f offset stability bytes (Some refusal) = reply_alone (WriteRefused (stat_of refusal) (wcc_same (attributes_of s (File index f))))
 write_unless s index f offset stability bytes None = write_done s index f (Writes offset (is_synced stability) bytes) (length bytes) (is_synced stability)
 

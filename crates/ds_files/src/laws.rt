@@ -4,7 +4,7 @@ ghost use Rattle.std.specs.Prelude.{◌≡◌, ℕ, List, Some};
 ghost use Rattle.rpc_record.specs.Rpc.{Credential};
 ghost use Rattle.nfs3_wire.specs.Calls.{Nfs3Call};
 ghost use Rattle.cluster_model.specs.declared.piece.Piece.{Piece};
-ghost use Rattle.cluster_model.specs.File.{FileState};
+ghost use Rattle.cluster_model.specs.File.{StoredFile};
 ghost use Rattle.cluster_model.specs.Server.{ServerState, new_server, restart_of};
 ghost use Rattle.cluster_model.specs.ServerLaws.{IsPermitted, IsSafe, IsTimed, AreClocked, TellsOld, TellsNew, IsRestarted};
 ghost use Rattle.ds_files.specs.Objects.{caller_of};
@@ -13,7 +13,7 @@ ghost use Rattle.ds_files.specs.Laws.{IsRefusedReply, IsQuery, HasNoEffect, IsAs
 
 /// A caller that is neither uid 0 nor the owner of a file changes nothing of it.
 pub fn strangers()
-    ensures { (s : ServerState) (call : Nfs3Call) (cred : Credential) (index : ℕ) (f : FileState) → IsSafe s (caller_of cred) index f (step_of s call cred).server }
+    ensures { (s : ServerState) (call : Nfs3Call) (cred : Credential) (index : ℕ) (f : StoredFile) → IsSafe s (caller_of cred) index f (step_of s call cred).server }
 {}
 
 /// A call that is refused changes nothing and is not entered in the journal, nor is one that only asks.
