@@ -1,0 +1,5 @@
+mod Lists
+mod Facts
+mod Invariant
+mod Journals
+mod Onward
