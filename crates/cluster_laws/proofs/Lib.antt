@@ -3,3 +3,4 @@ mod Facts
 mod Invariant
 mod Journals
 mod Onward
+mod Served

@@ -96,3 +96,20 @@ put_other {A = A} all n k x y e ne =
 
 pub same_numbered : {A : Type 0} (all : List A) (n : ℕ) (x y : A) → numbered_at all n ≡ Some x → numbered_at all n ≡ Some y → x ≡ y
 same_numbered all n x y e f = same_Some x y (sym e ∙ f)
+
+-- ---- each element, with what stands around it
+
+pub all_by_split : {A : Type 0} (P : A → Type 0) (before xs : List A) → ((front : List A) (x : A) (rest : List A) → before ++ xs ≡ front ++ x ∷ rest → P x) → AllByRecursion P xs
+all_by_split P before [] h = tt
+all_by_split P before (x ∷ xs) h = (h before x xs refl, all_by_split P (before ++ x ∷ []) xs (λ front y rest e. h front y rest (sym (append_assoc before (x ∷ []) xs) ∙ e)))
+
+pub at_place : {A : Type 0} (xs : List A) (i : ℕ) → i < length xs → (x : A) × (slice_get xs i ≡ Some x)
+at_place [] i less = absurd (omega (arith, less))
+at_place (x ∷ xs) zero less = (x, refl)
+at_place (x ∷ xs) (suc i) less = at_place xs i (omega (arith, less))
+
+-- a number that is not past the end is there
+pub there_is : {A : Type 0} (all : List A) (n : ℕ) → 0 < n → n ≤ length all → (x : A) × (numbered_at all n ≡ Some x)
+there_is all n some up =
+    let x = at_place all (n - 1) (omega (arith, some, up)) in
+    (x.0, at_number all n x.0 (λ z. absurd (omega (arith, z, some))) x.1)
