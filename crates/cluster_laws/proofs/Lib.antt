@@ -1,6 +1,10 @@
 mod Lists
+mod Names
 mod Facts
 mod Invariant
 mod Journals
 mod Onward
+mod Changed
 mod Served
+mod Restarted
+mod Moved

@@ -26,41 +26,12 @@ use Rattle.cluster_model.specs.MdsFiles.{MdsFile}
 use Rattle.cluster_model.specs.Machine.{PacketValue, Call, Reply, Machine, numbered_at, with_server, caller_of, file_id}
 use Rattle.cluster_model.specs.FenceLaw.{live_in, live_after, is_among}
 use Rattle.cluster_laws.proofs.Facts.{AllFollow, Bears, OwnedFrom, HasGiven, AskedAt}
+use Rattle.cluster_laws.proofs.Names.{name_is}
 use Rattle.cluster_laws.proofs.Lists.{all_append, all_more, all_at, all_split, all_by_split, push_old, put_same, put_other, same_numbered, there_is, at_place}
 use Rattle.cluster_laws.proofs.Invariant.{Drawn, Net, at_server, IsAskedFor, IsCallOf, IsGiven, IsCreated, IsSet, IsReplyTo, HasCall, IsAnswer, IsPacket, FenceNote, fence_in, freed_in, If, IsFenceNote, IsEntry, KeepsOwner, IsMirrorOf, IsFile, IsServer, IsNotShutOut, IsRight, AreRight, live_of, net_of, Holds}
 use Rattle.cluster_laws.proofs.Journals.{live_same, content_same, right_more}
-use Rattle.cluster_laws.proofs.Onward.{Later, packet_on, file_on}
-
--- ---- names
-
-name_is : (a b : ℕ) → a < 18446744073709551616 → b < 18446744073709551616 → mirror_name a ≡ mirror_name b → a ≡ b
-name_is a b ha hb e = let digits : decimal a ≡ decimal b = cc in decimal_injective a b ha hb digits
-
--- ---- entries of a data server
-
--- an entry of data says nothing of files of the metadata server
-pub record IsOfData (e : Entry) : Type 0 where
-  pub fence : fence_in e ≡ None
-  pub freed : freed_in e ≡ None
-  pub live : (f : FileId) (x : Option (List MirrorId)) → live_after f x e ≡ x
-
-pub of_data : (n : ℕ) (e : Entry) → IsOfServer n e → IsOfData e
-of_data n (entry.Applied mirror cred at bytes) h = record { fence = refl; freed = refl; live = λ f x. refl }
-of_data n (entry.Committed mirror) h = record { fence = refl; freed = refl; live = λ f x. refl }
-of_data n (entry.Owner mirror cred) h = record { fence = refl; freed = refl; live = λ f x. refl }
-of_data n (entry.Restarted server pieces) h = record { fence = refl; freed = refl; live = λ f x. refl }
-of_data n _ h = absurd h
-
-not_mirror : (a b : MirrorId) (n : ℕ) → a.server ≡ n → b.server ≢ n → is_mirror a b ≡ false
-not_mirror a b n same other = ap (λ (t : Bool). t && eqb a.fileid b.fileid) (ne_eqb a.server b.server (λ e. other (sym e ∙ same)))
-
--- and nothing of mirrors at other servers
-pub foreign : (n : ℕ) (m : MirrorId) → m.server ≢ n → (e : Entry) → IsOfServer n e → (c : Copy) → copy_after m c e ≡ c
-foreign n m other (entry.Applied mirror cred at bytes) h c = rw (not_mirror mirror m n h other) refl
-foreign n m other (entry.Committed mirror) h c = rw (not_mirror mirror m n h other) refl
-foreign n m other (entry.Owner mirror cred) h c = rw (not_mirror mirror m n h other) refl
-foreign n m other (entry.Restarted server pieces) h c = rw (ne_eqb server m.server (λ e. other (sym e ∙ h))) refl
-foreign n m other _ h c = absurd h
+use Rattle.cluster_laws.proofs.Onward.{Later, packet_on}
+use Rattle.cluster_laws.proofs.Changed.{IsOfData, of_data, goes_on, changed_holds}
 
 -- ---- the laws of one server, as the base crate has them
 
@@ -199,36 +170,8 @@ module _ (calls : (s : ServerState) (caller : Caller) (call : DsCallValue) → I
       here : numbered_at after.servers n ≡ Some step.server
       here = put_same m.servers n s step.server there
 
-      follows_itself : (t : ServerState) → IsInOrder t → Follows t t
-      follows_itself t o = record {
-        number = refl;
-        clock = inr (refl, omega arith);
-        in_order = o;
-        names = λ i name is. is;
-        owners = λ i f is. (f, is, omega arith);
-        asked = λ fileid owner guard a. a;
-      }
-
-      all_follow : AllFollow m.servers after.servers
-      all_follow k t is =
-          elim (cases_eq k n) [
-            | inl same ↦
-                let t_is : s ≡ t = same_numbered m.servers n s t there (sym (ap (numbered_at m.servers) same) ∙ is) in
-                (step.server, ap (numbered_at after.servers) same ∙ here, subst (λ (x : ServerState). Follows x step.server) t_is follows)
-            | inr other ↦ (t, put_other m.servers n k s step.server there other ∙ is, follows_itself t (h.servers k t is).in_order)
-          ]
-
       later : Later net (net_of after d)
-      later = record {
-        servers = all_follow;
-        sent = λ place p is. push_old m.packets (answer ∷ []) place p is;
-        calls = λ x server c used all. all_append _ m.packets (answer ∷ []) all (tt, tt);
-        used = omega arith;
-        names = omega arith;
-        home = λ k less. refl;
-        low = λ k less. refl;
-        tops = λ k. omega arith;
-      }
+      later = goes_on m journal d h n s there step.server follows (m.packets ++ answer ∷ []) (λ place p is. push_old m.packets (answer ∷ []) place p is) (λ x server c all. all_append _ m.packets (answer ∷ []) all (tt, tt))
 
       -- ---- the packets
 
@@ -314,48 +257,8 @@ module _ (calls : (s : ServerState) (caller : Caller) (call : DsCallValue) → I
         told = laws.told journal old_server.told;
       }
 
-      other_server : (k : ℕ) (t : ServerState) → k ≢ n → numbered_at m.servers k ≡ Some t → IsServer (net_of after d) (journal ++ step.entries) k t
-      other_server k t other is =
-          let o = h.servers k t is in
-          let away : (index : ℕ) → content_of (journal ++ step.entries) (mirror_of t index) ≡ content_of journal (mirror_of t index) =
-          λ index. content_same (mirror_of t index) journal step.entries (all_more (IsOfServer s.number) (λ e. (c : Copy) → copy_after (mirror_of t index) c e ≡ c) step.entries (foreign s.number (mirror_of t index) (λ e. other (sym o.number ∙ e ∙ number))) laws.of_server) in
-          record {
-            number = o.number;
-            in_order = o.in_order;
-            names = o.names;
-            owners = o.owners;
-            told = record { each = λ index file there. o.told.each index file there ∙ sym (away index); none = λ index past. away index ∙ o.told.none index past };
-          }
-
-      servers_now : (k : ℕ) (t : ServerState) → numbered_at after.servers k ≡ Some t → IsServer (net_of after d) (journal ++ step.entries) k t
-      servers_now k t is =
-          elim (cases_eq k n) [
-            | inl same ↦
-                let t_is : step.server ≡ t = same_numbered after.servers n step.server t here (sym (ap (numbered_at after.servers) same) ∙ is) in
-                rw (← t_is, same) this_server
-            | inr other ↦ other_server k t other (sym (put_other m.servers n k s step.server there other) ∙ is)
-          ]
-
-      -- ---- the files, and all together
-
-      no_fences : (k : ℕ) → AllByRecursion (λ e. If (fence_in e) (λ x. x.file ≢ k)) step.entries
-      no_fences k = all_more (IsOfServer s.number) (λ e. If (fence_in e) (λ x. x.file ≢ k)) step.entries (λ e o. subst (λ (y : Option FenceNote). If y (λ x. x.file ≢ k)) (sym (of_data s.number e o).fence) tt) laws.of_server
-
-      entry_ok : (e : Entry) → IsOfServer s.number e → IsEntry (length m.files) m.next_uid e
-      entry_ok e o = record {
-        fence = subst (λ (y : Option FenceNote). If y (IsFenceNote (length m.files) m.next_uid)) (sym (of_data s.number e o).fence) tt;
-        freed = subst (λ (y : Option ℕ). If y (λ k. k ≤ length m.files)) (sym (of_data s.number e o).freed) tt;
-      }
-
       pub served_holds : Holds after (journal ++ step.entries) d
-      served_holds = record {
-        servers = servers_now;
-        packets = all_append (IsPacket (net_of after d)) m.packets (answer ∷ []) (all_more (IsPacket net) (IsPacket (net_of after d)) m.packets (packet_on net (net_of after d) later) h.packets) (answered, tt);
-        files = λ k f is. file_on net (net_of after d) later k journal step.entries (no_fences k) refl f
-        (all_more (IsOfServer s.number) (λ e. (x : Option (List MirrorId)) → live_after (file_id k) x e ≡ x) step.entries (λ e o. (of_data s.number e o).live (file_id k)) laws.of_server) (h.files k f is);
-        tops = h.tops;
-        lows = h.lows;
-        few_names = h.few_names;
-        entries = all_append (IsEntry (length m.files) m.next_uid) journal step.entries h.entries (all_more (IsOfServer s.number) (IsEntry (length m.files) m.next_uid) step.entries entry_ok laws.of_server);
-        right = right_more [] journal step.entries h.right (subst (λ (j : List Entry). AreRight j step.entries) (append-nil journal) (rights (caller_of uid) [] step.entries tt laws.of_server laws.owners));
-      }
+      served_holds =
+          changed_holds m journal d h n s there step.server follows (m.packets ++ answer ∷ []) (λ place p is. push_old m.packets (answer ∷ []) place p is) (λ x server c all. all_append _ m.packets (answer ∷ []) all (tt, tt))
+          step.entries laws.of_server (subst (λ (j : List Entry). AreRight j step.entries) (append-nil journal) (rights (caller_of uid) [] step.entries tt laws.of_server laws.owners)) this_server
+          (all_append (IsPacket (net_of after d)) m.packets (answer ∷ []) (all_more (IsPacket net) (IsPacket (net_of after d)) m.packets (packet_on net (net_of after d) later) h.packets) (answered, tt))
