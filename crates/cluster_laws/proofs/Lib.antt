@@ -8,3 +8,4 @@ mod Changed
 mod Served
 mod Restarted
 mod Moved
+mod Lives
