@@ -9,3 +9,4 @@ mod Served
 mod Restarted
 mod Moved
 mod Lives
+mod Rows
