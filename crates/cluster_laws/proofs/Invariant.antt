@@ -186,10 +186,10 @@ pub record IsCreationOf (net : Net) (n owner : ℕ) (c : Creation) : Type 0 wher
   pub made : (m : Mirror) → c.made ≡ Some m → (m.id.server ≡ c.server) × Bears net.servers m.id c.name × HasGiven net.servers m.id.server m.seen
 
 -- the call to a mirror that is outstanding
-pub record IsFenceCall (net : Net) (fresh xid : ℕ) (m : FenceMirror) : Type 0 where
+pub record IsFenceCall (net : Net) (fresh xid : ℕ) (id : MirrorId) : Type 0 where
   pub used : xid ≤ net.last_xid
   pub guard : Tick
-  pub calls : AreThisCall net.packets xid m.id.server (SetAttr m.id.fileid fresh guard)
+  pub calls : AreThisCall net.packets xid id.server (SetAttr id.fileid fresh guard)
 
 abbrev pub is_answered : CallStage → Bool
 is_answered Waits = false
@@ -205,7 +205,7 @@ pub record IsInFence (net : Net) (n fresh : ℕ) (m : FenceMirror) : Type 0 wher
   pub bears : Bears net.servers m.id name
   pub home : net.drawn.home name ≡ n
   pub seen : HasGiven net.servers m.id.server m.seen
-  pub out : (xid : ℕ) → is_out xid m.stage ≡ true → IsFenceCall net fresh xid m
+  pub out : (xid : ℕ) → is_out xid m.stage ≡ true → IsFenceCall net fresh xid m.id
   pub done : is_answered m.stage ≡ true → OwnedFrom net.servers m.id fresh
 
 abbrev pub servers_of : List Creation → List ℕ
@@ -230,7 +230,7 @@ pub record IsFencing (net : Net) (n : ℕ) (s : LayoutState) (fence : FenceState
   pub end : FenceEnd
   pub phase : s.phase ≡ Fencing next end
   pub fresh : next.0 ≡ fence.cred
-  pub top : net.drawn.top n ≤ fence.cred
+  pub top : net.drawn.top n ≡ fence.cred
   pub later : s.cred.0 < fence.cred
   pub mirrors : AllByRecursion (IsInFence net n fence.cred) fence.mirrors
   pub ids : ids_of s.live ≡ kept_ids fence.mirrors

@@ -10,3 +10,5 @@ mod Restarted
 mod Moved
 mod Lives
 mod Rows
+mod FenceDone
+mod FenceSteps

@@ -1,7 +1,8 @@
 -- Lists, by places and by numbers from 1.
 use Rattle.std.proofs.Common.{◌≡◌, ◌≢◌, ℕ, zero, suc, ◌+◌, ◌-◌, ◌<◌, ◌≤◌, Bool, true, false, eqb, cond, List, [], ◌∷◌, ◌++◌, length, set, Option, Some, None, refl, sym, ap, ◌∙◌, arith, append_assoc, subst}
 use Rattle.std.specs.Prelude.{slice_get}
-use Rattle.std.specs.List.{AllByRecursion}
+use Rattle.std.specs.List.{AllByRecursion, position, position_from}
+use Rattle.std.proofs.lemmas.Iterator.Adapters.{position_from-zero}
 use Rattle.std.proofs.lemmas.Bool.{cond_both, eqb-true, eqb-false, eq-eqb, ne_eqb}
 use Rattle.std.proofs.lemmas.Option.{same_Some, slice_get_within}
 use Rattle.cluster_model.specs.Machine.{numbered_at}
@@ -113,3 +114,25 @@ pub there_is : {A : Type 0} (all : List A) (n : ℕ) → 0 < n → n ≤ length 
 there_is all n some up =
     let x = at_place all (n - 1) (omega (arith, some, up)) in
     (x.0, at_number all n x.0 (λ z. absurd (omega (arith, z, some))) x.1)
+
+-- ---- what a search finds
+
+search_found : {A : Type 0} (test : A → Bool) (k : ℕ) (xs : List A) (i : ℕ) → position_from test k xs ≡ Some i → (j : ℕ) × (i ≡ k + j) × ((x : A) × (slice_get xs j ≡ Some x) × (test x ≡ true))
+search_found test k [] i e = absurd cc
+search_found {A = A} test k (x ∷ xs) i e = by_test (test x) refl e (search_found test (k + 1) xs i)
+  where
+    by_test : (b : Bool) → test x ≡ b → cond b (Some k) (position_from test (k + 1) xs) ≡ Some i
+        → (position_from test (k + 1) xs ≡ Some i → (j : ℕ) × (i ≡ k + 1 + j) × ((y : A) × (slice_get xs j ≡ Some y) × (test y ≡ true)))
+        → (j : ℕ) × (i ≡ k + j) × ((y : A) × (slice_get (x ∷ xs) j ≡ Some y) × (test y ≡ true))
+    by_test true is f more = let at : k ≡ i = same_Some k i f in (0, omega (arith, at), (x, refl, is))
+    by_test false is f more =
+        let rest = more f in
+        let at = rest.1 in
+        (suc rest.0, omega (arith, at), rest.2)
+
+pub found_at : {A : Type 0} (test : A → Bool) (xs : List A) (i : ℕ) → position test xs ≡ Some i → (x : A) × (slice_get xs i ≡ Some x) × (test x ≡ true)
+found_at test xs i e =
+    let found = search_found test 0 xs i (sym (position_from-zero test xs) ∙ e) in
+    let same : found.0 ≡ i = omega (arith, found.1) in
+    let x = found.2 in
+    (x.0, ap (slice_get xs) (sym same) ∙ x.1, x.2)

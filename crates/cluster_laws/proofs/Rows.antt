@@ -158,7 +158,7 @@ module _ (net new : Net) (l : Later net new) (n next_uid : ℕ) (journal : List 
           end = end;
           phase = refl;
           fresh = refl;
-          top = omega (arith, top);
+          top = top;
           later = less;
           mirrors = all_map (IsMirrorOf new n (journal ++ entries)) (IsInFence new n uid) to_fence kept (in_fence uid entries) now;
           ids = fence_ids kept;
