@@ -148,7 +148,7 @@ ticked_ok net n fresh m h = out_still net n fresh m h (stage_at_tick m.stage) _ 
 
 -- ---- which mirrors a fence has not given up
 
-head_ids : (b : Bool) (x : FenceMirror) (rest : List FenceMirror) → map (λ y. y.id) (cond (not b) (x ∷ rest) rest) ≡ cond (not b) (x.id ∷ map (λ y. y.id) rest) (map (λ y. y.id) rest)
+pub head_ids : (b : Bool) (x : FenceMirror) (rest : List FenceMirror) → map (λ y. y.id) (cond (not b) (x ∷ rest) rest) ≡ cond (not b) (x.id ∷ map (λ y. y.id) rest) (map (λ y. y.id) rest)
 head_ids true x rest = refl
 head_ids false x rest = refl
 

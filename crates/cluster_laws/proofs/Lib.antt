@@ -12,3 +12,5 @@ mod Lives
 mod Rows
 mod FenceDone
 mod FenceSteps
+mod Seen
+mod FenceAnswers
