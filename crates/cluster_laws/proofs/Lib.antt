@@ -14,3 +14,4 @@ mod FenceDone
 mod FenceSteps
 mod Seen
 mod FenceAnswers
+mod Makings
