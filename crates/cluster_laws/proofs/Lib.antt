@@ -15,3 +15,4 @@ mod FenceSteps
 mod Seen
 mod FenceAnswers
 mod Makings
+mod MakingSteps

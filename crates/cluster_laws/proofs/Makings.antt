@@ -94,7 +94,7 @@ module _ (net : Net) (n owner : ℕ) (c : Creation) (h : IsCreationOf net n owne
       let this = all_at (IsThisCall xid c.server (Create c.name owner)) net.packets a.sent.place _ (h.out xid out).1 a.sent.there refl in
       (this.1, subst (λ (k : ℕ). IsReplyTo net.servers k a.call reply) this.0 a.shows)
 
-answered_server : (all : Creations) (c : Creation) (reply : DsReplyValue) → (creation_answered all c reply).server ≡ c.server
+pub answered_server : (all : Creations) (c : Creation) (reply : DsReplyValue) → (creation_answered all c reply).server ≡ c.server
 answered_server all c (Created fileid shown) = refl
 answered_server all c (Set shown) = refl
 answered_server all c (Written shown verifier) = refl
