@@ -28,7 +28,7 @@ use Rattle.cluster_model.specs.Server.{ServerState}
 use Rattle.cluster_model.specs.DsCalls.{DsCallValue, Create, SetAttr, Write, Commit, Read, DsReplyValue, Created, Set, Written, Committed, Bytes, NotSync, Failed, mirror_name}
 use Rattle.cluster_model.specs.GuardLaws.{IsInOrder, target, IsTold}
 use Rattle.cluster_model.specs.Fences.{FenceState, is_out}
-use Rattle.cluster_model.specs.Phases.{ids_of}
+use Rattle.cluster_model.specs.Phases.{ids_of, is_source}
 use Rattle.cluster_model.specs.MdsFiles.{Creation, Creations, Activity, Idle, Makes, Fences, Settles, Copies, MdsFile, is_given_up}
 use Rattle.cluster_model.specs.Machine.{PacketValue, Call, Reply, Machine, numbered_at, file_id}
 use Rattle.cluster_model.specs.FenceLaw.{is_file, live_in, is_among}
@@ -235,6 +235,11 @@ pub record IsFencing (net : Net) (n : ℕ) (s : LayoutState) (fence : FenceState
   pub mirrors : AllByRecursion (IsInFence net n fence.cred) fence.mirrors
   pub ids : ids_of s.live ≡ kept_ids fence.mirrors
 
+-- the mirror that a target is to replace is not the source
+abbrev pub IsNotSource : List Mirror → Option MirrorId → Type 0
+IsNotSource live None = Unit {0}
+IsNotSource live (Some id) = is_source id live ≡ false
+
 pub record IsCopying (net : Net) (journal : List Entry) (n : ℕ) (s : LayoutState) (all : Creations) : Type 0 where
   pub copier : Cred
   pub copies : CopyKind
@@ -243,6 +248,7 @@ pub record IsCopying (net : Net) (journal : List Entry) (n : ℕ) (s : LayoutSta
   pub later : s.cred.0 < all.owner
   pub top : all.owner ≤ net.drawn.top n
   pub fences : AllByRecursion (IsFencedTo n all.owner) journal
+  pub sources : AllByRecursion (λ c. IsNotSource s.live c.replaced) all.items
 
 pub record IsSettling (s : LayoutState) : Type 0 where
   pub copies : CopyKind

@@ -16,3 +16,4 @@ mod Seen
 mod FenceAnswers
 mod Makings
 mod MakingSteps
+mod Draws

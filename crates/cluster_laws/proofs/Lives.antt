@@ -166,7 +166,7 @@ all_unreported P (false ∷ places) (m ∷ live) h = (h.0, all_unreported P plac
 
 -- ---- ctimes that are seen
 
-seen_id : (id : MirrorId) (tick : Tick) (m : Mirror) → (seen_if id tick m).id ≡ m.id
+pub seen_id : (id : MirrorId) (tick : Tick) (m : Mirror) → (seen_if id tick m).id ≡ m.id
 seen_id id tick m = by_test (is_mirror m.id id)
   where
     by_test : (b : Bool) → (cond b (record { id = m.id; seen = tick }) m).id ≡ m.id

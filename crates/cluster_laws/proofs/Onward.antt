@@ -149,7 +149,7 @@ module _ (old new : Net) (l : Later old new) where
       busy_on s (Makes all) h = record { phase = h.phase; items = all_more (IsCreationOf old n all.owner) (IsCreationOf new n all.owner) all.items (creation_on n all.owner) h.items; apart = h.apart; fences = fences_on 0 h.fences }
       busy_on s (Fences fence) h = record { next = h.next; end = h.end; phase = h.phase; fresh = h.fresh; top = top ∙ h.top; later = h.later; mirrors = all_more (IsInFence old n fence.cred) (IsInFence new n fence.cred) fence.mirrors (in_fence_on n fence.cred) h.mirrors; ids = h.ids }
       busy_on s (Settles stage) h = h
-      busy_on s (Copies all) h = record { copier = h.copier; copies = h.copies; phase = h.phase; items = all_more (IsCreationOf old n all.owner) (IsCreationOf new n all.owner) all.items (creation_on n all.owner) h.items; later = h.later; top = subst (λ (t : ℕ). all.owner ≤ t) (sym top) h.top; fences = fences_on all.owner h.fences }
+      busy_on s (Copies all) h = record { copier = h.copier; copies = h.copies; phase = h.phase; items = all_more (IsCreationOf old n all.owner) (IsCreationOf new n all.owner) all.items (creation_on n all.owner) h.items; later = h.later; top = subst (λ (t : ℕ). all.owner ≤ t) (sym top) h.top; fences = fences_on all.owner h.fences; sources = h.sources }
 
       pub file_on : (f : MdsFile) → AllByRecursion (λ e. (x : Option (List MirrorId)) → live_after (file_id n) x e ≡ x) entries → IsFile old journal n f → IsFile new (journal ++ entries) n f
       file_on f same h = record {

@@ -95,6 +95,38 @@ module _ (n next_uid : ℕ) where
 pub is_made : LayoutPhase → Type 0
 is_made p = (ids : List MirrorId) → live_of p ids ≡ Some ids
 
+fence_ids : (live : List Mirror) → ids_of live ≡ kept_ids (map to_fence live)
+fence_ids [] = refl
+fence_ids (m ∷ live) = ap (λ ids. m.id ∷ ids) (fence_ids live)
+
+-- a fence over these mirrors begins
+module _ (net new : Net) (l : Later net new) (n : ℕ) (journal : List Entry) where
+  in_fence : (uid : ℕ) (entries : List Entry) (m : Mirror) → IsMirrorOf new n (journal ++ entries) m → IsInFence new n uid (to_fence m)
+  in_fence uid entries m h = record { name = h.name; drawn = h.drawn; bears = h.bears; home = h.home; seen = h.seen; out = λ xid is. absurd cc; done = λ is. absurd cc }
+
+  pub fence_begins : (s : LayoutState) (uid : ℕ) (kept : List Mirror) (end : FenceEnd) (entries : List Entry) → AllByRecursion (λ e. If (fence_in e) (λ x. x.file ≢ n)) entries → new.drawn.top n ≡ uid → 0 < s.cred.0 → s.cred.0 < uid
+      → live_in (journal ++ entries) (file_id n) ≡ Some (ids_of kept) → are_on_different_servers kept ≡ true → AllByRecursion (IsMirrorOf net n journal) kept
+      → IsFile new (journal ++ entries) n (record { layout = fencing s kept end (a_uid uid); activity = Fences (fence_of kept uid) })
+  fence_begins s uid kept end entries none top some less live apart mirrors =
+      let now = all_more (IsMirrorOf net n journal) (IsMirrorOf new n (journal ++ entries)) kept (mirror_on net new l n journal entries none) mirrors in
+      record {
+        live = live;
+        apart = apart;
+        mirrors = now;
+        cred = some;
+        top = omega (arith, top, less);
+        busy = record {
+          next = a_uid uid;
+          end = end;
+          phase = refl;
+          fresh = refl;
+          top = top;
+          later = less;
+          mirrors = all_map (IsMirrorOf new n (journal ++ entries)) (IsInFence new n uid) to_fence kept (in_fence uid entries) now;
+          ids = fence_ids kept;
+        };
+      }
+
 module _ (net new : Net) (l : Later net new) (n next_uid : ℕ) (journal : List Entry) (f : MdsFile) (old : IsFile net journal n f) where
   cred_up : f.layout.cred.0 ≤ new.drawn.top n
   cred_up = let top = old.top in let rises = l.tops n in omega (arith, top, rises)
@@ -135,35 +167,10 @@ module _ (net new : Net) (l : Later net new) (n next_uid : ℕ) (journal : List 
 
   -- ---- a fence begins
 
-  in_fence : (uid : ℕ) (entries : List Entry) (m : Mirror) → IsMirrorOf new n (journal ++ entries) m → IsInFence new n uid (to_fence m)
-  in_fence uid entries m h = record { name = h.name; drawn = h.drawn; bears = h.bears; home = h.home; seen = h.seen; out = λ xid is. absurd cc; done = λ is. absurd cc }
-
-  fence_ids : (live : List Mirror) → ids_of live ≡ kept_ids (map to_fence live)
-  fence_ids [] = refl
-  fence_ids (m ∷ live) = ap (λ ids. m.id ∷ ids) (fence_ids live)
-
   pub fences : (uid : ℕ) (kept : List Mirror) (end : FenceEnd) (entries : List Entry) → AllByRecursion (λ e. If (fence_in e) (λ x. x.file ≢ n)) entries → new.drawn.top n ≡ uid → f.layout.cred.0 < uid
       → live_in (journal ++ entries) (file_id n) ≡ Some (ids_of kept) → are_on_different_servers kept ≡ true → AllByRecursion (IsMirrorOf net n journal) kept
       → IsFile new (journal ++ entries) n (record { layout = fencing f.layout kept end (a_uid uid); activity = Fences (fence_of kept uid) })
-  fences uid kept end entries none top less live apart mirrors =
-      let now = all_more (IsMirrorOf net n journal) (IsMirrorOf new n (journal ++ entries)) kept (mirror_on net new l n journal entries none) mirrors in
-      record {
-        live = live;
-        apart = apart;
-        mirrors = now;
-        cred = old.cred;
-        top = omega (arith, top, less);
-        busy = record {
-          next = a_uid uid;
-          end = end;
-          phase = refl;
-          fresh = refl;
-          top = top;
-          later = less;
-          mirrors = all_map (IsMirrorOf new n (journal ++ entries)) (IsInFence new n uid) to_fence kept (in_fence uid entries) now;
-          ids = fence_ids kept;
-        };
-      }
+  fences uid kept end entries none top less live apart mirrors = fence_begins net new l n journal f.layout uid kept end entries none top old.cred less live apart mirrors
 
   -- the period ends: these entries of mirrors that leave, and those that are kept
   pub ends : (uid : ℕ) (left : List Entry) (places : List Bool) (cause : EndCause) → AllByRecursion (IsNote n next_uid) left → AllByRecursion (λ e. If (fence_in e) (λ x. x.file ≢ n)) left

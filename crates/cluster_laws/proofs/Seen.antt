@@ -12,8 +12,9 @@ use Rattle.cluster_model.specs.Phases.{ids_of, seen_if, seen_at, with_live}
 use Rattle.cluster_model.specs.MdsFiles.{Activity, Idle, Makes, Fences, Settles, Copies, MdsFile}
 use Rattle.cluster_model.specs.FenceLaw.{live_in}
 use Rattle.cluster_laws.proofs.Facts.{HasGiven}
-use Rattle.cluster_laws.proofs.Invariant.{Net, IsMirrorOf, IsMaking, IsFencing, IsCopying, IsSettling, IsBusyWith, live_of, IsFile}
-use Rattle.cluster_laws.proofs.Lives.{all_map, ids_seen, apart_seen}
+use Rattle.cluster_laws.proofs.Invariant.{Net, IsMirrorOf, IsNotSource, IsMaking, IsFencing, IsCopying, IsSettling, IsBusyWith, live_of, IsFile}
+use Rattle.cluster_laws.proofs.Lives.{all_map, seen_id, ids_seen, apart_seen}
+use Rattle.cluster_laws.proofs.Lists.{all_more}
 
 module _ (net : Net) (journal : List Entry) (n : ℕ) (s : LayoutState) (id : MirrorId) (tick : Tick) (given : HasGiven net.servers id.server tick) where
   seen_mirror : (m : Mirror) → IsMirrorOf net n journal m → IsMirrorOf net n journal (seen_if id tick m)
@@ -22,12 +23,17 @@ module _ (net : Net) (journal : List Entry) (n : ℕ) (s : LayoutState) (id : Mi
       (λ e. record { name = h.name; drawn = h.drawn; bears = h.bears; home = h.home; seen = subst (λ (k : ℕ). HasGiven net.servers k tick) (sym (eqb-true m.id.server id.server (and_parts _ _ e).0)) given; owned = h.owned })
       (λ e. h)
 
+  still_not : (replaced : Option MirrorId) (live : List Mirror) → IsNotSource live replaced → IsNotSource (seen_at id tick live) replaced
+  still_not None live k = tt
+  still_not (Some x) [] k = k
+  still_not (Some x) (m ∷ live) k = ap (λ (y : MirrorId). is_mirror y x) (seen_id id tick m) ∙ k
+
   still_busy : (activity : Activity) → IsBusyWith net journal n s activity → IsBusyWith net journal n (with_live s (seen_at id tick s.live)) activity
   still_busy Idle h = h
   still_busy (Makes all) h = record { phase = h.phase; items = h.items; apart = h.apart; fences = h.fences }
   still_busy (Fences fence) h = record { next = h.next; end = h.end; phase = h.phase; fresh = h.fresh; top = h.top; later = h.later; mirrors = h.mirrors; ids = ids_seen id tick s.live ∙ h.ids }
   still_busy (Settles stage) h = record { copies = h.copies; phase = h.phase }
-  still_busy (Copies all) h = record { copier = h.copier; copies = h.copies; phase = h.phase; items = h.items; later = h.later; top = h.top; fences = h.fences }
+  still_busy (Copies all) h = record { copier = h.copier; copies = h.copies; phase = h.phase; items = h.items; later = h.later; top = h.top; fences = h.fences; sources = all_more (λ c. IsNotSource s.live c.replaced) (λ c. IsNotSource (seen_at id tick s.live) c.replaced) all.items (λ c. still_not c.replaced s.live) h.sources }
 
   pub seen_ok : (activity : Activity) → IsFile net journal n (record { layout = s; activity = activity }) → IsFile net journal n (record { layout = with_live s (seen_at id tick s.live); activity = activity })
   seen_ok activity h = record {
