@@ -17,3 +17,4 @@ mod FenceAnswers
 mod Makings
 mod MakingSteps
 mod Draws
+mod CopySteps

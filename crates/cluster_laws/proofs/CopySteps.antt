@@ -1,0 +1,110 @@
+-- The source of a copy is committed, the targets are made and come in, and any of them may fail.
+use Rattle.std.proofs.Common.{◌≡◌, ◌≢◌, ℕ, zero, suc, ◌+◌, ◌-◌, ◌<◌, ◌≤◌, Bool, true, false, eqb, ltb, cond, not, ◌&&◌, List, [], ◌∷◌, ◌++◌, length, map, filter, take, drop, set, Option, Some, None, refl, sym, ap, subst, ◌∙◌, arith, append-nil, append_assoc}
+use Rattle.std.specs.Prelude.{slice_get}
+use Rattle.std.specs.List.{AllByRecursion, list_all, flat_map}
+use Rattle.std.proofs.lemmas.Bool.{cond_both, eqb-true, and_parts}
+use Rattle.std.proofs.lemmas.Option.{same_Some}
+use Rattle.cluster_model.specs.declared.tick.Tick.{Tick}
+use Rattle.cluster_model.specs.declared.ids.NodeId.TheVariants.{Mds}
+use Rattle.cluster_model.specs.declared.ids.Cred.{Cred}
+use Rattle.cluster_model.specs.declared.ids.MirrorId.{MirrorId}
+use Rattle.cluster_model.specs.declared.ids.Mirror.{Mirror}
+use Rattle.cluster_model.specs.declared.phase.LeftCause.{LeftCause}
+use Rattle.cluster_model.specs.declared.phase.LeftCause.TheVariants.{Error, Timeouts}
+use Rattle.cluster_model.specs.declared.entry.Entry.{Entry}
+use Rattle.cluster_model.specs.declared.entry.Entry.TheVariants as entry
+use Rattle.cluster_model.specs.declared.call_stage.CallStage.{CallStage}
+use Rattle.cluster_model.specs.declared.call_stage.CallStage.TheVariants.{Waits, Out, KeptOut, KeptBack, Done, GivenUp}
+use Rattle.cluster_model.specs.declared.layout_state.LayoutState.{LayoutState}
+use Rattle.cluster_model.specs.declared.layout_state.LayoutPhase.{LayoutPhase}
+use Rattle.cluster_model.specs.declared.layout_state.LayoutPhase.TheVariants.{Making, Free, Held, Fencing, Settling, Copying}
+use Rattle.cluster_model.specs.declared.layout_state.FenceEnd.TheVariants.{Copied}
+use Rattle.cluster_model.specs.declared.layout_state.CopyKind.{CopyKind}
+use Rattle.cluster_model.specs.declared.layout_state.CopyKind.TheVariants.{Replacing, Adding}
+use Rattle.cluster_model.specs.Journal.{is_mirror}
+use Rattle.cluster_model.specs.Mirrors.{has_server, are_on_different_servers}
+use Rattle.cluster_model.specs.DsCalls.{DsCallValue, Create, DsReplyValue, Created, Set, Written, Committed, Bytes, NotSync, Failed}
+use Rattle.cluster_model.specs.Fences.{is_out, is_over, stage_at_tick, odd_answer, fence_of}
+use Rattle.cluster_model.specs.Phases.{ids_of, but_for, is_last, is_source, phase_without, with_phase, with_live, after_loss, mirror_left, freed, has_targets, settled_row, SwappedIn, with_targets, swapped_entries, copied, fencing}
+use Rattle.cluster_model.specs.MdsFiles.{Creation, Creations, Activity, Idle, Makes, Fences, Settles, Copies, MdsFile, Fresh, FileStep, nothing, stays, a_uid, goes_idle, goes_fencing, in_stage, made_as, with_creation, creation_of, is_given_up, servers_without, replacing, adding, targets_of, copying, settled, source_left, settling_answered, settling_timed_out, swap_of, swaps_of, copied_by, target_left, target_failed, target_answered, target_timed_out, target_at, target_by}
+use Rattle.cluster_model.specs.Machine.{file_id}
+use Rattle.cluster_model.specs.FenceLaw.{live_in, live_by, live_after, is_file, changed_live, first_free}
+use Rattle.cluster_laws.proofs.Facts.{Bears, OwnedFrom, HasGiven, owned_less}
+use Rattle.cluster_laws.proofs.Lists.{all_append, all_more, all_at, all_set, found_at}
+use Rattle.cluster_laws.proofs.Invariant.{Net, IsAnswer, FenceNote, fence_in, If, IsFenceNote, IsEntry, KeepsOwner, IsFencedTo, IsMirrorOf, IsCreationOf, IsNotSource, IsCopying, IsSettling, IsBusyWith, live_of, IsFile, AreRight}
+use Rattle.cluster_laws.proofs.Journals.{live_append, live_same}
+use Rattle.cluster_laws.proofs.Onward.{Later, mirror_on}
+use Rattle.cluster_laws.proofs.Moved.{IsNote}
+use Rattle.cluster_laws.proofs.Rows.{RowOk, left_note, swapped_note, free_note, fence_begins}
+use Rattle.cluster_laws.proofs.Lives.{own_file, other_server, not_true, apart_filter, all_filter, ids_but_for, all_swapped, all_targets, itself}
+use Rattle.cluster_laws.proofs.FenceSteps.{nothing_new}
+use Rattle.cluster_laws.proofs.Makings.{staged, was_made, its_call, tick_stage}
+use Rattle.cluster_laws.proofs.Draws.{draws, drawn_net, later_drawn, top_here, new_home, new_low}
+
+-- ---- a mirror leaves
+
+left_mirrors : (net : Net) (n : ℕ) (journal : List Entry) (id gone : MirrorId) (cause : LeftCause) (live : List Mirror) → AllByRecursion (IsMirrorOf net n journal) live → AllByRecursion (IsMirrorOf net n (journal ++ entry.Left (file_id n) id cause ∷ [])) (but_for gone live)
+left_mirrors net n journal id gone cause live h =
+    all_filter (IsMirrorOf net n (journal ++ entry.Left (file_id n) id cause ∷ [])) (λ m. not (is_mirror m.id gone)) live
+    (all_more (IsMirrorOf net n journal) (IsMirrorOf net n (journal ++ entry.Left (file_id n) id cause ∷ [])) live
+    (λ m k. record { name = k.name; drawn = k.drawn; bears = k.bears; home = k.home; seen = k.seen; owned = all_append (KeepsOwner net.servers n m.id) journal (entry.Left (file_id n) id cause ∷ []) k.owned (tt, tt) }) h)
+
+-- a file that loses a mirror, in a phase before and behind in which it has a live list
+loses : (net : Net) (n next_uid : ℕ) (journal : List Entry) (s : LayoutState) (was activity : Activity) (id : MirrorId) (cause : LeftCause) → IsFile net journal n (record { layout = s; activity = was })
+    → live_of s.phase (ids_of s.live) ≡ Some (ids_of s.live) → live_of (phase_without s.phase (is_source id s.live)) (ids_of (but_for id s.live)) ≡ Some (ids_of (but_for id s.live))
+    → IsBusyWith net (journal ++ entry.Left (file_id n) id cause ∷ []) n (after_loss s id) activity
+    → RowOk net journal n next_uid (record { layout = after_loss s id; activity = activity }) (entry.Left (file_id n) id cause ∷ [])
+loses net n next_uid journal s was activity id cause h before behind busy =
+    let e : Entry = entry.Left (file_id n) id cause in
+    record {
+      notes = (left_note n next_uid id cause, tt);
+      right = (tt, tt);
+      file = record {
+        live = live_append (file_id n) None journal (e ∷ []) ∙ ap (λ x. live_by (file_id n) x (e ∷ [])) (h.live ∙ before)
+        ∙ ap (λ (b : Bool). cond b (changed_live (filter (λ k. not (is_mirror k id))) (Some (ids_of s.live))) (Some (ids_of s.live))) (own_file (file_id n))
+        ∙ ap Some (sym (ids_but_for id s.live)) ∙ sym behind;
+        apart = apart_filter (λ m. not (is_mirror m.id id)) s.live h.apart;
+        mirrors = left_mirrors net n journal id id cause s.live h.mirrors;
+        cred = h.cred;
+        top = h.top;
+        busy = busy;
+      };
+    }
+
+-- ---- settling
+
+module _ (net : Net) (n next_uid : ℕ) (journal : List Entry) (s : LayoutState) (stage : CallStage) (h : IsFile net journal n (record { layout = s; activity = Settles stage })) where
+  pub staged_settling : (other : CallStage) → IsFile net journal n (record { layout = s; activity = Settles other })
+  staged_settling other = record { live = h.live; apart = h.apart; mirrors = h.mirrors; cred = h.cred; top = h.top; busy = h.busy }
+
+  live_settling : (copies : CopyKind) → s.phase ≡ Settling copies → live_of s.phase (ids_of s.live) ≡ Some (ids_of s.live)
+  live_settling copies is = ap (λ p. live_of p (ids_of s.live)) is
+
+  source_ok : (live : List Mirror) (cause : LeftCause) (kept : CallStage) → RowOk net journal n next_uid (source_left (file_id n) s live cause kept).file (source_left (file_id n) s live cause kept).entries
+  source_ok [] cause kept = nothing_new net journal n next_uid _ (staged_settling kept)
+  source_ok (m ∷ live) cause kept =
+      let e : Entry = entry.Left (file_id n) m.id cause in
+      let phase : phase_without s.phase (is_source m.id s.live) ≡ Settling h.busy.copies = ap (λ p. phase_without p (is_source m.id s.live)) h.busy.phase in
+      cond_both (is_last s.live) (stays s (Settles kept)) (record { file = record { layout = after_loss s m.id; activity = Settles Waits }; entries = e ∷ []; uids = 0; names = 0 })
+      (λ (x : FileStep). RowOk net journal n next_uid x.file x.entries)
+      (λ w. nothing_new net journal n next_uid _ (staged_settling kept))
+      (λ w. loses net n next_uid journal s (Settles stage) (Settles Waits) m.id cause h (live_settling h.busy.copies h.busy.phase) (ap (λ p. live_of p (ids_of (but_for m.id s.live))) phase) (record { copies = h.busy.copies; phase = phase }))
+
+  pub settling_late : RowOk net journal n next_uid (settling_timed_out (file_id n) s stage).file (settling_timed_out (file_id n) s stage).entries
+  settling_late = by_stage stage
+    where
+      by_stage : (x : CallStage) → RowOk net journal n next_uid (settling_timed_out (file_id n) s x).file (settling_timed_out (file_id n) s x).entries
+      by_stage Waits = nothing_new net journal n next_uid _ (staged_settling Waits)
+      by_stage (Out xid timeouts) =
+          cond_both (ltb (timeouts + 1) 3) (stays s (Settles (Out xid (timeouts + 1)))) (source_left (file_id n) s s.live Timeouts (KeptOut xid)) (λ (x : FileStep). RowOk net journal n next_uid x.file x.entries)
+          (λ e. nothing_new net journal n next_uid _ (staged_settling (Out xid (timeouts + 1)))) (λ e. source_ok s.live Timeouts (KeptOut xid))
+      by_stage (KeptOut xid) = nothing_new net journal n next_uid _ (staged_settling (KeptOut xid))
+      by_stage KeptBack = nothing_new net journal n next_uid _ (staged_settling KeptBack)
+      by_stage Done = nothing_new net journal n next_uid _ (staged_settling Done)
+      by_stage GivenUp = nothing_new net journal n next_uid _ (staged_settling GivenUp)
+
+-- ---- a step that draws nothing, or a uid and names
+
+pub data StepOk (net : Net) (journal : List Entry) (n next_uid : ℕ) (s : FileStep) : Type 0 where
+  Plain : s.uids ≡ 0 → s.names ≡ 0 → RowOk net journal n next_uid s.file s.entries → StepOk net journal n next_uid s
+  Draws : s.uids ≡ 1 → RowOk (drawn_net net n next_uid s.names) journal n (next_uid + 1) s.file s.entries → StepOk net journal n next_uid s
