@@ -50,7 +50,7 @@ left_mirrors net n journal id gone cause live h =
     (λ m k. record { name = k.name; drawn = k.drawn; bears = k.bears; home = k.home; seen = k.seen; owned = all_append (KeepsOwner net.servers n m.id) journal (entry.Left (file_id n) id cause ∷ []) k.owned (tt, tt) }) h)
 
 -- a file that loses a mirror, in a phase before and behind in which it has a live list
-loses : (net : Net) (n next_uid : ℕ) (journal : List Entry) (s : LayoutState) (was activity : Activity) (id : MirrorId) (cause : LeftCause) → IsFile net journal n (record { layout = s; activity = was })
+pub loses : (net : Net) (n next_uid : ℕ) (journal : List Entry) (s : LayoutState) (was activity : Activity) (id : MirrorId) (cause : LeftCause) → IsFile net journal n (record { layout = s; activity = was })
     → live_of s.phase (ids_of s.live) ≡ Some (ids_of s.live) → live_of (phase_without s.phase (is_source id s.live)) (ids_of (but_for id s.live)) ≡ Some (ids_of (but_for id s.live))
     → IsBusyWith net (journal ++ entry.Left (file_id n) id cause ∷ []) n (after_loss s id) activity
     → RowOk net journal n next_uid (record { layout = after_loss s id; activity = activity }) (entry.Left (file_id n) id cause ∷ [])
@@ -71,6 +71,26 @@ loses net n next_uid journal s was activity id cause h before behind busy =
       };
     }
 
+-- a file that has a live list is free, with the same mirrors
+pub frees : (net : Net) (n next_uid : ℕ) (journal : List Entry) (s : LayoutState) (was : Activity) → IsFile net journal n (record { layout = s; activity = was }) → live_of s.phase (ids_of s.live) ≡ Some (ids_of s.live)
+    → RowOk net journal n next_uid (record { layout = with_phase s Free; activity = Idle }) (entry.Free (file_id n) (ids_of s.live) ∷ [])
+frees net n next_uid journal s was h before =
+    let e : Entry = entry.Free (file_id n) (ids_of s.live) in
+    record {
+      notes = (free_note n next_uid (ids_of s.live), tt);
+      right = (tt, tt);
+      file = record {
+        live = live_append (file_id n) None journal (e ∷ []) ∙ ap (λ x. live_by (file_id n) x (e ∷ [])) (h.live ∙ before)
+        ∙ ap (λ (b : Bool). cond b (first_free (ids_of s.live) (Some (ids_of s.live))) (Some (ids_of s.live))) (own_file (file_id n));
+        apart = h.apart;
+        mirrors = all_more (IsMirrorOf net n journal) (IsMirrorOf net n (journal ++ e ∷ [])) s.live
+        (λ m k. record { name = k.name; drawn = k.drawn; bears = k.bears; home = k.home; seen = k.seen; owned = all_append (KeepsOwner net.servers n m.id) journal (e ∷ []) k.owned (tt, tt) }) h.mirrors;
+        cred = h.cred;
+        top = h.top;
+        busy = refl;
+      };
+    }
+
 -- ---- settling
 
 module _ (net : Net) (n next_uid : ℕ) (journal : List Entry) (s : LayoutState) (stage : CallStage) (h : IsFile net journal n (record { layout = s; activity = Settles stage })) where
@@ -80,7 +100,7 @@ module _ (net : Net) (n next_uid : ℕ) (journal : List Entry) (s : LayoutState)
   live_settling : (copies : CopyKind) → s.phase ≡ Settling copies → live_of s.phase (ids_of s.live) ≡ Some (ids_of s.live)
   live_settling copies is = ap (λ p. live_of p (ids_of s.live)) is
 
-  source_ok : (live : List Mirror) (cause : LeftCause) (kept : CallStage) → RowOk net journal n next_uid (source_left (file_id n) s live cause kept).file (source_left (file_id n) s live cause kept).entries
+  pub source_ok : (live : List Mirror) (cause : LeftCause) (kept : CallStage) → RowOk net journal n next_uid (source_left (file_id n) s live cause kept).file (source_left (file_id n) s live cause kept).entries
   source_ok [] cause kept = nothing_new net journal n next_uid _ (staged_settling kept)
   source_ok (m ∷ live) cause kept =
       let e : Entry = entry.Left (file_id n) m.id cause in

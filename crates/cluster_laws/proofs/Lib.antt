@@ -18,3 +18,5 @@ mod Makings
 mod MakingSteps
 mod Draws
 mod CopySteps
+mod Copyings
+mod Targets
