@@ -20,3 +20,7 @@ mod Draws
 mod CopySteps
 mod Copyings
 mod Targets
+mod Known
+mod Swaps
+mod PhaseOk
+mod CallsOut
