@@ -1,15 +1,47 @@
 -- The next call of a file goes out under a new number.
-use Rattle.std.proofs.Common.{◌≡◌, ℕ, ◌+◌, ◌<◌, ◌≤◌, List, [], ◌∷◌, ◌++◌, Option, Some, None}
+use Rattle.std.proofs.Common.{◌≡◌, ℕ, ◌+◌, ◌<◌, ◌≤◌, Bool, true, false, eqb, cond, List, [], ◌∷◌, ◌++◌, set, Option, Some, None, refl, sym, ap, subst, ◌∙◌, arith, append-nil}
+use Rattle.std.specs.Prelude.{slice_get, position}
 use Rattle.std.specs.List.{AllByRecursion}
-use Rattle.cluster_model.specs.declared.ids.NodeId.TheVariants.{Mds}
+use Rattle.std.proofs.lemmas.Bool.{cond_both, eqb-true}
+use Rattle.std.proofs.lemmas.Option.{same_Some}
+use Rattle.cluster_model.specs.declared.ids.NodeId.TheVariants.{Mds, Server, Client}
+use Rattle.cluster_model.specs.declared.ids.MirrorId.{MirrorId}
+use Rattle.cluster_model.specs.declared.ids.Mirror.{Mirror}
 use Rattle.cluster_model.specs.declared.entry.Entry.{Entry}
-use Rattle.cluster_model.specs.DsCalls.{DsCallValue}
-use Rattle.cluster_model.specs.MdsFiles.{MdsFile}
-use Rattle.cluster_model.specs.FilePhases.{CallOut, call_out}
-use Rattle.cluster_model.specs.Machine.{PacketValue, Call}
-use Rattle.cluster_laws.proofs.Facts.{AllFollow}
-use Rattle.cluster_laws.proofs.Invariant.{Net, IsCallOf, IsPacket, IsFile}
-use Rattle.cluster_laws.proofs.Onward.{Later}
+use Rattle.cluster_model.specs.declared.call_stage.CallStage.{CallStage}
+use Rattle.cluster_model.specs.declared.call_stage.CallStage.TheVariants.{Waits, Out, KeptOut, KeptBack, Done, GivenUp}
+use Rattle.cluster_model.specs.declared.fence_mirror.FenceMirror.{FenceMirror}
+use Rattle.cluster_model.specs.declared.layout_state.LayoutState.{LayoutState}
+use Rattle.cluster_model.specs.File.{StoredFile}
+use Rattle.cluster_model.specs.Server.{ServerState}
+use Rattle.cluster_model.specs.DsCalls.{DsCallValue, Create, SetAttr, mirror_name}
+use Rattle.cluster_model.specs.GuardLaws.{WasAsked}
+use Rattle.cluster_model.specs.Fences.{FenceState, FenceCall, waits, is_out, with_stage, with_mirror, call_at, call_from, waiting_at, next_call}
+use Rattle.cluster_model.specs.MdsFiles.{Creation, Creations, Activity, Idle, Makes, Fences, Settles, Copies, MdsFile, in_stage, with_creation, is_given_up}
+use Rattle.cluster_model.specs.FilePhases.{CallOut, call_out, call_out_of, create_out, create_out_at, creation_waiting, fence_out, settle_out}
+use Rattle.cluster_model.specs.Machine.{PacketValue, Call, Reply, numbered_at}
+use Rattle.cluster_laws.proofs.Facts.{AllFollow, Bears, HasGiven}
+use Rattle.cluster_laws.proofs.Lists.{all_append, all_more, all_at, all_set, push_old, found_at, same_numbered}
+use Rattle.cluster_laws.proofs.Invariant.{Net, IsThisCall, AreThisCall, IsAskedFor, IsCallOf, IsPacket, IsCreationOf, IsFenceCall, IsInFence, IsFile, are_apart}
+use Rattle.cluster_laws.proofs.Onward.{Later, creation_on, in_fence_on, file_on}
+use Rattle.cluster_laws.proofs.FenceSteps.{kept_set}
+use Rattle.cluster_laws.proofs.Makings.{servers_set}
+use Rattle.cluster_laws.proofs.Targets.{put_target}
+use Rattle.cluster_laws.proofs.CopySteps.{staged_settling}
+
+-- a data file belongs to this uid or an earlier one
+pub record OwnedTo (servers : List ServerState) (id : MirrorId) (uid : ℕ) : Type 0 where
+  pub server : ServerState
+  pub there : numbered_at servers id.server ≡ Some server
+  pub index : ℕ
+  pub place : id.fileid ≡ index + 2
+  pub file : StoredFile
+  pub is : slice_get server.files index ≡ Some file
+  pub most : file.owner ≤ uid
+
+-- no data file belongs to a uid above the highest that was drawn for its file
+abbrev pub AreBounded : Net → Type 0
+AreBounded net = (id : MirrorId) (name : ℕ) → Bears net.servers id name → name < net.next_name → OwnedTo net.servers id (net.drawn.top (net.drawn.home name))
 
 -- the network with one more packet, and the last number of a call of the metadata server
 abbrev pub sent_net : Net → ℕ → PacketValue → Net
@@ -19,9 +51,175 @@ abbrev pub mds_call : ℕ → CallOut → PacketValue
 mds_call xid c = Call Mds c.server xid 0 c.call
 
 pub later_sent : (net : Net) (server xid uid : ℕ) (call : DsCallValue) → AllFollow net.servers net.servers → net.last_xid < xid → Later net (sent_net net xid (Call Mds server xid uid call))
-later_sent net server xid uid call same new = ?
+later_sent net server xid uid call same new =
+    let p : PacketValue = Call Mds server xid uid call in
+    record {
+      servers = same;
+      sent = λ place q is. push_old net.packets (p ∷ []) place q is;
+      calls = λ x k c used all. all_append (IsThisCall x k c) net.packets (p ∷ []) all ((λ e. absurd (omega (arith, used, new, e))), tt);
+      used = omega (arith, new);
+      names = omega arith;
+      home = λ k less. refl;
+      low = λ k less. refl;
+      tops = λ g. omega arith;
+    }
 
-pub call_out_ok : (net : Net) (n xid : ℕ) (journal : List Entry) (f : MdsFile) (c : CallOut) → AllFollow net.servers net.servers → AllByRecursion (IsPacket net) net.packets → net.last_xid < xid
-    → IsFile net journal n f → call_out f xid ≡ Some c
-    → IsCallOf net.drawn net.servers net.next_name c.server c.call × IsFile (sent_net net xid (mds_call xid c)) journal n c.file
-call_out_ok net n xid journal f c same packets new h is = ?
+-- ---- no other call has the number
+
+not_this : (net : Net) (xid server : ℕ) (call : DsCallValue) → net.last_xid < xid → (p : PacketValue) → IsPacket net p → IsThisCall xid server call p
+not_this net xid server call new (Call Mds to number uid asked) h = λ e. let used = h.0 in absurd (omega (arith, used, new, e))
+not_this net xid server call new (Call (Server n) to number uid asked) h = tt
+not_this net xid server call new (Call (Client n) to number uid asked) h = tt
+not_this net xid server call new (Reply from to number reply) h = tt
+
+only_call : (net : Net) (xid server : ℕ) (call : DsCallValue) → net.last_xid < xid → AllByRecursion (IsPacket net) net.packets → AreThisCall (net.packets ++ Call Mds server xid 0 call ∷ []) xid server call
+only_call net xid server call new packets =
+    all_append (IsThisCall xid server call) net.packets (Call Mds server xid 0 call ∷ []) (all_more (IsPacket net) (IsThisCall xid server call) net.packets (not_this net xid server call new) packets) ((λ e. (refl, refl)), tt)
+
+-- a mirror to which a call waits is not given up
+waits_up : (stage : CallStage) → waits stage ≡ true → is_given_up stage ≡ false
+waits_up Waits w = refl
+waits_up (Out xid timeouts) w = absurd cc
+waits_up (KeptOut xid) w = absurd cc
+waits_up KeptBack w = absurd cc
+waits_up Done w = absurd cc
+waits_up GivenUp w = absurd cc
+
+-- ---- by what is under way
+
+module _ (net : Net) (n xid : ℕ) (journal : List Entry) (same : AllFollow net.servers net.servers) (packets : AllByRecursion (IsPacket net) net.packets) (new : net.last_xid < xid) (bounded : AreBounded net) where
+  abbrev GoesOut : CallOut → Type 0
+  GoesOut c = IsCallOf net.drawn net.servers net.next_name c.server c.call × IsFile (sent_net net xid (mds_call xid c)) journal n c.file
+
+  -- the file as it was, in the network then
+  as_it_was : (server : ℕ) (call : DsCallValue) (f : MdsFile) → IsFile net journal n f → IsFile (sent_net net xid (Call Mds server xid 0 call)) journal n f
+  as_it_was server call f h =
+      let after : Net = sent_net net xid (Call Mds server xid 0 call) in
+      subst (λ (j : List Entry). IsFile after j n f) (append-nil journal) (file_on net after (later_sent net server xid 0 call same new) n journal [] tt refl f tt h)
+
+  creation_out : (owner : ℕ) (c : Creation) → IsCreationOf net n owner c → IsCreationOf (sent_net net xid (Call Mds c.server xid 0 (Create c.name owner))) n owner (in_stage c (Out xid 0))
+  creation_out owner c h =
+      let after : Net = sent_net net xid (Call Mds c.server xid 0 (Create c.name owner)) in
+      let k = creation_on net after (later_sent net c.server xid 0 (Create c.name owner) same new) n owner c h in
+      record {
+        drawn = k.drawn;
+        home = k.home;
+        low = k.low;
+        out = λ x o. subst (λ (y : ℕ). (y ≤ xid) × AreThisCall after.packets y c.server (Create c.name owner)) (eqb-true xid x o) (omega arith, only_call net xid c.server (Create c.name owner) new packets);
+        made = k.made;
+      }
+
+  creates : (owner : ℕ) (c : Creation) → IsCreationOf net n owner c → IsCallOf net.drawn net.servers net.next_name c.server (Create c.name owner)
+  creates owner c h = (h.drawn, sym h.low)
+
+  makes : (s : LayoutState) (all : Creations) → IsFile net journal n (record { layout = s; activity = Makes all }) → (place : ℕ) (c : Creation) → slice_get all.items place ≡ Some c
+      → GoesOut (record { file = record { layout = s; activity = Makes (with_creation all place (in_stage c (Out xid 0))) }; server = c.server; call = Create c.name all.owner })
+  makes s all h place c there =
+      let after : Net = sent_net net xid (Call Mds c.server xid 0 (Create c.name all.owner)) in
+      let k = as_it_was c.server (Create c.name all.owner) (record { layout = s; activity = Makes all }) h in
+      let it = all_at (IsCreationOf net n all.owner) all.items place c h.busy.items there in
+      (creates all.owner c it, record {
+        live = k.live;
+        apart = k.apart;
+        mirrors = k.mirrors;
+        cred = k.cred;
+        top = k.top;
+        busy = record {
+          phase = k.busy.phase;
+          items = all_set (IsCreationOf after n all.owner) all.items place (in_stage c (Out xid 0)) k.busy.items (creation_out all.owner c it);
+          apart = ap are_apart (servers_set all.items place c (in_stage c (Out xid 0)) there refl) ∙ k.busy.apart;
+          fences = k.busy.fences;
+        };
+      })
+
+  copies : (s : LayoutState) (all : Creations) → IsFile net journal n (record { layout = s; activity = Copies all }) → (place : ℕ) (c : Creation) → slice_get all.items place ≡ Some c
+      → GoesOut (record { file = record { layout = s; activity = Copies (with_creation all place (in_stage c (Out xid 0))) }; server = c.server; call = Create c.name all.owner })
+  copies s all h place c there =
+      let after : Net = sent_net net xid (Call Mds c.server xid 0 (Create c.name all.owner)) in
+      let k = as_it_was c.server (Create c.name all.owner) (record { layout = s; activity = Copies all }) h in
+      let it = all_at (IsCreationOf net n all.owner) all.items place c h.busy.items there in
+      (creates all.owner c it, put_target after n 0 journal s all k place c (in_stage c (Out xid 0)) there refl (creation_out all.owner c it))
+
+  -- the call of a fence is such as is ever made
+  asks : (s : LayoutState) (fence : FenceState) → IsFile net journal n (record { layout = s; activity = Fences fence }) → (m : FenceMirror) → IsInFence net n fence.cred m
+      → IsAskedFor net.drawn net.servers net.next_name m.id.server m.id.fileid fence.cred m.seen
+  asks s fence h m it =
+      let o = bounded m.id it.name it.bears it.drawn in
+      let most = o.most in
+      let top : net.drawn.top (net.drawn.home it.name) ≡ fence.cred = ap net.drawn.top it.home ∙ h.busy.top in
+      let seen = it.seen in
+      let server = same_numbered net.servers m.id.server seen.server o.server seen.there o.there in
+      record {
+        asked = record {
+          server = o.server;
+          there = o.there;
+          asked = record { index = o.index; place = o.place; file = o.file; there = o.is; given = rw (← server) seen.seen; shut = λ less. absurd (omega (arith, less, most, top)) };
+        };
+        name = it.name;
+        drawn = it.drawn;
+        bears = it.bears;
+        up = omega (arith, top);
+      }
+
+  fences : (s : LayoutState) (fence : FenceState) → IsFile net journal n (record { layout = s; activity = Fences fence }) → (place : ℕ) (m : FenceMirror) → slice_get fence.mirrors place ≡ Some m → waits m.stage ≡ true
+      → GoesOut (record { file = record { layout = s; activity = Fences (with_mirror fence place (with_stage m (Out xid 0))) }; server = m.id.server; call = SetAttr m.id.fileid fence.cred m.seen })
+  fences s fence h place m there waiting =
+      let call : DsCallValue = SetAttr m.id.fileid fence.cred m.seen in
+      let after : Net = sent_net net xid (Call Mds m.id.server xid 0 call) in
+      let k = as_it_was m.id.server call (record { layout = s; activity = Fences fence }) h in
+      let old = all_at (IsInFence net n fence.cred) fence.mirrors place m h.busy.mirrors there in
+      let it = in_fence_on net after (later_sent net m.id.server xid 0 call same new) n fence.cred m old in
+      let goes : IsFenceCall after fence.cred xid m.id = record { used = omega arith; guard = m.seen; calls = only_call net xid m.id.server call new packets } in
+      (asks s fence h m old, record {
+        live = k.live;
+        apart = k.apart;
+        mirrors = k.mirrors;
+        cred = k.cred;
+        top = k.top;
+        busy = record {
+          next = k.busy.next;
+          end = k.busy.end;
+          phase = k.busy.phase;
+          fresh = k.busy.fresh;
+          top = k.busy.top;
+          later = k.busy.later;
+          mirrors = all_set (IsInFence after n fence.cred) fence.mirrors place (with_stage m (Out xid 0)) k.busy.mirrors
+          (record { name = it.name; drawn = it.drawn; bears = it.bears; home = it.home; seen = it.seen; out = λ x o. subst (λ (y : ℕ). IsFenceCall after fence.cred y m.id) (eqb-true xid x o) goes; done = λ is. absurd cc });
+          ids = k.busy.ids ∙ sym (kept_set fence.mirrors place m (with_stage m (Out xid 0)) there refl (sym (waits_up m.stage waiting)));
+        };
+      })
+
+  -- ---- the first that waits
+
+  by_creation : (s : LayoutState) (activity : Creations → Activity) (all : Creations) → ((place : ℕ) (c : Creation) → slice_get all.items place ≡ Some c → GoesOut (record { file = record { layout = s; activity = activity (with_creation all place (in_stage c (Out xid 0))) }; server = c.server; call = Create c.name all.owner }))
+      → (was : Activity) (got : Option ℕ) → creation_waiting all ≡ got → (c : CallOut) → create_out (record { layout = s; activity = was }) activity all xid got ≡ Some c → GoesOut c
+  by_creation s activity all each was None at c is = absurd cc
+  by_creation s activity all each was (Some place) at c is =
+      let found = found_at (λ x. waits x.stage) all.items place at in
+      let x = found.0 in
+      let there = found.1 in
+      subst GoesOut (same_Some _ c (sym (ap (create_out_at (record { layout = s; activity = was }) activity all xid place) there) ∙ is)) (each place x there)
+
+  by_mirror : (s : LayoutState) (fence : FenceState) → IsFile net journal n (record { layout = s; activity = Fences fence }) → (got : Option ℕ) → waiting_at fence ≡ got → (c : CallOut)
+      → fence_out (record { layout = s; activity = Fences fence }) (call_from fence xid got) ≡ Some c → GoesOut c
+  by_mirror s fence h None at c is = absurd cc
+  by_mirror s fence h (Some place) at c is =
+      let found = found_at (λ x. waits x.stage) fence.mirrors place at in
+      let m = found.0 in
+      let there = found.1 in
+      subst GoesOut (same_Some _ c (sym (ap (λ o. fence_out (record { layout = s; activity = Fences fence }) (call_at fence xid place o)) there) ∙ is)) (fences s fence h place m there found.2)
+
+  by_source : (s : LayoutState) (stage : CallStage) → IsFile net journal n (record { layout = s; activity = Settles stage }) → (live : List Mirror) (c : CallOut) → settle_out (record { layout = s; activity = Settles stage }) xid live ≡ Some c → GoesOut c
+  by_source s stage h [] c is = absurd cc
+  by_source s stage h (m ∷ live) c is = subst GoesOut (same_Some _ c is) (tt, staged_settling _ n 0 journal s stage (as_it_was m.id.server _ (record { layout = s; activity = Settles stage }) h) (Out xid 0))
+
+  by_activity : (s : LayoutState) (activity : Activity) → IsFile net journal n (record { layout = s; activity = activity }) → (c : CallOut) → call_out (record { layout = s; activity = activity }) xid ≡ Some c → GoesOut c
+  by_activity s Idle h c is = absurd cc
+  by_activity s (Makes all) h c is = by_creation s Makes all (makes s all h) (Makes all) (creation_waiting all) refl c is
+  by_activity s (Fences fence) h c is = by_mirror s fence h (waiting_at fence) refl c is
+  by_activity s (Settles stage) h c is =
+      cond_both (waits stage) (settle_out (record { layout = s; activity = Settles stage }) xid s.live) None (λ (o : Option CallOut). o ≡ Some c → GoesOut c) (λ w. by_source s stage h s.live c) (λ w e. absurd cc) is
+  by_activity s (Copies all) h c is = by_creation s Copies all (copies s all h) (Copies all) (creation_waiting all) refl c is
+
+  pub call_out_ok : (f : MdsFile) (c : CallOut) → IsFile net journal n f → call_out f xid ≡ Some c → GoesOut c
+  call_out_ok f c h is = by_activity f.layout f.activity h c is
