@@ -24,3 +24,4 @@ mod Known
 mod Swaps
 mod PhaseOk
 mod CallsOut
+mod Bounded
