@@ -1,9 +1,12 @@
 //! What holds of every run of the cluster's machine.
 #![tactic(auto)]
 
-ghost use Rattle.std.specs.Prelude.{ℕ, List};
+ghost use Rattle.std.specs.Prelude.{ℕ, List, ◌≡◌, ◌∷◌, []};
+ghost use Rattle.cluster_model.specs.declared.entry.Entry.{Entry as JournalEntry};
 ghost use Rattle.cluster_model.specs.Machine.{Move};
 ghost use Rattle.cluster_model.specs.FenceLaw.{FenceLaw};
+ghost use Rattle.cluster_laws.specs.Telling.{SaysTheSame};
+ghost use Rattle.cluster_laws.specs.WorkedRuns.{printed, two_periods, two_periods_text, restart_between, restart_between_text, late_write, late_write_text};
 
 use cluster_model::server_guards;
 
@@ -16,3 +19,18 @@ pub fn fence_law()
 {
     server_guards();
 }
+
+/// The fence law looks at the entries of live mirrors, fences, bytes and owners alone: what it says of a journal without
+/// packets, deliveries and notes it says of the whole.
+pub fn telling_entries()
+    ensures { (journal : List JournalEntry) → SaysTheSame journal }
+{}
+
+/// Three runs with the text of their journals: two periods that end clean, a lease that ends with a restart in the
+/// middle of its fence, and a write that comes between the acknowledgements of two mirrors. In each an old call comes
+/// once more at the end.
+pub fn worked_runs()
+    ensures two_periods { printed (1 ∷ []) two_periods ≡ two_periods_text }
+    ensures restart_between { printed (1 ∷ []) restart_between ≡ restart_between_text }
+    ensures late_write { printed (1 ∷ 1 ∷ []) late_write ≡ late_write_text }
+{}
