@@ -22,5 +22,7 @@ mod Copyings
 mod Targets
 mod Known
 mod Swaps
+mod PlainSteps
+mod FreeHeld
 mod PhaseOk
 mod CallsOut
