@@ -22,6 +22,8 @@ mod Copyings
 mod Targets
 mod Known
 mod Swaps
+mod PlainSteps
+mod FreeHeld
 mod PhaseOk
 mod CallsOut
 mod Bounded
