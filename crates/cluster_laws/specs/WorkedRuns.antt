@@ -1,17 +1,22 @@
--- Runs that are worked out: their moves, and the text of the journals that come of them.
-use Rattle.std.specs.Prelude.{ℕ, false, List, [], ◌∷◌, codes}
+-- Runs that are worked out: their moves, and the journals that come of them.
+use Rattle.std.specs.Prelude.{ℕ, false, List, [], ◌∷◌}
 use Rattle.cluster_model.specs.declared.ids.NodeId.TheVariants.{Client}
-use Rattle.cluster_model.specs.declared.phase.EndCause.TheVariants.{Lease}
+use Rattle.cluster_model.specs.declared.ids.MirrorId.{MirrorId}
+use Rattle.cluster_model.specs.declared.phase.EndCause.TheVariants.{Returned, Lease}
+use Rattle.cluster_model.specs.declared.entry.Entry.{Entry}
+use Rattle.cluster_model.specs.declared.entry.Entry.TheVariants.{Granted, Sent, Told, Ended, Fenced, Free, Applied, Committed, Owner, Restarted}
 use Rattle.cluster_model.specs.DsCalls.{DsCallValue, Write, Commit}
 use Rattle.cluster_model.specs.MdsFiles.{a_uid}
 use Rattle.cluster_model.specs.FilePhases.{AsksLayout, Returns, Revokes}
-use Rattle.cluster_model.specs.Machine.{Move, Deliver, Creates, Happens, CallsOut, Uses, Takes, Tells, Restarts, new_machine, journal_of}
+use Rattle.cluster_model.specs.Machine.{Move, Deliver, Creates, Happens, CallsOut, Uses, Takes, Tells, Restarts, new_machine, journal_of, file_id}
 use Rattle.cluster_model.specs.FenceLaw.{new_servers}
-use Rattle.cluster_model.specs.Print.{print}
 
--- the text of a run's journal, from data servers that begin in these boots
-abbrev pub printed : List ℕ → List Move → List ℕ
-printed boots moves = print (journal_of (new_machine (new_servers 1 boots)) moves)
+-- a run's journal, from data servers that begin in these boots
+abbrev pub run_journal : List ℕ → List Move → List Entry
+run_journal boots moves = journal_of (new_machine (new_servers 1 boots)) moves
+
+abbrev at_server : ℕ → ℕ → MirrorId
+at_server server fileid = record { server = server; fileid = fileid }
 
 -- a client's WRITE of these bytes to the only file of the first data server
 abbrev write_there : ℕ → ℕ → ℕ → List ℕ → Move
@@ -19,10 +24,6 @@ write_there xid uid at bytes = Uses (Client 1) 1 xid uid (Write 2 at false bytes
 
 abbrev commit_there : ℕ → ℕ → Move
 commit_there xid uid = Uses (Client 1) 1 xid uid (Commit 2)
-
--- file 1 is made, with a mirror at the first data server: packets 0 and 1
-abbrev making : List Move
-making = Creates (1 ∷ []) ∷ CallsOut 1 1 ∷ Deliver 0 ∷ Deliver 1 ∷ []
 
 -- ---- two periods, each of a write that is committed and a clean end
 
@@ -37,8 +38,29 @@ two_periods =
     ∷ Happens 1 (Returns 1 (a_uid 65537) []) ∷ CallsOut 1 4 ∷ Deliver 14 ∷ Deliver 15 ∷ CallsOut 1 5 ∷ Deliver 16 ∷ Deliver 17
     ∷ Deliver 8 ∷ Deliver 2 ∷ Deliver 10 ∷ []
 
-abbrev pub two_periods_text : List ℕ
-two_periods_text = codes "owner d1.2 65536\nfree 1 d1.2\ngranted 1 65536 c1\nsent 1 65536 0 41\napplied d1.2 65536 0 41\ncommitted d1.2\ntold 1 65536 0 41\nended 1 65536 returned\nowner d1.2 65537\nfenced 1 65536 65537 d1.2\nfree 1 d1.2\ngranted 1 65537 c1\nsent 1 65537 1 42\napplied d1.2 65537 1 42\ncommitted d1.2\ntold 1 65537 1 42\nended 1 65537 returned\nowner d1.2 65538\nfenced 1 65537 65538 d1.2\nfree 1 d1.2\n"
+abbrev pub two_periods_journal : List Entry
+two_periods_journal =
+    Owner (at_server 1 2) (a_uid 65536)
+    ∷ Free (file_id 1) (at_server 1 2 ∷ [])
+    ∷ Granted (file_id 1) (a_uid 65536) (Client 1)
+    ∷ Sent (file_id 1) (a_uid 65536) 0 (65 ∷ [])
+    ∷ Applied (at_server 1 2) (a_uid 65536) 0 (65 ∷ [])
+    ∷ Committed (at_server 1 2)
+    ∷ Told (file_id 1) (a_uid 65536) 0 (65 ∷ [])
+    ∷ Ended (file_id 1) (a_uid 65536) Returned
+    ∷ Owner (at_server 1 2) (a_uid 65537)
+    ∷ Fenced (file_id 1) (a_uid 65536) (a_uid 65537) (at_server 1 2 ∷ [])
+    ∷ Free (file_id 1) (at_server 1 2 ∷ [])
+    ∷ Granted (file_id 1) (a_uid 65537) (Client 1)
+    ∷ Sent (file_id 1) (a_uid 65537) 1 (66 ∷ [])
+    ∷ Applied (at_server 1 2) (a_uid 65537) 1 (66 ∷ [])
+    ∷ Committed (at_server 1 2)
+    ∷ Told (file_id 1) (a_uid 65537) 1 (66 ∷ [])
+    ∷ Ended (file_id 1) (a_uid 65537) Returned
+    ∷ Owner (at_server 1 2) (a_uid 65538)
+    ∷ Fenced (file_id 1) (a_uid 65537) (a_uid 65538) (at_server 1 2 ∷ [])
+    ∷ Free (file_id 1) (at_server 1 2 ∷ [])
+    ∷ []
 
 -- ---- a lease that ends, and a restart in the middle of the fence
 
@@ -51,8 +73,20 @@ restart_between =
     ∷ Happens 1 (Revokes Lease) ∷ CallsOut 1 2 ∷ Deliver 4 ∷ Restarts 1 [] ∷ Deliver 5 ∷ CallsOut 1 3 ∷ Deliver 6 ∷ Deliver 7 ∷ CallsOut 1 4 ∷ Deliver 8 ∷ Deliver 9
     ∷ CallsOut 1 5 ∷ Deliver 10 ∷ Deliver 11 ∷ Deliver 2 ∷ []
 
-abbrev pub restart_between_text : List ℕ
-restart_between_text = codes "owner d1.2 65536\nfree 1 d1.2\ngranted 1 65536 c1\nsent 1 65536 0 41\napplied d1.2 65536 0 41\nended 1 65536 lease\nrestarted d1 -\nowner d1.2 65537\nfenced 1 65536 65537 d1.2\ncommitted d1.2\nfree 1 d1.2\n"
+abbrev pub restart_between_journal : List Entry
+restart_between_journal =
+    Owner (at_server 1 2) (a_uid 65536)
+    ∷ Free (file_id 1) (at_server 1 2 ∷ [])
+    ∷ Granted (file_id 1) (a_uid 65536) (Client 1)
+    ∷ Sent (file_id 1) (a_uid 65536) 0 (65 ∷ [])
+    ∷ Applied (at_server 1 2) (a_uid 65536) 0 (65 ∷ [])
+    ∷ Ended (file_id 1) (a_uid 65536) Lease
+    ∷ Restarted 1 []
+    ∷ Owner (at_server 1 2) (a_uid 65537)
+    ∷ Fenced (file_id 1) (a_uid 65536) (a_uid 65537) (at_server 1 2 ∷ [])
+    ∷ Committed (at_server 1 2)
+    ∷ Free (file_id 1) (at_server 1 2 ∷ [])
+    ∷ []
 
 -- ---- two mirrors, one of which the old user still writes to
 
@@ -65,5 +99,16 @@ late_write =
     ∷ Happens 1 (Revokes Lease) ∷ CallsOut 1 3 ∷ CallsOut 1 4 ∷ Deliver 6 ∷ Deliver 8 ∷ Deliver 4 ∷ Deliver 5 ∷ Deliver 7 ∷ Deliver 11
     ∷ CallsOut 1 5 ∷ Deliver 12 ∷ Deliver 13 ∷ Deliver 5 ∷ Deliver 4 ∷ []
 
-abbrev pub late_write_text : List ℕ
-late_write_text = codes "owner d1.2 65536\nowner d2.2 65536\nfree 1 d1.2,d2.2\ngranted 1 65536 c1\nsent 1 65536 0 41\nended 1 65536 lease\nowner d1.2 65537\napplied d2.2 65536 0 41\nowner d2.2 65537\nfenced 1 65536 65537 d1.2,d2.2\n"
+abbrev pub late_write_journal : List Entry
+late_write_journal =
+    Owner (at_server 1 2) (a_uid 65536)
+    ∷ Owner (at_server 2 2) (a_uid 65536)
+    ∷ Free (file_id 1) (at_server 1 2 ∷ at_server 2 2 ∷ [])
+    ∷ Granted (file_id 1) (a_uid 65536) (Client 1)
+    ∷ Sent (file_id 1) (a_uid 65536) 0 (65 ∷ [])
+    ∷ Ended (file_id 1) (a_uid 65536) Lease
+    ∷ Owner (at_server 1 2) (a_uid 65537)
+    ∷ Applied (at_server 2 2) (a_uid 65536) 0 (65 ∷ [])
+    ∷ Owner (at_server 2 2) (a_uid 65537)
+    ∷ Fenced (file_id 1) (a_uid 65536) (a_uid 65537) (at_server 1 2 ∷ at_server 2 2 ∷ [])
+    ∷ []

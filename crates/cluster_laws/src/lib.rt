@@ -6,7 +6,7 @@ ghost use Rattle.cluster_model.specs.declared.entry.Entry.{Entry as JournalEntry
 ghost use Rattle.cluster_model.specs.Machine.{Move};
 ghost use Rattle.cluster_model.specs.FenceLaw.{FenceLaw};
 ghost use Rattle.cluster_laws.specs.Telling.{SaysTheSame};
-ghost use Rattle.cluster_laws.specs.WorkedRuns.{printed, two_periods, two_periods_text, restart_between, restart_between_text, late_write, late_write_text};
+ghost use Rattle.cluster_laws.specs.WorkedRuns.{run_journal, two_periods, two_periods_journal, restart_between, restart_between_journal, late_write, late_write_journal};
 
 use cluster_model::server_guards;
 
@@ -26,11 +26,11 @@ pub fn telling_entries()
     ensures { (journal : List JournalEntry) → SaysTheSame journal }
 {}
 
-/// Three runs with the text of their journals: two periods that end clean, a lease that ends with a restart in the
+/// Three runs with their journals: two periods that end clean, a lease that ends with a restart in the
 /// middle of its fence, and a write that comes between the acknowledgements of two mirrors. In each an old call comes
 /// once more at the end.
 pub fn worked_runs()
-    ensures two_periods { printed (1 ∷ []) two_periods ≡ two_periods_text }
-    ensures restart_between { printed (1 ∷ []) restart_between ≡ restart_between_text }
-    ensures late_write { printed (1 ∷ 1 ∷ []) late_write ≡ late_write_text }
+    ensures two_periods { run_journal (1 ∷ []) two_periods ≡ two_periods_journal }
+    ensures restart_between { run_journal (1 ∷ []) restart_between ≡ restart_between_journal }
+    ensures late_write { run_journal (1 ∷ 1 ∷ []) late_write ≡ late_write_journal }
 {}
