@@ -27,3 +27,4 @@ mod FreeHeld
 mod PhaseOk
 mod CallsOut
 mod Bounded
+mod Tellings

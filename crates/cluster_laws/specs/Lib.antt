@@ -1,2 +1,2 @@
-mod Telling
-mod WorkedRuns
+pub mod Telling
+pub mod WorkedRuns
