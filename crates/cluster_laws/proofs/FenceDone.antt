@@ -36,6 +36,10 @@ use Rattle.cluster_laws.proofs.Lives.{own_file}
 pub IsExact : (net : Net) (journal : List Entry) → Type 0
 IsExact net journal = (id : MirrorId) (name uid : ℕ) → Bears net.servers id name → name < net.next_name → OwnedFrom net.servers id uid → net.drawn.top (net.drawn.home name) ≤ uid → (content_of journal id).owner ≡ uid
 
+pub exact_by : (net : Net) (journal : List Entry) → ((id : MirrorId) (name uid : ℕ) → Bears net.servers id name → name < net.next_name → OwnedFrom net.servers id uid → net.drawn.top (net.drawn.home name) ≤ uid → (content_of journal id).owner ≡ uid) → IsExact net journal
+unfolding IsExact
+exact_by net journal h = h
+
 pub exact_on : (net : Net) (journal entries : List Entry) → AllByRecursion (λ e. (id : MirrorId) (c : Copy) → copy_after id c e ≡ c) entries → IsExact net journal → IsExact net (journal ++ entries)
 unfolding IsExact
 exact_on net journal entries same h id name uid bears drawn owned most =

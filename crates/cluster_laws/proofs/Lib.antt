@@ -24,3 +24,9 @@ mod Known
 mod Swaps
 mod PhaseOk
 mod CallsOut
+mod KnownNow
+mod Stepped
+mod SentPackets
+mod NewFiles
+mod Moves
+mod Runs

@@ -74,7 +74,7 @@ module _ (m : Machine) (journal : List Entry) (d : Drawn) (h : Holds m journal d
   moved_to = record { servers = m.servers; files = files; next_uid = next_uid; next_name = next_name; last_xid = last_xid; packets = packets; holdings = holdings }
 
   module _ (l : Later (net_of m d) (net_of moved_to e)) (entries : List Entry) (copies : AllByRecursion (λ x. (id : MirrorId) (c : Copy) → copy_after id c x ≡ c) entries) where
-    server_stays : (k : ℕ) (s : ServerState) → numbered_at m.servers k ≡ Some s → IsServer (net_of moved_to e) (journal ++ entries) k s
+    pub server_stays : (k : ℕ) (s : ServerState) → numbered_at m.servers k ≡ Some s → IsServer (net_of moved_to e) (journal ++ entries) k s
     server_stays k s there =
         let o = h.servers k s there in
         let same : (index : ℕ) → content_of (journal ++ entries) (mirror_of s index) ≡ content_of journal (mirror_of s index) =
