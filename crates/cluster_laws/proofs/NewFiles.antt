@@ -1,5 +1,5 @@
 -- A client creates a file: a uid and a name are drawn for it, and its mirrors are to be made.
-use Rattle.std.proofs.Common.{◌≡◌, ◌≢◌, ℕ, zero, suc, ◌+◌, ◌-◌, ◌<◌, ◌≤◌, Bool, true, false, not, ◌&&◌, eqb, ltb, cond, List, [], ◌∷◌, ◌++◌, length, map, Option, Some, None, refl, sym, ap, subst, ◌∙◌, arith, ◌⊎◌, inl, inr, append-nil}
+use Rattle.std.proofs.Common.{◌≡◌, ◌≢◌, ℕ, zero, suc, ◌+◌, ◌-◌, ◌<◌, ◌≤◌, Bool, true, false, not, ◌&&◌, ◌==◌, eqb, ltb, cond, List, [], ◌∷◌, ◌++◌, length, map, Option, Some, None, refl, sym, ap, subst, ◌∙◌, arith, ◌⊎◌, inl, inr, append-nil}
 use Rattle.std.specs.Prelude.{slice_get}
 use Rattle.std.specs.List.{AllByRecursion, list_any}
 use Rattle.std.proofs.lemmas.Bool.{cond_both, and_parts, ltb-true, ne_eqb}
@@ -19,7 +19,7 @@ use Rattle.cluster_laws.proofs.Onward.{Later, packet_on, file_on}
 use Rattle.cluster_laws.proofs.Moved.{server_stays, entries_more}
 use Rattle.cluster_laws.proofs.Draws.{draws, drawn_net, later_drawn, top_here, top_other, top_less, new_home, new_low, lows_drawn}
 use Rattle.cluster_laws.proofs.KnownNow.{all_stand}
-use Rattle.cluster_laws.proofs.Stepped.{HoldsAfter, no_step}
+use Rattle.cluster_laws.proofs.Stepped.{HoldsAfter, no_step, few_by}
 
 -- ---- one more at the end of a list
 
@@ -44,7 +44,7 @@ pushed xs y k x is =
 
 pushed_length : {A : Type 0} (xs : List A) (y : A) → length (xs ++ y ∷ []) ≡ length xs + 1
 pushed_length [] y = refl
-pushed_length (x ∷ xs) y = ap suc (pushed_length xs y)
+pushed_length (x ∷ xs) y = let rest = pushed_length xs y in omega (arith, rest)
 
 -- ---- the servers that a client names
 
@@ -54,7 +54,11 @@ servers_same name (n ∷ servers) = ap (λ (more : List ℕ). n ∷ more) (serve
 
 apart_servers : (count : ℕ) (servers : List ℕ) → are_servers count servers ≡ true → are_apart servers ≡ true
 apart_servers count [] e = refl
-apart_servers count (n ∷ servers) e = ?
+apart_servers count (n ∷ servers) e =
+    let other : Bool = not (list_any (λ k. k == n) servers) in
+    let parts = and_parts (ltb 0 n && ltb n (count + 1) && other) (are_servers count servers) e in
+    let apart = and_parts (ltb 0 n && ltb n (count + 1)) other parts.0 in
+    ap (λ (b : Bool). b && are_apart servers) apart.1 ∙ apart_servers count servers parts.1
 
 -- ---- a file past the end is in no entry
 
@@ -169,4 +173,9 @@ module _ (m : Machine) (journal : List Entry) (d : Drawn) (h : Holds m journal d
   pub creates_ok : HoldsAfter m journal d h (created m servers)
   creates_ok =
       cond_both (may_create m servers) (record { machine = then; entries = [] }) (no_move m) (HoldsAfter m journal d h)
-      (λ e. (drawn, created_holds ? ?)) (λ e. no_step m journal d h)
+      (λ e.
+          let draw = and_parts (ltb 0 (length servers) && ltb (length servers) 5 && are_servers (length m.servers) servers && not (are_spent (fresh_of m))) (can_draw m 1 1) e in
+          let left = and_parts (ltb 0 (length servers) && ltb (length servers) 5 && are_servers (length m.servers) servers) (not (are_spent (fresh_of m))) draw.0 in
+          let apart = and_parts (ltb 0 (length servers) && ltb (length servers) 5) (are_servers (length m.servers) servers) left.0 in
+          (drawn, created_holds apart.1 (few_by m journal d h 1 1 draw.1)))
+      (λ e. no_step m journal d h)

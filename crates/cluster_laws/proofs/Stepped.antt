@@ -55,7 +55,7 @@ module _ (m : Machine) (journal : List Entry) (d : Drawn) (h : Holds m journal d
 
   -- ---- a step of it
 
-  few_by : (uids names : ℕ) → can_draw m uids names ≡ true → m.next_name + names ≤ 18446744073709551616
+  pub few_by : (uids names : ℕ) → can_draw m uids names ≡ true → m.next_name + names ≤ 18446744073709551616
   few_by uids names is =
       let less : m.next_name + names < 18446744073709551616 = ltb-true (m.next_name + names) 18446744073709551616 (and_parts (ltb (m.next_uid + uids) (end_of_uids + 1)) (ltb (m.next_name + names) 18446744073709551616) is).1 in
       omega (arith, less)
