@@ -19,3 +19,7 @@ pub record Known (net : Net) (next_uid files : ℕ) (journal : List Entry) : Typ
 -- what is drawn next
 abbrev pub fresh_from : Net → ℕ → ℕ → Fresh
 fresh_from net next_uid servers = record { uid = next_uid; name = net.next_name; servers = servers }
+
+-- a data file that has a name belongs to no later uid than the highest that was drawn for its file
+abbrev pub IsBounded : Net → Type 0
+IsBounded net = (id : MirrorId) (name uid : ℕ) → Bears net.servers id name → name < net.next_name → OwnedFrom net.servers id uid → uid ≤ net.drawn.top (net.drawn.home name)

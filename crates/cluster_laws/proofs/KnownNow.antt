@@ -1,20 +1,19 @@
 -- What a step of a file may use, from what holds.
-use Rattle.std.proofs.Common.{◌≡◌, ℕ, ◌+◌, ◌<◌, ◌≤◌, List, length, Option, Some, None, refl, sym, ap, subst, ◌∙◌, arith, inr}
+use Rattle.std.proofs.Common.{◌≡◌, ℕ, ◌+◌, ◌<◌, ◌≤◌, List, length, Some, refl, sym, ap, subst, ◌∙◌, arith, inr}
 use Rattle.std.specs.Prelude.{slice_get}
 use Rattle.std.proofs.lemmas.Option.{slice_get_within}
 use Rattle.cluster_model.specs.declared.ids.MirrorId.{MirrorId}
 use Rattle.cluster_model.specs.declared.entry.Entry.{Entry}
-use Rattle.cluster_model.specs.File.{StoredFile}
 use Rattle.cluster_model.specs.Journal.{Copy, content_of}
 use Rattle.cluster_model.specs.Server.{ServerState, mirror_of}
 use Rattle.cluster_model.specs.DsCalls.{mirror_name}
 use Rattle.cluster_model.specs.GuardLaws.{IsInOrder, Follows}
-use Rattle.cluster_model.specs.Machine.{Machine, numbered_at}
+use Rattle.cluster_model.specs.Machine.{Machine}
 use Rattle.cluster_laws.proofs.Facts.{AllFollow, Bears, OwnedFrom}
 use Rattle.cluster_laws.proofs.Lists.{same_numbered, at_place}
-use Rattle.cluster_laws.proofs.Invariant.{Drawn, net_of, IsServer, Holds}
+use Rattle.cluster_laws.proofs.Invariant.{Drawn, net_of, Holds}
 use Rattle.cluster_laws.proofs.FenceDone.{exact_by}
-use Rattle.cluster_laws.proofs.Known.{Known}
+use Rattle.cluster_laws.proofs.Known.{Known, IsBounded}
 
 -- a server that stays as it is
 pub stands : (t : ServerState) → IsInOrder t → Follows t t
@@ -40,17 +39,30 @@ module _ (m : Machine) (journal : List Entry) (d : Drawn) (h : Holds m journal d
   pub all_stand : AllFollow m.servers m.servers
   all_stand k t is = (t, is, stands t (h.servers k t is).in_order)
 
+  module _ (id : MirrorId) (name uid : ℕ) (bears : Bears m.servers id name) (less : name < m.next_name) (owned : OwnedFrom m.servers id uid) where
+    -- the file that both speak of
+    the_file : slice_get bears.server.files bears.index ≡ Some owned.file
+    the_file =
+        let server : owned.server ≡ bears.server = same_numbered m.servers id.server owned.server bears.server owned.there bears.there in
+        let place : owned.index ≡ bears.index = same_index owned.index bears.index id.fileid owned.place bears.place in
+        sym (ap (λ (t : ServerState). slice_get t.files owned.index) server ∙ ap (slice_get bears.server.files) place) ∙ owned.is
+
+    most : owned.file.owner ≤ d.top (d.home name)
+    most = ((h.servers id.server bears.server bears.there).owners bears.index owned.file name the_file bears.named less).1
+
+  pub bounded_now : IsBounded (net_of m d)
+  bounded_now id name uid bears less owned =
+      let up = owned.up in
+      let top = most id name uid bears less owned in
+      omega (arith, up, top)
+
   exact_now : (id : MirrorId) (name uid : ℕ) → Bears m.servers id name → name < m.next_name → OwnedFrom m.servers id uid → d.top (d.home name) ≤ uid → (content_of journal id).owner ≡ uid
-  exact_now id name uid bears less owned most =
+  exact_now id name uid bears less owned least =
       let s : ServerState = bears.server in
-      let server : owned.server ≡ s = same_numbered m.servers id.server owned.server s owned.there bears.there in
-      let place : owned.index ≡ bears.index = same_index owned.index bears.index id.fileid owned.place bears.place in
-      let file : slice_get s.files bears.index ≡ Some owned.file = sym (ap (λ (t : ServerState). slice_get t.files owned.index) server ∙ ap (slice_get s.files) place) ∙ owned.is in
       let o = h.servers id.server s bears.there in
-      let bound = o.owners bears.index owned.file name file bears.named less in
       let is : id ≡ mirror_of s bears.index = id_by id s.number (bears.index + 2) (sym o.number) bears.place in
-      ap (λ (i : MirrorId). (content_of journal i).owner) is ∙ sym (ap (λ (c : Copy). c.owner) (o.told.each bears.index owned.file file))
-      ∙ exactly owned.file.owner (d.top (d.home name)) uid bound.1 most owned.up
+      ap (λ (i : MirrorId). (content_of journal i).owner) is ∙ sym (ap (λ (c : Copy). c.owner) (o.told.each bears.index owned.file (the_file id name uid bears less owned)))
+      ∙ exactly owned.file.owner (d.top (d.home name)) uid (most id name uid bears less owned) least owned.up
 
   lowest_now : (id : MirrorId) (name : ℕ) → Bears m.servers id name → name < m.next_name → OwnedFrom m.servers id (d.low name)
   lowest_now id name bears less =

@@ -30,3 +30,4 @@ mod SentPackets
 mod NewFiles
 mod Moves
 mod Runs
+mod FenceAsks

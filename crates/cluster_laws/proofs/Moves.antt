@@ -1,7 +1,6 @@
 -- Each kind of move keeps what holds.
-use Rattle.std.proofs.Common.{◌≡◌, ℕ, ◌+◌, ◌-◌, ◌<◌, ◌≤◌, Bool, true, false, eqb, ltb, cond, List, [], ◌∷◌, ◌++◌, length, set, Option, Some, None, refl, sym, ap, subst, ◌∙◌, arith, append-nil}
+use Rattle.std.proofs.Common.{◌≡◌, ℕ, ◌+◌, ◌-◌, ◌<◌, Bool, true, eqb, ltb, cond, List, [], ◌∷◌, ◌++◌, set, Option, Some, None, refl, sym, ap, subst, ◌∙◌, arith, append-nil}
 use Rattle.std.specs.Prelude.{slice_get}
-use Rattle.std.specs.List.{AllByRecursion}
 use Rattle.std.proofs.lemmas.Bool.{cond_both, ltb-true, eqb-true, ne_eqb}
 use Rattle.std.proofs.lemmas.Option.{same_Some}
 use Rattle.cluster_model.specs.declared.tick.Tick.{Tick}
@@ -16,12 +15,12 @@ use Rattle.cluster_model.specs.Server.{ServerState, Caller, restart_of}
 use Rattle.cluster_model.specs.DsCalls.{DsCallValue, DsReplyValue, Created, Set, Written, Committed, Bytes, NotSync, Failed, ds_step}
 use Rattle.cluster_model.specs.GuardLaws.{IsInOrder, CallLaws, RestartLaws}
 use Rattle.cluster_model.specs.MdsFiles.{MdsFile, a_uid}
-use Rattle.cluster_model.specs.FilePhases.{FileInput, AsksLayout, OwnWrite, Recall, Returns, Revokes, OwnEnds, Resilver, Answers, TimesOut, Ticks, Sees, TargetsHold, TargetFails, SourceFails, CallOut, call_out}
+use Rattle.cluster_model.specs.FilePhases.{FileInput, Answers, TimesOut, Sees, CallOut, call_out}
 use Rattle.cluster_model.specs.Machine.{PacketValue, Call, Reply, Machine, MachineStep, Move, Deliver, Creates, Happens, CallsOut, SendsAgain, GivesUpWaiting, Uses, Learns, Takes, Strays, Tells, Restarts, no_move, numbered_at, file_takes, arrives_at, file_of, answers_at, comes_to, delivered, comes_by_itself, goes_out, call_out_from, ctime_of, ctime_in, learns_tick, learns_from, learnt, started_again, restarts_at, moved}
 use Rattle.cluster_laws.proofs.Facts.{HasGiven}
 use Rattle.cluster_laws.proofs.Lists.{all_append, all_more, all_at}
 use Rattle.cluster_laws.proofs.Invariant.{Drawn, Net, IsGiven, IsReplyTo, IsAnswer, IsPacket, IsFile, net_of, Holds}
-use Rattle.cluster_laws.proofs.Onward.{Later, packet_on}
+use Rattle.cluster_laws.proofs.Onward.{packet_on}
 use Rattle.cluster_laws.proofs.Served.{served_holds}
 use Rattle.cluster_laws.proofs.Restarted.{restarted_holds}
 use Rattle.cluster_laws.proofs.Moved.{moved_holds}
@@ -110,11 +109,13 @@ module _ (m : Machine) (journal : List Entry) (d : Drawn) (h : Holds m journal d
       let same = all_stand m journal d h in
       let later = later_sent net c.server xid 0 c.call same new in
       let after : Net = sent_net net xid (mds_call xid c) in
-      let ok = call_out_ok net n xid journal f c same h.packets new (h.files n f there) is in
-      (d, moved_holds m journal d h (set m.files (n - 1) c.file) m.next_uid m.next_name xid (m.packets ++ mds_call xid c ∷ []) m.holdings d h.few_names later [] tt
-      n f c.file there refl tt tt (subst (λ (j : List Entry). IsFile after j n c.file) (sym (append-nil journal)) ok.1)
-      (all_append (IsPacket after) m.packets (mds_call xid c ∷ []) (all_more (IsPacket net) (IsPacket after) m.packets (packet_on net after later) h.packets) ((omega arith, ok.0), tt))
-      (λ k other. refl) h.tops h.lows (omega arith))
+      let ok = call_out_ok net n xid journal f c same h.packets new (h.files n f there) is in (
+        d,
+        moved_holds m journal d h (set m.files (n - 1) c.file) m.next_uid m.next_name xid (m.packets ++ mds_call xid c ∷ []) m.holdings d h.few_names later [] tt
+            n f c.file there refl tt tt (subst (λ (j : List Entry). IsFile after j n c.file) (sym (append-nil journal)) ok.1)
+            (all_append (IsPacket after) m.packets (mds_call xid c ∷ []) (all_more (IsPacket net) (IsPacket after) m.packets (packet_on net after later) h.packets) ((omega arith, ok.0), tt))
+            (λ k other. refl) h.tops h.lows (omega arith),
+      )
 
   calls_out_ok : (n xid : ℕ) (f : Option MdsFile) → numbered_at m.files n ≡ f → Ok (call_out_from m n xid f)
   calls_out_ok n xid None there = none
@@ -156,7 +157,7 @@ module _ (m : Machine) (journal : List Entry) (d : Drawn) (h : Holds m journal d
 -- ---- every move
 
 module _ (calls : (s : ServerState) (caller : Caller) (call : DsCallValue) → IsInOrder s → CallLaws s caller call (ds_step s caller call).server (ds_step s caller call).reply (ds_step s caller call).entries)
-         (restarts : (s : ServerState) (pieces : List Piece) (new : ServerState) → restart_of s pieces ≡ Some new → IsInOrder s → RestartLaws s pieces new) where
+    (restarts : (s : ServerState) (pieces : List Piece) (new : ServerState) → restart_of s pieces ≡ Some new → IsInOrder s → RestartLaws s pieces new) where
   pub move_ok : (m : Machine) (journal : List Entry) (d : Drawn) (h : Holds m journal d) (move : Move) → HoldsAfter m journal d h (moved m move)
   move_ok m journal d h (Deliver place) = delivered_ok m journal d h calls place (slice_get m.packets place) refl
   move_ok m journal d h (Creates at_servers) = creates_ok m journal d h at_servers

@@ -1,23 +1,23 @@
 -- A client creates a file: a uid and a name are drawn for it, and its mirrors are to be made.
-use Rattle.std.proofs.Common.{◌≡◌, ◌≢◌, ℕ, zero, suc, ◌+◌, ◌-◌, ◌<◌, ◌≤◌, Bool, true, false, not, ◌&&◌, ◌==◌, eqb, ltb, cond, List, [], ◌∷◌, ◌++◌, length, map, Option, Some, None, refl, sym, ap, subst, ◌∙◌, arith, ◌⊎◌, inl, inr, append-nil}
+use Rattle.std.proofs.Common.{◌≡◌, ℕ, zero, suc, ◌+◌, ◌-◌, ◌<◌, ◌≤◌, Bool, true, false, not, ◌&&◌, ◌==◌, ltb, cond, List, [], ◌∷◌, ◌++◌, length, Option, Some, None, refl, sym, ap, subst, ◌∙◌, arith, ◌⊎◌, inl, inr, append-nil}
 use Rattle.std.specs.Prelude.{slice_get}
 use Rattle.std.specs.List.{AllByRecursion, list_any}
-use Rattle.std.proofs.lemmas.Bool.{cond_both, and_parts, ltb-true, ne_eqb}
-use Rattle.std.proofs.lemmas.Option.{same_Some, slice_get_within}
+use Rattle.std.proofs.lemmas.Bool.{cond_both, and_parts, ne_eqb}
+use Rattle.std.proofs.lemmas.Option.{same_Some}
 use Rattle.cluster_model.specs.declared.ids.MirrorId.{MirrorId}
 use Rattle.cluster_model.specs.declared.ids.Mirror.{Mirror}
 use Rattle.cluster_model.specs.declared.entry.Entry.{Entry}
 use Rattle.cluster_model.specs.declared.entry.Entry.TheVariants as entry
 use Rattle.cluster_model.specs.declared.call_stage.CallStage.TheVariants.{Waits}
-use Rattle.cluster_model.specs.MdsFiles.{Creation, Creations, Makes, MdsFile}
-use Rattle.cluster_model.specs.FilePhases.{creations_at, new_mds_file, are_spent, end_of_uids}
-use Rattle.cluster_model.specs.Machine.{Machine, MachineStep, no_move, numbered_at, file_id, fresh_of, are_servers, may_create, can_draw, created}
-use Rattle.cluster_model.specs.FenceLaw.{live_in, live_by, live_after, is_file, changed_live, first_free, swapped_in}
+use Rattle.cluster_model.specs.MdsFiles.{MdsFile}
+use Rattle.cluster_model.specs.FilePhases.{creations_at, new_mds_file, are_spent}
+use Rattle.cluster_model.specs.Machine.{Machine, no_move, numbered_at, file_id, fresh_of, are_servers, may_create, can_draw, created}
+use Rattle.cluster_model.specs.FenceLaw.{live_by, live_after, is_file, changed_live, first_free, swapped_in}
 use Rattle.cluster_laws.proofs.Lists.{all_more, place_of, at_number, within_number}
-use Rattle.cluster_laws.proofs.Invariant.{Drawn, Net, IsPacket, FenceNote, fence_in, freed_in, If, IsFenceNote, IsEntry, IsFencedTo, IsCreationOf, IsMaking, IsFile, AreRight, servers_of, are_apart, net_of, Holds}
+use Rattle.cluster_laws.proofs.Invariant.{Drawn, Net, IsPacket, FenceNote, fence_in, If, IsFenceNote, IsEntry, IsFencedTo, IsCreationOf, IsFile, AreRight, servers_of, are_apart, net_of, Holds}
 use Rattle.cluster_laws.proofs.Onward.{Later, packet_on, file_on}
 use Rattle.cluster_laws.proofs.Moved.{server_stays, entries_more}
-use Rattle.cluster_laws.proofs.Draws.{draws, drawn_net, later_drawn, top_here, top_other, top_less, new_home, new_low, lows_drawn}
+use Rattle.cluster_laws.proofs.Draws.{draws, later_drawn, top_here, top_other, top_less, new_home, new_low, lows_drawn}
 use Rattle.cluster_laws.proofs.KnownNow.{all_stand}
 use Rattle.cluster_laws.proofs.Stepped.{HoldsAfter, no_step, few_by}
 
@@ -121,6 +121,7 @@ module _ (m : Machine) (journal : List Entry) (d : Drawn) (h : Holds m journal d
     where
       not_out : false ≡ true → ⊥
       not_out e = cc
+
       not_made : (x : Mirror) → None ≡ Some x → ⊥
       not_made x e = cc
 
@@ -174,8 +175,8 @@ module _ (m : Machine) (journal : List Entry) (d : Drawn) (h : Holds m journal d
   creates_ok =
       cond_both (may_create m servers) (record { machine = then; entries = [] }) (no_move m) (HoldsAfter m journal d h)
       (λ e.
-          let draw = and_parts (ltb 0 (length servers) && ltb (length servers) 5 && are_servers (length m.servers) servers && not (are_spent (fresh_of m))) (can_draw m 1 1) e in
-          let left = and_parts (ltb 0 (length servers) && ltb (length servers) 5 && are_servers (length m.servers) servers) (not (are_spent (fresh_of m))) draw.0 in
-          let apart = and_parts (ltb 0 (length servers) && ltb (length servers) 5) (are_servers (length m.servers) servers) left.0 in
-          (drawn, created_holds apart.1 (few_by m journal d h 1 1 draw.1)))
+      let draw = and_parts (ltb 0 (length servers) && ltb (length servers) 5 && are_servers (length m.servers) servers && not (are_spent (fresh_of m))) (can_draw m 1 1) e in
+      let left = and_parts (ltb 0 (length servers) && ltb (length servers) 5 && are_servers (length m.servers) servers) (not (are_spent (fresh_of m))) draw.0 in
+      let apart = and_parts (ltb 0 (length servers) && ltb (length servers) 5) (are_servers (length m.servers) servers) left.0 in
+      (drawn, created_holds apart.1 (few_by m journal d h 1 1 draw.1)))
       (λ e. no_step m journal d h)

@@ -1,5 +1,5 @@
 -- What holds at the start holds behind every move, and so the journal of a run obeys the fence law.
-use Rattle.std.proofs.Common.{◌≡◌, ℕ, zero, suc, ◌+◌, ◌-◌, ◌<◌, ◌≤◌, List, [], ◌∷◌, ◌++◌, Option, Some, None, refl, sym, ap, subst, ◌∙◌, arith, append_assoc, append-nil}
+use Rattle.std.proofs.Common.{◌≡◌, ℕ, zero, suc, ◌+◌, ◌-◌, List, [], ◌∷◌, ◌++◌, Some, refl, sym, ap, subst, ◌∙◌, arith, append_assoc}
 use Rattle.std.specs.Prelude.{slice_get}
 use Rattle.std.proofs.lemmas.Option.{same_Some}
 use Rattle.cluster_model.specs.declared.piece.Piece.{Piece}
@@ -70,7 +70,7 @@ module _ (new : (number boot : ℕ) → IsInOrder (new_server number boot) × Is
   -- ---- a run
 
   module _ (calls : (s : ServerState) (caller : Caller) (call : DsCallValue) → IsInOrder s → CallLaws s caller call (ds_step s caller call).server (ds_step s caller call).reply (ds_step s caller call).entries)
-           (restarts : (s : ServerState) (pieces : List Piece) (next : ServerState) → restart_of s pieces ≡ Some next → IsInOrder s → RestartLaws s pieces next) where
+      (restarts : (s : ServerState) (pieces : List Piece) (next : ServerState) → restart_of s pieces ≡ Some next → IsInOrder s → RestartLaws s pieces next) where
     run_holds : (moves : List Move) (m : Machine) (journal : List Entry) (d : Drawn) → Holds m journal d → (e : Drawn) × Holds (machine_after m moves) (journal ++ journal_of m moves) e
     run_holds [] m journal d h = no_step m journal d h
     run_holds (move ∷ moves) m journal d h =

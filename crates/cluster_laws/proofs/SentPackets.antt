@@ -1,5 +1,5 @@
 -- A packet goes out that belongs to no file, or an entry comes that says nothing of copies, of live lists and of fences.
-use Rattle.std.proofs.Common.{◌≡◌, ◌≢◌, ℕ, ◌+◌, ◌<◌, ◌≤◌, Bool, true, false, ◌&&◌, ltb, List, [], ◌∷◌, ◌++◌, length, Option, Some, None, refl, sym, ap, subst, ◌∙◌, arith, append-nil}
+use Rattle.std.proofs.Common.{◌≡◌, ◌≢◌, ℕ, ◌≤◌, true, ◌&&◌, List, [], ◌∷◌, ◌++◌, length, Option, Some, None, refl, sym, subst, arith, append-nil}
 use Rattle.std.specs.Prelude.{slice_get}
 use Rattle.std.specs.List.{AllByRecursion}
 use Rattle.std.proofs.lemmas.Bool.{cond_both, and_parts, ltb-true}
@@ -10,10 +10,10 @@ use Rattle.cluster_model.specs.declared.ids.MirrorId.{MirrorId}
 use Rattle.cluster_model.specs.declared.entry.Entry.{Entry}
 use Rattle.cluster_model.specs.Journal.{Copy, copy_after}
 use Rattle.cluster_model.specs.DsCalls.{DsCallValue, Create, SetAttr, Write, Commit, Read}
-use Rattle.cluster_model.specs.Machine.{PacketValue, Call, Reply, Machine, MachineStep, Holding, no_move, file_id, puts_out, sent_again, may_use, is_new_number, used, noted}
+use Rattle.cluster_model.specs.Machine.{PacketValue, Call, Machine, Holding, no_move, file_id, puts_out, sent_again, may_use, is_new_number, used, noted}
 use Rattle.cluster_model.specs.FenceLaw.{live_after}
 use Rattle.cluster_laws.proofs.Lists.{all_append, all_more, all_at, push_old}
-use Rattle.cluster_laws.proofs.Invariant.{Drawn, Net, IsThisCall, IsCallOf, IsUsed, IsPacket, FenceNote, fence_in, freed_in, If, IsFenceNote, IsEntry, IsRight, AreRight, net_of, Holds}
+use Rattle.cluster_laws.proofs.Invariant.{Drawn, Net, IsThisCall, IsCallOf, IsPacket, FenceNote, fence_in, freed_in, If, IsFenceNote, IsEntry, IsRight, AreRight, net_of, Holds}
 use Rattle.cluster_laws.proofs.Journals.{right_more}
 use Rattle.cluster_laws.proofs.Onward.{Later, packet_on, file_on}
 use Rattle.cluster_laws.proofs.Moved.{server_stays}
@@ -83,9 +83,11 @@ module _ (m : Machine) (journal : List Entry) (d : Drawn) (h : Holds m journal d
   sent_by : (node : NodeId) (n xid uid : ℕ) (call : DsCallValue) → IsCallOf d m.servers m.next_name n call → is_new_number m xid node ≡ true → HoldsAfter m journal d h (record { machine = puts_out m node xid (Call node n xid uid call); entries = [] })
   sent_by Mds n xid uid call is new =
       let later = later_sent net n xid uid call (all_stand m journal d h) (ltb-true m.last_xid xid new) in
-      let last : Net = net_of (then (m.packets ++ Call Mds n xid uid call ∷ []) xid) d in
-      (d, sent_holds (m.packets ++ Call Mds n xid uid call ∷ []) xid later
-      (all_append (IsPacket last) m.packets (Call Mds n xid uid call ∷ []) (all_more (IsPacket net) (IsPacket last) m.packets (packet_on net last later) h.packets) ((omega arith, is), tt)))
+      let last : Net = net_of (then (m.packets ++ Call Mds n xid uid call ∷ []) xid) d in (
+        d,
+        sent_holds (m.packets ++ Call Mds n xid uid call ∷ []) xid later
+            (all_append (IsPacket last) m.packets (Call Mds n xid uid call ∷ []) (all_more (IsPacket net) (IsPacket last) m.packets (packet_on net last later) h.packets) ((omega arith, is), tt)),
+      )
   sent_by (Server k) n xid uid call is new = (d, with_packet (Call (Server k) n xid uid call) (λ x server c all. tt) (tt, is))
   sent_by (Client k) n xid uid call is new = (d, with_packet (Call (Client k) n xid uid call) (λ x server c all. tt) (tt, is))
 
@@ -114,10 +116,13 @@ module _ (m : Machine) (journal : List Entry) (d : Drawn) (h : Holds m journal d
         tops = h.tops;
         lows = h.lows;
         few_names = h.few_names;
-        entries = all_append (IsEntry (length m.files) m.next_uid) journal (e ∷ []) h.entries (record {
-          fence = subst (λ (x : Option FenceNote). If x (IsFenceNote (length m.files) m.next_uid)) (sym q.fence) tt;
-          freed = subst (λ (x : Option ℕ). If x (λ k. k ≤ length m.files)) (sym q.freed) tt;
-        }, tt);
+        entries = all_append (IsEntry (length m.files) m.next_uid) journal (e ∷ []) h.entries (
+          record {
+            fence = subst (λ (x : Option FenceNote). If x (IsFenceNote (length m.files) m.next_uid)) (sym q.fence) tt;
+            freed = subst (λ (x : Option ℕ). If x (λ k. k ≤ length m.files)) (sym q.freed) tt;
+          },
+          tt,
+        );
         right = right_more [] journal (e ∷ []) h.right (q.right, tt);
       }
 

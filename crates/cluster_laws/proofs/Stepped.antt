@@ -1,5 +1,5 @@
 -- A file takes a step, if what it draws is there.
-use Rattle.std.proofs.Common.{◌≡◌, ◌≢◌, ℕ, ◌+◌, ◌-◌, ◌<◌, ◌≤◌, Bool, true, false, ◌&&◌, ltb, List, [], ◌∷◌, ◌++◌, length, set, Option, Some, None, refl, sym, ap, subst, ◌∙◌, arith, append-nil}
+use Rattle.std.proofs.Common.{◌≡◌, ℕ, ◌+◌, ◌-◌, ◌<◌, ◌≤◌, true, ltb, List, ◌++◌, length, set, Option, Some, None, refl, sym, subst, arith, append-nil}
 use Rattle.std.specs.List.{AllByRecursion}
 use Rattle.std.proofs.lemmas.Bool.{cond_both, and_parts, ltb-true}
 use Rattle.cluster_model.specs.declared.ids.MirrorId.{MirrorId}
@@ -68,14 +68,17 @@ module _ (m : Machine) (journal : List Entry) (d : Drawn) (h : Holds m journal d
 
   step_taken : (n : ℕ) (f : MdsFile) → numbered_at m.files n ≡ Some f → (s : FileStep) (held : List Holding) → StepOk net journal n m.next_uid s → m.next_name + s.names ≤ 18446744073709551616
       → HoldsAfter (record { machine = with_file m n s held; entries = s.entries })
-  step_taken n f there s held (Plain uids names row) few =
-      (d, subst (λ (uid : ℕ). Holds (then n f there s.file s.entries (m.holdings ++ held) uid (m.next_name + s.names)) (journal ++ s.entries) d) (none_more m.next_uid s.uids uids)
-      (subst (λ (name : ℕ). Holds (then n f there s.file s.entries (m.holdings ++ held) m.next_uid name) (journal ++ s.entries) d) (none_more m.next_name s.names names)
-      (plain_holds n f there s.file s.entries (m.holdings ++ held) row)))
-  step_taken n f there s held (Draws uids row) few =
-      (draws d m.next_name n m.next_uid,
-      subst (λ (uid : ℕ). Holds (then n f there s.file s.entries (m.holdings ++ held) uid (m.next_name + s.names)) (journal ++ s.entries) (draws d m.next_name n m.next_uid)) (one_more m.next_uid s.uids uids)
-      (drawn_holds n f there s.file s.entries (m.holdings ++ held) s.names few row))
+  step_taken n f there s held (Plain uids names row) few = (
+    d,
+    subst (λ (uid : ℕ). Holds (then n f there s.file s.entries (m.holdings ++ held) uid (m.next_name + s.names)) (journal ++ s.entries) d) (none_more m.next_uid s.uids uids)
+        (subst (λ (name : ℕ). Holds (then n f there s.file s.entries (m.holdings ++ held) m.next_uid name) (journal ++ s.entries) d) (none_more m.next_name s.names names)
+        (plain_holds n f there s.file s.entries (m.holdings ++ held) row)),
+  )
+  step_taken n f there s held (Draws uids row) few = (
+    draws d m.next_name n m.next_uid,
+    subst (λ (uid : ℕ). Holds (then n f there s.file s.entries (m.holdings ++ held) uid (m.next_name + s.names)) (journal ++ s.entries) (draws d m.next_name n m.next_uid)) (one_more m.next_uid s.uids uids)
+        (drawn_holds n f there s.file s.entries (m.holdings ++ held) s.names few row),
+  )
 
   pub step_ok : (n : ℕ) (f : MdsFile) → numbered_at m.files n ≡ Some f → (s : FileStep) → StepOk net journal n m.next_uid s → HoldsAfter (file_stepped m n s)
   step_ok n f there s ok =
