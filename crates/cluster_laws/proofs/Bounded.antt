@@ -1,15 +1,13 @@
 -- No data file belongs to a uid above the highest that was drawn for its file.
-use Rattle.std.proofs.Common.{◌≡◌, ℕ, ◌+◌, ◌<◌, ◌≤◌, List, length, Option, Some, arith}
+use Rattle.std.proofs.Common.{List, arith}
 use Rattle.std.proofs.lemmas.Option.{slice_get_within}
-use Rattle.cluster_model.specs.declared.ids.MirrorId.{MirrorId}
 use Rattle.cluster_model.specs.declared.entry.Entry.{Entry}
 use Rattle.cluster_model.specs.Server.{ServerState}
 use Rattle.cluster_model.specs.DsCalls.{mirror_name}
 use Rattle.cluster_model.specs.Machine.{Machine}
-use Rattle.cluster_laws.proofs.Facts.{Bears}
 use Rattle.cluster_laws.proofs.Lists.{at_place}
 use Rattle.cluster_laws.proofs.Invariant.{Drawn, net_of, Holds}
-use Rattle.cluster_laws.proofs.CallsOut.{OwnedTo, AreBounded}
+use Rattle.cluster_laws.proofs.CallsOut.{AreBounded}
 
 pub bounded_now : (m : Machine) (journal : List Entry) (d : Drawn) → Holds m journal d → AreBounded (net_of m d)
 bounded_now m journal d h = λ id name bears less.

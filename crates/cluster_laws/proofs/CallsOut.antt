@@ -1,6 +1,6 @@
 -- The next call of a file goes out under a new number.
-use Rattle.std.proofs.Common.{◌≡◌, ℕ, ◌+◌, ◌<◌, ◌≤◌, Bool, true, false, eqb, cond, List, [], ◌∷◌, ◌++◌, set, Option, Some, None, refl, sym, ap, subst, ◌∙◌, arith, append-nil}
-use Rattle.std.specs.Prelude.{slice_get, position}
+use Rattle.std.proofs.Common.{◌≡◌, ℕ, ◌+◌, ◌<◌, ◌≤◌, true, false, List, [], ◌∷◌, ◌++◌, Option, Some, None, refl, sym, ap, subst, ◌∙◌, arith, append-nil}
+use Rattle.std.specs.Prelude.{slice_get}
 use Rattle.std.specs.List.{AllByRecursion}
 use Rattle.std.proofs.lemmas.Bool.{cond_both, eqb-true}
 use Rattle.std.proofs.lemmas.Option.{same_Some}
@@ -14,13 +14,12 @@ use Rattle.cluster_model.specs.declared.fence_mirror.FenceMirror.{FenceMirror}
 use Rattle.cluster_model.specs.declared.layout_state.LayoutState.{LayoutState}
 use Rattle.cluster_model.specs.File.{StoredFile}
 use Rattle.cluster_model.specs.Server.{ServerState}
-use Rattle.cluster_model.specs.DsCalls.{DsCallValue, Create, SetAttr, mirror_name}
-use Rattle.cluster_model.specs.GuardLaws.{WasAsked}
-use Rattle.cluster_model.specs.Fences.{FenceState, FenceCall, waits, is_out, with_stage, with_mirror, call_at, call_from, waiting_at, next_call}
+use Rattle.cluster_model.specs.DsCalls.{DsCallValue, Create, SetAttr}
+use Rattle.cluster_model.specs.Fences.{FenceState, waits, with_stage, with_mirror, call_at, call_from, waiting_at}
 use Rattle.cluster_model.specs.MdsFiles.{Creation, Creations, Activity, Idle, Makes, Fences, Settles, Copies, MdsFile, in_stage, with_creation, is_given_up}
-use Rattle.cluster_model.specs.FilePhases.{CallOut, call_out, call_out_of, create_out, create_out_at, creation_waiting, fence_out, settle_out}
+use Rattle.cluster_model.specs.FilePhases.{CallOut, call_out, create_out, create_out_at, creation_waiting, fence_out, settle_out}
 use Rattle.cluster_model.specs.Machine.{PacketValue, Call, Reply, numbered_at}
-use Rattle.cluster_laws.proofs.Facts.{AllFollow, Bears, HasGiven}
+use Rattle.cluster_laws.proofs.Facts.{AllFollow, Bears}
 use Rattle.cluster_laws.proofs.Lists.{all_append, all_more, all_at, all_set, push_old, found_at, same_numbered}
 use Rattle.cluster_laws.proofs.Invariant.{Net, IsThisCall, AreThisCall, IsAskedFor, IsCallOf, IsPacket, IsCreationOf, IsFenceCall, IsInFence, IsFile, are_apart}
 use Rattle.cluster_laws.proofs.Onward.{Later, creation_on, in_fence_on, file_on}
@@ -117,20 +116,22 @@ module _ (net : Net) (n xid : ℕ) (journal : List Entry) (same : AllFollow net.
   makes s all h place c there =
       let after : Net = sent_net net xid (Call Mds c.server xid 0 (Create c.name all.owner)) in
       let k = as_it_was c.server (Create c.name all.owner) (record { layout = s; activity = Makes all }) h in
-      let it = all_at (IsCreationOf net n all.owner) all.items place c h.busy.items there in
-      (creates all.owner c it, record {
-        live = k.live;
-        apart = k.apart;
-        mirrors = k.mirrors;
-        cred = k.cred;
-        top = k.top;
-        busy = record {
-          phase = k.busy.phase;
-          items = all_set (IsCreationOf after n all.owner) all.items place (in_stage c (Out xid 0)) k.busy.items (creation_out all.owner c it);
-          apart = ap are_apart (servers_set all.items place c (in_stage c (Out xid 0)) there refl) ∙ k.busy.apart;
-          fences = k.busy.fences;
-        };
-      })
+      let it = all_at (IsCreationOf net n all.owner) all.items place c h.busy.items there in (
+        creates all.owner c it,
+        record {
+          live = k.live;
+          apart = k.apart;
+          mirrors = k.mirrors;
+          cred = k.cred;
+          top = k.top;
+          busy = record {
+            phase = k.busy.phase;
+            items = all_set (IsCreationOf after n all.owner) all.items place (in_stage c (Out xid 0)) k.busy.items (creation_out all.owner c it);
+            apart = ap are_apart (servers_set all.items place c (in_stage c (Out xid 0)) there refl) ∙ k.busy.apart;
+            fences = k.busy.fences;
+          };
+        },
+      )
 
   copies : (s : LayoutState) (all : Creations) → IsFile net journal n (record { layout = s; activity = Copies all }) → (place : ℕ) (c : Creation) → slice_get all.items place ≡ Some c
       → GoesOut (record { file = record { layout = s; activity = Copies (with_creation all place (in_stage c (Out xid 0))) }; server = c.server; call = Create c.name all.owner })
@@ -169,25 +170,27 @@ module _ (net : Net) (n xid : ℕ) (journal : List Entry) (same : AllFollow net.
       let k = as_it_was m.id.server call (record { layout = s; activity = Fences fence }) h in
       let old = all_at (IsInFence net n fence.cred) fence.mirrors place m h.busy.mirrors there in
       let it = in_fence_on net after (later_sent net m.id.server xid 0 call same new) n fence.cred m old in
-      let goes : IsFenceCall after fence.cred xid m.id = record { used = omega arith; guard = m.seen; calls = only_call net xid m.id.server call new packets } in
-      (asks s fence h m old, record {
-        live = k.live;
-        apart = k.apart;
-        mirrors = k.mirrors;
-        cred = k.cred;
-        top = k.top;
-        busy = record {
-          next = k.busy.next;
-          end = k.busy.end;
-          phase = k.busy.phase;
-          fresh = k.busy.fresh;
-          top = k.busy.top;
-          later = k.busy.later;
-          mirrors = all_set (IsInFence after n fence.cred) fence.mirrors place (with_stage m (Out xid 0)) k.busy.mirrors
-          (record { name = it.name; drawn = it.drawn; bears = it.bears; home = it.home; seen = it.seen; out = λ x o. subst (λ (y : ℕ). IsFenceCall after fence.cred y m.id) (eqb-true xid x o) goes; done = λ is. absurd cc });
-          ids = k.busy.ids ∙ sym (kept_set fence.mirrors place m (with_stage m (Out xid 0)) there refl (sym (waits_up m.stage waiting)));
-        };
-      })
+      let goes : IsFenceCall after fence.cred xid m.id = record { used = omega arith; guard = m.seen; calls = only_call net xid m.id.server call new packets } in (
+        asks s fence h m old,
+        record {
+          live = k.live;
+          apart = k.apart;
+          mirrors = k.mirrors;
+          cred = k.cred;
+          top = k.top;
+          busy = record {
+            next = k.busy.next;
+            end = k.busy.end;
+            phase = k.busy.phase;
+            fresh = k.busy.fresh;
+            top = k.busy.top;
+            later = k.busy.later;
+            mirrors = all_set (IsInFence after n fence.cred) fence.mirrors place (with_stage m (Out xid 0)) k.busy.mirrors
+                (record { name = it.name; drawn = it.drawn; bears = it.bears; home = it.home; seen = it.seen; out = λ x o. subst (λ (y : ℕ). IsFenceCall after fence.cred y m.id) (eqb-true xid x o) goes; done = λ is. absurd cc });
+            ids = k.busy.ids ∙ sym (kept_set fence.mirrors place m (with_stage m (Out xid 0)) there refl (sym (waits_up m.stage waiting)));
+          };
+        },
+      )
 
   -- ---- the first that waits
 

@@ -1,35 +1,23 @@
 -- One data server is another, and everything else is as it was.
-use Rattle.std.proofs.Common.{◌≡◌, ◌≢◌, ℕ, ◌+◌, ◌-◌, ◌<◌, ◌≤◌, ◌^◌, Bool, true, false, eqb, cond, List, [], ◌∷◌, ◌++◌, length, map, set, codes, Option, Some, None, refl, sym, ap, subst, ◌∙◌, arith, ◌⊎◌, inl, inr, append_assoc, append-nil}
-use Rattle.std.specs.Prelude.{slice_get, decimal, ◌&&◌, ◌||◌}
-use Rattle.std.specs.List.{AllByRecursion, list_any}
-use Rattle.std.proofs.lemmas.Bool.{cases_eq, cases_Bool, and_parts, eqb-true, ne_eqb, true≢false}
-use Rattle.std.proofs.lemmas.Fmt.{decimal_injective}
-use Rattle.std.proofs.lemmas.Option.{same_Some, slice_get_within}
-use Rattle.cluster_model.specs.declared.tick.Tick.{Tick}
-use Rattle.cluster_model.specs.declared.ids.NodeId.{NodeId}
+use Rattle.std.proofs.Common.{◌≡◌, ◌≢◌, ℕ, ◌≤◌, Bool, false, eqb, List, [], ◌++◌, length, Option, Some, None, refl, sym, ap, subst, ◌∙◌, arith, inl, inr}
+use Rattle.std.specs.Prelude.{slice_get, ◌&&◌}
+use Rattle.std.specs.List.{AllByRecursion}
+use Rattle.std.proofs.lemmas.Bool.{cases_eq, ne_eqb}
 use Rattle.cluster_model.specs.declared.ids.FileId.{FileId}
-use Rattle.cluster_model.specs.declared.ids.Cred.{Cred}
 use Rattle.cluster_model.specs.declared.ids.MirrorId.{MirrorId}
-use Rattle.cluster_model.specs.declared.ids.Mirror.{Mirror}
 use Rattle.cluster_model.specs.declared.entry.Entry.{Entry}
 use Rattle.cluster_model.specs.declared.entry.Entry.TheVariants as entry
-use Rattle.cluster_model.specs.declared.ds_call.Shown.{Shown}
-use Rattle.cluster_model.specs.Ticks.{IsUpTo}
-use Rattle.cluster_model.specs.File.{StoredFile}
 use Rattle.cluster_model.specs.Journal.{Copy, is_mirror, copy_after, content_of}
-use Rattle.cluster_model.specs.Server.{ServerState, Caller, mirror_of}
-use Rattle.cluster_model.specs.DsCalls.{DsCallValue, Create, SetAttr, Write, Commit, Read, DsReplyValue, Created, Set, Written, Committed, Bytes, NotSync, Failed, mirror_name, DsStep, ds_step}
-use Rattle.cluster_model.specs.GuardLaws.{IsInOrder, WasAsked, MayCome, Follows, Came, Stayed, WasGiven, WasMade, target, IsShownAt, WasCreated, WasSet, IsSeen, Shows, IsOwners, IsByOwner, IsTold, IsOfServer, CallLaws}
-use Rattle.cluster_model.specs.declared.layout_state.LayoutPhase.TheVariants as phase
-use Rattle.cluster_model.specs.Phases.{ids_of}
-use Rattle.cluster_model.specs.MdsFiles.{MdsFile}
-use Rattle.cluster_model.specs.Machine.{PacketValue, Call, Reply, Machine, numbered_at, with_server, caller_of, file_id}
-use Rattle.cluster_model.specs.FenceLaw.{live_in, live_after, is_among}
-use Rattle.cluster_laws.proofs.Facts.{AllFollow, Bears, OwnedFrom, HasGiven, AskedAt}
-use Rattle.cluster_laws.proofs.Lists.{all_append, all_more, all_at, all_split, all_by_split, push_old, put_same, put_other, same_numbered, there_is, at_place}
-use Rattle.cluster_laws.proofs.Invariant.{Drawn, Net, AreThisCall, at_server, IsAskedFor, IsCallOf, IsGiven, IsCreated, IsSet, IsReplyTo, HasCall, IsAnswer, IsPacket, FenceNote, fence_in, freed_in, If, IsFenceNote, IsEntry, KeepsOwner, IsMirrorOf, IsFile, IsServer, IsNotShutOut, IsRight, AreRight, live_of, net_of, Holds}
-use Rattle.cluster_laws.proofs.Journals.{live_same, content_same, right_more}
-use Rattle.cluster_laws.proofs.Onward.{Later, packet_on, file_on}
+use Rattle.cluster_model.specs.Server.{ServerState, mirror_of}
+use Rattle.cluster_model.specs.DsCalls.{DsCallValue}
+use Rattle.cluster_model.specs.GuardLaws.{IsInOrder, Follows, IsOfServer}
+use Rattle.cluster_model.specs.Machine.{PacketValue, Machine, numbered_at, with_server, file_id}
+use Rattle.cluster_model.specs.FenceLaw.{live_after}
+use Rattle.cluster_laws.proofs.Facts.{AllFollow}
+use Rattle.cluster_laws.proofs.Lists.{all_append, all_more, put_same, put_other, same_numbered}
+use Rattle.cluster_laws.proofs.Invariant.{Drawn, AreThisCall, IsPacket, FenceNote, fence_in, freed_in, If, IsFenceNote, IsEntry, IsServer, AreRight, net_of, Holds}
+use Rattle.cluster_laws.proofs.Journals.{content_same, right_more}
+use Rattle.cluster_laws.proofs.Onward.{Later, file_on}
 
 -- ---- entries of a data server
 
@@ -87,7 +75,7 @@ module _ (m : Machine) (journal : List Entry) (d : Drawn) (h : Holds m journal d
 
   -- the packets that were sent are still there, and no call of the metadata server is new
   module _ (sent : (place : ℕ) (p : PacketValue) → slice_get m.packets place ≡ Some p → slice_get packets place ≡ Some p)
-           (calls : (xid server : ℕ) (call : DsCallValue) → AreThisCall m.packets xid server call → AreThisCall packets xid server call) where
+      (calls : (xid server : ℕ) (call : DsCallValue) → AreThisCall m.packets xid server call → AreThisCall packets xid server call) where
     pub goes_on : Later (net_of m d) (net_of changed d)
     goes_on = record {
       servers = all_follow;
@@ -102,7 +90,7 @@ module _ (m : Machine) (journal : List Entry) (d : Drawn) (h : Holds m journal d
 
     -- what the server's entries are, and what stands of it then
     module _ (entries : List Entry) (of_server : AllByRecursion (IsOfServer s.number) entries) (right : AreRight journal entries) (this : IsServer (net_of changed d) (journal ++ entries) n new)
-             (packets_ok : AllByRecursion (IsPacket (net_of changed d)) packets) where
+        (packets_ok : AllByRecursion (IsPacket (net_of changed d)) packets) where
       number : s.number ≡ n
       number = (h.servers n s there).number
 
@@ -142,7 +130,7 @@ module _ (m : Machine) (journal : List Entry) (d : Drawn) (h : Holds m journal d
         servers = servers_now;
         packets = packets_ok;
         files = λ k f is. file_on (net_of m d) (net_of changed d) goes_on k journal entries (no_fences k) refl f
-        (all_more (IsOfServer s.number) (λ e. (x : Option (List MirrorId)) → live_after (file_id k) x e ≡ x) entries (λ e o. (of_data s.number e o).live (file_id k)) of_server) (h.files k f is);
+            (all_more (IsOfServer s.number) (λ e. (x : Option (List MirrorId)) → live_after (file_id k) x e ≡ x) entries (λ e o. (of_data s.number e o).live (file_id k)) of_server) (h.files k f is);
         tops = h.tops;
         lows = h.lows;
         few_names = h.few_names;

@@ -1,47 +1,34 @@
 -- The source of a copy is committed, and a copy begins.
-use Rattle.std.proofs.Common.{◌≡◌, ◌≢◌, ℕ, zero, suc, ◌+◌, ◌-◌, ◌<◌, ◌≤◌, Bool, true, false, eqb, ltb, cond, not, ◌&&◌, List, [], ◌∷◌, ◌++◌, length, map, filter, take, drop, set, Option, Some, None, refl, sym, ap, subst, ◌∙◌, arith, append-nil, append_assoc}
-use Rattle.std.specs.Prelude.{slice_get}
-use Rattle.std.specs.List.{AllByRecursion, list_all, flat_map}
-use Rattle.std.proofs.lemmas.Bool.{cond_both, eqb-true, eqb-false, and_parts}
-use Rattle.std.proofs.lemmas.Option.{same_Some}
-use Rattle.cluster_model.specs.declared.tick.Tick.{Tick}
-use Rattle.cluster_model.specs.declared.ids.NodeId.TheVariants.{Mds}
-use Rattle.cluster_model.specs.declared.ids.Cred.{Cred}
-use Rattle.cluster_model.specs.declared.ids.MirrorId.{MirrorId}
+use Rattle.std.proofs.Common.{◌≡◌, ℕ, suc, ◌+◌, ◌-◌, ◌<◌, ◌≤◌, Bool, true, false, eqb, cond, List, [], ◌∷◌, ◌++◌, length, take, drop, Option, Some, None, refl, sym, ap, subst, ◌∙◌, arith, append-nil}
+use Rattle.std.specs.List.{AllByRecursion}
+use Rattle.std.proofs.lemmas.Bool.{eqb-false, and_parts}
 use Rattle.cluster_model.specs.declared.ids.Mirror.{Mirror}
 use Rattle.cluster_model.specs.declared.phase.LeftCause.{LeftCause}
-use Rattle.cluster_model.specs.declared.phase.LeftCause.TheVariants.{Error, Timeouts}
+use Rattle.cluster_model.specs.declared.phase.LeftCause.TheVariants.{Error}
 use Rattle.cluster_model.specs.declared.entry.Entry.{Entry}
 use Rattle.cluster_model.specs.declared.entry.Entry.TheVariants as entry
 use Rattle.cluster_model.specs.declared.call_stage.CallStage.{CallStage}
-use Rattle.cluster_model.specs.declared.call_stage.CallStage.TheVariants.{Waits, Out, KeptOut, KeptBack, Done, GivenUp}
+use Rattle.cluster_model.specs.declared.call_stage.CallStage.TheVariants.{Waits, KeptBack}
 use Rattle.cluster_model.specs.declared.layout_state.LayoutState.{LayoutState}
-use Rattle.cluster_model.specs.declared.layout_state.LayoutPhase.{LayoutPhase}
-use Rattle.cluster_model.specs.declared.layout_state.LayoutPhase.TheVariants.{Making, Free, Held, Fencing, Settling, Copying}
-use Rattle.cluster_model.specs.declared.layout_state.FenceEnd.TheVariants.{Copied}
+use Rattle.cluster_model.specs.declared.layout_state.LayoutPhase.TheVariants.{Free, Copying}
 use Rattle.cluster_model.specs.declared.layout_state.CopyKind.{CopyKind}
 use Rattle.cluster_model.specs.declared.layout_state.CopyKind.TheVariants.{Replacing, Adding}
-use Rattle.cluster_model.specs.Journal.{is_mirror}
 use Rattle.cluster_model.specs.Mirrors.{has_server, are_on_different_servers}
-use Rattle.cluster_model.specs.DsCalls.{DsCallValue, Create, DsReplyValue, Created, Set, Written, Committed, Bytes, NotSync, Failed}
-use Rattle.cluster_model.specs.Fences.{is_out, is_over, stage_at_tick, odd_answer, fence_of}
-use Rattle.cluster_model.specs.Phases.{ids_of, but_for, is_last, is_source, phase_without, with_phase, with_live, after_loss, mirror_left, freed, has_targets, settled_row, SwappedIn, with_targets, swapped_entries, copied, fencing}
-use Rattle.cluster_model.specs.MdsFiles.{Creation, Creations, Activity, Idle, Makes, Fences, Settles, Copies, MdsFile, Fresh, FileStep, nothing, stays, a_uid, goes_idle, goes_fencing, in_stage, made_as, with_creation, creation_of, is_given_up, servers_without, replacing, adding, targets_of, copying, settled, source_left, settling_answered, settling_timed_out, swap_of, swaps_of, copied_by, target_left, target_failed, target_answered, target_timed_out, target_at, target_by}
+use Rattle.cluster_model.specs.DsCalls.{DsReplyValue, Created, Set, Written, Committed, Bytes, NotSync, Failed}
+use Rattle.cluster_model.specs.Fences.{is_out, odd_answer}
+use Rattle.cluster_model.specs.Phases.{ids_of, is_last, with_phase, after_loss, freed, has_targets}
+use Rattle.cluster_model.specs.MdsFiles.{Creation, Idle, Settles, Copies, Fresh, stays, a_uid, goes_idle, servers_without, replacing, adding, targets_of, copying, settled, source_left, settling_answered}
 use Rattle.cluster_model.specs.Machine.{file_id}
-use Rattle.cluster_model.specs.FenceLaw.{live_in, live_by, live_after, is_file, changed_live, first_free}
-use Rattle.cluster_laws.proofs.Facts.{AllFollow, Bears, OwnedFrom, HasGiven, owned_less}
-use Rattle.cluster_laws.proofs.Lists.{all_append, all_more, all_at, all_set, found_at}
-use Rattle.cluster_laws.proofs.Invariant.{Net, IsAnswer, FenceNote, fence_in, If, IsFenceNote, IsEntry, KeepsOwner, IsFencedTo, IsMirrorOf, IsCreationOf, IsNotSource, IsCopying, IsSettling, IsBusyWith, live_of, IsFile, AreRight}
-use Rattle.cluster_laws.proofs.Journals.{live_append, live_same}
-use Rattle.cluster_laws.proofs.Onward.{Later, mirror_on}
-use Rattle.cluster_laws.proofs.Moved.{IsNote}
-use Rattle.cluster_laws.proofs.Rows.{RowOk, left_note, swapped_note, free_note, fence_begins}
-use Rattle.cluster_laws.proofs.Lives.{own_file, other_server, not_true, apart_filter, all_filter, ids_but_for, all_swapped, all_targets, itself}
-use Rattle.cluster_laws.proofs.FenceSteps.{nothing_new}
+use Rattle.cluster_model.specs.FenceLaw.{live_in}
+use Rattle.cluster_laws.proofs.Facts.{AllFollow}
+use Rattle.cluster_laws.proofs.Lists.{all_more}
+use Rattle.cluster_laws.proofs.Invariant.{Net, FenceNote, fence_in, If, IsFenceNote, IsEntry, IsFencedTo, IsMirrorOf, IsCreationOf, IsNotSource, live_of, IsFile}
+use Rattle.cluster_laws.proofs.Onward.{mirror_on}
+use Rattle.cluster_laws.proofs.Rows.{RowOk}
+use Rattle.cluster_laws.proofs.Lives.{other_server, not_true}
 use Rattle.cluster_laws.proofs.CopySteps.{frees, source_ok, StepOk, Plain, Draws}
 use Rattle.std.specs.Prelude.{◌||◌}
-use Rattle.cluster_laws.proofs.Makings.{staged, was_made, its_call, tick_stage}
-use Rattle.cluster_laws.proofs.Draws.{draws, drawn_net, later_drawn, top_here, new_home, new_low}
+use Rattle.cluster_laws.proofs.Draws.{drawn_net, later_drawn, top_here, new_home, new_low}
 
 -- ---- the plan of a copy
 
@@ -112,7 +99,7 @@ below n uid files journal h = all_more (IsEntry files uid) (IsFencedTo n uid) jo
     note (Some x) k = λ e. let less = k.drawn in omega (arith, less)
 
 module _ (net : Net) (n next_uid files : ℕ) (journal : List Entry) (same : AllFollow net.servers net.servers) (tops : (g : ℕ) → net.drawn.top g < next_uid) (entries_ok : AllByRecursion (IsEntry files next_uid) journal)
-         (s : LayoutState) (stage : CallStage) (h : IsFile net journal n (record { layout = s; activity = Settles stage })) (servers : ℕ) where
+    (s : LayoutState) (stage : CallStage) (h : IsFile net journal n (record { layout = s; activity = Settles stage })) (servers : ℕ) where
   abbrev fresh : Fresh
   fresh = record { uid = next_uid; name = net.next_name; servers = servers }
 

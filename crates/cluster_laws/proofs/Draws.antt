@@ -1,5 +1,5 @@
 -- What a step of a file draws: a uid, and numbers of names from the next one on.
-use Rattle.std.proofs.Common.{◌≡◌, ◌≢◌, ℕ, zero, suc, ◌+◌, ◌<◌, ◌≤◌, Bool, true, false, eqb, ltb, cond, List, [], ◌∷◌, length, Option, Some, None, refl, sym, ap, subst, ◌∙◌, arith, inl, inr}
+use Rattle.std.proofs.Common.{◌≡◌, ◌≢◌, ℕ, ◌+◌, ◌<◌, ◌≤◌, Bool, eqb, ltb, cond, refl, sym, ap, subst, arith, inl, inr}
 use Rattle.std.proofs.lemmas.Bool.{cond_both, cases_lt, eq-eqb, ne_eqb, lt-ltb, le-ltb}
 use Rattle.cluster_laws.proofs.Facts.{AllFollow}
 use Rattle.cluster_laws.proofs.Invariant.{Drawn, Net}

@@ -1,15 +1,13 @@
 -- What stays true of data servers for ever: names, ticks that were given, owners that do not fall, guards that are shut out.
-use Rattle.std.proofs.Common.{◌≡◌, ℕ, ◌+◌, ◌<◌, ◌≤◌, List, [], ◌∷◌, ◌++◌, length, Option, Some, None, refl, sym, ap, subst, ◌∙◌, arith, inl, inr}
+use Rattle.std.proofs.Common.{◌≡◌, ℕ, ◌+◌, ◌≤◌, List, Some, arith, inl, inr}
 use Rattle.std.specs.Prelude.{slice_get}
-use Rattle.std.proofs.lemmas.Option.{same_Some}
 use Rattle.cluster_model.specs.declared.tick.Tick.{Tick}
 use Rattle.cluster_model.specs.declared.ids.MirrorId.{MirrorId}
-use Rattle.cluster_model.specs.declared.ds_call.Shown.{Shown}
-use Rattle.cluster_model.specs.Ticks.{IsBefore, IsUpTo}
+use Rattle.cluster_model.specs.Ticks.{IsUpTo}
 use Rattle.cluster_model.specs.File.{StoredFile}
 use Rattle.cluster_model.specs.Server.{ServerState}
 use Rattle.cluster_model.specs.DsCalls.{mirror_name}
-use Rattle.cluster_model.specs.GuardLaws.{IsInOrder, WasAsked, Follows}
+use Rattle.cluster_model.specs.GuardLaws.{WasAsked, Follows}
 use Rattle.cluster_model.specs.Machine.{numbered_at}
 
 pub up_to_up_to : (a b c : Tick) → IsUpTo a b → IsUpTo b c → IsUpTo a c

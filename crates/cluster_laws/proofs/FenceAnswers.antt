@@ -1,44 +1,23 @@
 -- A file whose fence is answered, or waits.
-use Rattle.std.proofs.Common.{◌≡◌, ◌≢◌, ℕ, suc, zero, ◌+◌, ◌<◌, ◌≤◌, Bool, true, false, eqb, ltb, cond, not, ◌&&◌, List, [], ◌∷◌, ◌++◌, map, filter, set, Option, Some, None, refl, sym, ap, subst, ◌∙◌, arith, append_assoc, append-nil}
+use Rattle.std.proofs.Common.{◌≡◌, ℕ, ◌+◌, ◌<◌, true, false, eqb, ltb, cond, not, List, [], ◌∷◌, map, filter, Option, Some, None, refl, sym, ap, subst, ◌∙◌}
 use Rattle.std.specs.Prelude.{slice_get}
-use Rattle.std.specs.List.{AllByRecursion, position}
 use Rattle.std.proofs.lemmas.Bool.{cond_both, eqb-true}
-use Rattle.std.proofs.lemmas.Option.{same_Some}
-use Rattle.cluster_model.specs.declared.tick.Tick.{Tick}
 use Rattle.cluster_model.specs.declared.ids.NodeId.TheVariants.{Mds}
-use Rattle.cluster_model.specs.declared.ids.FileId.{FileId}
-use Rattle.cluster_model.specs.declared.ids.Cred.{Cred}
-use Rattle.cluster_model.specs.declared.ids.MirrorId.{MirrorId}
-use Rattle.cluster_model.specs.declared.ids.Mirror.{Mirror}
-use Rattle.cluster_model.specs.declared.phase.LeftCause.{LeftCause}
-use Rattle.cluster_model.specs.declared.phase.LeftCause.TheVariants.{Unsynced, Error}
-use Rattle.cluster_model.specs.Fences.{odd_answer}
+use Rattle.cluster_model.specs.declared.phase.LeftCause.TheVariants.{Unsynced}
 use Rattle.cluster_model.specs.declared.entry.Entry.{Entry}
-use Rattle.cluster_model.specs.declared.entry.Entry.TheVariants as entry
 use Rattle.cluster_model.specs.declared.ds_call.Shown.{Shown}
 use Rattle.cluster_model.specs.declared.call_stage.CallStage.{CallStage}
 use Rattle.cluster_model.specs.declared.call_stage.CallStage.TheVariants.{Waits, Out, KeptOut, KeptBack, Done, GivenUp}
 use Rattle.cluster_model.specs.declared.fence_mirror.FenceMirror.{FenceMirror}
-use Rattle.cluster_model.specs.declared.fence_mirror.FenceStep.{FenceStep}
-use Rattle.cluster_model.specs.declared.fence_mirror.FenceStep.TheVariants.{Stranger, Acked, Again, Failed as HasFailed}
 use Rattle.cluster_model.specs.declared.layout_state.LayoutState.{LayoutState}
-use Rattle.cluster_model.specs.declared.layout_state.LayoutPhase.{LayoutPhase}
-use Rattle.cluster_model.specs.declared.layout_state.LayoutPhase.TheVariants.{Making, Free, Held, Fencing, Settling, Copying}
-use Rattle.cluster_model.specs.Journal.{Copy, copy_after, is_mirror}
-use Rattle.cluster_model.specs.DsCalls.{DsCallValue, Create, SetAttr, DsReplyValue, Created, Set, Written, Committed, Bytes, NotSync, Failed}
-use Rattle.cluster_model.specs.GuardLaws.{target}
-use Rattle.cluster_model.specs.Fences.{is_out, is_over, is_kept, stage_at_tick, max_unsynced, MirrorStep, with_stage, having_seen, acknowledged, failed_by, out_of_sync, answered, stage_timed_out, timed_out, at_tick, dropped_if, FenceState, outstanding_at, with_mirror, FenceAfter, stepped, step_at, step_from, on_reply, on_timeout, after_tick, without, is_done}
-use Rattle.cluster_model.specs.Phases.{ids_of, but_for, seen_at, is_last, is_source, phase_without, with_live, after_loss, mirror_left, fence_done}
-use Rattle.cluster_model.specs.MdsFiles.{Activity, Fences, MdsFile, FileStep, stays, goes_on, with_entries, fenced_on, fence_failed, fence_stepped, shown_by_set, seen_by, mirror_at, fence_answered, fence_timed_out, is_given_up}
-use Rattle.cluster_model.specs.Machine.{PacketValue, file_id}
-use Rattle.cluster_model.specs.FenceLaw.{live_in, live_by, live_after, is_file, changed_live}
-use Rattle.cluster_laws.proofs.Facts.{Bears, OwnedFrom, HasGiven}
-use Rattle.cluster_laws.proofs.Lists.{all_append, all_more, all_at, all_set, found_at}
-use Rattle.cluster_laws.proofs.Invariant.{Net, at_server, IsThisCall, AreThisCall, IsGiven, IsCreated, IsSet, IsReplyTo, HasCall, IsAnswer, FenceNote, fence_in, If, IsMirrorOf, IsInFence, IsFenceCall, is_answered, kept_ids, IsFencing, live_of, IsFile, AreRight}
-use Rattle.cluster_laws.proofs.Journals.{live_append}
-use Rattle.cluster_laws.proofs.Moved.{IsNote}
-use Rattle.cluster_laws.proofs.Rows.{RowOk, left_note}
-use Rattle.cluster_laws.proofs.Lives.{own_file, apart_filter, all_filter, all_map, ids_but_for, ids_seen, apart_seen}
+use Rattle.cluster_model.specs.DsCalls.{DsCallValue, SetAttr, DsReplyValue, Created, Set, Written, Committed, Bytes, NotSync, Failed}
+use Rattle.cluster_model.specs.Fences.{is_out, stage_at_tick, max_unsynced, MirrorStep, with_stage, having_seen, acknowledged, failed_by, out_of_sync, answered, stage_timed_out, timed_out, at_tick, FenceState, outstanding_at, with_mirror, step_at, step_from, after_tick}
+use Rattle.cluster_model.specs.MdsFiles.{Activity, Fences, fence_stepped, shown_by_set, seen_by, mirror_at, fence_answered, fence_timed_out, is_given_up}
+use Rattle.cluster_model.specs.Machine.{file_id}
+use Rattle.cluster_laws.proofs.Lists.{all_at, all_set, found_at}
+use Rattle.cluster_laws.proofs.Invariant.{Net, IsThisCall, IsGiven, IsReplyTo, IsAnswer, IsInFence, IsFenceCall, kept_ids, IsFile}
+use Rattle.cluster_laws.proofs.Rows.{RowOk}
+use Rattle.cluster_laws.proofs.Lives.{all_map}
 use Rattle.cluster_laws.proofs.Seen.{seen_ok}
 use Rattle.cluster_laws.proofs.FenceDone.{IsExact}
 use Rattle.cluster_laws.proofs.FenceSteps.{nothing_new, answered_ok, timed_ok, ticked_ok, head_ids, kept_set, stepped_ok}

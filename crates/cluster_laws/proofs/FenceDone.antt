@@ -1,9 +1,7 @@
 -- A fence whose mirrors acknowledged or left is done: they belong to the fresh uid, and no other.
-use Rattle.std.proofs.Common.{◌≡◌, ◌≢◌, ℕ, ◌+◌, ◌<◌, ◌≤◌, Bool, true, false, cond, not, ◌&&◌, List, [], ◌∷◌, ◌++◌, map, filter, Option, Some, None, refl, sym, ap, subst, ◌∙◌, arith, append_assoc, append-nil}
+use Rattle.std.proofs.Common.{◌≡◌, ℕ, ◌<◌, ◌≤◌, Bool, true, false, cond, not, List, [], ◌∷◌, ◌++◌, map, filter, Option, Some, None, refl, sym, ap, subst, ◌∙◌, arith}
 use Rattle.std.specs.List.{AllByRecursion, list_all}
-use Rattle.std.proofs.lemmas.Bool.{cases_Bool, and_parts, cond_both}
-use Rattle.cluster_model.specs.declared.ids.FileId.{FileId}
-use Rattle.cluster_model.specs.declared.ids.Cred.{Cred}
+use Rattle.std.proofs.lemmas.Bool.{and_parts}
 use Rattle.cluster_model.specs.declared.ids.MirrorId.{MirrorId}
 use Rattle.cluster_model.specs.declared.ids.Mirror.{Mirror}
 use Rattle.cluster_model.specs.declared.entry.Entry.{Entry}
@@ -13,19 +11,19 @@ use Rattle.cluster_model.specs.declared.call_stage.CallStage.TheVariants.{Waits,
 use Rattle.cluster_model.specs.declared.fence_mirror.FenceMirror.{FenceMirror}
 use Rattle.cluster_model.specs.declared.layout_state.LayoutState.{LayoutState}
 use Rattle.cluster_model.specs.declared.layout_state.LayoutPhase.{LayoutPhase}
-use Rattle.cluster_model.specs.declared.layout_state.LayoutPhase.TheVariants.{Making, Free, Held, Fencing, Settling, Copying}
+use Rattle.cluster_model.specs.declared.layout_state.LayoutPhase.TheVariants.{Fencing}
 use Rattle.cluster_model.specs.declared.layout_state.FenceEnd.{FenceEnd}
 use Rattle.cluster_model.specs.declared.layout_state.FenceEnd.TheVariants.{Clean, Dirty, Copied}
 use Rattle.cluster_model.specs.declared.layout_state.CopyKind.TheVariants.{Replacing}
 use Rattle.cluster_model.specs.Journal.{Copy, copy_after, content_of}
 use Rattle.cluster_model.specs.Fences.{FenceState, is_over, is_done}
-use Rattle.cluster_model.specs.Phases.{ids_of, phase_fenced, fenced_to, free_entries, fence_entries, fence_done}
-use Rattle.cluster_model.specs.MdsFiles.{Activity, Idle, Fences, Settles, MdsFile, is_given_up, begun_by}
+use Rattle.cluster_model.specs.Phases.{ids_of, fenced_to, fence_entries}
+use Rattle.cluster_model.specs.MdsFiles.{Idle, Fences, is_given_up, begun_by}
 use Rattle.cluster_model.specs.Machine.{file_id}
-use Rattle.cluster_model.specs.FenceLaw.{live_in, live_by, live_after, is_file, first_free}
+use Rattle.cluster_model.specs.FenceLaw.{live_in, live_by, first_free}
 use Rattle.cluster_laws.proofs.Facts.{Bears, OwnedFrom}
 use Rattle.cluster_laws.proofs.Lists.{all_append, all_more}
-use Rattle.cluster_laws.proofs.Invariant.{Net, FenceNote, fence_in, If, KeepsOwner, IsMirrorOf, IsInFence, is_answered, kept_ids, IsFencing, IsBusyWith, live_of, IsFile, IsRight, AreRight}
+use Rattle.cluster_laws.proofs.Invariant.{Net, FenceNote, fence_in, If, KeepsOwner, IsMirrorOf, IsInFence, is_answered, kept_ids, IsFencing, live_of, IsFile}
 use Rattle.cluster_laws.proofs.Journals.{live_append, content_same}
 use Rattle.cluster_laws.proofs.Moved.{IsNote}
 use Rattle.cluster_laws.proofs.Rows.{RowOk, fenced_note, free_note}
@@ -35,6 +33,10 @@ use Rattle.cluster_laws.proofs.Lives.{own_file}
 
 pub IsExact : (net : Net) (journal : List Entry) → Type 0
 IsExact net journal = (id : MirrorId) (name uid : ℕ) → Bears net.servers id name → name < net.next_name → OwnedFrom net.servers id uid → net.drawn.top (net.drawn.home name) ≤ uid → (content_of journal id).owner ≡ uid
+
+pub exact_by : (net : Net) (journal : List Entry) → ((id : MirrorId) (name uid : ℕ) → Bears net.servers id name → name < net.next_name → OwnedFrom net.servers id uid → net.drawn.top (net.drawn.home name) ≤ uid → (content_of journal id).owner ≡ uid) → IsExact net journal
+unfolding IsExact
+exact_by net journal h = h
 
 pub exact_on : (net : Net) (journal entries : List Entry) → AllByRecursion (λ e. (id : MirrorId) (c : Copy) → copy_after id c e ≡ c) entries → IsExact net journal → IsExact net (journal ++ entries)
 unfolding IsExact

@@ -1,15 +1,10 @@
 -- Answers and timeouts of a fence.
-use Rattle.std.proofs.Common.{◌≡◌, ◌≢◌, ℕ, suc, zero, ◌+◌, ◌<◌, ◌≤◌, Bool, true, false, eqb, ltb, cond, not, ◌&&◌, List, [], ◌∷◌, ◌++◌, map, filter, set, Option, Some, None, refl, sym, ap, subst, ◌∙◌, arith, append_assoc, append-nil}
+use Rattle.std.proofs.Common.{◌≡◌, ℕ, suc, zero, ◌+◌, ◌<◌, Bool, true, false, eqb, ltb, cond, not, List, [], ◌∷◌, ◌++◌, map, filter, set, Option, Some, None, refl, sym, ap, subst, ◌∙◌, append_assoc, append-nil}
 use Rattle.std.specs.Prelude.{slice_get}
-use Rattle.std.specs.List.{AllByRecursion, position}
 use Rattle.std.proofs.lemmas.Bool.{cond_both, eqb-true}
 use Rattle.std.proofs.lemmas.Option.{same_Some}
 use Rattle.cluster_model.specs.declared.tick.Tick.{Tick}
-use Rattle.cluster_model.specs.declared.ids.NodeId.TheVariants.{Mds}
-use Rattle.cluster_model.specs.declared.ids.FileId.{FileId}
-use Rattle.cluster_model.specs.declared.ids.Cred.{Cred}
 use Rattle.cluster_model.specs.declared.ids.MirrorId.{MirrorId}
-use Rattle.cluster_model.specs.declared.ids.Mirror.{Mirror}
 use Rattle.cluster_model.specs.declared.phase.LeftCause.{LeftCause}
 use Rattle.cluster_model.specs.declared.phase.LeftCause.TheVariants.{Unsynced, Error}
 use Rattle.cluster_model.specs.Fences.{odd_answer}
@@ -22,23 +17,21 @@ use Rattle.cluster_model.specs.declared.fence_mirror.FenceMirror.{FenceMirror}
 use Rattle.cluster_model.specs.declared.fence_mirror.FenceStep.{FenceStep}
 use Rattle.cluster_model.specs.declared.fence_mirror.FenceStep.TheVariants.{Stranger, Acked, Again, Failed as HasFailed}
 use Rattle.cluster_model.specs.declared.layout_state.LayoutState.{LayoutState}
-use Rattle.cluster_model.specs.declared.layout_state.LayoutPhase.{LayoutPhase}
-use Rattle.cluster_model.specs.declared.layout_state.LayoutPhase.TheVariants.{Making, Free, Held, Fencing, Settling, Copying}
-use Rattle.cluster_model.specs.Journal.{Copy, copy_after, is_mirror}
-use Rattle.cluster_model.specs.DsCalls.{DsCallValue, Create, SetAttr, DsReplyValue, Created, Set, Written, Committed, Bytes, NotSync, Failed}
+use Rattle.cluster_model.specs.declared.layout_state.LayoutPhase.TheVariants.{Fencing}
+use Rattle.cluster_model.specs.Journal.{is_mirror}
+use Rattle.cluster_model.specs.DsCalls.{DsCallValue, SetAttr, DsReplyValue, Created, Set, Written, Committed, Bytes, NotSync, Failed}
 use Rattle.cluster_model.specs.GuardLaws.{target}
-use Rattle.cluster_model.specs.Fences.{is_out, is_over, is_kept, stage_at_tick, max_unsynced, MirrorStep, with_stage, having_seen, acknowledged, failed_by, out_of_sync, answered, stage_timed_out, timed_out, at_tick, dropped_if, FenceState, outstanding_at, with_mirror, FenceAfter, stepped, step_at, step_from, on_reply, on_timeout, after_tick, without, is_done}
-use Rattle.cluster_model.specs.Phases.{ids_of, but_for, seen_at, is_last, is_source, phase_without, with_live, after_loss, mirror_left, fence_done}
-use Rattle.cluster_model.specs.MdsFiles.{Activity, Fences, MdsFile, FileStep, stays, goes_on, with_entries, fenced_on, fence_failed, fence_stepped, shown_by_set, seen_by, mirror_at, fence_answered, fence_timed_out, is_given_up}
-use Rattle.cluster_model.specs.Machine.{PacketValue, file_id}
-use Rattle.cluster_model.specs.FenceLaw.{live_in, live_by, live_after, is_file, changed_live}
-use Rattle.cluster_laws.proofs.Facts.{Bears, OwnedFrom, HasGiven}
-use Rattle.cluster_laws.proofs.Lists.{all_append, all_more, all_at, all_set, found_at}
-use Rattle.cluster_laws.proofs.Invariant.{Net, at_server, IsThisCall, AreThisCall, IsGiven, IsCreated, IsSet, IsReplyTo, HasCall, IsAnswer, FenceNote, fence_in, If, IsMirrorOf, IsInFence, IsFenceCall, is_answered, kept_ids, IsFencing, live_of, IsFile, AreRight}
+use Rattle.cluster_model.specs.Fences.{is_out, stage_at_tick, max_unsynced, MirrorStep, with_stage, having_seen, acknowledged, failed_by, out_of_sync, answered, stage_timed_out, timed_out, at_tick, dropped_if, FenceState, without, is_done}
+use Rattle.cluster_model.specs.Phases.{ids_of, but_for, is_last, is_source, phase_without, after_loss, mirror_left, fence_done}
+use Rattle.cluster_model.specs.MdsFiles.{Fences, MdsFile, FileStep, stays, goes_on, with_entries, fenced_on, fence_failed, fence_stepped, is_given_up}
+use Rattle.cluster_model.specs.Machine.{file_id}
+use Rattle.cluster_model.specs.FenceLaw.{live_by, changed_live}
+use Rattle.cluster_laws.proofs.Facts.{OwnedFrom}
+use Rattle.cluster_laws.proofs.Lists.{all_append, all_more}
+use Rattle.cluster_laws.proofs.Invariant.{Net, at_server, IsGiven, IsReplyTo, IsMirrorOf, IsInFence, is_answered, kept_ids, live_of, IsFile}
 use Rattle.cluster_laws.proofs.Journals.{live_append}
-use Rattle.cluster_laws.proofs.Moved.{IsNote}
 use Rattle.cluster_laws.proofs.Rows.{RowOk, left_note}
-use Rattle.cluster_laws.proofs.Lives.{own_file, apart_filter, all_filter, all_map, ids_but_for, ids_seen, apart_seen}
+use Rattle.cluster_laws.proofs.Lives.{own_file, apart_filter, all_filter, all_map, ids_but_for}
 use Rattle.cluster_laws.proofs.FenceDone.{IsExact, exact_on, done_ok}
 
 -- ---- a step without entries, and one behind an entry
@@ -207,11 +200,11 @@ module _ (net : Net) (n next_uid : ℕ) (tops : net.drawn.top n < next_uid) wher
         let phase : phase_without s.phase (is_source id s.live) ≡ Fencing h.busy.next h.busy.end = ap (λ p. phase_without p (is_source id s.live)) h.busy.phase in
         record {
           live = live_append (file_id n) None journal (e ∷ []) ∙ ap (λ x. live_by (file_id n) x (e ∷ [])) (h.live ∙ ap (λ p. live_of p (ids_of s.live)) h.busy.phase)
-          ∙ ap (λ (b : Bool). cond b (changed_live (filter (λ k. not (is_mirror k id))) (Some (ids_of s.live))) (Some (ids_of s.live))) (own_file (file_id n))
-          ∙ ap Some (sym (ids_but_for id s.live)) ∙ sym (ap (λ p. live_of p (ids_of (but_for id s.live))) phase);
+              ∙ ap (λ (b : Bool). cond b (changed_live (filter (λ k. not (is_mirror k id))) (Some (ids_of s.live))) (Some (ids_of s.live))) (own_file (file_id n))
+              ∙ ap Some (sym (ids_but_for id s.live)) ∙ sym (ap (λ p. live_of p (ids_of (but_for id s.live))) phase);
           apart = apart_filter (λ m. not (is_mirror m.id id)) s.live h.apart;
           mirrors = all_filter (IsMirrorOf net n (journal ++ e ∷ [])) (λ m. not (is_mirror m.id id)) s.live
-          (all_more (IsMirrorOf net n journal) (IsMirrorOf net n (journal ++ e ∷ [])) s.live (λ m k. record { name = k.name; drawn = k.drawn; bears = k.bears; home = k.home; seen = k.seen; owned = all_append _ journal (e ∷ []) k.owned (tt, tt) }) h.mirrors);
+              (all_more (IsMirrorOf net n journal) (IsMirrorOf net n (journal ++ e ∷ [])) s.live (λ m k. record { name = k.name; drawn = k.drawn; bears = k.bears; home = k.home; seen = k.seen; owned = all_append _ journal (e ∷ []) k.owned (tt, tt) }) h.mirrors);
           cred = h.cred;
           top = h.top;
           busy = record {

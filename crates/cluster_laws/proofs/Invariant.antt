@@ -1,12 +1,11 @@
 -- What holds at every moment of a run: of the data servers, of each packet that was ever sent, of each file of the metadata server, and of
 -- the journal so far.
-use Rattle.std.proofs.Common.{◌≡◌, ◌≢◌, ℕ, ◌+◌, ◌<◌, ◌≤◌, Bool, true, false, ◌&&◌, ◌==◌, not, List, [], ◌∷◌, ◌++◌, length, map, filter, Option, Some, None}
+use Rattle.std.proofs.Common.{◌≡◌, ℕ, ◌<◌, ◌≤◌, Bool, true, false, ◌&&◌, ◌==◌, not, List, [], ◌∷◌, ◌++◌, length, map, filter, Option, Some, None}
 use Rattle.std.specs.Prelude.{slice_get}
 use Rattle.std.specs.List.{AllByRecursion, list_any}
 use Rattle.cluster_model.specs.declared.tick.Tick.{Tick}
 use Rattle.cluster_model.specs.declared.ids.NodeId.{NodeId}
 use Rattle.cluster_model.specs.declared.ids.NodeId.TheVariants.{Mds, Server, Client}
-use Rattle.cluster_model.specs.declared.ids.FileId.{FileId}
 use Rattle.cluster_model.specs.declared.ids.Cred.{Cred}
 use Rattle.cluster_model.specs.declared.ids.MirrorId.{MirrorId}
 use Rattle.cluster_model.specs.declared.ids.Mirror.{Mirror}
@@ -31,7 +30,7 @@ use Rattle.cluster_model.specs.Fences.{FenceState, is_out}
 use Rattle.cluster_model.specs.Phases.{ids_of, is_source}
 use Rattle.cluster_model.specs.MdsFiles.{Creation, Creations, Activity, Idle, Makes, Fences, Settles, Copies, MdsFile, is_given_up}
 use Rattle.cluster_model.specs.Machine.{PacketValue, Call, Reply, Machine, numbered_at, file_id}
-use Rattle.cluster_model.specs.FenceLaw.{is_file, live_in, is_among}
+use Rattle.cluster_model.specs.FenceLaw.{live_in, is_among}
 use Rattle.cluster_laws.proofs.Facts.{Bears, OwnedFrom, HasGiven, AskedAt}
 
 -- ---- what was drawn: the file that each name number and its uid were drawn for, and the highest uid that was drawn for each file

@@ -1,15 +1,14 @@
 -- A journal each entry of which is right behind those before it obeys the fence law.
-use Rattle.std.proofs.Common.{◌≡◌, ℕ, Bool, false, List, [], ◌∷◌, ◌++◌, Option, Some, None, refl, sym, ap, subst, ◌∙◌, append_assoc, append-nil}
+use Rattle.std.proofs.Common.{◌≡◌, false, List, [], ◌∷◌, ◌++◌, Option, None, refl, sym, ap, subst, ◌∙◌, append_assoc, append-nil}
 use Rattle.std.specs.List.{AllByRecursion}
 use Rattle.cluster_model.specs.declared.ids.FileId.{FileId}
-use Rattle.cluster_model.specs.declared.ids.Cred.{Cred}
 use Rattle.cluster_model.specs.declared.ids.MirrorId.{MirrorId}
 use Rattle.cluster_model.specs.declared.entry.Entry.{Entry}
 use Rattle.cluster_model.specs.declared.entry.Entry.TheVariants as entry
 use Rattle.cluster_model.specs.Journal.{Copy, no_copy, copy_after, copy_by, content_of}
-use Rattle.cluster_model.specs.FenceLaw.{live_in, live_by, live_after, is_among, IsShutOut, IsFencedAt, ObeysFences}
-use Rattle.cluster_laws.proofs.Invariant.{IsNotShutOut, IsRight, AreRight, FenceNote, fence_in, If}
-use Rattle.cluster_laws.proofs.Lists.{all_split, all_append}
+use Rattle.cluster_model.specs.FenceLaw.{live_in, live_by, live_after, is_among, ObeysFences}
+use Rattle.cluster_laws.proofs.Invariant.{IsNotShutOut, IsRight, AreRight}
+use Rattle.cluster_laws.proofs.Lists.{all_split}
 
 -- ---- joined journals
 

@@ -28,3 +28,9 @@ mod PhaseOk
 mod CallsOut
 mod Bounded
 mod Tellings
+mod KnownNow
+mod Stepped
+mod SentPackets
+mod NewFiles
+mod Moves
+mod Runs

@@ -1,33 +1,25 @@
 -- A new file whose mirrors are being made.
-use Rattle.std.proofs.Common.{◌≡◌, ◌≢◌, ℕ, zero, suc, ◌+◌, ◌<◌, ◌≤◌, Bool, true, false, eqb, ltb, cond, not, ◌&&◌, List, [], ◌∷◌, ◌++◌, map, filter, set, Option, Some, None, refl, sym, ap, subst, ◌∙◌, arith, append-nil}
-use Rattle.std.specs.Prelude.{slice_get, ◌||◌}
-use Rattle.std.specs.List.{AllByRecursion, list_all, list_any, flat_map}
-use Rattle.std.specs.Option.{option_to_list}
-use Rattle.std.proofs.lemmas.Bool.{cond_both, eqb-true, eqb-false, eq-eqb, and_parts}
-use Rattle.std.proofs.lemmas.Option.{same_Some}
-use Rattle.cluster_model.specs.declared.tick.Tick.{Tick}
+use Rattle.std.proofs.Common.{◌≡◌, ℕ, ◌≤◌, Bool, true, cond, List, [], ◌∷◌, ◌++◌, set, Option, Some, None, refl, sym, ap, subst, ◌∙◌, arith}
+use Rattle.std.specs.Prelude.{slice_get}
+use Rattle.std.specs.List.{AllByRecursion, list_all}
+use Rattle.std.proofs.lemmas.Bool.{cond_both}
 use Rattle.cluster_model.specs.declared.ids.NodeId.TheVariants.{Mds}
 use Rattle.cluster_model.specs.declared.ids.MirrorId.{MirrorId}
-use Rattle.cluster_model.specs.declared.ids.Mirror.{Mirror}
 use Rattle.cluster_model.specs.declared.entry.Entry.{Entry}
 use Rattle.cluster_model.specs.declared.entry.Entry.TheVariants as entry
-use Rattle.cluster_model.specs.declared.call_stage.CallStage.{CallStage}
-use Rattle.cluster_model.specs.declared.call_stage.CallStage.TheVariants.{Waits, Out, KeptOut, KeptBack, Done, GivenUp}
 use Rattle.cluster_model.specs.declared.layout_state.LayoutState.{LayoutState}
-use Rattle.cluster_model.specs.declared.layout_state.LayoutPhase.TheVariants.{Making}
-use Rattle.cluster_model.specs.Mirrors.{has_server, are_on_different_servers}
-use Rattle.cluster_model.specs.DsCalls.{DsCallValue, Create, DsReplyValue, Created, Set, Written, Committed, Bytes, NotSync, Failed}
-use Rattle.cluster_model.specs.Fences.{is_out, is_over, stage_at_tick}
+use Rattle.cluster_model.specs.DsCalls.{DsReplyValue}
+use Rattle.cluster_model.specs.Fences.{is_out, is_over}
 use Rattle.cluster_model.specs.Phases.{ids_of, made, free_with}
-use Rattle.cluster_model.specs.MdsFiles.{Creation, Creations, Activity, Idle, Makes, MdsFile, FileStep, stays, goes_idle, in_stage, made_as, with_creation, all_made, standing, creation_failed, creation_answered, stage_behind, creation_timed_out, creation_of, making_on, making_at, making_by}
-use Rattle.cluster_model.specs.Machine.{PacketValue, file_id}
-use Rattle.cluster_model.specs.FenceLaw.{live_in, live_by, is_file, first_free}
-use Rattle.cluster_laws.proofs.Facts.{Bears, OwnedFrom, HasGiven}
-use Rattle.cluster_laws.proofs.Lists.{all_append, all_more, all_at, all_set, found_at}
-use Rattle.cluster_laws.proofs.Invariant.{Net, at_server, IsThisCall, AreThisCall, IsCreated, IsReplyTo, HasCall, IsAnswer, FenceNote, fence_in, If, IsFenceNote, IsEntry, KeepsOwner, IsFencedTo, IsMirrorOf, IsCreationOf, servers_of, are_apart, IsMaking, live_of, IsFile}
+use Rattle.cluster_model.specs.MdsFiles.{Creation, Creations, Idle, Makes, FileStep, stays, goes_idle, with_creation, all_made, creation_answered, creation_timed_out, creation_of, making_on, making_at, making_by}
+use Rattle.cluster_model.specs.Machine.{file_id}
+use Rattle.cluster_model.specs.FenceLaw.{live_by, first_free}
+use Rattle.cluster_laws.proofs.Facts.{OwnedFrom}
+use Rattle.cluster_laws.proofs.Lists.{all_append, all_at, all_set, found_at}
+use Rattle.cluster_laws.proofs.Invariant.{Net, IsAnswer, FenceNote, fence_in, If, IsFenceNote, IsEntry, KeepsOwner, IsFencedTo, IsMirrorOf, IsCreationOf, servers_of, are_apart, live_of, IsFile}
 use Rattle.cluster_laws.proofs.Journals.{live_append}
 use Rattle.cluster_laws.proofs.Rows.{RowOk, free_note}
-use Rattle.cluster_laws.proofs.Lives.{both, not_true, own_file}
+use Rattle.cluster_laws.proofs.Lives.{own_file}
 use Rattle.cluster_laws.proofs.FenceSteps.{nothing_new}
 use Rattle.cluster_laws.proofs.Makings.{answer_ok, late_ok, its_call, answered_server, servers_set, made_apart, made_all}
 
@@ -64,11 +56,11 @@ module _ (net : Net) (n next_uid files : ℕ) (journal : List Entry) (entries_ok
         right = (tt, tt);
         file = record {
           live = live_append (file_id n) None journal (e ∷ []) ∙ ap (λ x. live_by (file_id n) x (e ∷ [])) (h.live ∙ ap (λ p. live_of p (ids_of s.live)) h.busy.phase)
-          ∙ ap (λ (b : Bool). cond b (first_free (ids_of (all_made all)) None) None) (own_file (file_id n));
+              ∙ ap (λ (b : Bool). cond b (first_free (ids_of (all_made all)) None) None) (own_file (file_id n));
           apart = made_apart net n all.owner all.items h.busy.items h.busy.apart;
           mirrors = made_all net n all.owner (IsMirrorOf net n (journal ++ e ∷ [])) all.items h.busy.items
-          (λ c m ok is. let made = ok.made m is in
-          record { name = c.name; drawn = ok.drawn; bears = made.1; home = ok.home; seen = made.2; owned = all_append (KeepsOwner net.servers n m.id) journal (e ∷ []) (no_fence_yet m.id journal h.busy.fences entries_ok) (tt, tt) });
+              (λ c m ok is. let made = ok.made m is in
+              record { name = c.name; drawn = ok.drawn; bears = made.1; home = ok.home; seen = made.2; owned = all_append (KeepsOwner net.servers n m.id) journal (e ∷ []) (no_fence_yet m.id journal h.busy.fences entries_ok) (tt, tt) });
           cred = h.cred;
           top = h.top;
           busy = refl;

@@ -1,34 +1,23 @@
 -- CREATEs: those of a new file, and those of the targets of a copy.
-use Rattle.std.proofs.Common.{◌≡◌, ◌≢◌, ℕ, zero, suc, ◌+◌, ◌<◌, ◌≤◌, Bool, true, false, eqb, ltb, cond, not, ◌&&◌, List, [], ◌∷◌, ◌++◌, map, filter, set, Option, Some, None, refl, sym, ap, subst, ◌∙◌, arith, append-nil}
+use Rattle.std.proofs.Common.{◌≡◌, ℕ, zero, suc, ◌+◌, Bool, true, false, eqb, ltb, not, List, [], ◌∷◌, ◌++◌, set, Option, Some, None, refl, sym, ap, subst, ◌∙◌}
 use Rattle.std.specs.Prelude.{slice_get, ◌||◌}
-use Rattle.std.specs.List.{AllByRecursion, list_all, list_any, flat_map}
+use Rattle.std.specs.List.{AllByRecursion, list_any}
 use Rattle.std.specs.Option.{option_to_list}
-use Rattle.std.proofs.lemmas.Bool.{cond_both, eqb-true, eqb-false, eq-eqb, and_parts}
+use Rattle.std.proofs.lemmas.Bool.{cond_both, and_parts}
 use Rattle.std.proofs.lemmas.Option.{same_Some}
 use Rattle.cluster_model.specs.declared.tick.Tick.{Tick}
 use Rattle.cluster_model.specs.declared.ids.NodeId.TheVariants.{Mds}
-use Rattle.cluster_model.specs.declared.ids.MirrorId.{MirrorId}
 use Rattle.cluster_model.specs.declared.ids.Mirror.{Mirror}
-use Rattle.cluster_model.specs.declared.entry.Entry.{Entry}
-use Rattle.cluster_model.specs.declared.entry.Entry.TheVariants as entry
 use Rattle.cluster_model.specs.declared.call_stage.CallStage.{CallStage}
 use Rattle.cluster_model.specs.declared.call_stage.CallStage.TheVariants.{Waits, Out, KeptOut, KeptBack, Done, GivenUp}
-use Rattle.cluster_model.specs.declared.layout_state.LayoutState.{LayoutState}
-use Rattle.cluster_model.specs.declared.layout_state.LayoutPhase.TheVariants.{Making}
 use Rattle.cluster_model.specs.Mirrors.{has_server, are_on_different_servers}
 use Rattle.cluster_model.specs.DsCalls.{DsCallValue, Create, DsReplyValue, Created, Set, Written, Committed, Bytes, NotSync, Failed}
-use Rattle.cluster_model.specs.Fences.{is_out, is_over, stage_at_tick}
-use Rattle.cluster_model.specs.Phases.{ids_of, made, free_with}
-use Rattle.cluster_model.specs.MdsFiles.{Creation, Creations, Activity, Idle, Makes, MdsFile, FileStep, stays, goes_idle, in_stage, made_as, with_creation, all_made, standing, creation_failed, creation_answered, stage_behind, creation_timed_out, creation_of, making_on, making_at, making_by}
-use Rattle.cluster_model.specs.Machine.{PacketValue, file_id}
-use Rattle.cluster_model.specs.FenceLaw.{live_in, live_by, is_file, first_free}
-use Rattle.cluster_laws.proofs.Facts.{Bears, OwnedFrom, HasGiven}
-use Rattle.cluster_laws.proofs.Lists.{all_append, all_more, all_at, all_set, found_at}
-use Rattle.cluster_laws.proofs.Invariant.{Net, at_server, IsThisCall, AreThisCall, IsCreated, IsReplyTo, HasCall, IsAnswer, FenceNote, fence_in, If, IsFenceNote, IsEntry, KeepsOwner, IsFencedTo, IsMirrorOf, IsCreationOf, servers_of, are_apart, IsMaking, live_of, IsFile}
-use Rattle.cluster_laws.proofs.Journals.{live_append}
-use Rattle.cluster_laws.proofs.Rows.{RowOk, free_note}
-use Rattle.cluster_laws.proofs.Lives.{both, not_true, own_file}
-use Rattle.cluster_laws.proofs.FenceSteps.{nothing_new}
+use Rattle.cluster_model.specs.Fences.{is_out, stage_at_tick}
+use Rattle.cluster_model.specs.MdsFiles.{Creation, Creations, in_stage, made_as, all_made, standing, creation_failed, creation_answered, stage_behind, creation_timed_out}
+use Rattle.cluster_laws.proofs.Facts.{Bears, HasGiven}
+use Rattle.cluster_laws.proofs.Lists.{all_at}
+use Rattle.cluster_laws.proofs.Invariant.{Net, at_server, IsThisCall, IsReplyTo, IsAnswer, IsCreationOf, servers_of, are_apart}
+use Rattle.cluster_laws.proofs.Lives.{both, not_true}
 
 -- ---- one file that is made
 

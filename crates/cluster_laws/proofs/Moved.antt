@@ -1,23 +1,18 @@
 -- One file of the metadata server takes a step, or a packet goes out.
-use Rattle.std.proofs.Common.{◌≡◌, ◌≢◌, ℕ, ◌+◌, ◌-◌, ◌<◌, ◌≤◌, Bool, true, false, eqb, ltb, cond, List, [], ◌∷◌, ◌++◌, length, map, set, Option, Some, None, refl, sym, ap, subst, ◌∙◌, arith, ◌⊎◌, inl, inr, append-nil}
-use Rattle.std.specs.Prelude.{slice_get}
+use Rattle.std.proofs.Common.{◌≡◌, ◌≢◌, ℕ, ◌-◌, ◌<◌, ◌≤◌, List, [], ◌++◌, length, set, Option, Some, None, sym, ap, subst, ◌∙◌, arith, inl, inr}
 use Rattle.std.specs.List.{AllByRecursion}
 use Rattle.std.proofs.lemmas.Bool.{cases_eq}
 use Rattle.std.proofs.lemmas.List.{length-set}
-use Rattle.cluster_model.specs.declared.ids.NodeId.{NodeId}
-use Rattle.cluster_model.specs.declared.ids.FileId.{FileId}
 use Rattle.cluster_model.specs.declared.ids.MirrorId.{MirrorId}
 use Rattle.cluster_model.specs.declared.entry.Entry.{Entry}
-use Rattle.cluster_model.specs.File.{StoredFile}
 use Rattle.cluster_model.specs.Journal.{Copy, copy_after, content_of}
 use Rattle.cluster_model.specs.Server.{ServerState, mirror_of}
-use Rattle.cluster_model.specs.DsCalls.{DsCallValue, mirror_name}
-use Rattle.cluster_model.specs.GuardLaws.{IsTold}
+use Rattle.cluster_model.specs.DsCalls.{mirror_name}
 use Rattle.cluster_model.specs.MdsFiles.{MdsFile}
 use Rattle.cluster_model.specs.Machine.{PacketValue, Machine, Holding, numbered_at, file_id}
 use Rattle.cluster_model.specs.FenceLaw.{live_after}
 use Rattle.cluster_laws.proofs.Lists.{all_append, all_more, put_same, put_other, same_numbered, within_number}
-use Rattle.cluster_laws.proofs.Invariant.{Drawn, Net, AreThisCall, IsPacket, FenceNote, fence_in, freed_in, If, IsFenceNote, IsEntry, IsFile, IsServer, AreRight, net_of, Holds}
+use Rattle.cluster_laws.proofs.Invariant.{Drawn, IsPacket, FenceNote, fence_in, freed_in, If, IsFenceNote, IsEntry, IsFile, IsServer, AreRight, net_of, Holds}
 use Rattle.cluster_laws.proofs.Journals.{content_same, right_more}
 use Rattle.cluster_laws.proofs.Onward.{Later, file_on}
 use Rattle.cluster_laws.proofs.Names.{name_is}
@@ -74,7 +69,7 @@ module _ (m : Machine) (journal : List Entry) (d : Drawn) (h : Holds m journal d
   moved_to = record { servers = m.servers; files = files; next_uid = next_uid; next_name = next_name; last_xid = last_xid; packets = packets; holdings = holdings }
 
   module _ (l : Later (net_of m d) (net_of moved_to e)) (entries : List Entry) (copies : AllByRecursion (λ x. (id : MirrorId) (c : Copy) → copy_after id c x ≡ c) entries) where
-    server_stays : (k : ℕ) (s : ServerState) → numbered_at m.servers k ≡ Some s → IsServer (net_of moved_to e) (journal ++ entries) k s
+    pub server_stays : (k : ℕ) (s : ServerState) → numbered_at m.servers k ≡ Some s → IsServer (net_of moved_to e) (journal ++ entries) k s
     server_stays k s there =
         let o = h.servers k s there in
         let same : (index : ℕ) → content_of (journal ++ entries) (mirror_of s index) ≡ content_of journal (mirror_of s index) =
@@ -105,8 +100,8 @@ module _ (m : Machine) (journal : List Entry) (d : Drawn) (h : Holds m journal d
     -- ---- a file in its number's place
 
     module _ (n : ℕ) (f g : MdsFile) (there : numbered_at m.files n ≡ Some f) (files_are : files ≡ set m.files (n - 1) g) (notes : AllByRecursion (IsNote n next_uid) entries) (right : AreRight journal entries)
-             (new : IsFile (net_of moved_to e) (journal ++ entries) n g) (packets_ok : AllByRecursion (IsPacket (net_of moved_to e)) packets)
-             (tops : (k : ℕ) → k ≢ n → e.top k ≡ d.top k) (tops_less : (k : ℕ) → e.top k < next_uid) (lows : (k : ℕ) → k < next_name → e.low k ≤ e.top (e.home k)) (uids : m.next_uid ≤ next_uid) where
+        (new : IsFile (net_of moved_to e) (journal ++ entries) n g) (packets_ok : AllByRecursion (IsPacket (net_of moved_to e)) packets)
+        (tops : (k : ℕ) → k ≢ n → e.top k ≡ d.top k) (tops_less : (k : ℕ) → e.top k < next_uid) (lows : (k : ℕ) → k < next_name → e.low k ≤ e.top (e.home k)) (uids : m.next_uid ≤ next_uid) where
       others_stay : (k : ℕ) (x : MdsFile) → k ≢ n → numbered_at m.files k ≡ Some x → IsFile (net_of moved_to e) (journal ++ entries) k x
       others_stay k x other is =
           file_on (net_of m d) (net_of moved_to e) l k journal entries (all_more (IsNote n next_uid) (λ y. If (fence_in y) (λ z. z.file ≢ k)) entries (λ y note. not_of n next_uid k other (fence_in y) note.fence) notes) (tops k other) x
@@ -135,9 +130,9 @@ module _ (m : Machine) (journal : List Entry) (d : Drawn) (h : Holds m journal d
             lows = lows;
             few_names = few_names;
             entries = all_append (IsEntry (length files) next_uid) journal entries (entries_more (length m.files) (length files) m.next_uid next_uid (omega (arith, count)) uids journal h.entries)
-            (all_more (IsNote n next_uid) (IsEntry (length files) next_uid) entries (λ y note. record {
-              fence = fence_note n next_uid (length files) within.0 (omega (arith, count, within.1)) (fence_in y) note.fence;
-              freed = freed_note n (length files) (omega (arith, count, within.1)) (freed_in y) note.freed;
-            }) notes);
+                (all_more (IsNote n next_uid) (IsEntry (length files) next_uid) entries (λ y note. record {
+                  fence = fence_note n next_uid (length files) within.0 (omega (arith, count, within.1)) (fence_in y) note.fence;
+                  freed = freed_note n (length files) (omega (arith, count, within.1)) (freed_in y) note.freed;
+                }) notes);
             right = right_more [] journal entries h.right right;
           }

@@ -1,5 +1,5 @@
 -- The numbers in names.
-use Rattle.std.proofs.Common.{◌≡◌, ℕ, ◌<◌, List, refl}
+use Rattle.std.proofs.Common.{◌≡◌, ℕ, ◌<◌}
 use Rattle.std.specs.Prelude.{decimal}
 use Rattle.std.proofs.lemmas.Fmt.{decimal_injective}
 use Rattle.cluster_model.specs.DsCalls.{mirror_name}

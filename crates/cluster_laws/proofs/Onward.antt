@@ -1,8 +1,7 @@
 -- The network goes on, and what was true of files and packets stays so.
-use Rattle.std.proofs.Common.{◌≡◌, ◌≢◌, ℕ, ◌+◌, ◌<◌, ◌≤◌, Bool, true, false, List, [], ◌∷◌, ◌++◌, length, Option, Some, None, refl, sym, ap, subst, ◌∙◌, arith}
+use Rattle.std.proofs.Common.{◌≡◌, ◌≢◌, ℕ, ◌<◌, ◌≤◌, List, ◌++◌, Option, Some, None, sym, subst, ◌∙◌, arith}
 use Rattle.std.specs.Prelude.{slice_get}
 use Rattle.std.specs.List.{AllByRecursion}
-use Rattle.cluster_model.specs.declared.tick.Tick.{Tick}
 use Rattle.cluster_model.specs.declared.ids.NodeId.{NodeId}
 use Rattle.cluster_model.specs.declared.ids.NodeId.TheVariants.{Mds, Server, Client}
 use Rattle.cluster_model.specs.declared.ids.MirrorId.{MirrorId}
@@ -11,16 +10,13 @@ use Rattle.cluster_model.specs.declared.entry.Entry.{Entry}
 use Rattle.cluster_model.specs.declared.ds_call.Shown.{Shown}
 use Rattle.cluster_model.specs.declared.fence_mirror.FenceMirror.{FenceMirror}
 use Rattle.cluster_model.specs.declared.layout_state.LayoutState.{LayoutState}
-use Rattle.cluster_model.specs.Server.{ServerState}
 use Rattle.cluster_model.specs.DsCalls.{DsCallValue, Create, SetAttr, Write, Commit, Read, DsReplyValue, Created, Set, Written, Committed, Bytes, NotSync, Failed}
 use Rattle.cluster_model.specs.GuardLaws.{target}
-use Rattle.cluster_model.specs.Fences.{FenceState}
-use Rattle.cluster_model.specs.Phases.{ids_of}
-use Rattle.cluster_model.specs.MdsFiles.{Creation, Creations, Activity, Idle, Makes, Fences, Settles, Copies, MdsFile}
-use Rattle.cluster_model.specs.Machine.{PacketValue, Call, Reply, numbered_at, file_id}
-use Rattle.cluster_model.specs.FenceLaw.{live_in, live_after}
-use Rattle.cluster_laws.proofs.Facts.{AllFollow, Bears, OwnedFrom, HasGiven, AskedAt, bears_on, owned_on, given_on, asked_on}
-use Rattle.cluster_laws.proofs.Invariant.{Drawn, Net, AreThisCall, at_server, IsAskedFor, IsCallOf, IsGiven, IsCreated, IsSet, IsReplyTo, IsUsed, HasCall, IsAnswer, IsPacket, FenceNote, fence_in, If, KeepsOwner, IsFencedTo, IsMirrorOf, IsCreationOf, IsFenceCall, is_answered, IsInFence, IsMaking, IsFencing, IsCopying, IsBusyWith, IsFile}
+use Rattle.cluster_model.specs.MdsFiles.{Creation, Activity, Idle, Makes, Fences, Settles, Copies, MdsFile}
+use Rattle.cluster_model.specs.Machine.{PacketValue, Call, Reply, file_id}
+use Rattle.cluster_model.specs.FenceLaw.{live_after}
+use Rattle.cluster_laws.proofs.Facts.{AllFollow, OwnedFrom, bears_on, owned_on, given_on, asked_on}
+use Rattle.cluster_laws.proofs.Invariant.{Net, AreThisCall, at_server, IsCallOf, IsGiven, IsReplyTo, IsUsed, IsPacket, FenceNote, fence_in, If, KeepsOwner, IsFencedTo, IsMirrorOf, IsCreationOf, IsInFence, IsBusyWith, IsFile}
 use Rattle.cluster_laws.proofs.Lists.{all_append, all_more}
 use Rattle.cluster_laws.proofs.Journals.{live_same}
 
@@ -136,7 +132,7 @@ module _ (old new : Net) (l : Later old new) where
       home = l.home h.name h.drawn ∙ h.home;
       seen = given_on old.servers new.servers l.servers m.id.server m.seen h.seen;
       owned = all_append (KeepsOwner new.servers n m.id) journal entries (all_keep_on n m.id journal h.owned)
-      (all_more (λ e. If (fence_in e) (λ x. x.file ≢ n)) (KeepsOwner new.servers n m.id) entries (λ e. no_owner m.id (fence_in e)) none);
+          (all_more (λ e. If (fence_in e) (λ x. x.file ≢ n)) (KeepsOwner new.servers n m.id) entries (λ e. no_owner m.id (fence_in e)) none);
     }
 
     pub fences_on : (uid : ℕ) → AllByRecursion (IsFencedTo n uid) journal → AllByRecursion (IsFencedTo n uid) (journal ++ entries)

@@ -1,38 +1,35 @@
 -- Rows of the table of phases that are no answers: a file stays what it has to be.
-use Rattle.std.proofs.Common.{◌≡◌, ◌≢◌, ℕ, ◌+◌, ◌<◌, ◌≤◌, Bool, true, false, eqb, cond, not, List, [], ◌∷◌, ◌++◌, length, map, filter, Option, Some, None, is_some, refl, sym, ap, subst, ◌∙◌, arith}
+use Rattle.std.proofs.Common.{◌≡◌, ◌≢◌, ℕ, ◌<◌, ◌≤◌, Bool, true, false, cond, not, List, [], ◌∷◌, ◌++◌, map, filter, Option, Some, None, refl, sym, ap, subst, ◌∙◌, arith}
 use Rattle.std.specs.List.{AllByRecursion}
 use Rattle.std.proofs.lemmas.Bool.{ne_eqb}
-use Rattle.cluster_model.specs.declared.tick.Tick.{Tick}
 use Rattle.cluster_model.specs.declared.ids.NodeId.{NodeId}
 use Rattle.cluster_model.specs.declared.ids.FileId.{FileId}
 use Rattle.cluster_model.specs.declared.ids.Cred.{Cred}
 use Rattle.cluster_model.specs.declared.ids.MirrorId.{MirrorId}
 use Rattle.cluster_model.specs.declared.ids.Mirror.{Mirror}
 use Rattle.cluster_model.specs.declared.phase.EndCause.{EndCause}
-use Rattle.cluster_model.specs.declared.phase.EndCause.TheVariants.{Returned, Own, AllReported}
+use Rattle.cluster_model.specs.declared.phase.EndCause.TheVariants.{AllReported}
 use Rattle.cluster_model.specs.declared.phase.LeftCause.{LeftCause}
 use Rattle.cluster_model.specs.declared.entry.Entry.{Entry}
 use Rattle.cluster_model.specs.declared.entry.Entry.TheVariants as entry
-use Rattle.cluster_model.specs.declared.fence_mirror.FenceMirror.{FenceMirror}
 use Rattle.cluster_model.specs.declared.layout_state.LayoutState.{LayoutState}
 use Rattle.cluster_model.specs.declared.layout_state.LayoutPhase.{LayoutPhase}
 use Rattle.cluster_model.specs.declared.layout_state.LayoutPhase.TheVariants.{Making, Free, Held, Fencing, Settling, Copying}
 use Rattle.cluster_model.specs.declared.layout_state.FenceEnd.{FenceEnd}
-use Rattle.cluster_model.specs.declared.layout_state.FenceEnd.TheVariants.{Clean, Dirty, Copied}
-use Rattle.cluster_model.specs.Journal.{Copy, copy_after, is_mirror}
+use Rattle.cluster_model.specs.declared.layout_state.FenceEnd.TheVariants.{Clean, Dirty}
+use Rattle.cluster_model.specs.Journal.{is_mirror}
 use Rattle.cluster_model.specs.Mirrors.{are_on_different_servers}
-use Rattle.cluster_model.specs.Fences.{FenceState, fence_of, to_fence, is_out}
-use Rattle.cluster_model.specs.Phases.{ids_of, unreported, left_entries, seen_at, with_phase, with_live, held_by, fencing, left_with, end_entries}
-use Rattle.cluster_model.specs.MdsFiles.{Activity, Idle, Makes, Fences, Settles, Copies, MdsFile, is_given_up, a_uid}
+use Rattle.cluster_model.specs.Fences.{fence_of, to_fence}
+use Rattle.cluster_model.specs.Phases.{ids_of, unreported, left_entries, with_phase, fencing, left_with, end_entries}
+use Rattle.cluster_model.specs.MdsFiles.{Activity, Idle, Makes, Fences, Settles, Copies, MdsFile, a_uid}
 use Rattle.cluster_model.specs.Machine.{file_id}
 use Rattle.cluster_model.specs.FenceLaw.{live_in, live_by, live_after, is_file, changed_live, first_free, swapped_in}
-use Rattle.cluster_laws.proofs.Facts.{HasGiven, given_on}
 use Rattle.cluster_laws.proofs.Lists.{all_append, all_more}
-use Rattle.cluster_laws.proofs.Invariant.{Net, FenceNote, fence_in, freed_in, If, IsMirrorOf, IsInFence, is_answered, kept_ids, IsFencing, IsBusyWith, is_idle, live_of, IsFile, IsRight, AreRight}
+use Rattle.cluster_laws.proofs.Invariant.{Net, fence_in, If, IsMirrorOf, IsInFence, kept_ids, IsBusyWith, is_idle, live_of, IsFile, AreRight}
 use Rattle.cluster_laws.proofs.Journals.{live_append, live_same, right_more}
 use Rattle.cluster_laws.proofs.Onward.{Later, mirror_on}
-use Rattle.cluster_laws.proofs.Moved.{IsNote, IsFenceOf}
-use Rattle.cluster_laws.proofs.Lives.{all_left, apart_unreported, all_unreported, all_map, ids_seen, apart_seen}
+use Rattle.cluster_laws.proofs.Moved.{IsNote}
+use Rattle.cluster_laws.proofs.Lives.{apart_unreported, all_unreported, all_map}
 
 -- a step of a file is right: its entries, and the file then
 pub record RowOk (net : Net) (journal : List Entry) (n next_uid : ℕ) (g : MdsFile) (entries : List Entry) : Type 0 where
@@ -192,7 +189,6 @@ module _ (net new : Net) (l : Later net new) (n next_uid : ℕ) (journal : List 
         notes = all_append (IsNote n next_uid) left (e ∷ []) notes (ended_note n next_uid (file_id n) f.layout.cred cause, tt);
         right = right_more journal left (e ∷ []) right (tt, tt);
         file = fences uid (m ∷ kept) Clean (left ++ e ∷ []) (all_append (λ x. If (fence_in x) (λ y. y.file ≢ n)) left (e ∷ []) none (tt, tt)) top less live
-        (subst (λ ms. are_on_different_servers ms ≡ true) is (apart_unreported places f.layout.live old.apart))
-        (subst (λ ms. AllByRecursion (IsMirrorOf net n journal) ms) is (all_unreported (IsMirrorOf net n journal) places f.layout.live old.mirrors));
+            (subst (λ ms. are_on_different_servers ms ≡ true) is (apart_unreported places f.layout.live old.apart))
+            (subst (λ ms. AllByRecursion (IsMirrorOf net n journal) ms) is (all_unreported (IsMirrorOf net n journal) places f.layout.live old.mirrors));
       }
-

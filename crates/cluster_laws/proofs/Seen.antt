@@ -1,6 +1,5 @@
 -- A ctime is seen at a mirror.
-use Rattle.std.proofs.Common.{◌≡◌, ℕ, ◌+◌, ◌<◌, ◌≤◌, Bool, true, false, eqb, cond, List, [], ◌∷◌, map, Option, Some, None, refl, sym, ap, subst, ◌∙◌}
-use Rattle.std.specs.List.{AllByRecursion}
+use Rattle.std.proofs.Common.{ℕ, List, [], ◌∷◌, Option, Some, None, sym, ap, subst, ◌∙◌}
 use Rattle.std.proofs.lemmas.Bool.{cond_both, and_parts, eqb-true}
 use Rattle.cluster_model.specs.declared.tick.Tick.{Tick}
 use Rattle.cluster_model.specs.declared.ids.MirrorId.{MirrorId}
@@ -8,11 +7,10 @@ use Rattle.cluster_model.specs.declared.ids.Mirror.{Mirror}
 use Rattle.cluster_model.specs.declared.entry.Entry.{Entry}
 use Rattle.cluster_model.specs.declared.layout_state.LayoutState.{LayoutState}
 use Rattle.cluster_model.specs.Journal.{is_mirror}
-use Rattle.cluster_model.specs.Phases.{ids_of, seen_if, seen_at, with_live}
-use Rattle.cluster_model.specs.MdsFiles.{Activity, Idle, Makes, Fences, Settles, Copies, MdsFile}
-use Rattle.cluster_model.specs.FenceLaw.{live_in}
+use Rattle.cluster_model.specs.Phases.{seen_if, seen_at, with_live}
+use Rattle.cluster_model.specs.MdsFiles.{Activity, Idle, Makes, Fences, Settles, Copies}
 use Rattle.cluster_laws.proofs.Facts.{HasGiven}
-use Rattle.cluster_laws.proofs.Invariant.{Net, IsMirrorOf, IsNotSource, IsMaking, IsFencing, IsCopying, IsSettling, IsBusyWith, live_of, IsFile}
+use Rattle.cluster_laws.proofs.Invariant.{Net, IsMirrorOf, IsNotSource, IsBusyWith, live_of, IsFile}
 use Rattle.cluster_laws.proofs.Lives.{all_map, seen_id, ids_seen, apart_seen}
 use Rattle.cluster_laws.proofs.Lists.{all_more}
 

@@ -1,9 +1,8 @@
 -- A call arrives at a data server.
-use Rattle.std.proofs.Common.{◌≡◌, ◌≢◌, ℕ, ◌+◌, ◌-◌, ◌<◌, ◌≤◌, ◌^◌, Bool, true, false, eqb, cond, List, [], ◌∷◌, ◌++◌, length, map, set, codes, Option, Some, None, refl, sym, ap, subst, ◌∙◌, arith, ◌⊎◌, inl, inr, append_assoc, append-nil}
-use Rattle.std.specs.Prelude.{slice_get, decimal, ◌&&◌, ◌||◌}
+use Rattle.std.proofs.Common.{◌≡◌, ℕ, ◌+◌, ◌<◌, ◌≤◌, Bool, true, false, eqb, List, [], ◌∷◌, ◌++◌, length, Option, Some, None, refl, sym, ap, subst, ◌∙◌, arith, ◌⊎◌, inl, inr, append_assoc, append-nil}
+use Rattle.std.specs.Prelude.{slice_get, ◌||◌}
 use Rattle.std.specs.List.{AllByRecursion, list_any}
-use Rattle.std.proofs.lemmas.Bool.{cases_eq, cases_Bool, and_parts, eqb-true, ne_eqb, true≢false}
-use Rattle.std.proofs.lemmas.Fmt.{decimal_injective}
+use Rattle.std.proofs.lemmas.Bool.{cases_Bool, and_parts, eqb-true}
 use Rattle.std.proofs.lemmas.Option.{same_Some, slice_get_within}
 use Rattle.cluster_model.specs.declared.tick.Tick.{Tick}
 use Rattle.cluster_model.specs.declared.ids.NodeId.{NodeId}
@@ -16,27 +15,26 @@ use Rattle.cluster_model.specs.declared.entry.Entry.TheVariants as entry
 use Rattle.cluster_model.specs.declared.ds_call.Shown.{Shown}
 use Rattle.cluster_model.specs.Ticks.{IsUpTo}
 use Rattle.cluster_model.specs.File.{StoredFile}
-use Rattle.cluster_model.specs.Journal.{Copy, is_mirror, copy_after, content_of}
+use Rattle.cluster_model.specs.Journal.{is_mirror}
 use Rattle.cluster_model.specs.Server.{ServerState, Caller, mirror_of}
 use Rattle.cluster_model.specs.DsCalls.{DsCallValue, Create, SetAttr, Write, Commit, Read, DsReplyValue, Created, Set, Written, Committed, Bytes, NotSync, Failed, mirror_name, DsStep, ds_step}
-use Rattle.cluster_model.specs.GuardLaws.{IsInOrder, WasAsked, MayCome, Follows, Came, Stayed, WasGiven, WasMade, target, IsShownAt, WasCreated, WasSet, IsSeen, Shows, IsOwners, IsByOwner, IsTold, IsOfServer, CallLaws}
+use Rattle.cluster_model.specs.GuardLaws.{IsInOrder, WasAsked, MayCome, Follows, Came, Stayed, WasGiven, WasMade, target, IsSeen, Shows, IsOwners, IsByOwner, IsOfServer, CallLaws}
 use Rattle.cluster_model.specs.declared.layout_state.LayoutPhase.TheVariants as phase
 use Rattle.cluster_model.specs.Phases.{ids_of}
 use Rattle.cluster_model.specs.MdsFiles.{MdsFile}
 use Rattle.cluster_model.specs.Machine.{PacketValue, Call, Reply, Machine, numbered_at, with_server, caller_of, file_id}
 use Rattle.cluster_model.specs.FenceLaw.{live_in, live_after, is_among}
-use Rattle.cluster_laws.proofs.Facts.{AllFollow, Bears, OwnedFrom, HasGiven, AskedAt}
+use Rattle.cluster_laws.proofs.Facts.{OwnedFrom, HasGiven}
 use Rattle.cluster_laws.proofs.Names.{name_is}
-use Rattle.cluster_laws.proofs.Lists.{all_append, all_more, all_at, all_split, all_by_split, push_old, put_same, put_other, same_numbered, there_is, at_place}
-use Rattle.cluster_laws.proofs.Invariant.{Drawn, Net, at_server, IsAskedFor, IsCallOf, IsGiven, IsCreated, IsSet, IsReplyTo, HasCall, IsAnswer, IsPacket, FenceNote, fence_in, freed_in, If, IsFenceNote, IsEntry, KeepsOwner, IsMirrorOf, IsFile, IsServer, IsNotShutOut, IsRight, AreRight, live_of, net_of, Holds}
-use Rattle.cluster_laws.proofs.Journals.{live_same, content_same, right_more}
+use Rattle.cluster_laws.proofs.Lists.{all_append, all_more, all_at, all_split, all_by_split, push_old, put_same, same_numbered, there_is, at_place}
+use Rattle.cluster_laws.proofs.Invariant.{Drawn, Net, at_server, IsAskedFor, IsCallOf, IsGiven, IsReplyTo, HasCall, IsPacket, FenceNote, fence_in, If, IsFenceNote, IsEntry, KeepsOwner, IsMirrorOf, IsServer, IsNotShutOut, IsRight, AreRight, live_of, net_of, Holds}
+use Rattle.cluster_laws.proofs.Journals.{live_same}
 use Rattle.cluster_laws.proofs.Onward.{Later, packet_on}
-use Rattle.cluster_laws.proofs.Changed.{IsOfData, of_data, goes_on, changed_holds}
+use Rattle.cluster_laws.proofs.Changed.{of_data, goes_on, changed_holds}
 
 -- ---- the laws of one server, as the base crate has them
 
 module _ (calls : (s : ServerState) (caller : Caller) (call : DsCallValue) → IsInOrder s → CallLaws s caller call (ds_step s caller call).server (ds_step s caller call).reply (ds_step s caller call).entries) where
-
   -- ---- entries behind a journal
 
   -- a mirror that is written to by its owner is live in no file behind a fence of that owner
@@ -130,10 +128,11 @@ module _ (calls : (s : ServerState) (caller : Caller) (call : DsCallValue) → I
 
     pub rights : (caller : Caller) (front entries : List Entry) → AllByRecursion (IsOfServer s.number) front → AllByRecursion (IsOfServer s.number) entries → AllByRecursion (IsByOwner s caller) entries → AreRight (journal ++ front) entries
     rights caller front [] kinds more own = tt
-    rights caller front (e ∷ entries) kinds more own =
-        (right_one caller front kinds e more.0 own.0,
-        subst (λ (j : List Entry). AreRight j entries) (sym (append_assoc journal front (e ∷ [])))
-        (rights caller (front ++ e ∷ []) entries (all_append (IsOfServer s.number) front (e ∷ []) kinds (more.0, tt)) more.1 own.1))
+    rights caller front (e ∷ entries) kinds more own = (
+      right_one caller front kinds e more.0 own.0,
+      subst (λ (j : List Entry). AreRight j entries) (sym (append_assoc journal front (e ∷ [])))
+          (rights caller (front ++ e ∷ []) entries (all_append (IsOfServer s.number) front (e ∷ []) kinds (more.0, tt)) more.1 own.1),
+    )
 
     -- ---- the machine then
 

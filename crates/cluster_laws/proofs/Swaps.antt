@@ -94,8 +94,8 @@ module _ (net : Net) (n next_uid files : ℕ) (journal : List Entry) (known : Kn
           notes = swapped_notes n (next_uid + 1) (t ∷ targets);
           right = swapped_right n journal (t ∷ targets);
           file = fence_begins net (drawn_net net n next_uid 0) (later_drawn net n next_uid 0 known.same known.tops) n journal copied next_uid (with_targets (t ∷ targets) s.live) Copied (swapped_entries (file_id n) (t ∷ targets))
-          (swapped_no_fences n (t ∷ targets)) (top_here net.drawn net.next_name n next_uid) (omega (arith, later)) (omega (arith, up, less))
-          (swapped_live (t ∷ targets)) apart (all_targets (IsMirrorOf net n journal) (t ∷ targets) s.live h.mirrors mirrors);
+              (swapped_no_fences n (t ∷ targets)) (top_here net.drawn net.next_name n next_uid) (omega (arith, later)) (omega (arith, up, less))
+              (swapped_live (t ∷ targets)) apart (all_targets (IsMirrorOf net n journal) (t ∷ targets) s.live h.mirrors mirrors);
         })
 
 pub swaps_ok : (net : Net) (n next_uid files servers : ℕ) (journal : List Entry) → Known net next_uid files journal → (s : LayoutState) (all : Creations)

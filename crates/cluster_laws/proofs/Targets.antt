@@ -1,12 +1,9 @@
 -- The targets of a copy are made, and any of them may fail.
-use Rattle.std.proofs.Common.{◌≡◌, ◌≢◌, ℕ, zero, suc, ◌+◌, ◌-◌, ◌<◌, ◌≤◌, Bool, true, false, eqb, ltb, cond, not, ◌&&◌, List, [], ◌∷◌, ◌++◌, length, map, filter, take, drop, set, Option, Some, None, refl, sym, ap, subst, ◌∙◌, arith, append-nil, append_assoc}
+use Rattle.std.proofs.Common.{◌≡◌, ℕ, ◌+◌, Bool, true, false, ltb, cond, not, List, [], ◌∷◌, length, set, Option, Some, None, refl, sym, ap, subst, ◌∙◌, arith}
 use Rattle.std.specs.Prelude.{slice_get}
-use Rattle.std.specs.List.{AllByRecursion, list_all, flat_map}
+use Rattle.std.specs.List.{AllByRecursion}
 use Rattle.std.proofs.lemmas.Bool.{cond_both, ltb-true, le-ltb}
-use Rattle.std.proofs.lemmas.Option.{same_Some}
-use Rattle.cluster_model.specs.declared.tick.Tick.{Tick}
 use Rattle.cluster_model.specs.declared.ids.NodeId.TheVariants.{Mds}
-use Rattle.cluster_model.specs.declared.ids.Cred.{Cred}
 use Rattle.cluster_model.specs.declared.ids.MirrorId.{MirrorId}
 use Rattle.cluster_model.specs.declared.ids.Mirror.{Mirror}
 use Rattle.cluster_model.specs.declared.phase.LeftCause.{LeftCause}
@@ -16,31 +13,20 @@ use Rattle.cluster_model.specs.declared.entry.Entry.TheVariants as entry
 use Rattle.cluster_model.specs.declared.call_stage.CallStage.{CallStage}
 use Rattle.cluster_model.specs.declared.call_stage.CallStage.TheVariants.{Waits, Out, KeptOut, KeptBack, Done, GivenUp}
 use Rattle.cluster_model.specs.declared.layout_state.LayoutState.{LayoutState}
-use Rattle.cluster_model.specs.declared.layout_state.LayoutPhase.{LayoutPhase}
-use Rattle.cluster_model.specs.declared.layout_state.LayoutPhase.TheVariants.{Making, Free, Held, Fencing, Settling, Copying}
-use Rattle.cluster_model.specs.declared.layout_state.FenceEnd.TheVariants.{Copied}
-use Rattle.cluster_model.specs.declared.layout_state.CopyKind.{CopyKind}
-use Rattle.cluster_model.specs.declared.layout_state.CopyKind.TheVariants.{Replacing, Adding}
-use Rattle.cluster_model.specs.Journal.{is_mirror}
-use Rattle.cluster_model.specs.Mirrors.{has_server, are_on_different_servers}
+use Rattle.cluster_model.specs.declared.layout_state.LayoutPhase.TheVariants.{Settling, Copying}
 use Rattle.cluster_model.specs.DsCalls.{DsCallValue, Create, DsReplyValue, Created, Set, Written, Committed, Bytes, NotSync, Failed}
-use Rattle.cluster_model.specs.Fences.{is_out, is_over, stage_at_tick, odd_answer, fence_of}
-use Rattle.cluster_model.specs.Phases.{ids_of, but_for, is_last, is_source, phase_without, with_phase, with_live, after_loss, mirror_left, freed, has_targets, settled_row, SwappedIn, with_targets, swapped_entries, copied, fencing}
-use Rattle.cluster_model.specs.MdsFiles.{Creation, Creations, Activity, Idle, Makes, Fences, Settles, Copies, MdsFile, Fresh, FileStep, nothing, stays, a_uid, goes_idle, goes_fencing, in_stage, made_as, with_creation, creation_of, is_given_up, servers_without, replacing, adding, targets_of, copying, settled, source_left, settling_answered, settling_timed_out, swap_of, swaps_of, copied_by, target_left, target_failed, target_answered, target_timed_out, target_at, target_by}
+use Rattle.cluster_model.specs.Fences.{is_out, odd_answer}
+use Rattle.cluster_model.specs.Phases.{ids_of, but_for, is_last, is_source, phase_without, after_loss}
+use Rattle.cluster_model.specs.MdsFiles.{Creation, Creations, Settles, Copies, FileStep, nothing, stays, in_stage, made_as, with_creation, creation_of, is_given_up, source_left, target_left, target_failed, target_answered, target_timed_out, target_at, target_by}
 use Rattle.cluster_model.specs.Machine.{file_id}
-use Rattle.cluster_model.specs.FenceLaw.{live_in, live_by, live_after, is_file, changed_live, first_free}
-use Rattle.cluster_laws.proofs.Facts.{Bears, OwnedFrom, HasGiven, owned_less}
+use Rattle.cluster_laws.proofs.Facts.{Bears}
 use Rattle.cluster_laws.proofs.Lists.{all_append, all_more, all_at, all_set, found_at}
-use Rattle.cluster_laws.proofs.Invariant.{Net, at_server, IsReplyTo, IsAnswer, FenceNote, fence_in, If, IsFenceNote, IsEntry, KeepsOwner, IsFencedTo, IsMirrorOf, IsCreationOf, IsNotSource, IsCopying, IsSettling, IsBusyWith, live_of, IsFile, AreRight}
-use Rattle.cluster_laws.proofs.Journals.{live_append, live_same}
-use Rattle.cluster_laws.proofs.Onward.{Later, mirror_on}
-use Rattle.cluster_laws.proofs.Moved.{IsNote}
-use Rattle.cluster_laws.proofs.Rows.{RowOk, left_note, swapped_note, free_note, fence_begins}
-use Rattle.cluster_laws.proofs.Lives.{own_file, other_server, not_true, apart_filter, all_filter, ids_but_for, all_swapped, all_targets, itself}
+use Rattle.cluster_laws.proofs.Invariant.{Net, at_server, IsReplyTo, IsAnswer, IsFencedTo, IsCreationOf, IsNotSource, live_of, IsFile}
+use Rattle.cluster_laws.proofs.Rows.{RowOk}
+use Rattle.cluster_laws.proofs.Lives.{itself}
 use Rattle.cluster_laws.proofs.FenceSteps.{nothing_new}
-use Rattle.cluster_laws.proofs.CopySteps.{loses, StepOk, Plain, Draws}
-use Rattle.cluster_laws.proofs.Makings.{staged, was_made, its_call, tick_stage}
-use Rattle.cluster_laws.proofs.Draws.{draws, drawn_net, later_drawn, top_here, new_home, new_low}
+use Rattle.cluster_laws.proofs.CopySteps.{loses, StepOk, Plain}
+use Rattle.cluster_laws.proofs.Makings.{staged, was_made, its_call}
 
 -- ---- a mirror leaves that is not the source
 

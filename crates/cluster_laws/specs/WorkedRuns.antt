@@ -5,7 +5,7 @@ use Rattle.cluster_model.specs.declared.ids.MirrorId.{MirrorId}
 use Rattle.cluster_model.specs.declared.phase.EndCause.TheVariants.{Returned, Lease}
 use Rattle.cluster_model.specs.declared.entry.Entry.{Entry}
 use Rattle.cluster_model.specs.declared.entry.Entry.TheVariants.{Granted, Sent, Told, Ended, Fenced, Free, Applied, Committed, Owner, Restarted}
-use Rattle.cluster_model.specs.DsCalls.{DsCallValue, Write, Commit}
+use Rattle.cluster_model.specs.DsCalls.{Write, Commit}
 use Rattle.cluster_model.specs.MdsFiles.{a_uid}
 use Rattle.cluster_model.specs.FilePhases.{AsksLayout, Returns, Revokes}
 use Rattle.cluster_model.specs.Machine.{Move, Deliver, Creates, Happens, CallsOut, Uses, Takes, Tells, Restarts, new_machine, journal_of, file_id}
