@@ -100,6 +100,37 @@ const OTHER_STATE: Stateid = Stateid {
     other: [5; 12],
 };
 
+/// The data server of the one mirror.
+fn server_of<'a>(handles: &'a [Handle4<'a>; 1]) -> FfDataServer<'a> {
+    FfDataServer {
+        device: DEVICE,
+        efficiency: 1,
+        stateid: NO_STATE,
+        handles: Items::made(handles),
+        user: "65536",
+        group: "65536",
+    }
+}
+
+/// The layout of one mirror over these servers is spelled by these bytes.
+fn is_layout_over<'a>(
+    rt: &impl Abort,
+    alloc: Global,
+    bytes: &[u8],
+    servers: &'a [FfDataServer<'a>; 1],
+) -> Result<(), NoMemory> {
+    let mirrors = [FfMirror {
+        servers: Items::made(servers),
+    }];
+    let layout = FfLayout {
+        stripe_unit: 65_536,
+        mirrors: Items::made(&mirrors),
+        flags: 1,
+        hint: 0,
+    };
+    is_written(rt, alloc, bytes, layout)
+}
+
 #[test]
 fn layout_of_one_mirror(rt: HostRuntime) -> Result<(), Fail> {
     // the stripe unit, and how many mirrors; flags and hint
@@ -110,24 +141,8 @@ fn layout_of_one_mirror(rt: HostRuntime) -> Result<(), Fail> {
     let handles = [Handle4 {
         bytes: &[0, 0, 0, 0, 0, 0, 0, 2],
     }];
-    let servers = [FfDataServer {
-        device: DEVICE,
-        efficiency: 1,
-        stateid: NO_STATE,
-        handles: Items::made(&handles),
-        user: "65536",
-        group: "65536",
-    }];
-    let mirrors = [FfMirror {
-        servers: Items::made(&servers),
-    }];
-    let layout = FfLayout {
-        stripe_unit: 65_536,
-        mirrors: Items::made(&mirrors),
-        flags: 1,
-        hint: 0,
-    };
-    is_written(&rt, rt.alloc(), bytes.as_slice(), layout)?;
+    let servers = [server_of(&handles)];
+    is_layout_over(&rt, rt.alloc(), bytes.as_slice(), &servers)?;
     Ok(())
 }
 
@@ -148,8 +163,8 @@ fn layout_of_two_mirrors(rt: HostRuntime) -> Result<(), Fail> {
     assert_eq!(rt; (layout.stripe_unit, layout.flags, layout.hint), (7, 8, 9));
     assert_eq!(rt; layout.mirrors.len(), 2);
     let wants = [
-        (DEVICE, 1, NO_STATE, 2, "65536", "65536"),
-        (OTHER_DEVICE, 3, OTHER_STATE, 6, "65537", "65538"),
+        (DEVICE, 1, NO_STATE, 2, 65_536, 65_536),
+        (OTHER_DEVICE, 3, OTHER_STATE, 6, 65_537, 65_538),
     ];
     for (mirror, want) in layout.mirrors.items().zip(wants) {
         let (device, efficiency, stateid, file, user, group) = want;
@@ -157,7 +172,8 @@ fn layout_of_two_mirrors(rt: HostRuntime) -> Result<(), Fail> {
         for server in mirror.servers.items() {
             assert_eq!(rt; (server.device, server.efficiency), (device, efficiency));
             assert_eq!(rt; server.stateid, stateid);
-            assert_eq!(rt; (server.user, server.group), (user, group));
+            assert_eq!(rt; user_number(server.user), Some(user));
+            assert_eq!(rt; user_number(server.group), Some(group));
             assert_eq!(rt; server.handles.len(), 1);
             for handle in server.handles.items() {
                 assert_eq!(rt; handle.bytes, [0, 0, 0, 0, 0, 0, 0, file].as_slice());
