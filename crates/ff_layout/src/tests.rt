@@ -1,7 +1,8 @@
 //! The bodies against words that were worked out by hand from RFC 8435's XDR.
 
 use crate::{
-    DeviceError, FfDataServer, FfLayout, FfMirror, IoStats, Latency, LayoutReturnBody, user_number,
+    DeviceError, FfDataServer, FfLayout, FfMirror, IoErr, IoStats, Latency, LayoutReturnBody,
+    user_number,
 };
 use ff_xdr::{Cursor, Items, NoMemory, Out, Wire, XdrError, XdrWhy};
 use nfs4_types::{DeviceId, Handle4, Stateid, Time4};
@@ -146,6 +147,22 @@ fn layout_of_one_mirror(rt: HostRuntime) -> Result<(), Fail> {
     Ok(())
 }
 
+/// A data server's device, efficiency, stateid, user and group.
+type ServerWords = (DeviceId, u32, Stateid, u32, u32);
+
+/// The data server has these fields, and one handle of eight bytes.
+fn is_server(rt: &impl Abort, server: FfDataServer<'_>, want: ServerWords) {
+    let (device, efficiency, stateid, user, group) = want;
+    assert_eq!(rt; (server.device, server.efficiency), (device, efficiency));
+    assert_eq!(rt; server.stateid, stateid);
+    assert_eq!(rt; user_number(server.user), Some(user));
+    assert_eq!(rt; user_number(server.group), Some(group));
+    assert_eq!(rt; server.handles.len(), 1);
+    for handle in server.handles.items() {
+        assert_eq!(rt; handle.bytes.len(), 8);
+    }
+}
+
 #[test]
 fn layout_of_two_mirrors(rt: HostRuntime) -> Result<(), Fail> {
     let words: [&[u32]; 6] = [
@@ -163,21 +180,13 @@ fn layout_of_two_mirrors(rt: HostRuntime) -> Result<(), Fail> {
     assert_eq!(rt; (layout.stripe_unit, layout.flags, layout.hint), (7, 8, 9));
     assert_eq!(rt; layout.mirrors.len(), 2);
     let wants = [
-        (DEVICE, 1, NO_STATE, 2, 65_536, 65_536),
-        (OTHER_DEVICE, 3, OTHER_STATE, 6, 65_537, 65_538),
+        (DEVICE, 1, NO_STATE, 65_536, 65_536),
+        (OTHER_DEVICE, 3, OTHER_STATE, 65_537, 65_538),
     ];
     for (mirror, want) in layout.mirrors.items().zip(wants) {
-        let (device, efficiency, stateid, file, user, group) = want;
         assert_eq!(rt; mirror.servers.len(), 1);
         for server in mirror.servers.items() {
-            assert_eq!(rt; (server.device, server.efficiency), (device, efficiency));
-            assert_eq!(rt; server.stateid, stateid);
-            assert_eq!(rt; user_number(server.user), Some(user));
-            assert_eq!(rt; user_number(server.group), Some(group));
-            assert_eq!(rt; server.handles.len(), 1);
-            for handle in server.handles.items() {
-                assert_eq!(rt; handle.bytes, [0, 0, 0, 0, 0, 0, 0, file].as_slice());
-            }
+            is_server(&rt, server, want);
         }
     }
     Ok(())
@@ -214,42 +223,35 @@ fn time(seconds: i64, nanos: u32) -> Time4 {
     Time4 { seconds, nanos }
 }
 
-#[test]
-fn return_body(rt: HostRuntime) -> Result<(), Fail> {
-    let mut bytes = bytes_of(rt.alloc(), &ERRORS)?;
-    let stats = bytes_of(rt.alloc(), &STATS)?;
-    bytes.extend_from_slice(stats.as_slice())?;
-    let last = bytes_of(rt.alloc(), &[&[0, 49, 50, 1]])?;
-    bytes.extend_from_slice(last.as_slice())?;
-    is_read::<LayoutReturnBody>(&rt, rt.alloc(), bytes.as_slice())?;
-    let body = LayoutReturnBody::read(&mut Cursor::new(bytes.as_slice()))?;
-    assert_eq!(rt; (body.errors.len(), body.stats.len()), (2, 1));
-    let wants = [
-        (1, 2, (3, 4), [(5, 6, 7), (8, 9, 10)]),
-        (11, 12, (13, 14), [(15, 16, 17), (18, 19, 20)]),
-    ];
-    for (error, want) in body.errors.items().zip(wants) {
-        let (offset, length, (seqid, other), devices) = want;
-        assert_eq!(rt; (error.offset, error.length), (offset, length));
-        let stateid = Stateid {
-            seqid,
-            other: [other; 12],
-        };
-        assert_eq!(rt; error.stateid, stateid);
-        assert_eq!(rt; error.errors.len(), 2);
-        for (found, (device, status, opnum)) in error.errors.items().zip(devices) {
-            let device = DeviceId([device; 16]);
-            assert_eq!(rt;
-                found,
-                DeviceError {
-                    device,
-                    status,
-                    opnum
-                }
-            );
-        }
+/// An error's offset, length and stateid, and each device's id, status and operation.
+type ErrorWords = (u64, u64, (u32, u8), [(u8, u32, u32); 2]);
+
+/// The error has these fields.
+fn is_error(rt: &impl Abort, error: IoErr<'_>, want: ErrorWords) {
+    let (offset, length, (seqid, other), devices) = want;
+    assert_eq!(rt; (error.offset, error.length), (offset, length));
+    let stateid = Stateid {
+        seqid,
+        other: [other; 12],
+    };
+    assert_eq!(rt; error.stateid, stateid);
+    assert_eq!(rt; error.errors.len(), 2);
+    for (found, (device, status, opnum)) in error.errors.items().zip(devices) {
+        let device = DeviceId([device; 16]);
+        assert_eq!(rt;
+            found,
+            DeviceError {
+                device,
+                status,
+                opnum
+            }
+        );
     }
-    let want = IoStats {
+}
+
+/// The record of statistics that these words spell.
+fn stats_of_words() -> IoStats<'static> {
+    IoStats {
         offset: 21,
         length: 22,
         stateid: Stateid {
@@ -276,9 +278,28 @@ fn return_body(rt: HostRuntime) -> Result<(), Fail> {
         },
         duration: time(49, 50),
         local: true,
-    };
+    }
+}
+
+#[test]
+fn return_body(rt: HostRuntime) -> Result<(), Fail> {
+    let mut bytes = bytes_of(rt.alloc(), &ERRORS)?;
+    let stats = bytes_of(rt.alloc(), &STATS)?;
+    bytes.extend_from_slice(stats.as_slice())?;
+    let last = bytes_of(rt.alloc(), &[&[0, 49, 50, 1]])?;
+    bytes.extend_from_slice(last.as_slice())?;
+    is_read::<LayoutReturnBody>(&rt, rt.alloc(), bytes.as_slice())?;
+    let body = LayoutReturnBody::read(&mut Cursor::new(bytes.as_slice()))?;
+    assert_eq!(rt; (body.errors.len(), body.stats.len()), (2, 1));
+    let wants = [
+        (1, 2, (3, 4), [(5, 6, 7), (8, 9, 10)]),
+        (11, 12, (13, 14), [(15, 16, 17), (18, 19, 20)]),
+    ];
+    for (error, want) in body.errors.items().zip(wants) {
+        is_error(&rt, error, want);
+    }
     for found in body.stats.items() {
-        assert_eq!(rt; found, want);
+        assert_eq!(rt; found, stats_of_words());
     }
     Ok(())
 }
