@@ -1,0 +1,10 @@
+pub mod Texts
+pub mod DataServer
+pub mod Mirror
+pub mod Layout
+pub mod DeviceError
+pub mod IoError
+pub mod Latency
+pub mod IoStats
+pub mod ReturnBody
+pub mod User
