@@ -23,7 +23,7 @@ use Rattle.cluster_laws.proofs.Facts.{AllFollow, Bears}
 use Rattle.cluster_laws.proofs.Lists.{all_append, all_more, all_at, all_set, push_old, found_at, same_numbered}
 use Rattle.cluster_laws.proofs.Invariant.{Net, IsThisCall, AreThisCall, IsAskedFor, IsCallOf, IsPacket, IsCreationOf, IsFenceCall, IsInFence, IsFile, are_apart}
 use Rattle.cluster_laws.proofs.Onward.{Later, creation_on, in_fence_on, file_on}
-use Rattle.cluster_laws.proofs.FenceSteps.{kept_set}
+use Rattle.cluster_laws.proofs.FenceAnswers.{put_mirror}
 use Rattle.cluster_laws.proofs.Makings.{servers_set}
 use Rattle.cluster_laws.proofs.Targets.{put_target}
 use Rattle.cluster_laws.proofs.CopySteps.{staged_settling}
@@ -172,24 +172,8 @@ module _ (net : Net) (n xid : ℕ) (journal : List Entry) (same : AllFollow net.
       let it = in_fence_on net after (later_sent net m.id.server xid 0 call same new) n fence.cred m old in
       let goes : IsFenceCall after fence.cred xid m.id = record { used = omega arith; guard = m.seen; calls = only_call net xid m.id.server call new packets } in (
         asks s fence h m old,
-        record {
-          live = k.live;
-          apart = k.apart;
-          mirrors = k.mirrors;
-          cred = k.cred;
-          top = k.top;
-          busy = record {
-            next = k.busy.next;
-            end = k.busy.end;
-            phase = k.busy.phase;
-            fresh = k.busy.fresh;
-            top = k.busy.top;
-            later = k.busy.later;
-            mirrors = all_set (IsInFence after n fence.cred) fence.mirrors place (with_stage m (Out xid 0)) k.busy.mirrors
-                (record { name = it.name; drawn = it.drawn; bears = it.bears; home = it.home; seen = it.seen; out = λ x o. subst (λ (y : ℕ). IsFenceCall after fence.cred y m.id) (eqb-true xid x o) goes; done = λ is. absurd cc });
-            ids = k.busy.ids ∙ sym (kept_set fence.mirrors place m (with_stage m (Out xid 0)) there refl (sym (waits_up m.stage waiting)));
-          };
-        },
+        put_mirror after n journal s fence k place m (with_stage m (Out xid 0)) there (refl, refl) (waits_up m.stage waiting)
+            (record { name = it.name; drawn = it.drawn; bears = it.bears; home = it.home; seen = it.seen; out = λ x o. subst (λ (y : ℕ). IsFenceCall after fence.cred y m.id) (eqb-true xid x o) goes; done = λ is. absurd cc }),
       )
 
   -- ---- the first that waits

@@ -1,7 +1,7 @@
 -- A file whose fence is answered, or waits.
 use Rattle.std.proofs.Common.{◌≡◌, ℕ, ◌+◌, ◌<◌, true, false, eqb, ltb, cond, not, List, [], ◌∷◌, map, filter, Option, Some, None, refl, sym, ap, subst, ◌∙◌}
 use Rattle.std.specs.Prelude.{slice_get}
-use Rattle.std.proofs.lemmas.Bool.{cond_both, eqb-true}
+use Rattle.std.proofs.lemmas.Bool.{cond_both}
 use Rattle.cluster_model.specs.declared.ids.NodeId.TheVariants.{Mds}
 use Rattle.cluster_model.specs.declared.phase.LeftCause.TheVariants.{Unsynced}
 use Rattle.cluster_model.specs.declared.entry.Entry.{Entry}
@@ -11,11 +11,11 @@ use Rattle.cluster_model.specs.declared.call_stage.CallStage.TheVariants.{Waits,
 use Rattle.cluster_model.specs.declared.fence_mirror.FenceMirror.{FenceMirror}
 use Rattle.cluster_model.specs.declared.layout_state.LayoutState.{LayoutState}
 use Rattle.cluster_model.specs.DsCalls.{DsCallValue, SetAttr, DsReplyValue, Created, Set, Written, Committed, Bytes, NotSync, Failed}
-use Rattle.cluster_model.specs.Fences.{is_out, stage_at_tick, max_unsynced, MirrorStep, with_stage, having_seen, acknowledged, failed_by, out_of_sync, answered, stage_timed_out, timed_out, at_tick, FenceState, outstanding_at, with_mirror, step_at, step_from, after_tick}
+use Rattle.cluster_model.specs.Fences.{is_out, stage_at_tick, max_unsynced, MirrorStep, having_seen, acknowledged, failed_by, out_of_sync, answered, stage_timed_out, timed_out, at_tick, FenceState, outstanding_at, with_mirror, step_at, step_from, after_tick}
 use Rattle.cluster_model.specs.MdsFiles.{Activity, Fences, fence_stepped, shown_by_set, seen_by, mirror_at, fence_answered, fence_timed_out, is_given_up}
 use Rattle.cluster_model.specs.Machine.{file_id}
 use Rattle.cluster_laws.proofs.Lists.{all_at, all_set, found_at}
-use Rattle.cluster_laws.proofs.Invariant.{Net, IsThisCall, IsGiven, IsReplyTo, IsAnswer, IsInFence, IsFenceCall, kept_ids, IsFile}
+use Rattle.cluster_laws.proofs.Invariant.{Net, IsThisCall, IsGiven, IsReplyTo, IsAnswer, IsInFence, kept_ids, IsFile}
 use Rattle.cluster_laws.proofs.Rows.{RowOk}
 use Rattle.cluster_laws.proofs.Lives.{all_map}
 use Rattle.cluster_laws.proofs.Seen.{seen_ok}
@@ -33,7 +33,7 @@ not_given_up Done xid o = absurd cc
 not_given_up GivenUp xid o = absurd cc
 
 -- a mirror behind a step is the same one, and is not given up
-abbrev IsSame : FenceMirror → FenceMirror → Type 0
+abbrev pub IsSame : FenceMirror → FenceMirror → Type 0
 IsSame m new = (new.id ≡ m.id) × (is_given_up new.stage ≡ false)
 
 seen_same : (m : FenceMirror) (shown : Option Shown) → ((having_seen m shown).id ≡ m.id)
@@ -64,7 +64,7 @@ timed_same m xid o = by_stage m.stage refl
 
 -- ---- a file whose fence takes a step
 
-module _ (net : Net) (n next_uid : ℕ) (tops : net.drawn.top n < next_uid) (journal : List Entry) (s : LayoutState) (fence : FenceState) (h : IsFile net journal n (record { layout = s; activity = Fences fence })) (exact : IsExact net journal) where
+module _ (net : Net) (n : ℕ) (journal : List Entry) (s : LayoutState) (fence : FenceState) (h : IsFile net journal n (record { layout = s; activity = Fences fence })) where
   -- another state of one of its mirrors
   pub put_mirror : (place : ℕ) (m new : FenceMirror) → slice_get fence.mirrors place ≡ Some m → IsSame m new → is_given_up m.stage ≡ false → IsInFence net n fence.cred new
       → IsFile net journal n (record { layout = s; activity = Fences (with_mirror fence place new) })
@@ -86,6 +86,7 @@ module _ (net : Net) (n next_uid : ℕ) (tops : net.drawn.top n < next_uid) (jou
     };
   }
 
+module _ (net : Net) (n next_uid : ℕ) (tops : net.drawn.top n < next_uid) (journal : List Entry) (s : LayoutState) (fence : FenceState) (h : IsFile net journal n (record { layout = s; activity = Fences fence })) (exact : IsExact net journal) where
   -- ---- an answer
 
   module _ (xid server : ℕ) (reply : DsReplyValue) (answer : IsAnswer net.packets net.servers server Mds xid reply) where
@@ -121,7 +122,7 @@ module _ (net : Net) (n next_uid : ℕ) (tops : net.drawn.top n < next_uid) (jou
         let this = all_at (IsThisCall xid m.id.server (SetAttr m.id.fileid fence.cred call.guard)) net.packets answer.sent.place _ call.calls answer.sent.there refl in
         let shows : IsReplyTo net.servers m.id.server answer.call reply = subst (λ (k : ℕ). IsReplyTo net.servers k answer.call reply) this.0 answer.shows in
         let new = answered_ok net n fence.cred m call.guard answer.call reply this.1 shows in_fence in
-        let file = put_mirror place m (rule m).mirror there (answered_same fence.cred m reply) (not_given_up m.stage xid out) new in
+        let file = put_mirror net n journal s fence h place m (rule m).mirror there (answered_same fence.cred m reply) (not_given_up m.stage xid out) new in
         stepped_ok net n next_uid tops journal (seen_by s (Some m) (shown_by_set reply)) (with_mirror fence place (rule m).mirror) (seen_then m (shown_by_set reply) _ (given_by answer.call reply m.id.server shows) file) exact (rule m).step
 
     pub reply_ok : RowOk net journal n next_uid (fence_answered (file_id n) s fence xid reply).file (fence_answered (file_id n) s fence xid reply).entries
@@ -145,7 +146,7 @@ module _ (net : Net) (n next_uid : ℕ) (tops : net.drawn.top n < next_uid) (jou
     late : (place : ℕ) (m : FenceMirror) → slice_get fence.mirrors place ≡ Some m → is_out xid m.stage ≡ true → RightThenAt place (Some m)
     late place m there out =
         let in_fence = all_at (IsInFence net n fence.cred) fence.mirrors place m h.busy.mirrors there in
-        let file = put_mirror place m (timed_out m).mirror there (timed_same m xid out) (not_given_up m.stage xid out) (timed_ok net n fence.cred m in_fence) in
+        let file = put_mirror net n journal s fence h place m (timed_out m).mirror there (timed_same m xid out) (not_given_up m.stage xid out) (timed_ok net n fence.cred m in_fence) in
         stepped_ok net n next_uid tops journal s (with_mirror fence place (timed_out m).mirror) file exact (timed_out m).step
 
     pub timeout_ok : RowOk net journal n next_uid (fence_timed_out (file_id n) s fence xid).file (fence_timed_out (file_id n) s fence xid).entries
@@ -193,19 +194,3 @@ module _ (net : Net) (n next_uid : ℕ) (tops : net.drawn.top n < next_uid) (jou
       ids = h.busy.ids ∙ sym (kept_ticked fence.mirrors);
     };
   }
-
-  -- ---- a call goes out
-
-  pub called : (place : ℕ) (m : FenceMirror) (xid : ℕ) → slice_get fence.mirrors place ≡ Some m → is_given_up m.stage ≡ false → IsFenceCall net fence.cred xid m.id
-      → IsFile net journal n (record { layout = s; activity = Fences (with_mirror fence place (with_stage m (Out xid 0))) })
-  called place m xid there up call =
-      let old = all_at (IsInFence net n fence.cred) fence.mirrors place m h.busy.mirrors there in
-      put_mirror place m (with_stage m (Out xid 0)) there (refl, refl) up (record {
-        name = old.name;
-        drawn = old.drawn;
-        bears = old.bears;
-        home = old.home;
-        seen = old.seen;
-        out = λ x o. subst (λ (k : ℕ). IsFenceCall net fence.cred k m.id) (eqb-true xid x o) call;
-        done = λ is. absurd cc;
-      })

@@ -71,9 +71,6 @@ place_of all n x e = let parts = numbered_by (eqb n 0) (slice_get all (n - 1)) x
 pub at_number : {A : Type 0} (all : List A) (n : ℕ) (x : A) → n ≢ 0 → slice_get all (n - 1) ≡ Some x → numbered_at all n ≡ Some x
 at_number all n x ne e = ap (λ (b : Bool). cond b None (slice_get all (n - 1))) (ne_eqb n 0 ne) ∙ e
 
-pub number_of_place : {A : Type 0} (all : List A) (i : ℕ) (x : A) → slice_get all i ≡ Some x → numbered_at all (i + 1) ≡ Some x
-number_of_place all i x e = let back : i + 1 - 1 ≡ i = omega arith in at_number all (i + 1) x (λ z. absurd (omega (arith, z))) (ap (slice_get all) back ∙ e)
-
 pub within_number : {A : Type 0} (all : List A) (n : ℕ) (x : A) → numbered_at all n ≡ Some x → (0 < n) × (n ≤ length all)
 within_number all n x e =
     let p = place_of all n x e in

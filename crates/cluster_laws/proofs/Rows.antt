@@ -88,10 +88,6 @@ module _ (n next_uid : ℕ) where
 
 -- ---- rows
 
--- the live list of a phase in which there is one
-pub is_made : LayoutPhase → Type 0
-is_made p = (ids : List MirrorId) → live_of p ids ≡ Some ids
-
 fence_ids : (live : List Mirror) → ids_of live ≡ kept_ids (map to_fence live)
 fence_ids [] = refl
 fence_ids (m ∷ live) = ap (λ ids. m.id ∷ ids) (fence_ids live)

@@ -80,10 +80,6 @@ thrown net n next_uid journal s all h (Some id) cause not_source =
 given_up_creation : (net : Net) (n owner : ℕ) (c : Creation) → IsCreationOf net n owner c → IsCreationOf net n owner (record { server = c.server; name = c.name; replaced = c.replaced; stage = GivenUp; made = None })
 given_up_creation net n owner c h = record { drawn = h.drawn; home = h.home; low = h.low; out = λ xid is. absurd cc; made = λ m is. absurd cc }
 
--- a step that draws nothing
-pub IsPlain : FileStep → Type 0
-IsPlain x = (x.uids ≡ 0) × (x.names ≡ 0)
-
 module _ (net : Net) (n next_uid : ℕ) (journal : List Entry) (s : LayoutState) (all : Creations) (h : IsFile net journal n (record { layout = s; activity = Copies all })) where
   abbrev Ok : FileStep → Type 0
   Ok x = StepOk net journal n next_uid x

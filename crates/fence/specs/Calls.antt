@@ -6,6 +6,6 @@ use Rattle.cluster_model.specs.DsCalls.{plain_ds_call}
 use Rattle.cluster_model.specs.Fences.{FenceState, next_call}
 
 -- the call that goes out under a number, and the fence then
-abbrev pub Sends : FenceState → ℕ → Option (MirrorId × DsCall) → FenceState → Type 0
-Sends old xid None new = (next_call old xid ≡ None) × (new ≡ old)
-Sends old xid (Some (id, call)) new = next_call old xid ≡ Some (record { fence = new; id = id; call = plain_ds_call call })
+abbrev pub SendsNext : FenceState → ℕ → Option (MirrorId × DsCall) → FenceState → Type 0
+SendsNext old xid None new = (next_call old xid ≡ None) × (new ≡ old)
+SendsNext old xid (Some (id, call)) new = next_call old xid ≡ Some (record { fence = new; id = id; call = plain_ds_call call })

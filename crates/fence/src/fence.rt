@@ -4,7 +4,7 @@ ghost use Rattle.std.specs.Prelude.{◌≡◌, List, map, position};
 ghost use Rattle.std.specs.List.{list_all};
 ghost use Rattle.cluster_model.specs.DsCalls.{plain_ds_reply};
 ghost use Rattle.cluster_model.specs.Fences.{fence_of, waits, is_out, is_over, on_reply, on_timeout, after_tick, without, is_done, at_tick, dropped_if};
-ghost use Rattle.fence.specs.Calls.{Sends};
+ghost use Rattle.fence.specs.Calls.{SendsNext};
 
 use crate::call::{is_out, is_over, waits};
 use crate::mirror::{answered, at_tick, dropped_if, timed_out, to_fence, with_stage};
@@ -47,7 +47,7 @@ impl Fence {
     /// The call to the first mirror to which one waits, which is outstanding from now on under this number; `None` where
     /// none waits. No call of this number is outstanding in the fence.
     pub fn next_call(&mut self, xid: u32) -> Option<(MirrorId, DsCall<'static>)>
-        ensures { Sends self.old xid result self.new }
+        ensures { SendsNext self.old xid result self.new }
     {
         let place = waiting(self.mirrors.as_slice())?;
         let mirror = self.mirrors[place];
