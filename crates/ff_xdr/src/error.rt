@@ -3,23 +3,31 @@
 ghost use Rattle.std.specs.Prelude.{◌≡◌};
 
 use std::alloc::{AllocError, AllocFailed};
+use thiserror::Error;
 
 /// Why bytes are refused (RFC 4506).
-#[derive(Clone, Copy, Debug, PartialEq, Eq)]
+#[derive(Clone, Copy, Debug, PartialEq, Eq, Error)]
 pub enum XdrWhy {
     /// The slice ends before the item does.
+    #[error("the bytes end before the item does")]
     Short,
     /// A padding byte is not zero (RFC 4506, section 3).
+    #[error("a padding byte is not zero")]
     Pad,
     /// A flag is neither 0 nor 1 (RFC 4506, section 4.4).
+    #[error("a flag is neither 0 nor 1")]
     NotBool,
     /// A number is none of the enum's or the union's (RFC 4506, sections 4.3 and 4.15).
+    #[error("a number is none of those that may stand here")]
     NotEnum,
     /// A length passes its maximum (RFC 4506, sections 4.10 and 4.13).
+    #[error("a length passes its maximum")]
     TooLong,
     /// A text is not UTF-8.
+    #[error("a text is not UTF-8")]
     NotUtf8,
     /// Bytes are left behind the last item.
+    #[error("bytes are left behind the last item")]
     Rest,
 }
 
@@ -29,7 +37,8 @@ pub enum XdrWhy {
 /// The place is the slice's end for `Short`, the bad byte for `Pad`, the first byte of the word for
 /// `NotBool`, `NotEnum` and `TooLong`, the first byte of the bad sequence for `NotUtf8`, and the
 /// first byte that is left for `Rest`.
-#[derive(Clone, Copy, Debug, PartialEq, Eq)]
+#[derive(Clone, Copy, Debug, PartialEq, Eq, Error)]
+#[error("at byte {place}: {why}")]
 pub struct XdrError {
     pub place: usize,
     pub why: XdrWhy,
@@ -49,7 +58,8 @@ impl XdrError {
 }
 
 /// Memory was wanted and not there.
-#[derive(Clone, Copy, Debug, PartialEq, Eq)]
+#[derive(Clone, Copy, Debug, PartialEq, Eq, Error)]
+#[error("memory was wanted")]
 pub struct NoMemory;
 
 impl From<AllocError> for NoMemory {
