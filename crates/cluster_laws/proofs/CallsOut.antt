@@ -15,7 +15,7 @@ use Rattle.cluster_model.specs.declared.layout_state.LayoutState.{LayoutState}
 use Rattle.cluster_model.specs.File.{StoredFile}
 use Rattle.cluster_model.specs.Server.{ServerState}
 use Rattle.cluster_model.specs.DsCalls.{DsCallValue, Create, SetAttr}
-use Rattle.cluster_model.specs.Fences.{FenceState, waits, with_stage, with_mirror, call_at, call_from, waiting_at}
+use Rattle.cluster_model.specs.Fences.{FenceState, waits, with_stage, with_mirror, fence_call_at, call_from, waiting_at}
 use Rattle.cluster_model.specs.MdsFiles.{Creation, Creations, Activity, Idle, Makes, Fences, Settles, Copies, MdsFile, in_stage, with_creation, is_given_up}
 use Rattle.cluster_model.specs.FilePhases.{CallOut, call_out, create_out, create_out_at, creation_waiting, fence_out, settle_out}
 use Rattle.cluster_model.specs.Machine.{PacketValue, Call, Reply, numbered_at}
@@ -194,7 +194,7 @@ module _ (net : Net) (n xid : ℕ) (journal : List Entry) (same : AllFollow net.
       let found = found_at (λ x. waits x.stage) fence.mirrors place at in
       let m = found.0 in
       let there = found.1 in
-      subst GoesOut (same_Some _ c (sym (ap (λ o. fence_out (record { layout = s; activity = Fences fence }) (call_at fence xid place o)) there) ∙ is)) (fences s fence h place m there found.2)
+      subst GoesOut (same_Some _ c (sym (ap (λ o. fence_out (record { layout = s; activity = Fences fence }) (fence_call_at fence xid place o)) there) ∙ is)) (fences s fence h place m there found.2)
 
   by_source : (s : LayoutState) (stage : CallStage) → IsFile net journal n (record { layout = s; activity = Settles stage }) → (live : List Mirror) (c : CallOut) → settle_out (record { layout = s; activity = Settles stage }) xid live ≡ Some c → GoesOut c
   by_source s stage h [] c is = absurd cc

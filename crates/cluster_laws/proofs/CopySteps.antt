@@ -14,7 +14,7 @@ use Rattle.cluster_model.specs.declared.layout_state.LayoutState.{LayoutState}
 use Rattle.cluster_model.specs.declared.layout_state.LayoutPhase.TheVariants.{Free, Settling}
 use Rattle.cluster_model.specs.declared.layout_state.CopyKind.{CopyKind}
 use Rattle.cluster_model.specs.Journal.{is_mirror}
-use Rattle.cluster_model.specs.Phases.{ids_of, but_for, is_last, is_source, phase_without, with_phase, after_loss}
+use Rattle.cluster_model.specs.Phases.{ids_of, but_for, is_last_live, is_source, phase_without, with_phase, after_loss}
 use Rattle.cluster_model.specs.MdsFiles.{Activity, Idle, Settles, FileStep, stays, source_left, settling_timed_out}
 use Rattle.cluster_model.specs.Machine.{file_id}
 use Rattle.cluster_model.specs.FenceLaw.{live_by, changed_live, first_free}
@@ -90,7 +90,7 @@ module _ (net : Net) (n next_uid : ℕ) (journal : List Entry) (s : LayoutState)
   source_ok (m ∷ live) cause kept =
       let e : Entry = entry.Left (file_id n) m.id cause in
       let phase : phase_without s.phase (is_source m.id s.live) ≡ Settling h.busy.copies = ap (λ p. phase_without p (is_source m.id s.live)) h.busy.phase in
-      cond_both (is_last s.live) (stays s (Settles kept)) (record { file = record { layout = after_loss s m.id; activity = Settles Waits }; entries = e ∷ []; uids = 0; names = 0 })
+      cond_both (is_last_live s.live) (stays s (Settles kept)) (record { file = record { layout = after_loss s m.id; activity = Settles Waits }; entries = e ∷ []; uids = 0; names = 0 })
       (λ (x : FileStep). RowOk net journal n next_uid x.file x.entries)
       (λ w. nothing_new net journal n next_uid _ (staged_settling kept))
       (λ w. loses net n next_uid journal s (Settles stage) (Settles Waits) m.id cause h (live_settling h.busy.copies h.busy.phase) (ap (λ p. live_of p (ids_of (but_for m.id s.live))) phase) (record { copies = h.busy.copies; phase = phase }))

@@ -16,7 +16,7 @@ use Rattle.cluster_model.specs.declared.layout_state.CopyKind.TheVariants.{Repla
 use Rattle.cluster_model.specs.Mirrors.{has_server, are_on_different_servers}
 use Rattle.cluster_model.specs.DsCalls.{DsReplyValue, Created, Set, Written, Committed, Bytes, NotSync, Failed}
 use Rattle.cluster_model.specs.Fences.{is_out, odd_answer}
-use Rattle.cluster_model.specs.Phases.{ids_of, is_last, with_phase, after_loss, freed, has_targets}
+use Rattle.cluster_model.specs.Phases.{ids_of, is_last_live, with_phase, after_loss, freed, has_targets}
 use Rattle.cluster_model.specs.MdsFiles.{Creation, Idle, Settles, Copies, Fresh, stays, a_uid, goes_idle, servers_without, replacing, adding, targets_of, copying, settled, source_left, settling_answered}
 use Rattle.cluster_model.specs.Machine.{file_id}
 use Rattle.cluster_model.specs.FenceLaw.{live_in}
@@ -158,7 +158,7 @@ module _ (net : Net) (n next_uid files : ℕ) (journal : List Entry) (same : All
     where
       by_live : (live : List Mirror) → RowOk net journal n next_uid (source_left (file_id n) s live cause kept).file (source_left (file_id n) s live cause kept).entries → StepOk net journal n next_uid (source_left (file_id n) s live cause kept)
       by_live [] ok = Plain refl refl ok
-      by_live (m ∷ live) ok = Plain (draws_none (is_last s.live)) (names_none (is_last s.live)) ok
+      by_live (m ∷ live) ok = Plain (draws_none (is_last_live s.live)) (names_none (is_last_live s.live)) ok
         where
           draws_none : (b : Bool) → (cond b (stays s (Settles kept)) (record { file = record { layout = after_loss s m.id; activity = Settles Waits }; entries = entry.Left (file_id n) m.id cause ∷ []; uids = 0; names = 0 })).uids ≡ 0
           draws_none true = refl

@@ -22,7 +22,7 @@ use Rattle.cluster_model.specs.Journal.{is_mirror}
 use Rattle.cluster_model.specs.DsCalls.{DsCallValue, SetAttr, DsReplyValue, Created, Set, Written, Committed, Bytes, NotSync, Failed}
 use Rattle.cluster_model.specs.GuardLaws.{target}
 use Rattle.cluster_model.specs.Fences.{is_out, stage_at_tick, max_unsynced, MirrorStep, with_stage, having_seen, acknowledged, failed_by, out_of_sync, answered, stage_timed_out, timed_out, at_tick, dropped_if, FenceState, without, is_done}
-use Rattle.cluster_model.specs.Phases.{ids_of, but_for, is_last, is_source, phase_without, after_loss, mirror_left, fence_done}
+use Rattle.cluster_model.specs.Phases.{ids_of, but_for, is_last_live, is_source, phase_without, after_loss, mirror_left, fence_done}
 use Rattle.cluster_model.specs.MdsFiles.{Fences, MdsFile, FileStep, stays, goes_on, with_entries, fenced_on, fence_failed, fence_stepped, is_given_up}
 use Rattle.cluster_model.specs.Machine.{file_id}
 use Rattle.cluster_model.specs.FenceLaw.{live_by, changed_live}
@@ -221,7 +221,7 @@ module _ (net : Net) (n next_uid : ℕ) (tops : net.drawn.top n < next_uid) wher
 
     failed_step : (id : MirrorId) (cause : LeftCause) → RowOk net journal n next_uid (fence_failed (file_id n) s fence id cause).file (fence_failed (file_id n) s fence id cause).entries
     failed_step id cause =
-        cond_both (is_last s.live) (stays s (Fences fence)) (with_entries (mirror_left (file_id n) s id cause).entries (fenced_on (file_id n) (mirror_left (file_id n) s id cause).file (without fence id)))
+        cond_both (is_last_live s.live) (stays s (Fences fence)) (with_entries (mirror_left (file_id n) s id cause).entries (fenced_on (file_id n) (mirror_left (file_id n) s id cause).file (without fence id)))
         (λ (x : FileStep). RowOk net journal n next_uid x.file x.entries)
         (λ e. nothing_new net journal n next_uid _ h)
         (λ e. behind_left net journal n next_uid _ id cause _

@@ -12,7 +12,7 @@ use Rattle.cluster_model.specs.declared.fence_mirror.FenceStep.{FenceStep}
 use Rattle.cluster_model.specs.declared.fence_mirror.FenceStep.TheVariants.{Stranger, Acked, Again, Failed as HasFailed}
 use Rattle.cluster_model.specs.declared.layout_state.LayoutState.{LayoutState}
 use Rattle.cluster_model.specs.Fences.{is_over, stage_at_tick, FenceState, is_done, without}
-use Rattle.cluster_model.specs.Phases.{is_last, mirror_left, fence_done, made}
+use Rattle.cluster_model.specs.Phases.{is_last_live, mirror_left, fence_done, made}
 use Rattle.cluster_model.specs.MdsFiles.{Creation, Creations, Activity, Idle, Makes, Fences, Settles, Copies, FileStep, stays, goes_idle, goes_on, with_entries, fenced_on, fence_stepped, in_stage, with_creation, all_made, making_at, making_by, source_left, settling_timed_out}
 use Rattle.cluster_model.specs.FilePhases.{ticked}
 use Rattle.cluster_model.specs.Machine.{file_id}
@@ -57,7 +57,7 @@ plain_fence n s fence Stranger = (refl, refl)
 plain_fence n s fence Acked = plain_fenced n s fence
 plain_fence n s fence Again = (refl, refl)
 plain_fence n s fence (HasFailed id cause) =
-    plain_if (is_last s.live) (stays s (Fences fence)) (with_entries (mirror_left (file_id n) s id cause).entries (fenced_on (file_id n) (mirror_left (file_id n) s id cause).file (without fence id)))
+    plain_if (is_last_live s.live) (stays s (Fences fence)) (with_entries (mirror_left (file_id n) s id cause).entries (fenced_on (file_id n) (mirror_left (file_id n) s id cause).file (without fence id)))
     (refl, refl) (plain_fenced n (mirror_left (file_id n) s id cause).file (without fence id))
 
 -- ---- the COMMIT of a source
@@ -65,7 +65,7 @@ plain_fence n s fence (HasFailed id cause) =
 plain_left : (n : ℕ) (s : LayoutState) (live : List Mirror) (cause : LeftCause) (kept : CallStage) → DrawsNone (source_left (file_id n) s live cause kept)
 plain_left n s [] cause kept = (refl, refl)
 plain_left n s (m ∷ live) cause kept =
-    plain_if (is_last s.live) (stays s (Settles kept)) (record { file = record { layout = (mirror_left (file_id n) s m.id cause).file; activity = Settles Waits }; entries = (mirror_left (file_id n) s m.id cause).entries; uids = 0; names = 0 })
+    plain_if (is_last_live s.live) (stays s (Settles kept)) (record { file = record { layout = (mirror_left (file_id n) s m.id cause).file; activity = Settles Waits }; entries = (mirror_left (file_id n) s m.id cause).entries; uids = 0; names = 0 })
     (refl, refl) (refl, refl)
 
 pub plain_settling : (n : ℕ) (s : LayoutState) (stage : CallStage) → DrawsNone (settling_timed_out (file_id n) s stage)

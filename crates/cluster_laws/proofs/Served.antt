@@ -22,7 +22,7 @@ use Rattle.cluster_model.specs.GuardLaws.{IsInOrder, WasAsked, MayCome, Follows,
 use Rattle.cluster_model.specs.declared.layout_state.LayoutPhase.TheVariants as phase
 use Rattle.cluster_model.specs.Phases.{ids_of}
 use Rattle.cluster_model.specs.MdsFiles.{MdsFile}
-use Rattle.cluster_model.specs.Machine.{PacketValue, Call, Reply, Machine, numbered_at, with_server, caller_of, file_id}
+use Rattle.cluster_model.specs.Machine.{PacketValue, Call, Reply, Machine, numbered_at, with_server, caller_by_uid, file_id}
 use Rattle.cluster_model.specs.FenceLaw.{live_in, live_after, is_among}
 use Rattle.cluster_laws.proofs.Facts.{OwnedFrom, HasGiven}
 use Rattle.cluster_laws.proofs.Names.{name_is}
@@ -141,10 +141,10 @@ module _ (calls : (s : ServerState) (caller : Caller) (call : DsCallValue) → I
       net = net_of m d
 
       abbrev step : DsStep
-      step = ds_step s (caller_of uid) call
+      step = ds_step s (caller_by_uid uid) call
 
-      laws : CallLaws s (caller_of uid) call step.server step.reply step.entries
-      laws = calls s (caller_of uid) call (h.servers n s there).in_order
+      laws : CallLaws s (caller_by_uid uid) call step.server step.reply step.entries
+      laws = calls s (caller_by_uid uid) call (h.servers n s there).in_order
 
       abbrev answer : PacketValue
       answer = Reply n from xid step.reply
@@ -259,5 +259,5 @@ module _ (calls : (s : ServerState) (caller : Caller) (call : DsCallValue) → I
       pub served_holds : Holds after (journal ++ step.entries) d
       served_holds =
           changed_holds m journal d h n s there step.server follows (m.packets ++ answer ∷ []) (λ place p is. push_old m.packets (answer ∷ []) place p is) (λ x server c all. all_append _ m.packets (answer ∷ []) all (tt, tt))
-          step.entries laws.of_server (subst (λ (j : List Entry). AreRight j step.entries) (append-nil journal) (rights (caller_of uid) [] step.entries tt laws.of_server laws.owners)) this_server
+          step.entries laws.of_server (subst (λ (j : List Entry). AreRight j step.entries) (append-nil journal) (rights (caller_by_uid uid) [] step.entries tt laws.of_server laws.owners)) this_server
           (all_append (IsPacket (net_of after d)) m.packets (answer ∷ []) (all_more (IsPacket net) (IsPacket (net_of after d)) m.packets (packet_on net (net_of after d) later) h.packets) (answered, tt))

@@ -16,7 +16,7 @@ use Rattle.cluster_model.specs.declared.layout_state.LayoutState.{LayoutState}
 use Rattle.cluster_model.specs.declared.layout_state.LayoutPhase.TheVariants.{Settling, Copying}
 use Rattle.cluster_model.specs.DsCalls.{DsCallValue, Create, DsReplyValue, Created, Set, Written, Committed, Bytes, NotSync, Failed}
 use Rattle.cluster_model.specs.Fences.{is_out, odd_answer}
-use Rattle.cluster_model.specs.Phases.{ids_of, but_for, is_last, is_source, phase_without, after_loss}
+use Rattle.cluster_model.specs.Phases.{ids_of, but_for, is_last_live, is_source, phase_without, after_loss}
 use Rattle.cluster_model.specs.MdsFiles.{Creation, Creations, Settles, Copies, FileStep, nothing, stays, in_stage, made_as, with_creation, creation_of, is_given_up, source_left, target_left, target_failed, target_answered, target_timed_out, target_at, target_by}
 use Rattle.cluster_model.specs.Machine.{file_id}
 use Rattle.cluster_laws.proofs.Facts.{Bears}
@@ -163,7 +163,7 @@ module _ (net : Net) (n next_uid : ℕ) (journal : List Entry) (s : LayoutState)
   pub source_fails : (live : List Mirror) → s.live ≡ live → (cause : LeftCause) → ltb 1 (length live) ≡ true → Ok (source_left (file_id n) s live cause Waits)
   source_fails [] is cause more = absurd cc
   source_fails (m ∷ live) is cause more =
-      let few : is_last s.live ≡ false = ap (λ (ms : List Mirror). is_last ms) is ∙ not_last (length (m ∷ live)) more in
+      let few : is_last_live s.live ≡ false = ap (λ (ms : List Mirror). is_last_live ms) is ∙ not_last (length (m ∷ live)) more in
       let first : is_source m.id s.live ≡ true = ap (is_source m.id) is ∙ itself m.id in
       let phase : phase_without s.phase (is_source m.id s.live) ≡ Settling h.busy.copies = ap (λ p. phase_without p (is_source m.id s.live)) h.busy.phase ∙ ap (λ b. phase_without (Copying h.busy.copier h.busy.copies) b) first in
       let loss : FileStep = record { file = record { layout = after_loss s m.id; activity = Settles Waits }; entries = entry.Left (file_id n) m.id cause ∷ []; uids = 0; names = 0 } in

@@ -71,9 +71,9 @@ covers w place = (w.at ≤ place) × (place < w.at + length w.bytes)
 abbrev pub IsByteOfOne : List Pending → ℕ → ℕ → Type 0
 IsByteOfOne writes place byte = (k : ℕ) × (w : Pending) × (slice_get writes k ≡ Some w) × covers w place × (byte ≡ byte_at w.bytes (place - w.at))
 
-abbrev pub end_of : List Pending → ℕ
-end_of [] = 0
-end_of (w ∷ writes) = max (w.at + length w.bytes) (end_of writes)
+abbrev pub furthest_end : List Pending → ℕ
+furthest_end [] = 0
+furthest_end (w ∷ writes) = max (w.at + length w.bytes) (furthest_end writes)
 
 abbrev pub ArePairwiseDisjoint : List Pending → Type 0
 ArePairwiseDisjoint [] = Unit {0}
@@ -91,8 +91,8 @@ pub record IsDirtyStep (journal until : List Entry) (uid : ℕ) (old new : List 
   pub bytes : (place : ℕ) → place < length new → (byte_at new place ≡ byte_at old place) ⊎ IsByteOfOne (sent_of uid until ++ rogue_of uid until) place (byte_at new place)
   pub told : (k place : ℕ) (w : Pending) → slice_get (told_of uid journal) k ≡ Some w → covers w place
       → (byte_at new place ≡ byte_at w.bytes (place - w.at)) ⊎ IsByteOfOne (rogue_of uid journal) place (byte_at new place)
-  pub least : max (length old) (end_of (told_of uid journal)) ≤ length new
-  pub most : length new ≤ max (length old) (end_of (sent_of uid until ++ rogue_of uid until))
+  pub least : max (length old) (furthest_end (told_of uid journal)) ≤ length new
+  pub most : length new ≤ max (length old) (furthest_end (sent_of uid until ++ rogue_of uid until))
 
 abbrev pub IsEndBy : List Entry → List Entry → ℕ → List ℕ → List ℕ → Bool → Type 0
 IsEndBy journal until uid old new true = IsCleanStep journal uid old new

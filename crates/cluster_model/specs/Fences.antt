@@ -163,13 +163,13 @@ pub record FenceCall : Type 0 where
   pub id : MirrorId
   pub call : DsCallValue
 
-abbrev pub call_at : FenceState → ℕ → ℕ → Option FenceMirror → Option FenceCall
-call_at f xid place None = None
-call_at f xid place (Some m) = Some (record { fence = with_mirror f place (with_stage m (Out xid 0)); id = m.id; call = call_to f m })
+abbrev pub fence_call_at : FenceState → ℕ → ℕ → Option FenceMirror → Option FenceCall
+fence_call_at f xid place None = None
+fence_call_at f xid place (Some m) = Some (record { fence = with_mirror f place (with_stage m (Out xid 0)); id = m.id; call = call_to f m })
 
 abbrev pub call_from : FenceState → ℕ → Option ℕ → Option FenceCall
 call_from f xid None = None
-call_from f xid (Some place) = call_at f xid place (slice_get f.mirrors place)
+call_from f xid (Some place) = fence_call_at f xid place (slice_get f.mirrors place)
 
 abbrev pub next_call : FenceState → ℕ → Option FenceCall
 next_call f xid = call_from f xid (waiting_at f)

@@ -172,15 +172,15 @@ file_takes m n input (Some f) = file_stepped m n (phase (file_id n) f input (fre
 -- ---- deliveries
 
 -- The group of a call is the user's number, and there are no further groups.
-abbrev pub caller_of : ℕ → Caller
-caller_of uid = record { uid = uid; gid = uid; gids = [] }
+abbrev pub caller_by_uid : ℕ → Caller
+caller_by_uid uid = record { uid = uid; gid = uid; gids = [] }
 
 abbrev pub served : Machine → NodeId → ℕ → ℕ → DsStep → MachineStep
 served m from n xid step = record { machine = with_server m n step.server (m.packets ++ Reply n from xid step.reply ∷ []); entries = step.entries }
 
 abbrev pub arrives_at : Machine → NodeId → ℕ → ℕ → ℕ → DsCallValue → Option ServerState → MachineStep
 arrives_at m from n xid uid call None = no_move m
-arrives_at m from n xid uid call (Some s) = served m from n xid (ds_step s (caller_of uid) call)
+arrives_at m from n xid uid call (Some s) = served m from n xid (ds_step s (caller_by_uid uid) call)
 
 -- the file whose call of this number to this server is outstanding
 abbrev pub file_of : List MdsFile → ℕ → ℕ → Option ℕ

@@ -25,7 +25,7 @@ use Rattle.cluster_model.specs.declared.layout_state.CopyKind.TheVariants.{Repla
 use Rattle.cluster_model.specs.Mirrors.{has_server}
 use Rattle.cluster_model.specs.DsCalls.{DsReplyValue, Created, Set, Written, Committed, Bytes, NotSync, Failed}
 use Rattle.cluster_model.specs.Fences.{is_out, is_over, odd_answer, FenceState, fence_of, outstanding_at, on_reply, on_timeout, without, is_done}
-use Rattle.cluster_model.specs.Phases.{seen_at, is_last, with_live, PhaseStep, made, mirror_left, fence_done, settled_row, SwappedIn, copied, has_targets}
+use Rattle.cluster_model.specs.Phases.{seen_at, is_last_live, with_live, PhaseStep, made, mirror_left, fence_done, settled_row, SwappedIn, copied, has_targets}
 
 -- ---- files that are made at data servers: those of a new file, and the targets of a copy
 
@@ -110,7 +110,7 @@ fenced_on file layout fence = if is_done fence then goes_on (fence_done file lay
 -- a mirror that fails leaves, unless it is the last one
 abbrev pub fence_failed : FileId → LayoutState → FenceState → MirrorId → LeftCause → FileStep
 fence_failed file layout fence id cause =
-    if is_last layout.live then stays layout (Fences fence)
+    if is_last_live layout.live then stays layout (Fences fence)
     else with_entries (mirror_left file layout id cause).entries (fenced_on file (mirror_left file layout id cause).file (without fence id))
 
 abbrev pub fence_stepped : FileId → LayoutState → FenceState → FenceStep → FileStep
@@ -245,7 +245,7 @@ settled file layout copies fresh =
 abbrev pub source_left : FileId → LayoutState → List Mirror → LeftCause → CallStage → FileStep
 source_left file layout [] cause kept = stays layout (Settles kept)
 source_left file layout (m ∷ live) cause kept =
-    if is_last layout.live then stays layout (Settles kept)
+    if is_last_live layout.live then stays layout (Settles kept)
     else record { file = record { layout = (mirror_left file layout m.id cause).file; activity = Settles Waits }; entries = (mirror_left file layout m.id cause).entries; uids = 0; names = 0 }
 
 -- an answer to the COMMIT, and a timeout of it

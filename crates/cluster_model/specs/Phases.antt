@@ -46,8 +46,8 @@ abbrev pub seen_at : MirrorId → Tick → List Mirror → List Mirror
 seen_at id tick mirrors = map (seen_if id tick) mirrors
 
 -- the mirror is the only one
-abbrev pub is_last : List Mirror → Bool
-is_last mirrors = nat_lt (length mirrors) 2
+abbrev pub is_last_live : List Mirror → Bool
+is_last_live mirrors = nat_lt (length mirrors) 2
 
 -- the entries of mirrors that leave, by what each of them is said to have
 abbrev pub left_entries : FileId → List (Option LeftCause) → List Mirror → List Entry

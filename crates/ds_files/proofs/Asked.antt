@@ -22,7 +22,7 @@ use Rattle.ds_files.specs.Lookup.{max_name}
 use Rattle.ds_files.specs.Write.{is_synced, write_plan, write_unless}
 use Rattle.ds_files.specs.Commit.{commit_plan, commit_unless}
 use Rattle.ds_files.specs.Setattr.{changes_of, tick_of, set_plan, set_unless}
-use Rattle.ds_files.specs.Create.{Creation, NotMade, IsThere, Makes, has_size, creation_unless, made_by, named_by, made_how, creation, create_in, create_plan}
+use Rattle.ds_files.specs.Create.{CreateCase, NotMade, IsThere, Makes, has_size, creation_unless, made_by, named_by, made_how, create_case, create_in, create_plan}
 use Rattle.ds_files.specs.Steps.{plan_of}
 use Rattle.ds_files.specs.Laws.{IsAsked, AsksNothing, AsksWrite, AsksCommit, AsksSet, AsksFile}
 use Rattle.ds_files.proofs.AtObject.{at_object}
@@ -75,7 +75,7 @@ set_at s handle index f a guard caller there names None is =
 
 -- ---- CREATE
 
-goes_on : (b : Bool) (status : Stat3) (r : Creation) (a : Sattr3) → cond b (NotMade status) r ≡ Makes a → (b ≡ false) × (r ≡ Makes a)
+goes_on : (b : Bool) (status : Stat3) (r : CreateCase) (a : Sattr3) → cond b (NotMade status) r ≡ Makes a → (b ≡ false) × (r ≡ Makes a)
 goes_on true status r a e = absurd (cc)
 goes_on false status r a e = (refl, e)
 
@@ -102,7 +102,7 @@ made clock name (how.Unchecked b) a found e = named clock name false b a found e
 made clock name (how.Guarded b) a found e = named clock name true b a found e
 made clock name (how.Exclusive verifier) a found e = absurd (cc)
 
-create_at : (s : ServerState) (handle name : List ℕ) (manner : CreateHow) (caller : Caller) → object_of s.files handle ≡ Root → (made_one : Creation) → creation s.clock s.names name manner caller ≡ made_one
+create_at : (s : ServerState) (handle name : List ℕ) (manner : CreateHow) (caller : Caller) → object_of s.files handle ≡ Root → (made_one : CreateCase) → create_case s.clock s.names name manner caller ≡ made_one
     → Follows s (Create handle name manner) caller (create_in s name caller made_one).effect
 create_at s handle name manner caller names (NotMade status) is = nothing s (Create handle name manner) caller
 create_at s handle name manner caller names (IsThere index) is = nothing s (Create handle name manner) caller

@@ -19,7 +19,7 @@ use Rattle.ds_files.specs.Objects.{Object, caller_of}
 use Rattle.ds_files.specs.Write.{write_plan, write_unless}
 use Rattle.ds_files.specs.Commit.{commit_plan, commit_unless}
 use Rattle.ds_files.specs.Setattr.{changes_of, tick_of, set_plan, set_unless}
-use Rattle.ds_files.specs.Create.{Creation, NotMade, IsThere, Makes, creation, create_in, create_plan}
+use Rattle.ds_files.specs.Create.{CreateCase, NotMade, IsThere, Makes, create_case, create_in, create_plan}
 use Rattle.ds_files.specs.Plans.{Plan, Step, carried_out}
 use Rattle.ds_files.specs.Steps.{plan_of, step_of}
 use Rattle.ds_files.specs.Receive.{Received, Silent, Refused, Asked, outcome_by, outcome_of_step}
@@ -41,7 +41,7 @@ commit_at : (s : ServerState) (index : ℕ) (f : StoredFile) (refusal : Option R
 commit_at s index f (Some refusal) h = refl
 commit_at s index f None h = absurd h
 
-create_at : (s : ServerState) (name : List ℕ) (caller : Caller) (made : Creation) → IsHarmless (create_in s name caller made)
+create_at : (s : ServerState) (name : List ℕ) (caller : Caller) (made : CreateCase) → IsHarmless (create_in s name caller made)
 create_at s name caller (NotMade status) h = refl
 create_at s name caller (IsThere index) h = absurd h
 create_at s name caller (Makes a) h = absurd h
@@ -56,7 +56,7 @@ harmless s (Read handle offset count) caller h = refl
 harmless s (Write handle offset count how bytes) caller h =
     at_object s.files (λ (o : Object). IsHarmless (write_plan s o offset count how bytes caller)) (λ status h. refl) (λ h. refl) (λ index f e. write_at s index f offset how bytes (write_refusal s index f caller (count == length bytes) offset bytes)) handle h
 harmless s (Create handle name manner) caller h =
-    at_object s.files (λ (o : Object). IsHarmless (create_plan s o name manner caller)) (λ status h. refl) (create_at s name caller (creation s.clock s.names name manner caller)) (λ index f e h. refl) handle h
+    at_object s.files (λ (o : Object). IsHarmless (create_plan s o name manner caller)) (λ status h. refl) (create_at s name caller (create_case s.clock s.names name manner caller)) (λ index f e h. refl) handle h
 harmless s (FsInfo handle) caller h = refl
 harmless s (Commit handle offset count) caller h =
     at_object s.files (λ (o : Object). IsHarmless (commit_plan s o caller)) (λ status h. refl) (λ h. refl) (λ index f e. commit_at s index f (commit_refusal f caller)) handle h

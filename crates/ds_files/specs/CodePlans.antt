@@ -10,11 +10,11 @@ use Rattle.ds_files.specs.declared.head.Head.{Head}
 use Rattle.ds_files.specs.declared.plan.Effect.{Effect}
 use Rattle.ds_files.specs.declared.plan.Effect.TheVariants as effect
 use Rattle.ds_files.specs.declared.plan.Plan.{Plan as DeclaredPlan}
-use Rattle.ds_files.specs.declared.create.Creation.{Creation as DeclaredCreation}
-use Rattle.ds_files.specs.declared.create.Creation.TheVariants as declared
+use Rattle.ds_files.specs.declared.create.CreateCase.{CreateCase as DeclaredCreation}
+use Rattle.ds_files.specs.declared.create.CreateCase.TheVariants as declared
 use Rattle.ds_files.specs.Plans.{Plan}
 use Rattle.ds_files.specs.Objects.{caller}
-use Rattle.ds_files.specs.Create.{Creation, NotMade, IsThere, Makes, creation}
+use Rattle.ds_files.specs.Create.{CreateCase, NotMade, IsThere, Makes, create_case}
 use Rattle.ds_files.specs.Heads.{Refuses, IsServer, server_of}
 
 abbrev pub plain_effect : Effect → Effected
@@ -72,16 +72,16 @@ head_after h before after bytes = record h { clock = clock_by h.clock bytes; tot
 
 -- ---- CREATE
 
-abbrev pub plain_creation : DeclaredCreation → Creation
-plain_creation (declared.Refuses status) = NotMade status
-plain_creation (declared.IsThere index) = IsThere index
-plain_creation (declared.Makes attributes) = Makes attributes
+abbrev pub plain_create_case : DeclaredCreation → CreateCase
+plain_create_case (declared.Refuses status) = NotMade status
+plain_create_case (declared.IsThere index) = IsThere index
+plain_create_case (declared.Makes attributes) = Makes attributes
 
-abbrev pub creation_of : Head → CreateArgs → AuthSys → Creation
-creation_of h a cred = creation h.clock h.names a.name.now a.how (caller cred)
+abbrev pub create_case_of : Head → CreateArgs → AuthSys → CreateCase
+create_case_of h a cred = create_case h.clock h.names a.name.now a.how (caller cred)
 
 -- A refusal is one, what is there has an index, and what is to be made has a free name and a tick.
-abbrev pub CreationFits : Head → List ℕ → DeclaredCreation → Type 0
-CreationFits h name (declared.Refuses status) = Refuses status
-CreationFits h name (declared.IsThere index) = index + 2 < 2 ^ 64
-CreationFits h name (declared.Makes attributes) = (h.clock.count < max_ticks) × (index_of h.names name ≡ None)
+abbrev pub CreateCaseFits : Head → List ℕ → DeclaredCreation → Type 0
+CreateCaseFits h name (declared.Refuses status) = Refuses status
+CreateCaseFits h name (declared.IsThere index) = index + 2 < 2 ^ 64
+CreateCaseFits h name (declared.Makes attributes) = (h.clock.count < max_ticks) × (index_of h.names name ≡ None)

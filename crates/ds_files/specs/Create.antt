@@ -16,39 +16,39 @@ use Rattle.ds_files.specs.Setattr.{mode_of}
 use Rattle.ds_files.specs.Plans.{Plan, reply_alone}
 
 -- why a file is not made; the file that has the name; or none has, and it is to be made
-pub data Creation : Type 0 where
-  NotMade : (status : Stat3) → Creation
-  IsThere : (index : ℕ) → Creation
-  Makes : (attributes : Sattr3) → Creation
+pub data CreateCase : Type 0 where
+  NotMade : (status : Stat3) → CreateCase
+  IsThere : (index : ℕ) → CreateCase
+  Makes : (attributes : Sattr3) → CreateCase
 
 -- a size that is named other than 0
 abbrev pub has_size : Option ℕ → Bool
 has_size None = false
 has_size (Some size) = not (size == 0)
 
-abbrev pub creation_unless : Sattr3 → Option Refusal → Creation
+abbrev pub creation_unless : Sattr3 → Option Refusal → CreateCase
 creation_unless a (Some refusal) = NotMade (stat_of refusal)
 creation_unless a None = Makes a
 
-abbrev pub made_by : Tick → Sattr3 → Option ℕ → Creation
+abbrev pub made_by : Tick → Sattr3 → Option ℕ → CreateCase
 made_by clock a (Some index) = IsThere index
 made_by clock a None = creation_unless a (tick_refusal clock)
 
 -- GUARDED refuses a name that is there
-abbrev pub named_by : Tick → List ℕ → Bool → Sattr3 → Option ℕ → Creation
+abbrev pub named_by : Tick → List ℕ → Bool → Sattr3 → Option ℕ → CreateCase
 named_by clock name guarded a found =
     if guarded && is_some found then NotMade stat.Exist
     else (if length name == 0 || has_size a.size then NotMade stat.Inval
     else made_by clock a found)
 
-abbrev pub made_how : Tick → List ℕ → CreateHow → Option ℕ → Creation
+abbrev pub made_how : Tick → List ℕ → CreateHow → Option ℕ → CreateCase
 made_how clock name (how.Unchecked a) found = named_by clock name false a found
 made_how clock name (how.Guarded a) found = named_by clock name true a found
 made_how clock name (how.Exclusive verifier) found = NotMade stat.NotSupp
 
 -- what comes of a CREATE in the root, in the order of its refusals: only uid 0 may
-abbrev pub creation : Tick → List (List ℕ) → List ℕ → CreateHow → Caller → Creation
-creation clock names name manner caller =
+abbrev pub create_case : Tick → List (List ℕ) → List ℕ → CreateHow → Caller → CreateCase
+create_case clock names name manner caller =
     if not (caller.uid == 0) then NotMade stat.Acces
     else (if nat_lt max_name (length name) then NotMade stat.NameTooLong
     else made_how clock name manner (index_of names name))
@@ -69,7 +69,7 @@ create_done s name owner group mode = record {
   effect = NewFile name owner group mode;
 }
 
-abbrev pub create_in : ServerState → List ℕ → Caller → Creation → Plan
+abbrev pub create_in : ServerState → List ℕ → Caller → CreateCase → Plan
 create_in s name caller (NotMade status) = reply_alone (CreateRefused status (wcc_same (attributes_of s Root)))
 create_in s name caller (IsThere index) = reply_alone (CreateDone (Some (handle_of index)) (attributes_at s.files index) (wcc_same (attributes_of s Root)))
 create_in s name caller (Makes a) = create_done s name (owner_of a caller) (group_of a caller) (file_mode_of a)
@@ -77,4 +77,4 @@ create_in s name caller (Makes a) = create_done s name (owner_of a caller) (grou
 abbrev pub create_plan : ServerState → Object → List ℕ → CreateHow → Caller → Plan
 create_plan s (Missing status) name manner caller = reply_alone (CreateRefused status (wcc_same None))
 create_plan s (File index f) name manner caller = reply_alone (CreateRefused stat.NotDir (wcc_same (attributes_of s (File index f))))
-create_plan s Root name manner caller = create_in s name caller (creation s.clock s.names name manner caller)
+create_plan s Root name manner caller = create_in s name caller (create_case s.clock s.names name manner caller)

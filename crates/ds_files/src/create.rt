@@ -5,7 +5,7 @@ ghost use Rattle.cluster_model.specs.Server.{index_of, root_after, max_ticks};
 ghost use Rattle.ds_files.specs.Objects.{object_of, caller};
 ghost use Rattle.ds_files.specs.Create.{has_size, made_by, named_by, owner_of, group_of, file_mode_of, create_done, create_in, create_plan};
 ghost use Rattle.ds_files.specs.Heads.{IsServer, server_of};
-ghost use Rattle.ds_files.specs.CodePlans.{plain_plan, plain_effect, IsReady, creation_of, plain_creation, CreationFits};
+ghost use Rattle.ds_files.specs.CodePlans.{plain_plan, plain_effect, IsReady, create_case_of, plain_create_case, CreateCaseFits};
 
 use crate::access::tick_refusal;
 use crate::answer::Response;
@@ -28,7 +28,7 @@ const DEFAULT_MODE: u32 = 0o640;
 
 /// What comes of a CREATE in the root.
 #[derive(Clone, Copy)]
-pub enum Creation {
+pub enum CreateCase {
     Refuses(Stat3),
     /// The file at this index has the name.
     IsThere(usize),
@@ -46,18 +46,18 @@ fn has_size(size: Option<u64>) -> bool
 }
 
 /// The file that has the name, or what is to be made.
-fn made_by(head: &Head, name: &[u8], attributes: Sattr3, found: Option<usize>) -> Creation
+fn made_by(head: &Head, name: &[u8], attributes: Sattr3, found: Option<usize>) -> CreateCase
     requires found { found ≡ index_of head.now.names name.now }
     requires index { IfSome found (λ index. index + 2 < 2 ^ 64) }
     requires ticks { head.now.clock.count ≤ max_ticks }
-    ensures exact { plain_creation result ≡ made_by head.now.clock attributes found }
-    ensures fits { CreationFits head.now name.now result }
+    ensures exact { plain_create_case result ≡ made_by head.now.clock attributes found }
+    ensures fits { CreateCaseFits head.now name.now result }
 {
     match found {
-        Some(index) => Creation::IsThere(index),
+        Some(index) => CreateCase::IsThere(index),
         None => match tick_refusal(head.clock) {
-            Some(status) => Creation::Refuses(status),
-            None => Creation::Makes(attributes),
+            Some(status) => CreateCase::Refuses(status),
+            None => CreateCase::Makes(attributes),
         },
     }
 }
@@ -69,40 +69,40 @@ fn named_by(
     guarded: bool,
     attributes: Sattr3,
     found: Option<usize>,
-) -> Creation
+) -> CreateCase
     requires found { found ≡ index_of head.now.names name.now }
     requires index { IfSome found (λ index. index + 2 < 2 ^ 64) }
     requires ticks { head.now.clock.count ≤ max_ticks }
-    ensures exact { plain_creation result ≡ named_by head.now.clock name.now guarded attributes found }
-    ensures fits { CreationFits head.now name.now result }
+    ensures exact { plain_create_case result ≡ named_by head.now.clock name.now guarded attributes found }
+    ensures fits { CreateCaseFits head.now name.now result }
 {
     if guarded && found.is_some() {
-        return Creation::Refuses(Stat3::Exist);
+        return CreateCase::Refuses(Stat3::Exist);
     }
     if name.is_empty() || has_size(attributes.size) {
-        return Creation::Refuses(Stat3::Inval);
+        return CreateCase::Refuses(Stat3::Inval);
     }
     made_by(head, name, attributes, found)
 }
 
 /// What comes of a CREATE in the root, the first reason in the order of the refusals.
-fn creation_in_root(head: &Head, args: &CreateArgs<'_>, cred: &AuthSys<'_>) -> Creation
+fn case_in_root(head: &Head, args: &CreateArgs<'_>, cred: &AuthSys<'_>) -> CreateCase
     requires names { length head.now.names + 2 < 2 ^ 64 }
     requires ticks { head.now.clock.count ≤ max_ticks }
-    ensures exact { plain_creation result ≡ creation_of head.now args.now cred.now }
-    ensures fits { CreationFits head.now args.now.name.now result }
+    ensures exact { plain_create_case result ≡ create_case_of head.now args.now cred.now }
+    ensures fits { CreateCaseFits head.now args.now.name.now result }
 {
     if cred.uid != 0 {
-        return Creation::Refuses(Stat3::Acces);
+        return CreateCase::Refuses(Stat3::Acces);
     }
     if args.name.len() > MAX_NAME {
-        return Creation::Refuses(Stat3::NameTooLong);
+        return CreateCase::Refuses(Stat3::NameTooLong);
     }
     let found = head.names.index_of(args.name);
     match args.how {
         CreateHow::Unchecked(attributes) => named_by(head, args.name, false, attributes, found),
         CreateHow::Guarded(attributes) => named_by(head, args.name, true, attributes, found),
-        CreateHow::Exclusive(_) => Creation::Refuses(Stat3::NotSupp),
+        CreateHow::Exclusive(_) => CreateCase::Refuses(Stat3::NotSupp),
     }
 }
 
@@ -162,18 +162,21 @@ fn in_root<'s, 'c>(
     cred: &AuthSys<'_>,
 ) -> Plan<'s, 'c>
     requires { IsServer head.now files.now }
-    ensures plan { plain_plan result ≡ create_in (server_of head.now files.now) args.now.name.now (caller cred.now) (creation_of head.now args.now cred.now) }
+    ensures plan { plain_plan result ≡ create_in (server_of head.now files.now) args.now.name.now (caller cred.now) (create_case_of head.now args.now cred.now) }
     ensures ready { IsReady head.now files.now (plain_effect result.effect) }
 {
     let same = wcc_same(Some(root_attributes(head.root)));
-    match creation_in_root(head, args, cred) {
-        Creation::Refuses(status) => reply_alone(StoredReply::CreateRefused { status, wcc: same }),
-        Creation::IsThere(index) => reply_alone(StoredReply::CreateDone {
+    match case_in_root(head, args, cred) {
+        CreateCase::Refuses(status) => reply_alone(StoredReply::CreateRefused {
+            status,
+            wcc: same,
+        }),
+        CreateCase::IsThere(index) => reply_alone(StoredReply::CreateDone {
             file: handle_of(index),
             attributes: attributes_at(files, index),
             wcc: same,
         }),
-        Creation::Makes(attributes) => {
+        CreateCase::Makes(attributes) => {
             let owner = attributes.uid.unwrap_or(cred.uid);
             let group = attributes.gid.unwrap_or(cred.gid);
             let mode = mode_of(attributes.mode).unwrap_or(DEFAULT_MODE);

@@ -40,16 +40,19 @@ use nfs3_wire::Call3;
 use rpc_record::AuthSys;
 use std::alloc::{AllocError, Global};
 use std::marker::Model;
+use thiserror::Error;
 
 /// The last boot number.
 const LAST_BOOT: u32 = u32::MAX;
 
 /// Why a restart is refused.
-#[derive(Clone, Copy, Debug, PartialEq, Eq)]
+#[derive(Clone, Copy, Debug, PartialEq, Eq, Error)]
 pub enum RestartFault {
     /// The boot number is the last that there is.
+    #[error("the boot number is the last that there is")]
     BootsSpent,
     /// Memory was wanted.
+    #[error("memory was wanted")]
     NoMemory,
 }
 

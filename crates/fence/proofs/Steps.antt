@@ -10,7 +10,7 @@ use Rattle.cluster_model.specs.declared.fence_mirror.FenceMirror.{FenceMirror}
 use Rattle.cluster_model.specs.declared.fence_mirror.FenceStep.{FenceStep}
 use Rattle.cluster_model.specs.declared.ids.MirrorId.{MirrorId}
 use Rattle.cluster_model.specs.DsCalls.{DsCallValue}
-use Rattle.cluster_model.specs.Fences.{FenceState, MirrorStep, FenceAfter, FenceCall, step_from, step_at, stepped, stranger, with_mirror, with_stage, call_to, call_from, call_at, waiting_at, next_call}
+use Rattle.cluster_model.specs.Fences.{FenceState, MirrorStep, FenceAfter, FenceCall, step_from, step_at, stepped, stranger, with_mirror, with_stage, call_to, call_from, fence_call_at, waiting_at, next_call}
 use Rattle.cluster_model.specs.declared.call_stage.CallStage.TheVariants.{Out}
 
 within_from : (b : Bool) (n place size : ℕ) → nat_lt n size ≡ b → cond b (Some n) None ≡ Some place → place < size
@@ -63,6 +63,6 @@ call_here fresh xid xs ys zs place d new is within same_ys same_zs does =
     sym (ap (λ l. refill (length xs) xs (set l place new)) same_zs ∙ refilled xs (set xs place new) (length-set xs place new)
     ∙ ap (set xs place) (does ∙ ap (λ l. with_stage (get_or l place d) (Out xid 0)) same_ys)) in
     ap (call_from f xid) is
-    ∙ ap (call_at f xid place) (slice_get-get_or xs place d within)
+    ∙ ap (fence_call_at f xid place) (slice_get-get_or xs place d within)
     ∙ ap (made (get_or xs place d)) written
     ∙ ap (λ l. made (get_or l place d) (refill (length xs) xs (set zs place new))) (sym same_ys)

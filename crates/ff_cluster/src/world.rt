@@ -16,6 +16,7 @@ use ds_files::{DataServer, RestartFault};
 use ff_xdr::{Data, NoMemory};
 use std::alloc::Global;
 use std::marker::Model;
+use thiserror::Error;
 
 /// The client that a bare script's records come from.
 const CLIENT: NodeId = NodeId::Client(0);
@@ -33,11 +34,13 @@ const MAX_ENTRIES: u64 = 400_000;
 const MAX_HEX: u64 = 268_435_456;
 
 /// Why an event did not happen.
-#[derive(Debug, Clone, Copy, PartialEq, Eq)]
+#[derive(Debug, Clone, Copy, PartialEq, Eq, Error)]
 pub enum WorldFault {
     /// The journal, which has so many entries, would pass a limit with it.
+    #[error("a journal of {entries} entries would pass a limit")]
     Limit { entries: u64 },
     /// Memory was wanted.
+    #[error("memory was wanted")]
     NoMemory,
 }
 

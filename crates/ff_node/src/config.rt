@@ -10,6 +10,7 @@ ghost use Rattle.ff_node.specs.Config.{ConfigValue, FieldValues, Configures, IsI
 use crate::address::{NetAddr, parse_universal};
 use serde_json::{Map, Value};
 use std::alloc::Global;
+use thiserror::Error;
 
 /// The longest line of a configuration, in bytes.
 pub const MAX_LINE: usize = 65_536;
@@ -39,11 +40,13 @@ pub struct Config {
 }
 
 /// Why there is no configuration.
-#[derive(Clone, Copy, Debug, PartialEq, Eq)]
+#[derive(Clone, Copy, Debug, PartialEq, Eq, Error)]
 pub enum ConfigFault {
     /// The line configures no node.
+    #[error("the line configures no node")]
     Bad,
     /// Memory was wanted.
+    #[error("memory was wanted")]
     NoMemory,
 }
 

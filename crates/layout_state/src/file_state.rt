@@ -4,7 +4,7 @@ ghost use Rattle.std.specs.Prelude.{◌≡◌, ◌≤◌, length, not, true, fal
 ghost use Rattle.cluster_model.specs.declared.phase.EndCause.TheVariants as cause_of;
 ghost use Rattle.cluster_model.specs.declared.phase.Phase.TheVariants as name;
 ghost use Rattle.cluster_model.specs.Nodes.{is_mds};
-ghost use Rattle.cluster_model.specs.Phases.{begun, free_with, with_live, seen_at, phase_of, holder_of, unreported, end_cause, left_with, after_return, after_revocation, is_last, is_source, after_loss, after_fence, is_clean};
+ghost use Rattle.cluster_model.specs.Phases.{begun, free_with, with_live, seen_at, phase_of, holder_of, unreported, end_cause, left_with, after_return, after_revocation, is_last_live, is_source, after_loss, after_fence, is_clean};
 ghost use Rattle.layout_state.specs.Grants.{Grants, Recalls, holder_to_recall};
 ghost use Rattle.layout_state.specs.Returns.{Returns, may_lose};
 
@@ -218,7 +218,7 @@ impl FileState {
     /// source of a copy, the next one is to be settled.
     pub fn mirror_failed(&mut self, id: MirrorId, cause: LeftCause) -> bool
         requires { may_lose (phase_of self.old.phase) ≡ true }
-        ensures answer { result ≡ not (is_last self.old.live) }
+        ensures answer { result ≡ not (is_last_live self.old.live) }
         ensures state { self.new ≡ (if result then after_loss self.old id else self.old) }
     {
         if self.state.live.len() < 2 {

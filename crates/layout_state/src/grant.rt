@@ -1,6 +1,7 @@
 //! What is granted, and why a grant or a return is refused.
 
 use cluster_model::{Cred, Mirrors, Phase};
+use thiserror::Error;
 
 /// A grant of a file for writing: the user to write as, and the mirrors to write to.
 #[derive(Clone, Copy, Debug, PartialEq, Eq)]
@@ -12,21 +13,26 @@ pub struct Grant {
 }
 
 /// Why a file is not granted.
-#[derive(Clone, Copy, Debug, PartialEq, Eq)]
+#[derive(Clone, Copy, Debug, PartialEq, Eq, Error)]
 pub enum GrantFault {
     /// It is in this phase, and not held by who asks.
+    #[error("the file is {0:?}, and not held by who asks")]
     Later(Phase),
     /// Who asks holds it, and it is recalled.
+    #[error("the layout is recalled")]
     Recalling,
     /// Too few users are left for another period.
+    #[error("too few users are left for another period")]
     Spent,
 }
 
 /// Why a return is not taken.
-#[derive(Clone, Copy, Debug, PartialEq, Eq)]
+#[derive(Clone, Copy, Debug, PartialEq, Eq, Error)]
 pub enum ReturnFault {
     /// The file is not held.
+    #[error("the file is not held")]
     Unknown,
     /// Another node holds it, or under another user, which is the current one.
+    #[error("another node holds the file, or under another user, which is now {}", .current.0)]
     Other { current: Cred },
 }

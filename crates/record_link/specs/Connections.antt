@@ -55,15 +55,15 @@ abbrev pub is_idle : ℕ → Entry → Bool
 is_idle now e = not (is_whole e.connection.front) && ((e.connection.unanswered == 0) && nat_le (e.heard + idle_limit) now)
 
 -- it is to be closed
-abbrev pub is_over : ℕ → Entry → Bool
-is_over now e = is_stuck now e || (is_finished now e || is_idle now e)
+abbrev pub is_to_close : ℕ → Entry → Bool
+is_to_close now e = is_stuck now e || (is_finished now e || is_idle now e)
 
 -- where one comes by its rank, the lowest first; none where it is not one of them
 abbrev pub rank_of : Rank → Entry → Option ℕ
 rank_of (Numbered number) e = if e.number == number then Some 0 else None
 rank_of Silent e = Some e.heard
 rank_of Ready e = if is_ready e then Some e.order else None
-rank_of (Over now) e = if is_over now e then Some 0 else None
+rank_of (Over now) e = if is_to_close now e then Some 0 else None
 
 -- none has this rank
 abbrev pub HasNone : Rank → List Entry → Type 0

@@ -2,7 +2,7 @@
 
 ghost use Rattle.std.specs.Prelude.{◌≡◌, ◌+◌, ◌≤◌, nat_le, List, ℕ, Option, length, OnOk, OnErr};
 ghost use Rattle.rpc_record.specs.Frames.{max_record};
-ghost use Rattle.record_link.specs.Connections.{is_ready, wants_bytes, is_stuck, is_finished, is_idle, is_over, new_entry, order_after, Settles, FillsEntry, HandsEntry, AnswersEntry, DrainsEntry};
+ghost use Rattle.record_link.specs.Connections.{is_ready, wants_bytes, is_stuck, is_finished, is_idle, is_to_close, new_entry, order_after, Settles, FillsEntry, HandsEntry, AnswersEntry, DrainsEntry};
 
 use crate::connection::Connection;
 use crate::stream::{Halt, Stream};
@@ -85,8 +85,8 @@ impl Entry {
     }
 
     /// It is to be closed.
-    pub fn is_over(&self, now: u64) -> bool
-        ensures { result ≡ is_over now self.now }
+    pub fn is_to_close(&self, now: u64) -> bool
+        ensures { result ≡ is_to_close now self.now }
     {
         self.is_stuck(now) || self.is_finished(now) || self.is_idle(now)
     }

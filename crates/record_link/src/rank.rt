@@ -27,7 +27,7 @@ impl Entry {
             Rank::Numbered(number) => (self.number == number).then_some(0),
             Rank::Silent => Some(self.heard),
             Rank::Ready => self.is_ready().then_some(self.order),
-            Rank::Over(now) => self.is_over(now).then_some(0),
+            Rank::Over(now) => self.is_to_close(now).then_some(0),
         }
     }
 }

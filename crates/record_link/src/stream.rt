@@ -4,17 +4,22 @@ ghost use Rattle.std.specs.Prelude.{◌≡◌, ℕ, ◌<◌, ◌≤◌, List, Op
 ghost use Rattle.record_link.specs.Stream.{ReadsStream, WritesStream};
 
 use ff_xdr::NoMemory;
+use thiserror::Error;
 
 /// Why a call on a stream did nothing.
-#[derive(Clone, Copy, Debug, PartialEq, Eq)]
+#[derive(Clone, Copy, Debug, PartialEq, Eq, Error)]
 pub enum Halt {
     /// Nothing can be read or written now, and later it may.
+    #[error("nothing can be read or written now")]
     WouldBlock,
     /// The other side gives no more bytes.
+    #[error("the other side gives no more bytes")]
     Ended,
     /// The stream is of no use any more.
+    #[error("the stream is of no use any more")]
     Lost,
     /// Memory was wanted.
+    #[error("memory was wanted")]
     NoMemory,
 }
 

@@ -2,6 +2,7 @@
 
 use crate::auth::Auth;
 use ff_xdr::XdrError;
+use thiserror::Error;
 
 /// A call, `call_body` behind the transaction's number.
 #[derive(Clone, Copy, Debug)]
@@ -18,12 +19,15 @@ pub struct Call<'a> {
 }
 
 /// Why a record is not a call that can be answered by its program.
-#[derive(Clone, Copy, Debug, PartialEq, Eq)]
+#[derive(Clone, Copy, Debug, PartialEq, Eq, Error)]
 pub enum CallFault {
     /// Fewer than eight bytes stand, or the second word is not 0: no call, and no reply is due.
+    #[error("the record is no call")]
     NotACall,
     /// The third word is not 2.
+    #[error("call {xid} is of another RPC version than 2")]
     RpcVersion { xid: u32 },
     /// The rest of the header is not in its form.
+    #[error("the header of call {xid} is not in its form: {error}")]
     Bad { xid: u32, error: XdrError },
 }

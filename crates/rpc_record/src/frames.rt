@@ -11,6 +11,7 @@ use ff_xdr::{NoMemory, Out};
 use std::alloc::Global;
 use std::marker::Model;
 use std::mem;
+use thiserror::Error;
 
 /// The most bytes of a record.
 pub const MAX_RECORD: usize = 1_179_648;
@@ -19,13 +20,16 @@ pub const MAX_RECORD: usize = 1_179_648;
 pub const MAX_FRAGMENTS: u32 = 1024;
 
 /// Why a stream is refused.
-#[derive(Clone, Copy, Debug, PartialEq, Eq)]
+#[derive(Clone, Copy, Debug, PartialEq, Eq, Error)]
 pub enum RecordFault {
     /// With this header's fragment a record would have more than `MAX_RECORD` bytes.
+    #[error("a record would have more than {MAX_RECORD} bytes")]
     TooLong,
     /// This header is one more than `MAX_FRAGMENTS` of a record.
+    #[error("a record would have more than {MAX_FRAGMENTS} fragments")]
     TooManyFragments,
     /// Memory was wanted. Nothing has changed.
+    #[error("memory was wanted")]
     NoMemory,
 }
 

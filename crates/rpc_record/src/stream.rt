@@ -2,12 +2,16 @@
 ghost use Rattle.std.specs.Prelude.{◌≡◌, ℕ, ◌<◌, ◌≤◌, List, Option, length, IfOk};
 ghost use Rattle.rpc_record.specs.Stream.{counted, Reads, Writes};
 
+use thiserror::Error;
+
 /// Why a call on a source or a sink failed.
-#[derive(Clone, Copy, Debug, PartialEq, Eq)]
+#[derive(Clone, Copy, Debug, PartialEq, Eq, Error)]
 pub enum Failed {
     /// The other side failed. The stream counts it.
+    #[error("the other side failed")]
     Fault,
     /// Memory was wanted. Nothing was done, and no fault is counted.
+    #[error("memory was wanted")]
     NoMemory,
 }
 
