@@ -4,7 +4,7 @@ use Rattle.ff_xdr.specs.Form.{Form, Array, Number32, Pair, Value}
 use Rattle.nfs4_types.specs.Ids.{deviceid4}
 use Rattle.nfs4_types.specs.Stateids.{stateid4, stateid4_value}
 use Rattle.nfs4_types.specs.Handles.{nfs_fh4}
-use Rattle.ff_layout.specs.Texts.{free_text}
+use Rattle.nfs4_types.specs.Texts.{free_text}
 use Rattle.ff_layout.specs.declared.data_server.FfDataServer.{FfDataServer}
 
 -- ff_data_server4: deviceid, efficiency, stateid, fh_vers<>, user, group

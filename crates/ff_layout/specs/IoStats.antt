@@ -4,17 +4,13 @@ use Rattle.nfs4_types.specs.Handles.{nfs_fh4}
 use Rattle.nfs4_types.specs.Ids.{deviceid4}
 use Rattle.nfs4_types.specs.Stateids.{stateid4, stateid4_value}
 use Rattle.nfs4_types.specs.Times.{nfstime4, nfstime4_value}
-use Rattle.ff_layout.specs.Texts.{free_text}
+use Rattle.nfs4_types.specs.Texts.{netaddr4}
 use Rattle.ff_layout.specs.Latency.{ff_io_latency4, ff_io_latency4_value}
 use Rattle.ff_layout.specs.declared.io_stats.IoStats.{IoStats}
 
 -- io_info4 (RFC 7862, section 15.7): count, bytes
 abbrev pub io_info4 : Form
 io_info4 = Pair Number64 Number64
-
--- netaddr4 (RFC 8881, section 3.3.9): netid, addr
-abbrev pub netaddr4 : Form
-netaddr4 = Pair free_text free_text
 
 -- ff_layoutupdate4: addr, fhandle, read, write, duration, local
 abbrev pub ff_layoutupdate4 : Form

@@ -1,4 +1,3 @@
-pub mod Texts
 pub mod DataServer
 pub mod Mirror
 pub mod Layout

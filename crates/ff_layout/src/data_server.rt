@@ -3,9 +3,8 @@
 ghost use Rattle.std.specs.Prelude.{refl};
 ghost use Rattle.ff_layout.specs.DataServer.{ff_data_server4, ff_data_server4_value};
 
-use crate::texts::FreeText;
 use ff_xdr::{Array, Cursor, Items, Message, NoMemory, Out, Wire, XdrError};
-use nfs4_types::{DeviceId, Handle4, Stateid};
+use nfs4_types::{DeviceId, FreeText, Handle4, Stateid};
 
 /// A data server, and the file on it, `ff_data_server4` (RFC 8435, section 5.1).
 #[derive(Clone, Copy)]

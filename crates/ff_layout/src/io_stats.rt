@@ -4,9 +4,8 @@ ghost use Rattle.std.specs.Prelude.{refl};
 ghost use Rattle.ff_layout.specs.IoStats.{ff_iostats4, ff_iostats4_value};
 
 use crate::Latency;
-use crate::texts::FreeText;
 use ff_xdr::{Cursor, Message, NoMemory, Out, Wire, XdrError};
-use nfs4_types::{DeviceId, Handle4, Stateid, Time4};
+use nfs4_types::{DeviceId, FreeText, Handle4, Stateid, Time4};
 
 /// What a client read and wrote at a data server, `ff_iostats4` (RFC 8435, section 9.2.3).
 #[derive(Clone, Copy, Debug, PartialEq, Eq)]

@@ -13,7 +13,6 @@ mod mirror;
 mod return_body;
 #[cfg(test)]
 mod tests;
-mod texts;
 mod user;
 
 pub use data_server::FfDataServer;

@@ -6,5 +6,6 @@ pub mod Handles
 pub mod Ids
 pub mod Stateids
 pub mod Times
+pub mod Texts
 pub mod Sequences
 pub mod Laws

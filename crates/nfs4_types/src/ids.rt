@@ -6,7 +6,7 @@ ghost use Rattle.nfs4_types.specs.Ids.{sessionid4, deviceid4, device_id_of};
 use ff_xdr::{Cursor, Message, NoMemory, Out, Wire, XdrError};
 
 /// A session, `sessionid4` (RFC 8881, section 3.2).
-#[derive(Clone, Copy, Debug, PartialEq, Eq)]
+#[derive(Clone, Copy, Debug, PartialEq, Eq, Hash)]
 pub struct SessionId(pub [u8; 16]);
 
 impl Message for SessionId {
@@ -33,7 +33,7 @@ impl<'a> Wire<'a> for SessionId {
 }
 
 /// A device, `deviceid4` (RFC 8881, section 3.3.14).
-#[derive(Clone, Copy, Debug, PartialEq, Eq)]
+#[derive(Clone, Copy, Debug, PartialEq, Eq, Hash)]
 pub struct DeviceId(pub [u8; 16]);
 
 impl Message for DeviceId {

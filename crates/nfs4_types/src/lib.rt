@@ -10,6 +10,7 @@ mod laws;
 mod sequence;
 mod stateid;
 mod status;
+mod texts;
 mod time;
 
 pub use at_most_one::AtMostOne;
@@ -21,4 +22,5 @@ pub use laws::different_ids;
 pub use sequence::Sequence;
 pub use stateid::{Stateid, layout_stateid, open_stateid};
 pub use status::{Refusal4, Stat4};
+pub use texts::FreeText;
 pub use time::Time4;
