@@ -1,9 +1,1 @@
-pub mod Spelling
-pub mod ScriptWords
-pub mod PieceLemmas
-pub mod Deliveries
-pub mod Reboots
-pub mod PlayLemmas
-pub mod ScriptLemmas
-pub mod ShowLemmas
-pub mod ServeLemmas
+mod ServeLemmas

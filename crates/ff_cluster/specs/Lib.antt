@@ -1,10 +1,2 @@
-pub mod Digits
-pub mod Pieces
-pub mod Line
-pub mod World
-pub mod Script
-pub mod Player
-pub mod Run
-pub mod Writing
-pub mod Show
 pub mod Node
+pub mod Run

@@ -16,8 +16,8 @@ use Rattle.ff_node.specs.declared.serve.NodeEnd.TheVariants as served
 use Rattle.ff_node.specs.Serve.{link_faults}
 use Rattle.ff_cluster.specs.Node.{ServesBy}
 use Rattle.line_runs.specs.Writing.{WritesText}
-use Rattle.ff_cluster.specs.Script.{script_course}
-use Rattle.ff_cluster.specs.Show.{show_course}
+use Rattle.ff_replay.specs.Script.{script_course}
+use Rattle.record_show.specs.Show.{show_course}
 use Rattle.ff_cluster.specs.declared.run.Command.{Command}
 use Rattle.ff_cluster.specs.declared.run.Command.TheVariants.{Replay, Show, Ds}
 

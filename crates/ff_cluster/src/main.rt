@@ -1,26 +1,12 @@
 //! A pNFS cluster with flexible-file layouts, replayed from a script.
 #![tactic(auto)]
 
-pub mod digits;
-pub mod line;
-pub mod pieces;
-#[cfg(test)]
-mod pieces_tests;
-mod player;
-pub mod replay;
 pub mod run;
 #[cfg(test)]
 mod run_tests;
 pub mod serve;
 #[cfg(test)]
 mod serve_tests;
-pub mod show;
-#[cfg(test)]
-mod show_tests;
-#[cfg(test)]
-mod trace_tests;
-pub mod world;
-mod writing;
 
 use ff_node::TcpLink;
 use rpc_record::{StdSink, StdSource};

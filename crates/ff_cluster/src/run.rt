@@ -7,13 +7,13 @@ ghost use Rattle.ff_cluster.specs.declared.run.Outcome.{Outcome};
 ghost use Rattle.line_runs.specs.Writing.{WritesText};
 ghost use Rattle.ff_cluster.specs.Run.{command_named, command_of, status_of, note_of, with_number, told, outcome_of_end, Did, DidRead, did_write, did_link, SaysOfRun};
 
-use crate::replay::replay;
 use crate::serve::serve;
-use crate::show::show;
 use ff_node::{Link, NodeEnd};
+use ff_replay::replay;
 use ff_xdr::{NoMemory, Out};
 use journal_print::put_numbered;
 use line_runs::{RunEnd, write_all};
+use record_show::show;
 use rpc_record::{Failed, Sink, Source};
 use std::alloc::Global;
 

@@ -1,5 +1,0 @@
-use Rattle.ff_cluster.proofs.PieceLemmas.{all_of_empty}
-use Rattle.ff_cluster.proofs.pieces.PieceList.none.Goals as goal
-
-pub returns : goal.returns
-returns c = all_of_empty

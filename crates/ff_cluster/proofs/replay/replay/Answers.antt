@@ -1,4 +1,0 @@
-use Rattle.ff_cluster.proofs.replay.replay.Goals as goal
-
-pub returns-clause-told : goal.returns-clause-told
-returns-clause-told g c = rw c.new-player.ensures at c.run_lines.ensures.told

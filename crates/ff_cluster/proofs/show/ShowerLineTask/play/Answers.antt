@@ -1,6 +1,0 @@
-use Rattle.ff_cluster.proofs.ShowLemmas.{shows_line}
-use Rattle.ff_cluster.proofs.show.ShowerLineTask.play.Goals as goal
-
-pub returns-clause-does : goal.returns-clause-does
-returns-clause-does c =
-    λ fresh number. shows_line number c.args.line.now c.args.text.now c.show_line.new.text c.show_line.result c.show_line.ensures

@@ -1,0 +1,111 @@
+//! A run of a script, line by line.
+
+ghost use Rattle.std.specs.Prelude.{◌≡◌, ◌≢◌, None, IsSome};
+ghost use Rattle.ff_script.specs.Line.{event_value};
+ghost use Rattle.ff_replay.specs.Script.{setup_of, world_of, count_of, course_from, played, played_step};
+ghost use Rattle.ff_world.specs.World.{world_step};
+ghost use Rattle.ff_replay.specs.Player.{PlayerPlays, with_trace};
+
+use crate::writing::print_entries;
+use ff_script::{Event, Line, Setup, parse_line};
+use ff_world::{World, WorldFault};
+use ff_xdr::{NoMemory, Out};
+use line_runs::{LineTask, Played};
+use std::alloc::Global;
+use std::marker::Model;
+
+/// The world that a script has made so far.
+#[derive(Drop)]
+pub struct Player {
+    alloc: Global,
+    stage: Option<World>,
+}
+
+impl Model for Player {
+    ghost use Rattle.ff_replay.specs.Player.{PlayerValue, value_of};
+
+    ghost Value = { PlayerValue };
+
+    ghost view = { λ p. value_of p.stage };
+}
+
+impl Player {
+    /// Before the first line; takes no memory.
+    pub fn new(alloc: Global) -> Player
+        ensures { result ≡ record { stage = None; spent = None } }
+    {
+        Player { alloc, stage: None }
+    }
+
+    /// The setup that the script has chosen.
+    fn setup(&self) -> Option<Setup>
+        ensures { result ≡ setup_of self.now.stage }
+    {
+        match &self.stage {
+            None => None,
+            Some(_) => Some(Setup::Bare),
+        }
+    }
+
+    /// Lets an event happen, and prints its entries.
+    fn happen(&mut self, event: &Event<'_>, text: &mut Out) -> Result<Played, NoMemory>
+        requires stage { IsSome self.old.stage }
+        ensures does { self.old.spent ≡ None → PlayerPlays (with_trace self.old text.old) (played_step (world_step (world_of self.old.stage) (event_value event.now))) result (with_trace self.new text.new) }
+        ensures spent { self.old.spent ≢ None → self.new ≡ self.old }
+    {
+        let mut entries = Vec::new(self.alloc);
+        let happened = match &mut self.stage {
+            None => unreachable!(),
+            Some(world) => world.step(event, &mut entries),
+        };
+        match happened {
+            Ok(()) => {
+                print_entries(&entries, text)?;
+                Ok(Played::Done)
+            }
+            Err(WorldFault::Limit { entries }) => Ok(Played::Limited(entries)),
+            Err(WorldFault::NoMemory) => Err(NoMemory),
+        }
+    }
+
+    /// Plays a line, and prints the entries that it adds to the journal. At an error a beginning of the
+    /// entries is printed, and the player is not to be used again. A world that is spent stays so, and
+    /// nothing changes.
+    pub fn play_line(&mut self, line: &[u8], text: &mut Out) -> Result<Played, NoMemory>
+        ensures does { self.old.spent ≡ None → PlayerPlays (with_trace self.old text.old) (played self.old.stage line.now) result (with_trace self.new text.new) }
+        ensures spent { self.old.spent ≢ None → self.new ≡ self.old }
+    {
+        match parse_line(self.setup(), line) {
+            None => Ok(Played::Outside),
+            Some(Line::Nothing) => Ok(Played::Done),
+            Some(Line::Setup(Setup::Bare)) => {
+                self.stage = Some(World::bare(self.alloc)?);
+                Ok(Played::Done)
+            }
+            Some(Line::Event(event)) => self.happen(&event, text),
+        }
+    }
+}
+
+impl LineTask for Player {
+    ghost use Rattle.std.proofs.Common.{rules, arith};
+
+    ghost course = { λ player number lines. course_from player.stage number lines };
+
+    ghost fresh = { λ player. player.spent ≡ None };
+
+    ghost entries = { λ player. count_of player.stage };
+
+    fn count(&self) -> u64 {
+        match &self.stage {
+            None => 0,
+            Some(world) => world.count(),
+        }
+    }
+
+    fn play(&mut self, line: &[u8], text: &mut Out) -> Result<Played, NoMemory> {
+        self.play_line(line, text)
+    }
+
+    ghost ends = { λ player number. Prim.search (rules, arith) };
+}

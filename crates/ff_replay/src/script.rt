@@ -1,0 +1,22 @@
+//! A run of a script to its end.
+
+ghost use Rattle.std.specs.Prelude.{◌≡◌};
+ghost use Rattle.line_runs.specs.Runs.{Runs, ReadFaults, write_faults};
+ghost use Rattle.ff_replay.specs.Script.{script_course};
+
+use crate::player::Player;
+use line_runs::{RunEnd, run_lines};
+use rpc_record::{Sink, Source};
+use std::alloc::Global;
+
+/// Runs a script from `source`, line by line, and writes its trace to `sink`. Where the source failed,
+/// that is the whole trace of the lines that ended in what it gave; where the sink failed or memory was
+/// wanted, a beginning of it.
+pub fn replay<S: Source, K: Sink>(alloc: Global, source: &mut S, sink: &mut K) -> RunEnd
+    ensures told { Runs script_course (S.left source.old) (K.held sink.old) result (S.left source.new) (K.held sink.new) }
+    ensures reads { ReadFaults result (S.faults source.old) (S.faults source.new) }
+    ensures writes { K.faults sink.new ≡ write_faults result (K.faults sink.old) }
+{
+    let mut player = Player::new(alloc);
+    run_lines(alloc, &mut player, source, sink)
+}

@@ -1,0 +1,10 @@
+use Rattle.std.proofs.Common.{◌≡◌, ◌+◌, ◌≤◌, take}
+use Rattle.ff_world.specs.World.{max_hex}
+use Rattle.cluster_model.specs.Print.{hex_of}
+use Rattle.ff_world.proofs.world.add_hex.Given as goal
+
+abbrev pub invariant-loop-entry : goal.invariant-loop-entry
+invariant-loop-entry l = record {
+  sum : l.sum ≡ l.fn.hex + hex_of (take l.entry-index l.entries);
+  fits : l.sum ≤ max_hex;
+}
