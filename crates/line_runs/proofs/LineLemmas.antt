@@ -9,7 +9,7 @@ use Rattle.rpc_record.specs.Stream.{Reads}
 use Rattle.rpc_record.specs.declared.stream.Failed.TheVariants.{Fault, NoMemory}
 use Rattle.line_runs.specs.declared.lines.Ended.{Ended}
 use Rattle.line_runs.specs.declared.lines.Ended.TheVariants.{Newline, End, Over as RanOver}
-use Rattle.line_runs.specs.Lines.{Cut, Line, Last, Over, onto, cut_line, onto_first, onto_ended, lines_of, ended_lines, script_lines, Drawn, Keeps, ReadsLine, IsWithinBudget, Refills, TakesLine}
+use Rattle.line_runs.specs.Lines.{Cut, Line, Last, Over, onto, cut_line, onto_first, onto_ended, lines_of, ended_lines, script_lines, Drawn, Keeps, ReadsLine, IsWithinBudget, Refills, TakesLine, HoldsLine, HoldsNoLine}
 
 -- these bytes in front of the line
 abbrev pub before : List ℕ → Cut → Cut
@@ -490,3 +490,35 @@ pub taken_length : (budget room : ℕ) (line held held' line' : List ℕ) → ro
 taken_length budget room line held held' line' room_is within takes =
     let size : length line' ≡ length line + length held = ap length takes.2 ∙ length-append line held in
     let fits = last_length room held held takes.0 in (omega (arith, fits.1), size)
+
+-- ---- whether a line is held
+
+pub holds_some : (held : List ℕ) → HoldsLine held → 0 < length held
+holds_some held h = omega (arith, h.1)
+
+-- what a search for the first newline says of it
+pub line_found : (bs held : List ℕ) (at : ℕ) → bs ≡ held → IsFirstByte (is_byte 10) bs (Some at) → HoldsLine held
+line_found bs held at same found = subst HoldsLine same (at, found.0.high, eqb-true _ 10 found.1)
+
+pub none_found : (bs held : List ℕ) → bs ≡ held → IsFirstByte (is_byte 10) bs None → HoldsNoLine held
+none_found bs held same found = subst HoldsNoLine same (λ j below is. found j (omega arith) below (eq-eqb _ 10 is))
+
+-- a last line has no newline in it
+pub last_holds_none : (n : ℕ) (bs line : List ℕ) → cut_line n bs ≡ Last line → HoldsLine bs → ⊥
+last_holds_none n [] line is h = absurd (omega (arith, h.1))
+last_holds_none zero (b ∷ bs) line is h = absurd (cc (cut_zero b bs))
+last_holds_none (suc n) (b ∷ bs) line is (zero, below, newline) = absurd (cc (cut_newline n b bs newline))
+last_holds_none (suc n) (b ∷ bs) line is (suc j, below, newline) =
+    ⊎_elim
+    (λ first. absurd (cc (cut_newline n b bs first)))
+    (λ other.
+    let parts = onto-last b (cut_line n bs) line (sym (cut_other n b bs other) ∙ is) in
+    last_holds_none n bs parts.0 parts.1 (j, omega (arith, below), newline))
+    (cases_eq b 10)
+
+-- The source is not asked while a line is held.
+pub unasked_again : {S : Type 0} (first held held' : List ℕ) (s s' s2 : S) → (HoldsLine first → (held ≡ first) × (s' ≡ s)) → (0 < length held → (held' ≡ held) × (s2 ≡ s')) → HoldsLine first → (held' ≡ first) × (s2 ≡ s)
+unasked_again first held held' s s' s2 so far h =
+    let one = so h in
+    let some : 0 < length held = subst (λ (x : List ℕ). 0 < length x) (sym one.0) (holds_some first h) in
+    let two = far some in (two.0 ∙ one.0, two.1 ∙ one.1)

@@ -328,6 +328,32 @@ read_ended (Some b) held left' held' s new line held1 (Err e) read plays =
       owes = inl (subst (λ t. OwesPart held t held' []) text (took_owes held held' mid.text _ plays.took));
     }
 
+-- ---- text that is written before the source is asked
+
+pub flushes : (left held held' : Option (List ℕ)) (s : Stand) (r : Result (Unit {0}) Failed) (x : Unit {0}) → r ≡ Ok x → WritesText held s.text r held'
+    → PlaybackSteps left held s (Ok None) left held' (record { coming = s.coming; text = []; held = s.held; room = s.room })
+flushes None held held' s r x is wrote = tt
+flushes (Some b) held held' s r x is wrote = record {
+  front = [];
+  gave = record { rest = b; told = refl; joined = refl };
+  same = λ all more. refl;
+  owes = λ all more. wrote_owes held held' s.text (s.coming (lines_ahead all s more)).text x (subst (λ q. WritesText held s.text q held') is wrote);
+}
+
+took_of : (held new : Option (List ℕ)) (text : List ℕ) (e : Failed) → WritesText held text (Err e) new → Took held text new
+took_of None new text e wrote = wrote
+took_of (Some h) new text e wrote = wrote
+
+pub flush_fails : (left held held' : Option (List ℕ)) (s new : Stand) (r : Result (Unit {0}) Failed) (q : Result (Option RunEnd) Failed) (e f : Failed) → r ≡ Err e → q ≡ Err f → WritesText held s.text r held'
+    → PlaybackSteps left held s q left held' new
+flush_fails None held held' s new r q e f is so wrote = tt
+flush_fails (Some b) held held' s new r (Ok end) e f is so wrote = absurd (cc)
+flush_fails (Some b) held held' s new r (Err g) e f is so wrote = record {
+  front = [];
+  gave = record { rest = b; told = refl; joined = refl };
+  owes = inl (took_owes held held' s.text _ (took_of held held' s.text e (subst (λ z. WritesText held s.text z held') is wrote)));
+}
+
 -- ---- one step after another
 
 -- what the source gave at first and then

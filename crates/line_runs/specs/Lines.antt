@@ -1,5 +1,6 @@
 -- Lines of bytes, each ended by a newline, which is the byte 10, and how they are read within a budget.
-use Rattle.std.specs.Prelude.{◌≡◌, ℕ, zero, suc, ◌+◌, ◌≤◌, ◌==◌, nat_le, Bool, true, false, if◌then◌else◌, List, [], ◌∷◌, ◌++◌, length, take, Option, None, Some, Result, Ok, Err}
+use Rattle.std.specs.Prelude.{◌≡◌, ◌≢◌, ◌<◌, ℕ, zero, suc, ◌+◌, ◌≤◌, ◌==◌, nat_le, Bool, true, false, if◌then◌else◌, List, [], ◌∷◌, ◌++◌, length, take, Option, None, Some, Result, Ok, Err}
+use Rattle.std.proofs.Common.{get_or}
 use Rattle.rpc_record.specs.declared.stream.Failed.{Failed}
 use Rattle.rpc_record.specs.declared.stream.Failed.TheVariants.{Fault, NoMemory}
 use Rattle.line_runs.specs.declared.lines.Ended.{Ended}
@@ -46,6 +47,13 @@ ended_lines (b ∷ bs) = if b == 10 then [] ∷ ended_lines bs else onto_ended b
 -- the lines that are read within a budget of bytes: all, or those that end within it
 unfoldable pub script_lines : ℕ → List ℕ → List (List ℕ)
 script_lines budget bytes = if nat_le (length bytes) budget then lines_of bytes else ended_lines (take budget bytes)
+
+-- a newline is among the bytes, or none is
+abbrev pub HoldsLine : List ℕ → Type 0
+HoldsLine held = (j : ℕ) × (j < length held) × (get_or held j 0 ≡ 10)
+
+abbrev pub HoldsNoLine : List ℕ → Type 0
+HoldsNoLine held = (j : ℕ) → j < length held → get_or held j 0 ≢ 10
 
 -- The source gave the front of what it had left.
 pub record Drawn (left : List ℕ) (left' : Option (List ℕ)) : Type 0 where

@@ -1,5 +1,5 @@
 -- A run that is under way: what is still to come, and what a step does to it.
-use Rattle.std.specs.Prelude.{⊤, ◌⊎◌, ◌≡◌, ℕ, ◌+◌, ◌-◌, ◌<◌, Bool, true, false, List, [], ◌∷◌, ◌++◌, length, take, Option, Some, None, Result, Ok, Err}
+use Rattle.std.specs.Prelude.{⊤, ◌⊎◌, ◌≡◌, ℕ, ◌+◌, ◌-◌, ◌*◌, ◌<◌, Bool, true, false, List, [], ◌∷◌, ◌++◌, length, take, Option, Some, None, Result, Ok, Err}
 use Rattle.rpc_record.specs.declared.stream.Failed.{Failed}
 use Rattle.rpc_record.specs.Stream.{one_more}
 use Rattle.line_runs.specs.declared.end.RunEnd.{RunEnd}
@@ -22,6 +22,14 @@ start = record { text = []; held = []; room = max_source; number = 1 }
 -- the text is written once it has so many bytes
 abbrev pub full : ℕ
 full = 65536
+
+-- what a run has to do yet: it reads what there is room for, and writes its text
+abbrev pub some_text : List ℕ → ℕ
+some_text [] = 0
+some_text (b ∷ text) = 1
+
+abbrev pub to_do : RunState → ℕ
+to_do s = 2 * s.room + some_text s.text
 
 -- where a run stands: what lines come to from here on, and the rest of its state
 pub record Stand : Type 0 where

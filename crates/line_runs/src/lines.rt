@@ -1,7 +1,7 @@
 //! Reading lines through a buffer.
-ghost use Rattle.std.specs.Prelude.{◌≡◌, ℕ, ◌+◌, ◌-◌, ◌<◌, ◌≤◌, ◌↔◌, IsTrue, List, [], ◌++◌, length, is_ok, IfOk, IfErr, if◌then◌else◌};
+ghost use Rattle.std.specs.Prelude.{◌≡◌, ℕ, ◌+◌, ◌-◌, ◌<◌, ◌≤◌, ◌↔◌, IsTrue, List, [], ◌++◌, length, is_ok, IfOk, IfErr, MatchBool, if◌then◌else◌};
 ghost use Rattle.rpc_record.specs.Stream.{counted};
-ghost use Rattle.line_runs.specs.Lines.{IsWithinBudget, ReadsLine, Refills, TakesLine};
+ghost use Rattle.line_runs.specs.Lines.{HoldsLine, HoldsNoLine, IsWithinBudget, ReadsLine, Refills, TakesLine};
 
 use memchr::memchr;
 use rpc_record::{Failed, Source};
@@ -52,6 +52,13 @@ impl LineBuffer {
         })
     }
 
+    /// A newline is among the bytes that are held, so the next line is read without asking a source.
+    pub fn holds_line(&self) -> bool
+        ensures { MatchBool result (HoldsLine self.now) (HoldsNoLine self.now) }
+    {
+        memchr(b'\n', &self.piece[self.start..self.end]).is_some()
+    }
+
     /// Reads the next line into `line`, without its newline, from the bytes that are held and then from
     /// `source`. `budget` is how many bytes the line and its newline may have at most.
     ///
@@ -67,6 +74,7 @@ impl LineBuffer {
         ensures told { ReadsLine budget self.old (S.left source.old) result line.new.items self.new (S.left source.new) }
         ensures within { IfOk result (λ ended_course. IsWithinBudget budget ended_course line.new.items) }
         ensures faults { S.faults source.new ≡ counted result (S.faults source.old) }
+        ensures unasked { HoldsLine self.old → source.new ≡ source.old }
     {
         line.clear();
         'pieces: while self.refill(source)? {
@@ -82,6 +90,7 @@ impl LineBuffer {
         ensures held { IfOk result (λ some. IsTrue some ↔ (0 < length self.new)) }
         ensures told { Refills self.old (S.left source.old) result self.new (S.left source.new) }
         ensures faults { S.faults source.new ≡ counted result (S.faults source.old) }
+        ensures unasked { 0 < length self.old → (self.new ≡ self.old) × (source.new ≡ source.old) }
     {
         if self.start < self.end {
             return Ok(true);

@@ -2,9 +2,10 @@
 
 ghost use Rattle.std.specs.Prelude.{◌≡◌, ◌+◌, ◌<◌, ◌≤◌, ◌↔◌, [], None, Ok, OnOk, OnErr, IfOk, IfSome, IsTrue, length};
 ghost use Rattle.rpc_record.specs.Stream.{counted};
+ghost use Rattle.line_runs.specs.Lines.{HoldsNoLine, IsWithinBudget, ReadsLine};
 ghost use Rattle.line_runs.specs.Writing.{WritesText};
 ghost use Rattle.line_runs.specs.Runs.{Runs, ReadFaults, write_faults};
-ghost use Rattle.line_runs.specs.Playback.{start, full, stand, StepFaults, LinesFaults, SourceFaults, PlaybackSteps, Finishes, PlaysLine, PlaysLast, PlaysEnded, IsOfLine};
+ghost use Rattle.line_runs.specs.Playback.{start, full, stand, StepFaults, LinesFaults, SourceFaults, PlaybackSteps, Finishes, PlaysLine, PlaysLast, PlaysEnded, IsOfLine, to_do};
 
 use crate::end::{Played, RunEnd};
 use crate::lines::{Ended, LineBuffer};
@@ -133,8 +134,21 @@ impl Playback {
         Ok(None)
     }
 
-    /// Reads and plays the next line, and writes the text where it is long. `None` is that there may be
-    /// more lines. An error is one of the sink.
+    /// Reads the next line. Where no line is held the source is asked, and all text is written by then.
+    fn read_line<S: Source>(&mut self, source: &mut S, line: &mut Vec<u8>) -> Result<Ended, Failed>
+        requires written { HoldsNoLine self.old.held → self.old.text ≡ [] }
+        ensures told { ReadsLine self.old.room self.old.held (S.left source.old) result line.new.items self.new.held (S.left source.new) }
+        ensures within { IfOk result (λ ended. IsWithinBudget self.old.room ended line.new.items) }
+        ensures faults { S.faults source.new ≡ counted result (S.faults source.old) }
+        ensures rest { self.new ≡ record { text = self.old.text; held = self.new.held; room = self.old.room; number = self.old.number } }
+    {
+        let room = self.room;
+        self.buffer.read_line(source, room, line)
+    }
+
+    /// Plays the next line, and writes the text where it is long. Where the source is to be asked and
+    /// text waits, that is written instead. `None` is that there may be more lines. An error is one of
+    /// the sink.
     fn next<T: LineTask, S: Source, K: Sink>(
         &mut self,
         task: &mut T,
@@ -144,12 +158,15 @@ impl Playback {
     ) -> Result<Option<RunEnd>, Failed>
         ensures told { T.fresh task.old → PlaybackSteps (S.left source.old) (K.held sink.old) (stand (T.course task.old) self.old) result (S.left source.new) (K.held sink.new) (stand (T.course task.new) self.new) }
         ensures goes_on { T.fresh task.old → result ≡ Ok None → T.fresh task.new }
-        ensures shrinks { OnOk result (result ≡ Ok None → self.new.room < self.old.room) }
+        ensures shrinks { OnOk result (result ≡ Ok None → to_do self.new < to_do self.old) }
         ensures reads { StepFaults result (S.faults source.old) (S.faults source.new) }
         ensures writes { K.faults sink.new ≡ counted result (K.faults sink.old) }
     {
-        let room = self.room;
-        match self.buffer.read_line(source, room, line) {
+        if !self.text.is_empty() && !self.buffer.holds_line() {
+            self.flush(sink)?;
+            return Ok(None);
+        }
+        match self.read_line(source, line) {
             Err(Failed::Fault) => Ok(Some(RunEnd::ReadFault)),
             Err(Failed::NoMemory) => Ok(Some(RunEnd::NoMemory)),
             Ok(Ended::Over) => Ok(Some(RunEnd::Limit(task.count()))),

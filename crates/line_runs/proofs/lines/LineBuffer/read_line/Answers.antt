@@ -1,14 +1,15 @@
-use Rattle.std.proofs.Common.{rules, ◌≡◌, ◌-◌, ◌<◌, ◌≤◌, Bool, length, Option, Ok, subst, arith}
+use Rattle.std.proofs.Common.{rules, ◌≡◌, ◌-◌, ◌<◌, ◌≤◌, Bool, length, Option, Ok, refl, sym, subst, arith}
 use Rattle.std.proofs.lemmas.Result.{err_from_is_err_and}
 use Rattle.line_runs.specs.declared.lines.Ended.{Ended}
-use Rattle.line_runs.specs.Lines.{Refills, TakesLine}
-use Rattle.line_runs.proofs.LineLemmas.{begun_at_first, begun_refilled, begun_taken, reads_line, reads_last, reads_fault, reads_none, is_within, taken_length}
+use Rattle.line_runs.specs.Lines.{HoldsLine, Refills, TakesLine}
+use Rattle.line_runs.proofs.LineLemmas.{begun_at_first, begun_refilled, begun_taken, reads_line, reads_last, reads_fault, reads_none, is_within, taken_length, last_holds_none, unasked_again}
 use Rattle.line_runs.proofs.lines.LineBuffer.read_line.Goals as goal
 
 pub pieces-init : goal.pieces-init
 pieces-init g c = record {
   room = omega arith;
   faults = search rules;
+  unasked = λ h. (refl, refl);
   told = rw c.clear.ensures.items (begun_at_first c.args.budget c.args.self.now (g.S.Source.left c.args.source.now));
 }
 
@@ -66,6 +67,9 @@ pieces-preserved g c =
     let takes = subst (λ (ended : Option Ended). TakesLine (c.args.budget - c.len.result) c.refill.new.self line.items (Ok ended) c.take_line.new.self c.take_line.new.line.items) c.in_default.is c.in_ok-ended.ensures in
     let taken = taken_length c.args.budget (c.args.budget - c.len.result) line.items c.refill.new.self c.take_line.new.self c.take_line.new.line.items room within takes in
     record {
+      unasked = λ h.
+          let same = unasked_again c.args.self.now c.pieces.self c.refill.new.self c.args.source.now c.pieces.source c.refill.new.source c.pieces.invariant.unasked c.refill.ensures.unasked h in
+          absurd (last_holds_none (c.args.budget - c.len.result) c.refill.new.self c.refill.new.self takes.0 (subst HoldsLine (sym same.0) h));
       room = omega (arith, taken.0, c.take_line.new.line.ok.0);
       faults = cc (c.in_ok-refill.ensures.faults, c.pieces.invariant.faults);
       told = begun_taken c.args.budget (c.args.budget - c.len.result) c.args.self.now (left c.args.source.now) line.items c.refill.new.self (left c.refill.new.source) c.take_line.new.self c.take_line.new.line.items room begun takes;
@@ -76,3 +80,19 @@ returns-clause-told g c =
     let left = g.S.Source.left in
     let read = subst (λ (some : Bool). Refills c.pieces.self (left c.pieces.source) (Ok some) c.refill.new.self (left c.refill.new.source)) c.if-branch.false c.in_ok-refill.ensures.told in
     reads_last c.args.budget c.args.self.now (left c.args.source.now) c.pieces.line.items c.pieces.self (left c.pieces.source) c.refill.new.self (left c.refill.new.source) c.pieces.invariant.told read
+
+pub returns-in_err-refill-clause-unasked : goal.returns-in_err-refill-clause-unasked
+returns-in_err-refill-clause-unasked g c =
+    λ h. (unasked_again c.args.self.now c.pieces.self c.refill.new.self c.args.source.now c.pieces.source c.refill.new.source c.pieces.invariant.unasked c.refill.ensures.unasked h).1
+
+pub returns-in_err-ended-clause-unasked : goal.returns-in_err-ended-clause-unasked
+returns-in_err-ended-clause-unasked g c =
+    λ h. (unasked_again c.args.self.now c.pieces.self c.refill.new.self c.args.source.now c.pieces.source c.refill.new.source c.pieces.invariant.unasked c.refill.ensures.unasked h).1
+
+pub returns-in-Some-clause-unasked : goal.returns-in-Some-clause-unasked
+returns-in-Some-clause-unasked g c =
+    λ h. (unasked_again c.args.self.now c.pieces.self c.refill.new.self c.args.source.now c.pieces.source c.refill.new.source c.pieces.invariant.unasked c.refill.ensures.unasked h).1
+
+pub returns-clause-unasked : goal.returns-clause-unasked
+returns-clause-unasked g c =
+    λ h. (unasked_again c.args.self.now c.pieces.self c.refill.new.self c.args.source.now c.pieces.source c.refill.new.source c.pieces.invariant.unasked c.refill.ensures.unasked h).1

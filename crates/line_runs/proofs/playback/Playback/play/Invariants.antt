@@ -1,5 +1,5 @@
 use Rattle.std.proofs.Common.{◌≡◌}
-use Rattle.line_runs.specs.Playback.{stand}
+use Rattle.line_runs.specs.Playback.{stand, to_do}
 use Rattle.line_runs.proofs.RunLemmas.{Went}
 use Rattle.line_runs.proofs.playback.Playback.play.Given as goal
 
@@ -12,4 +12,4 @@ invariant-loop-line g l = record {
 }
 
 abbrev pub decreases-loop-line : goal.decreases-loop-line
-decreases-loop-line g l = l.self.room
+decreases-loop-line g l = to_do l.self
