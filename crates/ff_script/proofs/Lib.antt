@@ -1,3 +1,4 @@
 pub mod PieceLemmas
 pub mod Spelling
 pub mod ScriptWords
+pub mod Pairs

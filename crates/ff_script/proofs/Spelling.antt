@@ -13,7 +13,7 @@ use Rattle.hex.proofs.HexLemmas.{decode_of-digits, decode_of-ok}
 use Rattle.ff_script.specs.Digits.{is_digit, bytes_of_pairs, bytes_of_digits}
 
 -- a digit here is one in either case
-hex_from_digit : (c : ℕ) → is_digit c ≡ true → is_hex_digit c ≡ true
+pub hex_from_digit : (c : ℕ) → is_digit c ≡ true → is_hex_digit c ≡ true
 hex_from_digit c h = grind arith
 
 -- the bytes of a text that decodes, as a result

@@ -1,8 +1,9 @@
 //! Bytes as text: hexadecimal digits in pairs, in lower case, and `-` for no bytes.
 
-ghost use Rattle.std.specs.Prelude.{◌≡◌, ◌↔◌, [], length, IsTrue, IfOk};
+ghost use Rattle.std.specs.Prelude.{◌≡◌, ◌*◌, ◌<◌, ◌↔◌, [], length, true, Some, IsTrue, IfOk};
 ghost use Rattle.std.specs.List.{list_all};
-ghost use Rattle.ff_script.specs.Digits.{is_digit, bytes_of_digits};
+ghost use Rattle.hex.specs.Hex.{hex_digit_value};
+ghost use Rattle.ff_script.specs.Digits.{is_digit, bytes_of_digits, bytes_of_pairs};
 
 use ff_xdr::NoMemory;
 use std::alloc::Global;
@@ -15,11 +16,35 @@ fn is_digit(c: u8) -> bool
     matches!(c, b'0'..=b'9' | b'a'..=b'f')
 }
 
-/// All are such digits.
+/// All are such digits. The loop has no way out, so that it goes by blocks.
 fn are_digits(text: &[u8]) -> bool
     ensures { result ≡ list_all is_digit text.now }
 {
-    text.iter().all(|c| is_digit(*c))
+    let mut all = true;
+    for c in text {
+        all = all & is_digit(*c);
+    }
+    all
+}
+
+/// The value of a digit.
+fn digit_value(c: u8) -> u8
+    requires { is_digit c ≡ true }
+    ensures value { hex_digit_value c ≡ Some result }
+    ensures small { result < 16 }
+{
+    if c <= b'9' { c - b'0' } else { c - b'a' + 10 }
+}
+
+/// Puts the bytes that digits in pairs spell.
+fn put_bytes(digits: &[u8], bytes: &mut [u8])
+    requires digits { list_all is_digit digits.now ≡ true }
+    requires pairs { length digits.now ≡ 2 * length bytes.old }
+    ensures { bytes.new ≡ bytes_of_pairs digits.now }
+{
+    for place in 0..bytes.len() {
+        bytes[place] = digit_value(digits[2 * place]) * 16 + digit_value(digits[2 * place + 1]);
+    }
 }
 
 /// Bytes that a text spells, still as digits, which were checked.
@@ -29,15 +54,15 @@ pub struct Digits<'a> {
 }
 
 impl<'a> Model for Digits<'a> {
-    ghost use Rattle.std.specs.Prelude.{List, ℕ, ◌≡◌, true, is_ok};
-    ghost use Rattle.hex.specs.Hex.{decode_of};
-    ghost use Rattle.ff_script.specs.Digits.{bytes_of_pairs};
+    ghost use Rattle.std.specs.Prelude.{List, ℕ, ◌≡◌, ◌%◌, true, length};
+    ghost use Rattle.std.specs.List.{list_all};
+    ghost use Rattle.ff_script.specs.Digits.{is_digit, bytes_of_pairs};
 
     ghost Value = { List ℕ };
 
     ghost view = { λ d. bytes_of_pairs d.digits.now };
 
-    ghost invariant = { λ d. is_ok (decode_of d.digits.now) ≡ true };
+    ghost invariant = { λ d. (length d.digits.now % 2 ≡ 0) × (list_all is_digit d.digits.now ≡ true) };
 }
 
 impl<'a> Digits<'a> {
@@ -73,6 +98,8 @@ impl<'a> Digits<'a> {
     pub fn decode(&self, alloc: Global) -> Result<Vec<u8>, NoMemory>
         ensures { IfOk result (λ bytes. bytes.items ≡ self.now) }
     {
-        hex::decode(alloc, self.digits).map_err(|_| NoMemory)
+        let mut bytes = vec![in alloc; 0; self.digits.len() / 2]?;
+        put_bytes(self.digits, &mut bytes);
+        Ok(bytes)
     }
 }

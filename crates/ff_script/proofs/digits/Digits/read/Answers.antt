@@ -1,10 +1,10 @@
-use Rattle.std.proofs.Common.{◌<◌, length, Some, [], sym, ap, ◌∙◌, is_ok}
+use Rattle.std.proofs.Common.{◌<◌, length, Some, [], refl, sym, ap, ◌∙◌}
 use Rattle.std.specs.Result.{result_unwrap_or}
-use Rattle.ff_script.proofs.Spelling.{decode_of-nil, some_text, is_ok-from_digits, bytes_of_digits-dash, bytes_of_digits-pairs}
+use Rattle.ff_script.proofs.Spelling.{decode_of-nil, some_text, bytes_of_digits-dash, bytes_of_digits-pairs}
 use Rattle.ff_script.proofs.digits.Digits.read.Goals as goal
 
 pub invariant_of-result : goal.invariant_of-result
-invariant_of-result c = ap is_ok decode_of-nil
+invariant_of-result c = (refl, refl)
 
 pub returns-then-eq : goal.returns-then-eq
 returns-then-eq c =
@@ -12,7 +12,7 @@ returns-then-eq c =
     ∙ sym (bytes_of_digits-dash c.args.text.now (rw c.as_slice.ensures at c.if-eq.ensures))
 
 pub invariant_of-result-2 : goal.invariant_of-result-2
-invariant_of-result-2 c = is_ok-from_digits c.args.text.now c.if-text-ne0.false (sym c.if-not-are_digits.ensures)
+invariant_of-result-2 c = (c.if-text-ne0.false, sym c.if-not-are_digits.ensures)
 
 pub returns : goal.returns
 returns c =
