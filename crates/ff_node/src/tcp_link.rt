@@ -3,7 +3,7 @@
 ghost use Rattle.std.specs.Prelude.{◌≡◌, None};
 ghost use Rattle.rpc_record.specs.Stream.{one_more};
 
-use crate::address::NetAddr;
+use device_addr::NetAddr;
 use crate::config::Config;
 use crate::link::{Arrival, Link, Opening, Role};
 use cluster_model::NodeId;
