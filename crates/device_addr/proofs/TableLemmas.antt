@@ -1,5 +1,5 @@
 -- How a table of devices is searched, and grows.
-use Rattle.std.proofs.Common.{◌≡◌, ◌≢◌, ℕ, ◌<◌, Bool, true, false, cond, List, [], ◌∷◌, ◌++◌, length, Option, None, Some, is_some, Result, Ok, Err, is_err, refl, sym, ap, subst, arith}
+use Rattle.std.proofs.Common.{◌≡◌, ◌≢◌, ℕ, ◌<◌, Bool, true, false, cond, List, [], ◌∷◌, ◌++◌, length, Option, None, Some, is_some, Result, Ok, Err, is_err, refl, sym, ap, ◌∙◌, subst, arith}
 use Rattle.std.specs.Prelude.{bytes_eq, OnOk}
 use Rattle.std.specs.Map.{lookup}
 use Rattle.std.proofs.lemmas.List.{length-append}
@@ -13,13 +13,20 @@ pub found : (table : List (DeviceId × NetAddr)) (id : DeviceId) → lookup (λ 
 found [] id = refl
 found (p ∷ rest) id = ap (λ r. cond (bytes_eq id.0 p.0.0) (Some p.1) r) (found rest id)
 
-pub is_there : (o : Option NetAddr) → is_some o ≡ true → o ≢ None
+is_there : (o : Option NetAddr) → is_some o ≡ true → o ≢ None
 is_there (Some a) some = λ none. cc
 is_there None some = absurd (cc)
 
-pub is_not_there : (o : Option NetAddr) → is_some o ≡ false → o ≡ None
+is_not_there : (o : Option NetAddr) → is_some o ≡ false → o ≡ None
 is_not_there (Some a) none = absurd (cc)
 is_not_there None none = refl
+
+-- what the map's test says
+pub there : (table : List (DeviceId × NetAddr)) (id : DeviceId) (b : Bool) → b ≡ is_some (lookup (λ (k : DeviceId). bytes_eq id.0 k.0) table) → b ≡ true → device_at table id ≢ None
+there table id b test is = is_there _ (ap is_some (sym (found table id)) ∙ sym test ∙ is)
+
+pub not_there : (table : List (DeviceId × NetAddr)) (id : DeviceId) (b : Bool) → b ≡ is_some (lookup (λ (k : DeviceId). bytes_eq id.0 k.0) table) → b ≡ false → device_at table id ≡ None
+not_there table id b test is = is_not_there _ (ap is_some (sym (found table id)) ∙ sym test ∙ is)
 
 -- what holds at `Ok`
 pub when_ok : {A E : Type 0} (r : Result A E) (P : Type 0) → is_err r ≡ false → OnOk r P → P

@@ -20,6 +20,10 @@ pub record IsDeviceTable (table : List (DeviceId × NetAddr)) : Type 0 where
   pub distinct : AreIdsDistinct table
   pub few : length table ≤ 16
 
+-- the device is not there, and there is room for it
+abbrev pub TakesDevice : List (DeviceId × NetAddr) → DeviceId → Type 0
+TakesDevice table id = (device_at table id ≡ None) × (length table < 16)
+
 -- What adding a device came to: it is the last now, and was not there; or it was there; or it was not and 16 were; or memory was
 -- wanted. A fault leaves the table as it was.
 abbrev pub Adds : List (DeviceId × NetAddr) → DeviceId → NetAddr → Result (Unit {0}) AddFault → List (DeviceId × NetAddr) → Type 0

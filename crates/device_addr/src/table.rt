@@ -1,7 +1,7 @@
 //! A table from devices to addresses.
 
-ghost use Rattle.std.specs.Prelude.{◌≡◌, []};
-ghost use Rattle.device_addr.specs.Table.{Adds, IsDeviceTable, device_at};
+ghost use Rattle.std.specs.Prelude.{◌≡◌, [], Err};
+ghost use Rattle.device_addr.specs.Table.{Adds, IsDeviceTable, TakesDevice, device_at};
 
 use crate::NetAddr;
 use indexmap::IndexMap;
@@ -63,6 +63,7 @@ impl DeviceTable {
     /// error nothing has changed.
     pub fn add(&mut self, id: DeviceId, address: NetAddr) -> Result<(), AddFault>
         ensures adds { Adds self.old id address result self.new }
+        ensures wanted { result ≡ Err AddFault.NoMemory → TakesDevice self.old id }
         ensures proper { IsDeviceTable self.new }
     {
         if self.devices.contains_key(&id) {
