@@ -8,8 +8,8 @@ use Rattle.std.proofs.lemmas.List.Elements.{All-head, All-tail, All-nil, All-con
 use Rattle.serde_json.specs.Data.{Data, null, boolean, string, array, object, number, Items, no_items, item, Members, no_members, member}
 use Rattle.serde_json.specs.View.{view, items_view, members_view}
 use Rattle.serde_json.specs.declared.value.Value.{Value}
-use Rattle.ff_node.specs.declared.address.NetAddr.{NetAddr}
-use Rattle.ff_node.specs.Address.{AddressValue, IsAddress, address_text, address_value}
+use Rattle.device_addr.specs.declared.net_addr.NetAddr.{NetAddr}
+use Rattle.device_addr.specs.Universal.{AddressValue, IsAddress, address_text, address_value}
 use Rattle.serde_json.specs.Find.{as_array}
 use Rattle.ff_node.specs.declared.config.ConfigFault.{ConfigFault}
 use Rattle.ff_node.specs.declared.config.ConfigFault.TheVariants.{Bad, NoMemory}

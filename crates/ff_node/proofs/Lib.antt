@@ -1,4 +1,3 @@
-pub mod AddressLemmas
 pub mod ConfigLemmas
 pub mod ServeLemmas
 pub mod OneConfig

@@ -2,7 +2,7 @@
 use Rattle.std.proofs.Common.{◌≡◌, ℕ, suc, List, [], ◌∷◌, length, Some, refl, sym, ap, ◌∙◌}
 use Rattle.serde_json.specs.Data.{Data}
 use Rattle.serde_json.specs.Events.{items_len}
-use Rattle.ff_node.specs.Address.{AddressValue}
+use Rattle.device_addr.specs.Universal.{AddressValue}
 use Rattle.ff_node.specs.Config.{ConfigValue, Configures, address_items, config_data}
 
 items_length : (servers : List AddressValue) → items_len (address_items servers) ≡ length servers

@@ -1,16 +1,15 @@
 -- How serving goes on from turn to turn.
-use Rattle.std.proofs.Common.{◌≡◌, inl, inr, ℕ, ◌+◌, ◌-◌, ◌<◌, ◌≤◌, Bool, true, false, ◌⊎◌, List, [], ◌∷◌, ◌++◌, length, take, get_or, Option, Some, None, Result, Ok, Err, refl, sym, ap, subst, ◌∙◌, arith, append_assoc, append-nil}
+use Rattle.std.proofs.Common.{◌≡◌, inl, inr, ℕ, ◌+◌, ◌-◌, ◌<◌, true, false, ◌⊎◌, List, [], ◌∷◌, ◌++◌, length, take, get_or, Option, Some, None, Result, Ok, Err, refl, sym, ap, subst, ◌∙◌, arith, append_assoc, append-nil}
 use Rattle.std.proofs.lemmas.List.{take_more}
 use Rattle.ff_xdr.specs.declared.error.NoMemory.{NoMemory}
 use Rattle.rpc_record.specs.declared.stream.Failed.{Failed}
 use Rattle.rpc_record.specs.declared.stream.Failed.TheVariants as failed
 use Rattle.cluster_model.specs.declared.ids.NodeId.{NodeId}
 use Rattle.ff_node.specs.declared.link.Arrival.{Arrival}
-use Rattle.ff_node.specs.declared.link.Arrival.TheVariants.{Closed}
 use Rattle.ff_node.specs.declared.serve.NodeEnd.{NodeEnd}
 use Rattle.ff_node.specs.declared.serve.NodeEnd.TheVariants as ends
 use Rattle.ff_node.specs.Link.{Gives, Sends}
-use Rattle.ff_node.specs.Serve.{Served, ServedInPart, ClosedBy, IsDone, AreOpen, NodeServes, is_closed, state_after, sends_over, TakesTurn, SendsAll, AnswersArrival, end_of, sent_more}
+use Rattle.ff_node.specs.Serve.{Served, ServedInPart, IsDone, NodeServes, is_closed, state_after, sends_over, TakesTurn, SendsAll, AnswersArrival, end_of, sent_more}
 
 abbrev pub Sent : Type 0
 Sent = List (NodeId × List ℕ)

@@ -12,8 +12,8 @@ use Rattle.ff_node.specs.declared.config.Config.{Config}
 use Rattle.ff_node.specs.declared.config.ConfigFault.{ConfigFault}
 use Rattle.ff_node.specs.declared.config.ConfigFault.TheVariants.{Bad, NoMemory}
 use Rattle.ff_node.specs.declared.config.Fields.{Fields}
-use Rattle.ff_node.specs.declared.address.NetAddr.{NetAddr}
-use Rattle.ff_node.specs.Address.{AddressValue, IsAddress, address_text, address_value}
+use Rattle.device_addr.specs.declared.net_addr.NetAddr.{NetAddr}
+use Rattle.device_addr.specs.Universal.{AddressValue, IsAddress, address_text, address_value}
 
 -- the longest line of a configuration, in bytes
 abbrev pub max_line : ℕ

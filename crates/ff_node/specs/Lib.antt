@@ -1,4 +1,3 @@
-pub mod Address
 pub mod Config
 pub mod Link
 pub mod Serve

@@ -3,7 +3,7 @@ use Rattle.std.specs.Prelude.{◌≡◌, ℕ, ◌-◌, ◌==◌, if◌then◌els
 use Rattle.ff_xdr.specs.declared.error.NoMemory.{NoMemory}
 use Rattle.rpc_record.specs.declared.stream.Failed.{Failed}
 use Rattle.cluster_model.specs.declared.ids.NodeId.{NodeId}
-use Rattle.ff_node.specs.declared.address.NetAddr.{NetAddr}
+use Rattle.device_addr.specs.declared.net_addr.NetAddr.{NetAddr}
 use Rattle.ff_node.specs.declared.config.Config.{Config}
 use Rattle.ff_node.specs.declared.link.Opening.{Opening}
 use Rattle.ff_node.specs.declared.link.Role.{Role}

@@ -4,10 +4,10 @@ ghost use Rattle.std.specs.Prelude.{◌≡◌, ◌≤◌, ◌<◌, ℕ, List, le
 ghost use Rattle.std.specs.List.{All};
 ghost use Rattle.serde_json.specs.Data.{Data, string, array, number, unsigned, Members, member};
 ghost use Rattle.serde_json.specs.View.{view, items_view, members_view};
-ghost use Rattle.ff_node.specs.Address.{AddressValue, IsAddress, address_text, address_value};
+ghost use Rattle.device_addr.specs.Universal.{AddressValue, IsAddress, address_text, address_value};
 ghost use Rattle.ff_node.specs.Config.{ConfigValue, FieldValues, Configures, IsInRange, ListsServers, ReadsConfig, ReadsItems, ReadsServers, ReadsValue, config_fields, config_value, before, five_members, field_values, colons};
 
-use crate::address::{NetAddr, parse_universal};
+use device_addr::{NetAddr, parse_universal};
 use serde_json::{Map, Value};
 use std::alloc::Global;
 use thiserror::Error;

@@ -1,7 +1,6 @@
 //! A node of the cluster: its configuration, its link to other nodes, and a data server that serves.
 #![tactic(auto)]
 
-mod address;
 mod config;
 mod link;
 mod memory_link;
@@ -12,7 +11,6 @@ mod tcp_link;
 #[cfg(test)]
 mod tests;
 
-pub use address::{NetAddr, parse_universal};
 pub use config::{Config, ConfigFault, MAX_LINE, read_config};
 pub use link::{Arrival, Link, Opening, Role};
 pub use memory_link::MemoryLink;

@@ -7,9 +7,9 @@ ghost use Rattle.ff_node.specs.declared.link.Arrival.{Arrival};
 ghost use Rattle.ff_node.specs.declared.link.Opening.{Opening};
 ghost use Rattle.ff_node.specs.Link.{Gives, OpensLink, Sends, address_numbered, opening_of, own_address};
 
-use crate::address::NetAddr;
 use crate::config::Config;
 use cluster_model::NodeId;
+use device_addr::NetAddr;
 use ff_xdr::{Data, NoMemory};
 use rpc_record::Failed;
 

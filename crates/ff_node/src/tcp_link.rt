@@ -3,10 +3,10 @@
 ghost use Rattle.std.specs.Prelude.{◌≡◌, None};
 ghost use Rattle.rpc_record.specs.Stream.{one_more};
 
-use crate::address::NetAddr;
 use crate::config::Config;
 use crate::link::{Arrival, Link, Opening, Role};
 use cluster_model::NodeId;
+use device_addr::NetAddr;
 use ff_xdr::NoMemory;
 use record_tcp::RecordServer;
 use rpc_record::Failed;

@@ -1,51 +1,12 @@
-//! Addresses, configurations, and a data server that serves.
+//! Configurations, and a data server that serves.
 
 use crate::{
-    Arrival, Config, ConfigFault, Link, MemoryLink, NetAddr, NodeEnd, SureLink, parse_universal,
-    read_config, serve_ds,
+    Arrival, Config, ConfigFault, Link, MemoryLink, NodeEnd, SureLink, read_config, serve_ds,
 };
 use cluster_model::NodeId;
 use ff_xdr::Data;
 use std::alloc::Global;
 use std::test::Fail;
-
-#[test]
-fn universal_addresses(rt: HostRuntime) -> Result<(), Fail> {
-    let good = [
-        ("127.0.0.1.8.1", [127, 0, 0, 1], 2049),
-        ("10.200.30.4.0.111", [10, 200, 30, 4], 111),
-        ("0.0.0.0.0.0", [0, 0, 0, 0], 0),
-        ("255.255.255.255.255.255", [255, 255, 255, 255], 65_535),
-    ];
-    for (text, host, port) in good {
-        assert_eq!(rt;
-            parse_universal(text),
-            Some(NetAddr { host, port }),
-            "{text}"
-        );
-    }
-    let bad = [
-        "",
-        ".....",
-        "127.0.0.1.8",
-        "127.0.0.01.8.1",
-        "127.0.0.1.08.1",
-        "127.0.0.1.8.01",
-        "256.0.0.1.8.1",
-        "127.0.0.1.8.256",
-        "1.2.3.4.5.6.7",
-        "1.2.3.4.5.",
-        ".1.2.3.4.5",
-        "+1.2.3.4.5.6",
-        "1.2.3.4.5.+6",
-        "1.2.3.4.5.6 ",
-        "1.2.3.4.5.x",
-    ];
-    for text in bad {
-        assert_eq!(rt; parse_universal(text), None, "{text}");
-    }
-    Ok(())
-}
 
 /// A line with so many servers, and the other numbers as they are written.
 fn line_of(

@@ -1,6 +1,6 @@
 use Rattle.std.proofs.Common.{◌≡◌, length, map, refl, arith}
 use Rattle.std.proofs.lemmas.List.{length-map}
-use Rattle.ff_node.specs.Address.{address_value}
+use Rattle.device_addr.specs.Universal.{address_value}
 use Rattle.ff_node.specs.Config.{config_value}
 use Rattle.ff_cluster.proofs.ServeLemmas.{no_server}
 use Rattle.ff_cluster.proofs.serve.config_in.Goals as goal

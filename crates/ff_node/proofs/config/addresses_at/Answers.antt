@@ -2,8 +2,8 @@ use Rattle.std.proofs.Common.{◌≡◌, ◌+◌, map, sym, subst, arith, List}
 use Rattle.std.specs.List.{All}
 use Rattle.serde_json.specs.View.{items_view}
 use Rattle.std.proofs.Math.ListN.{take}
-use Rattle.ff_node.specs.declared.address.NetAddr.{NetAddr}
-use Rattle.ff_node.specs.Address.{IsAddress, address_value}
+use Rattle.device_addr.specs.declared.net_addr.NetAddr.{NetAddr}
+use Rattle.device_addr.specs.Universal.{IsAddress, address_value}
 use Rattle.ff_node.specs.Config.{address_items}
 use Rattle.ff_node.proofs.ConfigLemmas.{item_is, more_items, pushed}
 use Rattle.ff_node.proofs.config.addresses_at.Goals as goal

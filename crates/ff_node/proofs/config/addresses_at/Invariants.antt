@@ -1,7 +1,7 @@
 use Rattle.std.proofs.Common.{◌≡◌, map, take}
 use Rattle.std.specs.List.{All}
 use Rattle.serde_json.specs.View.{items_view}
-use Rattle.ff_node.specs.Address.{IsAddress, address_value}
+use Rattle.device_addr.specs.Universal.{IsAddress, address_value}
 use Rattle.ff_node.specs.Config.{address_items}
 use Rattle.ff_node.proofs.config.addresses_at.Given as goal
 

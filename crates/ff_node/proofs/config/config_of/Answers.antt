@@ -1,7 +1,7 @@
 use Rattle.std.proofs.Common.{◌≡◌, length, map, sym, ap, ◌∙◌, arith}
 use Rattle.std.proofs.lemmas.List.{length-map}
 use Rattle.serde_json.specs.Data.{number, unsigned, array}
-use Rattle.ff_node.specs.Address.{address_value}
+use Rattle.device_addr.specs.Universal.{address_value}
 use Rattle.ff_node.specs.Config.{address_items}
 use Rattle.ff_node.proofs.ConfigLemmas.{as_many}
 use Rattle.ff_node.proofs.config.config_of.Goals as goal

@@ -1,4 +1,4 @@
-use Rattle.ff_node.proofs.AddressLemmas.{when_none}
+use Rattle.device_addr.proofs.AddressLemmas.{when_none}
 use Rattle.ff_node.proofs.ConfigLemmas.{no_fourth, no_fifth, all_five}
 use Rattle.ff_node.proofs.config.take_fields.Goals as goal
 

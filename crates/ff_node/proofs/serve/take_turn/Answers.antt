@@ -1,4 +1,4 @@
-use Rattle.std.proofs.Common.{◌≡◌, sym, ap, subst, Some, Ok, Option, List, take, ◌∙◌}
+use Rattle.std.proofs.Common.{sym, ap, subst, Some, Ok, Option, List, take, ◌∙◌}
 use Rattle.ff_node.specs.declared.link.Arrival.{Arrival}
 use Rattle.ff_node.specs.declared.serve.NodeEnd.{NodeEnd}
 use Rattle.ff_node.specs.Link.{Gives}

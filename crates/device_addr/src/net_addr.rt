@@ -1,8 +1,11 @@
 //! Universal addresses over TCP and IPv4 (RFC 5665, section 5.2.3.3).
 
-ghost use Rattle.std.specs.Prelude.{◌≡◌, ◌<◌, ℕ, List, MatchOption, decimal};
-ghost use Rattle.ff_node.specs.Address.{AddressValue, IsAddress, BeginsWith, address_text, address_value};
+ghost use Rattle.std.specs.Prelude.{◌≡◌, ◌<◌, ◌++◌, ℕ, List, MatchOption, codes, decimal};
+ghost use Rattle.std.specs.List.{flat_map};
+ghost use Rattle.ff_xdr.specs.Calls.{Grows, Puts};
+ghost use Rattle.device_addr.specs.Universal.{AddressValue, IsAddress, BeginsWith, address_text, address_value};
 
+use ff_xdr::{NoMemory, Out};
 use itoa::Buffer;
 
 /// A host's address of IPv4 and a port of TCP.
@@ -48,4 +51,46 @@ pub fn parse_universal(text: &str) -> Option<NetAddr>
         host: [first, second, third, fourth],
         port: u16::from_be_bytes([high, low]),
     })
+}
+
+/// Appends a number.
+fn put_number(number: u8, out: &mut Out) -> Result<(), NoMemory>
+    ensures { Puts out.old result out.new (decimal number) }
+{
+    let mut buffer = Buffer::new();
+    out.raw(buffer.format(number).as_bytes())
+}
+
+/// Appends numbers, each behind a dot. At an error a part of it may stand.
+fn put_more(numbers: &[u8], out: &mut Out) -> Result<(), NoMemory>
+    ensures { Grows out.old result out.new (flat_map (λ n. codes "." ++ decimal n) numbers.now) }
+{
+    for number in numbers {
+        out.raw(b".")?;
+        put_number(*number, out)?;
+    }
+    Ok(())
+}
+
+/// Appends the six numbers of an address. At an error a part of it may stand.
+fn put_numbers(address: &NetAddr, out: &mut Out) -> Result<(), NoMemory>
+    ensures { Grows out.old result out.new (address_text (address_value address.now)) }
+{
+    let [first, second, third, fourth] = address.host;
+    let [high, low] = address.port.to_be_bytes();
+    put_number(first, out)?;
+    put_more(&[second, third, fourth, high, low], out)
+}
+
+/// Appends the text of an address, as `parse_universal` takes it (RFC 5665, section 5.2.3.3). Takes the
+/// memory of `out` alone; `NoMemory` where there is none, and then nothing was appended.
+pub fn print_universal(address: &NetAddr, out: &mut Out) -> Result<(), NoMemory>
+    ensures { Puts out.old result out.new (address_text (address_value address.now)) }
+{
+    let mark = out.len();
+    let put = put_numbers(address, out);
+    if put.is_err() {
+        out.truncate(mark);
+    }
+    put
 }

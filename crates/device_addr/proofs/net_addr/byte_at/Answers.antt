@@ -6,8 +6,8 @@ use Rattle.std.specs.Result.{result_ok}
 use Rattle.std.specs.Str.Parse.{ParsesUnsigned}
 use Rattle.std.proofs.lemmas.Fmt.{parse-decimal}
 use Rattle.std.proofs.lemmas.Slice.Eq.{bytes_eq-Decides}
-use Rattle.ff_node.proofs.AddressLemmas.{when_none, ok_none, ok_some}
-use Rattle.ff_node.proofs.address.byte_at.Goals as goal
+use Rattle.device_addr.proofs.AddressLemmas.{when_none, ok_none, ok_some}
+use Rattle.device_addr.proofs.net_addr.byte_at.Goals as goal
 
 pub returns-in_err-number : goal.returns-in_err-number
 returns-in_err-number c =

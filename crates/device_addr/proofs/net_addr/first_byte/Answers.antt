@@ -1,7 +1,7 @@
 use Rattle.std.proofs.Common.{◌≡◌, length, ◌==◌, ◌∙◌, lit<}
 use Rattle.std.specs.List.{before_first, position_or_len}
-use Rattle.ff_node.proofs.AddressLemmas.{when_none, no_dot, before_dot}
-use Rattle.ff_node.proofs.address.first_byte.Goals as goal
+use Rattle.device_addr.proofs.AddressLemmas.{when_none, no_dot, before_dot}
+use Rattle.device_addr.proofs.net_addr.first_byte.Goals as goal
 
 pub returns-in_err-first : goal.returns-in_err-first
 returns-in_err-first c =

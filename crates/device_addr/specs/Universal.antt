@@ -1,7 +1,7 @@
 -- Universal addresses over TCP and IPv4 (RFC 5665, section 5.2.3.3).
 use Rattle.std.specs.Prelude.{◌≡◌, ℕ, ◌/◌, ◌%◌, ◌<◌, List, [], ◌∷◌, ◌++◌, length, codes, decimal}
 use Rattle.std.specs.List.{All}
-use Rattle.ff_node.specs.declared.address.NetAddr.{NetAddr}
+use Rattle.device_addr.specs.declared.net_addr.NetAddr.{NetAddr}
 
 -- four numbers of a host's address, the highest first, and a port
 pub record AddressValue : Type 0 where

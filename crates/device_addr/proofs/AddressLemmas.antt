@@ -10,7 +10,7 @@ use Rattle.std.proofs.lemmas.Fmt.{decimal_is_IsNumeral}
 use Rattle.std.proofs.lemmas.List.{length-append}
 use Rattle.std.proofs.lemmas.List.Elements.{All-head, All-tail, All-nil, All-cons, All-append}
 use Rattle.std.proofs.lemmas.Str.Parse.{digit_at}
-use Rattle.ff_node.specs.Address.{AddressValue, IsAddress, BeginsWith, dotted, address_text}
+use Rattle.device_addr.specs.Universal.{AddressValue, IsAddress, BeginsWith, dotted, address_text}
 
 pub when_none : {A : Type 0} (P : Type 0) (Q : A → Type 0) (r : Option A) → r ≡ None → P → MatchOption r P Q
 when_none P Q None e p = p
@@ -99,17 +99,24 @@ none_last text d none = of d.numbers d.many d.bytes d.is
     of (n ∷ []) many bytes is = none n (All-head IsByte n [] bytes) is
     of (n ∷ p ∷ ns) many bytes is = absurd (omega arith)
 
--- the numbers of an address
-pub six : (text : List ℕ) (a : AddressValue) → IsAddress a → text ≡ address_text a → IsDotted 6 text
-six text a good is = record {
-  numbers = a.host ++ (a.port / 256) ∷ (a.port % 256) ∷ [];
-  many = omega (arith, length-append a.host ((a.port / 256) ∷ (a.port % 256) ∷ []), good.four);
-  bytes = All-append IsByte a.host (a.port / 256 ∷ a.port % 256 ∷ []) good.bytes (All-cons IsByte (a.port / 256) (a.port % 256 ∷ []) high (All-cons IsByte (a.port % 256) [] low (All-nil IsByte)));
-  is = is;
-}
+-- the numbers of an address: six of a byte
+pub six_many : (a : AddressValue) → IsAddress a → length (a.host ++ (a.port / 256) ∷ (a.port % 256) ∷ []) ≡ 6
+six_many a good = omega (arith, length-append a.host ((a.port / 256) ∷ (a.port % 256) ∷ []), good.four)
+
+pub six_bytes : (a : AddressValue) → IsAddress a → All IsByte (a.host ++ (a.port / 256) ∷ (a.port % 256) ∷ [])
+six_bytes a good =
+    All-append IsByte a.host (a.port / 256 ∷ a.port % 256 ∷ []) good.bytes (All-cons IsByte (a.port / 256) (a.port % 256 ∷ []) high (All-cons IsByte (a.port % 256) [] low (All-nil IsByte)))
   where
     high : a.port / 256 < 256
     high = let small = good.number in omega arith
 
     low : a.port % 256 < 256
     low = omega arith
+
+pub six : (text : List ℕ) (a : AddressValue) → IsAddress a → text ≡ address_text a → IsDotted 6 text
+six text a good is = record {
+  numbers = a.host ++ (a.port / 256) ∷ (a.port % 256) ∷ [];
+  many = six_many a good;
+  bytes = six_bytes a good;
+  is = is;
+}

@@ -1,5 +1,5 @@
-use Rattle.ff_node.proofs.AddressLemmas.{when_none, six, dotted_behind, none_first, none_last}
-use Rattle.ff_node.proofs.address.parse_universal.Goals as goal
+use Rattle.device_addr.proofs.AddressLemmas.{when_none, six, dotted_behind, none_first, none_last}
+use Rattle.device_addr.proofs.net_addr.parse_universal.Goals as goal
 
 pub returns-in_err-first-clause-text : goal.returns-in_err-first-clause-text
 returns-in_err-first-clause-text c =

@@ -1,0 +1,3 @@
+pub mod AddressLemmas
+mod TextLemmas
+mod TableLemmas
