@@ -1,0 +1,10 @@
+pub mod Slots
+pub mod SlotsLaw
+pub mod Clients
+pub mod ExchangeIds
+pub mod CreateSessions
+pub mod Requests
+pub mod Bindings
+pub mod Ends
+pub mod TableLaw
+pub mod CallbackSlot
