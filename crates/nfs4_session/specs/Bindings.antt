@@ -27,8 +27,8 @@ abbrev pub after_binding : SessionsState → SessionId → NodeId → SessionsSt
 after_binding s id node = with_clients s (change_first (has_id (client_in id)) (client_bound (number_in id) node) s.clients)
 
 -- what a call on a session comes to where it is there, and where it is not
-abbrev pub OnSession : Option SessionState → Result Unit Stat4 → SessionsState → SessionsState → SessionsState → Type 0
-OnSession (Some session) result old after new = (result ≡ Ok unit) × (new ≡ after)
+abbrev pub OnSession : Option SessionState → Result (Unit {0}) Stat4 → SessionsState → SessionsState → SessionsState → Type 0
+OnSession (Some session) result old after new = (result ≡ Ok tt) × (new ≡ after)
 OnSession None result old after new = (result ≡ Err BadSession) × (new ≡ old)
 
 -- ---- callbacks

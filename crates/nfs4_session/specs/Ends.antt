@@ -22,11 +22,11 @@ abbrev pub destroy_client_fault : Option ClientState → Option Stat4
 destroy_client_fault None = Some StaleClientId
 destroy_client_fault (Some c) = busy_with c.sessions
 
-abbrev pub DestroysClientBy : SessionsState → ℕ → Option Stat4 → Result Unit Stat4 → SessionsState → Type 0
-DestroysClientBy old client None result new = (result ≡ Ok unit) × (new ≡ without_client old client)
+abbrev pub DestroysClientBy : SessionsState → ℕ → Option Stat4 → Result (Unit {0}) Stat4 → SessionsState → Type 0
+DestroysClientBy old client None result new = (result ≡ Ok tt) × (new ≡ without_client old client)
 DestroysClientBy old client (Some status) result new = (result ≡ Err status) × (new ≡ old)
 
-abbrev pub DestroysClient : SessionsState → ℕ → Result Unit Stat4 → SessionsState → Type 0
+abbrev pub DestroysClient : SessionsState → ℕ → Result (Unit {0}) Stat4 → SessionsState → Type 0
 DestroysClient old client result new = DestroysClientBy old client (destroy_client_fault (find (has_id client) old.clients)) result new
 
 -- A lease has ended where it was renewed last more than 90 s before.

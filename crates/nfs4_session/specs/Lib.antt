@@ -1,5 +1,6 @@
 pub mod Slots
 pub mod SlotsLaw
+pub mod Turns
 pub mod Clients
 pub mod ExchangeIds
 pub mod CreateSessions
@@ -8,3 +9,7 @@ pub mod Bindings
 pub mod Ends
 pub mod TableLaw
 pub mod CallbackSlot
+pub mod Seeks
+pub mod Changes
+pub mod Standing
+pub mod Asked

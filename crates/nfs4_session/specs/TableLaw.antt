@@ -1,6 +1,6 @@
 -- What a table of clients comes to over every list of calls: ids and sessions' numbers are given once, and an owner has at most one
 -- confirmed record and one that is not (RFC 8881, sections 2.4 and 2.10.3).
-use Rattle.std.specs.Prelude.{◌≡◌, ¬◌, ℕ, ◌+◌, ◌≤◌, ◌<◌, ◌×◌, ◌==◌, List, [], ◌∷◌, ◌++◌, length, Option, Some, None, fold, slice_get, if◌then◌else◌}
+use Rattle.std.specs.Prelude.{◌≡◌, ℕ, ◌+◌, ◌≤◌, ◌<◌, ◌==◌, List, [], ◌∷◌, ◌++◌, length, Option, Some, None, fold, slice_get, if◌then◌else◌}
 use Rattle.std.specs.List.{All, AllPairs, find}
 use Rattle.cluster_model.specs.declared.ids.NodeId.{NodeId}
 use Rattle.nfs4_types.specs.declared.ids.SessionId.{SessionId}

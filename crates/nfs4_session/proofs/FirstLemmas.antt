@@ -1,0 +1,114 @@
+-- The first of a list that passes a test.
+use Rattle.std.proofs.Common.{◌≡◌, ℕ, suc, ◌+◌, ◌<◌, Bool, true, false, cond, List, [], ◌∷◌, ◌++◌, length, take, drop, get_or, set, Option, Some, None, refl, sym, ap, ◌∙◌, arith, subst}
+use Rattle.std.specs.Prelude.{◌-◌, slice_get, remove, is_some}
+use Rattle.std.specs.List.{find, last_or, list_any, position, position_from}
+use Rattle.std.proofs.lemmas.Iterator.Adapters.{position_from-zero}
+use Rattle.std.proofs.lemmas.Option.{same_Some, slice_get_read}
+use Rattle.nfs4_session.specs.Clients.{change_first, remove_first}
+
+pub record FoundAt {X : Type 0} (test : X → Bool) (xs : List X) (place : ℕ) : Type 0 where
+  pub item : X
+  pub within : place < length xs
+  pub at : slice_get xs place ≡ Some item
+  pub passes : test item ≡ true
+  pub finds : find test xs ≡ Some item
+  pub changes : (f : X → X) → change_first test f xs ≡ set xs place (f item)
+  pub removes : remove_first test xs ≡ remove xs place
+
+pub record IsMissing {X : Type 0} (test : X → Bool) (xs : List X) : Type 0 where
+  pub finds : find test xs ≡ None
+  pub none : list_any test xs ≡ false
+  pub changes : (f : X → X) → change_first test f xs ≡ xs
+  pub removes : remove_first test xs ≡ xs
+
+-- what is not there under any place
+pub not_found : (o p : Option ℕ) → o ≡ p → ((x : ℕ) → o ≡ Some x → ⊥) → p ≡ None
+not_found o None same none = refl
+not_found o (Some x) same none = absurd (none x same)
+
+module _ {X : Type 0} (test : X → Bool) where
+  here : (x : X) (xs : List X) → test x ≡ true → FoundAt test (x ∷ xs) 0
+  here x xs passes = record {
+    item = x;
+    within = omega arith;
+    at = refl;
+    passes = passes;
+    finds = rw passes refl;
+    changes = λ f. rw passes refl;
+    removes = rw passes refl;
+  }
+
+  behind : (x : X) (xs : List X) (k : ℕ) → test x ≡ false → FoundAt test xs k → FoundAt test (x ∷ xs) (suc k)
+  behind x xs k fails there = record {
+    item = there.item;
+    within = let within = there.within in omega arith;
+    at = there.at;
+    passes = there.passes;
+    finds = rw fails there.finds;
+    changes = λ f. rw fails (ap (λ ys. x ∷ ys) (there.changes f));
+    removes = rw fails (ap (λ ys. x ∷ ys) there.removes);
+  }
+
+  found_from : (xs : List X) (i place : ℕ) → position_from test i xs ≡ Some place → (k : ℕ) × (place ≡ i + k) × FoundAt test xs k
+  found_from [] i place is = absurd (cc (is))
+  found_from (x ∷ xs) i place is = by_case (test x) refl is (found_from xs (i + 1) place)
+    where
+      by_case : (b : Bool) → test x ≡ b → cond b (Some i) (position_from test (i + 1) xs) ≡ Some place
+          → (position_from test (i + 1) xs ≡ Some place → (k : ℕ) × (place ≡ (i + 1) + k) × FoundAt test xs k)
+          → (k : ℕ) × (place ≡ i + k) × FoundAt test (x ∷ xs) k
+      by_case true passes is rest = let same : i ≡ place = same_Some i place is in (0, omega arith, here x xs passes)
+      by_case false fails is rest = let r = rest is in let at = r.1 in (suc r.0, omega arith, behind x xs r.0 fails r.2)
+
+  missing_from : (xs : List X) (i : ℕ) → position_from test i xs ≡ None → IsMissing test xs
+  missing_from [] i is = record { finds = refl; none = refl; changes = λ f. refl; removes = refl }
+  missing_from (x ∷ xs) i is = by_case (test x) refl is (missing_from xs (i + 1))
+    where
+      by_case : (b : Bool) → test x ≡ b → cond b (Some i) (position_from test (i + 1) xs) ≡ None
+          → (position_from test (i + 1) xs ≡ None → IsMissing test xs) → IsMissing test (x ∷ xs)
+      by_case true passes is rest = absurd (cc (is))
+      by_case false fails is rest = let r = rest is in record {
+        finds = rw fails r.finds;
+        none = rw fails r.none;
+        changes = λ f. rw fails (ap (λ ys. x ∷ ys) (r.changes f));
+        removes = rw fails (ap (λ ys. x ∷ ys) r.removes);
+      }
+
+  pub found : (xs : List X) (place : ℕ) → position test xs ≡ Some place → FoundAt test xs place
+  found xs place is =
+      let r = found_from xs 0 place (sym (position_from-zero test xs) ∙ is) in
+      let at = r.1 in
+      let same : r.0 ≡ place = omega arith in
+      subst (λ k. FoundAt test xs k) same r.2
+
+  pub missing : (xs : List X) → position test xs ≡ None → IsMissing test xs
+  missing xs is = missing_from xs 0 (sym (position_from-zero test xs) ∙ is)
+
+  -- what was read there is the first
+  pub first_is : (xs : List X) (place : ℕ) (x : X) (there : FoundAt test xs place) → x ≡ get_or xs place x → get_or xs place x ≡ there.item
+  first_is xs place x there is = sym is ∙ same_Some x there.item (sym (slice_get_read xs (length xs) place x refl there.within is) ∙ there.at)
+
+  -- the first was changed, and no other
+  pub changed_there : (f : X → X) (xs : List X) (place : ℕ) (x new : X) → position test xs ≡ Some place → x ≡ get_or xs place x → new ≡ f (get_or xs place x) → set xs place new ≡ change_first test f xs
+  changed_there f xs place x new is read does =
+      let there = found xs place is in
+      ap (set xs place) (does ∙ ap f (first_is xs place x there read)) ∙ sym (there.changes f)
+
+  -- one is there where it has a place
+  pub is_there : (xs : List X) → is_some (position test xs) ≡ is_some (find test xs)
+  is_there xs = by_case (position test xs) refl
+    where
+      by_case : (o : Option ℕ) → position test xs ≡ o → is_some o ≡ is_some (find test xs)
+      by_case (Some place) is = sym (ap is_some (found xs place is).finds)
+      by_case None is = sym (ap is_some (missing xs is).finds)
+
+-- the last of a list, by its place
+last_from : {X : Type 0} (x : X) (xs : List X) → slice_get (x ∷ xs) (length xs) ≡ last_or (Some x) xs
+last_from x [] = refl
+last_from x (y ∷ xs) = last_from y xs
+
+pub last_is : {X : Type 0} (xs : List X) → slice_get xs (length xs - 1) ≡ last_or None xs
+last_is [] = refl
+last_is (x ∷ xs) = ap (slice_get (x ∷ xs)) (less (length xs)) ∙ last_from x xs
+  where
+    less : (n : ℕ) → suc n - 1 ≡ n
+    less n = omega arith

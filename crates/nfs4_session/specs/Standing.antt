@@ -1,0 +1,13 @@
+-- What holds of the code's table: each id beside its record, and how many owners are known.
+use Rattle.std.specs.Prelude.{◌≡◌, ℕ, ◌≤◌, List, map}
+use Rattle.std.specs.List.{AllByRecursion}
+use Rattle.nfs4_session.specs.Clients.{ClientState, client_id}
+use Rattle.nfs4_session.specs.ExchangeIds.{known_owners}
+
+abbrev pub ids_of : List ClientState → List ℕ
+ids_of clients = map (λ (c : ClientState). c.id) clients
+
+pub record IsStanding (keys : List ℕ) (clients : List ClientState) (boot given known : ℕ) : Type 0 where
+  pub ids : keys ≡ ids_of clients
+  pub below : AllByRecursion (λ id. id ≤ client_id boot given) keys
+  pub owners : known ≡ known_owners clients
