@@ -1,10 +1,13 @@
 -- The first of a list that passes a test.
-use Rattle.std.proofs.Common.{◌≡◌, ℕ, suc, ◌+◌, ◌<◌, Bool, true, false, cond, List, [], ◌∷◌, ◌++◌, length, take, drop, get_or, set, Option, Some, None, refl, sym, ap, ◌∙◌, arith, subst}
+use Rattle.std.proofs.Common.{◌≡◌, ℕ, suc, ◌+◌, ◌<◌, Bool, true, false, cond, List, [], ◌∷◌, ◌++◌, length, take, drop, get_or, set, map, Option, Some, None, refl, sym, ap, ◌∙◌, arith, subst}
 use Rattle.std.specs.Prelude.{◌-◌, slice_get, remove, is_some}
 use Rattle.std.specs.List.{find, last_or, list_any, position, position_from}
 use Rattle.std.proofs.lemmas.Iterator.Adapters.{position_from-zero}
 use Rattle.std.proofs.lemmas.Option.{same_Some, slice_get_read}
-use Rattle.nfs4_session.specs.Clients.{change_first, remove_first}
+use Rattle.std.proofs.lemmas.Bool.{eq-eqb, ne_eqb, eqb-true}
+use Rattle.std.proofs.Math.Dec.{eqb}
+use Rattle.nfs4_session.specs.Clients.{ClientState, has_id, change_first, remove_first}
+use Rattle.nfs4_session.specs.Standing.{ids_of}
 
 pub record FoundAt {X : Type 0} (test : X → Bool) (xs : List X) (place : ℕ) : Type 0 where
   pub item : X
@@ -93,6 +96,10 @@ module _ {X : Type 0} (test : X → Bool) where
       let there = found xs place is in
       ap (set xs place) (does ∙ ap f (first_is xs place x there read)) ∙ sym (there.changes f)
 
+  -- what was read there is what is found
+  pub reads : (xs : List X) (place : ℕ) (x : X) → position test xs ≡ Some place → x ≡ get_or xs place x → find test xs ≡ Some x
+  reads xs place x is read = let there = found xs place is in there.finds ∙ ap Some (sym (read ∙ first_is xs place x there read))
+
   -- one is there where it has a place
   pub is_there : (xs : List X) → is_some (position test xs) ≡ is_some (find test xs)
   is_there xs = by_case (position test xs) refl
@@ -100,6 +107,28 @@ module _ {X : Type 0} (test : X → Bool) where
       by_case : (o : Option ℕ) → position test xs ≡ o → is_some o ≡ is_some (find test xs)
       by_case (Some place) is = sym (ap is_some (found xs place is).finds)
       by_case None is = sym (ap is_some (missing xs is).finds)
+
+-- a test and another that says the same
+same_from : {X : Type 0} (p q : X → Bool) → ((x : X) → p x ≡ q x) → (i : ℕ) (xs : List X) → position_from p i xs ≡ position_from q i xs
+same_from p q same i [] = refl
+same_from p q same i (x ∷ xs) = ap (λ b. cond b (Some i) (position_from p (i + 1) xs)) (same x) ∙ ap (λ o. cond (q x) (Some i) o) (same_from p q same (i + 1) xs)
+
+map_from : {X Y : Type 0} (p : Y → Bool) (g : X → Y) (i : ℕ) (xs : List X) → position_from p i (map g xs) ≡ position_from (λ x. p (g x)) i xs
+map_from p g i [] = refl
+map_from p g i (x ∷ xs) = ap (λ o. cond (p (g x)) (Some i) o) (map_from p g (i + 1) xs)
+
+eqb_turned : (a b : ℕ) → eqb a b ≡ eqb b a
+eqb_turned a b = by_case (eqb a b) refl
+  where
+    by_case : (t : Bool) → eqb a b ≡ t → t ≡ eqb b a
+    by_case true is = sym (eq-eqb b a (sym (eqb-true a b is)))
+    by_case false is = sym (ne_eqb b a (λ same. let yes : eqb a b ≡ true = eq-eqb a b (sym same) in absurd (cc (yes, is))))
+
+-- an id has the place of its record
+pub place_in : (id : ℕ) (keys : List ℕ) (cs : List ClientState) → keys ≡ ids_of cs → position (eqb id) keys ≡ position (has_id id) cs
+place_in id keys cs same =
+    ap (position (eqb id)) same ∙ position_from-zero (eqb id) (ids_of cs) ∙ map_from (eqb id) (λ (c : ClientState). c.id) 0 cs
+    ∙ same_from (λ (c : ClientState). eqb id c.id) (has_id id) (λ c. eqb_turned id c.id) 0 cs ∙ sym (position_from-zero (has_id id) cs)
 
 -- the last of a list, by its place
 last_from : {X : Type 0} (x : X) (xs : List X) → slice_get (x ∷ xs) (length xs) ≡ last_or (Some x) xs

@@ -1,2 +1,5 @@
 mod Bound
 mod FirstLemmas
+mod Known
+mod Kept
+mod Changing

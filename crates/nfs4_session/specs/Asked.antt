@@ -1,12 +1,12 @@
 -- How the code names a case of CREATE_SESSION.
-use Rattle.std.specs.Prelude.{◌≡◌, ℕ, Bool, true, false, ◌==◌, ◌&&◌, not, List, [], length, nat_lt, if◌then◌else◌, Option, Some, None, Result, Ok, Err}
+use Rattle.std.specs.Prelude.{position, ◌≡◌, ℕ, Bool, true, false, ◌==◌, ◌&&◌, not, List, [], length, nat_lt, if◌then◌else◌, Option, Some, None, Result, Ok, Err}
 use Rattle.cluster_model.specs.declared.ids.NodeId.{NodeId}
 use Rattle.nfs4_session.specs.declared.faults.Created.{Created}
 use Rattle.nfs4_session.specs.declared.faults.SessionFault.{SessionFault}
 use Rattle.nfs4_session.specs.declared.faults.SessionFault.TheVariants.{StaleClient, Misordered, Full}
 use Rattle.nfs4_session.specs.declared.client.Made.{Made}
 use Rattle.nfs4_session.specs.Clients.{ClientState, MadeSession, SessionsState, no_clients}
-use Rattle.nfs4_session.specs.CreateSessions.{CreateSessionCase, IsDue, IsReplay, IsMisordered, HasNoRoom, IsStale, CreatesBy, case_by_last}
+use Rattle.nfs4_session.specs.CreateSessions.{CreateSessionCase, IsDue, IsReplay, IsMisordered, HasNoRoom, IsStale, CreatesBy, case_by_last, is_before_restart}
 
 -- the session that is made already, or a fault
 abbrev pub asked_by : CreateSessionCase → Result (Option ℕ) SessionFault
@@ -41,3 +41,8 @@ case_by_made c sequence are_spent None = case_by_room c sequence are_spent
 
 abbrev pub case_in : ClientState → ℕ → Bool → CreateSessionCase
 case_in c sequence are_spent = case_by_made c sequence are_spent c.made
+
+-- the place of the record that a client had before its restart
+abbrev pub place_before_restart : List ClientState → Option ClientState → Option ℕ
+place_before_restart clients None = None
+place_before_restart clients (Some c) = position (is_before_restart c) clients

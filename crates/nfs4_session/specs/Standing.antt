@@ -1,7 +1,7 @@
 -- What holds of the code's table: each id beside its record, and how many owners are known.
 use Rattle.std.specs.Prelude.{◌≡◌, ℕ, ◌≤◌, List, map}
 use Rattle.std.specs.List.{AllByRecursion}
-use Rattle.nfs4_session.specs.Clients.{ClientState, client_id}
+use Rattle.nfs4_session.specs.Clients.{ClientState, SessionsState, client_id}
 use Rattle.nfs4_session.specs.ExchangeIds.{known_owners}
 
 abbrev pub ids_of : List ClientState → List ℕ
@@ -11,3 +11,7 @@ pub record IsStanding (keys : List ℕ) (clients : List ClientState) (boot given
   pub ids : keys ≡ ids_of clients
   pub below : AllByRecursion (λ id. id ≤ client_id boot given) keys
   pub owners : known ≡ known_owners clients
+
+-- so many numbers of sessions are given
+abbrev pub with_numbers : SessionsState → ℕ → SessionsState
+with_numbers s numbers = record { boot = s.boot; clients = s.clients; ids = s.ids; numbers = numbers }

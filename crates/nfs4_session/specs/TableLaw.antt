@@ -13,6 +13,7 @@ use Rattle.nfs4_session.specs.Clients.{ClientState, SessionState, SessionsState,
 use Rattle.nfs4_session.specs.ExchangeIds.{ExchangeCase, exchange_case, exchange_fault, given_client, after_exchange, known_owners}
 use Rattle.nfs4_session.specs.CreateSessions.{CreateSessionCase, IsDue, IsReplay, IsMisordered, HasNoRoom, IsStale, create_session_case, after_creating}
 use Rattle.nfs4_session.specs.Requests.{request_answer, after_request, after_finish}
+use Rattle.nfs4_session.specs.Beginning.{begun_by}
 use Rattle.nfs4_session.specs.Bindings.{after_binding, last_session, client_called_back}
 use Rattle.nfs4_session.specs.Ends.{without_session, without_client, destroy_client_fault, has_ended}
 
@@ -35,11 +36,6 @@ exchanged_unless s after (Some fault) = s
 
 abbrev pub exchanged_by : SessionsState → List ℕ → List ℕ → ℕ → ExchangeCase → SessionsState
 exchanged_by s verifier owner now case = exchanged_unless s (after_exchange s verifier owner now case) (exchange_fault s case)
-
-abbrev pub begun_by : SessionsState → SessionsState → SlotAnswer → SessionsState
-begun_by s after TakesEffect = after
-begun_by s after (Repeats reply) = s
-begun_by s after (Refuses status) = s
 
 abbrev pub called_back_by : SessionsState → ℕ → Option SessionState → SessionsState
 called_back_by s client None = s

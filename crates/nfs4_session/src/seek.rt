@@ -1,6 +1,6 @@
 //! Which record is looked for.
 
-ghost use Rattle.std.specs.Prelude.{◌≡◌, position};
+ghost use Rattle.std.specs.Prelude.{◌≡◌, position, find, option_copied};
 ghost use Rattle.nfs4_session.specs.Seeks.{is_sought};
 
 use crate::client::ClientRecord;
@@ -57,4 +57,14 @@ pub fn first(clients: &[ClientRecord], seek: Seek<'_>) -> Option<usize>
         }
     }
     None
+}
+
+/// The first record that is looked for.
+pub fn sought<'c>(clients: &'c [ClientRecord], seek: Seek<'_>) -> Option<&'c ClientRecord>
+    ensures { option_copied result ≡ find (is_sought seek.entry) clients.now }
+{
+    match first(clients, seek) {
+        Some(place) => Some(&clients[place]),
+        None => None,
+    }
 }

@@ -1,0 +1,12 @@
+-- How the code goes through the cases of EXCHANGE_ID.
+use Rattle.std.specs.Prelude.{◌≡◌, ℕ, Option, Some, None}
+use Rattle.nfs4_session.specs.declared.faults.Exchanged.{Exchanged}
+use Rattle.nfs4_session.specs.ExchangeIds.{ExchangeCase, IsKnown, IsAgain, ReplacesUnconfirmed, Restarts, IsNewOwner, exchanged}
+
+-- the record that is there already
+abbrev pub record_known : ExchangeCase → Option Exchanged
+record_known (IsKnown client) = Some (exchanged client)
+record_known (IsAgain client) = Some (exchanged client)
+record_known ReplacesUnconfirmed = None
+record_known Restarts = None
+record_known IsNewOwner = None
