@@ -1,6 +1,6 @@
 -- The first of a list that passes a test.
 use Rattle.std.proofs.Common.{◌≡◌, ℕ, suc, ◌+◌, ◌<◌, Bool, true, false, cond, List, [], ◌∷◌, ◌++◌, length, take, drop, get_or, set, map, Option, Some, None, refl, sym, ap, ◌∙◌, arith, subst}
-use Rattle.std.specs.Prelude.{◌-◌, slice_get, remove, is_some}
+use Rattle.std.specs.Prelude.{◌-◌, slice_get, remove, is_some, if◌then◌else◌}
 use Rattle.std.specs.List.{find, last_or, list_any, position, position_from}
 use Rattle.std.proofs.lemmas.Iterator.Adapters.{position_from-zero}
 use Rattle.std.proofs.lemmas.Option.{same_Some, slice_get_read}
@@ -15,6 +15,7 @@ pub record FoundAt {X : Type 0} (test : X → Bool) (xs : List X) (place : ℕ) 
   pub at : slice_get xs place ≡ Some item
   pub passes : test item ≡ true
   pub finds : find test xs ≡ Some item
+  pub some : list_any test xs ≡ true
   pub changes : (f : X → X) → change_first test f xs ≡ set xs place (f item)
   pub removes : remove_first test xs ≡ remove xs place
 
@@ -37,6 +38,7 @@ module _ {X : Type 0} (test : X → Bool) where
     at = refl;
     passes = passes;
     finds = rw passes refl;
+    some = rw passes refl;
     changes = λ f. rw passes refl;
     removes = rw passes refl;
   }
@@ -48,6 +50,7 @@ module _ {X : Type 0} (test : X → Bool) where
     at = there.at;
     passes = there.passes;
     finds = rw fails there.finds;
+    some = rw fails there.some;
     changes = λ f. rw fails (ap (λ ys. x ∷ ys) (there.changes f));
     removes = rw fails (ap (λ ys. x ∷ ys) there.removes);
   }
@@ -100,6 +103,13 @@ module _ {X : Type 0} (test : X → Bool) where
   pub reads : (xs : List X) (place : ℕ) (x : X) → position test xs ≡ Some place → x ≡ get_or xs place x → find test xs ≡ Some x
   reads xs place x is read = let there = found xs place is in there.finds ∙ ap Some (sym (read ∙ first_is xs place x there read))
 
+  pub any_is : (xs : List X) → is_some (position test xs) ≡ list_any test xs
+  any_is xs = by_case (position test xs) refl
+    where
+      by_case : (o : Option ℕ) → position test xs ≡ o → is_some o ≡ list_any test xs
+      by_case (Some place) is = sym (found xs place is).some
+      by_case None is = sym (missing xs is).none
+
   -- one is there where it has a place
   pub is_there : (xs : List X) → is_some (position test xs) ≡ is_some (find test xs)
   is_there xs = by_case (position test xs) refl
@@ -107,6 +117,16 @@ module _ {X : Type 0} (test : X → Bool) where
       by_case : (o : Option ℕ) → position test xs ≡ o → is_some o ≡ is_some (find test xs)
       by_case (Some place) is = sym (ap is_some (found xs place is).finds)
       by_case None is = sym (ap is_some (missing xs is).finds)
+
+-- what is changed twice
+pub change_twice : {X : Type 0} (test : X → Bool) (f g : X → X) → ((x : X) → test (g x) ≡ test x) → (xs : List X) → change_first test f (change_first test g xs) ≡ change_first test (λ x. f (g x)) xs
+change_twice test f g same [] = refl
+change_twice test f g same (x ∷ xs) = by_case (test x) refl (change_twice test f g same xs)
+  where
+    by_case : (b : Bool) → test x ≡ b → change_first test f (change_first test g xs) ≡ change_first test (λ x. f (g x)) xs
+        → change_first test f (if b then g x ∷ xs else x ∷ change_first test g xs) ≡ (if b then f (g x) ∷ xs else x ∷ change_first test (λ x. f (g x)) xs)
+    by_case true is rest = ap (λ b. if b then f (g x) ∷ xs else g x ∷ change_first test f xs) (same x ∙ is)
+    by_case false is rest = ap (λ b. if b then f x ∷ change_first test g xs else x ∷ change_first test f (change_first test g xs)) is ∙ ap (λ ys. x ∷ ys) rest
 
 -- a test and another that says the same
 same_from : {X : Type 0} (p q : X → Bool) → ((x : X) → p x ≡ q x) → (i : ℕ) (xs : List X) → position_from p i xs ≡ position_from q i xs

@@ -5,10 +5,11 @@ use Rattle.std.specs.List.{AllByRecursion, list_any}
 use Rattle.std.proofs.lemmas.Bool.{ne_eqb}
 use Rattle.std.proofs.lemmas.Option.{same_Some}
 use Rattle.std.proofs.Math.Dec.{eqb}
-use Rattle.nfs4_session.specs.Clients.{ClientState, client_id}
+use Rattle.std.proofs.lemmas.List.{length-map}
+use Rattle.nfs4_session.specs.Clients.{ClientState, client_id, is_owned_by}
 use Rattle.nfs4_session.specs.ExchangeIds.{known_owners}
 use Rattle.nfs4_session.specs.Standing.{IsStanding, ids_of}
-use Rattle.nfs4_session.proofs.Known.{owners_of, is_owner, counted, distinct, known_is, distinct_remove, distinct_push}
+use Rattle.nfs4_session.proofs.Known.{owners_of, is_owner, counted, distinct, owned_is, known_is, distinct_le, distinct_remove, distinct_push}
 
 pub map_push : {X Y : Type 0} (g : X → Y) (xs : List X) (x : X) → map g (xs ++ x ∷ []) ≡ map g xs ++ g x ∷ []
 map_push g [] x = refl
@@ -59,21 +60,29 @@ kept_set keys cs boot given known place x new at id owner stands = record {
   owners = stands.owners ∙ known_is cs ∙ ap distinct (sym (map_set (λ c. c.owner) cs place x new at owner)) ∙ sym (known_is (set cs place new));
 }
 
-pub kept_removed : (keys : List ℕ) (cs : List ClientState) (boot given known : ℕ) (place : ℕ) (c : ClientState) (left : ℕ)
-    → slice_get cs place ≡ Some c → known ≡ left + counted (is_owner c.owner (owners_of (remove cs place)))
-    → IsStanding keys cs boot given known → IsStanding (remove keys place) (remove cs place) boot given left
-kept_removed keys cs boot given known place c left at one stands = record {
-  ids = ap (λ ks. remove ks place) stands.ids ∙ sym (map_remove (λ c. c.id) cs place);
-  below = all_remove (λ id. id ≤ client_id boot given) keys place stands.below;
-  owners =
+-- how many owners are known when a record is taken out
+pub left_is : (keys : List ℕ) (cs : List ClientState) (boot given known : ℕ) (place : ℕ) (c : ClientState)
+    → slice_get cs place ≡ Some c → IsStanding keys cs boot given known → known ≡ known_owners (remove cs place) + counted (list_any (is_owned_by c.owner) (remove cs place))
+left_is keys cs boot given known place c at stands =
     let before : distinct (owners_of cs) ≡ distinct (remove (owners_of cs) place) + counted (is_owner c.owner (remove (owners_of cs) place)) =
     distinct_remove (owners_of cs) place c.owner (map_at (λ c. c.owner) cs place c at) in
     let moved : owners_of (remove cs place) ≡ remove (owners_of cs) place = map_remove (λ c. c.owner) cs place in
     let known_before : known ≡ distinct (owners_of cs) = stands.owners ∙ known_is cs in
     let after : known_owners (remove cs place) ≡ distinct (remove (owners_of cs) place) = known_is (remove cs place) ∙ ap distinct moved in
-    let same : counted (is_owner c.owner (owners_of (remove cs place))) ≡ counted (is_owner c.owner (remove (owners_of cs) place)) = ap (λ os. counted (is_owner c.owner os)) moved in
-    omega (arith, before, known_before, after, same, one);
+    let same : counted (list_any (is_owned_by c.owner) (remove cs place)) ≡ counted (is_owner c.owner (remove (owners_of cs) place)) =
+    ap counted (owned_is c.owner (remove cs place) ∙ ap (is_owner c.owner) moved) in
+    omega (arith, before, known_before, after, same)
+
+pub kept_removed : (keys : List ℕ) (cs : List ClientState) (boot given known : ℕ) (place : ℕ)
+    → IsStanding keys cs boot given known → IsStanding (remove keys place) (remove cs place) boot given (known_owners (remove cs place))
+kept_removed keys cs boot given known place stands = record {
+  ids = ap (λ ks. remove ks place) stands.ids ∙ sym (map_remove (λ c. c.id) cs place);
+  below = all_remove (λ id. id ≤ client_id boot given) keys place stands.below;
+  owners = refl;
 }
+
+pub known_le : (cs : List ClientState) → known_owners cs ≤ length cs
+known_le cs = let low = distinct_le (owners_of cs) in omega (arith, low, known_is cs, length-map cs (λ (c : ClientState). c.owner))
 
 pub kept_added : (keys : List ℕ) (cs : List ClientState) (boot given known : ℕ) (c : ClientState) (more : ℕ)
     → c.id ≡ client_id boot (given + 1) → more ≡ known + counted (is_owner c.owner (owners_of cs))
@@ -88,3 +97,9 @@ kept_added keys cs boot given known c more id one stands = record {
     known_is (cs ++ c ∷ []) ∙ ap distinct (map_push (λ c. c.owner) cs c) ∙ distinct_push (owners_of cs) c.owner in
     omega (arith, known_before, after, one);
 }
+
+-- the same table
+pub stands_as : (keys keys' : List ℕ) (cs cs' : List ClientState) (boot given known known' : ℕ) → keys ≡ keys' → cs ≡ cs' → known ≡ known'
+    → IsStanding keys' cs' boot given known' → IsStanding keys cs boot given known
+stands_as keys keys' cs cs' boot given known known' ks same n stands =
+    subst (λ m. IsStanding keys cs boot given m) (sym n) (subst (λ l. IsStanding keys l boot given known') (sym same) (subst (λ k. IsStanding k cs' boot given known') (sym ks) stands))

@@ -3,3 +3,6 @@ mod FirstLemmas
 mod Known
 mod Kept
 mod Changing
+mod Creates
+mod TakesIn
+mod Turning

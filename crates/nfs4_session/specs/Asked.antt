@@ -1,5 +1,6 @@
 -- How the code names a case of CREATE_SESSION.
-use Rattle.std.specs.Prelude.{position, ◌≡◌, ℕ, Bool, true, false, ◌==◌, ◌&&◌, not, List, [], length, nat_lt, if◌then◌else◌, Option, Some, None, Result, Ok, Err}
+use Rattle.std.specs.Prelude.{position, remove, slice_get, ◌≡◌, ℕ, Bool, true, false, ◌==◌, ◌&&◌, not, List, [], length, nat_lt, if◌then◌else◌, Option, Some, None, Result, Ok, Err}
+use Rattle.std.specs.Option.{option_map}
 use Rattle.cluster_model.specs.declared.ids.NodeId.{NodeId}
 use Rattle.nfs4_session.specs.declared.faults.Created.{Created}
 use Rattle.nfs4_session.specs.declared.faults.SessionFault.{SessionFault}
@@ -46,3 +47,13 @@ case_in c sequence are_spent = case_by_made c sequence are_spent c.made
 abbrev pub place_before_restart : List ClientState → Option ClientState → Option ℕ
 place_before_restart clients None = None
 place_before_restart clients (Some c) = position (is_before_restart c) clients
+
+-- the id of the record at a place
+abbrev pub id_at : List ClientState → Option ℕ → Option ℕ
+id_at clients None = None
+id_at clients (Some place) = option_map (λ (c : ClientState). c.id) (slice_get clients place)
+
+-- the records, but for the one at a place
+abbrev pub without_place : List ClientState → Option ℕ → List ClientState
+without_place clients None = clients
+without_place clients (Some place) = remove clients place

@@ -1,6 +1,6 @@
 //! One client's record.
 
-ghost use Rattle.std.specs.Prelude.{◌≡◌, ◌&&◌, IfOk, OnOk, OnErr, None, find, bytes_eq, is_some, option_copied};
+ghost use Rattle.std.specs.Prelude.{◌≡◌, ◌&&◌, IfOk, IfNone, OnOk, OnErr, None, false, find, bytes_eq, is_some, option_copied};
 ghost use Rattle.std.specs.List.{last_or};
 ghost use Rattle.nfs4_session.specs.Clients.{is_owned_by, has_number};
 ghost use Rattle.nfs4_session.specs.ExchangeIds.{exchanged};
@@ -137,7 +137,8 @@ impl ClientRecord {
     /// What a CREATE_SESSION of this number comes to: the session that it made already, or none where
     /// one is due.
     pub fn asked(&self, sequence: u32, are_spent: bool) -> Result<Option<u64>, SessionFault>
-        ensures { result ≡ asked_by (case_in self.now sequence are_spent) }
+        ensures exact { result ≡ asked_by (case_in self.now sequence are_spent) }
+        ensures spare { IfOk result (λ made. IfNone made (are_spent ≡ false)) }
     {
         if let Some(made) = self.made
             && made.sequence == sequence

@@ -1,9 +1,9 @@
 //! CREATE_SESSION.
 
-ghost use Rattle.std.specs.Prelude.{◌≡◌, ◌+◌, ◌<◌, ◌^◌, find, IsSome};
-ghost use Rattle.nfs4_session.specs.Clients.{has_id};
+ghost use Rattle.std.specs.Prelude.{◌≡◌, ◌+◌, ◌<◌, ◌^◌, find, length, IsSome, IfSome, IfOk, IfNone};
+ghost use Rattle.nfs4_session.specs.Clients.{has_id, with_clients};
 ghost use Rattle.nfs4_session.specs.CreateSessions.{CreatesSession, create_session_case};
-ghost use Rattle.nfs4_session.specs.Asked.{asked_by, place_before_restart, CreatesDue};
+ghost use Rattle.nfs4_session.specs.Asked.{asked_by, place_before_restart, id_at, without_place, CreatesDue};
 
 use crate::ids::session_id;
 use crate::seek::{Seek, first};
@@ -47,7 +47,8 @@ impl Sessions {
 
     /// The session that a CREATE_SESSION of this number made already, or none where one is due.
     fn asked(&self, client: u64, sequence: u32) -> Result<Option<u64>, SessionFault>
-        ensures { result ≡ asked_by (create_session_case self.now client sequence) }
+        ensures exact { result ≡ asked_by (create_session_case self.now client sequence) }
+        ensures spare { IfOk result (λ made. IfNone made (self.now.numbers + 1 < 2 ^ 64)) }
     {
         match self.record(client) {
             Some(record) => record.asked(sequence, self.are_numbers_spent()),
@@ -57,7 +58,8 @@ impl Sessions {
 
     /// The place of the record that a client had before its restart, from 0.
     fn before_restart(&self, client: u64) -> Option<usize>
-        ensures { result ≡ place_before_restart self.now.clients (find (has_id client) self.now.clients) }
+        ensures exact { result ≡ place_before_restart self.now.clients (find (has_id client) self.now.clients) }
+        ensures within { IfSome result (λ place. place < length self.now.clients) }
     {
         let record = self.record(client)?;
         let seek = Seek::BeforeRestart {
@@ -65,6 +67,27 @@ impl Sessions {
             owner: record.owner(),
         };
         first(self.clients(), seek)
+    }
+
+    /// The id of the record at a place, if one is named.
+    fn id_at(&self, place: Option<usize>) -> Option<u64>
+        requires { IfSome place (λ at. at < length self.now.clients) }
+        ensures { result ≡ id_at self.now.clients place }
+    {
+        match place {
+            Some(place) => Some(self.clients()[place].id()),
+            None => None,
+        }
+    }
+
+    /// Takes out the record at a place, if one is named.
+    fn remove_at(&mut self, place: Option<usize>)
+        requires { IfSome place (λ at. at < length self.old.clients) }
+        ensures { self.new ≡ with_clients self.old (without_place self.old.clients place) }
+    {
+        if let Some(place) = place {
+            self.remove(place);
+        }
     }
 
     /// Makes the session that is due. The client before its restart goes, with its sessions.
@@ -84,14 +107,12 @@ impl Sessions {
             return Err(SessionFault::NoMemory);
         };
         let place = self.before_restart(client);
-        let gone = place.map(|place| self.clients()[place].id());
+        let gone = self.id_at(place);
         if self.add_session(client, session, now).is_err() {
             return Err(SessionFault::NoMemory);
         }
         self.count_session();
-        if let Some(place) = place {
-            self.remove(place);
-        }
+        self.remove_at(place);
         Ok(Created {
             session: session_id(client, number),
             gone,

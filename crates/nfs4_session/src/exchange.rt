@@ -1,11 +1,12 @@
 //! EXCHANGE_ID.
 
 ghost use Rattle.std.specs.Prelude.{◌≡◌, ◌+◌, ◌<◌, ◌^◌, OnOk, OnErr, IfOk, is_some};
+ghost use Rattle.std.specs.Bool.{OnFalse};
 ghost use Rattle.nfs4_session.specs.ExchangeIds.{Exchanges, exchange_case, exchange_fault, case_of_others, after_exchange, new_client, exchanged};
-ghost use Rattle.nfs4_session.specs.Exchanging.{record_known};
+ghost use Rattle.nfs4_session.specs.Exchanging.{record_known, is_new_owner};
 
 use crate::change::Change;
-use crate::seek::{Seek, first, sought};
+use crate::seek::{Seek, any, first, sought};
 use crate::sessions::Sessions;
 use crate::{Exchanged, IdFault};
 use ff_xdr::NoMemory;
@@ -59,15 +60,26 @@ impl Sessions {
 
     /// A new record is refused to this owner.
     fn refuses_owner(&self, owner: &[u8]) -> bool
-        ensures { result ≡ is_some (exchange_fault self.now (case_of_others self.now.clients owner.now)) }
+        ensures exact { result ≡ is_some (exchange_fault self.now (case_of_others self.now.clients owner.now)) }
+        ensures spare { OnFalse result (self.now.ids + 1 < 2 ^ 32) }
     {
-        let clients = self.clients();
-        let is_new = first(clients, Seek::Unconfirmed(owner)).is_none()
-            && first(clients, Seek::Confirmed(owner)).is_none();
-        if is_new && self.known_owners() >= MAX_OWNERS {
+        if self.are_ids_spent() {
             return true;
         }
-        self.are_ids_spent()
+        if !self.is_new(owner) {
+            return false;
+        }
+        self.known_owners() >= MAX_OWNERS
+    }
+
+    /// This owner is not known.
+    fn is_new(&self, owner: &[u8]) -> bool
+        ensures { result ≡ is_new_owner (case_of_others self.now.clients owner.now) }
+    {
+        if any(self.clients(), Seek::Unconfirmed(owner)) {
+            return false;
+        }
+        !any(self.clients(), Seek::Confirmed(owner))
     }
 
     /// Puts a new record of this owner behind the others; an unconfirmed one is thrown away. At an error nothing has

@@ -35,7 +35,7 @@ impl Sessions {
         ensures after { self.new ≡ begun_by self.old (after_request self.old request.now now) (request_answer self.old request.now) }
     {
         let turn = self.turn(request);
-        if turn == Turn::TakesEffect {
+        if let Turn::TakesEffect = turn {
             self.change(
                 client_in(request.session),
                 Change::Begin {

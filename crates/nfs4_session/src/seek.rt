@@ -1,6 +1,7 @@
 //! Which record is looked for.
 
-ghost use Rattle.std.specs.Prelude.{◌≡◌, position, find, option_copied};
+ghost use Rattle.std.specs.Prelude.{◌≡◌, ◌<◌, length, IfSome, position, find, option_copied};
+ghost use Rattle.std.specs.List.{list_any};
 ghost use Rattle.nfs4_session.specs.Seeks.{is_sought};
 
 use crate::client::ClientRecord;
@@ -49,7 +50,8 @@ impl ClientRecord {
 
 /// The place of the first record that is looked for, from 0.
 pub fn first(clients: &[ClientRecord], seek: Seek<'_>) -> Option<usize>
-    ensures { result ≡ position (is_sought seek.entry) clients.now }
+    ensures exact { result ≡ position (is_sought seek.entry) clients.now }
+    ensures within { IfSome result (λ place. place < length clients.now) }
 {
     for (place, client) in clients.iter().enumerate() {
         if client.is_sought(seek) {
@@ -67,4 +69,11 @@ pub fn sought<'c>(clients: &'c [ClientRecord], seek: Seek<'_>) -> Option<&'c Cli
         Some(place) => Some(&clients[place]),
         None => None,
     }
+}
+
+/// One that is looked for is there.
+pub fn any(clients: &[ClientRecord], seek: Seek<'_>) -> bool
+    ensures { result ≡ list_any (is_sought seek.entry) clients.now }
+{
+    first(clients, seek).is_some()
 }

@@ -1,6 +1,7 @@
 //! The clients that a server knows, and their sessions.
 
 ghost use Rattle.std.specs.Prelude.{◌≡◌, ◌+◌, ◌<◌, ◌^◌, length, remove, find, position, option_copied, IfOk, OnOk, OnErr};
+ghost use Rattle.std.specs.Bool.{OnFalse};
 ghost use Rattle.nfs4_session.specs.Clients.{no_clients, with_clients, has_id, change_first, client_id};
 ghost use Rattle.nfs4_session.specs.ExchangeIds.{known_owners, ids_are_spent, new_client, with_new_client};
 ghost use Rattle.nfs4_session.specs.CreateSessions.{numbers_are_spent, with_new_session};
@@ -10,7 +11,7 @@ ghost use Rattle.nfs4_session.specs.Standing.{with_numbers};
 
 use crate::change::Change;
 use crate::client::ClientRecord;
-use crate::seek::{Seek, first};
+use crate::seek::{Seek, any};
 use crate::session::Session;
 use ff_xdr::NoMemory;
 use indexmap::IndexSet;
@@ -99,14 +100,16 @@ impl Sessions {
 
     /// All numbers of clients are given.
     pub(crate) fn are_ids_spent(&self) -> bool
-        ensures { result ≡ ids_are_spent self.now }
+        ensures exact { result ≡ ids_are_spent self.now }
+        ensures spare { OnFalse result (self.now.ids + 1 < 2 ^ 32) }
     {
         self.ids == u32::MAX
     }
 
     /// All numbers of sessions are given.
     pub(crate) fn are_numbers_spent(&self) -> bool
-        ensures { result ≡ numbers_are_spent self.now }
+        ensures exact { result ≡ numbers_are_spent self.now }
+        ensures spare { OnFalse result (self.now.numbers + 1 < 2 ^ 64) }
     {
         self.numbers == u64::MAX
     }
@@ -173,12 +176,11 @@ impl Sessions {
     {
         let id = next_id(self.boot, self.ids);
         let record = ClientRecord::new(self.alloc, id, owner, verifier, now)?;
-        let is_known = first(&self.clients, Seek::OwnedBy(owner)).is_some();
+        let is_known = any(&self.clients, Seek::OwnedBy(owner));
+        self.clients.reserve(1)?;
+        self.places.insert(id)?;
+        // there is room for it, so it does not fail
         self.clients.push(record)?;
-        if self.places.insert(id).is_err() {
-            self.clients.pop();
-            return Err(NoMemory);
-        }
         self.ids += 1;
         if !is_known {
             self.owners += 1;
@@ -193,7 +195,7 @@ impl Sessions {
     {
         let record = self.clients.remove(place);
         self.places.shift_remove_index(place);
-        if first(&self.clients, Seek::OwnedBy(record.owner())).is_none() {
+        if !any(&self.clients, Seek::OwnedBy(record.owner())) {
             self.owners -= 1;
         }
     }
