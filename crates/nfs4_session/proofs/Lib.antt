@@ -4,5 +4,7 @@ mod Known
 mod Kept
 mod Changing
 mod Creates
+mod Numbered
+mod SlotRuns
 mod TakesIn
 mod Turning
