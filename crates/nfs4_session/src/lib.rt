@@ -20,6 +20,8 @@ mod sequence;
 mod session;
 mod sessions;
 mod slot;
+#[cfg(test)]
+mod tests;
 
 pub use back::BackCall;
 pub use begin::{Begin, SlotPass};
