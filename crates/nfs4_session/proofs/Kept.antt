@@ -15,13 +15,13 @@ pub map_push : {X Y : Type 0} (g : X → Y) (xs : List X) (x : X) → map g (xs 
 map_push g [] x = refl
 map_push g (y ∷ xs) x = ap (λ ys. g y ∷ ys) (map_push g xs x)
 
-map_remove : {X Y : Type 0} (g : X → Y) (xs : List X) (i : ℕ) → map g (remove xs i) ≡ remove (map g xs) i
+pub map_remove : {X Y : Type 0} (g : X → Y) (xs : List X) (i : ℕ) → map g (remove xs i) ≡ remove (map g xs) i
 map_remove g [] zero = refl
 map_remove g [] (suc i) = refl
 map_remove g (x ∷ xs) zero = refl
 map_remove g (x ∷ xs) (suc i) = ap (λ ys. g x ∷ ys) (map_remove g xs i)
 
-map_at : {X Y : Type 0} (g : X → Y) (xs : List X) (i : ℕ) (x : X) → slice_get xs i ≡ Some x → slice_get (map g xs) i ≡ Some (g x)
+pub map_at : {X Y : Type 0} (g : X → Y) (xs : List X) (i : ℕ) (x : X) → slice_get xs i ≡ Some x → slice_get (map g xs) i ≡ Some (g x)
 map_at g [] i x at = absurd (cc (at))
 map_at g (y ∷ xs) zero x at = ap (λ z. Some (g z)) (same_Some y x at)
 map_at g (y ∷ xs) (suc i) x at = map_at g xs i x at

@@ -1,10 +1,13 @@
 mod Bound
-mod FirstLemmas
-mod Known
-mod Kept
 mod Changing
 mod Creates
+mod FirstLemmas
+mod Kept
+mod Known
 mod Numbered
+mod Pairs
 mod SlotRuns
+mod Sound
+mod TableRuns
 mod TakesIn
 mod Turning
