@@ -108,9 +108,9 @@ module _ (s : SessionsState) (client program : ℕ) (node : NodeId) (now : ℕ) 
       → new ≡ with_clients (with_numbers (with_clients s (change_first (has_id client) f s.clients)) (s.numbers + 1)) (without_place (change_first (has_id client) f s.clients) place)
       → (created_answer s client (IsDue c) ≡ Some (record { session = session_id client (s.numbers + 1); gone = before; replayed = false })) × (new ≡ after_creating s program node now (IsDue c))
   made place before session new at gone_is does = (
-      sym (ap (λ (o : Option ℕ). Some (record { session = session_id client (s.numbers + 1); gone = o; replayed = false })) (gone_is ∙ placed_id t s.clients place (sym at))),
-      does ∙ ap (λ cs. record { boot = s.boot; clients = cs; ids = s.ids; numbers = s.numbers + 1 }) (cleared place at),
-    )
+    sym (ap (λ (o : Option ℕ). Some (record { session = session_id client (s.numbers + 1); gone = o; replayed = false })) (gone_is ∙ placed_id t s.clients place (sym at))),
+    does ∙ ap (λ cs. record { boot = s.boot; clients = cs; ids = s.ids; numbers = s.numbers + 1 }) (cleared place at),
+  )
 
 pub creates_due : (s new : SessionsState) (client program : ℕ) (node : NodeId) (now : ℕ) (place gone : Option ℕ) → IsSome (find (has_id client) s.clients)
     → place ≡ place_before_restart s.clients (find (has_id client) s.clients) → gone ≡ id_at s.clients place

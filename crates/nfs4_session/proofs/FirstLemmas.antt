@@ -7,7 +7,7 @@ use Rattle.std.proofs.lemmas.Option.{same_Some, slice_get_read}
 use Rattle.std.proofs.lemmas.Bool.{eq-eqb, ne_eqb, eqb-true}
 use Rattle.std.proofs.Math.Dec.{eqb}
 use Rattle.nfs4_session.specs.Clients.{ClientState, has_id, change_first, remove_first}
-use Rattle.nfs4_session.specs.Standing.{ids_of}
+use Rattle.nfs4_session.specs.Standing.{client_ids}
 
 pub record FoundAt {X : Type 0} (test : X → Bool) (xs : List X) (place : ℕ) : Type 0 where
   pub item : X
@@ -145,9 +145,9 @@ eqb_turned a b = by_case (eqb a b) refl
     by_case false is = sym (ne_eqb b a (λ same. let yes : eqb a b ≡ true = eq-eqb a b (sym same) in absurd (cc (yes, is))))
 
 -- an id has the place of its record
-pub place_in : (id : ℕ) (keys : List ℕ) (cs : List ClientState) → keys ≡ ids_of cs → position (eqb id) keys ≡ position (has_id id) cs
+pub place_in : (id : ℕ) (keys : List ℕ) (cs : List ClientState) → keys ≡ client_ids cs → position (eqb id) keys ≡ position (has_id id) cs
 place_in id keys cs same =
-    ap (position (eqb id)) same ∙ position_from-zero (eqb id) (ids_of cs) ∙ map_from (eqb id) (λ (c : ClientState). c.id) 0 cs
+    ap (position (eqb id)) same ∙ position_from-zero (eqb id) (client_ids cs) ∙ map_from (eqb id) (λ (c : ClientState). c.id) 0 cs
     ∙ same_from (λ (c : ClientState). eqb id c.id) (has_id id) (λ c. eqb_turned id c.id) 0 cs ∙ sym (position_from-zero (has_id id) cs)
 
 -- the last of a list, by its place

@@ -8,7 +8,7 @@ use Rattle.std.proofs.Math.Dec.{eqb}
 use Rattle.std.proofs.lemmas.List.{length-map}
 use Rattle.nfs4_session.specs.Clients.{ClientState, client_id, is_owned_by}
 use Rattle.nfs4_session.specs.ExchangeIds.{known_owners}
-use Rattle.nfs4_session.specs.Standing.{IsStanding, ids_of}
+use Rattle.nfs4_session.specs.Standing.{IsStanding, client_ids}
 use Rattle.nfs4_session.proofs.Known.{owners_of, is_owner, counted, distinct, owned_is, known_is, distinct_le, distinct_remove, distinct_push}
 
 pub map_push : {X Y : Type 0} (g : X → Y) (xs : List X) (x : X) → map g (xs ++ x ∷ []) ≡ map g xs ++ g x ∷ []
@@ -92,10 +92,10 @@ kept_added keys cs boot given known c more id one stands = record {
   below = all_push (λ id. id ≤ client_id boot (given + 1)) keys c.id
       (all_weaker (λ id. id ≤ client_id boot given) (λ id. id ≤ client_id boot (given + 1)) (λ k low. omega (arith, low)) keys stands.below) (omega (arith, id));
   owners =
-    let known_before : known ≡ distinct (owners_of cs) = stands.owners ∙ known_is cs in
-    let after : known_owners (cs ++ c ∷ []) ≡ distinct (owners_of cs) + counted (is_owner c.owner (owners_of cs)) =
-    known_is (cs ++ c ∷ []) ∙ ap distinct (map_push (λ c. c.owner) cs c) ∙ distinct_push (owners_of cs) c.owner in
-    omega (arith, known_before, after, one);
+      let known_before : known ≡ distinct (owners_of cs) = stands.owners ∙ known_is cs in
+      let after : known_owners (cs ++ c ∷ []) ≡ distinct (owners_of cs) + counted (is_owner c.owner (owners_of cs)) =
+      known_is (cs ++ c ∷ []) ∙ ap distinct (map_push (λ c. c.owner) cs c) ∙ distinct_push (owners_of cs) c.owner in
+      omega (arith, known_before, after, one);
 }
 
 -- the same table

@@ -78,6 +78,7 @@ distinct_remove (x ∷ xs) (suc i) o at = by_case (bytes_eq x o) refl (distinct_
   where
     rest : List (List ℕ)
     rest = remove xs i
+
     by_case : (b : Bool) → bytes_eq x o ≡ b → distinct xs ≡ distinct (remove xs i) + counted (is_owner o (remove xs i))
         → counted (is_owner x xs) + distinct xs ≡ (counted (is_owner x (remove xs i)) + distinct (remove xs i)) + counted (b || is_owner o (remove xs i))
     by_case true is before =

@@ -16,6 +16,7 @@ sequence_mod n = by_case (n % 4294967296 == 4294967295) refl
   where
     below : n % 4294967296 < 4294967296
     below = mod-lt n (omega arith)
+
     by_case : (b : Bool) → (n % 4294967296 == 4294967295) ≡ b → (if b then 0 else n % 4294967296 + 1) ≡ (n + 1) % 4294967296
     by_case true is =
         let last : n % 4294967296 ≡ 4294967295 = eqb-true (n % 4294967296) 4294967295 is in

@@ -18,7 +18,7 @@ use Rattle.nfs4_session.specs.CreateSessions.{CreateSessionCase, IsDue, IsReplay
 use Rattle.nfs4_session.specs.Requests.{change_slot, request_answer, after_request, after_finish}
 use Rattle.nfs4_session.specs.Bindings.{called_back, client_bound, client_called_back, last_session, after_binding}
 use Rattle.nfs4_session.specs.Ends.{without_session, without_client, destroy_client_fault, has_ended}
-use Rattle.nfs4_session.specs.Beginning.{begun_by}
+use Rattle.nfs4_session.specs.Beginning.{table_begun}
 use Rattle.nfs4_session.specs.TableLaw.{TableMove, ExchangeId, CreateSession, BeginRequest, FinishRequest, Bind, CallBack, DestroySession, DestroyClient, Expire, exchanged_unless, exchanged_by, called_back_by, destroyed_unless, expired_by, table_after, new_id_in, new_number_in, TableRun, table_moved, table_run, IsTable, GivesOnce, KeepsTable}
 use Rattle.nfs4_session.proofs.Numbered.{NumberedBy, numbered_push}
 use Rattle.nfs4_session.proofs.Known.{counted}
@@ -63,7 +63,7 @@ module _ (boot : ℕ) (run : TableRun) (good : IsGood boot run) where
       changed (has_id (client_in session)) (change_first (has_number (number_in session)) (change_slot slot f))
       (λ sessions fine. fine_changed s.numbers (has_number (number_in session)) (change_slot slot f) (λ x. refl) (λ x. slots_stay slot f x) sessions fine) s.clients good.sound
 
-  begun : (request : Sequence) (now : ℕ) (a : SlotAnswer) → IsGood boot (record { table = begun_by s (after_request s request now) a; ids = run.ids ++ []; numbers = run.numbers ++ [] })
+  begun : (request : Sequence) (now : ℕ) (a : SlotAnswer) → IsGood boot (record { table = table_begun s (after_request s request now) a; ids = run.ids ++ []; numbers = run.numbers ++ [] })
   begun request now TakesEffect = kept _ (renewed (has_id (client_in request.session)) now _ (slot_changed request.session request.slot (λ x. slot_begun request.sequence)))
   begun request now (Repeats reply) = stays
   begun request now (Refuses status) = stays
@@ -241,6 +241,7 @@ module _ (boot : ℕ) (run : TableRun) (good : IsGood boot run) where
             both true true is = absurd (cc (is))
             both true false is = (refl, refl)
             both false q is = absurd (cc (is))
+
             by_case : (p : Bool) → is_owned_by o b ≡ p → (q : Bool) → b.confirmed ≡ q → (p && not q) ≡ false
             by_case true owned_b true confirmed_b = refl
             by_case true owned_b false confirmed_b =
@@ -263,6 +264,7 @@ module _ (boot : ℕ) (run : TableRun) (good : IsGood boot run) where
       where
         known : known_owners s.clients ≤ 256
         known = good.sound.known
+
         one : counted (list_any (is_owned_by o) s.clients) ≡ 0
         one = ap counted (owned s.clients fits.1)
     exchanged IsNewOwner fits = by_case (nat_lt (known_owners s.clients) 256) refl
@@ -270,6 +272,7 @@ module _ (boot : ℕ) (run : TableRun) (good : IsGood boot run) where
         more : (b : Bool) → counted b ≤ 1
         more true = omega arith
         more false = omega arith
+
         by_case : (b : Bool) → nat_lt (known_owners s.clients) 256 ≡ b → IsGood boot (after (exchanged_unless s (with_new_client s s.clients new) (if b then new_id_fault s else Some Full)) new.id)
         by_case true is =
             let less = ltb-true (known_owners s.clients) 256 is in

@@ -9,18 +9,18 @@ use Rattle.nfs4_session.specs.declared.slot.Turn.TheVariants as turn
 use Rattle.nfs4_session.specs.declared.change.Change.TheVariants as change
 use Rattle.nfs4_session.specs.Slots.{SlotReply, NoRequest, InProgress, Kept, Uncached, SlotState, SlotAnswer, TakesEffect, Repeats, Refuses, slot_begun, slot_answer, answer_again, is_in_progress, sequence_after}
 use Rattle.nfs4_session.specs.Clients.{ClientState, SessionState, SessionsState, has_id, client_in, number_in, change_first, with_clients, renewed_at, with_sessions, has_number, session_of}
-use Rattle.nfs4_session.specs.Requests.{after_request, change_slot, answer_by_slot, answer_by_session, request_answer, IsReplayOf, Begins, BeginsBy}
+use Rattle.nfs4_session.specs.Requests.{after_request, change_slot, answer_by_slot, answer_by_session, request_answer, IsReplayOf, BeginsRequest, BeginsBy}
 use Rattle.nfs4_session.specs.Changes.{changed, sessions_begun}
-use Rattle.nfs4_session.specs.Beginning.{begun_by, AnswersTurn}
+use Rattle.nfs4_session.specs.Beginning.{table_begun, AnswersTurn}
 use Rattle.nfs4_session.specs.Turns.{turn_of, kept_bytes, kept_at_slot, kept_in_session}
 use Rattle.nfs4_session.proofs.FirstLemmas.{change_twice}
 
-pub takes_turn : (s after : SessionsState) (a : SlotAnswer) → turn_of a ≡ turn.TakesEffect → after ≡ begun_by s after a
+pub takes_turn : (s after : SessionsState) (a : SlotAnswer) → turn_of a ≡ turn.TakesEffect → after ≡ table_begun s after a
 takes_turn s after TakesEffect is = refl
 takes_turn s after (Repeats reply) is = absurd (cc (is))
 takes_turn s after (Refuses status) is = absurd (cc (is))
 
-pub no_turn : (s after : SessionsState) (a : SlotAnswer) (t : Turn) → t ≡ turn_of a → (t ≡ turn.TakesEffect → ⊥) → s ≡ begun_by s after a
+pub no_turn : (s after : SessionsState) (a : SlotAnswer) (t : Turn) → t ≡ turn_of a → (t ≡ turn.TakesEffect → ⊥) → s ≡ table_begun s after a
 no_turn s after TakesEffect t is none = absurd (none is)
 no_turn s after (Repeats reply) t is none = refl
 no_turn s after (Refuses status) t is none = refl
@@ -54,10 +54,10 @@ kept_is r None bytes is = absurd (cc (is))
 kept_is r (Some session) bytes is = kept_on r.sequence (slice_get session.slots r.slot) bytes is
 
 pub begins : (s s' : SessionsState) (r : Sequence) (now : ℕ) (t : Turn) (result : Begin)
-    → t ≡ turn_of (request_answer s r) → s' ≡ begun_by s (after_request s r now) (request_answer s r) → AnswersTurn s' r t result → Begins s r now result s'
+    → t ≡ turn_of (request_answer s r) → s' ≡ table_begun s (after_request s r now) (request_answer s r) → AnswersTurn s' r t result → BeginsRequest s r now result s'
 begins s s' r now t result turned after answered = by_case (request_answer s r) refl turned after
   where
-    by_case : (a : SlotAnswer) → request_answer s r ≡ a → t ≡ turn_of a → s' ≡ begun_by s (after_request s r now) a → BeginsBy s r now result s' a
+    by_case : (a : SlotAnswer) → request_answer s r ≡ a → t ≡ turn_of a → s' ≡ table_begun s (after_request s r now) a → BeginsBy s r now result s' a
     by_case TakesEffect is turned after = (subst (λ (u : Turn). AnswersTurn s' r u result) turned answered, after)
     by_case (Repeats reply) is turned after =
         let kept : kept_in_session r.slot (session_of s'.clients r.session) ≡ reply =

@@ -17,9 +17,9 @@ asked_by IsMisordered = Err Misordered
 asked_by HasNoRoom = Err Full
 asked_by IsStale = Err StaleClient
 
-abbrev pub made_by : Option Made → Option MadeSession
-made_by None = None
-made_by (Some made) = Some (record { sequence = made.sequence; number = made.number })
+abbrev pub last_made : Option Made → Option MadeSession
+last_made None = None
+last_made (Some made) = Some (record { sequence = made.sequence; number = made.number })
 
 -- a session of this client is due
 abbrev pub CreatesDue : SessionsState → Option ClientState → ℕ → ℕ → NodeId → ℕ → Result Created SessionFault → SessionsState → Type 0
@@ -27,8 +27,8 @@ CreatesDue old None client program node now result new = ⊥
 CreatesDue old (Some c) client program node now result new = CreatesBy old client program node now (IsDue c) result new
 
 -- a new client's record
-abbrev pub record_of : ℕ → List ℕ → List ℕ → ℕ → ClientState
-record_of id owner verifier now = record { id = id; owner = owner; verifier = verifier; sequence = 1; made = None; confirmed = false; renewed = now; sessions = [] }
+abbrev pub fresh_record : ℕ → List ℕ → List ℕ → ℕ → ClientState
+fresh_record id owner verifier now = record { id = id; owner = owner; verifier = verifier; sequence = 1; made = None; confirmed = false; renewed = now; sessions = [] }
 
 -- the case of a record, where it is known whether the numbers of sessions are spent
 abbrev pub case_by_room : ClientState → ℕ → Bool → CreateSessionCase

@@ -11,10 +11,10 @@ use Rattle.nfs4_session.specs.Requests.{IsReplayOf, pass_of}
 use Rattle.nfs4_session.specs.Turns.{kept_in_session}
 
 -- the table behind a request, where this is what comes of it when it takes effect
-abbrev pub begun_by : SessionsState → SessionsState → SlotAnswer → SessionsState
-begun_by s after TakesEffect = after
-begun_by s after (Repeats reply) = s
-begun_by s after (Refuses status) = s
+abbrev pub table_begun : SessionsState → SessionsState → SlotAnswer → SessionsState
+table_begun s after TakesEffect = after
+table_begun s after (Repeats reply) = s
+table_begun s after (Refuses status) = s
 
 abbrev pub AnswersTurn : SessionsState → Sequence → Turn → Begin → Type 0
 AnswersTurn s request turn.TakesEffect result = result ≡ New (client_in request.session) (pass_of request)

@@ -51,8 +51,8 @@ BeginsBy old request now result new TakesEffect = (result ≡ New (client_in req
 BeginsBy old request now result new (Repeats reply) = IsReplayOf reply result × (new ≡ old)
 BeginsBy old request now result new (Refuses status) = (result ≡ Refused status) × (new ≡ old)
 
-abbrev pub Begins : SessionsState → Sequence → ℕ → Begin → SessionsState → Type 0
-Begins old request now result new = BeginsBy old request now result new (request_answer old request)
+abbrev pub BeginsRequest : SessionsState → Sequence → ℕ → Begin → SessionsState → Type 0
+BeginsRequest old request now result new = BeginsBy old request now result new (request_answer old request)
 
 -- ---- the request is done
 

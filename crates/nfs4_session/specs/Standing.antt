@@ -4,11 +4,11 @@ use Rattle.std.specs.List.{AllByRecursion}
 use Rattle.nfs4_session.specs.Clients.{ClientState, SessionsState, client_id}
 use Rattle.nfs4_session.specs.ExchangeIds.{known_owners}
 
-abbrev pub ids_of : List ClientState → List ℕ
-ids_of clients = map (λ (c : ClientState). c.id) clients
+abbrev pub client_ids : List ClientState → List ℕ
+client_ids clients = map (λ (c : ClientState). c.id) clients
 
 pub record IsStanding (keys : List ℕ) (clients : List ClientState) (boot given known : ℕ) : Type 0 where
-  pub ids : keys ≡ ids_of clients
+  pub ids : keys ≡ client_ids clients
   pub below : AllByRecursion (λ id. id ≤ client_id boot given) keys
   pub owners : known ≡ known_owners clients
 

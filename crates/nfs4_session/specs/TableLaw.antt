@@ -13,7 +13,7 @@ use Rattle.nfs4_session.specs.Clients.{ClientState, SessionState, SessionsState,
 use Rattle.nfs4_session.specs.ExchangeIds.{ExchangeCase, exchange_case, exchange_fault, given_client, after_exchange, known_owners}
 use Rattle.nfs4_session.specs.CreateSessions.{CreateSessionCase, IsDue, IsReplay, IsMisordered, HasNoRoom, IsStale, create_session_case, after_creating}
 use Rattle.nfs4_session.specs.Requests.{request_answer, after_request, after_finish}
-use Rattle.nfs4_session.specs.Beginning.{begun_by}
+use Rattle.nfs4_session.specs.Beginning.{table_begun}
 use Rattle.nfs4_session.specs.Bindings.{after_binding, last_session, client_called_back}
 use Rattle.nfs4_session.specs.Ends.{without_session, without_client, destroy_client_fault, has_ended}
 
@@ -52,7 +52,7 @@ expired_by s (Some c) = without_client s c.id
 abbrev pub table_after : SessionsState → TableMove → SessionsState
 table_after s (ExchangeId verifier owner now) = exchanged_by s verifier owner now (exchange_case s.clients verifier owner)
 table_after s (CreateSession client sequence program node now) = after_creating s program node now (create_session_case s client sequence)
-table_after s (BeginRequest request now) = begun_by s (after_request s request now) (request_answer s request)
+table_after s (BeginRequest request now) = table_begun s (after_request s request now) (request_answer s request)
 table_after s (FinishRequest pass reply) = after_finish s pass reply
 table_after s (Bind session node) = after_binding s session node
 table_after s (CallBack client) = called_back_by s client (last_session (find (has_id client) s.clients))

@@ -22,9 +22,16 @@ pub enum Change<'c> {
         reply: &'c [u8],
     },
     /// A session is bound to a node.
-    Bind { session: u64, node: NodeId },
+    Bind {
+        session: u64,
+        node: NodeId,
+    },
     /// A callback of a session has the next number.
-    CallBack { session: u64 },
+    CallBack {
+        session: u64,
+    },
     /// A session is destroyed.
-    Destroy { session: u64 },
+    Destroy {
+        session: u64,
+    },
 }

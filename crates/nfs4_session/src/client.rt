@@ -6,10 +6,9 @@ ghost use Rattle.nfs4_session.specs.Clients.{is_owned_by, has_number};
 ghost use Rattle.nfs4_session.specs.ExchangeIds.{exchanged};
 ghost use Rattle.nfs4_session.specs.CreateSessions.{with_new_session};
 ghost use Rattle.nfs4_session.specs.Requests.{answer_by_session};
-
 ghost use Rattle.nfs4_session.specs.Ends.{busy_with};
 ghost use Rattle.nfs4_session.specs.Changes.{changed};
-ghost use Rattle.nfs4_session.specs.Asked.{asked_by, record_of, case_in};
+ghost use Rattle.nfs4_session.specs.Asked.{asked_by, fresh_record, case_in};
 ghost use Rattle.nfs4_session.specs.Turns.{turn_of, kept_in_session};
 
 use crate::change::Change;
@@ -52,9 +51,9 @@ impl Model for ClientRecord {
 
     ghost Value = { ClientState };
 
-    ghost use Rattle.nfs4_session.specs.Asked.{made_by};
+    ghost use Rattle.nfs4_session.specs.Asked.{last_made};
 
-    ghost view = { λ c. record { id = c.id; owner = c.owner.items; verifier = c.verifier; sequence = c.sequence; made = made_by c.made; confirmed = c.confirmed; renewed = c.renewed; sessions = c.sessions.items } };
+    ghost view = { λ c. record { id = c.id; owner = c.owner.items; verifier = c.verifier; sequence = c.sequence; made = last_made c.made; confirmed = c.confirmed; renewed = c.renewed; sessions = c.sessions.items } };
 }
 
 impl ClientRecord {
@@ -66,7 +65,7 @@ impl ClientRecord {
         verifier: [u8; 8],
         now: u64,
     ) -> Result<ClientRecord, NoMemory>
-        ensures { IfOk result (λ c. c ≡ record_of id owner.now verifier now) }
+        ensures { IfOk result (λ c. c ≡ fresh_record id owner.now verifier now) }
     {
         let owner = Vec::from_slice(alloc, owner)?;
         Ok(ClientRecord {

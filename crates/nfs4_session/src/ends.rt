@@ -4,7 +4,7 @@ ghost use Rattle.std.specs.Prelude.{◌≡◌, find, is_some, option_copied};
 ghost use Rattle.nfs4_session.specs.Clients.{has_id, session_of};
 ghost use Rattle.nfs4_session.specs.Bindings.{OnSession, after_binding, CallsBack, last_session};
 ghost use Rattle.nfs4_session.specs.Ends.{without_session, DestroysClient, Expires};
-ghost use Rattle.nfs4_session.specs.Calling.{next_call};
+ghost use Rattle.nfs4_session.specs.Calling.{next_back_call};
 
 use crate::BackCall;
 use crate::change::Change;
@@ -42,7 +42,7 @@ impl Sessions {
     pub fn back_channel(&mut self, client: u64) -> Option<BackCall>
         ensures { CallsBack self.old client result self.new }
     {
-        let (session, call) = self.next_call(client)?;
+        let (session, call) = self.next_back_call(client)?;
         self.change(client, Change::CallBack { session });
         Some(call)
     }
@@ -99,8 +99,8 @@ impl Sessions {
     }
 
     /// The next callback to a client, with the number of its session.
-    fn next_call(&self, client: u64) -> Option<(u64, BackCall)>
-        ensures { result ≡ next_call client (last_session (find (has_id client) self.now.clients)) }
+    fn next_back_call(&self, client: u64) -> Option<(u64, BackCall)>
+        ensures { result ≡ next_back_call client (last_session (find (has_id client) self.now.clients)) }
     {
         let last = self.record(client)?.last()?;
         let number = last.number();

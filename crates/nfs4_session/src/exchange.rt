@@ -84,12 +84,7 @@ impl Sessions {
 
     /// Puts a new record of this owner behind the others; an unconfirmed one is thrown away. At an error nothing has
     /// changed.
-    fn take_in(
-        &mut self,
-        verifier: [u8; 8],
-        owner: &[u8],
-        now: u64,
-    ) -> Result<Exchanged, NoMemory>
+    fn take_in(&mut self, verifier: [u8; 8], owner: &[u8], now: u64) -> Result<Exchanged, NoMemory>
         requires { self.old.ids + 1 < 2 ^ 32 }
         ensures answer { IfOk result (λ answer. answer ≡ exchanged (new_client self.old verifier owner.now now)) }
         ensures ok { OnOk result (self.new ≡ after_exchange self.old verifier owner.now now (case_of_others self.old.clients owner.now)) }

@@ -4,9 +4,9 @@ ghost use Rattle.std.specs.Prelude.{◌≡◌, ⊤};
 ghost use Rattle.std.specs.Borrow.{sem, follows_so};
 ghost use mathlib.Core.Option.{none};
 ghost use Rattle.nfs4_session.specs.Clients.{session_of};
-ghost use Rattle.nfs4_session.specs.Requests.{Begins, after_request, after_finish, request_answer, pass_of};
+ghost use Rattle.nfs4_session.specs.Requests.{BeginsRequest, after_request, after_finish, request_answer, pass_of};
 ghost use Rattle.nfs4_session.specs.Turns.{turn_of, kept_in_session};
-ghost use Rattle.nfs4_session.specs.Beginning.{AnswersTurn, begun_by};
+ghost use Rattle.nfs4_session.specs.Beginning.{AnswersTurn, table_begun};
 ghost use Rattle.nfs4_session.specs.contracts.sessions.Sessions.{the_row};
 
 use crate::change::Change;
@@ -23,7 +23,7 @@ impl Sessions {
     /// It is refused, and nothing changes, with BADSESSION, BADSLOT, SEQ_MISORDERED, DELAY where it is still in
     /// progress, and RETRY_UNCACHED_REP where its reply was too long to be kept.
     pub fn begin(&mut self, sequence: &Sequence, now: u64) -> Begin<'_>
-        ensures* { sem 𝓛 (follows_so the_row the_row self.entry.ghost_name none (λ _ _. ⊤) (λ new. Begins self.old sequence.now now result new)) }
+        ensures* { sem 𝓛 (follows_so the_row the_row self.entry.ghost_name none (λ _ _. ⊤) (λ new. BeginsRequest self.old sequence.now now result new)) }
     {
         let turn = self.take_turn(sequence, now);
         self.answer(sequence, turn)
@@ -32,7 +32,7 @@ impl Sessions {
     /// What a request comes to; where it takes effect it is in progress from now on.
     fn take_turn(&mut self, request: &Sequence, now: u64) -> Turn
         ensures turn { result ≡ turn_of (request_answer self.old request.now) }
-        ensures after { self.new ≡ begun_by self.old (after_request self.old request.now now) (request_answer self.old request.now) }
+        ensures after { self.new ≡ table_begun self.old (after_request self.old request.now now) (request_answer self.old request.now) }
     {
         let turn = self.turn(request);
         if let Turn::TakesEffect = turn {

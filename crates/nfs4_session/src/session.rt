@@ -91,12 +91,7 @@ fn finish_on(slots: &mut [Slot], slot: u32, number: u32, reply: &[u8])
 
 impl Session {
     /// A new session of eight slots. The room of its kept replies is taken now.
-    pub fn new(
-        alloc: Global,
-        number: u64,
-        node: NodeId,
-        program: u32,
-    ) -> Result<Session, NoMemory>
+    pub fn new(alloc: Global, number: u64, node: NodeId, program: u32) -> Result<Session, NoMemory>
         ensures { IfOk result (λ s. s ≡ new_session number node program) }
     {
         let slots = new_slots(alloc)?;

@@ -21,8 +21,11 @@ const CHANNEL: ChannelAttrs = ChannelAttrs {
 
 /// The ids of the first clients of boot 1: the boot's number, and then the client's.
 const FIRST: u64 = 4_294_967_297;
+
 const SECOND: u64 = 4_294_967_298;
+
 const THIRD: u64 = 4_294_967_299;
+
 const FOURTH: u64 = 4_294_967_300;
 
 /// The session of this number of a client of boot 1.
@@ -46,11 +49,7 @@ fn create(sessions: &mut Sessions, client: u64, sequence: u32) -> Result<Created
 }
 
 /// What CREATE_SESSION gives.
-fn made(
-    session: SessionId,
-    gone: Option<u64>,
-    replayed: bool,
-) -> Result<Created, SessionFault> {
+fn made(session: SessionId, gone: Option<u64>, replayed: bool) -> Result<Created, SessionFault> {
     Ok(Created {
         session,
         gone,
@@ -121,10 +120,19 @@ const REQUESTS: [(u32, u32, Option<&[u8]>, &str); 14] = [
 fn requests_on_slots(rt: HostRuntime) -> Result<(), Fail> {
     let alloc = rt.alloc();
     let mut sessions = Sessions::new(alloc, 1)?;
-    assert_eq!(rt; sessions.exchange_id([1; 8], b"a", 0), given(FIRST, 1, false));
-    assert_eq!(rt; create(&mut sessions, FIRST, 1), made(session(1, 1), None, false));
+    assert_eq!(rt;
+        sessions.exchange_id([1; 8], b"a", 0),
+        given(FIRST, 1, false)
+    );
+    assert_eq!(rt;
+        create(&mut sessions, FIRST, 1),
+        made(session(1, 1), None, false)
+    );
     for (slot, number, reply, want) in REQUESTS {
-        assert_eq!(rt; asked(&mut sessions, session(1, 1), slot, number, reply), want);
+        assert_eq!(rt;
+            asked(&mut sessions, session(1, 1), slot, number, reply),
+            want
+        );
     }
     let strangers = [session(1, 2), session(2, 1)];
     for stranger in strangers {
@@ -132,9 +140,15 @@ fn requests_on_slots(rt: HostRuntime) -> Result<(), Fail> {
     }
     let long = vec![in alloc; b'b'; 32_769]?;
     let (_, longest) = long.split_at(1);
-    assert_eq!(rt; asked(&mut sessions, session(1, 1), 1, 1, Some(longest)), "new");
+    assert_eq!(rt;
+        asked(&mut sessions, session(1, 1), 1, 1, Some(longest)),
+        "new"
+    );
     assert_eq!(rt; asked(&mut sessions, session(1, 1), 1, 1, None), "b");
-    assert_eq!(rt; asked(&mut sessions, session(1, 1), 1, 2, Some(&long)), "new");
+    assert_eq!(rt;
+        asked(&mut sessions, session(1, 1), 1, 2, Some(&long)),
+        "new"
+    );
     assert_eq!(rt; asked(&mut sessions, session(1, 1), 1, 2, None), "uncached");
     assert_eq!(rt; asked(&mut sessions, session(1, 1), 1, 3, None), "new");
     Ok(())
@@ -160,33 +174,93 @@ fn numbers_and_the_slot_of_callbacks(rt: HostRuntime) -> Result<(), Fail> {
 #[test]
 fn a_client_restarts(rt: HostRuntime) -> Result<(), Fail> {
     let mut sessions = Sessions::new(rt.alloc(), 1)?;
-    assert_eq!(rt; sessions.exchange_id([1; 8], b"a", 0), given(FIRST, 1, false));
-    assert_eq!(rt; sessions.exchange_id([1; 8], b"a", 0), given(FIRST, 1, false));
-    assert_eq!(rt; create(&mut sessions, FIRST, 3), Err(SessionFault::Misordered));
-    assert_eq!(rt; create(&mut sessions, FIRST, 1), made(session(1, 1), None, false));
-    assert_eq!(rt; create(&mut sessions, FIRST, 1), made(session(1, 1), None, true));
-    assert_eq!(rt; create(&mut sessions, FIRST, 2), made(session(1, 2), None, false));
-    assert_eq!(rt; create(&mut sessions, FIRST, 1), Err(SessionFault::Misordered));
-    assert_eq!(rt; sessions.exchange_id([1; 8], b"a", 0), given(FIRST, 3, true));
-    assert_eq!(rt; sessions.exchange_id([2; 8], b"a", 0), given(SECOND, 1, false));
-    assert_eq!(rt; sessions.exchange_id([1; 8], b"a", 0), given(FIRST, 3, true));
-    assert_eq!(rt; sessions.exchange_id([3; 8], b"a", 0), given(THIRD, 1, false));
-    assert_eq!(rt; create(&mut sessions, SECOND, 1), Err(SessionFault::StaleClient));
+    assert_eq!(rt;
+        sessions.exchange_id([1; 8], b"a", 0),
+        given(FIRST, 1, false)
+    );
+    assert_eq!(rt;
+        sessions.exchange_id([1; 8], b"a", 0),
+        given(FIRST, 1, false)
+    );
+    assert_eq!(rt;
+        create(&mut sessions, FIRST, 3),
+        Err(SessionFault::Misordered)
+    );
+    assert_eq!(rt;
+        create(&mut sessions, FIRST, 1),
+        made(session(1, 1), None, false)
+    );
+    assert_eq!(rt;
+        create(&mut sessions, FIRST, 1),
+        made(session(1, 1), None, true)
+    );
+    assert_eq!(rt;
+        create(&mut sessions, FIRST, 2),
+        made(session(1, 2), None, false)
+    );
+    assert_eq!(rt;
+        create(&mut sessions, FIRST, 1),
+        Err(SessionFault::Misordered)
+    );
+    assert_eq!(rt;
+        sessions.exchange_id([1; 8], b"a", 0),
+        given(FIRST, 3, true)
+    );
+    assert_eq!(rt;
+        sessions.exchange_id([2; 8], b"a", 0),
+        given(SECOND, 1, false)
+    );
+    assert_eq!(rt;
+        sessions.exchange_id([1; 8], b"a", 0),
+        given(FIRST, 3, true)
+    );
+    assert_eq!(rt;
+        sessions.exchange_id([3; 8], b"a", 0),
+        given(THIRD, 1, false)
+    );
+    assert_eq!(rt;
+        create(&mut sessions, SECOND, 1),
+        Err(SessionFault::StaleClient)
+    );
     assert_eq!(rt; asked(&mut sessions, session(1, 2), 0, 1, None), "new");
-    assert_eq!(rt; create(&mut sessions, THIRD, 1), made(session(3, 3), Some(FIRST), false));
-    assert_eq!(rt; create(&mut sessions, THIRD, 1), made(session(3, 3), None, true));
-    assert_eq!(rt; asked(&mut sessions, session(1, 2), 0, 2, None), "badsession");
-    assert_eq!(rt; sessions.exchange_id([1; 8], b"a", 0), given(FOURTH, 1, false));
-    assert_eq!(rt; sessions.exchange_id([3; 8], b"a", 0), given(THIRD, 2, true));
+    assert_eq!(rt;
+        create(&mut sessions, THIRD, 1),
+        made(session(3, 3), Some(FIRST), false)
+    );
+    assert_eq!(rt;
+        create(&mut sessions, THIRD, 1),
+        made(session(3, 3), None, true)
+    );
+    assert_eq!(rt;
+        asked(&mut sessions, session(1, 2), 0, 2, None),
+        "badsession"
+    );
+    assert_eq!(rt;
+        sessions.exchange_id([1; 8], b"a", 0),
+        given(FOURTH, 1, false)
+    );
+    assert_eq!(rt;
+        sessions.exchange_id([3; 8], b"a", 0),
+        given(THIRD, 2, true)
+    );
     Ok(())
 }
 
 #[test]
 fn leases_end(rt: HostRuntime) -> Result<(), Fail> {
     let mut sessions = Sessions::new(rt.alloc(), 1)?;
-    assert_eq!(rt; sessions.exchange_id([1; 8], b"a", 0), given(FIRST, 1, false));
-    assert_eq!(rt; sessions.exchange_id([1; 8], b"b", 0), given(SECOND, 1, false));
-    assert_eq!(rt; create(&mut sessions, SECOND, 1), made(session(2, 1), None, false));
+    assert_eq!(rt;
+        sessions.exchange_id([1; 8], b"a", 0),
+        given(FIRST, 1, false)
+    );
+    assert_eq!(rt;
+        sessions.exchange_id([1; 8], b"b", 0),
+        given(SECOND, 1, false)
+    );
+    assert_eq!(rt;
+        create(&mut sessions, SECOND, 1),
+        made(session(2, 1), None, false)
+    );
     assert_eq!(rt; asked(&mut sessions, session(2, 1), 0, 1, None), "new");
     for (now, gone) in [
         (0, None),
@@ -199,7 +273,10 @@ fn leases_end(rt: HostRuntime) -> Result<(), Fail> {
     ] {
         assert_eq!(rt; sessions.expire(now), gone);
     }
-    assert_eq!(rt; asked(&mut sessions, session(2, 1), 0, 2, None), "badsession");
+    assert_eq!(rt;
+        asked(&mut sessions, session(2, 1), 0, 2, None),
+        "badsession"
+    );
     Ok(())
 }
 
@@ -208,18 +285,27 @@ fn owners_and_sessions_are_limited(rt: HostRuntime) -> Result<(), Fail> {
     let mut sessions = Sessions::new(rt.alloc(), 1)?;
     for owner in 0..256_u64 {
         let bytes = owner.to_be_bytes();
-        assert_eq!(rt; sessions.exchange_id([1; 8], &bytes, 0), given(FIRST + owner, 1, false));
+        assert_eq!(rt;
+            sessions.exchange_id([1; 8], &bytes, 0),
+            given(FIRST + owner, 1, false)
+        );
     }
     assert_eq!(rt; sessions.exchange_id([1; 8], b"a", 0), Err(IdFault::Full));
     let known = [0; 8];
-    assert_eq!(rt; sessions.exchange_id([2; 8], &known, 0), given(FIRST + 256, 1, false));
+    assert_eq!(rt;
+        sessions.exchange_id([2; 8], &known, 0),
+        given(FIRST + 256, 1, false)
+    );
     for number in 1..5_u8 {
         let want = made(session(2, number), None, false);
         assert_eq!(rt; create(&mut sessions, SECOND, u32::from(number)), want);
     }
     assert_eq!(rt; create(&mut sessions, SECOND, 5), Err(SessionFault::Full));
     assert_eq!(rt; sessions.destroy_session(session(2, 2)), Ok(()));
-    assert_eq!(rt; create(&mut sessions, SECOND, 5), made(session(2, 5), None, false));
+    assert_eq!(rt;
+        create(&mut sessions, SECOND, 5),
+        made(session(2, 5), None, false)
+    );
     Ok(())
 }
 
@@ -236,10 +322,19 @@ fn call(session: SessionId, node: NodeId, sequence: u32) -> Option<BackCall> {
 #[test]
 fn callbacks_go_to_the_last(rt: HostRuntime) -> Result<(), Fail> {
     let mut sessions = Sessions::new(rt.alloc(), 1)?;
-    assert_eq!(rt; sessions.exchange_id([1; 8], b"a", 0), given(FIRST, 1, false));
+    assert_eq!(rt;
+        sessions.exchange_id([1; 8], b"a", 0),
+        given(FIRST, 1, false)
+    );
     assert_eq!(rt; sessions.back_channel(FIRST), None);
-    assert_eq!(rt; create(&mut sessions, FIRST, 1), made(session(1, 1), None, false));
-    assert_eq!(rt; create(&mut sessions, FIRST, 2), made(session(1, 2), None, false));
+    assert_eq!(rt;
+        create(&mut sessions, FIRST, 1),
+        made(session(1, 1), None, false)
+    );
+    assert_eq!(rt;
+        create(&mut sessions, FIRST, 2),
+        made(session(1, 2), None, false)
+    );
     let seven = NodeId::Client(7);
     let nine = NodeId::Client(9);
     assert_eq!(rt; sessions.back_channel(FIRST), call(session(1, 2), seven, 1));
@@ -251,7 +346,10 @@ fn callbacks_go_to_the_last(rt: HostRuntime) -> Result<(), Fail> {
     assert_eq!(rt; sessions.back_channel(FIRST), call(session(1, 2), nine, 2));
     assert_eq!(rt; sessions.destroy_client(FIRST), Err(Stat4::ClientIdBusy));
     assert_eq!(rt; sessions.destroy_session(session(1, 2)), Ok(()));
-    assert_eq!(rt; sessions.destroy_session(session(1, 2)), Err(Stat4::BadSession));
+    assert_eq!(rt;
+        sessions.destroy_session(session(1, 2)),
+        Err(Stat4::BadSession)
+    );
     assert_eq!(rt; sessions.back_channel(FIRST), call(session(1, 1), nine, 3));
     assert_eq!(rt; sessions.destroy_session(session(1, 1)), Ok(()));
     assert_eq!(rt; sessions.destroy_client(FIRST), Ok(()));
