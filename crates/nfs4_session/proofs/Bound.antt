@@ -1,5 +1,5 @@
 -- A bound session stands last.
-use Rattle.std.proofs.Common.{◌≡◌, ℕ, suc, ◌+◌, ◌<◌, List, [], ◌∷◌, ◌++◌, length, take, drop, get_or, set, Option, Some, refl, sym, ap, ◌∙◌, arith}
+use Rattle.std.proofs.Common.{◌≡◌, ℕ, suc, ◌<◌, List, [], ◌∷◌, ◌++◌, length, take, drop, get_or, set, Some, sym, ap, ◌∙◌, arith}
 use Rattle.std.specs.Prelude.{◌-◌, remove}
 use Rattle.std.specs.List.{find, position}
 use borrow.Rule.Slice.PartMut.{put_mid, mid_of}

@@ -1,11 +1,11 @@
 -- One record is changed.
-use Rattle.std.proofs.Common.{◌≡◌, ℕ, List, set, get_or, Option, Some, refl, sym, ap, ◌∙◌, OnOk, OnErr}
+use Rattle.std.proofs.Common.{◌≡◌, ℕ, List, set, get_or, Some, refl, ap, ◌∙◌, OnOk, OnErr}
 use Rattle.std.specs.Prelude.{Result, Ok, Err}
 use Rattle.std.specs.List.{position}
 use Rattle.ff_xdr.specs.declared.error.NoMemory.{NoMemory}
 use Rattle.nfs4_session.specs.declared.change.Change.{Change}
 use Rattle.nfs4_session.specs.declared.change.Change.TheVariants as change
-use Rattle.nfs4_session.specs.Clients.{ClientState, SessionState, SessionsState, has_id}
+use Rattle.nfs4_session.specs.Clients.{ClientState, SessionState, has_id}
 use Rattle.nfs4_session.specs.CreateSessions.{with_new_session}
 use Rattle.nfs4_session.specs.Changes.{changed}
 use Rattle.nfs4_session.specs.Standing.{IsStanding}

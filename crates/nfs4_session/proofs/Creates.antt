@@ -1,15 +1,13 @@
 -- CREATE_SESSION makes the session that is due.
-use Rattle.std.proofs.Common.{◌≡◌, ℕ, suc, ◌+◌, ◌<◌, Bool, true, false, List, [], ◌∷◌, ◌++◌, length, Option, Some, None, Result, Ok, Err, refl, sym, ap, ◌∙◌, subst, arith}
-use Rattle.std.specs.Prelude.{◌==◌, ◌&&◌, not, slice_get, remove, IfSome, IsSome, OnOk, is_err, if◌then◌else◌}
+use Rattle.std.proofs.Common.{◌≡◌, ℕ, suc, ◌+◌, Bool, true, false, List, [], ◌∷◌, length, Option, Some, None, Result, Ok, Err, refl, sym, ap, ◌∙◌}
+use Rattle.std.specs.Prelude.{◌==◌, ◌&&◌, not, IsSome, OnOk, is_err, if◌then◌else◌}
 use Rattle.std.specs.List.{find, position, position_from}
 use Rattle.std.proofs.lemmas.Iterator.Adapters.{position_from-zero}
 use Rattle.std.specs.Option.{option_map}
 use Rattle.std.proofs.lemmas.Option.{same_Some}
 use Rattle.std.proofs.lemmas.Bool.{eq-eqb, eqb-true}
 use Rattle.cluster_model.specs.declared.ids.NodeId.{NodeId}
-use Rattle.nfs4_session.specs.declared.faults.Created.{Created}
-use Rattle.nfs4_session.specs.declared.faults.SessionFault.{SessionFault}
-use Rattle.nfs4_session.specs.Clients.{ClientState, SessionState, SessionsState, has_id, is_owned_by, session_id, change_first, remove_first, with_clients, new_session}
+use Rattle.nfs4_session.specs.Clients.{ClientState, SessionState, SessionsState, has_id, is_owned_by, session_id, change_first, remove_first, with_clients}
 use Rattle.nfs4_session.specs.CreateSessions.{IsDue, is_before_restart, with_new_session, created_session, created_answer, after_creating}
 use Rattle.nfs4_session.specs.Asked.{place_before_restart, id_at, without_place, CreatesDue}
 use Rattle.nfs4_session.specs.Standing.{with_numbers}

@@ -1,6 +1,6 @@
 -- What the code's table keeps when a record is changed, put to it and taken out.
-use Rattle.std.proofs.Common.{◌≡◌, ℕ, zero, suc, ◌+◌, ◌<◌, ◌≤◌, ◌*◌, Bool, true, false, cond, List, [], ◌∷◌, ◌++◌, length, take, drop, set, map, Option, Some, None, refl, sym, ap, ◌∙◌, arith, subst}
-use Rattle.std.specs.Prelude.{slice_get, remove, if◌then◌else◌}
+use Rattle.std.proofs.Common.{◌≡◌, ℕ, zero, suc, ◌+◌, ◌<◌, ◌≤◌, false, List, [], ◌∷◌, ◌++◌, length, set, map, Some, refl, sym, ap, ◌∙◌, arith, subst}
+use Rattle.std.specs.Prelude.{slice_get, remove}
 use Rattle.std.specs.List.{AllByRecursion, list_any}
 use Rattle.std.proofs.lemmas.Bool.{ne_eqb}
 use Rattle.std.proofs.lemmas.Option.{same_Some}
@@ -8,7 +8,7 @@ use Rattle.std.proofs.Math.Dec.{eqb}
 use Rattle.std.proofs.lemmas.List.{length-map}
 use Rattle.nfs4_session.specs.Clients.{ClientState, client_id, is_owned_by}
 use Rattle.nfs4_session.specs.ExchangeIds.{known_owners}
-use Rattle.nfs4_session.specs.Standing.{IsStanding, client_ids}
+use Rattle.nfs4_session.specs.Standing.{IsStanding}
 use Rattle.nfs4_session.proofs.Known.{owners_of, is_owner, counted, distinct, owned_is, known_is, distinct_le, distinct_remove, distinct_push}
 
 pub map_push : {X Y : Type 0} (g : X → Y) (xs : List X) (x : X) → map g (xs ++ x ∷ []) ≡ map g xs ++ g x ∷ []

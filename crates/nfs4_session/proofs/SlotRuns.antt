@@ -1,12 +1,12 @@
 -- Over every list of requests, with all their repeats, each takes effect once.
-use Rattle.std.proofs.Common.{◌≡◌, ℕ, ◌+◌, ◌*◌, ◌%◌, ◌/◌, ◌<◌, ◌≤◌, Bool, true, false, List, [], ◌∷◌, ◌++◌, length, Some, refl, sym, ap, ◌∙◌, arith, subst}
-use Rattle.std.specs.Prelude.{◌==◌, ◌&&◌, not, fold, slice_get, if◌then◌else◌}
+use Rattle.std.proofs.Common.{◌≡◌, ℕ, ◌+◌, ◌%◌, ◌<◌, Bool, true, false, List, [], ◌∷◌, length, refl, sym, ap, ◌∙◌, arith}
+use Rattle.std.specs.Prelude.{◌==◌, ◌&&◌, not, fold, if◌then◌else◌}
 use Rattle.std.proofs.lemmas.Bool.{eqb-true}
 use Rattle.std.proofs.lemmas.List.{length_push}
 use Rattle.std.proofs.lemmas.Option.{same_Some}
 use Rattle.std.proofs.Math.Nat.{mod-lt, mod-eq_of_lt, mod-add-mod, div-add-mod}
 use Rattle.nfs4_types.specs.declared.status.Stat4.TheVariants.{SeqMisordered}
-use Rattle.nfs4_session.specs.Slots.{SlotReply, NoRequest, InProgress, Kept, Uncached, SlotState, SlotAnswer, TakesEffect, Repeats, Refuses, new_slot, slot_answer, answer_again, is_in_progress, sequence_after, slot_begun, slot_finished, kept_as}
+use Rattle.nfs4_session.specs.Slots.{SlotReply, NoRequest, InProgress, Kept, Uncached, SlotState, SlotAnswer, TakesEffect, Repeats, Refuses, new_slot, slot_answer, answer_again, is_in_progress, sequence_after, slot_finished, kept_as}
 use Rattle.nfs4_session.specs.SlotsLaw.{SlotMove, Requests, Finishes, SlotRun, requested, slot_moved, slot_run, AreNumbered, TakeEffectOnce, EachOnce}
 use Rattle.nfs4_session.proofs.Numbered.{numbered_push}
 

@@ -1,14 +1,14 @@
 -- What holds of the records of a table, and what keeps it.
-use Rattle.std.proofs.Common.{◌≡◌, ℕ, suc, ◌+◌, ◌*◌, ◌<◌, ◌≤◌, Bool, true, false, List, [], ◌∷◌, ◌++◌, length, set, map, Option, Some, None, refl, sym, ap, ◌∙◌, subst, arith}
-use Rattle.std.specs.Prelude.{◌==◌, ◌&&◌, not, replicate, remove, slice_get, bytes_eq, if◌then◌else◌}
+use Rattle.std.proofs.Common.{◌≡◌, ℕ, suc, ◌+◌, ◌<◌, ◌≤◌, Bool, true, false, List, [], ◌∷◌, ◌++◌, length, Option, Some, None, refl, sym, ap, ◌∙◌, subst, arith}
+use Rattle.std.specs.Prelude.{◌==◌, ◌&&◌, not, remove, slice_get, bytes_eq, if◌then◌else◌}
 use Rattle.std.specs.List.{AllByRecursion, find, list_any, position}
 use Rattle.std.proofs.lemmas.Option.{same_Some}
 use Rattle.std.proofs.lemmas.Bool.{eq-eqb, eqb-true}
 use Rattle.std.proofs.lemmas.List.{length-set, length_push}
 use Rattle.std.proofs.lemmas.Slice.Eq.{bytes_eq-Decides}
 use Rattle.cluster_model.specs.declared.ids.NodeId.{NodeId}
-use Rattle.nfs4_session.specs.Slots.{SlotState, new_slot}
-use Rattle.nfs4_session.specs.Clients.{ClientState, SessionState, has_id, has_number, is_owned_by, client_id, change_first, remove_first, with_sessions, new_session}
+use Rattle.nfs4_session.specs.Slots.{SlotState}
+use Rattle.nfs4_session.specs.Clients.{ClientState, SessionState, has_id, has_number, is_owned_by, client_id, change_first, remove_first, new_session}
 use Rattle.nfs4_session.specs.ExchangeIds.{known_owners}
 use Rattle.nfs4_session.specs.CreateSessions.{is_before_restart, with_new_session}
 use Rattle.nfs4_session.specs.Requests.{change_at, change_slot}
@@ -16,7 +16,7 @@ use Rattle.nfs4_session.specs.Bindings.{bound_to, bound_last}
 use Rattle.nfs4_session.proofs.FirstLemmas.{found, missing}
 use Rattle.nfs4_session.proofs.Known.{owners_of, known_is, counted, is_owner, distinct, owned_is, distinct_push, distinct_remove}
 use Rattle.nfs4_session.proofs.Kept.{map_at, map_push, map_remove}
-use Rattle.nfs4_session.proofs.Pairs.{Pairs, all_map, all_both, all_push, pairs_push, all_remove, pairs_remove, all_change, pairs_change, all_find, all_change_found, pairs_change_found, none_left, none_pass, apart_from, length_remove, length_taken, map_changed, find_left}
+use Rattle.nfs4_session.proofs.Pairs.{Pairs, all_map, all_push, pairs_push, all_remove, pairs_remove, all_change, pairs_change, all_find, all_change_found, pairs_change_found, none_left, apart_from, length_remove, length_taken, map_changed, find_left}
 
 abbrev pub OtherNumber : SessionState → SessionState → Type 0
 OtherNumber a b = ¬ (a.number ≡ b.number)

@@ -1,6 +1,6 @@
 -- Over every list of calls the table is sound, and ids and numbers are given once.
-use Rattle.std.proofs.Common.{◌≡◌, ℕ, ◌+◌, ◌<◌, ◌≤◌, Bool, true, false, List, [], ◌∷◌, ◌++◌, length, map, Option, Some, None, refl, sym, ap, ◌∙◌, subst, arith, append-nil}
-use Rattle.std.specs.Prelude.{◌==◌, ◌&&◌, ◌||◌, not, fold, nat_lt, slice_get, if◌then◌else◌}
+use Rattle.std.proofs.Common.{◌≡◌, ℕ, ◌+◌, ◌<◌, ◌≤◌, Bool, true, false, List, [], ◌∷◌, ◌++◌, length, Option, Some, None, refl, sym, ap, ◌∙◌, subst, arith, append-nil}
+use Rattle.std.specs.Prelude.{◌==◌, ◌&&◌, ◌||◌, not, fold, nat_lt, if◌then◌else◌}
 use Rattle.std.specs.List.{All, AllPairs, AllByRecursion, find, list_any}
 use Rattle.std.proofs.lemmas.Bool.{eq-eqb, eqb-true, ltb-true}
 use Rattle.std.proofs.lemmas.List.{length_push}
@@ -9,20 +9,19 @@ use Rattle.cluster_model.specs.declared.ids.NodeId.{NodeId}
 use Rattle.nfs4_types.specs.declared.sequence.Sequence.{Sequence}
 use Rattle.nfs4_types.specs.declared.ids.SessionId.{SessionId}
 use Rattle.nfs4_types.specs.declared.status.Stat4.{Stat4}
-use Rattle.nfs4_session.specs.declared.faults.IdFault.{IdFault}
 use Rattle.nfs4_session.specs.declared.faults.IdFault.TheVariants.{Full}
 use Rattle.nfs4_session.specs.Slots.{SlotState, SlotAnswer, TakesEffect, Repeats, Refuses, slot_begun, slot_finished}
 use Rattle.nfs4_session.specs.Clients.{ClientState, SessionState, MadeSession, SessionsState, no_clients, client_id, has_id, has_number, client_in, number_in, is_owned_by, change_first, remove_first, change_session, with_clients, with_sessions, renewed_at}
-use Rattle.nfs4_session.specs.ExchangeIds.{ExchangeCase, IsKnown, IsAgain, ReplacesUnconfirmed, Restarts, IsNewOwner, is_by, is_unconfirmed_of, is_confirmed_of, case_of_others, case_of_unconfirmed, case_of_confirmed, exchange_case, exchange_fault, new_id_fault, ids_are_spent, new_client, given_client, with_new_client, after_exchange, known_owners}
+use Rattle.nfs4_session.specs.ExchangeIds.{ExchangeCase, IsKnown, IsAgain, ReplacesUnconfirmed, Restarts, IsNewOwner, is_by, is_unconfirmed_of, is_confirmed_of, case_of_others, case_of_unconfirmed, case_of_confirmed, exchange_case, new_id_fault, ids_are_spent, new_client, given_client, with_new_client, known_owners}
 use Rattle.nfs4_session.specs.CreateSessions.{CreateSessionCase, IsDue, IsReplay, IsMisordered, HasNoRoom, IsStale, case_by_next, case_by_last, case_by_client, create_session_case, numbers_are_spent, after_creating}
-use Rattle.nfs4_session.specs.Requests.{change_slot, request_answer, after_request, after_finish}
-use Rattle.nfs4_session.specs.Bindings.{called_back, client_bound, client_called_back, last_session, after_binding}
-use Rattle.nfs4_session.specs.Ends.{without_session, without_client, destroy_client_fault, has_ended}
+use Rattle.nfs4_session.specs.Requests.{change_slot, request_answer, after_request}
+use Rattle.nfs4_session.specs.Bindings.{called_back, client_bound, last_session}
+use Rattle.nfs4_session.specs.Ends.{without_client, destroy_client_fault, has_ended}
 use Rattle.nfs4_session.specs.Beginning.{table_begun}
-use Rattle.nfs4_session.specs.TableLaw.{TableMove, ExchangeId, CreateSession, BeginRequest, FinishRequest, Bind, CallBack, DestroySession, DestroyClient, Expire, exchanged_unless, exchanged_by, called_back_by, destroyed_unless, expired_by, table_after, new_id_in, new_number_in, TableRun, table_moved, table_run, IsTable, GivesOnce, KeepsTable}
+use Rattle.nfs4_session.specs.TableLaw.{TableMove, ExchangeId, CreateSession, BeginRequest, FinishRequest, Bind, CallBack, DestroySession, DestroyClient, Expire, exchanged_unless, exchanged_by, called_back_by, destroyed_unless, expired_by, new_id_in, new_number_in, TableRun, table_moved, table_run, KeepsTable}
 use Rattle.nfs4_session.proofs.Numbered.{NumberedBy, numbered_push}
 use Rattle.nfs4_session.proofs.Known.{counted}
-use Rattle.nfs4_session.proofs.Pairs.{Pairs, all_of, pairs_of, all_map, none_left, none_pass, found_passes, found_any}
+use Rattle.nfs4_session.proofs.Pairs.{all_of, pairs_of, all_map, none_left, none_pass, found_passes, found_any}
 use Rattle.nfs4_session.proofs.Sound.{OtherId, OtherRecord, OtherNumber, AreFine, fine_none, fine_changed, fine_removed, fine_bound, slots_stay, IsSound, sound_changed, sound_removed, sound_pushed, sound_made, known_removed, known_pushed}
 
 pub record IsGood (boot : ℕ) (run : TableRun) : Type 0 where

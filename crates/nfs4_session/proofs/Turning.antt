@@ -7,9 +7,9 @@ use Rattle.nfs4_session.specs.declared.begin.Begin.{Begin}
 use Rattle.nfs4_session.specs.declared.slot.Turn.{Turn}
 use Rattle.nfs4_session.specs.declared.slot.Turn.TheVariants as turn
 use Rattle.nfs4_session.specs.declared.change.Change.TheVariants as change
-use Rattle.nfs4_session.specs.Slots.{SlotReply, NoRequest, InProgress, Kept, Uncached, SlotState, SlotAnswer, TakesEffect, Repeats, Refuses, slot_begun, slot_answer, answer_again, is_in_progress, sequence_after}
-use Rattle.nfs4_session.specs.Clients.{ClientState, SessionState, SessionsState, has_id, client_in, number_in, change_first, with_clients, renewed_at, with_sessions, has_number, session_of}
-use Rattle.nfs4_session.specs.Requests.{after_request, change_slot, answer_by_slot, answer_by_session, request_answer, IsReplayOf, BeginsRequest, BeginsBy}
+use Rattle.nfs4_session.specs.Slots.{SlotReply, NoRequest, InProgress, Kept, Uncached, SlotState, SlotAnswer, TakesEffect, Repeats, Refuses, slot_answer, answer_again, is_in_progress, sequence_after}
+use Rattle.nfs4_session.specs.Clients.{ClientState, SessionState, SessionsState, has_id, client_in, number_in, change_first, with_clients, renewed_at, with_sessions, session_of}
+use Rattle.nfs4_session.specs.Requests.{after_request, answer_by_slot, answer_by_session, request_answer, IsReplayOf, BeginsRequest, BeginsBy}
 use Rattle.nfs4_session.specs.Changes.{changed, sessions_begun}
 use Rattle.nfs4_session.specs.Beginning.{table_begun, AnswersTurn}
 use Rattle.nfs4_session.specs.Turns.{turn_of, kept_bytes, kept_at_slot, kept_in_session}

@@ -1,13 +1,13 @@
 -- How the code names a case of CREATE_SESSION.
-use Rattle.std.specs.Prelude.{position, remove, slice_get, ◌≡◌, ℕ, Bool, true, false, ◌==◌, ◌&&◌, not, List, [], length, nat_lt, if◌then◌else◌, Option, Some, None, Result, Ok, Err}
+use Rattle.std.specs.Prelude.{position, remove, slice_get, ℕ, Bool, false, ◌==◌, ◌&&◌, not, List, [], length, nat_lt, if◌then◌else◌, Option, Some, None, Result, Ok, Err}
 use Rattle.std.specs.Option.{option_map}
 use Rattle.cluster_model.specs.declared.ids.NodeId.{NodeId}
 use Rattle.nfs4_session.specs.declared.faults.Created.{Created}
 use Rattle.nfs4_session.specs.declared.faults.SessionFault.{SessionFault}
 use Rattle.nfs4_session.specs.declared.faults.SessionFault.TheVariants.{StaleClient, Misordered, Full}
 use Rattle.nfs4_session.specs.declared.client.Made.{Made}
-use Rattle.nfs4_session.specs.Clients.{ClientState, MadeSession, SessionsState, no_clients}
-use Rattle.nfs4_session.specs.CreateSessions.{CreateSessionCase, IsDue, IsReplay, IsMisordered, HasNoRoom, IsStale, CreatesBy, case_by_last, is_before_restart}
+use Rattle.nfs4_session.specs.Clients.{ClientState, MadeSession, SessionsState}
+use Rattle.nfs4_session.specs.CreateSessions.{CreateSessionCase, IsDue, IsReplay, IsMisordered, HasNoRoom, IsStale, CreatesBy, is_before_restart}
 
 -- the session that is made already, or a fault
 abbrev pub asked_by : CreateSessionCase → Result (Option ℕ) SessionFault

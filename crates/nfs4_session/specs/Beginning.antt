@@ -1,8 +1,8 @@
 -- How the code answers a request.
-use Rattle.std.specs.Prelude.{◌≡◌, ℕ, List, Option, Some, None}
+use Rattle.std.specs.Prelude.{◌≡◌}
 use Rattle.nfs4_types.specs.declared.sequence.Sequence.{Sequence}
 use Rattle.nfs4_session.specs.declared.begin.Begin.{Begin}
-use Rattle.nfs4_session.specs.declared.begin.Begin.TheVariants.{New, Replay, Refused}
+use Rattle.nfs4_session.specs.declared.begin.Begin.TheVariants.{New, Refused}
 use Rattle.nfs4_session.specs.declared.slot.Turn.{Turn}
 use Rattle.nfs4_session.specs.declared.slot.Turn.TheVariants as turn
 use Rattle.nfs4_session.specs.Slots.{SlotAnswer, TakesEffect, Repeats, Refuses}

@@ -1,5 +1,5 @@
 -- Where a session's records come from, and callbacks to its client (RFC 8881, sections 2.10.3.1, 18.34 and 20.9).
-use Rattle.std.specs.Prelude.{◌≡◌, ℕ, ◌+◌, Bool, true, false, List, [], ◌∷◌, ◌++◌, Option, Some, None, Result, Ok, Err}
+use Rattle.std.specs.Prelude.{◌≡◌, ℕ, List, [], ◌∷◌, ◌++◌, Option, Some, None, Result, Ok, Err}
 use Rattle.std.specs.List.{find, last_or}
 use Rattle.cluster_model.specs.declared.ids.NodeId.{NodeId}
 use Rattle.nfs4_types.specs.declared.ids.SessionId.{SessionId}
@@ -7,7 +7,7 @@ use Rattle.nfs4_types.specs.declared.status.Stat4.{Stat4}
 use Rattle.nfs4_types.specs.declared.status.Stat4.TheVariants.{BadSession}
 use Rattle.nfs4_session.specs.declared.back.BackCall.{BackCall}
 use Rattle.nfs4_session.specs.Slots.{sequence_after}
-use Rattle.nfs4_session.specs.Clients.{ClientState, SessionState, SessionsState, has_id, has_number, client_in, number_in, session_id, session_of, change_first, remove_first, with_clients, with_sessions}
+use Rattle.nfs4_session.specs.Clients.{ClientState, SessionState, SessionsState, has_id, has_number, client_in, number_in, session_id, change_first, remove_first, with_clients, with_sessions}
 
 -- ---- binding
 

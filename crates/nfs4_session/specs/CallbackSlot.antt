@@ -1,5 +1,5 @@
 -- The one slot for callbacks, at the client (RFC 8881, sections 2.10.6 and 20.9).
-use Rattle.std.specs.Prelude.{ℕ, Bool, ◌==◌, Option, Some, None, if◌then◌else◌}
+use Rattle.std.specs.Prelude.{ℕ, ◌==◌, Option, Some, None, if◌then◌else◌}
 use Rattle.nfs4_types.specs.declared.ids.SessionId.{SessionId}
 use Rattle.nfs4_types.specs.declared.status.Stat4.{Stat4}
 use Rattle.nfs4_session.specs.declared.cb_slot.CbBegin.{CbBegin}

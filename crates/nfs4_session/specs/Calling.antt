@@ -1,5 +1,5 @@
 -- The next callback, with the number of its session.
-use Rattle.std.specs.Prelude.{◌≡◌, ℕ, Option, Some, None}
+use Rattle.std.specs.Prelude.{ℕ, Option, Some, None}
 use Rattle.nfs4_session.specs.declared.back.BackCall.{BackCall}
 use Rattle.nfs4_session.specs.Clients.{SessionState}
 use Rattle.nfs4_session.specs.Bindings.{back_call}

@@ -1,5 +1,5 @@
 -- What the code does to one client's record.
-use Rattle.std.specs.Prelude.{◌≡◌, ℕ, List, Option, Some, None}
+use Rattle.std.specs.Prelude.{ℕ, List}
 use Rattle.nfs4_session.specs.declared.change.Change.{Change}
 use Rattle.nfs4_session.specs.declared.change.Change.TheVariants as change
 use Rattle.nfs4_session.specs.Slots.{slot_begun, slot_finished}

@@ -1,5 +1,5 @@
 -- How the code goes through the cases of EXCHANGE_ID.
-use Rattle.std.specs.Prelude.{◌≡◌, ℕ, Bool, true, false, Option, Some, None}
+use Rattle.std.specs.Prelude.{Bool, true, false, Option, Some, None}
 use Rattle.nfs4_session.specs.declared.faults.Exchanged.{Exchanged}
 use Rattle.nfs4_session.specs.ExchangeIds.{ExchangeCase, IsKnown, IsAgain, ReplacesUnconfirmed, Restarts, IsNewOwner, exchanged}
 

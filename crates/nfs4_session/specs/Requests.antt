@@ -1,14 +1,12 @@
 -- What SEQUENCE comes to, and what ends its request (RFC 8881, section 18.46).
-use Rattle.std.specs.Prelude.{◌≡◌, ℕ, Bool, List, Option, Some, None, slice_get, slice_set}
-use Rattle.nfs4_types.specs.declared.ids.SessionId.{SessionId}
+use Rattle.std.specs.Prelude.{◌≡◌, ℕ, List, Option, Some, None, slice_get, slice_set}
 use Rattle.nfs4_types.specs.declared.sequence.Sequence.{Sequence}
-use Rattle.nfs4_types.specs.declared.status.Stat4.{Stat4}
 use Rattle.nfs4_types.specs.declared.status.Stat4.TheVariants.{BadSession, BadSlot}
 use Rattle.nfs4_session.specs.declared.begin.Begin.{Begin}
 use Rattle.nfs4_session.specs.declared.begin.Begin.TheVariants.{New, Replay, Refused}
 use Rattle.nfs4_session.specs.declared.begin.SlotPass.{SlotPass}
 use Rattle.nfs4_session.specs.Slots.{SlotState, SlotAnswer, TakesEffect, Repeats, Refuses, slot_answer, slot_begun, slot_finished}
-use Rattle.nfs4_session.specs.Clients.{ClientState, SessionState, SessionsState, has_id, client_in, session_of, change_first, change_session, with_clients, with_slots, renewed_at}
+use Rattle.nfs4_session.specs.Clients.{SessionState, SessionsState, has_id, client_in, session_of, change_first, change_session, with_clients, with_slots, renewed_at}
 
 -- ---- what it comes to
 

@@ -1,5 +1,5 @@
 -- Which records the code looks for.
-use Rattle.std.specs.Prelude.{◌≡◌, ℕ, Bool, true, false, ◌&&◌, not, List, Option, Some, None, position}
+use Rattle.std.specs.Prelude.{Bool, true, false, ◌&&◌, not}
 use Rattle.nfs4_session.specs.declared.seek.Seek.{Seek}
 use Rattle.nfs4_session.specs.declared.seek.Seek.TheVariants as seek
 use Rattle.nfs4_session.specs.Clients.{ClientState, has_id, is_owned_by}

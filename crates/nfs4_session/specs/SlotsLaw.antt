@@ -1,5 +1,5 @@
 -- What slots come to over every list of requests, with all their repeats (RFC 8881, section 2.10.6): each request takes effect once.
-use Rattle.std.specs.Prelude.{◌≡◌, ℕ, ◌+◌, ◌%◌, ◌<◌, ◌≤◌, List, [], ◌∷◌, ◌++◌, length, Some, fold, slice_get}
+use Rattle.std.specs.Prelude.{◌≡◌, ℕ, ◌+◌, ◌%◌, ◌<◌, List, [], ◌∷◌, ◌++◌, length, Some, fold, slice_get}
 use Rattle.nfs4_session.specs.Slots.{SlotState, SlotAnswer, TakesEffect, Repeats, Refuses, new_slot, slot_answer, slot_begun, slot_finished}
 
 pub data SlotMove : Type 0 where

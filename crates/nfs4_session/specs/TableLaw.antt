@@ -8,8 +8,7 @@ use Rattle.nfs4_types.specs.declared.sequence.Sequence.{Sequence}
 use Rattle.nfs4_types.specs.declared.status.Stat4.{Stat4}
 use Rattle.nfs4_session.specs.declared.begin.SlotPass.{SlotPass}
 use Rattle.nfs4_session.specs.declared.faults.IdFault.{IdFault}
-use Rattle.nfs4_session.specs.Slots.{SlotAnswer, TakesEffect, Repeats, Refuses}
-use Rattle.nfs4_session.specs.Clients.{ClientState, SessionState, SessionsState, no_clients, client_id, has_id, session_of, change_first, with_clients}
+use Rattle.nfs4_session.specs.Clients.{ClientState, SessionState, SessionsState, no_clients, client_id, has_id, change_first, with_clients}
 use Rattle.nfs4_session.specs.ExchangeIds.{ExchangeCase, exchange_case, exchange_fault, given_client, after_exchange, known_owners}
 use Rattle.nfs4_session.specs.CreateSessions.{CreateSessionCase, IsDue, IsReplay, IsMisordered, HasNoRoom, IsStale, create_session_case, after_creating}
 use Rattle.nfs4_session.specs.Requests.{request_answer, after_request, after_finish}

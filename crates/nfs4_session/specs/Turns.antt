@@ -1,13 +1,11 @@
 -- How the code has a slot, and which answer of a slot it names.
-use Rattle.std.specs.Prelude.{◌≡◌, ℕ, List, [], Option, Some, None, slice_get}
-use Rattle.nfs4_types.specs.declared.status.Stat4.{Stat4}
-use Rattle.nfs4_types.specs.declared.status.Stat4.TheVariants.{BadSession, BadSlot}
+use Rattle.std.specs.Prelude.{ℕ, List, [], Option, Some, None, slice_get}
 use Rattle.nfs4_session.specs.declared.slot.Stage.{Stage}
 use Rattle.nfs4_session.specs.declared.slot.Stage.TheVariants as stage
 use Rattle.nfs4_session.specs.declared.slot.Turn.{Turn}
 use Rattle.nfs4_session.specs.declared.slot.Turn.TheVariants as turn
 use Rattle.nfs4_session.specs.Slots.{SlotReply, NoRequest, InProgress, Kept, Uncached, SlotState, SlotAnswer, TakesEffect, Repeats, Refuses}
-use Rattle.nfs4_session.specs.Clients.{SessionState, ClientState}
+use Rattle.nfs4_session.specs.Clients.{SessionState}
 
 -- the reply is in the slot's room
 abbrev pub reply_in : Stage → List ℕ → SlotReply

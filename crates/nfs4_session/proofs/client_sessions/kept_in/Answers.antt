@@ -1,4 +1,4 @@
-use Rattle.std.proofs.Common.{Option, sym, ap, ◌∙◌}
+use Rattle.std.proofs.Common.{sym, ap, ◌∙◌}
 use Rattle.std.specs.Prelude.{slice_get}
 use Rattle.nfs4_session.specs.Clients.{SessionState, has_number}
 use Rattle.nfs4_session.specs.Turns.{kept_at_slot, kept_in_session}

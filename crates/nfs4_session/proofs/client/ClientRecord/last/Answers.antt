@@ -1,4 +1,4 @@
-use Rattle.std.proofs.Common.{List, Option, None, ap, ◌∙◌, length}
+use Rattle.std.proofs.Common.{List, None, ap, ◌∙◌, length}
 use Rattle.std.specs.Prelude.{◌-◌, slice_get}
 use Rattle.std.specs.List.{last_or}
 use Rattle.nfs4_session.specs.Clients.{ClientState, SessionState}

@@ -1,9 +1,8 @@
-use Rattle.std.proofs.Common.{◌≡◌, ℕ, ◌+◌, ◌<◌, ◌≤◌, ◌++◌, [], ◌∷◌, true, false, length, refl, sym, ap, ◌∙◌, arith, List}
+use Rattle.std.proofs.Common.{◌≡◌, ◌+◌, ◌++◌, [], ◌∷◌, false, length, refl, sym, ap, ◌∙◌, arith}
 use Rattle.std.specs.List.{list_any}
 use Rattle.std.proofs.lemmas.Bool.{cond-false}
 use Rattle.std.proofs.Math.Dec.{eqb}
 use Rattle.nfs4_session.specs.Clients.{ClientState, is_owned_by, client_id}
-use Rattle.nfs4_session.specs.Standing.{IsStanding}
 use Rattle.nfs4_session.proofs.Known.{counted, owners_of, is_owner, owned_is}
 use Rattle.nfs4_session.proofs.Kept.{known_le, is_new, kept_added, stands_as}
 use Rattle.nfs4_session.proofs.sessions.Sessions.add_client.Goals as goal

@@ -1,9 +1,9 @@
-use Rattle.std.proofs.Common.{◌≡◌, ℕ, ◌+◌, ◌<◌, List, length, Option, Ok, false, refl, sym, ap, ◌∙◌, subst}
+use Rattle.std.proofs.Common.{◌+◌, ◌<◌, length, Ok, false, sym, ap, ◌∙◌, subst}
 use Rattle.std.specs.Prelude.{IfSome}
 use Rattle.std.specs.List.{find}
 use Rattle.nfs4_types.specs.declared.ids.SessionId.{SessionId}
 use Rattle.nfs4_session.specs.Clients.{SessionState, SessionsState, has_id, change_first, with_clients, new_session, session_id}
-use Rattle.nfs4_session.specs.CreateSessions.{with_new_session, created_session}
+use Rattle.nfs4_session.specs.CreateSessions.{with_new_session}
 use Rattle.nfs4_session.specs.Asked.{without_place, CreatesDue}
 use Rattle.nfs4_session.specs.Standing.{with_numbers}
 use Rattle.nfs4_session.proofs.Creates.{creates_due, length_changed, no_error}

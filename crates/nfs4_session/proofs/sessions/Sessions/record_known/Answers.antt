@@ -1,7 +1,6 @@
-use Rattle.std.proofs.Common.{true, false, List, Some, sym, ap, ◌∙◌}
+use Rattle.std.proofs.Common.{true, false, Some, sym, ap, ◌∙◌}
 use Rattle.std.specs.Prelude.{option_copied}
 use Rattle.std.specs.List.{find}
-use Rattle.nfs4_session.specs.Clients.{ClientState}
 use Rattle.nfs4_session.specs.ExchangeIds.{is_by}
 use Rattle.nfs4_session.proofs.TakesIn.{copied_none, known_again}
 use Rattle.nfs4_session.proofs.sessions.Sessions.record_known.Goals as goal

@@ -1,10 +1,8 @@
-use Rattle.std.proofs.Common.{◌≡◌, ℕ, ◌+◌, ◌<◌, ◌≤◌, true, false, Some, length, refl, sym, ap, ◌∙◌, arith, subst, List}
+use Rattle.std.proofs.Common.{◌≡◌, ◌<◌, length, refl, sym, ap, ◌∙◌, arith, subst}
 use Rattle.std.specs.List.{list_any}
-use Rattle.std.specs.Prelude.{remove, ◌-◌}
+use Rattle.std.specs.Prelude.{remove}
 use Rattle.std.proofs.lemmas.Option.{slice_get_read}
-use Rattle.nfs4_session.specs.Clients.{ClientState, SessionsState, is_owned_by}
-use Rattle.nfs4_session.specs.ExchangeIds.{known_owners}
-use Rattle.nfs4_session.specs.Standing.{IsStanding}
+use Rattle.nfs4_session.specs.Clients.{SessionsState, is_owned_by}
 use Rattle.nfs4_session.proofs.Known.{counted}
 use Rattle.nfs4_session.proofs.Kept.{left_is, kept_removed, stands_as}
 use Rattle.nfs4_session.proofs.sessions.Sessions.remove.Goals as goal
