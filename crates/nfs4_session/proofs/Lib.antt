@@ -1,0 +1,13 @@
+mod Bound
+mod Changing
+mod Creates
+mod FirstLemmas
+mod Kept
+mod Known
+mod Numbered
+mod Pairs
+mod SlotRuns
+mod Sound
+mod TableRuns
+mod TakesIn
+mod Turning
