@@ -1,0 +1,4 @@
+pub mod Extents
+pub mod Writers
+pub mod WriterLaws
+pub mod Calls
