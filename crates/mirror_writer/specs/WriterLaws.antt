@@ -5,17 +5,17 @@ use Rattle.cluster_model.specs.declared.ids.Mirror.{Mirror}
 use Rattle.cluster_model.specs.declared.ids.MirrorId.{MirrorId}
 use Rattle.cluster_model.specs.DsCalls.{DsCallValue, Create, SetAttr, Write, Commit, Read, DsReplyValue, Created, Set, Written, Committed, Bytes, NotSync, Failed}
 use Rattle.mirror_writer.specs.declared.step.WriterStep.TheVariants as step
-use Rattle.mirror_writer.specs.Writers.{TakenWrite, WriterCall, NoCall, OutWrite, OutCommit, WriterMirror, WriterState, new_writer, touches, overlaps_taken, with_write, commit_wanted, open_committed, NextCall, SendsWrite, SendsCommit, next_at, next_place, WriterSends, next_sent, mirror_of_call, after_reply, after_timeout, covered_flag}
+use Rattle.mirror_writer.specs.Writers.{TakenWrite, WriterCall, NoCall, OutWrite, OutCommit, WriterMirror, MirrorWriter, new_writer, touches, overlaps_taken, with_write, commit_wanted, open_committed, NextCall, SendsWrite, SendsCommit, next_at, next_place, WriterSends, next_sent, mirror_of_call, after_reply, after_timeout, covered_flag}
 
 -- ---- runs
 
 pub data WriterMove : Type 0 where
   TakesWrite : (at : ℕ) (bytes : List ℕ) → WriterMove
-  AsksCommit : WriterMove
+  WantsCommit : WriterMove
   -- the next call, under a number of which none is outstanding
-  Sends : (xid : ℕ) → WriterMove
-  IsAnswered : (xid : ℕ) (reply : DsReplyValue) → WriterMove
-  TimesOut : (xid : ℕ) → WriterMove
+  SendsOne : (xid : ℕ) → WriterMove
+  TakesReply : (xid : ℕ) (reply : DsReplyValue) → WriterMove
+  TakesTimeout : (xid : ℕ) → WriterMove
 
 -- what was sent and answered, by the mirror's place
 pub data WriterNote : Type 0 where
@@ -25,7 +25,7 @@ pub data WriterNote : Type 0 where
   CommitAnswered : (place verifier : ℕ) → WriterNote
 
 pub record WriterRun : Type 0 where
-  pub writer : WriterState
+  pub writer : MirrorWriter
   pub notes : List WriterNote
 
 abbrev pub noted_next : ℕ → Option NextCall → List WriterNote
@@ -37,7 +37,7 @@ abbrev pub noted_mirror : Bool → ℕ → Option WriterMirror → List WriterNo
 noted_mirror wants place None = []
 noted_mirror wants place (Some m) = noted_next place (next_at wants m)
 
-abbrev pub sent_notes : WriterState → Option ℕ → List WriterNote
+abbrev pub sent_notes : MirrorWriter → Option ℕ → List WriterNote
 sent_notes s None = []
 sent_notes s (Some place) = noted_mirror s.wants_commit place (slice_get s.mirrors place)
 
@@ -68,39 +68,39 @@ abbrev pub mirror_notes : ℕ → DsReplyValue → Option WriterMirror → List 
 mirror_notes place reply None = []
 mirror_notes place reply (Some m) = call_notes place reply m.call
 
-abbrev pub answer_notes : WriterState → DsReplyValue → Option ℕ → List WriterNote
+abbrev pub answer_notes : MirrorWriter → DsReplyValue → Option ℕ → List WriterNote
 answer_notes s reply None = []
 answer_notes s reply (Some place) = mirror_notes place reply (slice_get s.mirrors place)
 
-abbrev pub sent_from : WriterState → Option WriterSends → WriterState
+abbrev pub sent_from : MirrorWriter → Option WriterSends → MirrorWriter
 sent_from s None = s
 sent_from s (Some sends) = sends.writer
 
-abbrev pub is_new_call : WriterState → ℕ → Option ℕ → Bool
+abbrev pub is_new_call : MirrorWriter → ℕ → Option ℕ → Bool
 is_new_call s xid None = true
 is_new_call s xid (Some place) = false
 
 abbrev pub writer_moved : WriterRun → WriterMove → WriterRun
 writer_moved run (TakesWrite at bytes) =
     if overlaps_taken run.writer at (length bytes) then run else record { writer = with_write run.writer at bytes; notes = run.notes }
-writer_moved run AsksCommit = record { writer = commit_wanted run.writer; notes = run.notes }
-writer_moved run (Sends xid) =
+writer_moved run WantsCommit = record { writer = commit_wanted run.writer; notes = run.notes }
+writer_moved run (SendsOne xid) =
     if is_new_call run.writer xid (mirror_of_call run.writer xid)
     then record { writer = sent_from run.writer (next_sent run.writer xid); notes = run.notes ++ sent_notes run.writer (next_place run.writer) }
     else run
-writer_moved run (IsAnswered xid reply) = record {
+writer_moved run (TakesReply xid reply) = record {
   writer = (after_reply run.writer xid reply).writer;
   notes = run.notes ++ answer_notes run.writer reply (mirror_of_call run.writer xid);
 }
-writer_moved run (TimesOut xid) = record { writer = (after_timeout run.writer xid).writer; notes = run.notes }
+writer_moved run (TakesTimeout xid) = record { writer = (after_timeout run.writer xid).writer; notes = run.notes }
 
 abbrev pub writer_run : List Mirror → List WriterMove → WriterRun
 writer_run mirrors moves = fold writer_moved (record { writer = new_writer mirrors; notes = [] }) moves
 
 -- ---- the promises
 
-abbrev pub AreDisjoint : List TakenWrite → Type 0
-AreDisjoint taken = AllPairs (λ a b. touches a.at (length a.bytes) b ≡ false) taken
+abbrev pub AreDisjointWrites : List TakenWrite → Type 0
+AreDisjointWrites taken = AllPairs (λ a b. touches a.at (length a.bytes) b ≡ false) taken
 
 -- the verifier of the last OK answer there to a WRITE of it
 abbrev pub later_verifier : ℕ → ℕ → Option ℕ → WriterNote → Option ℕ
@@ -153,34 +153,34 @@ is_ok_commit (Bytes shown eof bytes) call = false
 is_ok_commit (NotSync shown) call = false
 is_ok_commit (Failed status shown) call = false
 
-abbrev pub call_of : Option WriterMirror → WriterCall
-call_of None = NoCall
-call_of (Some m) = m.call
+abbrev pub call_of_mirror : Option WriterMirror → WriterCall
+call_of_mirror None = NoCall
+call_of_mirror (Some m) = m.call
 
-abbrev pub call_at_place : WriterState → Option ℕ → WriterCall
+abbrev pub call_at_place : MirrorWriter → Option ℕ → WriterCall
 call_at_place s None = NoCall
-call_at_place s (Some place) = call_of (slice_get s.mirrors place)
+call_at_place s (Some place) = call_of_mirror (slice_get s.mirrors place)
 
 -- `Committed` is told just where this reply is an OK answer to a COMMIT, and with it each mirror that has not failed is committed
-pub record CommittedJustWhere (s : WriterState) (xid : ℕ) (reply : DsReplyValue) : Type 0 where
+pub record CommittedJustWhere (s : MirrorWriter) (xid : ℕ) (reply : DsReplyValue) : Type 0 where
   pub only : (after_reply s xid reply).step ≡ step.Committed → (is_ok_commit reply (call_at_place s (mirror_of_call s xid)) ≡ true) × (open_committed (after_reply s xid reply).writer.mirrors ≡ true)
   pub where_so : is_ok_commit reply (call_at_place s (mirror_of_call s xid)) ≡ true → open_committed (after_reply s xid reply).writer.mirrors ≡ true → (after_reply s xid reply).step ≡ step.Committed
 
 -- a WRITE has the place and the bytes of a taken write, and goes to one of the mirrors
-abbrev pub IsOfTaken : WriterState → MirrorId → DsCallValue → Type 0
+abbrev pub IsOfTaken : MirrorWriter → MirrorId → DsCallValue → Type 0
 IsOfTaken s id (Write fileid at synced bytes) = (fileid ≡ id.fileid) × (synced ≡ false) × Contains s.taken (record { at = at; bytes = bytes })
 IsOfTaken s id (Commit fileid) = fileid ≡ id.fileid
 IsOfTaken s id (Create name owner) = ⊥
 IsOfTaken s id (SetAttr fileid owner guard) = ⊥
 IsOfTaken s id (Read fileid at count) = ⊥
 
-pub record SendsTaken (s : WriterState) (xid : ℕ) (sends : WriterSends) : Type 0 where
+pub record SendsTaken (s : MirrorWriter) (xid : ℕ) (sends : WriterSends) : Type 0 where
   pub mirror : (place : ℕ) × (m : WriterMirror) × (slice_get s.mirrors place ≡ Some m) × (m.id ≡ sends.id)
   pub call : IsOfTaken s sends.id sends.call
 
 pub record WriterLaw : Type 0 where
-  pub disjoint : (mirrors : List Mirror) (moves : List WriterMove) → AreDisjoint (writer_run mirrors moves).writer.taken
+  pub disjoint : (mirrors : List Mirror) (moves : List WriterMove) → AreDisjointWrites (writer_run mirrors moves).writer.taken
   pub covers : (mirrors : List Mirror) (moves : List WriterMove) (place write : ℕ) → CoversJustWhere (writer_run mirrors moves) place write
   pub stays : (mirrors : List Mirror) (moves : List WriterMove) (move : WriterMove) → StaysCovered mirrors moves move
-  pub committed : (s : WriterState) (xid : ℕ) (reply : DsReplyValue) → CommittedJustWhere s xid reply
-  pub sends : (s : WriterState) (xid : ℕ) (sends : WriterSends) → next_sent s xid ≡ Some sends → SendsTaken s xid sends
+  pub committed : (s : MirrorWriter) (xid : ℕ) (reply : DsReplyValue) → CommittedJustWhere s xid reply
+  pub sends : (s : MirrorWriter) (xid : ℕ) (sends : WriterSends) → next_sent s xid ≡ Some sends → SendsTaken s xid sends
