@@ -5,7 +5,7 @@ use Rattle.cluster_model.specs.declared.ids.Mirror.{Mirror}
 use Rattle.cluster_model.specs.declared.ids.MirrorId.{MirrorId}
 use Rattle.cluster_model.specs.DsCalls.{DsCallValue, Create, SetAttr, Write, Commit, Read, DsReplyValue, Created, Set, Written, Committed, Bytes, NotSync, Failed}
 use Rattle.mirror_writer.specs.declared.step.WriterStep.TheVariants as step
-use Rattle.mirror_writer.specs.Writers.{TakenWrite, WriterCall, NoCall, OutWrite, OutCommit, WriterMirror, MirrorWriter, new_writer, touches, overlaps_taken, with_write, commit_wanted, open_committed, NextCall, SendsWrite, SendsCommit, next_at, next_place, WriterSends, next_sent, mirror_of_call, after_reply, after_timeout, covered_flag}
+use Rattle.mirror_writer.specs.Writers.{TakenWrite, WriterCall, NoCall, OutWrite, OutCommit, WriterMirror, WriterValue, new_writer, touches, overlaps_taken, with_write, commit_wanted, open_committed, NextCall, SendsWrite, SendsCommit, next_at, next_place, WriterSends, next_sent, mirror_of_call, after_reply, after_timeout, covered_flag}
 
 -- ---- runs
 
@@ -25,7 +25,7 @@ pub data WriterNote : Type 0 where
   CommitAnswered : (place verifier : ℕ) → WriterNote
 
 pub record WriterRun : Type 0 where
-  pub writer : MirrorWriter
+  pub writer : WriterValue
   pub notes : List WriterNote
 
 abbrev pub noted_next : ℕ → Option NextCall → List WriterNote
@@ -37,7 +37,7 @@ abbrev pub noted_mirror : Bool → ℕ → Option WriterMirror → List WriterNo
 noted_mirror wants place None = []
 noted_mirror wants place (Some m) = noted_next place (next_at wants m)
 
-abbrev pub sent_notes : MirrorWriter → Option ℕ → List WriterNote
+abbrev pub sent_notes : WriterValue → Option ℕ → List WriterNote
 sent_notes s None = []
 sent_notes s (Some place) = noted_mirror s.wants_commit place (slice_get s.mirrors place)
 
@@ -68,15 +68,15 @@ abbrev pub mirror_notes : ℕ → DsReplyValue → Option WriterMirror → List 
 mirror_notes place reply None = []
 mirror_notes place reply (Some m) = call_notes place reply m.call
 
-abbrev pub answer_notes : MirrorWriter → DsReplyValue → Option ℕ → List WriterNote
+abbrev pub answer_notes : WriterValue → DsReplyValue → Option ℕ → List WriterNote
 answer_notes s reply None = []
 answer_notes s reply (Some place) = mirror_notes place reply (slice_get s.mirrors place)
 
-abbrev pub sent_from : MirrorWriter → Option WriterSends → MirrorWriter
+abbrev pub sent_from : WriterValue → Option WriterSends → WriterValue
 sent_from s None = s
 sent_from s (Some sends) = sends.writer
 
-abbrev pub is_new_call : MirrorWriter → ℕ → Option ℕ → Bool
+abbrev pub is_new_call : WriterValue → ℕ → Option ℕ → Bool
 is_new_call s xid None = true
 is_new_call s xid (Some place) = false
 
@@ -157,24 +157,24 @@ abbrev pub call_of_mirror : Option WriterMirror → WriterCall
 call_of_mirror None = NoCall
 call_of_mirror (Some m) = m.call
 
-abbrev pub call_at_place : MirrorWriter → Option ℕ → WriterCall
+abbrev pub call_at_place : WriterValue → Option ℕ → WriterCall
 call_at_place s None = NoCall
 call_at_place s (Some place) = call_of_mirror (slice_get s.mirrors place)
 
 -- `Committed` is told just where this reply is an OK answer to a COMMIT, and with it each mirror that has not failed is committed
-pub record CommittedJustWhere (s : MirrorWriter) (xid : ℕ) (reply : DsReplyValue) : Type 0 where
+pub record CommittedJustWhere (s : WriterValue) (xid : ℕ) (reply : DsReplyValue) : Type 0 where
   pub only : (after_reply s xid reply).step ≡ step.Committed → (is_ok_commit reply (call_at_place s (mirror_of_call s xid)) ≡ true) × (open_committed (after_reply s xid reply).writer.mirrors ≡ true)
   pub where_so : is_ok_commit reply (call_at_place s (mirror_of_call s xid)) ≡ true → open_committed (after_reply s xid reply).writer.mirrors ≡ true → (after_reply s xid reply).step ≡ step.Committed
 
 -- a WRITE has the place and the bytes of a taken write, and goes to one of the mirrors
-abbrev pub IsOfTaken : MirrorWriter → MirrorId → DsCallValue → Type 0
+abbrev pub IsOfTaken : WriterValue → MirrorId → DsCallValue → Type 0
 IsOfTaken s id (Write fileid at synced bytes) = (fileid ≡ id.fileid) × (synced ≡ false) × Contains s.taken (record { at = at; bytes = bytes })
 IsOfTaken s id (Commit fileid) = fileid ≡ id.fileid
 IsOfTaken s id (Create name owner) = ⊥
 IsOfTaken s id (SetAttr fileid owner guard) = ⊥
 IsOfTaken s id (Read fileid at count) = ⊥
 
-pub record SendsTaken (s : MirrorWriter) (xid : ℕ) (sends : WriterSends) : Type 0 where
+pub record SendsTaken (s : WriterValue) (xid : ℕ) (sends : WriterSends) : Type 0 where
   pub mirror : (place : ℕ) × (m : WriterMirror) × (slice_get s.mirrors place ≡ Some m) × (m.id ≡ sends.id)
   pub call : IsOfTaken s sends.id sends.call
 
@@ -182,5 +182,5 @@ pub record WriterLaw : Type 0 where
   pub disjoint : (mirrors : List Mirror) (moves : List WriterMove) → AreDisjointWrites (writer_run mirrors moves).writer.taken
   pub covers : (mirrors : List Mirror) (moves : List WriterMove) (place write : ℕ) → CoversJustWhere (writer_run mirrors moves) place write
   pub stays : (mirrors : List Mirror) (moves : List WriterMove) (move : WriterMove) → StaysCovered mirrors moves move
-  pub committed : (s : MirrorWriter) (xid : ℕ) (reply : DsReplyValue) → CommittedJustWhere s xid reply
-  pub sends : (s : MirrorWriter) (xid : ℕ) (sends : WriterSends) → next_sent s xid ≡ Some sends → SendsTaken s xid sends
+  pub committed : (s : WriterValue) (xid : ℕ) (reply : DsReplyValue) → CommittedJustWhere s xid reply
+  pub sends : (s : WriterValue) (xid : ℕ) (sends : WriterSends) → next_sent s xid ≡ Some sends → SendsTaken s xid sends
