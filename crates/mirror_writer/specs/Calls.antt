@@ -1,11 +1,12 @@
 -- What the calls of a writer do.
-use Rattle.std.specs.Prelude.{◌≡◌, ℕ, ◌×◌, Bool, true, false, List, length, Option, Some, None, option_map}
+use Rattle.std.specs.Prelude.{◌≡◌, ℕ, Bool, true, false, List, length, Option, Some, None, option_map}
 use Rattle.cluster_model.specs.declared.ids.MirrorId.{MirrorId}
 use Rattle.cluster_model.specs.declared.ds_call.DsCall.{DsCall}
 use Rattle.cluster_model.specs.DsCalls.{plain_ds_call}
 use Rattle.mirror_writer.specs.declared.step.WriteStart.{WriteStart}
 use Rattle.mirror_writer.specs.declared.step.WriteStart.TheVariants.{Taken, Overlap, NoMemory}
-use Rattle.mirror_writer.specs.Writers.{TakenWrite, WriterValue, overlaps_taken, with_write, next_sent}
+use Rattle.mirror_writer.specs.declared.call.TakenWrite.{TakenWrite}
+use Rattle.mirror_writer.specs.Writers.{WriterValue, overlaps_taken, with_write, next_sent}
 
 abbrev pub TakesWriteAs : WriterValue → ℕ → List ℕ → WriteStart → WriterValue → Type 0
 TakesWriteAs old at bytes Taken new = (overlaps_taken old at (length bytes) ≡ false) × (new ≡ with_write old at bytes)

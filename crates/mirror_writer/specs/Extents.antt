@@ -1,6 +1,6 @@
 -- Sets of places of a file. A run of places is the pair of its first and of the first behind it.
-use Rattle.std.specs.Prelude.{◌≡◌, ℕ, ◌+◌, ◌<◌, ◌×◌, Bool, true, false, ◌&&◌, ◌||◌, not, List, [], ◌∷◌, map, Unit, nat_le, nat_lt}
-use Rattle.std.specs.List.{list_any}
+use Rattle.std.specs.Prelude.{◌≡◌, ℕ, ◌+◌, ◌<◌, ◌≤◌, Bool, true, false, ◌&&◌, ◌||◌, not, List, [], ◌∷◌, map, Unit, nat_le, nat_lt}
+use Rattle.std.specs.List.{All, list_any}
 
 abbrev pub has_place : ℕ → (ℕ × ℕ) → Bool
 has_place p run = nat_le run.0 p && nat_lt p run.1
@@ -35,3 +35,11 @@ run_of_gap gap = (gap.0, gap.0 + gap.1)
 pub record AreGaps (runs : List (ℕ × ℕ)) (at count : ℕ) (gaps : List (ℕ × ℕ)) : Type 0 where
   pub apart : AreApart (map run_of_gap gaps)
   pub places : (p : ℕ) → is_place (map run_of_gap gaps) p ≡ (in_window at count p && not (is_place runs p))
+
+-- no place is at or behind this one
+abbrev pub EndBy : ℕ → List (ℕ × ℕ) → Type 0
+EndBy end runs = All (λ run. run.1 ≤ end) runs
+
+-- the places of a file end here
+abbrev pub max_place : ℕ
+max_place = 67108864

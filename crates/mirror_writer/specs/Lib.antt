@@ -2,3 +2,5 @@ pub mod Extents
 pub mod Writers
 pub mod WriterLaws
 pub mod Calls
+pub mod Rooms
+pub mod MirrorSteps

@@ -1,11 +1,16 @@
 -- What holds of a writer in every run of it, told by what was sent and answered (RFC 8435, section 8; RFC 1813, sections 3.3.7 and 3.3.21).
-use Rattle.std.specs.Prelude.{◌≡◌, ℕ, ◌<◌, ◌×◌, Bool, true, false, ◌==◌, ◌&&◌, not, List, [], ◌∷◌, ◌++◌, length, Option, Some, None, fold, slice_get, if◌then◌else◌}
+use Rattle.std.specs.Prelude.{◌≡◌, ℕ, ◌<◌, Bool, true, false, ◌==◌, ◌&&◌, not, List, [], ◌∷◌, ◌++◌, length, Option, Some, None, fold, slice_get, if◌then◌else◌}
 use Rattle.std.specs.List.{All, AllPairs, Contains, find}
 use Rattle.cluster_model.specs.declared.ids.Mirror.{Mirror}
 use Rattle.cluster_model.specs.declared.ids.MirrorId.{MirrorId}
 use Rattle.cluster_model.specs.DsCalls.{DsCallValue, Create, SetAttr, Write, Commit, Read, DsReplyValue, Created, Set, Written, Committed, Bytes, NotSync, Failed}
 use Rattle.mirror_writer.specs.declared.step.WriterStep.TheVariants as step
-use Rattle.mirror_writer.specs.Writers.{TakenWrite, WriterCall, NoCall, OutWrite, OutCommit, WriterMirror, WriterValue, new_writer, touches, overlaps_taken, with_write, commit_wanted, open_committed, NextCall, SendsWrite, SendsCommit, next_at, next_place, WriterSends, next_sent, mirror_of_call, after_reply, after_timeout, covered_flag}
+use Rattle.mirror_writer.specs.declared.call.TakenWrite.{TakenWrite}
+use Rattle.mirror_writer.specs.declared.call.WriterCall.{WriterCall}
+use Rattle.mirror_writer.specs.declared.call.WriterCall.TheVariants.{NoCall, OutWrite, OutCommit}
+use Rattle.mirror_writer.specs.declared.call.NextCall.{NextCall}
+use Rattle.mirror_writer.specs.declared.call.NextCall.TheVariants.{SendsWrite, SendsCommit}
+use Rattle.mirror_writer.specs.Writers.{WriterMirror, WriterValue, new_writer, touches, overlaps_taken, with_write, commit_wanted, open_committed, next_at, next_place, WriterSends, next_sent, mirror_of_call, after_reply, after_timeout, covered_flag}
 
 -- ---- runs
 
@@ -94,8 +99,8 @@ writer_moved run (TakesReply xid reply) = record {
 }
 writer_moved run (TakesTimeout xid) = record { writer = (after_timeout run.writer xid).writer; notes = run.notes }
 
-abbrev pub writer_run : List Mirror → List WriterMove → WriterRun
-writer_run mirrors moves = fold writer_moved (record { writer = new_writer mirrors; notes = [] }) moves
+abbrev pub writer_run : List Mirror → ℕ → List WriterMove → WriterRun
+writer_run mirrors cred moves = fold writer_moved (record { writer = new_writer mirrors cred; notes = [] }) moves
 
 -- ---- the promises
 
@@ -136,10 +141,10 @@ pub record CoversJustWhere (run : WriterRun) (place write : ℕ) : Type 0 where
   pub where_so : IsCoveredBy place write run.notes → covered_of write (slice_get run.writer.mirrors place) ≡ true
 
 -- a covered write stays covered
-abbrev pub StaysCovered : List Mirror → List WriterMove → WriterMove → Type 0
-StaysCovered mirrors moves move =
-    (place write : ℕ) → covered_of write (slice_get (writer_run mirrors moves).writer.mirrors place) ≡ true
-    → covered_of write (slice_get (writer_moved (writer_run mirrors moves) move).writer.mirrors place) ≡ true
+abbrev pub StaysCovered : List Mirror → ℕ → List WriterMove → WriterMove → Type 0
+StaysCovered mirrors cred moves move =
+    (place write : ℕ) → covered_of write (slice_get (writer_run mirrors cred moves).writer.mirrors place) ≡ true
+    → covered_of write (slice_get (writer_moved (writer_run mirrors cred moves) move).writer.mirrors place) ≡ true
 
 -- an OK answer to an outstanding COMMIT
 abbrev pub is_ok_commit : DsReplyValue → WriterCall → Bool
@@ -179,8 +184,8 @@ pub record SendsTaken (s : WriterValue) (xid : ℕ) (sends : WriterSends) : Type
   pub call : IsOfTaken s sends.id sends.call
 
 pub record WriterLaw : Type 0 where
-  pub disjoint : (mirrors : List Mirror) (moves : List WriterMove) → AreDisjointWrites (writer_run mirrors moves).writer.taken
-  pub covers : (mirrors : List Mirror) (moves : List WriterMove) (place write : ℕ) → CoversJustWhere (writer_run mirrors moves) place write
-  pub stays : (mirrors : List Mirror) (moves : List WriterMove) (move : WriterMove) → StaysCovered mirrors moves move
+  pub disjoint : (mirrors : List Mirror) (cred : ℕ) (moves : List WriterMove) → AreDisjointWrites (writer_run mirrors cred moves).writer.taken
+  pub covers : (mirrors : List Mirror) (cred : ℕ) (moves : List WriterMove) (place write : ℕ) → CoversJustWhere (writer_run mirrors cred moves) place write
+  pub stays : (mirrors : List Mirror) (cred : ℕ) (moves : List WriterMove) (move : WriterMove) → StaysCovered mirrors cred moves move
   pub committed : (s : WriterValue) (xid : ℕ) (reply : DsReplyValue) → CommittedJustWhere s xid reply
   pub sends : (s : WriterValue) (xid : ℕ) (sends : WriterSends) → next_sent s xid ≡ Some sends → SendsTaken s xid sends

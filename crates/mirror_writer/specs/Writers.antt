@@ -1,6 +1,6 @@
 -- One layout's writes to all of its mirrors (RFC 8435, sections 5 and 8; RFC 1813, sections 3.3.7 and 3.3.21): what a writer has, and what
 -- each call makes of it.
-use Rattle.std.specs.Prelude.{◌≡◌, ℕ, ◌+◌, ◌×◌, Bool, true, false, ◌==◌, ◌&&◌, ◌||◌, not, List, [], ◌∷◌, ◌++◌, length, map, position, take, replicate, Option, Some, None, nat_lt, if◌then◌else◌, slice_get, slice_set}
+use Rattle.std.specs.Prelude.{◌≡◌, ℕ, ◌+◌, Bool, true, false, ◌==◌, ◌&&◌, ◌||◌, not, List, [], ◌∷◌, ◌++◌, length, map, position, take, replicate, Option, Some, None, nat_lt, if◌then◌else◌, slice_get, slice_set}
 use Rattle.std.specs.List.{list_all, list_any, filter, find}
 use Rattle.std.specs.Option.{option_map}
 use Rattle.cluster_model.specs.declared.ids.Mirror.{Mirror}
@@ -9,25 +9,17 @@ use Rattle.cluster_model.specs.declared.phase.LeftCause.{LeftCause}
 use Rattle.cluster_model.specs.declared.phase.LeftCause.TheVariants.{Error, Timeouts}
 use Rattle.cluster_model.specs.DsCalls.{DsCallValue, Write, Commit, DsReplyValue, Created, Set, Written, Committed, Bytes, NotSync, Failed}
 use Rattle.cluster_model.specs.Fences.{odd_answer}
+use Rattle.cluster_model.specs.Journal.{is_mirror}
+use Rattle.mirror_writer.specs.declared.call.TakenWrite.{TakenWrite}
+use Rattle.mirror_writer.specs.declared.call.WriteAnswer.{WriteAnswer}
+use Rattle.mirror_writer.specs.declared.call.WriterCall.{WriterCall}
+use Rattle.mirror_writer.specs.declared.call.WriterCall.TheVariants.{NoCall, OutWrite, OutCommit}
+use Rattle.mirror_writer.specs.declared.call.NextCall.{NextCall}
+use Rattle.mirror_writer.specs.declared.call.NextCall.TheVariants.{SendsWrite, SendsCommit}
 use Rattle.mirror_writer.specs.declared.step.WriterStep.{WriterStep}
 use Rattle.mirror_writer.specs.declared.step.WriterStep.TheVariants as step
 
 -- ---- what a writer has
-
-pub record TakenWrite : Type 0 where
-  pub at : ℕ
-  pub bytes : List ℕ
-
--- an OK answer to a WRITE: which of the taken writes, counted from 0, and the answer's verifier
-pub record WriteAnswer : Type 0 where
-  pub write : ℕ
-  pub verifier : ℕ
-
--- the call under way at a mirror, its number, and how often it timed out
-pub data WriterCall : Type 0 where
-  NoCall : WriterCall
-  OutWrite : (xid write timeouts : ℕ) → WriterCall
-  OutCommit : (xid timeouts : ℕ) → WriterCall
 
 pub record WriterMirror : Type 0 where
   pub id : MirrorId
@@ -41,6 +33,8 @@ pub record WriterMirror : Type 0 where
   pub has_failed : Bool
 
 pub record WriterValue : Type 0 where
+  -- the uid that the calls carry
+  pub cred : ℕ
   pub taken : List TakenWrite
   pub mirrors : List WriterMirror
   pub wants_commit : Bool
@@ -52,8 +46,8 @@ pub record WriterValue : Type 0 where
 abbrev pub new_mirror : Mirror → WriterMirror
 new_mirror mirror = record { id = mirror.id; queue = []; call = NoCall; answered = []; covered = []; has_failed = false }
 
-abbrev pub new_writer : List Mirror → WriterValue
-new_writer mirrors = record { taken = []; mirrors = map new_mirror mirrors; wants_commit = false; is_fenced = false }
+abbrev pub new_writer : List Mirror → ℕ → WriterValue
+new_writer mirrors cred = record { cred = cred; taken = []; mirrors = map new_mirror mirrors; wants_commit = false; is_fenced = false }
 
 -- ---- a write is taken
 
@@ -69,6 +63,7 @@ queued n m = record { id = m.id; queue = m.queue ++ n ∷ []; call = m.call; ans
 
 abbrev pub with_write : WriterValue → ℕ → List ℕ → WriterValue
 with_write s at bytes = record {
+  cred = s.cred;
   taken = s.taken ++ (record { at = at; bytes = bytes }) ∷ [];
   mirrors = map (queued (length s.taken)) s.mirrors;
   wants_commit = s.wants_commit;
@@ -96,13 +91,9 @@ rest_committed s = open_committed s.mirrors && list_any (λ m. not m.has_failed 
 
 -- the wish to commit, which is no wish where all is committed
 abbrev pub commit_wanted : WriterValue → WriterValue
-commit_wanted s = record { taken = s.taken; mirrors = s.mirrors; wants_commit = not (all_committed s); is_fenced = s.is_fenced }
+commit_wanted s = record { cred = s.cred; taken = s.taken; mirrors = s.mirrors; wants_commit = not (all_committed s); is_fenced = s.is_fenced }
 
 -- ---- the next call
-
-pub data NextCall : Type 0 where
-  SendsWrite : (write : ℕ) → NextCall
-  SendsCommit : NextCall
 
 abbrev pub next_idle : Bool → WriterMirror → List ℕ → Option NextCall
 next_idle wants m (n ∷ queue) = Some (SendsWrite n)
@@ -135,7 +126,7 @@ with_out xid (SendsWrite n) m = record { id = m.id; queue = unqueued m.queue; ca
 with_out xid SendsCommit m = record { id = m.id; queue = m.queue; call = OutCommit xid 0; answered = m.answered; covered = m.covered; has_failed = m.has_failed }
 
 abbrev pub with_writer_mirrors : WriterValue → List WriterMirror → WriterValue
-with_writer_mirrors s mirrors = record { taken = s.taken; mirrors = mirrors; wants_commit = s.wants_commit; is_fenced = s.is_fenced }
+with_writer_mirrors s mirrors = record { cred = s.cred; taken = s.taken; mirrors = mirrors; wants_commit = s.wants_commit; is_fenced = s.is_fenced }
 
 pub record WriterSends : Type 0 where
   pub writer : WriterValue
@@ -199,7 +190,7 @@ abbrev pub without_call : WriterMirror → WriterMirror
 without_call m = record { id = m.id; queue = m.queue; call = NoCall; answered = m.answered; covered = m.covered; has_failed = m.has_failed }
 
 abbrev pub fenced : WriterValue → WriterValue
-fenced s = record { taken = s.taken; mirrors = s.mirrors; wants_commit = s.wants_commit; is_fenced = true }
+fenced s = record { cred = s.cred; taken = s.taken; mirrors = s.mirrors; wants_commit = s.wants_commit; is_fenced = true }
 
 abbrev pub is_fenced_by : WriterValue → ℕ → WriterMirror → ℕ → WriterAfter
 is_fenced_by s place m status = record { writer = fenced (with_writer_mirror s place (without_call m)); step = step.Fenced m.id status }
@@ -251,7 +242,7 @@ with_commit verifier m = record {
 abbrev pub after_commit : WriterValue → WriterAfter
 after_commit s =
     if open_committed s.mirrors
-    then record { writer = record { taken = s.taken; mirrors = s.mirrors; wants_commit = false; is_fenced = s.is_fenced }; step = step.Committed }
+    then record { writer = record { cred = s.cred; taken = s.taken; mirrors = s.mirrors; wants_commit = false; is_fenced = s.is_fenced }; step = step.Committed }
     else record { writer = s; step = step.Waiting }
 
 abbrev pub commit_answered : WriterValue → ℕ → WriterMirror → DsReplyValue → WriterAfter

@@ -2,12 +2,11 @@
 //! sends the same bytes to every mirror, commits them, and knows which mirror has what.
 #![tactic(auto)]
 
+mod call;
 mod extents;
 mod laws;
 mod mirror;
 mod step;
-#[cfg(test)]
-mod tests;
 mod writer;
 
 pub use extents::Extents;
