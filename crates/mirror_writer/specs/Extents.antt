@@ -1,5 +1,5 @@
 -- Sets of places of a file. A run of places is the pair of its first and of the first behind it.
-use Rattle.std.specs.Prelude.{◌≡◌, ℕ, ◌+◌, ◌<◌, ◌≤◌, Bool, true, false, ◌&&◌, ◌||◌, not, List, [], ◌∷◌, map, Unit, nat_le, nat_lt}
+use Rattle.std.specs.Prelude.{◌≡◌, ℕ, ◌+◌, ◌<◌, ◌≤◌, Bool, true, false, ◌&&◌, ◌||◌, not, ⊤, List, [], ◌∷◌, map, nat_le, nat_lt}
 use Rattle.std.specs.List.{All, list_any}
 
 abbrev pub has_place : ℕ → (ℕ × ℕ) → Bool
@@ -10,7 +10,7 @@ is_place runs p = list_any (has_place p) runs
 
 -- A set has one list of runs: they stand in order, none is empty, and between two there is a place that is in neither.
 abbrev pub AreApart : List (ℕ × ℕ) → Type 0
-AreApart [] = Unit {0}
+AreApart [] = ⊤
 AreApart (run ∷ []) = run.0 < run.1
 AreApart (run ∷ next ∷ runs) = (run.0 < run.1) × (run.1 < next.0) × AreApart (next ∷ runs)
 

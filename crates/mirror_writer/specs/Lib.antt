@@ -4,3 +4,4 @@ pub mod WriterLaws
 pub mod Calls
 pub mod Rooms
 pub mod MirrorSteps
+pub mod Places

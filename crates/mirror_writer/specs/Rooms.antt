@@ -34,12 +34,12 @@ timeouts_of (OutWrite xid write timeouts) = timeouts
 timeouts_of (OutCommit xid timeouts) = timeouts
 
 -- Each taken write stands at most once in the queue, the call and the answers, so neither the queue nor the answers outgrow their room.
-pub record IsRoomy (r : RoomyMirror) (uncovered : ℕ) : Type 0 where
+pub record IsRoomy (r : RoomyMirror) (count : ℕ) : Type 0 where
   pub fits : length r.mirror.queue + length r.mirror.answered + writes_out r.mirror.call ≤ length r.mirror.covered
   pub queue : length r.mirror.covered ≤ r.queue_room
   pub answers : length r.mirror.covered ≤ r.answer_room
   pub timeouts : timeouts_of r.mirror.call ≤ 2
-  pub uncovered : uncovered ≡ count_by not r.mirror.covered
+  pub uncovered : count ≡ count_by not r.mirror.covered
 
 -- a WRITE that is sent is the first of the queue
 abbrev pub CanSend : NextCall → WriterMirror → Type 0

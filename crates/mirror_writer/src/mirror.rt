@@ -1,6 +1,6 @@
 //! What goes to one mirror, and what came of it.
 
-ghost use Rattle.std.specs.Prelude.{◌≡◌, ◌≤◌, ◌+◌, ◌++◌, ◌<◌, length, map, not, count_by, OnOk, slice_get, slice_set, true};
+ghost use Rattle.std.specs.Prelude.{◌≡◌, ◌≤◌, ◌+◌, ◌++◌, ◌<◌, length, map, not, count_by, OnOk, slice_get, slice_set, true, if◌then◌else◌};
 ghost use Rattle.std.specs.List.{filter};
 ghost use Rattle.std.specs.VecDeque.{deque_len, deque_capacity};
 ghost use Rattle.cluster_model.specs.DsCalls.{plain_ds_reply};
@@ -125,7 +125,7 @@ impl MirrorWrites {
         }
         match self.queue.front() {
             Some(write) => Some(NextCall::SendsWrite(*write)),
-            None if wants_commit && self.uncovered != 0 => Some(NextCall::SendsCommit),
+            None if wants_commit && !self.is_committed() => Some(NextCall::SendsCommit),
             None => None,
         }
     }
@@ -291,6 +291,7 @@ impl MirrorWrites {
 fn requeue(answered: &[WriteAnswer], verifier: u64, queue: &mut VecDeque<usize>)
     requires { deque_len queue.old + length answered.now ≤ deque_capacity queue.old }
     ensures items { queue.new.items ≡ queue.old.items ++ map (λ a. a.write) (filter (λ a. not (has_verifier verifier a)) answered.now) }
+    ensures size { deque_len queue.new ≤ deque_len queue.old + length answered.now }
     ensures room { deque_capacity queue.new ≡ deque_capacity queue.old }
 {
     for answer in answered {
@@ -307,23 +308,19 @@ fn cover(answered: &[WriteAnswer], verifier: u64, covered: &mut [bool]) -> usize
 {
     let mut count = 0;
     for answer in answered {
-        if answer.verifier == verifier {
-            count += cover_one(answer.write, covered);
-        }
+        count += cover_if(*answer, verifier, covered);
     }
     count
 }
 
-/// The write of this number is covered; answers 1 where it was not before.
-fn cover_one(write: usize, covered: &mut [bool]) -> usize
-    ensures flags { covered.new ≡ slice_set covered.old write true }
+/// The write of this answer is covered where the answer has this verifier; answers 1 where it was not before.
+fn cover_if(answer: WriteAnswer, verifier: u64, covered: &mut [bool]) -> usize
+    ensures flags { covered.new ≡ (if has_verifier verifier answer then slice_set covered.old answer.write true else covered.old) }
     ensures count { result + count_by not covered.new ≡ count_by not covered.old }
 {
-    match covered.get_mut(write) {
-        Some(flag) if !*flag => {
-            *flag = true;
-            1
-        }
-        _ => 0,
+    if answer.verifier == verifier && answer.write < covered.len() && !covered[answer.write] {
+        covered[answer.write] = true;
+        return 1;
     }
+    0
 }

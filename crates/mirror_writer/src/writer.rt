@@ -1,14 +1,19 @@
 //! A writer over the mirrors of one file.
 
-ghost use Rattle.std.specs.Prelude.{◌≡◌, ◌≤◌, ◌+◌, ◌<◌, length, IfOk, option_map, position, map};
-ghost use Rattle.std.specs.List.{list_all, list_any, find};
+ghost use Rattle.std.specs.Prelude.{◌≡◌, ◌≤◌, ◌+◌, ◌<◌, length, false, IfOk, OnOk, OnErr, option_map, position, map, slice_get};
+ghost use Rattle.std.specs.List.{list_all, list_any, find, All};
 ghost use Rattle.cluster_model.specs.DsCalls.{plain_ds_reply};
-ghost use Rattle.mirror_writer.specs.Writers.{new_writer, commit_wanted, all_committed, rest_committed, after_reply, after_timeout, reported_places, is_covered_at};
+ghost use Rattle.mirror_writer.specs.Writers.{new_writer, commit_wanted, all_committed, rest_committed, after_reply, after_timeout, reported_places, is_covered_at, overlaps_taken, with_write, open_committed};
 ghost use Rattle.mirror_writer.specs.Calls.{TakesWriteAs, SendsCall, LendsTaken};
+ghost use Rattle.mirror_writer.specs.MirrorSteps.{settled_as};
 
 use crate::call::{NextCall, Outcome, TakenWrite};
 use crate::extents::Extents;
 use crate::mirror::MirrorWrites;
+use crate::mirrors::{
+    all_committed, answer_at, covers_at, failed_places, next_of, open_committed, queue_all,
+    reserve_all, rest_committed, send_at, time_out_at, waiting, outstanding,
+};
 use crate::step::{WriteStart, WriterStep};
 use cluster_model::{Cred, DsCall, DsReply, MirrorId, Mirrors, Reported};
 use ff_xdr::{Data, NoMemory};
@@ -31,17 +36,194 @@ pub struct Writer {
 impl Model for Writer {
     ghost use Rattle.mirror_writer.specs.Writers.{WriterValue};
     ghost use Rattle.mirror_writer.specs.Rooms.{mirrors_shown};
+    ghost use Rattle.mirror_writer.specs.Places.{ArePlacesOf};
 
     ghost Value = { WriterValue };
 
     ghost view = { λ w. record { cred = w.cred.0; taken = w.taken.items; mirrors = mirrors_shown w.mirrors.items; wants_commit = w.wants_commit; is_fenced = w.is_fenced } };
+
+    ghost invariant = { λ w. ArePlacesOf w.taken.items w.places };
 }
 
 impl Writer {
+    /// A writer that has taken nothing; its calls carry the layout's uid.
+    pub fn open(alloc: Global, mirrors: Mirrors, cred: Cred) -> Result<Writer, NoMemory>
+        ensures { IfOk result (λ w. w ≡ new_writer mirrors cred.0) }
+    {
+        Ok(Writer {
+            alloc,
+            cred,
+            taken: Vec::new(alloc),
+            places: Extents::new(alloc),
+            mirrors: open_all(alloc, mirrors)?,
+            wants_commit: false,
+            is_fenced: false,
+        })
+    }
+
     /// The uid that the calls carry.
     pub fn cred(&self) -> Cred
         ensures { result.0 ≡ self.now.cred }
     {
         self.cred
+    }
+
+    /// Takes a write of 1 to 65,536 bytes that ends at 67,108,864 or before, unless one of its places is a taken write's.
+    /// It waits at every mirror then.
+    pub fn write(&mut self, at: u64, bytes: &[u8]) -> WriteStart
+        requires some { 1 ≤ length bytes.now }
+        requires few { length bytes.now ≤ 65536 }
+        requires within { at + length bytes.now ≤ 67108864 }
+        ensures { TakesWriteAs self.old at bytes.now result self.new }
+    {
+        if self.places.overlaps(at, bytes.len() as u64) {
+            return WriteStart::Overlap;
+        }
+        match self.take(at, bytes) {
+            Ok(()) => WriteStart::Taken,
+            Err(NoMemory) => WriteStart::NoMemory,
+        }
+    }
+
+    /// Takes a write that has no place in common with the taken ones. At an error nothing has changed.
+    fn take(&mut self, at: u64, bytes: &[u8]) -> Result<(), NoMemory>
+        requires some { 1 ≤ length bytes.now }
+        requires within { at + length bytes.now ≤ 67108864 }
+        requires apart { overlaps_taken self.old at (length bytes.now) ≡ false }
+        ensures ok { OnOk result (self.new ≡ with_write self.old at bytes.now) }
+        ensures err { OnErr result (self.new ≡ self.old) }
+    {
+        let write = TakenWrite {
+            at,
+            bytes: Data::of(self.alloc, bytes)?,
+        };
+        reserve_all(&mut self.mirrors)?;
+        self.taken.reserve(1)?;
+        self.places.insert(at, bytes.len() as u64)?;
+        let n = self.taken.len();
+        queue_all(n, &mut self.mirrors);
+        self.taken.push_reserved(write);
+        Ok(())
+    }
+
+    /// From now on COMMIT goes to each mirror whose WRITEs are answered, until each that has not failed is committed.
+    pub fn commit(&mut self)
+        ensures { self.new ≡ commit_wanted self.old }
+    {
+        self.wants_commit = !all_committed(&self.mirrors);
+    }
+
+    /// The call to the first mirror to which one waits, which is outstanding from now on under this number; `None` where
+    /// none waits. Takes no memory.
+    pub fn next_call(&mut self, xid: u32) -> Option<(MirrorId, DsCall<'_>)>
+        ensures { SendsCall self.old xid result self.new }
+    {
+        if self.is_fenced {
+            return None;
+        }
+        let place = waiting(self.wants_commit, &self.mirrors)?;
+        let (id, next) = next_of(self.wants_commit, place, &self.mirrors)?;
+        match next {
+            NextCall::SendsWrite(n) => {
+                if n >= self.taken.len() {
+                    return None;
+                }
+                send_at(xid, next, place, &mut self.mirrors);
+                let write = &self.taken[n];
+                let call = DsCall::Write {
+                    fileid: id.fileid,
+                    at: write.at,
+                    synced: false,
+                    bytes: write.bytes.bytes(),
+                };
+                Some((id, call))
+            }
+            NextCall::SendsCommit => {
+                send_at(xid, next, place, &mut self.mirrors);
+                Some((id, DsCall::Commit { fileid: id.fileid }))
+            }
+        }
+    }
+
+    /// What the answer to the call of this number comes to. Takes no memory.
+    pub fn on_reply(&mut self, xid: u32, reply: &DsReply<'_>) -> WriterStep
+        ensures { record { writer = self.new; step = result } ≡ after_reply self.old xid (plain_ds_reply reply.now) }
+    {
+        let Some(place) = outstanding(xid, &self.mirrors) else {
+            return WriterStep::Stranger;
+        };
+        let (id, outcome) = answer_at(reply, place, &mut self.mirrors);
+        self.settle(id, outcome)
+    }
+
+    /// What a timeout of the call of this number comes to: at `Waiting` the same record is to be sent again.
+    pub fn on_timeout(&mut self, xid: u32) -> WriterStep
+        ensures { record { writer = self.new; step = result } ≡ after_timeout self.old xid }
+    {
+        let Some(place) = outstanding(xid, &self.mirrors) else {
+            return WriterStep::Stranger;
+        };
+        let (id, outcome) = time_out_at(place, &mut self.mirrors);
+        self.settle(id, outcome)
+    }
+
+    /// What it comes to for the writer that something came to pass at a mirror.
+    fn settle(&mut self, id: MirrorId, outcome: Outcome) -> WriterStep
+        ensures { record { writer = self.new; step = result } ≡ settled_as self.old id outcome }
+    {
+        match outcome {
+            Outcome::Stranger => WriterStep::Stranger,
+            Outcome::Waiting => WriterStep::Waiting,
+            Outcome::Failed(cause) => WriterStep::Failed { id, cause },
+            Outcome::Fenced(status) => {
+                self.is_fenced = true;
+                WriterStep::Fenced { id, status }
+            }
+            Outcome::CommitOk => {
+                if !open_committed(&self.mirrors) {
+                    return WriterStep::Waiting;
+                }
+                self.wants_commit = false;
+                WriterStep::Committed
+            }
+        }
+    }
+
+    /// For each place in the layout, whether its mirror has failed.
+    pub fn report(&self) -> Reported
+        ensures { result.places ≡ reported_places self.now }
+    {
+        Reported {
+            places: failed_places(&self.mirrors),
+        }
+    }
+
+    /// Each taken write is covered at each mirror.
+    pub fn all_committed(&self) -> bool
+        ensures { result ≡ all_committed self.now }
+    {
+        all_committed(&self.mirrors)
+    }
+
+    /// Each taken write is covered at each mirror that has not failed, and there is one.
+    pub fn rest_committed(&self) -> bool
+        ensures { result ≡ rest_committed self.now }
+    {
+        rest_committed(&self.mirrors)
+    }
+
+    /// The taken write of this number, from 0: its place and its bytes.
+    pub fn taken(&self, n: u32) -> Option<(u64, &[u8])>
+        ensures { LendsTaken (slice_get self.now.taken n) (option_map (λ w. (w.0, w.1.now)) result) }
+    {
+        let write = self.taken.get(n as usize)?;
+        Some((write.at, write.bytes.bytes()))
+    }
+
+    /// The taken write of this number is covered at this mirror.
+    pub fn covered(&self, n: u32, id: MirrorId) -> bool
+        ensures { result ≡ is_covered_at self.now n id }
+    {
+        covers_at(n as usize, id, &self.mirrors)
     }
 }
