@@ -1,1 +1,2 @@
 mod MirrorLemmas
+pub mod Shown

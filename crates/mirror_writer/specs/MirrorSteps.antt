@@ -1,5 +1,5 @@
 -- What an answer and a timeout come to at the mirror whose call is out.
-use Rattle.std.specs.Prelude.{◌≡◌, ℕ, ◌+◌, ◌==◌, ◌||◌, if◌then◌else◌}
+use Rattle.std.specs.Prelude.{◌≡◌, ℕ, ◌+◌, ◌==◌, ◌||◌, Bool, List, Option, Some, None, if◌then◌else◌, slice_get, slice_set}
 use Rattle.cluster_model.specs.declared.ids.MirrorId.{MirrorId}
 use Rattle.cluster_model.specs.declared.phase.LeftCause.{LeftCause}
 use Rattle.cluster_model.specs.declared.phase.LeftCause.TheVariants.{Error, Timeouts}
@@ -7,10 +7,11 @@ use Rattle.cluster_model.specs.DsCalls.{DsReplyValue, Created, Set, Written, Com
 use Rattle.cluster_model.specs.Fences.{odd_answer}
 use Rattle.mirror_writer.specs.declared.call.Outcome.{Outcome}
 use Rattle.mirror_writer.specs.declared.call.Outcome.TheVariants as outcome
+use Rattle.mirror_writer.specs.declared.call.NextCall.{NextCall}
 use Rattle.mirror_writer.specs.declared.call.WriterCall.{WriterCall}
 use Rattle.mirror_writer.specs.declared.call.WriterCall.TheVariants.{NoCall, OutWrite, OutCommit}
 use Rattle.mirror_writer.specs.declared.step.WriterStep.TheVariants as step
-use Rattle.mirror_writer.specs.Writers.{WriterMirror, WriterValue, WriterAfter, with_failure, without_call, with_answer, with_commit, with_writer_call, with_writer_mirror, after_commit, is_stranger, fenced}
+use Rattle.mirror_writer.specs.Writers.{WriterMirror, WriterValue, WriterAfter, with_failure, without_call, with_answer, with_commit, with_writer_call, with_writer_mirror, after_commit, is_stranger, fenced, next_at}
 
 pub record MirrorAfter : Type 0 where
   pub mirror : WriterMirror
@@ -62,3 +63,22 @@ settled_as s id outcome.Waiting = record { writer = s; step = step.Waiting }
 settled_as s id (outcome.Failed cause) = record { writer = s; step = step.Failed id cause }
 settled_as s id (outcome.Fenced status) = record { writer = fenced s; step = step.Fenced id status }
 settled_as s id outcome.CommitOk = after_commit s
+
+-- the mirror at a place takes a step
+pub record StepsAt (step : WriterMirror → MirrorAfter) (old : List WriterMirror) (place : ℕ) (id : MirrorId) (outcome : Outcome) (new : List WriterMirror) : Type 0 where
+  pub mirror : WriterMirror
+  pub found : slice_get old place ≡ Some mirror
+  pub id_is : id ≡ mirror.id
+  pub outcome_is : outcome ≡ (step mirror).outcome
+  pub set : new ≡ slice_set old place (step mirror).mirror
+
+-- the mirror at a place changes
+pub record SetsAt (old : List WriterMirror) (place : ℕ) (change : WriterMirror → WriterMirror) (new : List WriterMirror) : Type 0 where
+  pub mirror : WriterMirror
+  pub found : slice_get old place ≡ Some mirror
+  pub set : new ≡ slice_set old place (change mirror)
+
+abbrev pub NextOf : Bool → Option WriterMirror → Option (MirrorId × NextCall) → Type 0
+NextOf wants None result = ⊥
+NextOf wants (Some m) None = next_at wants m ≡ None
+NextOf wants (Some m) (Some (id, next)) = (next_at wants m ≡ Some next) × (id ≡ m.id)

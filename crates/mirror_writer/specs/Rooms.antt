@@ -1,5 +1,5 @@
 -- A mirror as the code has it: how many more taken writes it has room for.
-use Rattle.std.specs.Prelude.{◌≡◌, ℕ, ◌+◌, ◌<◌, ◌≤◌, Bool, not, List, length, map, count_by, ⊤}
+use Rattle.std.specs.Prelude.{◌≡◌, ℕ, ◌+◌, ◌<◌, ◌≤◌, Bool, false, not, Option, Some, None, List, length, map, count_by, ⊤}
 use Rattle.mirror_writer.specs.declared.call.WriterCall.{WriterCall}
 use Rattle.mirror_writer.specs.declared.call.WriterCall.TheVariants.{NoCall, OutWrite, OutCommit}
 use Rattle.mirror_writer.specs.declared.call.NextCall.{NextCall}
@@ -15,6 +15,10 @@ pub record RoomyMirror : Type 0 where
 
 abbrev pub mirrors_shown : List RoomyMirror → List WriterMirror
 mirrors_shown mirrors = map (λ r. r.mirror) mirrors
+
+abbrev pub has_failed_in : Option RoomyMirror → Bool
+has_failed_in None = false
+has_failed_in (Some r) = r.mirror.has_failed
 
 -- one more write needs no memory
 pub record HasRoom (r : RoomyMirror) : Type 0 where

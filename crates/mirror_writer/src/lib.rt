@@ -6,9 +6,11 @@ mod call;
 mod extents;
 mod laws;
 mod mirror;
+mod mirrors;
 mod step;
 mod writer;
 
+pub use call::NextCall;
 pub use extents::Extents;
 pub use laws::writer_law;
 pub use step::{WriteStart, WriterStep};

@@ -2,17 +2,18 @@
 
 ghost use Rattle.std.specs.Prelude.{◌≡◌, ◌≤◌, ◌+◌, ◌<◌, length, false, IfOk, OnOk, OnErr, option_map, position, map, slice_get};
 ghost use Rattle.std.specs.List.{list_all, list_any, find, All};
-ghost use Rattle.cluster_model.specs.DsCalls.{plain_ds_reply};
-ghost use Rattle.mirror_writer.specs.Writers.{new_writer, commit_wanted, all_committed, rest_committed, after_reply, after_timeout, reported_places, is_covered_at, overlaps_taken, with_write, open_committed};
-ghost use Rattle.mirror_writer.specs.Calls.{TakesWriteAs, SendsCall, LendsTaken};
+ghost use Rattle.cluster_model.specs.DsCalls.{plain_ds_call, plain_ds_reply};
+ghost use Rattle.mirror_writer.specs.Writers.{new_writer, commit_wanted, all_committed, rest_committed, after_reply, after_timeout, reported_places, is_covered_at, overlaps_taken, with_write, call_for};
+ghost use Rattle.mirror_writer.specs.Calls.{TakesWriteAs, SendsNext, LendsTaken};
 ghost use Rattle.mirror_writer.specs.MirrorSteps.{settled_as};
 
 use crate::call::{NextCall, Outcome, TakenWrite};
 use crate::extents::Extents;
 use crate::mirror::MirrorWrites;
 use crate::mirrors::{
-    all_committed, answer_at, covers_at, failed_places, next_of, open_committed, queue_all,
-    reserve_all, rest_committed, send_at, time_out_at, waiting, outstanding,
+    all_committed, answer_at, covers_at, failed_places, next_of, open_all, open_committed,
+    outstanding, queue_all, reserve_all, send_at, some_committed, time_out_at,
+    waiting,
 };
 use crate::step::{WriteStart, WriterStep};
 use cluster_model::{Cred, DsCall, DsReply, MirrorId, Mirrors, Reported};
@@ -113,36 +114,40 @@ impl Writer {
         self.wants_commit = !all_committed(&self.mirrors);
     }
 
-    /// The call to the first mirror to which one waits, which is outstanding from now on under this number; `None` where
-    /// none waits. Takes no memory.
-    pub fn next_call(&mut self, xid: u32) -> Option<(MirrorId, DsCall<'_>)>
-        ensures { SendsCall self.old xid result self.new }
+    /// What goes to the first mirror to which a call waits. It is outstanding from now on under this number, under which
+    /// none is before. `None` where none waits. Takes no memory; `call` lends the call itself.
+    pub fn next_call(&mut self, xid: u32) -> Option<(MirrorId, NextCall)>
+        ensures { SendsNext self.old xid result self.new }
     {
         if self.is_fenced {
             return None;
         }
         let place = waiting(self.wants_commit, &self.mirrors)?;
         let (id, next) = next_of(self.wants_commit, place, &self.mirrors)?;
-        match next {
-            NextCall::SendsWrite(n) => {
-                if n >= self.taken.len() {
-                    return None;
-                }
-                send_at(xid, next, place, &mut self.mirrors);
-                let write = &self.taken[n];
-                let call = DsCall::Write {
-                    fileid: id.fileid,
-                    at: write.at,
-                    synced: false,
-                    bytes: write.bytes.bytes(),
-                };
-                Some((id, call))
-            }
-            NextCall::SendsCommit => {
-                send_at(xid, next, place, &mut self.mirrors);
-                Some((id, DsCall::Commit { fileid: id.fileid }))
-            }
+        if let NextCall::SendsWrite(n) = next
+            && n >= self.taken.len()
+        {
+            return None;
         }
+        send_at(xid, next, place, &mut self.mirrors);
+        Some((id, next))
+    }
+
+    /// The call that `next_call` named: a WRITE, UNSTABLE, of the bytes as they were taken, or a COMMIT of the whole file
+    /// (RFC 1813, sections 3.3.7 and 3.3.21). `None` where there is no such write.
+    pub fn call(&self, id: MirrorId, next: NextCall) -> Option<DsCall<'_>>
+        ensures { option_map plain_ds_call result ≡ call_for self.now id next }
+    {
+        let NextCall::SendsWrite(n) = next else {
+            return Some(DsCall::Commit { fileid: id.fileid });
+        };
+        let write = self.taken.get(n)?;
+        Some(DsCall::Write {
+            fileid: id.fileid,
+            at: write.at,
+            synced: false,
+            bytes: write.bytes.bytes(),
+        })
     }
 
     /// What the answer to the call of this number comes to. Takes no memory.
@@ -209,7 +214,7 @@ impl Writer {
     pub fn rest_committed(&self) -> bool
         ensures { result ≡ rest_committed self.now }
     {
-        rest_committed(&self.mirrors)
+        open_committed(&self.mirrors) && some_committed(&self.mirrors)
     }
 
     /// The taken write of this number, from 0: its place and its bytes.
