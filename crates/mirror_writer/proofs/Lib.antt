@@ -1,2 +1,3 @@
 mod MirrorLemmas
 pub mod Shown
+mod WriterSteps

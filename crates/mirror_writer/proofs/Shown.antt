@@ -2,9 +2,11 @@
 use Rattle.std.proofs.Common.{◌≡◌, ℕ, ◌+◌, ◌<◌, Bool, true, false, not, ◌&&◌, ◌||◌, List, [], ◌∷◌, ◌++◌, length, map, take, drop, replicate, get_or, set, cond, Option, Some, None, refl, sym, ap, ◌∙◌, arith}
 use Rattle.std.specs.Prelude.{slice_get, option_map}
 use Rattle.std.specs.List.{list_all, list_any, find, position, position_from, position_or_len}
-use Rattle.std.proofs.lemmas.List.{map-set}
+use Rattle.std.proofs.lemmas.List.{map-set, get_or-map, length-map}
+use Rattle.std.proofs.lemmas.List.Edits.{map_over_more}
+use Rattle.std.proofs.Math.Seq.{map-set_same}
 use Rattle.std.proofs.lemmas.Option.{slice_get-map, slice_get-get_or}
-use Rattle.mirror_writer.specs.Writers.{WriterMirror}
+use Rattle.mirror_writer.specs.Writers.{WriterMirror, queued}
 use Rattle.mirror_writer.specs.Rooms.{RoomyMirror, mirrors_shown, has_failed_in}
 use Rattle.mirror_writer.specs.MirrorSteps.{MirrorAfter, StepsAt, SetsAt}
 use Rattle.mirror_writer.specs.declared.call.Outcome.{Outcome}
@@ -27,20 +29,35 @@ shown_at rs place d within = slice_get-map (λ r. r.mirror) rs place ∙ ap (opt
 shown_set : (rs : List RoomyMirror) (place : ℕ) (new : RoomyMirror) (m : WriterMirror) → new.mirror ≡ m → mirrors_shown (set rs place new) ≡ set (mirrors_shown rs) place m
 shown_set rs place new m is = map-set (λ r. r.mirror) rs place new ∙ ap (set (mirrors_shown rs) place) is
 
-pub sets_at : (change : WriterMirror → WriterMirror) (rs : List RoomyMirror) (place : ℕ) (old new : RoomyMirror) → place < length rs → old ≡ get_or rs place old
-    → new.mirror ≡ change old.mirror → SetsAt (mirrors_shown rs) place change (mirrors_shown (set rs place new))
-sets_at change rs place old new within here does = record {
-  mirror = old.mirror;
-  found = shown_at rs place old within ∙ ap (λ r. Some r.mirror) (sym here);
-  set = shown_set rs place new (change old.mirror) does;
+pub sets_at : (change : WriterMirror → WriterMirror) (rs : List RoomyMirror) (place : ℕ) (d new : RoomyMirror) → place < length rs
+    → new.mirror ≡ change (get_or rs place d).mirror → SetsAt (mirrors_shown rs) place change (mirrors_shown (set rs place new))
+sets_at change rs place d new within does = record {
+  mirror = (get_or rs place d).mirror;
+  found = shown_at rs place d within;
+  set = shown_set rs place new (change (get_or rs place d).mirror) does;
 }
 
-pub steps_at : (step : WriterMirror → MirrorAfter) (rs : List RoomyMirror) (place : ℕ) (old new : RoomyMirror) (id : MirrorId) (outcome : Outcome) → place < length rs → old ≡ get_or rs place old
-    → id ≡ old.mirror.id → record { mirror = new.mirror; outcome = outcome } ≡ step old.mirror → StepsAt step (mirrors_shown rs) place id outcome (mirrors_shown (set rs place new))
-steps_at step rs place old new id outcome within here named does = record {
-  mirror = old.mirror;
-  found = shown_at rs place old within ∙ ap (λ r. Some r.mirror) (sym here);
+pub steps_at : (step : WriterMirror → MirrorAfter) (rs : List RoomyMirror) (place : ℕ) (d new : RoomyMirror) (id : MirrorId) (outcome : Outcome) → place < length rs
+    → id ≡ (get_or rs place d).mirror.id → record { mirror = new.mirror; outcome = outcome } ≡ step (get_or rs place d).mirror
+    → StepsAt step (mirrors_shown rs) place id outcome (mirrors_shown (set rs place new))
+steps_at step rs place d new id outcome within named does = record {
+  mirror = (get_or rs place d).mirror;
+  found = shown_at rs place d within;
   id_is = named;
-  outcome_is = ap (λ a. a.outcome) does;
-  set = shown_set rs place new (step old.mirror).mirror (ap (λ a. a.mirror) does);
+  outcome_is = ap (λ (a : MirrorAfter). a.outcome) does;
+  set = shown_set rs place new (step (get_or rs place d).mirror).mirror (ap (λ (a : MirrorAfter). a.mirror) does);
 }
+
+-- a mirror that shows the same
+pub same_shown : (rs : List RoomyMirror) (place : ℕ) (d new : RoomyMirror) → new.mirror ≡ (get_or rs place d).mirror → mirrors_shown (set rs place new) ≡ mirrors_shown rs
+same_shown rs place d new is = map-set_same (λ r. r.mirror) rs place new d is
+
+-- a write waits at one mirror more
+pub queued_more : (n : ℕ) (rs xs : List RoomyMirror) (i : ℕ) (d new : RoomyMirror) → i < length xs → length rs ≡ length xs
+    → mirrors_shown rs ≡ map (queued n) (take i (mirrors_shown xs)) ++ drop i (mirrors_shown xs) → new.mirror ≡ queued n (get_or rs i d).mirror
+    → mirrors_shown (set rs i new) ≡ map (queued n) (take (i + 1) (mirrors_shown xs)) ++ drop (i + 1) (mirrors_shown xs)
+queued_more n rs xs i d new within same so_far does =
+    let m : WriterMirror = (get_or rs i d).mirror in
+    let size : length (mirrors_shown xs) ≡ length xs = length-map xs (λ (r : RoomyMirror). r.mirror) in
+    let here : get_or (mirrors_shown rs) i m ≡ m = get_or-map (λ r. r.mirror) rs i d m (omega (arith, within, same)) in
+    shown_set rs i new (queued n m) does ∙ map_over_more (queued n) (mirrors_shown xs) (mirrors_shown rs) i m (omega (arith, size, within)) so_far (sym here)

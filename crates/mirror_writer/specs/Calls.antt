@@ -1,12 +1,12 @@
 -- What the calls of a writer do.
-use Rattle.std.specs.Prelude.{◌≡◌, ℕ, Bool, true, false, List, length, Option, Some, None}
+use Rattle.std.specs.Prelude.{◌≡◌, ℕ, Bool, true, false, List, length, Option, Some, None, slice_get}
 use Rattle.cluster_model.specs.declared.ids.MirrorId.{MirrorId}
 use Rattle.cluster_model.specs.DsCalls.{DsCallValue}
 use Rattle.mirror_writer.specs.declared.call.NextCall.{NextCall}
 use Rattle.mirror_writer.specs.declared.step.WriteStart.{WriteStart}
 use Rattle.mirror_writer.specs.declared.step.WriteStart.TheVariants.{Taken, Overlap, NoMemory}
 use Rattle.mirror_writer.specs.declared.call.TakenWrite.{TakenWrite}
-use Rattle.mirror_writer.specs.Writers.{WriterValue, overlaps_taken, with_write, next_sent, call_for}
+use Rattle.mirror_writer.specs.Writers.{WriterMirror, WriterValue, overlaps_taken, with_write, next_place, next_at, next_sent, call_for}
 
 abbrev pub TakesWriteAs : WriterValue → ℕ → List ℕ → WriteStart → WriterValue → Type 0
 TakesWriteAs old at bytes Taken new = (overlaps_taken old at (length bytes) ≡ false) × (new ≡ with_write old at bytes)
@@ -23,3 +23,22 @@ abbrev pub SendsNext : WriterValue → ℕ → Option (MirrorId × NextCall) →
 SendsNext old xid None new = (next_sent old xid ≡ None) × (new ≡ old)
 SendsNext old xid (Some (id, next)) new =
     (call : DsCallValue) × (call_for new id next ≡ Some call) × (next_sent old xid ≡ Some (record { writer = new; id = id; call = call }))
+
+-- the call that waits to go out next, and where
+pub record IsNextAt (s : WriterValue) (place : ℕ) (id : MirrorId) (next : NextCall) : Type 0 where
+  pub mirror : WriterMirror
+  pub first : next_place s ≡ Some place
+  pub found : slice_get s.mirrors place ≡ Some mirror
+  pub next_is : next_at s.wants_commit mirror ≡ Some next
+  pub id_is : id ≡ mirror.id
+  pub call : DsCallValue
+  pub call_is : call_for s id next ≡ Some call
+
+abbrev pub IsToSend : WriterValue → Option (ℕ × MirrorId × NextCall) → Type 0
+IsToSend s None = (xid : ℕ) → next_sent s xid ≡ None
+IsToSend s (Some (place, id, next)) = IsNextAt s place id next
+
+-- whether there is no such call
+abbrev pub IsGone : WriterValue → NextCall → Bool → Type 0
+IsGone s next true = (id : MirrorId) → call_for s id next ≡ None
+IsGone s next false = (id : MirrorId) → (call : DsCallValue) × (call_for s id next ≡ Some call)

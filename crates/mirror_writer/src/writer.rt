@@ -4,7 +4,7 @@ ghost use Rattle.std.specs.Prelude.{◌≡◌, ◌≤◌, ◌+◌, ◌<◌, leng
 ghost use Rattle.std.specs.List.{list_all, list_any, find, All};
 ghost use Rattle.cluster_model.specs.DsCalls.{plain_ds_call, plain_ds_reply};
 ghost use Rattle.mirror_writer.specs.Writers.{new_writer, commit_wanted, all_committed, rest_committed, after_reply, after_timeout, reported_places, is_covered_at, overlaps_taken, with_write, call_for};
-ghost use Rattle.mirror_writer.specs.Calls.{TakesWriteAs, SendsNext, LendsTaken};
+ghost use Rattle.mirror_writer.specs.Calls.{TakesWriteAs, SendsNext, IsToSend, IsGone, LendsTaken};
 ghost use Rattle.mirror_writer.specs.MirrorSteps.{settled_as};
 
 use crate::call::{NextCall, Outcome, TakenWrite};
@@ -119,18 +119,34 @@ impl Writer {
     pub fn next_call(&mut self, xid: u32) -> Option<(MirrorId, NextCall)>
         ensures { SendsNext self.old xid result self.new }
     {
+        let (place, id, next) = self.to_send()?;
+        send_at(xid, next, place, &mut self.mirrors);
+        Some((id, next))
+    }
+
+    /// The place of the first mirror to which a call waits, its name, and the call.
+    fn to_send(&self) -> Option<(usize, MirrorId, NextCall)>
+        ensures { IsToSend self.now result }
+    {
         if self.is_fenced {
             return None;
         }
         let place = waiting(self.wants_commit, &self.mirrors)?;
         let (id, next) = next_of(self.wants_commit, place, &self.mirrors)?;
-        if let NextCall::SendsWrite(n) = next
-            && n >= self.taken.len()
-        {
+        if self.is_gone(next) {
             return None;
         }
-        send_at(xid, next, place, &mut self.mirrors);
-        Some((id, next))
+        Some((place, id, next))
+    }
+
+    /// It is the WRITE of no taken write.
+    fn is_gone(&self, next: NextCall) -> bool
+        ensures { IsGone self.now next result }
+    {
+        match next {
+            NextCall::SendsWrite(n) => n >= self.taken.len(),
+            NextCall::SendsCommit => false,
+        }
     }
 
     /// The call that `next_call` named: a WRITE, UNSTABLE, of the bytes as they were taken, or a COMMIT of the whole file
@@ -185,11 +201,11 @@ impl Writer {
                 WriterStep::Fenced { id, status }
             }
             Outcome::CommitOk => {
-                if !open_committed(&self.mirrors) {
-                    return WriterStep::Waiting;
+                if open_committed(&self.mirrors) {
+                    self.wants_commit = false;
+                    return WriterStep::Committed;
                 }
-                self.wants_commit = false;
-                WriterStep::Committed
+                WriterStep::Waiting
             }
         }
     }

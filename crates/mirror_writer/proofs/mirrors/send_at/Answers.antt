@@ -3,4 +3,4 @@ use Rattle.mirror_writer.proofs.Shown.{sets_at}
 use Rattle.mirror_writer.proofs.mirrors.send_at.Goals as goal
 
 pub returns : goal.returns
-returns c = sets_at (with_out c.args.xid c.args.next) c.args.mirrors.now c.args.place c.index-mirrors-place.result c.send.new.self c.requires.within c.index-mirrors-place.is c.send.ensures
+returns c = sets_at (with_out c.args.xid c.args.next) c.args.mirrors.now c.args.place c.index-mirrors-place.result c.send.new.self c.requires.within c.send.ensures
