@@ -1,3 +1,4 @@
 mod MirrorLemmas
 pub mod Shown
 mod WriterSteps
+mod PlaceLemmas

@@ -1,15 +1,17 @@
 -- What the calls of a writer make of its mirrors.
-use Rattle.std.proofs.Common.{◌≡◌, ℕ, ◌+◌, ◌<◌, Bool, true, false, List, [], ◌∷◌, ◌++◌, length, map, take, drop, set, get_or, cond, nat_lt, Option, Some, None, IfSome, refl, sym, ap, subst, ◌∙◌, arith}
-use Rattle.std.specs.Prelude.{slice_get, option_map, not, ◌&&◌, ◌||◌, ◌==◌, slice_set}
+use Rattle.std.proofs.Common.{◌≡◌, ℕ, ◌+◌, ◌<◌, Bool, true, false, List, [], ◌∷◌, ◌++◌, length, map, take, drop, set, get_or, cond, nat_lt, Option, Some, None, IfSome, refl, sym, ap, subst, ◌∙◌, arith, inl, inr, ◌⊎◌, ◌≤◌}
+use Rattle.std.specs.Prelude.{slice_get, option_map, nat_le, not, ◌&&◌, ◌||◌, ◌==◌, slice_set}
 use Rattle.std.specs.List.{list_all, list_any, find, position, position_or_len, prefix_len}
 use Rattle.std.proofs.lemmas.List.Folds.{list_all-map}
 use Rattle.std.proofs.lemmas.List.{length-map, set-get_or}
-use Rattle.std.proofs.lemmas.Option.{slice_get_within, slice_get-get_or}
+use Rattle.std.proofs.lemmas.Option.{slice_get_within, slice_get-get_or, slice_get_past, slice_get_cases, some_pair_parts}
+use Rattle.std.proofs.lemmas.Bool.{leb-true, leb-false}
+use Rattle.mirror_writer.specs.declared.call.TakenWrite.{TakenWrite}
 use Rattle.std.proofs.Math.Seq.{take-append_seam}
 use Rattle.cluster_model.specs.declared.ids.MirrorId.{MirrorId}
 use Rattle.cluster_model.specs.declared.phase.LeftCause.{LeftCause}
 use Rattle.cluster_model.specs.declared.phase.LeftCause.TheVariants.{Error, Timeouts}
-use Rattle.cluster_model.specs.DsCalls.{DsCallValue, DsReplyValue, Created, Set, Written, Committed, Bytes, NotSync, Failed}
+use Rattle.cluster_model.specs.DsCalls.{DsCallValue, DsReplyValue, Created, Set, Written, Committed, Bytes, NotSync, Failed, Write, Commit}
 use Rattle.mirror_writer.specs.declared.call.Outcome.{Outcome}
 use Rattle.mirror_writer.specs.declared.call.Outcome.TheVariants as outcome
 use Rattle.mirror_writer.specs.declared.call.NextCall.{NextCall}
@@ -18,7 +20,7 @@ use Rattle.mirror_writer.specs.declared.call.WriterCall.{WriterCall}
 use Rattle.mirror_writer.specs.declared.call.WriterCall.TheVariants.{NoCall, OutWrite, OutCommit}
 use Rattle.mirror_writer.specs.declared.step.WriterStep.{WriterStep}
 use Rattle.mirror_writer.specs.declared.step.WriterStep.TheVariants as step
-use Rattle.mirror_writer.specs.Writers.{WriterMirror, WriterValue, WriterAfter, WriterSends, is_committed, open_committed, next_at, next_idle, next_of_call, next_place, is_some_call, next_sent, sends_at, sends_to, sends_next, sends_as, call_for, with_out, with_writer_mirrors, with_writer_mirror, is_call, mirror_of_call, after_reply, answered_at, mirror_answered, call_answered, write_answered, commit_answered, refused_by, is_fenced_by, fails, fenced, is_stranger, with_failure, without_call, after_timeout, timed_out_at, mirror_timed_out, call_timed_out, timed_out_as, with_writer_call, after_commit}
+use Rattle.mirror_writer.specs.Writers.{WriterMirror, WriterValue, WriterAfter, WriterSends, is_committed, open_committed, next_at, next_idle, next_of_call, next_place, is_some_call, next_sent, sends_at, sends_to, sends_next, sends_as, call_for, write_of_taken, with_out, with_writer_mirrors, with_writer_mirror, is_call, mirror_of_call, after_reply, answered_at, mirror_answered, call_answered, write_answered, commit_answered, refused_by, is_fenced_by, fails, fenced, is_stranger, with_failure, without_call, after_timeout, timed_out_at, mirror_timed_out, call_timed_out, timed_out_as, with_writer_call, after_commit}
 use Rattle.mirror_writer.specs.Rooms.{RoomyMirror, mirrors_shown, CanSend}
 use Rattle.mirror_writer.specs.MirrorSteps.{MirrorAfter, StepsAt, SetsAt, NextOf, answered_there, late_there, settled_as, refused_there, failed_there, timed_out_there}
 use Rattle.mirror_writer.specs.Calls.{SendsNext, IsNextAt, IsToSend, IsGone}
@@ -198,3 +200,77 @@ committed_now s is = ap (λ b. cond b (finished s) (waiting s)) (sym is)
 
 pub waits_still : (s : WriterValue) → open_committed s.mirrors ≡ false → waiting s ≡ after_commit s
 waits_still s is = ap (λ b. cond b (finished s) (waiting s)) (sym is)
+
+-- ---- which call waits
+
+taken_call : (s : WriterValue) (n : ℕ) (id : MirrorId) → n < length s.taken → ((x : TakenWrite) × (n < length s.taken) × (slice_get s.taken n ≡ Some x) × (get_or s.taken n x ≡ x)) ⊎ ((length s.taken ≤ n) × (slice_get s.taken n ≡ None))
+    → (call : DsCallValue) × (write_of_taken id (slice_get s.taken n) ≡ Some call)
+taken_call s n id below (inl (x, within, found, same)) = (Write id.fileid x.at false x.bytes, ap (write_of_taken id) found)
+taken_call s n id below (inr (past, none)) = absurd (omega (arith, past, below))
+
+gone_by : (s : WriterValue) (n len : ℕ) → len ≡ length s.taken → (b : Bool) → nat_le len n ≡ b → IsGone s (SendsWrite n) b
+gone_by s n len size true past = λ id. ap (write_of_taken id) (slice_get_past s.taken n (omega (arith, size, leb-true len n past)))
+gone_by s n len size false within = λ id. taken_call s n id (omega (arith, size, leb-false len n within)) (slice_get_cases s.taken n).1
+
+-- a taken write has its WRITE
+pub gone_write : (s : WriterValue) (n len : ℕ) (next : NextCall) → next ≡ SendsWrite n → len ≡ length s.taken → IsGone s next (nat_le len n)
+gone_write s n len next is size = subst (λ (k : NextCall). IsGone s k (nat_le len n)) (sym is) (gone_by s n len size (nat_le len n) refl)
+
+pub gone_commit : (s : WriterValue) (next : NextCall) → next ≡ SendsCommit → IsGone s next false
+gone_commit s next is = subst (λ (k : NextCall). IsGone s k false) (sym is) (λ id. (Commit id.fileid, refl))
+
+pub first_place : (s : WriterValue) (place : Option ℕ) → s.is_fenced ≡ false → position (λ m. is_some_call (next_at s.wants_commit m)) s.mirrors ≡ place → next_place s ≡ place
+first_place s place free found = ap (λ b. cond b None (position (λ m. is_some_call (next_at s.wants_commit m)) s.mirrors)) free ∙ found
+
+pub none_fenced : (s : WriterValue) (xid : ℕ) → s.is_fenced ≡ true → next_sent s xid ≡ None
+none_fenced s xid is = none_first s xid (ap (λ b. cond b None (position (λ m. is_some_call (next_at s.wants_commit m)) s.mirrors)) is)
+
+-- what the mirror at the place says
+pub data SaysNext (s : WriterValue) (place : ℕ) (result : Option (MirrorId × NextCall)) : Type 0 where
+  SaysNone : (m : WriterMirror) → slice_get s.mirrors place ≡ Some m → next_at s.wants_commit m ≡ None → result ≡ None → SaysNext s place result
+  SaysSome : (m : WriterMirror) (id : MirrorId) (next : NextCall) → slice_get s.mirrors place ≡ Some m → next_at s.wants_commit m ≡ Some next → id ≡ m.id → result ≡ Some (id, next) → SaysNext s place result
+
+says_by : (s : WriterValue) (place : ℕ) (o : Option WriterMirror) (result r : Option (MirrorId × NextCall)) → slice_get s.mirrors place ≡ o → result ≡ r → NextOf s.wants_commit o r → SaysNext s place result
+says_by s place None result r at is says = absurd says
+says_by s place (Some m) result None at is says = SaysNone m at says is
+says_by s place (Some m) result (Some (id, next)) at is says = SaysSome m id next at says.0 says.1 is
+
+says_next : (s : WriterValue) (place : ℕ) (result : Option (MirrorId × NextCall)) → NextOf s.wants_commit (slice_get s.mirrors place) result → SaysNext s place result
+says_next s place result says = says_by s place (slice_get s.mirrors place) result result refl refl says
+
+next_of_none : (s : WriterValue) (xid place : ℕ) (result : Option (MirrorId × NextCall)) → next_place s ≡ Some place → result ≡ None → SaysNext s place result → next_sent s xid ≡ None
+next_of_none s xid place result first none (SaysNone m at next is) = none_next s xid place m None first at next refl
+next_of_none s xid place result first none (SaysSome m id next at is named gives) = absurd cc
+
+pub to_send_none : (s : WriterValue) (xid place : ℕ) (result : Option (MirrorId × NextCall)) → next_place s ≡ Some place → result ≡ None → NextOf s.wants_commit (slice_get s.mirrors place) result → next_sent s xid ≡ None
+to_send_none s xid place result first none says = next_of_none s xid place result first none (says_next s place result says)
+
+next_of_gone : (s : WriterValue) (xid place : ℕ) (result : Option (MirrorId × NextCall)) (id : MirrorId) (next : NextCall) → next_place s ≡ Some place → result ≡ Some (id, next) → IsGone s next true
+    → SaysNext s place result → next_sent s xid ≡ None
+next_of_gone s xid place result id next first some gone (SaysNone m at is none) = absurd (cc (some, none))
+next_of_gone s xid place result id next first some gone (SaysSome m id' next' at is named gives) =
+    let same : (id' ≡ id) × (next' ≡ next) = some_pair_parts id' id next' next (sym gives ∙ some) in
+    none_call s xid place m next first at (is ∙ ap (λ k. Some k) same.1) (gone m.id)
+
+pub to_send_gone : (s : WriterValue) (xid place : ℕ) (result : Option (MirrorId × NextCall)) (id : MirrorId) (next : NextCall) → next_place s ≡ Some place → result ≡ Some (id, next) → IsGone s next true
+    → NextOf s.wants_commit (slice_get s.mirrors place) result → next_sent s xid ≡ None
+to_send_gone s xid place result id next first some gone says = next_of_gone s xid place result id next first some gone (says_next s place result says)
+
+next_of_some : (s : WriterValue) (place : ℕ) (result : Option (MirrorId × NextCall)) (id : MirrorId) (next : NextCall) → next_place s ≡ Some place → result ≡ Some (id, next) → IsGone s next false
+    → SaysNext s place result → IsNextAt s place id next
+next_of_some s place result id next first some there (SaysNone m at is none) = absurd (cc (some, none))
+next_of_some s place result id next first some there (SaysSome m id' next' at is named gives) =
+    let same : (id' ≡ id) × (next' ≡ next) = some_pair_parts id' id next' next (sym gives ∙ some) in
+    record {
+      mirror = m;
+      first = first;
+      found = at;
+      next_is = is ∙ ap (λ k. Some k) same.1;
+      id_is = sym same.0 ∙ named;
+      call = (there id).0;
+      call_is = (there id).1;
+    }
+
+pub to_send_some : (s : WriterValue) (place : ℕ) (result : Option (MirrorId × NextCall)) (id : MirrorId) (next : NextCall) → next_place s ≡ Some place → result ≡ Some (id, next) → IsGone s next false
+    → NextOf s.wants_commit (slice_get s.mirrors place) result → IsNextAt s place id next
+to_send_some s place result id next first some there says = next_of_some s place result id next first some there (says_next s place result says)

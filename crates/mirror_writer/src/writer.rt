@@ -131,8 +131,12 @@ impl Writer {
         if self.is_fenced {
             return None;
         }
-        let place = waiting(self.wants_commit, &self.mirrors)?;
-        let (id, next) = next_of(self.wants_commit, place, &self.mirrors)?;
+        let Some(place) = waiting(self.wants_commit, &self.mirrors) else {
+            return None;
+        };
+        let Some((id, next)) = next_of(self.wants_commit, place, &self.mirrors) else {
+            return None;
+        };
         if self.is_gone(next) {
             return None;
         }
