@@ -2,3 +2,5 @@ mod MirrorLemmas
 pub mod Shown
 mod WriterSteps
 mod PlaceLemmas
+mod RunLemmas
+mod Stretches

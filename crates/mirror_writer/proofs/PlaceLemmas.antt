@@ -43,7 +43,7 @@ first_common at count w some full is =
 
 -- ---- the taken writes
 
-or_true : (a b : Bool) → b ≡ true → (a || b) ≡ true
+pub or_true : (a b : Bool) → b ≡ true → (a || b) ≡ true
 or_true true b is = refl
 or_true false b is = is
 

@@ -5,3 +5,4 @@ pub mod Calls
 pub mod Rooms
 pub mod MirrorSteps
 pub mod Places
+pub mod Runs

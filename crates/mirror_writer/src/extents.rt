@@ -1,7 +1,8 @@
 //! Sets of places of a file.
 
-ghost use Rattle.std.specs.Prelude.{◌≡◌, ◌≤◌, ◌+◌, [], map, OnOk, OnErr, IfOk, false};
-ghost use Rattle.mirror_writer.specs.Extents.{AreApart, AddsPlaces, SharesPlace, AreGaps, max_place};
+ghost use Rattle.std.specs.Prelude.{◌≡◌, ◌≤◌, ◌<◌, ◌+◌, [], OnOk, OnErr, IfOk, true, false};
+ghost use Rattle.mirror_writer.specs.Extents.{is_place, AreApart, AddsPlaces, SharesPlace, AreGaps, max_place};
+ghost use Rattle.mirror_writer.specs.Runs.{LastUpTo, FirstFrom, BeginsAt, RunsOn};
 
 use ff_xdr::NoMemory;
 use std::alloc::Global;
@@ -51,29 +52,104 @@ impl Extents {
             return Ok(());
         }
         let end = at + count;
-        let first = self.run_up_to(at).unwrap_or(at);
-        let upto = self.runs.get(&end).copied().unwrap_or(end);
+        let first = self.begins(at);
+        let upto = match self.runs.get(&end) {
+            None => end,
+            Some(upto) => *upto,
+        };
         self.runs.insert(first, upto)?;
         self.runs.remove(&end);
         Ok(())
-    }
-
-    /// The first place of the run that ends at this place.
-    fn run_up_to(&self, place: u64) -> Option<u64> {
-        match self.runs.range(..place).next_back() {
-            Some((first, end)) if *end == place => Some(*first),
-            _ => None,
-        }
     }
 
     /// Whether one of the `count` places from `at` on is in the set. Costs the logarithm of the number of runs.
     pub fn overlaps(&self, at: u64, count: u64) -> bool
         ensures { SharesPlace self.now at count result }
     {
-        let end = at.saturating_add(count);
-        match self.runs.range(..end).next_back() {
-            Some((_, last)) => count != 0 && at < *last,
-            None => false,
+        if count == 0 {
+            return false;
         }
+        // no place of the set is behind the largest number
+        let last = at.saturating_add(count - 1);
+        match last_up_to(&self.runs, last) {
+            None => false,
+            Some((_, end)) => at < end,
+        }
+    }
+
+    /// The places of the `count` from `at` on that are not in the set: for each gap its first place and how many it has, in
+    /// order. Costs what it gives.
+    pub fn gaps(&self, at: u64, count: u64) -> Result<Vec<(u64, u64)>, NoMemory>
+        ensures { IfOk result (λ gaps. AreGaps self.now at count gaps.items) }
+    {
+        let mut gaps = Vec::new(self.alloc);
+        let mut from = at;
+        let mut left = count;
+        while left > 0 {
+            let taken = self.taken_from(from, left);
+            let free = self.free_from(from + taken, left - taken);
+            if free > 0 {
+                gaps.push((from + taken, free))?;
+            }
+            left -= taken + free;
+            if left > 0 {
+                from += taken + free;
+            }
+        }
+        Ok(gaps)
+    }
+
+    /// Where a run begins that ends at this place, which is in none; where none does, the place itself.
+    fn begins(&self, place: u64) -> u64
+        requires { is_place self.now place ≡ false }
+        ensures { BeginsAt self.now place result }
+    {
+        match last_up_to(&self.runs, place) {
+            Some((first, end)) if end == place => first,
+            _ => place,
+        }
+    }
+
+    /// How many places from this one on are in the set, of at most `left`.
+    fn taken_from(&self, place: u64, left: u64) -> u64
+        ensures on { RunsOn self.now true place left result }
+        ensures fits { 0 < result → place + result ≤ max_place }
+    {
+        match last_up_to(&self.runs, place) {
+            Some((_, end)) if place < end => left.min(end - place),
+            _ => 0,
+        }
+    }
+
+    /// How many places from this one on are not in the set, of at most `left`.
+    fn free_from(&self, place: u64, left: u64) -> u64
+        requires { 0 < left → is_place self.now place ≡ false }
+        ensures on { RunsOn self.now false place left result }
+        ensures fits { result < left → place + result < max_place }
+    {
+        match first_from(&self.runs, place) {
+            None => left,
+            Some(first) => left.min(first - place),
+        }
+    }
+}
+
+/// The last run that begins at this place or before: its first place and the place behind its last.
+fn last_up_to(runs: &BTreeMap<u64, u64>, place: u64) -> Option<(u64, u64)>
+    ensures { LastUpTo runs.now.entries place result }
+{
+    match runs.range(..=place).next_back() {
+        None => None,
+        Some((first, end)) => Some((*first, *end)),
+    }
+}
+
+/// Where the first run begins that begins at this place or behind it.
+fn first_from(runs: &BTreeMap<u64, u64>, place: u64) -> Option<u64>
+    ensures { FirstFrom runs.now.entries place result }
+{
+    match runs.range(place..).next() {
+        None => None,
+        Some((first, _)) => Some(*first),
     }
 }
