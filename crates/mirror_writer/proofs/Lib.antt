@@ -4,3 +4,5 @@ mod WriterSteps
 mod PlaceLemmas
 mod RunLemmas
 mod Stretches
+mod GapLemmas
+mod InsertLemmas

@@ -23,16 +23,16 @@ IsRun es k v = run_at es k ≡ Some v
 
 -- ---- tests of keys
 
-same_key : (k q : ℕ) → is_at (nat_cmp k) q ≡ true → k ≡ q
+pub same_key : (k q : ℕ) → is_at (nat_cmp k) q ≡ true → k ≡ q
 same_key k q is = grind (arith, nat_tests)
 
-other_key : (k q : ℕ) → is_at (nat_cmp k) q ≡ false → k ≢ q
+pub other_key : (k q : ℕ) → is_at (nat_cmp k) q ≡ false → k ≢ q
 other_key k q is = λ same. grind (arith, nat_tests)
 
-is_key : (k q : ℕ) → k ≡ q → is_at (nat_cmp k) q ≡ true
+pub is_key : (k q : ℕ) → k ≡ q → is_at (nat_cmp k) q ≡ true
 is_key k q same = grind (arith, nat_tests)
 
-not_key : (k q : ℕ) → k ≢ q → is_at (nat_cmp k) q ≡ false
+pub not_key : (k q : ℕ) → k ≢ q → is_at (nat_cmp k) q ≡ false
 not_key k q differs = grind (arith, nat_tests, differs)
 
 -- the first run of a list, or a later one

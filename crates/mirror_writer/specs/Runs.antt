@@ -1,5 +1,5 @@
 -- What is asked of the runs of a set, one at a time.
-use Rattle.std.specs.Prelude.{◌≡◌, ◌≢◌, ℕ, ◌+◌, ◌<◌, ◌≤◌, Bool, true, false, not, List, Option, Some, None, IsSome, ◌⊎◌}
+use Rattle.std.specs.Prelude.{◌≡◌, ◌≢◌, ℕ, ◌+◌, ◌<◌, ◌≤◌, Bool, true, false, not, List, [], ◌∷◌, ◌++◌, Option, Some, None, IsSome, ◌⊎◌}
 use Rattle.std.specs.Ordering.{nat_cmp}
 use Rattle.std.specs.Map.{lookup}
 use Rattle.std.specs.BTreeMap.{is_at}
@@ -38,3 +38,11 @@ pub record RunsOn (runs : List (ℕ × ℕ)) (inside : Bool) (from left count : 
   pub within : count ≤ left
   pub all : (p : ℕ) → from ≤ p → p < from + count → is_place runs p ≡ inside
   pub end : count < left → is_place runs (from + count) ≡ not inside
+
+-- where the run ends that begins at this place; where there is none, the place itself
+abbrev pub EndsAt : List (ℕ × ℕ) → ℕ → ℕ → Type 0
+EndsAt runs place end = (run_at runs place ≡ Some end) ⊎ ((run_at runs place ≡ None) × (end ≡ place))
+
+-- a gap of some places is one more
+abbrev pub PushesGap : List (ℕ × ℕ) → ℕ → ℕ → List (ℕ × ℕ) → Type 0
+PushesGap old first count new = ((0 < count) × (new ≡ old ++ (first, count) ∷ [])) ⊎ ((count ≡ 0) × (new ≡ old))

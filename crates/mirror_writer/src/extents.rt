@@ -2,7 +2,7 @@
 
 ghost use Rattle.std.specs.Prelude.{◌≡◌, ◌≤◌, ◌<◌, ◌+◌, [], OnOk, OnErr, IfOk, true, false};
 ghost use Rattle.mirror_writer.specs.Extents.{is_place, AreApart, AddsPlaces, SharesPlace, AreGaps, max_place};
-ghost use Rattle.mirror_writer.specs.Runs.{LastUpTo, FirstFrom, BeginsAt, RunsOn};
+ghost use Rattle.mirror_writer.specs.Runs.{LastUpTo, FirstFrom, BeginsAt, EndsAt, RunsOn, PushesGap};
 
 use ff_xdr::NoMemory;
 use std::alloc::Global;
@@ -53,10 +53,7 @@ impl Extents {
         }
         let end = at + count;
         let first = self.begins(at);
-        let upto = match self.runs.get(&end) {
-            None => end,
-            Some(upto) => *upto,
-        };
+        let upto = self.ends(end);
         self.runs.insert(first, upto)?;
         self.runs.remove(&end);
         Ok(())
@@ -88,9 +85,7 @@ impl Extents {
         while left > 0 {
             let taken = self.taken_from(from, left);
             let free = self.free_from(from + taken, left - taken);
-            if free > 0 {
-                gaps.push((from + taken, free))?;
-            }
+            push_gap(from + taken, free, &mut gaps)?;
             left -= taken + free;
             if left > 0 {
                 from += taken + free;
@@ -107,6 +102,16 @@ impl Extents {
         match last_up_to(&self.runs, place) {
             Some((first, end)) if end == place => first,
             _ => place,
+        }
+    }
+
+    /// Where the run ends that begins at this place; where none does, the place itself.
+    fn ends(&self, place: u64) -> u64
+        ensures { EndsAt self.now place result }
+    {
+        match self.runs.get(&place) {
+            None => place,
+            Some(end) => *end,
         }
     }
 
@@ -132,6 +137,16 @@ impl Extents {
             Some(first) => left.min(first - place),
         }
     }
+}
+
+/// A gap of some places is one more.
+fn push_gap(first: u64, count: u64, gaps: &mut Vec<(u64, u64)>) -> Result<(), NoMemory>
+    ensures { OnOk result (PushesGap gaps.old.items first count gaps.new.items) }
+{
+    if count > 0 {
+        gaps.push((first, count))?;
+    }
+    Ok(())
 }
 
 /// The last run that begins at this place or before: its first place and the place behind its last.

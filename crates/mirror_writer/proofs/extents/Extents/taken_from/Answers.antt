@@ -1,7 +1,7 @@
-use Rattle.std.proofs.Common.{arith, refl, ◌≤◌, ◌<◌, ◌≡◌, ◌+◌, ◌-◌, ℕ, List, true, false, subst, sym}
+use Rattle.std.proofs.Common.{arith, refl, ◌≤◌, ◌<◌, ◌≡◌, ◌+◌, ◌-◌, ℕ, List, true, false, subst, sym, Option}
 use Rattle.std.specs.Prelude.{min}
 use Rattle.mirror_writer.specs.Extents.{is_place, max_place}
-use Rattle.mirror_writer.specs.Runs.{RunsOn}
+use Rattle.mirror_writer.specs.Runs.{RunsOn, LastUpTo}
 use Rattle.mirror_writer.proofs.RunLemmas.{full, ends_by}
 use Rattle.mirror_writer.proofs.Stretches.{taken_on, taken_none, free_on, free_all, last_ends, none_up_to, first_bound}
 use Rattle.mirror_writer.proofs.extents.Extents.taken_from.Goals as goal
@@ -20,4 +20,6 @@ returns-in_default-clause-on c =
     (last_ends c.self.inside.runs.entries c.args.place (c.in-Some.field-0-0, c.in-Some.end) c.self.invariant.0 c.in-Some.ensures c.args.place (omega (arith, c.if-place-end.false)) (omega arith)))
 
 pub returns-in_default-2-clause-on : goal.returns-in_default-2-clause-on
-returns-in_default-2-clause-on c = ?
+returns-in_default-2-clause-on c =
+    let none = subst (λ (o : Option (ℕ × ℕ)). LastUpTo c.self.inside.runs.entries c.args.place o) c.in_default.is c.last_up_to.ensures in
+    rw (← c.self.view_is) (taken_none c.self.inside.runs.entries c.args.place c.args.left (none_up_to c.self.inside.runs.entries c.args.place c.self.invariant.0 none c.args.place (omega arith)))
