@@ -1,11 +1,11 @@
 -- A window of free places joins a set.
-use Rattle.std.proofs.Common.{◌≡◌, ◌≢◌, ℕ, ◌+◌, ◌<◌, ◌≤◌, Bool, true, false, List, cond, Option, Some, None, refl, sym, ap, subst, ◌∙◌, arith, inl, inr, ◌⊎◌}
+use Rattle.std.proofs.Common.{◌≡◌, ◌≢◌, ℕ, ◌+◌, ◌-◌, ◌<◌, ◌≤◌, Bool, true, false, List, cond, Option, Some, None, refl, sym, ap, subst, ◌∙◌, arith, inl, inr, ◌⊎◌}
 use Rattle.std.specs.Prelude.{◌||◌}
 use Rattle.std.specs.Ordering.{nat_cmp}
 use Rattle.std.specs.BTreeMap.{is_at, BTreeMap, IsOrdered}
 use Rattle.std.proofs.lemmas.Bool.{both_ways, cases_lt, cases_eq, or_cases}
 use Rattle.std.proofs.lemmas.Option.{none-some, same_Some}
-use Rattle.mirror_writer.specs.Extents.{is_place, in_window, AreApart, EndBy, AddsPlaces, max_place}
+use Rattle.mirror_writer.specs.Extents.{is_place, in_window, AreApart, EndBy, AddsPlaces, SharesPlace, max_place}
 use Rattle.mirror_writer.specs.Runs.{run_at, BeginsAt, EndsAt}
 use Rattle.mirror_writer.proofs.PlaceLemmas.{inside, bounds, or_true}
 use Rattle.mirror_writer.proofs.RunLemmas.{IsRun, same_key, other_key, is_key, not_key, full, are_apart, RunWith, run_with, place_in, same_run, ends_by, apart_from, end_from}
@@ -192,3 +192,23 @@ module _ (old new : List (ℕ × ℕ)) (at end first upto : ℕ) (apart : AreApa
 
   pub end_run : (k v : ℕ) → IsRun new k v → v ≤ max_place
   end_run k v run = end_new k v (comes k v run)
+
+pub record Joined (old : List (ℕ × ℕ)) (at count : ℕ) (new : List (ℕ × ℕ)) : Type 0 where
+  pub apart : AreApart new
+  pub by : EndBy max_place new
+  pub adds : AddsPlaces old at count new
+
+pub window_joins : (old : List (ℕ × ℕ)) (n : BTreeMap ℕ ℕ) (at count first upto : ℕ) → AreApart old → EndBy max_place old → 0 < count → at + count ≤ max_place → SharesPlace old at count false
+    → BeginsAt old at first → EndsAt old (at + count) upto
+    → ((q : ℕ) → run_at n.entries q ≡ cond (is_at (nat_cmp (at + count)) q) None (cond (is_at (nat_cmp first) q) (Some upto) (run_at old q))) → IsOrdered nat_cmp n → Joined old at count n.entries
+window_joins old n at count first upto apart by some limit fresh begins ends gets ordered =
+    let new : List (ℕ × ℕ) = n.entries in
+    let within : at < at + count = omega (arith, some) in
+    let free : (p : ℕ) → at ≤ p → p < at + count → is_place old p ≡ false = λ p low high. fresh p (inside at count p low high) in
+    let apart' : AreApart new =
+    apart_from n ordered (full_run old new at (at + count) first upto apart by within limit free begins ends gets) (apart_run old new at (at + count) first upto apart by within limit free begins ends gets) in
+    record {
+      apart = apart';
+      by = end_from n max_place ordered (end_run old new at (at + count) first upto apart by within limit free begins ends gets);
+      adds = subst (λ (k : ℕ). AddsPlaces old at k new) (omega arith) (adds_places old new at (at + count) first upto apart by within limit free begins ends gets apart');
+    }

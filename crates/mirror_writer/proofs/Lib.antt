@@ -6,3 +6,4 @@ mod RunLemmas
 mod Stretches
 mod GapLemmas
 mod InsertLemmas
+mod Begins

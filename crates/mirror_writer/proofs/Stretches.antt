@@ -8,7 +8,7 @@ use Rattle.mirror_writer.specs.Runs.{run_at, IsLastUpTo, IsFirstFrom, RunsOn, Be
 use Rattle.mirror_writer.proofs.PlaceLemmas.{bounds, inside}
 use Rattle.mirror_writer.proofs.RunLemmas.{IsRun, full, are_apart, RunWith, run_with, place_in, no_place, same_run, ends_by}
 
-some_run : (es : List (ℕ × ℕ)) (k v : ℕ) → IsRun es k v → IsSome (run_at es k)
+pub some_run : (es : List (ℕ × ℕ)) (k v : ℕ) → IsRun es k v → IsSome (run_at es k)
 some_run es k v is = ap is_some is
 
 -- what the last run that begins by a place says of places up to it

@@ -48,12 +48,12 @@ impl Extents {
         ensures apart { AreApart self.new }
         ensures err { OnErr result (self.new ≡ self.old) }
     {
+        let end = at + count;
+        let upto = ends(&self.runs, end);
         if count == 0 {
             return Ok(());
         }
-        let end = at + count;
         let first = self.begins(at);
-        let upto = self.ends(end);
         self.runs.insert(first, upto)?;
         self.runs.remove(&end);
         Ok(())
@@ -105,16 +105,6 @@ impl Extents {
         }
     }
 
-    /// Where the run ends that begins at this place; where none does, the place itself.
-    fn ends(&self, place: u64) -> u64
-        ensures { EndsAt self.now place result }
-    {
-        match self.runs.get(&place) {
-            None => place,
-            Some(end) => *end,
-        }
-    }
-
     /// How many places from this one on are in the set, of at most `left`.
     fn taken_from(&self, place: u64, left: u64) -> u64
         ensures on { RunsOn self.now true place left result }
@@ -147,6 +137,16 @@ fn push_gap(first: u64, count: u64, gaps: &mut Vec<(u64, u64)>) -> Result<(), No
         gaps.push((first, count))?;
     }
     Ok(())
+}
+
+/// Where the run ends that begins at this place; where none does, the place itself.
+fn ends(runs: &BTreeMap<u64, u64>, place: u64) -> u64
+    ensures { EndsAt runs.now.entries place result }
+{
+    match runs.get(&place) {
+        None => place,
+        Some(end) => *end,
+    }
 }
 
 /// The last run that begins at this place or before: its first place and the place behind its last.
