@@ -8,6 +8,8 @@ mod laws;
 mod mirror;
 mod mirrors;
 mod step;
+#[cfg(test)]
+mod tests;
 mod writer;
 
 pub use call::NextCall;
