@@ -7,3 +7,4 @@ mod Stretches
 mod GapLemmas
 mod InsertLemmas
 mod Begins
+mod Moved

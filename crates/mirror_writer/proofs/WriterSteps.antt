@@ -128,10 +128,10 @@ refuses : (s : WriterValue) (place : ℕ) (m : WriterMirror) (status : ℕ) (b :
 refuses s place m status true = refl
 refuses s place m status false = refl
 
-abbrev settles : WriterValue → ℕ → WriterMirror → MirrorAfter → WriterAfter
+abbrev pub settles : WriterValue → ℕ → WriterMirror → MirrorAfter → WriterAfter
 settles s place m a = settled_as (with_writer_mirror s place a.mirror) m.id a.outcome
 
-answer_settles : (s : WriterValue) (place : ℕ) (m : WriterMirror) (reply : DsReplyValue) (call : WriterCall) → slice_set s.mirrors place m ≡ s.mirrors
+pub answer_settles : (s : WriterValue) (place : ℕ) (m : WriterMirror) (reply : DsReplyValue) (call : WriterCall) → slice_set s.mirrors place m ≡ s.mirrors
     → settles s place m (answered_there m reply call) ≡ call_answered s place m reply call
 answer_settles s place m reply NoCall stays = ap (λ l. is_stranger (with_writer_mirrors s l)) stays
 answer_settles s place m (Written shown verifier) (OutWrite xid write timeouts) stays = refl
@@ -155,13 +155,13 @@ lates : (s : WriterValue) (place : ℕ) (m : WriterMirror) (timeouts : ℕ) (aga
 lates s place m timeouts again true = refl
 lates s place m timeouts again false = refl
 
-late_settles : (s : WriterValue) (place : ℕ) (m : WriterMirror) (call : WriterCall) → slice_set s.mirrors place m ≡ s.mirrors → settles s place m (late_there m call) ≡ call_timed_out s place m call
+pub late_settles : (s : WriterValue) (place : ℕ) (m : WriterMirror) (call : WriterCall) → slice_set s.mirrors place m ≡ s.mirrors → settles s place m (late_there m call) ≡ call_timed_out s place m call
 late_settles s place m NoCall stays = ap (λ l. is_stranger (with_writer_mirrors s l)) stays
 late_settles s place m (OutWrite xid write timeouts) stays = lates s place m timeouts (OutWrite xid write (timeouts + 1)) (timeouts == 2)
 late_settles s place m (OutCommit xid timeouts) stays = lates s place m timeouts (OutCommit xid (timeouts + 1)) (timeouts == 2)
 
 -- the mirror that is there is set there
-stays_set : (ms : List WriterMirror) (place : ℕ) (m : WriterMirror) → slice_get ms place ≡ Some m → slice_set ms place m ≡ ms
+pub stays_set : (ms : List WriterMirror) (place : ℕ) (m : WriterMirror) → slice_get ms place ≡ Some m → slice_set ms place m ≡ ms
 stays_set ms place m found =
     let here : get_or ms place m ≡ m = cc (slice_get-get_or ms place m (slice_get_within ms place m found), found) in
     ap (set ms place) (sym here) ∙ set-get_or ms place m
@@ -189,10 +189,10 @@ timeout_settles s xid place id out new is steps =
     ∙ sym (ap (timed_out_at s) is ∙ ap (mirror_timed_out s place) steps.found)
 
 -- whether each mirror that has not failed is committed
-abbrev finished : WriterValue → WriterAfter
+abbrev pub finished : WriterValue → WriterAfter
 finished s = record { writer = record { cred = s.cred; taken = s.taken; mirrors = s.mirrors; wants_commit = false; is_fenced = s.is_fenced }; step = step.Committed }
 
-abbrev waiting : WriterValue → WriterAfter
+abbrev pub waiting : WriterValue → WriterAfter
 waiting s = record { writer = s; step = step.Waiting }
 
 pub committed_now : (s : WriterValue) → open_committed s.mirrors ≡ true → finished s ≡ after_commit s
