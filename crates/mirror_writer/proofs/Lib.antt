@@ -8,3 +8,4 @@ mod GapLemmas
 mod InsertLemmas
 mod Begins
 mod Moved
+mod PlainLaws

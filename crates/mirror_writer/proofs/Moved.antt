@@ -110,7 +110,7 @@ settled_mirrors s id outcome.CommitOk = by_answer (open_committed s.mirrors)
     by_answer true = refl
     by_answer false = refl
 
-settled_taken : (s : WriterValue) (id : MirrorId) (o : Outcome) → (settled_as s id o).writer.taken ≡ s.taken
+pub settled_taken : (s : WriterValue) (id : MirrorId) (o : Outcome) → (settled_as s id o).writer.taken ≡ s.taken
 settled_taken s id outcome.Stranger = refl
 settled_taken s id outcome.Waiting = refl
 settled_taken s id (outcome.Failed cause) = refl

@@ -1,5 +1,11 @@
-use Rattle.mirror_writer.proofs.Moved.{MoveAt, moves}
+use Rattle.mirror_writer.proofs.PlainLaws.{disjoint, stays, committed, sends_taken}
 use Rattle.mirror_writer.proofs.laws.writer_law.Goals as goal
 
 pub returns : goal.returns
-returns c = ?
+returns c = record {
+  disjoint = disjoint;
+  covers = ?;
+  stays = stays;
+  committed = committed;
+  sends = sends_taken;
+}
