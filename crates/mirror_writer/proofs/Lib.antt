@@ -9,3 +9,5 @@ mod InsertLemmas
 mod Begins
 mod Moved
 mod PlainLaws
+mod Noted
+mod Answered
