@@ -11,3 +11,4 @@ mod Moved
 mod PlainLaws
 mod Noted
 mod Answered
+mod Kept

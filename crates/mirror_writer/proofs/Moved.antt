@@ -98,7 +98,7 @@ set_there run new place at m mp after added here found set taken notes moved awa
 -- ---- an answer
 
 -- the mirrors and the writes behind an outcome
-settled_mirrors : (s : WriterValue) (id : MirrorId) (o : Outcome) → (settled_as s id o).writer.mirrors ≡ s.mirrors
+pub settled_mirrors : (s : WriterValue) (id : MirrorId) (o : Outcome) → (settled_as s id o).writer.mirrors ≡ s.mirrors
 settled_mirrors s id outcome.Stranger = refl
 settled_mirrors s id outcome.Waiting = refl
 settled_mirrors s id (outcome.Failed cause) = refl
@@ -122,14 +122,14 @@ settled_taken s id outcome.CommitOk = by_answer (open_committed s.mirrors)
     by_answer true = refl
     by_answer false = refl
 
-abbrev free_after : Bool → Outcome → Bool
+abbrev pub free_after : Bool → Outcome → Bool
 free_after free outcome.Stranger = free
 free_after free outcome.Waiting = free
 free_after free (outcome.Failed cause) = free
 free_after free (outcome.Fenced status) = false
 free_after free outcome.CommitOk = free
 
-settled_free : (s : WriterValue) (id : MirrorId) (o : Outcome) → free_after (not s.is_fenced) o ≡ not (settled_as s id o).writer.is_fenced
+pub settled_free : (s : WriterValue) (id : MirrorId) (o : Outcome) → free_after (not s.is_fenced) o ≡ not (settled_as s id o).writer.is_fenced
 settled_free s id outcome.Stranger = refl
 settled_free s id outcome.Waiting = refl
 settled_free s id (outcome.Failed cause) = refl
