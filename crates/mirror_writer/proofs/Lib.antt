@@ -12,3 +12,4 @@ mod PlainLaws
 mod Noted
 mod Answered
 mod Kept
+mod Covers

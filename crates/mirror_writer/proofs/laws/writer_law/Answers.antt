@@ -1,3 +1,4 @@
+use Rattle.mirror_writer.proofs.Covers.{turned_holds}
 use Rattle.mirror_writer.proofs.Kept.{kept}
 use Rattle.mirror_writer.proofs.Noted.{covered_now}
 use Rattle.mirror_writer.proofs.Answered.{flag_from}
