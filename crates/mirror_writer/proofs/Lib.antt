@@ -13,3 +13,4 @@ mod Noted
 mod Answered
 mod Kept
 mod Covers
+mod CoverLaw

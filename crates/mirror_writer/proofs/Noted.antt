@@ -54,7 +54,7 @@ tail_of a b xs ys is = ap (drop 1) is
 head_of : {X : Type 0} (a b : X) (xs ys : List X) → a ∷ xs ≡ b ∷ ys → a ≡ b
 head_of a b xs ys is = ap (λ l. get_or l 0 a) is
 
-none_some_list : {X : Type 0} (xs : List X) (y : X) (ys : List X) → [] ≡ xs ++ y ∷ ys → ⊥
+pub none_some_list : {X : Type 0} (xs : List X) (y : X) (ys : List X) → [] ≡ xs ++ y ∷ ys → ⊥
 none_some_list [] y ys is = absurd (omega (arith, ap length is))
 none_some_list (x ∷ xs) y ys is = absurd (omega (arith, ap length is))
 
@@ -73,7 +73,7 @@ last_of (a ∷ xs) x (b ∷ ys) y zs is = goes (head_of a b (xs ++ x ∷ []) (ys
     goes same (IsLast none eq last) = IsLast none (ap (λ c. c ∷ xs) same ∙ ap (λ l. b ∷ l) eq) last
     goes same (IsBehind rest ends eq) = IsBehind rest ends (ap (λ c. c ∷ xs) same ∙ ap (λ l. b ∷ l) eq)
 
-middle : {X : Type 0} (P : X → Type 0) (xs : List X) (y : X) (ys : List X) → All P (xs ++ y ∷ ys) → P y
+pub middle : {X : Type 0} (P : X → Type 0) (xs : List X) (y : X) (ys : List X) → All P (xs ++ y ∷ ys) → P y
 middle P [] y ys all = all 0 y (omega arith)
 middle P (x ∷ xs) y ys all = middle P xs y ys (λ k d within. all (suc k) d (omega (arith, within)))
 
