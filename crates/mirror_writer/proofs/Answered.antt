@@ -147,13 +147,16 @@ flag_from (a ∷ answered) flags k v is = by_test (has_verifier v a) refl is (λ
   where
     same_verifier : has_verifier v a ≡ true → a.verifier ≡ v
     same_verifier is = grind (arith, nat_tests, is)
+
     by_set : has_verifier v a ≡ true → (covered_flag (slice_get (slice_set flags a.write true) k) ≡ true) ⊎ IsAnswered answered k v → (k ≡ a.write) ⊎ (k ≡ a.write → ⊥) → (covered_flag (slice_get flags k) ≡ true) ⊎ IsAnswered (a ∷ answered) k v
     by_set test (inr later) where' = inr (inr later)
     by_set test (inl so) (inl same) = inr (inl (sym same, same_verifier test))
     by_set test (inl so) (inr other) = inl (sym (ap covered_flag (slice_get-set_other flags a.write k true other)) ∙ so)
+
     by_rest : (covered_flag (slice_get flags k) ≡ true) ⊎ IsAnswered answered k v → (covered_flag (slice_get flags k) ≡ true) ⊎ IsAnswered (a ∷ answered) k v
     by_rest (inl so) = inl so
     by_rest (inr later) = inr (inr later)
+
     by_test : (b : Bool) → has_verifier v a ≡ b → covered_flag (slice_get (covered_by (cond b (a ∷ filter (has_verifier v) answered) (filter (has_verifier v) answered)) flags) k) ≡ true
         → ((flags : List Bool) → covered_flag (slice_get (covered_by (filter (has_verifier v) answered) flags) k) ≡ true → (covered_flag (slice_get flags k) ≡ true) ⊎ IsAnswered answered k v)
         → (covered_flag (slice_get flags k) ≡ true) ⊎ IsAnswered (a ∷ answered) k v

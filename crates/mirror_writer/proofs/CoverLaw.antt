@@ -62,7 +62,7 @@ move_holds run move holds = λ place m' there.
         let one : at.mirror ≡ m' = same_Some at.mirror m' (sym at.there ∙ there) in
         subst (λ l. Holds (length new.taken) (not new.is_fenced) place m' l) (sym at.notes)
         (subst (λ (x : WriterMirror). Holds (length new.taken) (not new.is_fenced) place x (run.notes ++ at.added)) one
-          (turned_holds run.writer new place m at.mirror run.notes at.added (free_kept new.is_fenced run.writer.is_fenced (kept run move).free) at.turned (holds place m here)))
+        (turned_holds run.writer new place m at.mirror run.notes at.added (free_kept new.is_fenced run.writer.is_fenced (kept run move).free) at.turned (holds place m here)))
     by_old place m' there (inr (past, none)) below = absurd (omega (arith, past, below))
 
 move_of_mirrors : (run : WriterRun) (move : WriterMove) → AreOfMirrors run → AreOfMirrors (writer_moved run move)
@@ -75,6 +75,7 @@ move_of_mirrors run move all =
     only : (note : WriterNote) → note_place note < length (writer_moved run move).writer.mirrors → All (λ note. note_place note < length (writer_moved run move).writer.mirrors) (note ∷ [])
     only note below zero d within = below
     only note below (suc i) d within = absurd (omega (arith, within))
+
     by_added : length (writer_moved run move).writer.mirrors ≡ length run.writer.mirrors → (added : List WriterNote)
         → (added ≡ []) ⊎ ((note : WriterNote) × (added ≡ note ∷ []) × (note_place note < length run.writer.mirrors)) → All (λ note. note_place note < length (writer_moved run move).writer.mirrors) added
     by_added size added (inl none) = subst (λ l. All (λ note. note_place note < length (writer_moved run move).writer.mirrors) l) (sym none) (λ i d within. absurd (omega (arith, within)))
@@ -87,8 +88,10 @@ covers mirrors cred moves' place write = by_mirror (slice_get (writer_run mirror
   where
     all : AllHold (writer_run mirrors cred moves')
     all = run_keeps AllHold move_holds moves' (record { writer = new_writer mirrors cred; notes = [] }) (start_holds mirrors cred)
+
     of_mirrors : AreOfMirrors (writer_run mirrors cred moves')
     of_mirrors = run_keeps AreOfMirrors move_of_mirrors moves' (record { writer = new_writer mirrors cred; notes = [] }) (λ i d within. absurd (omega (arith, within)))
+
     no_mirror : slice_get (writer_run mirrors cred moves').writer.mirrors place ≡ None → IsCoveredBy place write (writer_run mirrors cred moves').notes → ⊥
     no_mirror none is =
         by_place none (middle (λ note. note_place note < length (writer_run mirrors cred moves').writer.mirrors) is.before (CommitSent place) _ (subst (λ l. All (λ note. note_place note < length (writer_run mirrors cred moves').writer.mirrors) l) is.split of_mirrors))
@@ -99,6 +102,7 @@ covers mirrors cred moves' place write = by_mirror (slice_get (writer_run mirror
             ⊎ ((length (writer_run mirrors cred moves').writer.mirrors ≤ place) × (slice_get (writer_run mirrors cred moves').writer.mirrors place ≡ None)) → ⊥
         by_place none below (inl (x, within, found, same)) = none-some x (sym none ∙ found)
         by_place none below (inr (past, nothing)) = omega (arith, past, below)
+
     by_mirror : (o : Option WriterMirror) → slice_get (writer_run mirrors cred moves').writer.mirrors place ≡ o → CoversJustWhere (writer_run mirrors cred moves') place write
     by_mirror None none = record {
       only = λ so. absurd (cc (ap (covered_of write) none, so));

@@ -85,10 +85,12 @@ queues_hold taken free free' place m notes was h = record {
     by_same : (k : ℕ) → (taken ≡ k) ⊎ (taken ≡ k → ⊥) → places_of k (queued taken m) ≤ 1
     by_same k (inl same) = omega (arith, queue_push k taken m.queue, h.below k (omega (arith, same)), counted taken k same)
     by_same k (inr other) = omega (arith, queue_push k taken m.queue, h.once k, uncounted taken k other)
+
     by_known : (k v : ℕ) → IsKnown m k v → IsKnown (queued taken m) k v
     by_known k v (inl so) = inl (sym (flag_pushed m.covered k) ∙ so)
     by_known k v (inr (inl is)) = inr (inl is)
     by_known k v (inr (inr waits)) = inr (inr (omega (arith, waits, queue_push k taken m.queue)))
+
     by_settled : (k v : ℕ) → IsCovered m k ⊎ IsAnswered m.answered k v → IsCovered (queued taken m) k ⊎ IsAnswered m.answered k v
     by_settled k v (inl so) = inl (sym (flag_pushed m.covered k) ∙ so)
     by_settled k v (inr is) = inr is
@@ -117,6 +119,7 @@ calm taken free free' place m m' notes was flags answers fewer same out h =
     by_known k v more (inl so) = inl (ap (λ l. covered_flag (slice_get l k)) flags ∙ so)
     by_known k v more (inr (inl is)) = inr (inl (subst (λ (l : List WriteAnswer). IsAnswered l k v) (sym answers) is))
     by_known k v more (inr (inr waits)) = inr (inr (omega (arith, waits, more)))
+
     by_settled : (k v : ℕ) → IsCovered m k ⊎ IsAnswered m.answered k v → IsCovered m' k ⊎ IsAnswered m'.answered k v
     by_settled k v (inl so) = inl (ap (λ l. covered_flag (slice_get l k)) flags ∙ so)
     by_settled k v (inr is) = inr (subst (λ (l : List WriteAnswer). IsAnswered l k v) (sym answers) is)
@@ -137,15 +140,19 @@ commit_sent taken free free' place xid m m' notes is_free open' idle empty flags
   where
     fewer : (k : ℕ) → places_of k m' ≤ places_of k m
     fewer k = omega (arith, ap (in_queue k) queue, ap (in_call k) call, ap (in_answers k) answers)
+
     by_known : (k v : ℕ) → IsKnown m k v → IsCovered m k ⊎ IsAnswered m.answered k v
     by_known k v (inl so) = inl so
     by_known k v (inr (inl is)) = inr is
     by_known k v (inr (inr waits)) = absurd (omega (arith, waits, ap (in_queue k) empty, ap (in_call k) idle))
+
     settle : (k v : ℕ) → last_verifier place k notes ≡ Some v → IsCovered m k ⊎ IsAnswered m.answered k v
     settle k v last = by_known k v (h.known is_free open' k v last)
+
     moved : (k v : ℕ) → IsCovered m k ⊎ IsAnswered m.answered k v → IsCovered m' k ⊎ IsAnswered m'.answered k v
     moved k v (inl so) = inl (ap (λ l. covered_flag (slice_get l k)) flags ∙ so)
     moved k v (inr is) = inr (subst (λ (l : List WriteAnswer). IsAnswered l k v) (sym answers) is)
+
     by_settled : (k v : ℕ) → IsCovered m k ⊎ IsAnswered m.answered k v → IsKnown m' k v
     by_settled k v (inl so) = inl (ap (λ l. covered_flag (slice_get l k)) flags ∙ so)
     by_settled k v (inr is) = inr (inl (subst (λ (l : List WriteAnswer). IsAnswered l k v) (sym answers) is))
@@ -167,13 +174,16 @@ write_taken taken free free' place xid w t v m notes was call h = record {
     by_old : (k u : ℕ) → IsAnswered m.answered k u → (w ≡ k) ⊎ (w ≡ k → ⊥) → last_verifier place k (notes ++ WriteAnswered place w v ∷ []) ≡ Some u
     by_old k u is (inl same) = absurd (omega (arith, h.once k, ap (in_call k) call, counted w k same, answered_counts m.answered k u is))
     by_old k u is (inr other) = last_other place k w v notes other ∙ h.sound k u is
+
     by_sound : (k u : ℕ) → IsAnswered m.answered k u ⊎ ((w ≡ k) × (v ≡ u)) → last_verifier place k (notes ++ WriteAnswered place w v ∷ []) ≡ Some u
     by_sound k u (inl is) = by_old k u is (cases_eq w k)
     by_sound k u (inr (same, ends)) = subst (λ (n : ℕ). last_verifier place n (notes ++ WriteAnswered place w v ∷ []) ≡ Some u) same (last_written place w v notes ∙ ap (λ n. Some n) ends)
+
     by_known : (k u : ℕ) → (w ≡ k → ⊥) → IsKnown m k u → IsKnown (with_answer w v m) k u
     by_known k u other (inl so) = inl so
     by_known k u other (inr (inl is)) = inr (inl (answered_push m.answered (record { write = w; verifier = v }) k u is))
     by_known k u other (inr (inr waits)) = inr (inr (omega (arith, waits, ap (in_call k) call, uncounted w k other)))
+
     by_same : (k u : ℕ) → (last_verifier place k notes ≡ Some u → IsKnown m k u) → last_verifier place k (notes ++ WriteAnswered place w v ∷ []) ≡ Some u → (w ≡ k) ⊎ (w ≡ k → ⊥) → IsKnown (with_answer w v m) k u
     by_same k u old last (inl same) =
         let ends : v ≡ u = same_Some v u (sym (last_written place w v notes) ∙ subst (λ (n : ℕ). last_verifier place n (notes ++ WriteAnswered place w v ∷ []) ≡ Some u) (sym same) last) in
@@ -199,19 +209,23 @@ commit_taken taken free free' place xid t v m notes was call h = record {
   where
     out : is_commit_out m.call ≡ true
     out = ap is_commit_out call
+
     within : (k u : ℕ) → IsAnswered m.answered k u → k < length m.covered
     within k u is = by_order (cases_lt k taken)
       where
         by_order : (k < taken) ⊎ (taken ≤ k) → k < length m.covered
         by_order (inl low) = omega (arith, low, h.size)
         by_order (inr past) = absurd (omega (arith, h.below k past, answered_counts m.answered k u is))
+
     by_again : (k u : ℕ) → (IsCovered (with_commit v m) k) ⊎ (0 < in_queue k (again v m.answered)) → IsKnown (with_commit v m) k u
     by_again k u (inl so) = inl so
     by_again k u (inr waits) = inr (inr (omega (arith, waits, queue_append k m.queue (again v m.answered))))
+
     by_known : (k u : ℕ) → IsKnown m k u → IsKnown (with_commit v m) k u
     by_known k u (inl so) = inl (flag_stays (filter (has_verifier v) m.answered) m.covered k so)
     by_known k u (inr (inl is)) = by_again k u (covered_or_again m.answered m.covered k u v is (within k u is))
     by_known k u (inr (inr waits)) = inr (inr (omega (arith, waits, ap (in_call k) call, queue_append k m.queue (again v m.answered))))
+
     by_flag : (k : ℕ) → IsCovered m k ⊎ IsAnswered m.answered k v → IsCoveredBy place k (notes ++ CommitAnswered place v ∷ [])
     by_flag k (inl so) = still_covered place k notes (CommitAnswered place v ∷ []) ((h.covers k).only so)
     by_flag k (inr is) =
@@ -225,13 +239,16 @@ commit_taken taken free free' place xid t v m notes was call h = record {
           its_answer = now.quiet;
           last = now.same k ∙ h.sound k v is;
         }
+
     by_settled : (k : ℕ) → IsCovered m k ⊎ IsAnswered m.answered k v → IsCovered (with_commit v m) k
     by_settled k (inl so) = flag_stays (filter (has_verifier v) m.answered) m.covered k so
     by_settled k (inr is) = flag_covered m.answered m.covered k v is (within k v is)
+
     verifier_in : WriterNote → ℕ
     verifier_in (CommitSent p) = 0
     verifier_in (WriteAnswered p w u) = 0
     verifier_in (CommitAnswered p u) = u
+
     by_now : (k : ℕ) → CoveredNow place k notes (CommitAnswered place v) → IsCovered (with_commit v m) k
     by_now k (Before so) = flag_stays (filter (has_verifier v) m.answered) m.covered k ((h.covers k).where_so so)
     by_now k (ByLast before between u split quiet last is) =
@@ -251,7 +268,7 @@ moved_holds taken free free' place m m' notes added was (Rests is away) h = subs
 moved_holds taken free free' place m m' notes added was (SentWrite xid k rest idle queue is noted) h =
     subst (λ l. Holds taken free' place m' (notes ++ l)) (sym noted)
     (calm taken free free' place m m' notes was (ap (λ (x : WriterMirror). x.covered) is) (ap (λ (x : WriterMirror). x.answered) is) (λ n. omega (arith, sizes n)) (λ is_free open'. (sym (ap (λ (x : WriterMirror). x.has_failed) is) ∙ open', λ n. omega (arith, sizes n)))
-      (λ out. absurd (cc (ap (λ (x : WriterMirror). is_commit_out x.call) is, out))) h)
+    (λ out. absurd (cc (ap (λ (x : WriterMirror). is_commit_out x.call) is, out))) h)
   where
     sizes : (n : ℕ) → in_queue n m'.queue + in_call n m'.call ≡ in_queue n m.queue + in_call n m.call
     sizes n =
@@ -268,22 +285,22 @@ moved_holds taken free free' place m m' notes added was (TookCommit xid t v call
 moved_holds taken free free' place m m' notes added was (Drops ended is noted) h =
     subst (λ l. Holds taken free' place m' (notes ++ l)) (sym noted)
     (calm taken free free' place m m' notes was (ap (λ (x : WriterMirror). x.covered) is) (ap (λ (x : WriterMirror). x.answered) is) (λ n. omega (arith, ap (λ (x : WriterMirror). in_queue n x.queue) is, ap (λ (x : WriterMirror). in_call n x.call) is))
-      (λ is_free open'. absurd (both_ways free' ended is_free)) (λ out. absurd (cc (ap (λ (x : WriterMirror). is_commit_out x.call) is, out))) h)
+    (λ is_free open'. absurd (both_ways free' ended is_free)) (λ out. absurd (cc (ap (λ (x : WriterMirror). is_commit_out x.call) is, out))) h)
 moved_holds taken free free' place m m' notes added was (Fails is noted) h =
     subst (λ l. Holds taken free' place m' (notes ++ l)) (sym noted)
     (calm taken free free' place m m' notes was (ap (λ (x : WriterMirror). x.covered) is) (ap (λ (x : WriterMirror). x.answered) is) (λ n. omega (arith, ap (λ (x : WriterMirror). in_queue n x.queue) is, ap (λ (x : WriterMirror). in_call n x.call) is))
-      (λ is_free open'. absurd (cc (ap (λ (x : WriterMirror). x.has_failed) is, open'))) (λ out. absurd (cc (ap (λ (x : WriterMirror). is_commit_out x.call) is, out))) h)
+    (λ is_free open'. absurd (cc (ap (λ (x : WriterMirror). x.has_failed) is, open'))) (λ out. absurd (cc (ap (λ (x : WriterMirror). is_commit_out x.call) is, out))) h)
 moved_holds taken free free' place m m' notes added was (LateWrite xid k t u call is noted) h =
     subst (λ l. Holds taken free' place m' (notes ++ l)) (sym noted)
     (calm taken free free' place m m' notes was (ap (λ (x : WriterMirror). x.covered) is) (ap (λ (x : WriterMirror). x.answered) is) (λ n. omega (arith, sizes n)) (λ is_free open'. (sym (ap (λ (x : WriterMirror). x.has_failed) is) ∙ open', λ n. omega (arith, sizes n)))
-      (λ out. absurd (cc (ap (λ (x : WriterMirror). is_commit_out x.call) is, out))) h)
+    (λ out. absurd (cc (ap (λ (x : WriterMirror). is_commit_out x.call) is, out))) h)
   where
     sizes : (n : ℕ) → in_queue n m'.queue + in_call n m'.call ≡ in_queue n m.queue + in_call n m.call
     sizes n = omega (arith, ap (λ (x : WriterMirror). in_queue n x.queue) is, ap (λ (x : WriterMirror). in_call n x.call) is, ap (in_call n) call)
 moved_holds taken free free' place m m' notes added was (LateCommit xid t u call is noted) h =
     subst (λ l. Holds taken free' place m' (notes ++ l)) (sym noted)
     (calm taken free free' place m m' notes was (ap (λ (x : WriterMirror). x.covered) is) (ap (λ (x : WriterMirror). x.answered) is) (λ n. omega (arith, sizes n)) (λ is_free open'. (sym (ap (λ (x : WriterMirror). x.has_failed) is) ∙ open', λ n. omega (arith, sizes n)))
-      (λ out. ap is_commit_out call) h)
+    (λ out. ap is_commit_out call) h)
   where
     sizes : (n : ℕ) → in_queue n m'.queue + in_call n m'.call ≡ in_queue n m.queue + in_call n m.call
     sizes n = omega (arith, ap (λ (x : WriterMirror). in_queue n x.queue) is, ap (λ (x : WriterMirror). in_call n x.call) is, ap (in_call n) call)
@@ -293,7 +310,7 @@ pub turned_holds : (old new : WriterValue) (place : ℕ) (m m' : WriterMirror) (
 turned_holds old new place m m' notes added was (Queues size is noted) h =
     subst (λ l. Holds (length new.taken) (not new.is_fenced) place m' (notes ++ l)) (sym noted)
     (subst (λ l. Holds (length new.taken) (not new.is_fenced) place m' l) (sym (append-nil notes))
-      (subst (λ (x : WriterMirror). Holds (length new.taken) (not new.is_fenced) place x notes) (sym is)
-        (subst (λ (n : ℕ). Holds n (not new.is_fenced) place (queued (length old.taken) m) notes) (sym size) (queues_hold (length old.taken) (not old.is_fenced) (not new.is_fenced) place m notes was h))))
+    (subst (λ (x : WriterMirror). Holds (length new.taken) (not new.is_fenced) place x notes) (sym is)
+    (subst (λ (n : ℕ). Holds n (not new.is_fenced) place (queued (length old.taken) m) notes) (sym size) (queues_hold (length old.taken) (not old.is_fenced) (not new.is_fenced) place m notes was h))))
 turned_holds old new place m m' notes added was (Moves size moved) h =
     subst (λ (n : ℕ). Holds n (not new.is_fenced) place m' (notes ++ added)) (sym size) (moved_holds (length old.taken) (not old.is_fenced) (not new.is_fenced) place m m' notes added was moved h)

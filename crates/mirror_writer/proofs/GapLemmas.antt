@@ -55,7 +55,7 @@ goes_on runs from left taken free on off some none = by_order (cases_lt taken le
     by_order : (taken < left) ⊎ (left ≤ taken) → taken ≡ left
     by_order (inl short) =
         absurd (both_ways (is_place runs (from + taken)) (on.end short)
-          (subst (λ (p : ℕ). is_place runs p ≡ true) (omega (arith, none)) (off.end (omega (arith, none, short)))))
+        (subst (λ (p : ℕ). is_place runs p ≡ true) (omega (arith, none)) (off.end (omega (arith, none, short)))))
     by_order (inr all) = omega (arith, all, on.within)
 
 abbrev Joins : Bool → Bool → Bool → Bool → Type 0
@@ -74,18 +74,22 @@ nowhere set = refl
 
 -- where each place of the window stands
 module _ (runs : List (ℕ × ℕ)) (at count from left taken free : ℕ) (start : from + left ≡ at + count) (size : left ≤ count)
-  (on : RunsOn runs true from left taken) (off : RunsOn runs false (from + taken) (left - taken) free) where
+    (on : RunsOn runs true from left taken) (off : RunsOn runs false (from + taken) (left - taken) free) where
   joined_at : (p : ℕ) → Joins (in_window at (count - left) p) (has_place p (from + taken, from + taken + free)) (in_window at (count - (left - (taken + free))) p) (is_place runs p)
   joined_at p = by_start (cases_lt p at)
     where
       old : Bool
       old = in_window at (count - left) p
+
       more : Bool
       more = has_place p (from + taken, from + taken + free)
+
       new : Bool
       new = in_window at (count - (left - (taken + free))) p
+
       set : Bool
       set = is_place runs p
+
       by_end : at ≤ p → from ≤ p → from + taken ≤ p → (p < from + taken + free) ⊎ (from + taken + free ≤ p) → Joins old more new set
       by_end low past behind (inl within) =
           joins _ _ _ _ old more new set (past_window at (count - left) p (omega (arith, start, size, past))) (is_inside (from + taken, from + taken + free) p behind within)
@@ -93,16 +97,19 @@ module _ (runs : List (ℕ × ℕ)) (at count from left taken free : ℕ) (start
       by_end low past behind (inr after) =
           joins _ _ _ _ old more new set (past_window at (count - left) p (omega (arith, start, size, past))) (past_run (from + taken, from + taken + free) p after)
           (past_window at (count - (left - (taken + free))) p (omega (arith, start, size, after, on.within, off.within))) refl (nowhere set)
+
       by_taken : at ≤ p → from ≤ p → (p < from + taken) ⊎ (from + taken ≤ p) → Joins old more new set
       by_taken low past (inl within) =
           joins _ _ _ _ old more new set (past_window at (count - left) p (omega (arith, start, size, past))) (below_run (from + taken, from + taken + free) p within)
           (inside at (count - (left - (taken + free))) p low (omega (arith, start, size, within, on.within, off.within))) (on.all p past within) refl
       by_taken low past (inr behind) = by_end low past behind (cases_lt p (from + taken + free))
+
       by_from : at ≤ p → (p < from) ⊎ (from ≤ p) → Joins old more new set
       by_from low (inl before) =
           joins _ _ _ _ old more new set (inside at (count - left) p low (omega (arith, start, size, before))) (below_run (from + taken, from + taken + free) p (omega (arith, before)))
           (inside at (count - (left - (taken + free))) p low (omega (arith, start, size, before, on.within, off.within))) refl (unchanged set)
       by_from low (inr past) = by_taken low past (cases_lt p (from + taken))
+
       by_start : (p < at) ⊎ (at ≤ p) → Joins old more new set
       by_start (inl below) =
           joins _ _ _ _ old more new set (below_window at (count - left) p below) (below_run (from + taken, from + taken + free) p (omega (arith, below, start, size)))
@@ -130,8 +137,8 @@ one_more_gap runs at count done from left taken free after so_far on off some ga
       within = omega (arith, so_far.within);
       from_is = λ more. omega (arith, goes more, start, more);
       ends = All-append (λ r. r.1 ≤ at + (count - (left - (taken + free)))) done (run ∷ [])
-        (λ k d within. omega (arith, so_far.ends k d within, so_far.within))
-        (only (at + (count - (left - (taken + free)))) run (omega (arith, start, so_far.within, on.within, off.within)));
+          (λ k d within. omega (arith, so_far.ends k d within, so_far.within))
+          (only (at + (count - (left - (taken + free)))) run (omega (arith, start, so_far.within, on.within, off.within)));
       apart = by_next start so_far.next;
       places = λ p. list_any-append (has_place p) done (run ∷ []) ∙ ap (λ b. b || (has_place p run || false)) (so_far.places p) ∙ joined_at runs at count from left taken free start so_far.within on off p;
       next = inr (λ more. subst (λ (q : ℕ). is_place runs q ≡ true) (omega (arith, goes more)) (off.end (omega (arith, more, on.within))));
@@ -139,10 +146,12 @@ one_more_gap runs at count done from left taken free after so_far on off some ga
   where
     behind : from + left ≡ at + count → 0 < taken → All (λ r. r.1 < from + taken) done
     behind start past = λ k d within. omega (arith, so_far.ends k d within, so_far.within, start, past)
+
     by_taken : from + left ≡ at + count → (0 < left → is_place runs from ≡ true) → (0 < taken) ⊎ (taken ≤ 0) → AreApart (done ++ (from + taken, from + taken + free) ∷ [])
     by_taken start there (inl past) = apart_push done (from + taken) (from + taken + free) so_far.apart (behind start past) (omega (arith, gap))
     by_taken start there (inr none) =
         absurd (both_ways (is_place runs from) (subst (λ (q : ℕ). is_place runs q ≡ false) (omega (arith, none)) (on.end (omega (arith, none, some)))) (there some))
+
     by_next : from + left ≡ at + count → (done ≡ []) ⊎ (0 < left → is_place runs from ≡ true) → AreApart (done ++ (from + taken, from + taken + free) ∷ [])
     by_next start (inl none) = subst (λ (l : List (ℕ × ℕ)). AreApart (l ++ (from + taken, from + taken + free) ∷ [])) (sym none) (omega (arith, gap))
     by_next start (inr there) = by_taken start there (cases_lt 0 taken)
@@ -159,12 +168,13 @@ no_more_gap runs at count done from left taken free after so_far on off some non
       ends = λ k d within. omega (arith, so_far.ends k d within, so_far.within);
       apart = so_far.apart;
       places = λ p. so_far.places p ∙ or_false (in_window at (count - left) p && not (is_place runs p)) ∙ ap (λ b. (in_window at (count - left) p && not (is_place runs p)) || (b || false)) (sym (empty p))
-        ∙ joined_at runs at count from left taken free start so_far.within on off p;
+          ∙ joined_at runs at count from left taken free start so_far.within on off p;
       next = inr (λ more. absurd (omega (arith, more, all)));
     }
   where
     empty : (p : ℕ) → has_place p (from + taken, from + taken + free) ≡ false
     empty p = grind (arith, nat_tests, none)
+
     or_false : (a : Bool) → a ≡ (a || (false || false))
     or_false true = refl
     or_false false = refl

@@ -16,8 +16,8 @@ same_bool false true there back = back refl
 same_bool false false there back = refl
 
 module _ (old new : List (ℕ × ℕ)) (at end first upto : ℕ) (apart : AreApart old) (by : EndBy max_place old) (some : at < end) (limit : end ≤ max_place)
-  (fresh : (p : ℕ) → at ≤ p → p < end → is_place old p ≡ false) (begins : BeginsAt old at first) (ends : EndsAt old end upto)
-  (gets : (q : ℕ) → run_at new q ≡ cond (is_at (nat_cmp end) q) None (cond (is_at (nat_cmp first) q) (Some upto) (run_at old q))) where
+    (fresh : (p : ℕ) → at ≤ p → p < end → is_place old p ≡ false) (begins : BeginsAt old at first) (ends : EndsAt old end upto)
+    (gets : (q : ℕ) → run_at new q ≡ cond (is_at (nat_cmp end) q) None (cond (is_at (nat_cmp first) q) (Some upto) (run_at old q))) where
   first_le : first ≤ at
   first_le = by_run begins
     where
@@ -79,12 +79,15 @@ module _ (old new : List (ℕ × ℕ)) (at end first upto : ℕ) (apart : AreApa
       behind_end : end < l → EndsAt old end upto → upto < l
       behind_end past (inl joined) = are_apart old end upto l u apart joined run past
       behind_end past (inr (none, same)) = omega (arith, same, past)
+
       before : l < at → BeginsAt old at first → ⊥
       before low (inl joined) = omega (arith, low, are_apart old first at l u apart joined run below)
       before low (inr (same, none)) = omega (arith, low, same, below)
+
       by_end_of : l < end → (at < u) ⊎ (u ≤ at) → ⊥
       by_end_of low (inl past) = untouched l u run low past
       by_end_of low (inr high) = before (omega (arith, high, full old l u apart run)) begins
+
       by_order : (l < end) ⊎ (end ≤ l) → upto < l
       by_order (inl low) = absurd (by_end_of low (cases_lt at u))
       by_order (inr high) = by_same (cases_eq l end)
@@ -111,6 +114,7 @@ module _ (old new : List (ℕ × ℕ)) (at end first upto : ℕ) (apart : AreApa
               by_strict : (v < at) ⊎ (at ≤ v) → v < first
               by_strict (inl strict) = omega (arith, strict, same)
               by_strict (inr high) = absurd (differs (omega (arith, low, high)))
+
       by_run : BeginsAt old at first → v < first
       by_run (inl joined) = are_apart old k v first at apart run joined below
       by_run (inr (same, none)) = by_end_of same none (cases_lt at v)
@@ -136,15 +140,19 @@ module _ (old new : List (ℕ × ℕ)) (at end first upto : ℕ) (apart : AreApa
     where
       in_old : is_place old p ≡ true → (is_place old p || in_window at (end - at) p) ≡ true
       in_old is = ap (λ b. b || in_window at (end - at) p) is
+
       before : p < at → BeginsAt old at first → (is_place old p || in_window at (end - at) p) ≡ true
       before below (inl run) = in_old (place_in old first at p run low below)
       before below (inr (same, none)) = absurd (omega (arith, same, low, below))
+
       behind : end ≤ p → EndsAt old end upto → (is_place old p || in_window at (end - at) p) ≡ true
       behind past (inl run) = in_old (place_in old end upto p run past high)
       behind past (inr (none, same)) = absurd (omega (arith, same, past, high))
+
       by_stop : at ≤ p → (p < end) ⊎ (end ≤ p) → (is_place old p || in_window at (end - at) p) ≡ true
       by_stop above (inl within) = or_true (is_place old p) (in_window at (end - at) p) (inside at (end - at) p above (omega (arith, within, some)))
       by_stop above (inr past) = behind past ends
+
       by_start : (p < at) ⊎ (at ≤ p) → (is_place old p || in_window at (end - at) p) ≡ true
       by_start (inl below) = before below begins
       by_start (inr above) = by_stop above (cases_lt p end)

@@ -47,9 +47,10 @@ free_before b outcome.CommitOk is = is
 -- the mirror at a place settles
 settled_kept : (s : WriterValue) (at : ℕ) (m : WriterMirror) (a : MirrorAfter) (x : WriterAfter) → x ≡ settles s at m a → (length x.writer.mirrors ≡ length s.mirrors) × (x.writer.is_fenced ≡ false → s.is_fenced ≡ false)
 settled_kept s at m a x is =
-    let set : WriterValue = with_writer_mirror s at a.mirror in
-    (ap (λ (y : WriterAfter). length y.writer.mirrors) is ∙ ap length (settled_mirrors set m.id a.outcome) ∙ length-set s.mirrors at a.mirror,
-      λ free. not_false s.is_fenced (free_before (not s.is_fenced) a.outcome (settled_free set m.id a.outcome ∙ sym (ap (λ (y : WriterAfter). not y.writer.is_fenced) is) ∙ ap not free)))
+    let set : WriterValue = with_writer_mirror s at a.mirror in (
+      ap (λ (y : WriterAfter). length y.writer.mirrors) is ∙ ap length (settled_mirrors set m.id a.outcome) ∙ length-set s.mirrors at a.mirror,
+      λ free. not_false s.is_fenced (free_before (not s.is_fenced) a.outcome (settled_free set m.id a.outcome ∙ sym (ap (λ (y : WriterAfter). not y.writer.is_fenced) is) ∙ ap not free)),
+    )
 
 call_noted : (at : ℕ) (reply : DsReplyValue) (call : WriterCall) → NotesOf at (call_notes at reply call)
 call_noted at reply NoCall = inl refl
@@ -83,11 +84,12 @@ reply_kept run xid reply = by_call (mirror_of_call run.writer xid) refl
       notes = refl;
       within = inl none;
     }
+
     by_mirror : (at : ℕ) → mirror_of_call run.writer xid ≡ Some at → (o : Option WriterMirror) → slice_get run.writer.mirrors at ≡ o → Kept run (writer_moved run (TakesReply xid reply))
     by_mirror at is None found = unchanged (ap (answered_at run.writer reply) is ∙ ap (mirror_answered run.writer reply at) found) (ap (answer_notes run.writer reply) is ∙ ap (mirror_notes at reply) found)
     by_mirror at is (Some m) found =
         let kept : (length (after_reply run.writer xid reply).writer.mirrors ≡ length run.writer.mirrors) × ((after_reply run.writer xid reply).writer.is_fenced ≡ false → run.writer.is_fenced ≡ false)
-          = settled_kept run.writer at m (answered_there m reply m.call) (after_reply run.writer xid reply)
+        = settled_kept run.writer at m (answered_there m reply m.call) (after_reply run.writer xid reply)
         (ap (answered_at run.writer reply) is ∙ ap (mirror_answered run.writer reply at) found ∙ sym (answer_settles run.writer at m reply m.call (stays_set run.writer.mirrors at m found))) in
         record {
           size = kept.0;
@@ -96,6 +98,7 @@ reply_kept run xid reply = by_call (mirror_of_call run.writer xid) refl
           notes = ap (λ l. run.notes ++ l) (ap (answer_notes run.writer reply) is ∙ ap (mirror_notes at reply) found);
           within = noted_within at (length run.writer.mirrors) (call_notes at reply m.call) (slice_get_within run.writer.mirrors at m found) (call_noted at reply m.call);
         }
+
     by_call : (o : Option ℕ) → mirror_of_call run.writer xid ≡ o → Kept run (writer_moved run (TakesReply xid reply))
     by_call None is = unchanged (ap (answered_at run.writer reply) is) (ap (answer_notes run.writer reply) is)
     by_call (Some at) is = by_mirror at is (slice_get run.writer.mirrors at) refl
@@ -111,13 +114,15 @@ timeout_kept run xid = by_call (mirror_of_call run.writer xid) refl
       notes = sym (append-nil run.notes);
       within = inl refl;
     }
+
     by_mirror : (at : ℕ) → mirror_of_call run.writer xid ≡ Some at → (o : Option WriterMirror) → slice_get run.writer.mirrors at ≡ o → Kept run (writer_moved run (TakesTimeout xid))
     by_mirror at is None found = unchanged (ap (timed_out_at run.writer) is ∙ ap (mirror_timed_out run.writer at) found)
     by_mirror at is (Some m) found =
         let kept : (length (after_timeout run.writer xid).writer.mirrors ≡ length run.writer.mirrors) × ((after_timeout run.writer xid).writer.is_fenced ≡ false → run.writer.is_fenced ≡ false)
-          = settled_kept run.writer at m (late_there m m.call) (after_timeout run.writer xid)
+        = settled_kept run.writer at m (late_there m m.call) (after_timeout run.writer xid)
         (ap (timed_out_at run.writer) is ∙ ap (mirror_timed_out run.writer at) found ∙ sym (late_settles run.writer at m m.call (stays_set run.writer.mirrors at m found))) in
         record { size = kept.0; free = kept.1; added = []; notes = sym (append-nil run.notes); within = inl refl }
+
     by_call : (o : Option ℕ) → mirror_of_call run.writer xid ≡ o → Kept run (writer_moved run (TakesTimeout xid))
     by_call None is = unchanged (ap (timed_out_at run.writer) is)
     by_call (Some at) is = by_mirror at is (slice_get run.writer.mirrors at) refl
@@ -129,9 +134,11 @@ sent_noted s = by_place (next_place s)
     by_next at below None = inl refl
     by_next at below (Some (SendsWrite n)) = inl refl
     by_next at below (Some SendsCommit) = inr (CommitSent at, refl, below)
+
     by_mirror : (at : ℕ) (o : Option WriterMirror) → slice_get s.mirrors at ≡ o → (noted_mirror s.wants_commit at o ≡ []) ⊎ ((note : WriterNote) × (noted_mirror s.wants_commit at o ≡ note ∷ []) × (note_place note < length s.mirrors))
     by_mirror at None found = inl refl
     by_mirror at (Some m) found = by_next at (slice_get_within s.mirrors at m found) (next_at s.wants_commit m)
+
     by_place : (o : Option ℕ) → (sent_notes s o ≡ []) ⊎ ((note : WriterNote) × (sent_notes s o ≡ note ∷ []) × (note_place note < length s.mirrors))
     by_place None = inl refl
     by_place (Some at) = by_mirror at (slice_get s.mirrors at) refl

@@ -84,7 +84,7 @@ set_there run new place at m mp after added here found set taken notes moved awa
           added = added;
           notes = notes;
           turned = Moves (ap length taken)
-            (subst (λ (x : WriterMirror). Moved (not run.writer.is_fenced) (not new.writer.is_fenced) place x after added) (sym one)
+              (subst (λ (x : WriterMirror). Moved (not run.writer.is_fenced) (not new.writer.is_fenced) place x after added) (sym one)
               (subst (λ (p : ℕ). Moved (not run.writer.is_fenced) (not new.writer.is_fenced) p mp after added) (sym same) moved));
         }
     by_place (inr other) = record {
@@ -203,6 +203,7 @@ module _ (run : WriterRun) (place : ℕ) (m : WriterMirror) (here : slice_get ru
     where
       new : WriterRun
       new = writer_moved run (TakesReply xid reply)
+
       by_mirror : (at : ℕ) → mirror_of_call run.writer xid ≡ Some at → (o : Option WriterMirror) → slice_get run.writer.mirrors at ≡ o → MoveAt run (writer_moved run (TakesReply xid reply)) place m
       by_mirror at is None found =
           let same : after_reply run.writer xid reply ≡ mirror_answered run.writer reply at None = ap (answered_at run.writer reply) is ∙ ap (mirror_answered run.writer reply at) found in
@@ -212,6 +213,7 @@ module _ (run : WriterRun) (place : ℕ) (m : WriterMirror) (here : slice_get ru
           settled_there run (writer_moved run (TakesReply xid reply)) place at m mp (answered_there mp reply mp.call) (after_reply run.writer xid reply) (call_notes at reply mp.call) here found
           (answer_settles run.writer at mp reply mp.call (stays_set run.writer.mirrors at mp found) ∙ sym (ap (answered_at run.writer reply) is ∙ ap (mirror_answered run.writer reply at) found)) refl
           (ap (λ l. run.notes ++ l) (ap (answer_notes run.writer reply) is ∙ ap (mirror_notes at reply) found)) (answer_moved (not run.writer.is_fenced) at mp reply mp.call refl) (call_away place at reply mp.call)
+
       by_call : (o : Option ℕ) → mirror_of_call run.writer xid ≡ o → MoveAt run (writer_moved run (TakesReply xid reply)) place m
       by_call None is =
           let same : after_reply run.writer xid reply ≡ answered_at run.writer reply None = ap (answered_at run.writer reply) is in
@@ -245,6 +247,7 @@ module _ (run : WriterRun) (place : ℕ) (m : WriterMirror) (here : slice_get ru
           settled_there run (writer_moved run (TakesTimeout xid)) place at m mp (late_there mp mp.call) (after_timeout run.writer xid) [] here found
           (late_settles run.writer at mp mp.call (stays_set run.writer.mirrors at mp found) ∙ sym (ap (timed_out_at run.writer) is ∙ ap (mirror_timed_out run.writer at) found)) refl (same_notes run.notes)
           (late_moved (not run.writer.is_fenced) at mp mp.call refl) (λ other. NoNote refl)
+
       by_call : (o : Option ℕ) → mirror_of_call run.writer xid ≡ o → MoveAt run (writer_moved run (TakesTimeout xid)) place m
       by_call None is =
           let same : after_timeout run.writer xid ≡ timed_out_at run.writer None = ap (timed_out_at run.writer) is in
@@ -263,10 +266,12 @@ module _ (run : WriterRun) (place : ℕ) (m : WriterMirror) (here : slice_get ru
           by_wish : (b : Bool) → cond b (Some SendsCommit) None ≡ Some (SendsWrite k) → ⊥
           by_wish true is = absurd cc
           by_wish false is = absurd cc
+
       by_call : (call : WriterCall) → mp.call ≡ call → next_of_call wants mp call ≡ Some (SendsWrite k) → Moved free free at mp (with_out xid (SendsWrite k) mp) []
       by_call NoCall idle next = by_queue idle mp.queue refl next
       by_call (OutWrite x w t) idle next = absurd cc
       by_call (OutCommit x t) idle next = absurd cc
+
       by_failure : (b : Bool) → cond b None (next_of_call wants mp mp.call) ≡ Some (SendsWrite k) → Moved free free at mp (with_out xid (SendsWrite k) mp) []
       by_failure true next = absurd cc
       by_failure false next = by_call mp.call refl next
@@ -277,10 +282,12 @@ module _ (run : WriterRun) (place : ℕ) (m : WriterMirror) (here : slice_get ru
       by_queue : mp.has_failed ≡ false → mp.call ≡ NoCall → (queue : List ℕ) → mp.queue ≡ queue → next_idle wants mp queue ≡ Some SendsCommit → Moved true true at mp (with_out xid SendsCommit mp) (CommitSent at ∷ [])
       by_queue open' idle (n ∷ queue) is next = absurd cc
       by_queue open' idle [] is next = SentCommit xid refl open' idle is refl refl
+
       by_call : mp.has_failed ≡ false → (call : WriterCall) → mp.call ≡ call → next_of_call wants mp call ≡ Some SendsCommit → Moved true true at mp (with_out xid SendsCommit mp) (CommitSent at ∷ [])
       by_call open' NoCall idle next = by_queue open' idle mp.queue refl next
       by_call open' (OutWrite x w t) idle next = absurd cc
       by_call open' (OutCommit x t) idle next = absurd cc
+
       by_failure : (b : Bool) → mp.has_failed ≡ b → cond b None (next_of_call wants mp mp.call) ≡ Some SendsCommit → Moved true true at mp (with_out xid SendsCommit mp) (CommitSent at ∷ [])
       by_failure true open' next = absurd cc
       by_failure false open' next = by_call open' mp.call refl next
@@ -290,10 +297,12 @@ module _ (run : WriterRun) (place : ℕ) (m : WriterMirror) (here : slice_get ru
     where
       s : WriterValue
       s = run.writer
+
       nothing : next_sent run.writer xid ≡ None → sent_notes run.writer (next_place run.writer) ≡ [] → MoveAt run new place m
       nothing none noted =
           let same : new.writer ≡ run.writer = writer ∙ ap (sent_from run.writer) none in
           rests run new place m [] here (ap (λ (x : WriterValue). x.mirrors) same) (ap (λ (x : WriterValue). x.taken) same) (notes ∙ ap (λ l. run.notes ++ l) noted) (NoNote refl)
+
       one : (at : ℕ) (mp : WriterMirror) (next : NextCall) (call : DsCallValue) → slice_get run.writer.mirrors at ≡ Some mp
           → next_sent run.writer xid ≡ Some (record { writer = with_writer_mirrors run.writer (slice_set run.writer.mirrors at (with_out xid next mp)); id = mp.id; call = call })
           → sent_notes run.writer (next_place run.writer) ≡ noted_next at (Some next) → Moved (not run.writer.is_fenced) (not run.writer.is_fenced) at mp (with_out xid next mp) (noted_next at (Some next))
@@ -303,9 +312,11 @@ module _ (run : WriterRun) (place : ℕ) (m : WriterMirror) (here : slice_get ru
           set_there run new place at m mp (with_out xid next mp) (noted_next at (Some next)) here found (ap (λ (x : WriterValue). x.mirrors) same) (ap (λ (x : WriterValue). x.taken) same)
           (notes ∙ ap (λ l. run.notes ++ l) noted)
           (subst (λ (b : Bool). Moved (not run.writer.is_fenced) b at mp (with_out xid next mp) (noted_next at (Some next))) (sym (ap (λ (x : WriterValue). not x.is_fenced) same)) moved) away
+
       unfenced : (at : ℕ) (b : Bool) → (rest : Option ℕ) → cond b None rest ≡ Some at → b ≡ false
       unfenced at true rest is = absurd cc
       unfenced at false rest is = refl
+
       by_next : (at : ℕ) (mp : WriterMirror) (next : NextCall) → next_place run.writer ≡ Some at → slice_get run.writer.mirrors at ≡ Some mp → next_at run.writer.wants_commit mp ≡ Some next
           → (call : Option DsCallValue) → call_for run.writer mp.id next ≡ call → sent_notes run.writer (next_place run.writer) ≡ noted_next at (Some next) → MoveAt run new place m
       by_next at mp (SendsWrite k) first found next None is noted = nothing (none_call run.writer xid at mp (SendsWrite k) first found next is) noted
@@ -319,15 +330,18 @@ module _ (run : WriterRun) (place : ℕ) (m : WriterMirror) (here : slice_get ru
           (ap (sends_at run.writer xid) first ∙ ap (sends_to run.writer xid at) found ∙ ap (sends_next run.writer xid at mp) next ∙ ap (sends_as run.writer xid at mp SendsCommit) is) noted
           (subst (λ (b : Bool). Moved b b at mp (with_out xid SendsCommit mp) (CommitSent at ∷ [])) (sym (ap not (unfenced at run.writer.is_fenced _ first))) (sent_commit at xid mp run.writer.wants_commit next))
           (λ other. OtherNote (CommitSent at) refl (λ same. other (sym same)))
+
       by_call : (at : ℕ) (mp : WriterMirror) → next_place run.writer ≡ Some at → slice_get run.writer.mirrors at ≡ Some mp → (next : Option NextCall) → next_at run.writer.wants_commit mp ≡ next → MoveAt run new place m
       by_call at mp first found None next =
           nothing (none_next run.writer xid at mp None first found next refl) (ap (sent_notes run.writer) first ∙ ap (noted_mirror run.writer.wants_commit at) found ∙ ap (noted_next at) next)
       by_call at mp first found (Some n) next =
           by_next at mp n first found next (call_for run.writer mp.id n) refl (ap (sent_notes run.writer) first ∙ ap (noted_mirror run.writer.wants_commit at) found ∙ ap (noted_next at) next)
+
       by_mirror : (at : ℕ) → next_place run.writer ≡ Some at → (o : Option WriterMirror) → slice_get run.writer.mirrors at ≡ o → MoveAt run new place m
       by_mirror at first None found =
           nothing (ap (sends_at run.writer xid) first ∙ ap (sends_to run.writer xid at) found) (ap (sent_notes run.writer) first ∙ ap (noted_mirror run.writer.wants_commit at) found)
       by_mirror at first (Some mp) found = by_call at mp first found (next_at run.writer.wants_commit mp) refl
+
       by_place : (o : Option ℕ) → next_place run.writer ≡ o → MoveAt run new place m
       by_place None first = nothing (none_first run.writer xid first) (ap (sent_notes run.writer) first)
       by_place (Some at) first = by_mirror at first (slice_get run.writer.mirrors at) refl

@@ -105,7 +105,7 @@ still_covered place k notes added is = record {
   behind = is.behind ++ added;
   verifier = is.verifier;
   split = ap (λ l. l ++ added) is.split ∙ append_assoc is.before (CommitSent place ∷ (is.between ++ CommitAnswered place is.verifier ∷ is.behind)) added
-    ∙ ap (λ l. is.before ++ CommitSent place ∷ l) (append_assoc is.between (CommitAnswered place is.verifier ∷ is.behind) added);
+      ∙ ap (λ l. is.before ++ CommitSent place ∷ l) (append_assoc is.between (CommitAnswered place is.verifier ∷ is.behind) added);
   its_answer = is.its_answer;
   last = is.last;
 }
@@ -119,7 +119,7 @@ pub data CoveredNow (place k : ℕ) (notes : List WriterNote) (note : WriterNote
 pub covered_now : (place k : ℕ) (notes : List WriterNote) (note : WriterNote) → IsCoveredBy place k (notes ++ note ∷ []) → CoveredNow place k notes note
 covered_now place k notes note is =
     by_last (last_of notes note (is.before ++ CommitSent place ∷ is.between) (CommitAnswered place is.verifier) is.behind
-      (is.split ∙ sym (append_assoc is.before (CommitSent place ∷ is.between) (CommitAnswered place is.verifier ∷ is.behind))))
+    (is.split ∙ sym (append_assoc is.before (CommitSent place ∷ is.between) (CommitAnswered place is.verifier ∷ is.behind))))
   where
     by_last : LastOf notes note (is.before ++ CommitSent place ∷ is.between) (CommitAnswered place is.verifier) is.behind → CoveredNow place k notes note
     by_last (IsLast none eq last) = ByLast is.before is.between is.verifier eq is.its_answer is.last last

@@ -48,6 +48,7 @@ reply_taken s xid reply = by_call (mirror_of_call s xid) refl
     by_mirror at is (Some mp) found =
         ap (λ (x : WriterAfter). x.writer.taken) (ap (answered_at s reply) is ∙ ap (mirror_answered s reply at) found ∙ sym (answer_settles s at mp reply mp.call (stays_set s.mirrors at mp found)))
         ∙ settled_taken (with_writer_mirror s at (answered_there mp reply mp.call).mirror) mp.id (answered_there mp reply mp.call).outcome
+
     by_call : (o : Option ℕ) → mirror_of_call s xid ≡ o → (after_reply s xid reply).writer.taken ≡ s.taken
     by_call None is = ap (λ (x : WriterAfter). x.writer.taken) (ap (answered_at s reply) is)
     by_call (Some at) is = by_mirror at is (slice_get s.mirrors at) refl
@@ -60,6 +61,7 @@ timeout_taken s xid = by_call (mirror_of_call s xid) refl
     by_mirror at is (Some mp) found =
         ap (λ (x : WriterAfter). x.writer.taken) (ap (timed_out_at s) is ∙ ap (mirror_timed_out s at) found ∙ sym (late_settles s at mp mp.call (stays_set s.mirrors at mp found)))
         ∙ settled_taken (with_writer_mirror s at (late_there mp mp.call).mirror) mp.id (late_there mp mp.call).outcome
+
     by_call : (o : Option ℕ) → mirror_of_call s xid ≡ o → (after_timeout s xid).writer.taken ≡ s.taken
     by_call None is = ap (λ (x : WriterAfter). x.writer.taken) (ap (timed_out_at s) is)
     by_call (Some at) is = by_mirror at is (slice_get s.mirrors at) refl
@@ -90,12 +92,15 @@ sending s xid sends is = by_place (next_place s) is
           id_is = ap (λ (x : WriterSends). x.id) same;
           writer_is = sym (ap (λ (x : WriterSends). x.writer) same);
         }
+
     by_next : (at : ℕ) (m : WriterMirror) → slice_get s.mirrors at ≡ Some m → (next : Option NextCall) → sends_next s xid at m next ≡ Some sends → Sending s xid sends
     by_next at m found None is = absurd (none-some sends is)
     by_next at m found (Some next) is = by_call at m found next (call_for s m.id next) refl is
+
     by_mirror : (at : ℕ) (o : Option WriterMirror) → slice_get s.mirrors at ≡ o → sends_to s xid at o ≡ Some sends → Sending s xid sends
     by_mirror at None found is = absurd (none-some sends is)
     by_mirror at (Some m) found is = by_next at m found (next_at s.wants_commit m) is
+
     by_place : (o : Option ℕ) → sends_at s xid o ≡ Some sends → Sending s xid sends
     by_place None is = absurd (none-some sends is)
     by_place (Some at) is = by_mirror at (slice_get s.mirrors at) refl is
@@ -267,6 +272,7 @@ tells_reply s xid reply = by_call (mirror_of_call s xid)
     by_mirror : (at : ℕ) (o : Option WriterMirror) → Tells (is_ok_commit reply (call_of_mirror o)) (mirror_answered s reply at o)
     by_mirror at None = never_stranger s reply
     by_mirror at (Some m) = tells s at m reply m.call
+
     by_call : (o : Option ℕ) → Tells (is_ok_commit reply (call_at_place s o)) (answered_at s reply o)
     by_call None = never_stranger s reply
     by_call (Some at) = by_mirror at (slice_get s.mirrors at)

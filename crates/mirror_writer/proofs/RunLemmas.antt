@@ -150,9 +150,11 @@ pub apart_by : (es : List (ℕ × ℕ)) → IsStrictlySortedBy nat_cmp (keys_of 
     → ((i j : ℕ) (e f : ℕ × ℕ) → slice_get es i ≡ Some e → slice_get es j ≡ Some f → e.0 < f.0 → e.1 < f.0) → AreApart es
 apart_by [] sorted some gap = tt
 apart_by (e ∷ []) sorted some gap = some 0 e refl
-apart_by (e ∷ f ∷ es) sorted some gap =
-    (some 0 e refl, gap 0 1 e f refl refl (first_below e f es sorted),
-      apart_by (f ∷ es) (sorted_tail nat_cmp e.0 (keys_of (f ∷ es)) sorted) (λ i x at. some (suc i) x at) (λ i j x y at also. gap (suc i) (suc j) x y at also))
+apart_by (e ∷ f ∷ es) sorted some gap = (
+  some 0 e refl,
+  gap 0 1 e f refl refl (first_below e f es sorted),
+  apart_by (f ∷ es) (sorted_tail nat_cmp e.0 (keys_of (f ∷ es)) sorted) (λ i x at. some (suc i) x at) (λ i j x y at also. gap (suc i) (suc j) x y at also),
+)
 
 pub apart_from : (m : BTreeMap ℕ ℕ) → IsOrdered nat_cmp m → ((k v : ℕ) → IsRun m.entries k v → k < v)
     → ((k v l u : ℕ) → IsRun m.entries k v → IsRun m.entries l u → k < l → v < l) → AreApart m.entries

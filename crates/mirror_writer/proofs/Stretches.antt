@@ -59,8 +59,8 @@ pub free_on : (es : List (ℕ × ℕ)) (place left first : ℕ) → AreApart es 
 free_on es place left first apart free from = record {
   within = omega arith;
   all = λ p low high. no_place es p apart (λ r.
-    let behind : place ≤ r.first = begins_behind es place p (free (omega (arith, low, high))) low r in
-    omega (arith, from.least r.first behind (some_run es r.first r.end r.run), r.low, high, from.behind));
+      let behind : place ≤ r.first = begins_behind es place p (free (omega (arith, low, high))) low r in
+      omega (arith, from.least r.first behind (some_run es r.first r.end r.run), r.low, high, from.behind));
   end = λ short. by_run short (run_at es first) refl from.there;
 }
   where

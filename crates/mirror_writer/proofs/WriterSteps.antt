@@ -98,14 +98,16 @@ sends_first s xid place id next new is sets =
     let m : WriterMirror = is.mirror in
     let same : sets.mirror ≡ m = cc (sets.found, is.found) in
     let now : new ≡ slice_set s.mirrors place (with_out xid next m) = sets.set ∙ ap (λ k. slice_set s.mirrors place (with_out xid next k)) same in
-    let made : List WriterMirror → MirrorId → Option WriterSends = λ l i. Some (record { writer = with_writer_mirrors s l; id = i; call = is.call }) in
-    (is.call, same_call s new id next ∙ is.call_is,
+    let made : List WriterMirror → MirrorId → Option WriterSends = λ l i. Some (record { writer = with_writer_mirrors s l; id = i; call = is.call }) in (
+      is.call,
+      same_call s new id next ∙ is.call_is,
       ap (sends_at s xid) is.first
-      ∙ ap (sends_to s xid place) is.found
-      ∙ ap (sends_next s xid place m) is.next_is
-      ∙ ap (sends_as s xid place m next) (ap (λ i. call_for s i next) (sym is.id_is) ∙ is.call_is)
-      ∙ ap (made (slice_set s.mirrors place (with_out xid next m))) (sym is.id_is)
-      ∙ ap (λ l. made l id) (sym now))
+          ∙ ap (sends_to s xid place) is.found
+          ∙ ap (sends_next s xid place m) is.next_is
+          ∙ ap (sends_as s xid place m next) (ap (λ i. call_for s i next) (sym is.id_is) ∙ is.call_is)
+          ∙ ap (made (slice_set s.mirrors place (with_out xid next m))) (sym is.id_is)
+          ∙ ap (λ l. made l id) (sym now),
+    )
 
 pub none_first : (s : WriterValue) (xid : ℕ) → next_place s ≡ None → next_sent s xid ≡ None
 none_first s xid is = ap (sends_at s xid) is

@@ -8,5 +8,4 @@ ghost use Rattle.mirror_writer.specs.WriterLaws.{WriterLaw};
 /// committed; and each WRITE has a taken write's place and bytes (RFC 1813, sections 3.3.7 and 3.3.21).
 pub fn writer_law()
     ensures { WriterLaw }
-{
-}
+{}

@@ -12,8 +12,7 @@ use crate::extents::Extents;
 use crate::mirror::MirrorWrites;
 use crate::mirrors::{
     all_committed, answer_at, covers_at, failed_places, next_of, open_all, open_committed,
-    outstanding, queue_all, reserve_all, send_at, some_committed, time_out_at,
-    waiting,
+    outstanding, queue_all, reserve_all, send_at, some_committed, time_out_at, waiting,
 };
 use crate::step::{WriteStart, WriterStep};
 use cluster_model::{Cred, DsCall, DsReply, MirrorId, Mirrors, Reported};

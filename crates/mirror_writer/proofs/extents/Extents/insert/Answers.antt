@@ -17,7 +17,7 @@ invariant_of-self-2 c =
     let fresh = subst (λ (l : List (ℕ × ℕ)). SharesPlace l c.args.at c.args.count false) (sym c.self.view_is) c.requires.fresh in
     let begins = subst (λ (l : List (ℕ × ℕ)). BeginsAt l c.args.at c.begins-first.result) (sym c.self.view_is) c.begins-first.ensures in
     let gets : (q : ℕ) → run_at c.remove.new.self.entries q ≡ cond (is_at (nat_cmp (c.args.at + c.args.count)) q) None (cond (is_at (nat_cmp c.begins-first.result) q) (Some c.ends-upto.result) (run_at es q))
-      = λ q. c.remove.ensures.updates.0 q ∙ ap (λ o. cond (is_at (nat_cmp (c.args.at + c.args.count)) q) None o) (c.in_ok-insert.ensures.updates.0 q) in
+    = λ q. c.remove.ensures.updates.0 q ∙ ap (λ o. cond (is_at (nat_cmp (c.args.at + c.args.count)) q) None o) (c.in_ok-insert.ensures.updates.0 q) in
     let joined = window_joins es c.remove.new.self c.args.at c.args.count c.begins-first.result c.ends-upto.result c.self.invariant.0 c.self.invariant.1 (omega (arith, c.if-count-eq0.false)) c.requires.within fresh begins c.ends-upto.ensures gets c.remove.ensures.ordered in
     (joined.apart, joined.by)
 
@@ -27,7 +27,7 @@ returns-clause-ok c =
     let fresh = subst (λ (l : List (ℕ × ℕ)). SharesPlace l c.args.at c.args.count false) (sym c.self.view_is) c.requires.fresh in
     let begins = subst (λ (l : List (ℕ × ℕ)). BeginsAt l c.args.at c.begins-first.result) (sym c.self.view_is) c.begins-first.ensures in
     let gets : (q : ℕ) → run_at c.remove.new.self.entries q ≡ cond (is_at (nat_cmp (c.args.at + c.args.count)) q) None (cond (is_at (nat_cmp c.begins-first.result) q) (Some c.ends-upto.result) (run_at es q))
-      = λ q. c.remove.ensures.updates.0 q ∙ ap (λ o. cond (is_at (nat_cmp (c.args.at + c.args.count)) q) None o) (c.in_ok-insert.ensures.updates.0 q) in
+    = λ q. c.remove.ensures.updates.0 q ∙ ap (λ o. cond (is_at (nat_cmp (c.args.at + c.args.count)) q) None o) (c.in_ok-insert.ensures.updates.0 q) in
     let joined = window_joins es c.remove.new.self c.args.at c.args.count c.begins-first.result c.ends-upto.result c.self.invariant.0 c.self.invariant.1 (omega (arith, c.if-count-eq0.false)) c.requires.within fresh begins c.ends-upto.ensures gets c.remove.ensures.ordered in
     rw (← c.self.view_is) joined.adds
 
@@ -37,6 +37,6 @@ returns-clause-apart c =
     let fresh = subst (λ (l : List (ℕ × ℕ)). SharesPlace l c.args.at c.args.count false) (sym c.self.view_is) c.requires.fresh in
     let begins = subst (λ (l : List (ℕ × ℕ)). BeginsAt l c.args.at c.begins-first.result) (sym c.self.view_is) c.begins-first.ensures in
     let gets : (q : ℕ) → run_at c.remove.new.self.entries q ≡ cond (is_at (nat_cmp (c.args.at + c.args.count)) q) None (cond (is_at (nat_cmp c.begins-first.result) q) (Some c.ends-upto.result) (run_at es q))
-      = λ q. c.remove.ensures.updates.0 q ∙ ap (λ o. cond (is_at (nat_cmp (c.args.at + c.args.count)) q) None o) (c.in_ok-insert.ensures.updates.0 q) in
+    = λ q. c.remove.ensures.updates.0 q ∙ ap (λ o. cond (is_at (nat_cmp (c.args.at + c.args.count)) q) None o) (c.in_ok-insert.ensures.updates.0 q) in
     let joined = window_joins es c.remove.new.self c.args.at c.args.count c.begins-first.result c.ends-upto.result c.self.invariant.0 c.self.invariant.1 (omega (arith, c.if-count-eq0.false)) c.requires.within fresh begins c.ends-upto.ensures gets c.remove.ensures.ordered in
     joined.apart
