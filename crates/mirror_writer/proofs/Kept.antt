@@ -5,8 +5,8 @@ use Rattle.std.proofs.lemmas.List.{length-map, length-set}
 use Rattle.std.proofs.lemmas.Option.{slice_get_within}
 use Rattle.cluster_model.specs.DsCalls.{DsReplyValue, Created, Set, Written, Committed, Bytes, NotSync, Failed}
 use Rattle.cluster_model.specs.declared.ids.MirrorId.{MirrorId}
-use Rattle.mirror_writer.specs.declared.call.Outcome.{Outcome}
-use Rattle.mirror_writer.specs.declared.call.Outcome.TheVariants as outcome
+use Rattle.mirror_writer.specs.declared.call.MirrorOutcome.{MirrorOutcome}
+use Rattle.mirror_writer.specs.declared.call.MirrorOutcome.TheVariants as outcome
 use Rattle.mirror_writer.specs.declared.call.NextCall.{NextCall}
 use Rattle.mirror_writer.specs.declared.call.NextCall.TheVariants.{SendsWrite, SendsCommit}
 use Rattle.mirror_writer.specs.declared.call.WriterCall.{WriterCall}
@@ -37,7 +37,7 @@ not_false : (b : Bool) → not b ≡ true → b ≡ false
 not_false true is = absurd cc
 not_false false is = refl
 
-free_before : (b : Bool) (o : Outcome) → free_after b o ≡ true → b ≡ true
+free_before : (b : Bool) (o : MirrorOutcome) → free_after b o ≡ true → b ≡ true
 free_before b outcome.Stranger is = is
 free_before b outcome.Waiting is = is
 free_before b (outcome.Failed cause) is = is

@@ -9,8 +9,8 @@ use Rattle.cluster_model.specs.declared.ids.MirrorId.{MirrorId}
 use Rattle.cluster_model.specs.declared.phase.LeftCause.{LeftCause}
 use Rattle.cluster_model.specs.declared.phase.LeftCause.TheVariants.{Error, Timeouts}
 use Rattle.cluster_model.specs.DsCalls.{DsCallValue, DsReplyValue, Created, Set, Written, Committed, Bytes, NotSync, Failed}
-use Rattle.mirror_writer.specs.declared.call.Outcome.{Outcome}
-use Rattle.mirror_writer.specs.declared.call.Outcome.TheVariants as outcome
+use Rattle.mirror_writer.specs.declared.call.MirrorOutcome.{MirrorOutcome}
+use Rattle.mirror_writer.specs.declared.call.MirrorOutcome.TheVariants as outcome
 use Rattle.mirror_writer.specs.declared.call.NextCall.{NextCall}
 use Rattle.mirror_writer.specs.declared.call.NextCall.TheVariants.{SendsWrite, SendsCommit}
 use Rattle.mirror_writer.specs.declared.call.WriterCall.{WriterCall}
@@ -98,7 +98,7 @@ set_there run new place at m mp after added here found set taken notes moved awa
 -- ---- an answer
 
 -- the mirrors and the writes behind an outcome
-pub settled_mirrors : (s : WriterValue) (id : MirrorId) (o : Outcome) → (settled_as s id o).writer.mirrors ≡ s.mirrors
+pub settled_mirrors : (s : WriterValue) (id : MirrorId) (o : MirrorOutcome) → (settled_as s id o).writer.mirrors ≡ s.mirrors
 settled_mirrors s id outcome.Stranger = refl
 settled_mirrors s id outcome.Waiting = refl
 settled_mirrors s id (outcome.Failed cause) = refl
@@ -110,7 +110,7 @@ settled_mirrors s id outcome.CommitOk = by_answer (open_committed s.mirrors)
     by_answer true = refl
     by_answer false = refl
 
-pub settled_taken : (s : WriterValue) (id : MirrorId) (o : Outcome) → (settled_as s id o).writer.taken ≡ s.taken
+pub settled_taken : (s : WriterValue) (id : MirrorId) (o : MirrorOutcome) → (settled_as s id o).writer.taken ≡ s.taken
 settled_taken s id outcome.Stranger = refl
 settled_taken s id outcome.Waiting = refl
 settled_taken s id (outcome.Failed cause) = refl
@@ -122,14 +122,14 @@ settled_taken s id outcome.CommitOk = by_answer (open_committed s.mirrors)
     by_answer true = refl
     by_answer false = refl
 
-abbrev pub free_after : Bool → Outcome → Bool
+abbrev pub free_after : Bool → MirrorOutcome → Bool
 free_after free outcome.Stranger = free
 free_after free outcome.Waiting = free
 free_after free (outcome.Failed cause) = free
 free_after free (outcome.Fenced status) = false
 free_after free outcome.CommitOk = free
 
-pub settled_free : (s : WriterValue) (id : MirrorId) (o : Outcome) → free_after (not s.is_fenced) o ≡ not (settled_as s id o).writer.is_fenced
+pub settled_free : (s : WriterValue) (id : MirrorId) (o : MirrorOutcome) → free_after (not s.is_fenced) o ≡ not (settled_as s id o).writer.is_fenced
 settled_free s id outcome.Stranger = refl
 settled_free s id outcome.Waiting = refl
 settled_free s id (outcome.Failed cause) = refl

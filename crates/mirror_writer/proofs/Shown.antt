@@ -9,7 +9,7 @@ use Rattle.std.proofs.lemmas.Option.{slice_get-map, slice_get-get_or}
 use Rattle.mirror_writer.specs.Writers.{WriterMirror, queued}
 use Rattle.mirror_writer.specs.Rooms.{RoomyMirror, mirrors_shown, has_failed_in}
 use Rattle.mirror_writer.specs.MirrorSteps.{MirrorAfter, StepsAt, SetsAt}
-use Rattle.mirror_writer.specs.declared.call.Outcome.{Outcome}
+use Rattle.mirror_writer.specs.declared.call.MirrorOutcome.{MirrorOutcome}
 use Rattle.cluster_model.specs.declared.ids.MirrorId.{MirrorId}
 
 -- the first four places
@@ -37,7 +37,7 @@ sets_at change rs place d new within does = record {
   set = shown_set rs place new (change (get_or rs place d).mirror) does;
 }
 
-pub steps_at : (step : WriterMirror → MirrorAfter) (rs : List RoomyMirror) (place : ℕ) (d new : RoomyMirror) (id : MirrorId) (outcome : Outcome) → place < length rs
+pub steps_at : (step : WriterMirror → MirrorAfter) (rs : List RoomyMirror) (place : ℕ) (d new : RoomyMirror) (id : MirrorId) (outcome : MirrorOutcome) → place < length rs
     → id ≡ (get_or rs place d).mirror.id → record { mirror = new.mirror; outcome = outcome } ≡ step (get_or rs place d).mirror
     → StepsAt step (mirrors_shown rs) place id outcome (mirrors_shown (set rs place new))
 steps_at step rs place d new id outcome within named does = record {

@@ -12,8 +12,8 @@ use Rattle.cluster_model.specs.declared.ids.MirrorId.{MirrorId}
 use Rattle.cluster_model.specs.declared.phase.LeftCause.{LeftCause}
 use Rattle.cluster_model.specs.declared.phase.LeftCause.TheVariants.{Error, Timeouts}
 use Rattle.cluster_model.specs.DsCalls.{DsCallValue, DsReplyValue, Created, Set, Written, Committed, Bytes, NotSync, Failed, Write, Commit}
-use Rattle.mirror_writer.specs.declared.call.Outcome.{Outcome}
-use Rattle.mirror_writer.specs.declared.call.Outcome.TheVariants as outcome
+use Rattle.mirror_writer.specs.declared.call.MirrorOutcome.{MirrorOutcome}
+use Rattle.mirror_writer.specs.declared.call.MirrorOutcome.TheVariants as outcome
 use Rattle.mirror_writer.specs.declared.call.NextCall.{NextCall}
 use Rattle.mirror_writer.specs.declared.call.NextCall.TheVariants.{SendsWrite, SendsCommit}
 use Rattle.mirror_writer.specs.declared.call.WriterCall.{WriterCall}
@@ -23,7 +23,7 @@ use Rattle.mirror_writer.specs.declared.step.WriterStep.TheVariants as step
 use Rattle.mirror_writer.specs.Writers.{WriterMirror, WriterValue, WriterAfter, WriterSends, is_committed, open_committed, next_at, next_idle, next_of_call, next_place, is_some_call, next_sent, sends_at, sends_to, sends_next, sends_as, call_for, write_of_taken, with_out, with_writer_mirrors, with_writer_mirror, is_call, mirror_of_call, after_reply, answered_at, mirror_answered, call_answered, write_answered, commit_answered, refused_by, is_fenced_by, fails, fenced, is_stranger, with_failure, without_call, after_timeout, timed_out_at, mirror_timed_out, call_timed_out, timed_out_as, with_writer_call, after_commit}
 use Rattle.mirror_writer.specs.Rooms.{RoomyMirror, mirrors_shown, CanSend}
 use Rattle.mirror_writer.specs.MirrorSteps.{MirrorAfter, StepsAt, SetsAt, NextOf, answered_there, late_there, settled_as, refused_there, failed_there, timed_out_there}
-use Rattle.mirror_writer.specs.Calls.{SendsNext, IsNextAt, IsToSend, IsGone}
+use Rattle.mirror_writer.specs.Calls.{SendsNamed, IsNextAt, IsToSend, IsGone}
 
 -- the whole list was lent
 pub lent : (items new : List RoomyMirror) (len : ℕ) → length new ≡ len → take len (new ++ drop (length new) items) ≡ new
@@ -93,7 +93,7 @@ same_call s mirrors id (SendsWrite n) = refl
 same_call s mirrors id SendsCommit = refl
 
 pub sends_first : (s : WriterValue) (xid place : ℕ) (id : MirrorId) (next : NextCall) (new : List WriterMirror) → IsNextAt s place id next
-    → SetsAt s.mirrors place (with_out xid next) new → SendsNext s xid (Some (id, next)) (with_writer_mirrors s new)
+    → SetsAt s.mirrors place (with_out xid next) new → SendsNamed s xid (Some (id, next)) (with_writer_mirrors s new)
 sends_first s xid place id next new is sets =
     let m : WriterMirror = is.mirror in
     let same : sets.mirror ≡ m = cc (sets.found, is.found) in
@@ -168,22 +168,22 @@ stays_set ms place m found =
     let here : get_or ms place m ≡ m = cc (slice_get-get_or ms place m (slice_get_within ms place m found), found) in
     ap (set ms place) (sym here) ∙ set-get_or ms place m
 
-joined : (s : WriterValue) (place : ℕ) (step' : WriterMirror → MirrorAfter) (id : MirrorId) (out : Outcome) (new : List WriterMirror) (steps : StepsAt step' s.mirrors place id out new)
+joined : (s : WriterValue) (place : ℕ) (step' : WriterMirror → MirrorAfter) (id : MirrorId) (out : MirrorOutcome) (new : List WriterMirror) (steps : StepsAt step' s.mirrors place id out new)
     → settled_as (with_writer_mirrors s new) id out ≡ settles s place steps.mirror (step' steps.mirror)
 joined s place step' id out new steps =
-    let f : List WriterMirror → MirrorId → Outcome → WriterAfter = λ l i o. settled_as (with_writer_mirrors s l) i o in
+    let f : List WriterMirror → MirrorId → MirrorOutcome → WriterAfter = λ l i o. settled_as (with_writer_mirrors s l) i o in
     ap (λ l. f l id out) steps.set
     ∙ ap (λ i. f (slice_set s.mirrors place (step' steps.mirror).mirror) i out) steps.id_is
     ∙ ap (f (slice_set s.mirrors place (step' steps.mirror).mirror) steps.mirror.id) steps.outcome_is
 
-pub reply_settles : (s : WriterValue) (xid place : ℕ) (reply : DsReplyValue) (id : MirrorId) (out : Outcome) (new : List WriterMirror) → mirror_of_call s xid ≡ Some place
+pub reply_settles : (s : WriterValue) (xid place : ℕ) (reply : DsReplyValue) (id : MirrorId) (out : MirrorOutcome) (new : List WriterMirror) → mirror_of_call s xid ≡ Some place
     → StepsAt (λ m. answered_there m reply m.call) s.mirrors place id out new → settled_as (with_writer_mirrors s new) id out ≡ after_reply s xid reply
 reply_settles s xid place reply id out new is steps =
     joined s place (λ m. answered_there m reply m.call) id out new steps
     ∙ answer_settles s place steps.mirror reply steps.mirror.call (stays_set s.mirrors place steps.mirror steps.found)
     ∙ sym (ap (answered_at s reply) is ∙ ap (mirror_answered s reply place) steps.found)
 
-pub timeout_settles : (s : WriterValue) (xid place : ℕ) (id : MirrorId) (out : Outcome) (new : List WriterMirror) → mirror_of_call s xid ≡ Some place
+pub timeout_settles : (s : WriterValue) (xid place : ℕ) (id : MirrorId) (out : MirrorOutcome) (new : List WriterMirror) → mirror_of_call s xid ≡ Some place
     → StepsAt (λ m. late_there m m.call) s.mirrors place id out new → settled_as (with_writer_mirrors s new) id out ≡ after_timeout s xid
 timeout_settles s xid place id out new is steps =
     joined s place (λ m. late_there m m.call) id out new steps

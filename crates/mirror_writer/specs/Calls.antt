@@ -19,9 +19,9 @@ LendsTaken None lent = lent ≡ None
 LendsTaken (Some w) lent = lent ≡ Some (w.at, w.bytes)
 
 -- the call that goes out under a number, and the writer then, which lends it
-abbrev pub SendsNext : WriterValue → ℕ → Option (MirrorId × NextCall) → WriterValue → Type 0
-SendsNext old xid None new = (next_sent old xid ≡ None) × (new ≡ old)
-SendsNext old xid (Some (id, next)) new =
+abbrev pub SendsNamed : WriterValue → ℕ → Option (MirrorId × NextCall) → WriterValue → Type 0
+SendsNamed old xid None new = (next_sent old xid ≡ None) × (new ≡ old)
+SendsNamed old xid (Some (id, next)) new =
     (call : DsCallValue) × (call_for new id next ≡ Some call) × (next_sent old xid ≡ Some (record { writer = new; id = id; call = call }))
 
 -- the call that waits to go out next, and where

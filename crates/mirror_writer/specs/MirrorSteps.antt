@@ -5,8 +5,8 @@ use Rattle.cluster_model.specs.declared.phase.LeftCause.{LeftCause}
 use Rattle.cluster_model.specs.declared.phase.LeftCause.TheVariants.{Error, Timeouts}
 use Rattle.cluster_model.specs.DsCalls.{DsReplyValue, Created, Set, Written, Committed, Bytes, NotSync, Failed}
 use Rattle.cluster_model.specs.Fences.{odd_answer}
-use Rattle.mirror_writer.specs.declared.call.Outcome.{Outcome}
-use Rattle.mirror_writer.specs.declared.call.Outcome.TheVariants as outcome
+use Rattle.mirror_writer.specs.declared.call.MirrorOutcome.{MirrorOutcome}
+use Rattle.mirror_writer.specs.declared.call.MirrorOutcome.TheVariants as outcome
 use Rattle.mirror_writer.specs.declared.call.NextCall.{NextCall}
 use Rattle.mirror_writer.specs.declared.call.WriterCall.{WriterCall}
 use Rattle.mirror_writer.specs.declared.call.WriterCall.TheVariants.{NoCall, OutWrite, OutCommit}
@@ -15,7 +15,7 @@ use Rattle.mirror_writer.specs.Writers.{WriterMirror, WriterValue, WriterAfter, 
 
 pub record MirrorAfter : Type 0 where
   pub mirror : WriterMirror
-  pub outcome : Outcome
+  pub outcome : MirrorOutcome
 
 abbrev pub failed_there : WriterMirror → LeftCause → MirrorAfter
 failed_there m cause = record { mirror = with_failure m; outcome = outcome.Failed cause }
@@ -57,7 +57,7 @@ late_there m (OutWrite xid write timeouts) = timed_out_there m timeouts (OutWrit
 late_there m (OutCommit xid timeouts) = timed_out_there m timeouts (OutCommit xid (timeouts + 1))
 
 -- what it comes to for the writer, whose mirror is as it is then
-abbrev pub settled_as : WriterValue → MirrorId → Outcome → WriterAfter
+abbrev pub settled_as : WriterValue → MirrorId → MirrorOutcome → WriterAfter
 settled_as s id outcome.Stranger = is_stranger s
 settled_as s id outcome.Waiting = record { writer = s; step = step.Waiting }
 settled_as s id (outcome.Failed cause) = record { writer = s; step = step.Failed id cause }
@@ -65,7 +65,7 @@ settled_as s id (outcome.Fenced status) = record { writer = fenced s; step = ste
 settled_as s id outcome.CommitOk = after_commit s
 
 -- the mirror at a place takes a step
-pub record StepsAt (step : WriterMirror → MirrorAfter) (old : List WriterMirror) (place : ℕ) (id : MirrorId) (outcome : Outcome) (new : List WriterMirror) : Type 0 where
+pub record StepsAt (step : WriterMirror → MirrorAfter) (old : List WriterMirror) (place : ℕ) (id : MirrorId) (outcome : MirrorOutcome) (new : List WriterMirror) : Type 0 where
   pub mirror : WriterMirror
   pub found : slice_get old place ≡ Some mirror
   pub id_is : id ≡ mirror.id

@@ -21,7 +21,7 @@ has_failed_in None = false
 has_failed_in (Some r) = r.mirror.has_failed
 
 -- one more write needs no memory
-pub record HasRoom (r : RoomyMirror) : Type 0 where
+pub record HasSpareRoom (r : RoomyMirror) : Type 0 where
   pub queue : length r.mirror.covered < r.queue_room
   pub answers : length r.mirror.covered < r.answer_room
   pub flags : length r.mirror.covered < r.flag_room

@@ -41,7 +41,7 @@ pub enum NextCall {
 
 /// What an answer or a timeout comes to at one mirror.
 #[derive(Clone, Copy, Debug, PartialEq, Eq)]
-pub enum Outcome {
+pub enum MirrorOutcome {
     /// No call is out.
     Stranger,
     Waiting,

@@ -3,6 +3,7 @@
 #![tactic(auto)]
 
 mod call;
+mod covering;
 mod extents;
 mod laws;
 mod mirror;

@@ -5,10 +5,11 @@ ghost use Rattle.std.specs.List.{filter};
 ghost use Rattle.std.specs.VecDeque.{deque_len, deque_capacity};
 ghost use Rattle.cluster_model.specs.DsCalls.{plain_ds_reply};
 ghost use Rattle.mirror_writer.specs.Writers.{new_mirror, is_committed, is_call, next_at, with_out, queued, covered_flag, has_verifier, covered_by, with_answer, with_failure, without_call, with_writer_call, with_commit};
-ghost use Rattle.mirror_writer.specs.Rooms.{HasRoom, CanSend, writes_out, timeouts_of};
+ghost use Rattle.mirror_writer.specs.Rooms.{HasSpareRoom, CanSend, writes_out, timeouts_of};
 ghost use Rattle.mirror_writer.specs.MirrorSteps.{MirrorAfter, answered_there, write_answered_there, commit_answered_there, refused_there, failed_there, late_there, timed_out_there};
 
-use crate::call::{NextCall, Outcome, WriteAnswer, WriterCall};
+use crate::call::{MirrorOutcome, NextCall, WriteAnswer, WriterCall};
+use crate::covering::{cover, requeue};
 use cluster_model::{DsReply, LeftCause, Mirror, MirrorId};
 use ff_xdr::NoMemory;
 use std::alloc::Global;
@@ -151,7 +152,7 @@ impl MirrorWrites {
     /// Room for one more write. At an error nothing has changed.
     pub fn reserve(&mut self) -> Result<(), NoMemory>
         ensures same { self.new.mirror ≡ self.old.mirror }
-        ensures ok { OnOk result (HasRoom self.new) }
+        ensures ok { OnOk result (HasSpareRoom self.new) }
     {
         let more = self.covered.len() + 1;
         self.queue.reserve(more)?;
@@ -162,7 +163,7 @@ impl MirrorWrites {
 
     /// The taken write of this number waits. Takes no memory.
     pub fn queue(&mut self, n: usize)
-        requires { HasRoom self.old }
+        requires { HasSpareRoom self.old }
         ensures { self.new.mirror ≡ queued n self.old.mirror }
     {
         self.queue.push_back_reserved(n);
@@ -171,18 +172,18 @@ impl MirrorWrites {
     }
 
     /// What the answer to its call comes to. Takes no memory.
-    pub fn answer(&mut self, reply: &DsReply<'_>) -> Outcome
+    pub fn answer(&mut self, reply: &DsReply<'_>) -> MirrorOutcome
         ensures { record { mirror = self.new.mirror; outcome = result } ≡ answered_there self.old.mirror (plain_ds_reply reply.now) self.old.mirror.call }
     {
         match self.call {
-            WriterCall::NoCall => Outcome::Stranger,
+            WriterCall::NoCall => MirrorOutcome::Stranger,
             WriterCall::OutWrite { write, .. } => self.answer_write(write, reply),
             WriterCall::OutCommit { .. } => self.answer_commit(reply),
         }
     }
 
     /// The answer to its WRITE.
-    fn answer_write(&mut self, write: usize, reply: &DsReply<'_>) -> Outcome
+    fn answer_write(&mut self, write: usize, reply: &DsReply<'_>) -> MirrorOutcome
         requires { writes_out self.old.mirror.call ≡ 1 }
         ensures { record { mirror = self.new.mirror; outcome = result } ≡ write_answered_there self.old.mirror write (plain_ds_reply reply.now) }
     {
@@ -190,7 +191,7 @@ impl MirrorWrites {
             DsReply::Written { verifier, .. } => {
                 self.answered.push_reserved(WriteAnswer { write, verifier });
                 self.call = WriterCall::NoCall;
-                Outcome::Waiting
+                MirrorOutcome::Waiting
             }
             DsReply::Failed { status, .. } => self.refused(status),
             _ => self.fail(LeftCause::Error(ODD_ANSWER)),
@@ -198,13 +199,13 @@ impl MirrorWrites {
     }
 
     /// The answer to its COMMIT.
-    fn answer_commit(&mut self, reply: &DsReply<'_>) -> Outcome
+    fn answer_commit(&mut self, reply: &DsReply<'_>) -> MirrorOutcome
         ensures { record { mirror = self.new.mirror; outcome = result } ≡ commit_answered_there self.old.mirror (plain_ds_reply reply.now) }
     {
         match *reply {
             DsReply::Committed { verifier, .. } => {
                 self.commit(verifier);
-                Outcome::CommitOk
+                MirrorOutcome::CommitOk
             }
             DsReply::Failed { status, .. } => self.refused(status),
             _ => self.fail(LeftCause::Error(ODD_ANSWER)),
@@ -212,23 +213,23 @@ impl MirrorWrites {
     }
 
     /// It answered this status, another than OK.
-    fn refused(&mut self, status: u32) -> Outcome
+    fn refused(&mut self, status: u32) -> MirrorOutcome
         ensures { record { mirror = self.new.mirror; outcome = result } ≡ refused_there self.old.mirror status }
     {
         if status == ACCES || status == STALE {
             self.call = WriterCall::NoCall;
-            return Outcome::Fenced(status);
+            return MirrorOutcome::Fenced(status);
         }
         self.fail(LeftCause::Error(status))
     }
 
     /// It fails.
-    fn fail(&mut self, cause: LeftCause) -> Outcome
+    fn fail(&mut self, cause: LeftCause) -> MirrorOutcome
         ensures { record { mirror = self.new.mirror; outcome = result } ≡ failed_there self.old.mirror cause }
     {
         self.call = WriterCall::NoCall;
         self.has_failed = true;
-        Outcome::Failed(cause)
+        MirrorOutcome::Failed(cause)
     }
 
     /// A COMMIT was answered OK: the answered writes with this verifier are covered, the others wait again.
@@ -245,11 +246,11 @@ impl MirrorWrites {
     }
 
     /// What a timeout of its call comes to.
-    pub fn time_out(&mut self) -> Outcome
+    pub fn time_out(&mut self) -> MirrorOutcome
         ensures { record { mirror = self.new.mirror; outcome = result } ≡ late_there self.old.mirror self.old.mirror.call }
     {
         match self.call {
-            WriterCall::NoCall => Outcome::Stranger,
+            WriterCall::NoCall => MirrorOutcome::Stranger,
             WriterCall::OutWrite {
                 xid,
                 write,
@@ -273,7 +274,7 @@ impl MirrorWrites {
     }
 
     /// The third timeout is a failure; before it the call is out again.
-    fn late(&mut self, timeouts: u32, again: WriterCall) -> Outcome
+    fn late(&mut self, timeouts: u32, again: WriterCall) -> MirrorOutcome
         requires same { writes_out again ≡ writes_out self.old.mirror.call }
         requires counted { timeouts_of again ≡ timeouts + 1 }
         requires known { timeouts ≤ 2 }
@@ -283,44 +284,6 @@ impl MirrorWrites {
             return self.fail(LeftCause::Timeouts);
         }
         self.call = again;
-        Outcome::Waiting
+        MirrorOutcome::Waiting
     }
-}
-
-/// The writes whose answer has another verifier wait again, in the order of their answers.
-fn requeue(answered: &[WriteAnswer], verifier: u64, queue: &mut VecDeque<usize>)
-    requires { deque_len queue.old + length answered.now ≤ deque_capacity queue.old }
-    ensures items { queue.new.items ≡ queue.old.items ++ map (λ a. a.write) (filter (λ a. not (has_verifier verifier a)) answered.now) }
-    ensures size { deque_len queue.new ≤ deque_len queue.old + length answered.now }
-    ensures room { deque_capacity queue.new ≡ deque_capacity queue.old }
-{
-    for answer in answered {
-        if answer.verifier != verifier {
-            queue.push_back_reserved(answer.write);
-        }
-    }
-}
-
-/// The writes whose answer has this verifier are covered; answers how many were not before.
-fn cover(answered: &[WriteAnswer], verifier: u64, covered: &mut [bool]) -> usize
-    ensures flags { covered.new ≡ covered_by (filter (has_verifier verifier) answered.now) covered.old }
-    ensures count { result + count_by not covered.new ≡ count_by not covered.old }
-{
-    let mut count = 0;
-    for answer in answered {
-        count += cover_if(*answer, verifier, covered);
-    }
-    count
-}
-
-/// The write of this answer is covered where the answer has this verifier; answers 1 where it was not before.
-fn cover_if(answer: WriteAnswer, verifier: u64, covered: &mut [bool]) -> usize
-    ensures flags { covered.new ≡ (if has_verifier verifier answer then slice_set covered.old answer.write true else covered.old) }
-    ensures count { result + count_by not covered.new ≡ count_by not covered.old }
-{
-    if answer.verifier == verifier && answer.write < covered.len() && !covered[answer.write] {
-        covered[answer.write] = true;
-        return 1;
-    }
-    0
 }

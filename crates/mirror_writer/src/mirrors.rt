@@ -5,10 +5,10 @@ ghost use Rattle.std.specs.List.{All, list_all, list_any, find};
 ghost use Rattle.cluster_model.specs.DsCalls.{plain_ds_reply};
 ghost use Rattle.cluster_model.specs.Journal.{is_mirror};
 ghost use Rattle.mirror_writer.specs.Writers.{new_mirror, is_committed, open_committed, is_some_call, next_at, is_call, queued, with_out, covered_in};
-ghost use Rattle.mirror_writer.specs.Rooms.{mirrors_shown, has_failed_in, HasRoom, CanSend};
+ghost use Rattle.mirror_writer.specs.Rooms.{mirrors_shown, has_failed_in, HasSpareRoom, CanSend};
 ghost use Rattle.mirror_writer.specs.MirrorSteps.{StepsAt, SetsAt, NextOf, answered_there, late_there};
 
-use crate::call::{NextCall, Outcome};
+use crate::call::{MirrorOutcome, NextCall};
 use crate::mirror::MirrorWrites;
 use cluster_model::{DsReply, MirrorId, Mirrors};
 use ff_xdr::NoMemory;
@@ -31,7 +31,7 @@ pub fn open_all(alloc: Global, mirrors: Mirrors) -> Result<Vec<MirrorWrites>, No
 /// Room at each of them for one more write.
 pub fn reserve_all(mirrors: &mut [MirrorWrites]) -> Result<(), NoMemory>
     ensures same { mirrors_shown mirrors.new ≡ mirrors_shown mirrors.old }
-    ensures ok { OnOk result (All HasRoom mirrors.new) }
+    ensures ok { OnOk result (All HasSpareRoom mirrors.new) }
 {
     for mirror in mirrors {
         mirror.reserve()?;
@@ -41,7 +41,7 @@ pub fn reserve_all(mirrors: &mut [MirrorWrites]) -> Result<(), NoMemory>
 
 /// The taken write of this number waits at each of them. Takes no memory.
 pub fn queue_all(n: usize, mirrors: &mut [MirrorWrites])
-    requires { All HasRoom mirrors.old }
+    requires { All HasSpareRoom mirrors.old }
     ensures { mirrors_shown mirrors.new ≡ map (queued n) (mirrors_shown mirrors.old) }
 {
     for mirror in mirrors {
@@ -104,7 +104,7 @@ pub fn answer_at(
     reply: &DsReply<'_>,
     place: usize,
     mirrors: &mut [MirrorWrites],
-) -> (MirrorId, Outcome)
+) -> (MirrorId, MirrorOutcome)
     requires { place < length mirrors.old }
     ensures { StepsAt (λ m. answered_there m (plain_ds_reply reply.now) m.call) (mirrors_shown mirrors.old) place result.0 result.1 (mirrors_shown mirrors.new) }
 {
@@ -114,7 +114,7 @@ pub fn answer_at(
 }
 
 /// What a timeout of the call of the one at this place comes to.
-pub fn time_out_at(place: usize, mirrors: &mut [MirrorWrites]) -> (MirrorId, Outcome)
+pub fn time_out_at(place: usize, mirrors: &mut [MirrorWrites]) -> (MirrorId, MirrorOutcome)
     requires { place < length mirrors.old }
     ensures { StepsAt (λ m. late_there m m.call) (mirrors_shown mirrors.old) place result.0 result.1 (mirrors_shown mirrors.new) }
 {

@@ -4,10 +4,10 @@ ghost use Rattle.std.specs.Prelude.{◌≡◌, ◌≤◌, ◌+◌, ◌<◌, leng
 ghost use Rattle.std.specs.List.{list_all, list_any, find, All};
 ghost use Rattle.cluster_model.specs.DsCalls.{plain_ds_call, plain_ds_reply};
 ghost use Rattle.mirror_writer.specs.Writers.{new_writer, commit_wanted, all_committed, rest_committed, after_reply, after_timeout, reported_places, is_covered_at, overlaps_taken, with_write, call_for};
-ghost use Rattle.mirror_writer.specs.Calls.{TakesWriteAs, SendsNext, IsToSend, IsGone, LendsTaken};
+ghost use Rattle.mirror_writer.specs.Calls.{TakesWriteAs, SendsNamed, IsToSend, IsGone, LendsTaken};
 ghost use Rattle.mirror_writer.specs.MirrorSteps.{settled_as};
 
-use crate::call::{NextCall, Outcome, TakenWrite};
+use crate::call::{MirrorOutcome, NextCall, TakenWrite};
 use crate::extents::Extents;
 use crate::mirror::MirrorWrites;
 use crate::mirrors::{
@@ -116,7 +116,7 @@ impl Writer {
     /// What goes to the first mirror to which a call waits. It is outstanding from now on under this number, under which
     /// none is before. `None` where none waits. Takes no memory; `call` lends the call itself.
     pub fn next_call(&mut self, xid: u32) -> Option<(MirrorId, NextCall)>
-        ensures { SendsNext self.old xid result self.new }
+        ensures { SendsNamed self.old xid result self.new }
     {
         let (place, id, next) = self.to_send()?;
         send_at(xid, next, place, &mut self.mirrors);
@@ -192,18 +192,18 @@ impl Writer {
     }
 
     /// What it comes to for the writer that something came to pass at a mirror.
-    fn settle(&mut self, id: MirrorId, outcome: Outcome) -> WriterStep
+    fn settle(&mut self, id: MirrorId, outcome: MirrorOutcome) -> WriterStep
         ensures { record { writer = self.new; step = result } ≡ settled_as self.old id outcome }
     {
         match outcome {
-            Outcome::Stranger => WriterStep::Stranger,
-            Outcome::Waiting => WriterStep::Waiting,
-            Outcome::Failed(cause) => WriterStep::Failed { id, cause },
-            Outcome::Fenced(status) => {
+            MirrorOutcome::Stranger => WriterStep::Stranger,
+            MirrorOutcome::Waiting => WriterStep::Waiting,
+            MirrorOutcome::Failed(cause) => WriterStep::Failed { id, cause },
+            MirrorOutcome::Fenced(status) => {
                 self.is_fenced = true;
                 WriterStep::Fenced { id, status }
             }
-            Outcome::CommitOk => {
+            MirrorOutcome::CommitOk => {
                 if open_committed(&self.mirrors) {
                     self.wants_commit = false;
                     return WriterStep::Committed;

@@ -1,13 +1,13 @@
 use Rattle.std.proofs.Common.{arith, sym, subst, ◌∙◌, ◌≢◌}
 use Rattle.std.proofs.lemmas.List.{get_or-set_other}
-use Rattle.mirror_writer.specs.Rooms.{RoomyMirror, HasRoom}
+use Rattle.mirror_writer.specs.Rooms.{RoomyMirror, HasSpareRoom}
 use Rattle.mirror_writer.proofs.Shown.{queued_more}
 use Rattle.mirror_writer.proofs.mirrors.queue_all.Goals as goal
 
 pub queue-requires : goal.queue-requires
 queue-requires c =
     let i = c.loop-mirror.mirror-index in
-    subst HasRoom (sym (c.loop-mirror.invariant.rest i c.mirror-item.result (omega arith))) (c.requires i c.mirror-item.result c.loop-mirror-test.true)
+    subst HasSpareRoom (sym (c.loop-mirror.invariant.rest i c.mirror-item.result (omega arith))) (c.requires i c.mirror-item.result c.loop-mirror-test.true)
 
 pub loop-mirror-preserved : goal.loop-mirror-preserved
 loop-mirror-preserved c = record {

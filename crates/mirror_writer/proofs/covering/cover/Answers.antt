@@ -1,6 +1,6 @@
 use Rattle.std.proofs.Common.{arith}
 use Rattle.mirror_writer.proofs.MirrorLemmas.{covers_next}
-use Rattle.mirror_writer.proofs.mirror.cover.Goals as goal
+use Rattle.mirror_writer.proofs.covering.cover.Goals as goal
 
 pub loop-answer-preserved : goal.loop-answer-preserved
 loop-answer-preserved c = record {

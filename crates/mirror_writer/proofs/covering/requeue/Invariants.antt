@@ -2,7 +2,7 @@ use Rattle.std.proofs.Common.{◌≡◌, ◌+◌, ◌≤◌, ◌++◌, ℕ, map,
 use Rattle.std.specs.List.{filter}
 use Rattle.std.specs.VecDeque.{deque_len, deque_capacity}
 use Rattle.mirror_writer.specs.Writers.{has_verifier}
-use Rattle.mirror_writer.proofs.mirror.requeue.Given as goal
+use Rattle.mirror_writer.proofs.covering.requeue.Given as goal
 
 abbrev pub invariant-loop-answer : goal.invariant-loop-answer
 invariant-loop-answer l = record {

@@ -1,7 +1,7 @@
 use Rattle.std.proofs.Common.{◌≡◌, ◌+◌, not, drop, count_by}
 use Rattle.std.specs.List.{filter}
 use Rattle.mirror_writer.specs.Writers.{has_verifier, covered_by}
-use Rattle.mirror_writer.proofs.mirror.cover.Given as goal
+use Rattle.mirror_writer.proofs.covering.cover.Given as goal
 
 abbrev pub invariant-loop-answer : goal.invariant-loop-answer
 invariant-loop-answer l = record {
