@@ -1,6 +1,7 @@
 use super::{Extents, NextCall, WriteStart, Writer, WriterStep};
 use cluster_model::{Cred, DsCall, DsReply, LeftCause, Mirror, MirrorId, Mirrors, Tick};
 use ff_xdr::NoMemory;
+use std::alloc::Global;
 
 /// The layout's uid.
 const UID: u32 = 65_536;
@@ -68,7 +69,13 @@ fn sends(writer: &mut Writer, xid: u32, server: u32, call: DsCall<'_>) -> bool {
 
 fn comes_of(writer: &mut Writer, act: Act) -> bool {
     match act {
-        Act::Write(at, bytes, start) => writer.write(at, bytes) == start,
+        Act::Write(at, bytes, start) => {
+            let len = bytes.len() as u64;
+            if len == 0 || len > 65_536 || at > 67_108_864 - len {
+                return false;
+            }
+            writer.write(at, bytes) == start
+        }
         Act::Commit => {
             writer.commit();
             true
@@ -112,6 +119,17 @@ fn comes_of(writer: &mut Writer, act: Act) -> bool {
         }
         Act::Reports(places) => writer.report().places == places,
     }
+}
+
+/// The place of the first act over these servers of which something else comes.
+fn first_wrong(alloc: Global, servers: &[u32], acts: &[Act]) -> Result<Option<usize>, NoMemory> {
+    let mut writer = Writer::open(alloc, mirrors_on(servers), Cred(UID))?;
+    for (place, act) in acts.iter().enumerate() {
+        if !comes_of(&mut writer, *act) {
+            return Ok(Some(place));
+        }
+    }
+    Ok(None)
 }
 
 #[test]
@@ -239,26 +257,18 @@ fn writers_run(rt: HostRuntime) -> Result<(), NoMemory> {
         Status(2, 28, failed(1, LeftCause::Error(28))),
         AllRest(false, false),
     ];
-    let runs: [(&[u32], &[Act]); 5] = [
-        (&[1, 2], &again),
-        (&[1, 2, 3], &restarts),
-        (&[1, 2, 3], &refused),
-        (&[1, 2], &fenced_there),
-        (&[1], &alone),
-    ];
-    for (servers, acts) in runs {
-        let mut writer = Writer::open(rt.alloc(), mirrors_on(servers), Cred(UID))?;
-        assert_eq!(rt; writer.cred(), Cred(UID));
-        for (place, act) in acts.iter().enumerate() {
-            assert!(rt; comes_of(&mut writer, *act), "{place}: {act:?}");
-        }
-    }
+    assert!(rt; first_wrong(rt.alloc(), &[1, 2], &again)?.is_none());
+    assert!(rt; first_wrong(rt.alloc(), &[1, 2, 3], &restarts)?.is_none());
+    assert!(rt; first_wrong(rt.alloc(), &[1, 2, 3], &refused)?.is_none());
+    assert!(rt; first_wrong(rt.alloc(), &[1, 2], &fenced_there)?.is_none());
+    assert!(rt; first_wrong(rt.alloc(), &[1], &alone)?.is_none());
     Ok(())
 }
 
 #[test]
 fn lends_what_was_taken(rt: HostRuntime) -> Result<(), NoMemory> {
     let mut writer = Writer::open(rt.alloc(), mirrors_on(&[1]), Cred(UID))?;
+    assert_eq!(rt; writer.cred(), Cred(UID));
     assert_eq!(rt; writer.write(5, b"AB"), WriteStart::Taken);
     assert_eq!(rt; writer.taken(0), Some((5, &b"AB"[..])));
     assert!(rt; writer.taken(1).is_none());
@@ -293,11 +303,20 @@ fn places_are_a_set(rt: HostRuntime) -> Result<(), NoMemory> {
     Ok(())
 }
 
+/// Adds the 65,536 places from here on, where none of them is in the set.
+fn add(places: &mut Extents, at: u64) -> Result<(), NoMemory> {
+    if at > 1_000_000 || places.overlaps(at, 65_536) {
+        return Ok(());
+    }
+    places.insert(at, 65_536)
+}
+
 #[test]
 fn runs_that_touch_are_one(rt: HostRuntime) -> Result<(), NoMemory> {
     let mut places = Extents::new(rt.alloc());
-    for place in [0, 2, 1, 3] {
-        places.insert(place * 65_536, 65_536)?;
+    for place in [0, 131_072, 65_536, 196_608] {
+        assert!(rt; !places.overlaps(place, 65_536));
+        add(&mut places, place)?;
     }
     assert!(rt; places.gaps(0, 262_144)?.is_empty());
     let gaps = places.gaps(0, 262_145)?;
