@@ -1,7 +1,8 @@
 -- What the calls of a writer do.
 use Rattle.std.specs.Prelude.{◌≡◌, ℕ, Bool, true, false, List, length, Option, Some, None, slice_get}
 use Rattle.cluster_model.specs.declared.ids.MirrorId.{MirrorId}
-use Rattle.cluster_model.specs.DsCalls.{DsCallValue}
+use Rattle.cluster_model.specs.declared.ds_call.DsCall.{DsCall}
+use Rattle.cluster_model.specs.DsCalls.{DsCallValue, plain_ds_call}
 use Rattle.mirror_writer.specs.declared.call.NextCall.{NextCall}
 use Rattle.mirror_writer.specs.declared.step.WriteStart.{WriteStart}
 use Rattle.mirror_writer.specs.declared.step.WriteStart.TheVariants.{Taken, Overlap, NoMemory}
@@ -23,6 +24,16 @@ abbrev pub SendsNamed : WriterValue → ℕ → Option (MirrorId × NextCall) �
 SendsNamed old xid None new = (next_sent old xid ≡ None) × (new ≡ old)
 SendsNamed old xid (Some (id, next)) new =
     (call : DsCallValue) × (call_for new id next ≡ Some call) × (next_sent old xid ≡ Some (record { writer = new; id = id; call = call }))
+
+-- the same call as it is sent
+abbrev pub LendsCall : WriterValue → Option (MirrorId × NextCall) → Option (MirrorId × DsCall) → Type 0
+LendsCall s None lent = lent ≡ None
+LendsCall s (Some (id, next)) None = call_for s id next ≡ None
+LendsCall s (Some (id, next)) (Some (mirror, call)) = (mirror ≡ id) × (call_for s id next ≡ Some (plain_ds_call call))
+
+abbrev pub SendsCall : WriterValue → ℕ → Option (MirrorId × DsCall) → WriterValue → Type 0
+SendsCall old xid None new = (next_sent old xid ≡ None) × (new ≡ old)
+SendsCall old xid (Some (id, call)) new = next_sent old xid ≡ Some (record { writer = new; id = id; call = plain_ds_call call })
 
 -- the call that waits to go out next, and where
 pub record IsNextAt (s : WriterValue) (place : ℕ) (id : MirrorId) (next : NextCall) : Type 0 where

@@ -1,10 +1,13 @@
 //! A writer over the mirrors of one file.
 
-ghost use Rattle.std.specs.Prelude.{◌≡◌, ◌≤◌, ◌+◌, ◌<◌, length, false, IfOk, OnOk, OnErr, option_map, position, map, slice_get};
+ghost use Rattle.std.specs.Prelude.{◌≡◌, ⊤, ◌≤◌, ◌+◌, ◌<◌, length, false, IfOk, OnOk, OnErr, option_map, position, map, slice_get};
 ghost use Rattle.std.specs.List.{list_all, list_any, find, All};
+ghost use Rattle.std.specs.Borrow.{sem, follows_so};
+ghost use mathlib.Core.Option.{none};
+ghost use Rattle.mirror_writer.specs.contracts.writer.Writer.{the_row};
 ghost use Rattle.cluster_model.specs.DsCalls.{plain_ds_call, plain_ds_reply};
 ghost use Rattle.mirror_writer.specs.Writers.{new_writer, commit_wanted, all_committed, rest_committed, after_reply, after_timeout, reported_places, is_covered_at, overlaps_taken, with_write, call_for};
-ghost use Rattle.mirror_writer.specs.Calls.{TakesWriteAs, SendsNamed, IsToSend, IsGone, LendsTaken};
+ghost use Rattle.mirror_writer.specs.Calls.{TakesWriteAs, SendsCall, SendsNamed, LendsCall, IsToSend, IsGone, LendsTaken};
 ghost use Rattle.mirror_writer.specs.MirrorSteps.{settled_as};
 
 use crate::call::{MirrorOutcome, NextCall, TakenWrite};
@@ -113,9 +116,18 @@ impl Writer {
         self.wants_commit = !all_committed(&self.mirrors);
     }
 
-    /// What goes to the first mirror to which a call waits. It is outstanding from now on under this number, under which
-    /// none is before. `None` where none waits. Takes no memory; `call` lends the call itself.
-    pub fn next_call(&mut self, xid: u32) -> Option<(MirrorId, NextCall)>
+    /// The call to the first mirror to which one waits, which is outstanding from now on under this number: a WRITE,
+    /// UNSTABLE, of the bytes as they were taken, or a COMMIT of the whole file (RFC 1813, sections 3.3.7 and 3.3.21).
+    /// `None` where none waits. No call of this number is outstanding before. Takes no memory.
+    pub fn next_call(&mut self, xid: u32) -> Option<(MirrorId, DsCall<'_>)>
+        ensures* { sem 𝓛 (follows_so the_row the_row self.entry.ghost_name none (λ _ _. ⊤) (λ new. SendsCall self.old xid result new)) }
+    {
+        let named = self.send_next(xid);
+        self.lend(named)
+    }
+
+    /// What goes to the first mirror to which a call waits. It is outstanding from now on.
+    fn send_next(&mut self, xid: u32) -> Option<(MirrorId, NextCall)>
         ensures { SendsNamed self.old xid result self.new }
     {
         let (place, id, next) = self.to_send()?;
@@ -152,21 +164,22 @@ impl Writer {
         }
     }
 
-    /// The call that `next_call` named: a WRITE, UNSTABLE, of the bytes as they were taken, or a COMMIT of the whole file
-    /// (RFC 1813, sections 3.3.7 and 3.3.21). `None` where there is no such write.
-    pub fn call(&self, id: MirrorId, next: NextCall) -> Option<DsCall<'_>>
-        ensures { option_map plain_ds_call result ≡ call_for self.now id next }
+    /// The call that goes to a mirror, if one does.
+    fn lend(&self, named: Option<(MirrorId, NextCall)>) -> Option<(MirrorId, DsCall<'_>)>
+        ensures { LendsCall self.now named result }
     {
+        let (id, next) = named?;
         let NextCall::SendsWrite(n) = next else {
-            return Some(DsCall::Commit { fileid: id.fileid });
+            return Some((id, DsCall::Commit { fileid: id.fileid }));
         };
         let write = self.taken.get(n)?;
-        Some(DsCall::Write {
+        let call = DsCall::Write {
             fileid: id.fileid,
             at: write.at,
             synced: false,
             bytes: write.bytes.bytes(),
-        })
+        };
+        Some((id, call))
     }
 
     /// What the answer to the call of this number comes to. Takes no memory.
