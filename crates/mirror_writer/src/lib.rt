@@ -13,7 +13,6 @@ mod step;
 mod tests;
 mod writer;
 
-pub use call::NextCall;
 pub use extents::Extents;
 pub use laws::writer_law;
 pub use step::{WriteStart, WriterStep};

@@ -1,4 +1,4 @@
-use super::{Extents, NextCall, WriteStart, Writer, WriterStep};
+use super::{Extents, WriteStart, Writer, WriterStep};
 use cluster_model::{Cred, DsCall, DsReply, LeftCause, Mirror, MirrorId, Mirrors, Tick};
 use ff_xdr::NoMemory;
 use std::alloc::Global;
@@ -63,7 +63,7 @@ fn fenced(server: u32, status: u32) -> WriterStep {
 fn sends(writer: &mut Writer, xid: u32, server: u32, call: DsCall<'_>) -> bool {
     match writer.next_call(xid) {
         None => false,
-        Some((mirror, next)) => mirror == id(server) && writer.call(mirror, next) == Some(call),
+        Some((mirror, sent)) => mirror == id(server) && sent == call,
     }
 }
 
@@ -272,7 +272,8 @@ fn lends_what_was_taken(rt: HostRuntime) -> Result<(), NoMemory> {
     assert_eq!(rt; writer.write(5, b"AB"), WriteStart::Taken);
     assert_eq!(rt; writer.taken(0), Some((5, &b"AB"[..])));
     assert!(rt; writer.taken(1).is_none());
-    assert!(rt; writer.call(id(1), NextCall::SendsWrite(1)).is_none());
+    assert!(rt; writer.next_call(1).is_some());
+    assert!(rt; writer.next_call(2).is_none());
     Ok(())
 }
 
