@@ -1,0 +1,26 @@
+use Rattle.std.proofs.Common.{ap, sym, subst, refl, ◌∙◌, true, false, not, ◌||◌, ◌&&◌, Option, Some, None, List, length, map}
+use Rattle.std.specs.Prelude.{slice_get, option_map}
+use Rattle.std.specs.List.{list_all, list_any, position}
+use Rattle.cluster_model.specs.DsCalls.{plain_ds_reply}
+use Rattle.mirror_writer.specs.Writers.{WriterMirror, WriterValue, is_committed, is_call, with_writer_mirrors, next_at, is_some_call, mirror_of_call, answered_at, timed_out_at}
+use Rattle.mirror_writer.specs.Rooms.{RoomyMirror, mirrors_shown}
+use Rattle.mirror_writer.specs.MirrorSteps.{StepsAt, SetsAt, answered_there, late_there, settled_as}
+use Rattle.mirror_writer.proofs.WriterSteps.{all_shown, any_shown, position_shown, lent, committed_now, waits_still, reply_settles, timeout_settles}
+use Rattle.mirror_writer.proofs.writer.Writer.on_timeout.Goals as goal
+
+pub returns-in_default : goal.returns-in_default
+returns-in_default c =
+    let w = c.self.inside in
+    let s : WriterValue = record { cred = w.cred.0; taken = w.taken.items; mirrors = mirrors_shown w.mirrors.items; wants_commit = w.wants_commit; is_fenced = w.is_fenced } in
+    let found = sym (position_shown (λ m. is_call c.args.xid m.call) w.mirrors.items) ∙ sym (ap (position (λ r. is_call c.args.xid r.mirror.call)) c.deref.ensures.value) ∙ sym c.outstanding.ensures.found ∙ c.in_default.is in
+    rw (← c.self.view_is) (sym (ap (timed_out_at s) found))
+
+pub returns : goal.returns
+returns c =
+    let w = c.self.inside in
+    let s : WriterValue = record { cred = w.cred.0; taken = w.taken.items; mirrors = mirrors_shown w.mirrors.items; wants_commit = w.wants_commit; is_fenced = w.is_fenced } in
+    let found = sym (position_shown (λ m. is_call c.args.xid m.call) w.mirrors.items) ∙ sym (ap (position (λ r. is_call c.args.xid r.mirror.call)) c.deref.ensures.value) ∙ sym c.outstanding.ensures.found ∙ c.in-Some.is in
+    let new = c.time_out_at-outcome.new.mirrors in
+    let whole = lent w.mirrors.items new w.mirrors.len (c.time_out_at-outcome.auto.mirrors ∙ c.deref_mut.ensures.len) in
+    let steps = subst (λ (rs : List RoomyMirror). StepsAt (λ m. late_there m m.call) (mirrors_shown rs) c.in-Some.place c.time_out_at-outcome.result.0 c.time_out_at-outcome.result.1 (mirrors_shown new)) c.deref_mut.ensures.value c.time_out_at-outcome.ensures in
+    rw (← c.self.view_is) (c.settle.ensures ∙ ap (λ rs. settled_as (with_writer_mirrors s (mirrors_shown rs)) c.time_out_at-outcome.result.0 c.time_out_at-outcome.result.1) whole ∙ timeout_settles s c.args.xid c.in-Some.place c.time_out_at-outcome.result.0 c.time_out_at-outcome.result.1 (mirrors_shown new) found steps)
