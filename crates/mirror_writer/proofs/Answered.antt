@@ -1,5 +1,5 @@
 -- Which writes are answered, which wait, and what a COMMIT's answer makes of them.
-use Rattle.std.proofs.Common.{◌≡◌, ◌≢◌, ℕ, suc, zero, ◌+◌, ◌<◌, ◌≤◌, Bool, true, false, List, [], ◌∷◌, ◌++◌, length, map, cond, set, Option, Some, None, refl, sym, ap, subst, ◌∙◌, arith, inl, inr, ◌⊎◌}
+use Rattle.std.proofs.Common.{◌≡◌, ◌≢◌, ℕ, suc, zero, ◌+◌, ◌<◌, ◌≤◌, Bool, true, false, List, [], ◌∷◌, ◌++◌, length, map, cond, refl, sym, ap, ◌∙◌, arith, inl, inr, ◌⊎◌}
 use Rattle.std.specs.Prelude.{slice_get, slice_set, ◌==◌, not}
 use Rattle.std.specs.List.{filter}
 use Rattle.std.proofs.lemmas.Bool.{both_ways, cases_eq}
@@ -10,7 +10,7 @@ use Rattle.mirror_writer.specs.declared.call.WriteAnswer.{WriteAnswer}
 use Rattle.mirror_writer.specs.declared.call.WriterCall.{WriterCall}
 use Rattle.mirror_writer.specs.declared.call.WriterCall.TheVariants.{NoCall, OutWrite, OutCommit}
 use Rattle.mirror_writer.specs.Writers.{WriterMirror, has_verifier, covered_by, covered_flag}
-use Rattle.mirror_writer.proofs.PlainLaws.{flag_set, flag_stays}
+use Rattle.mirror_writer.proofs.PlainLaws.{flag_stays}
 
 abbrev pub IsAnswered : List WriteAnswer → ℕ → ℕ → Type 0
 IsAnswered [] k v = ⊥

@@ -1,10 +1,10 @@
 -- No run ends at a place.
-use Rattle.std.proofs.Common.{◌≡◌, ◌≢◌, ℕ, ◌<◌, ◌≤◌, List, Option, Some, None, refl, sym, ◌∙◌, arith, inl, inr, ◌⊎◌}
+use Rattle.std.proofs.Common.{◌≡◌, ◌≢◌, ℕ, ◌<◌, ◌≤◌, List, Some, None, sym, ◌∙◌, arith, inl, inr, ◌⊎◌}
 use Rattle.std.proofs.lemmas.Bool.{cases_lt}
 use Rattle.std.proofs.lemmas.Option.{none-some}
 use Rattle.mirror_writer.specs.Extents.{AreApart}
 use Rattle.mirror_writer.specs.Runs.{run_at, IsLastUpTo}
-use Rattle.mirror_writer.proofs.RunLemmas.{IsRun, full, are_apart, same_run}
+use Rattle.mirror_writer.proofs.RunLemmas.{full, are_apart, same_run}
 use Rattle.mirror_writer.proofs.Stretches.{some_run}
 
 pub none_ends_at : (es : List (ℕ × ℕ)) (place : ℕ) (run : ℕ × ℕ) → AreApart es → IsLastUpTo es place run → run.1 ≢ place → (k : ℕ) → run_at es k ≢ Some place

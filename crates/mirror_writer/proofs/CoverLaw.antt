@@ -1,12 +1,12 @@
 -- In every run a taken write counts as covered just where the notes say so.
-use Rattle.std.proofs.Common.{◌≡◌, ℕ, suc, zero, ◌+◌, ◌<◌, ◌≤◌, Bool, true, false, List, [], ◌∷◌, ◌++◌, length, map, get_or, Option, Some, None, refl, sym, ap, subst, ◌∙◌, arith, inl, inr, ◌⊎◌}
+use Rattle.std.proofs.Common.{◌≡◌, ℕ, suc, zero, ◌<◌, ◌≤◌, Bool, true, false, List, [], ◌∷◌, ◌++◌, length, get_or, Option, Some, None, refl, sym, ap, subst, ◌∙◌, arith, inl, inr, ◌⊎◌}
 use Rattle.std.specs.Prelude.{slice_get, option_map, not}
 use Rattle.std.specs.List.{All}
 use Rattle.std.proofs.lemmas.List.Elements.{All-append}
 use Rattle.std.proofs.lemmas.Option.{slice_get_within, slice_get_cases, slice_get-map, same_Some, none-some}
 use Rattle.cluster_model.specs.declared.ids.Mirror.{Mirror}
-use Rattle.mirror_writer.specs.Writers.{WriterMirror, WriterValue, new_mirror, new_writer, covered_flag}
-use Rattle.mirror_writer.specs.WriterLaws.{WriterMove, WriterNote, CommitSent, CommitAnswered, WriterRun, writer_run, writer_moved, covered_of, IsCoveredBy, CoversJustWhere}
+use Rattle.mirror_writer.specs.Writers.{WriterMirror, WriterValue, new_mirror, new_writer}
+use Rattle.mirror_writer.specs.WriterLaws.{WriterMove, WriterNote, CommitSent, WriterRun, writer_run, writer_moved, covered_of, IsCoveredBy, CoversJustWhere}
 use Rattle.mirror_writer.proofs.Moved.{MoveAt, moves, note_place}
 use Rattle.mirror_writer.proofs.Noted.{middle, none_some_list}
 use Rattle.mirror_writer.proofs.Kept.{Kept, kept}

@@ -1,19 +1,19 @@
 -- A taken write counts as covered at a mirror just where the notes say so.
-use Rattle.std.proofs.Common.{◌≡◌, ◌≢◌, ℕ, suc, zero, ◌+◌, ◌<◌, ◌≤◌, Bool, true, false, List, [], ◌∷◌, ◌++◌, length, map, cond, Option, Some, None, refl, sym, ap, subst, ◌∙◌, arith, inl, inr, ◌⊎◌, append_assoc}
+use Rattle.std.proofs.Common.{◌≡◌, ℕ, ◌+◌, ◌<◌, ◌≤◌, Bool, true, false, List, [], ◌∷◌, ◌++◌, length, cond, Some, refl, sym, ap, subst, ◌∙◌, arith, inl, inr, ◌⊎◌, append_assoc}
 use Rattle.std.specs.Prelude.{slice_get, not, ◌==◌}
 use Rattle.std.specs.List.{filter}
 use Rattle.std.proofs.lemmas.Bool.{cases_eq, cases_lt, both_ways}
 use Rattle.std.proofs.lemmas.List.{length-append, append-nil}
-use Rattle.std.proofs.lemmas.Option.{same_Some, none-some}
+use Rattle.std.proofs.lemmas.Option.{same_Some}
 use Rattle.mirror_writer.specs.declared.call.WriteAnswer.{WriteAnswer}
 use Rattle.mirror_writer.specs.declared.call.WriterCall.{WriterCall}
 use Rattle.mirror_writer.specs.declared.call.WriterCall.TheVariants.{NoCall, OutWrite, OutCommit}
-use Rattle.mirror_writer.specs.Writers.{WriterMirror, WriterValue, queued, with_answer, with_commit, unqueued, has_verifier, covered_by, covered_flag}
+use Rattle.mirror_writer.specs.Writers.{WriterMirror, WriterValue, queued, with_answer, with_commit, unqueued, has_verifier, covered_flag}
 use Rattle.mirror_writer.specs.WriterLaws.{WriterNote, CommitSent, WriteAnswered, CommitAnswered, last_verifier, is_commit_at, IsCoveredBy}
-use Rattle.mirror_writer.proofs.Moved.{Turned, Queues, Moves, Moved, Rests, SentWrite, SentCommit, TookAnswer, TookCommit, Drops, Fails, LateWrite, LateCommit, IsAway, NoNote, OtherNote}
+use Rattle.mirror_writer.proofs.Moved.{Turned, Queues, Moves, Moved, Rests, SentWrite, SentCommit, TookAnswer, TookCommit, Drops, Fails, LateWrite, LateCommit, IsAway}
 use Rattle.mirror_writer.proofs.PlainLaws.{flag_stays, flag_pushed}
-use Rattle.mirror_writer.proofs.Noted.{last_away, last_none, last_sent, last_commit, last_written, last_other, same_last, is_this_commit, still_covered, CoveredNow, ByLast, Before, covered_now, IsQuiet, covered_before, away_quiet, SentNow, sent_still, sent_first}
-use Rattle.mirror_writer.proofs.Answered.{IsAnswered, answered_push, answered_last, answered_back, in_queue, in_call, in_answers, places_of, one_if, counted, uncounted, queue_push, queue_append, answers_push, answered_counts, again, again_fewer, covered_or_again, flag_covered, flag_from, length-covered_by}
+use Rattle.mirror_writer.proofs.Noted.{last_away, last_sent, last_commit, last_written, last_other, same_last, is_this_commit, still_covered, CoveredNow, ByLast, Before, covered_now, IsQuiet, covered_before, away_quiet, SentNow, sent_still, sent_first}
+use Rattle.mirror_writer.proofs.Answered.{IsAnswered, answered_push, answered_last, answered_back, in_queue, in_call, in_answers, places_of, counted, uncounted, queue_push, queue_append, answers_push, answered_counts, again, again_fewer, covered_or_again, flag_covered, flag_from, length-covered_by}
 
 abbrev pub is_commit_out : WriterCall → Bool
 is_commit_out NoCall = false

@@ -1,10 +1,9 @@
 -- What no move changes: how many mirrors there are, that a fenced writer is fenced, and that only mirrors that are there are noted.
-use Rattle.std.proofs.Common.{◌≡◌, ℕ, ◌+◌, ◌<◌, Bool, true, false, List, [], ◌∷◌, ◌++◌, length, map, cond, Option, Some, None, refl, sym, ap, subst, ◌∙◌, inl, inr, ◌⊎◌, append-nil}
-use Rattle.std.specs.Prelude.{slice_get, slice_set, not}
+use Rattle.std.proofs.Common.{◌≡◌, ℕ, ◌<◌, Bool, true, false, List, [], ◌∷◌, ◌++◌, length, cond, Option, Some, None, refl, sym, ap, subst, ◌∙◌, inl, inr, ◌⊎◌, append-nil}
+use Rattle.std.specs.Prelude.{slice_get, not}
 use Rattle.std.proofs.lemmas.List.{length-map, length-set}
 use Rattle.std.proofs.lemmas.Option.{slice_get_within}
 use Rattle.cluster_model.specs.DsCalls.{DsReplyValue, Created, Set, Written, Committed, Bytes, NotSync, Failed}
-use Rattle.cluster_model.specs.declared.ids.MirrorId.{MirrorId}
 use Rattle.mirror_writer.specs.declared.call.MirrorOutcome.{MirrorOutcome}
 use Rattle.mirror_writer.specs.declared.call.MirrorOutcome.TheVariants as outcome
 use Rattle.mirror_writer.specs.declared.call.NextCall.{NextCall}
@@ -12,9 +11,9 @@ use Rattle.mirror_writer.specs.declared.call.NextCall.TheVariants.{SendsWrite, S
 use Rattle.mirror_writer.specs.declared.call.WriterCall.{WriterCall}
 use Rattle.mirror_writer.specs.declared.call.WriterCall.TheVariants.{NoCall, OutWrite, OutCommit}
 use Rattle.mirror_writer.specs.declared.step.WriterStep.TheVariants as step
-use Rattle.mirror_writer.specs.MirrorSteps.{MirrorAfter, answered_there, late_there, settled_as}
+use Rattle.mirror_writer.specs.MirrorSteps.{MirrorAfter, answered_there, late_there}
 use Rattle.mirror_writer.specs.Writers.{WriterMirror, WriterValue, WriterAfter, WriterSends, queued, with_write, with_writer_mirror, overlaps_taken, next_place, next_at, next_sent, mirror_of_call, after_reply, after_timeout, answered_at, mirror_answered, timed_out_at, mirror_timed_out}
-use Rattle.mirror_writer.specs.WriterLaws.{WriterMove, TakesWrite, WantsCommit, SendsOne, TakesReply, TakesTimeout, WriterNote, CommitSent, WriteAnswered, CommitAnswered, WriterRun, writer_moved, sent_from, sent_notes, noted_mirror, noted_next, answer_notes, mirror_notes, call_notes, write_notes, commit_notes, is_new_call}
+use Rattle.mirror_writer.specs.WriterLaws.{WriterMove, TakesWrite, WantsCommit, SendsOne, TakesReply, TakesTimeout, WriterNote, CommitSent, WriteAnswered, CommitAnswered, WriterRun, writer_moved, sent_from, sent_notes, noted_mirror, noted_next, answer_notes, mirror_notes, call_notes, is_new_call}
 use Rattle.mirror_writer.proofs.WriterSteps.{settles, answer_settles, late_settles, stays_set}
 use Rattle.mirror_writer.proofs.Moved.{note_place, settled_mirrors, settled_free, free_after}
 use Rattle.mirror_writer.proofs.PlainLaws.{Sending, sending}

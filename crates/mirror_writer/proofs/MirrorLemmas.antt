@@ -1,5 +1,5 @@
 -- What a COMMIT's answer makes of one mirror.
-use Rattle.std.proofs.Common.{◌≡◌, ℕ, ◌+◌, ◌-◌, ◌<◌, ◌≤◌, Bool, true, false, not, List, [], ◌∷◌, ◌++◌, length, take, drop, get_or, drop-cons, add-one, cond, refl, sym, ap, ◌∙◌, set, arith, count_by}
+use Rattle.std.proofs.Common.{◌≡◌, ℕ, ◌+◌, ◌<◌, Bool, true, false, List, ◌∷◌, length, drop, get_or, drop-cons, add-one, cond, sym, ap, ◌∙◌, set}
 use Rattle.std.specs.List.{filter}
 use Rattle.mirror_writer.specs.declared.call.WriteAnswer.{WriteAnswer}
 use Rattle.mirror_writer.specs.Writers.{has_verifier, covered_by}

@@ -1,12 +1,11 @@
 -- What a move does at each mirror, and what is noted of it.
-use Rattle.std.proofs.Common.{◌≡◌, ◌≢◌, ℕ, ◌+◌, ◌<◌, Bool, true, false, List, [], ◌∷◌, ◌++◌, length, map, cond, Option, Some, None, refl, sym, ap, subst, ◌∙◌, arith, inl, inr, ◌⊎◌}
+use Rattle.std.proofs.Common.{◌≡◌, ◌≢◌, ℕ, ◌+◌, Bool, true, false, List, [], ◌∷◌, ◌++◌, length, cond, Option, Some, None, refl, sym, ap, subst, ◌∙◌, inl, inr, ◌⊎◌}
 use Rattle.std.specs.Prelude.{slice_get, slice_set, option_map, ◌==◌, ◌||◌, ◌&&◌, not}
 use Rattle.std.proofs.lemmas.Bool.{cases_eq}
 use Rattle.std.proofs.lemmas.List.{append-nil, length-append}
 use Rattle.std.proofs.lemmas.Option.{slice_get-map}
 use Rattle.cluster_model.proofs.Elements.{slice_get-set_other, slice_get-set_same}
 use Rattle.cluster_model.specs.declared.ids.MirrorId.{MirrorId}
-use Rattle.cluster_model.specs.declared.phase.LeftCause.{LeftCause}
 use Rattle.cluster_model.specs.declared.phase.LeftCause.TheVariants.{Error, Timeouts}
 use Rattle.cluster_model.specs.DsCalls.{DsCallValue, DsReplyValue, Created, Set, Written, Committed, Bytes, NotSync, Failed}
 use Rattle.mirror_writer.specs.declared.call.MirrorOutcome.{MirrorOutcome}
@@ -15,9 +14,8 @@ use Rattle.mirror_writer.specs.declared.call.NextCall.{NextCall}
 use Rattle.mirror_writer.specs.declared.call.NextCall.TheVariants.{SendsWrite, SendsCommit}
 use Rattle.mirror_writer.specs.declared.call.WriterCall.{WriterCall}
 use Rattle.mirror_writer.specs.declared.call.WriterCall.TheVariants.{NoCall, OutWrite, OutCommit}
-use Rattle.mirror_writer.specs.Writers.{WriterMirror, WriterValue, WriterAfter, WriterSends, queued, with_out, with_answer, with_commit, with_failure, without_call, with_writer_call, with_writer_mirrors, with_write, overlaps_taken, open_committed, is_committed, next_place, next_at, next_idle, next_of_call, next_sent, sends_at, sends_to, sends_next, sends_as, call_for, mirror_of_call, after_reply, after_timeout, answered_at, timed_out_at, mirror_answered, mirror_timed_out}
-use Rattle.mirror_writer.specs.declared.step.WriterStep.TheVariants as step
-use Rattle.mirror_writer.specs.MirrorSteps.{MirrorAfter, answered_there, late_there, settled_as, refused_there, failed_there}
+use Rattle.mirror_writer.specs.Writers.{WriterMirror, WriterValue, WriterAfter, queued, with_out, with_answer, with_commit, with_failure, without_call, with_writer_call, with_writer_mirrors, with_write, overlaps_taken, open_committed, is_committed, next_place, next_at, next_idle, next_of_call, next_sent, sends_at, sends_to, sends_next, sends_as, call_for, mirror_of_call, after_reply, after_timeout, answered_at, timed_out_at, mirror_answered, mirror_timed_out}
+use Rattle.mirror_writer.specs.MirrorSteps.{MirrorAfter, answered_there, late_there, settled_as, failed_there}
 use Rattle.mirror_writer.specs.WriterLaws.{WriterMove, TakesWrite, WantsCommit, SendsOne, TakesReply, TakesTimeout, WriterNote, CommitSent, WriteAnswered, CommitAnswered, WriterRun, writer_moved, sent_notes, noted_mirror, noted_next, answer_notes, mirror_notes, call_notes, write_notes, commit_notes, sent_from, is_new_call}
 use Rattle.mirror_writer.proofs.WriterSteps.{finished, waiting, none_first, none_next, none_call, settles, answer_settles, late_settles, stays_set}
 

@@ -1,17 +1,16 @@
 -- What holds of each step of a writer, and of its taken writes.
-use Rattle.std.proofs.Common.{◌≡◌, ◌≢◌, ℕ, suc, zero, ◌+◌, ◌<◌, ◌≤◌, Bool, true, false, List, [], ◌∷◌, ◌++◌, length, map, cond, get_or, Option, Some, None, refl, sym, ap, subst, ◌∙◌, arith, inl, inr, ◌⊎◌}
-use Rattle.std.specs.Prelude.{slice_get, slice_set, option_map, nat_lt, ◌==◌, ◌||◌, ◌&&◌, not, fold}
-use Rattle.std.specs.List.{AllPairs, Contains, list_any}
+use Rattle.std.proofs.Common.{◌≡◌, ℕ, suc, zero, ◌+◌, ◌<◌, ◌≤◌, Bool, true, false, List, [], ◌∷◌, ◌++◌, length, cond, get_or, Option, Some, None, refl, sym, ap, subst, ◌∙◌, arith, inl, inr, ◌⊎◌}
+use Rattle.std.specs.Prelude.{slice_get, slice_set, nat_lt, ◌==◌, ◌||◌, ◌&&◌, fold}
+use Rattle.std.specs.List.{list_any}
 use Rattle.std.proofs.lemmas.Bool.{cases_lt, both_ways}
 use Rattle.std.proofs.lemmas.List.{length-append}
 use Rattle.std.proofs.lemmas.List.Folds.{list_any_at}
-use Rattle.std.proofs.lemmas.Option.{slice_get_within, slice_get_past, get_or_from_slice_get, none-some, same_Some}
+use Rattle.std.proofs.lemmas.Option.{slice_get_within, get_or_from_slice_get, none-some, same_Some}
 use Rattle.std.proofs.lemmas.Grind.{common_steps}
-use Rattle.cluster_model.proofs.Elements.{slice_get-set_other, slice_get-set_same, slice_get-push}
 use Rattle.cluster_model.specs.declared.ids.Mirror.{Mirror}
 use Rattle.cluster_model.specs.declared.ids.MirrorId.{MirrorId}
 use Rattle.cluster_model.specs.declared.phase.LeftCause.{LeftCause}
-use Rattle.cluster_model.specs.declared.phase.LeftCause.TheVariants.{Error, Timeouts}
+use Rattle.cluster_model.specs.declared.phase.LeftCause.TheVariants.{Error}
 use Rattle.cluster_model.specs.DsCalls.{DsCallValue, Write, Commit, DsReplyValue, Created, Set, Written, Committed, Bytes, NotSync, Failed}
 use Rattle.mirror_writer.specs.declared.call.TakenWrite.{TakenWrite}
 use Rattle.mirror_writer.specs.declared.call.WriteAnswer.{WriteAnswer}
@@ -20,10 +19,10 @@ use Rattle.mirror_writer.specs.declared.call.NextCall.TheVariants.{SendsWrite, S
 use Rattle.mirror_writer.specs.declared.call.WriterCall.{WriterCall}
 use Rattle.mirror_writer.specs.declared.call.WriterCall.TheVariants.{NoCall, OutWrite, OutCommit}
 use Rattle.mirror_writer.specs.declared.step.WriterStep.TheVariants as step
-use Rattle.mirror_writer.specs.Writers.{WriterMirror, WriterValue, WriterAfter, WriterSends, touches, overlaps_taken, with_write, open_committed, covered_flag, covered_by, has_verifier, next_place, next_at, next_sent, sends_at, sends_to, sends_next, sends_as, call_for, write_of_taken, with_out, with_writer_mirrors, with_writer_mirror, with_commit, mirror_of_call, after_reply, answered_at, mirror_answered, call_answered, refused_by, is_fenced_by, fails, after_commit, after_timeout, timed_out_at, mirror_timed_out}
+use Rattle.mirror_writer.specs.Writers.{WriterMirror, WriterValue, WriterAfter, WriterSends, touches, overlaps_taken, with_write, open_committed, covered_flag, covered_by, has_verifier, next_place, next_at, next_sent, sends_at, sends_to, sends_next, sends_as, call_for, write_of_taken, with_out, with_writer_mirrors, with_writer_mirror, with_commit, mirror_of_call, after_reply, answered_at, mirror_answered, call_answered, is_fenced_by, fails, after_commit, after_timeout, timed_out_at, mirror_timed_out}
 use Rattle.mirror_writer.specs.WriterLaws.{WriterMove, TakesWrite, WantsCommit, SendsOne, TakesReply, TakesTimeout, WriterNote, WriterRun, writer_run, writer_moved, sent_from, sent_notes, is_new_call, AreDisjointWrites, covered_of, StaysCovered, is_ok_commit, call_at_place, call_of_mirror, CommittedJustWhere, IsOfTaken, SendsTaken}
 use Rattle.mirror_writer.proofs.Moved.{MoveAt, moves, Turned, Queues, Moves, Moved, Rests, SentWrite, SentCommit, TookAnswer, TookCommit, Drops, Fails, LateWrite, LateCommit, settled_taken}
-use Rattle.mirror_writer.proofs.WriterSteps.{finished, waiting, settles, answer_settles, late_settles, stays_set}
+use Rattle.mirror_writer.proofs.WriterSteps.{finished, waiting, answer_settles, late_settles, stays_set}
 use Rattle.mirror_writer.specs.MirrorSteps.{answered_there, late_there}
 use Rattle.std.specs.List.{filter}
 

@@ -1,12 +1,12 @@
 -- How long places go on being in a set, or not.
 use Rattle.std.proofs.Common.{◌≡◌, ℕ, ◌+◌, ◌-◌, ◌<◌, ◌≤◌, Bool, true, false, List, Option, Some, None, IsSome, refl, sym, ◌∙◌, ap, subst, arith, inl, inr, ◌⊎◌}
-use Rattle.std.specs.Prelude.{not, min, nat_lt, is_some}
+use Rattle.std.specs.Prelude.{min, nat_lt, is_some}
 use Rattle.std.proofs.lemmas.Bool.{both_ways, cases_lt, ltb-true, ltb-false}
 use Rattle.std.proofs.lemmas.Option.{none-some}
-use Rattle.mirror_writer.specs.Extents.{is_place, AreApart, in_window, SharesPlace, EndBy, max_place}
-use Rattle.mirror_writer.specs.Runs.{run_at, IsLastUpTo, IsFirstFrom, RunsOn, BeginsAt}
+use Rattle.mirror_writer.specs.Extents.{is_place, AreApart, SharesPlace, EndBy, max_place}
+use Rattle.mirror_writer.specs.Runs.{run_at, IsLastUpTo, IsFirstFrom, RunsOn}
 use Rattle.mirror_writer.proofs.PlaceLemmas.{bounds, inside}
-use Rattle.mirror_writer.proofs.RunLemmas.{IsRun, full, are_apart, RunWith, run_with, place_in, no_place, same_run, ends_by}
+use Rattle.mirror_writer.proofs.RunLemmas.{IsRun, full, are_apart, RunWith, place_in, no_place, same_run, ends_by}
 
 pub some_run : (es : List (ℕ × ℕ)) (k v : ℕ) → IsRun es k v → IsSome (run_at es k)
 some_run es k v is = ap is_some is

@@ -1,5 +1,5 @@
 -- What the calls of a writer make of its mirrors.
-use Rattle.std.proofs.Common.{◌≡◌, ℕ, ◌+◌, ◌<◌, Bool, true, false, List, [], ◌∷◌, ◌++◌, length, map, take, drop, set, get_or, cond, nat_lt, Option, Some, None, IfSome, refl, sym, ap, subst, ◌∙◌, arith, inl, inr, ◌⊎◌, ◌≤◌}
+use Rattle.std.proofs.Common.{◌≡◌, ℕ, ◌+◌, ◌<◌, Bool, true, false, List, [], ◌∷◌, ◌++◌, length, take, drop, set, get_or, cond, nat_lt, Option, Some, None, IfSome, refl, sym, ap, subst, ◌∙◌, arith, inl, inr, ◌⊎◌, ◌≤◌}
 use Rattle.std.specs.Prelude.{slice_get, option_map, nat_le, not, ◌&&◌, ◌||◌, ◌==◌, slice_set}
 use Rattle.std.specs.List.{list_all, list_any, find, position, position_or_len, prefix_len}
 use Rattle.std.proofs.lemmas.List.Folds.{list_all-map}
@@ -9,7 +9,6 @@ use Rattle.std.proofs.lemmas.Bool.{leb-true, leb-false}
 use Rattle.mirror_writer.specs.declared.call.TakenWrite.{TakenWrite}
 use Rattle.std.proofs.Math.Seq.{take-append_seam}
 use Rattle.cluster_model.specs.declared.ids.MirrorId.{MirrorId}
-use Rattle.cluster_model.specs.declared.phase.LeftCause.{LeftCause}
 use Rattle.cluster_model.specs.declared.phase.LeftCause.TheVariants.{Error, Timeouts}
 use Rattle.cluster_model.specs.DsCalls.{DsCallValue, DsReplyValue, Created, Set, Written, Committed, Bytes, NotSync, Failed, Write, Commit}
 use Rattle.mirror_writer.specs.declared.call.MirrorOutcome.{MirrorOutcome}
@@ -18,12 +17,11 @@ use Rattle.mirror_writer.specs.declared.call.NextCall.{NextCall}
 use Rattle.mirror_writer.specs.declared.call.NextCall.TheVariants.{SendsWrite, SendsCommit}
 use Rattle.mirror_writer.specs.declared.call.WriterCall.{WriterCall}
 use Rattle.mirror_writer.specs.declared.call.WriterCall.TheVariants.{NoCall, OutWrite, OutCommit}
-use Rattle.mirror_writer.specs.declared.step.WriterStep.{WriterStep}
 use Rattle.mirror_writer.specs.declared.step.WriterStep.TheVariants as step
-use Rattle.mirror_writer.specs.Writers.{WriterMirror, WriterValue, WriterAfter, WriterSends, is_committed, open_committed, next_at, next_idle, next_of_call, next_place, is_some_call, next_sent, sends_at, sends_to, sends_next, sends_as, call_for, write_of_taken, with_out, with_writer_mirrors, with_writer_mirror, is_call, mirror_of_call, after_reply, answered_at, mirror_answered, call_answered, write_answered, commit_answered, refused_by, is_fenced_by, fails, fenced, is_stranger, with_failure, without_call, after_timeout, timed_out_at, mirror_timed_out, call_timed_out, timed_out_as, with_writer_call, after_commit}
+use Rattle.mirror_writer.specs.Writers.{WriterMirror, WriterValue, WriterAfter, WriterSends, is_committed, open_committed, next_at, next_idle, next_of_call, next_place, is_some_call, next_sent, sends_at, sends_to, sends_next, sends_as, call_for, write_of_taken, with_out, with_writer_mirrors, with_writer_mirror, mirror_of_call, after_reply, answered_at, mirror_answered, call_answered, is_fenced_by, fails, is_stranger, without_call, after_timeout, timed_out_at, mirror_timed_out, call_timed_out, with_writer_call, after_commit}
 use Rattle.mirror_writer.specs.Rooms.{RoomyMirror, mirrors_shown, CanSend}
-use Rattle.mirror_writer.specs.MirrorSteps.{MirrorAfter, StepsAt, SetsAt, NextOf, answered_there, late_there, settled_as, refused_there, failed_there, timed_out_there}
-use Rattle.mirror_writer.specs.Calls.{SendsNamed, IsNextAt, IsToSend, IsGone}
+use Rattle.mirror_writer.specs.MirrorSteps.{MirrorAfter, StepsAt, SetsAt, NextOf, answered_there, late_there, settled_as, failed_there}
+use Rattle.mirror_writer.specs.Calls.{SendsNamed, IsNextAt, IsGone}
 
 -- the whole list was lent
 pub lent : (items new : List RoomyMirror) (len : ℕ) → length new ≡ len → take len (new ++ drop (length new) items) ≡ new

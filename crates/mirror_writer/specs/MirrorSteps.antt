@@ -11,7 +11,7 @@ use Rattle.mirror_writer.specs.declared.call.NextCall.{NextCall}
 use Rattle.mirror_writer.specs.declared.call.WriterCall.{WriterCall}
 use Rattle.mirror_writer.specs.declared.call.WriterCall.TheVariants.{NoCall, OutWrite, OutCommit}
 use Rattle.mirror_writer.specs.declared.step.WriterStep.TheVariants as step
-use Rattle.mirror_writer.specs.Writers.{WriterMirror, WriterValue, WriterAfter, with_failure, without_call, with_answer, with_commit, with_writer_call, with_writer_mirror, after_commit, is_stranger, fenced, next_at}
+use Rattle.mirror_writer.specs.Writers.{WriterMirror, WriterValue, WriterAfter, with_failure, without_call, with_answer, with_commit, with_writer_call, after_commit, is_stranger, fenced, next_at}
 
 pub record MirrorAfter : Type 0 where
   pub mirror : WriterMirror

@@ -1,6 +1,6 @@
 -- What holds of a writer in every run of it, told by what was sent and answered (RFC 8435, section 8; RFC 1813, sections 3.3.7 and 3.3.21).
-use Rattle.std.specs.Prelude.{◌≡◌, ℕ, ◌<◌, Bool, true, false, ◌==◌, ◌&&◌, not, List, [], ◌∷◌, ◌++◌, length, Option, Some, None, fold, slice_get, if◌then◌else◌}
-use Rattle.std.specs.List.{All, AllPairs, Contains, find}
+use Rattle.std.specs.Prelude.{◌≡◌, ℕ, Bool, true, false, ◌==◌, ◌&&◌, List, [], ◌∷◌, ◌++◌, length, Option, Some, None, fold, slice_get, if◌then◌else◌}
+use Rattle.std.specs.List.{All, AllPairs, Contains}
 use Rattle.cluster_model.specs.declared.ids.Mirror.{Mirror}
 use Rattle.cluster_model.specs.declared.ids.MirrorId.{MirrorId}
 use Rattle.cluster_model.specs.DsCalls.{DsCallValue, Create, SetAttr, Write, Commit, Read, DsReplyValue, Created, Set, Written, Committed, Bytes, NotSync, Failed}

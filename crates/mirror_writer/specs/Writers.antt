@@ -1,8 +1,7 @@
 -- One layout's writes to all of its mirrors (RFC 8435, sections 5 and 8; RFC 1813, sections 3.3.7 and 3.3.21): what a writer has, and what
 -- each call makes of it.
-use Rattle.std.specs.Prelude.{◌≡◌, ℕ, ◌+◌, Bool, true, false, ◌==◌, ◌&&◌, ◌||◌, not, List, [], ◌∷◌, ◌++◌, length, map, position, take, replicate, Option, Some, None, nat_lt, if◌then◌else◌, slice_get, slice_set}
+use Rattle.std.specs.Prelude.{ℕ, ◌+◌, Bool, true, false, ◌==◌, ◌&&◌, ◌||◌, not, List, [], ◌∷◌, ◌++◌, length, map, position, take, replicate, Option, Some, None, nat_lt, if◌then◌else◌, slice_get, slice_set}
 use Rattle.std.specs.List.{list_all, list_any, filter, find}
-use Rattle.std.specs.Option.{option_map}
 use Rattle.cluster_model.specs.declared.ids.Mirror.{Mirror}
 use Rattle.cluster_model.specs.declared.ids.MirrorId.{MirrorId}
 use Rattle.cluster_model.specs.declared.phase.LeftCause.{LeftCause}

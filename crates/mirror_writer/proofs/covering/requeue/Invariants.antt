@@ -1,4 +1,4 @@
-use Rattle.std.proofs.Common.{◌≡◌, ◌+◌, ◌≤◌, ◌++◌, ℕ, map, not, take, drop, length}
+use Rattle.std.proofs.Common.{◌≡◌, ◌+◌, ◌≤◌, ◌++◌, map, not, take}
 use Rattle.std.specs.List.{filter}
 use Rattle.std.specs.VecDeque.{deque_len, deque_capacity}
 use Rattle.mirror_writer.specs.Writers.{has_verifier}

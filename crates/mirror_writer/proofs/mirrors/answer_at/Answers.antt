@@ -1,5 +1,5 @@
 use Rattle.cluster_model.specs.DsCalls.{plain_ds_reply}
-use Rattle.mirror_writer.specs.MirrorSteps.{answered_there, late_there}
+use Rattle.mirror_writer.specs.MirrorSteps.{answered_there}
 use Rattle.mirror_writer.proofs.Shown.{steps_at}
 use Rattle.mirror_writer.proofs.mirrors.answer_at.Goals as goal
 

@@ -1,5 +1,5 @@
 use Rattle.std.proofs.lemmas.Iterator.Adapters.{position_from-zero}
-use Rattle.mirror_writer.specs.Writers.{is_some_call, next_at, is_call}
+use Rattle.mirror_writer.specs.Writers.{is_call}
 use Rattle.mirror_writer.proofs.mirrors.outstanding.Goals as goal
 
 pub loop-place-init : goal.loop-place-init

@@ -1,6 +1,6 @@
-use Rattle.std.proofs.Common.{arith, sym, subst, ◌∙◌, ◌≢◌}
+use Rattle.std.proofs.Common.{arith, sym, subst, ◌∙◌}
 use Rattle.std.proofs.lemmas.List.{get_or-set_other}
-use Rattle.mirror_writer.specs.Rooms.{RoomyMirror, HasSpareRoom}
+use Rattle.mirror_writer.specs.Rooms.{HasSpareRoom}
 use Rattle.mirror_writer.proofs.Shown.{queued_more}
 use Rattle.mirror_writer.proofs.mirrors.queue_all.Goals as goal
 

@@ -1,5 +1,4 @@
-use Rattle.cluster_model.specs.DsCalls.{plain_ds_reply}
-use Rattle.mirror_writer.specs.MirrorSteps.{answered_there, late_there}
+use Rattle.mirror_writer.specs.MirrorSteps.{late_there}
 use Rattle.mirror_writer.proofs.Shown.{steps_at}
 use Rattle.mirror_writer.proofs.mirrors.time_out_at.Goals as goal
 

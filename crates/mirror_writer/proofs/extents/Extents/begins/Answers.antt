@@ -1,6 +1,5 @@
-use Rattle.std.proofs.Common.{arith, ◌≡◌, ◌≢◌, ◌≤◌, ◌<◌, refl, subst, sym, false, inl, inr, ◌⊎◌, ℕ, List, Option, Some, None}
-use Rattle.mirror_writer.specs.Extents.{is_place}
-use Rattle.mirror_writer.specs.Runs.{run_at, LastUpTo}
+use Rattle.std.proofs.Common.{arith, refl, subst, inr, ℕ, Option}
+use Rattle.mirror_writer.specs.Runs.{LastUpTo}
 use Rattle.mirror_writer.proofs.Begins.{none_ends_at, none_before}
 use Rattle.mirror_writer.proofs.extents.Extents.begins.Goals as goal
 

@@ -1,9 +1,7 @@
-use Rattle.std.proofs.Common.{arith, refl, ◌≤◌, ◌<◌, ◌≡◌, ◌+◌, ◌-◌, ℕ, List, true, false, subst, sym}
-use Rattle.std.specs.Prelude.{min}
-use Rattle.mirror_writer.specs.Extents.{is_place, max_place}
+use Rattle.std.proofs.Common.{arith, ◌<◌, ◌≡◌, ℕ, List, false, subst, sym}
+use Rattle.mirror_writer.specs.Extents.{is_place}
 use Rattle.mirror_writer.specs.Runs.{RunsOn}
-use Rattle.mirror_writer.proofs.RunLemmas.{full, ends_by}
-use Rattle.mirror_writer.proofs.Stretches.{taken_on, taken_none, free_on, free_all, last_ends, none_up_to, first_bound}
+use Rattle.mirror_writer.proofs.Stretches.{free_on, free_all, first_bound}
 use Rattle.mirror_writer.proofs.extents.Extents.free_from.Goals as goal
 
 pub returns-in-None-clause-on : goal.returns-in-None-clause-on

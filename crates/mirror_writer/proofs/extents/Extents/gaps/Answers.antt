@@ -1,5 +1,5 @@
-use Rattle.std.proofs.Common.{arith, ◌≡◌, ◌<◌, ◌+◌, ◌-◌, refl, map}
-use Rattle.mirror_writer.proofs.GapLemmas.{gaps_after, all_gaps}
+use Rattle.std.proofs.Common.{arith, refl}
+use Rattle.mirror_writer.proofs.GapLemmas.{gaps_after}
 use Rattle.mirror_writer.proofs.extents.Extents.gaps.Goals as goal
 
 pub loop-left-preserved-then-left-gt0 : goal.loop-left-preserved-then-left-gt0

@@ -1,4 +1,4 @@
-use Rattle.std.proofs.Common.{ℕ, map}
+use Rattle.std.proofs.Common.{map}
 use Rattle.mirror_writer.specs.Extents.{run_of_gap}
 use Rattle.mirror_writer.proofs.GapLemmas.{GapsSoFar}
 use Rattle.mirror_writer.proofs.extents.Extents.gaps.Given as goal

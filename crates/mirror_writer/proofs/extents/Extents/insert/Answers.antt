@@ -1,10 +1,8 @@
-use Rattle.std.proofs.Common.{arith, ◌≡◌, ◌≤◌, ◌<◌, ◌+◌, ◌-◌, ◌∙◌, refl, subst, sym, ap, true, false, cond, ℕ, List, Option, Some, None}
+use Rattle.std.proofs.Common.{arith, ◌≡◌, ◌+◌, ◌∙◌, subst, sym, ap, false, cond, ℕ, List, Some, None}
 use Rattle.std.specs.Ordering.{nat_cmp}
 use Rattle.std.specs.BTreeMap.{is_at}
-use Rattle.mirror_writer.specs.Extents.{is_place, AddsPlaces, SharesPlace, AreApart, EndBy, max_place}
-use Rattle.mirror_writer.specs.Runs.{run_at, BeginsAt, EndsAt}
-use Rattle.mirror_writer.proofs.PlaceLemmas.{inside}
-use Rattle.mirror_writer.proofs.RunLemmas.{apart_from, end_from}
+use Rattle.mirror_writer.specs.Extents.{SharesPlace}
+use Rattle.mirror_writer.specs.Runs.{run_at, BeginsAt}
 use Rattle.mirror_writer.proofs.InsertLemmas.{window_joins}
 use Rattle.mirror_writer.proofs.extents.Extents.insert.Goals as goal
 

@@ -1,5 +1,5 @@
-use Rattle.std.proofs.Common.{arith, refl, ◌≤◌, ◌<◌, ◌≡◌, ◌+◌, ℕ, List, false}
-use Rattle.mirror_writer.specs.Extents.{SharesPlace, max_place, is_place}
+use Rattle.std.proofs.Common.{arith, refl, ◌≤◌, ◌<◌, ◌+◌, ℕ}
+use Rattle.mirror_writer.specs.Extents.{max_place}
 use Rattle.mirror_writer.proofs.Stretches.{share_by, none_share}
 use Rattle.mirror_writer.proofs.extents.Extents.overlaps.Goals as goal
 

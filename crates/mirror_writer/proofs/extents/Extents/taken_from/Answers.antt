@@ -1,9 +1,8 @@
-use Rattle.std.proofs.Common.{arith, refl, ◌≤◌, ◌<◌, ◌≡◌, ◌+◌, ◌-◌, ℕ, List, true, false, subst, sym, Option}
-use Rattle.std.specs.Prelude.{min}
-use Rattle.mirror_writer.specs.Extents.{is_place, max_place}
+use Rattle.std.proofs.Common.{arith, ℕ, true, subst, sym, Option}
+use Rattle.mirror_writer.specs.Extents.{max_place}
 use Rattle.mirror_writer.specs.Runs.{RunsOn, LastUpTo}
-use Rattle.mirror_writer.proofs.RunLemmas.{full, ends_by}
-use Rattle.mirror_writer.proofs.Stretches.{taken_on, taken_none, free_on, free_all, last_ends, none_up_to, first_bound}
+use Rattle.mirror_writer.proofs.RunLemmas.{ends_by}
+use Rattle.mirror_writer.proofs.Stretches.{taken_on, taken_none, last_ends, none_up_to}
 use Rattle.mirror_writer.proofs.extents.Extents.taken_from.Goals as goal
 
 pub returns-in-Some-clause-on : goal.returns-in-Some-clause-on

@@ -1,11 +1,8 @@
-use Rattle.std.proofs.Common.{ap, sym, refl, ◌∙◌, true, false, not, ◌||◌, ◌&&◌, Option, Some, None, List, length, map}
-use Rattle.std.specs.Prelude.{slice_get, option_map}
-use Rattle.std.specs.List.{list_all, list_any, position}
-use Rattle.cluster_model.specs.DsCalls.{plain_ds_reply}
-use Rattle.mirror_writer.specs.Writers.{WriterMirror, WriterValue, is_committed, is_call, next_at, is_some_call, mirror_of_call, answered_at, timed_out_at}
-use Rattle.mirror_writer.specs.Rooms.{RoomyMirror, mirrors_shown}
-use Rattle.mirror_writer.specs.MirrorSteps.{StepsAt, SetsAt, answered_there, late_there, settled_as}
-use Rattle.mirror_writer.proofs.WriterSteps.{all_shown, any_shown, position_shown, lent, committed_now, waits_still, reply_settles, timeout_settles}
+use Rattle.std.proofs.Common.{ap, ◌∙◌, not}
+use Rattle.std.specs.List.{list_all}
+use Rattle.mirror_writer.specs.Writers.{is_committed}
+use Rattle.mirror_writer.specs.Rooms.{mirrors_shown}
+use Rattle.mirror_writer.proofs.WriterSteps.{all_shown}
 use Rattle.mirror_writer.proofs.writer.Writer.commit.Goals as goal
 
 pub returns : goal.returns

@@ -1,6 +1,5 @@
 use Rattle.std.proofs.Common.{ap, ◌∙◌, length}
 use Rattle.mirror_writer.specs.Writers.{WriterValue}
-use Rattle.mirror_writer.specs.Calls.{IsGone}
 use Rattle.mirror_writer.proofs.WriterSteps.{gone_write, gone_commit}
 use Rattle.mirror_writer.proofs.writer.Writer.is_gone.Goals as goal
 

@@ -1,11 +1,10 @@
-use Rattle.std.proofs.Common.{ap, sym, subst, refl, ◌∙◌, true, false, not, ◌||◌, ◌&&◌, Option, Some, None, List, length, map}
-use Rattle.std.specs.Prelude.{slice_get, option_map}
-use Rattle.std.specs.List.{list_all, list_any, position}
+use Rattle.std.proofs.Common.{ap, sym, subst, ◌∙◌, List}
+use Rattle.std.specs.List.{position}
 use Rattle.cluster_model.specs.DsCalls.{plain_ds_reply}
-use Rattle.mirror_writer.specs.Writers.{WriterMirror, WriterValue, is_committed, is_call, with_writer_mirrors, next_at, is_some_call, mirror_of_call, answered_at, timed_out_at}
+use Rattle.mirror_writer.specs.Writers.{WriterValue, is_call, with_writer_mirrors, answered_at}
 use Rattle.mirror_writer.specs.Rooms.{RoomyMirror, mirrors_shown}
-use Rattle.mirror_writer.specs.MirrorSteps.{StepsAt, SetsAt, answered_there, late_there, settled_as}
-use Rattle.mirror_writer.proofs.WriterSteps.{all_shown, any_shown, position_shown, lent, committed_now, waits_still, reply_settles, timeout_settles}
+use Rattle.mirror_writer.specs.MirrorSteps.{StepsAt, answered_there, settled_as}
+use Rattle.mirror_writer.proofs.WriterSteps.{position_shown, lent, reply_settles}
 use Rattle.mirror_writer.proofs.writer.Writer.on_reply.Goals as goal
 
 pub returns-in_default : goal.returns-in_default

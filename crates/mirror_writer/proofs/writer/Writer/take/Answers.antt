@@ -1,4 +1,4 @@
-use Rattle.std.proofs.Common.{◌≡◌, ◌∷◌, [], ◌++◌, refl, arith, subst, sym, ap, ◌∙◌, ◌<◌, ℕ, true, false, Bool, List, length}
+use Rattle.std.proofs.Common.{◌≡◌, ◌∷◌, [], ◌++◌, subst, sym, ap, ◌∙◌, ◌<◌, ℕ, false, List, length}
 use Rattle.mirror_writer.specs.declared.call.TakenWrite.{TakenWrite}
 use Rattle.mirror_writer.specs.Extents.{AddsPlaces}
 use Rattle.mirror_writer.specs.Places.{ArePlacesOf}

@@ -1,11 +1,11 @@
-use Rattle.std.proofs.Common.{ap, sym, subst, ◌∙◌, true, false, Bool, Option, Some, None, List}
+use Rattle.std.proofs.Common.{ap, sym, subst, ◌∙◌, Bool, Some, None, List}
 use Rattle.std.specs.Prelude.{slice_get}
 use Rattle.std.specs.List.{position}
-use Rattle.mirror_writer.specs.Writers.{WriterMirror, WriterValue, next_at, is_some_call}
+use Rattle.mirror_writer.specs.Writers.{WriterValue, next_at, is_some_call}
 use Rattle.mirror_writer.specs.Rooms.{RoomyMirror, mirrors_shown}
 use Rattle.mirror_writer.specs.MirrorSteps.{NextOf}
-use Rattle.mirror_writer.specs.Calls.{IsGone, IsToSend}
-use Rattle.mirror_writer.proofs.WriterSteps.{position_shown, first_place, none_first, none_fenced, to_send_none, to_send_gone, to_send_some}
+use Rattle.mirror_writer.specs.Calls.{IsGone}
+use Rattle.mirror_writer.proofs.WriterSteps.{position_shown, first_place, none_first, to_send_none, to_send_gone, to_send_some}
 use Rattle.mirror_writer.proofs.writer.Writer.to_send.Goals as goal
 
 pub returns-in_default : goal.returns-in_default

@@ -1,4 +1,4 @@
-use Rattle.std.proofs.Common.{◌≡◌, refl, arith, subst, true, false, Bool, List, length}
+use Rattle.std.proofs.Common.{◌≡◌, refl, subst, false, Bool, length}
 use Rattle.mirror_writer.specs.Writers.{WriterValue, overlaps_taken}
 use Rattle.mirror_writer.specs.Extents.{SharesPlace}
 use Rattle.mirror_writer.proofs.PlaceLemmas.{overlap_found, overlap_none}
