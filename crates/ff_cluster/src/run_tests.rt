@@ -58,7 +58,7 @@ replay = bare;deliver 00 = 0 = packet 1 c0 d1 00;delivered 1; = \n\
 replay = bare;deliver 00;no;deliver 01; = 3 = packet 1 c0 d1 00;delivered 1; = line 3\n\
 show = ;# 00;00;- = 0 = record bad 1 short;record bad 0 short; = \n\
 show = #;00;deliver 00; = 3 = record bad 1 short; = line 3\n\
- = no script = 2 =  = usage\n\
+\x20= no script = 2 =  = usage\n\
 replay twice = no script = 2 =  = usage\n\
 Replay = no script = 2 =  = usage\n\
 replay  = no script = 2 =  = usage\n\
