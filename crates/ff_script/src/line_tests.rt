@@ -6,7 +6,7 @@ use std::test::Fail;
 
 /// Lines before the setup and behind it, and what each says there.
 const BEFORE: &str = "\
- => nothing\n\
+\x20=> nothing\n\
 # => nothing\n\
 # bare => nothing\n\
 \x20# spaced => refused\n\
@@ -18,7 +18,7 @@ cluster 1 1 1 => refused\n\
 deliver 0a => refused\n";
 
 const BEHIND: &str = "\
- => nothing\n\
+\x20=> nothing\n\
 # deliver 0a => nothing\n\
 bare => refused\n\
 cluster 1 1 1 => refused\n\
