@@ -15,7 +15,7 @@ use Rattle.cluster_model.specs.declared.layout_state.CopyKind.{CopyKind}
 use Rattle.cluster_model.specs.declared.layout_state.CopyKind.TheVariants.{Replacing, Adding}
 use Rattle.cluster_model.specs.Mirrors.{has_server, are_on_different_servers}
 use Rattle.cluster_model.specs.DsCalls.{DsReplyValue, Created, Set, Written, Committed, Bytes, NotSync, Failed}
-use Rattle.cluster_model.specs.Fences.{is_out, odd_answer}
+use Rattle.cluster_model.specs.Fences.{is_out, odd_status}
 use Rattle.cluster_model.specs.Phases.{ids_of, is_last_live, with_phase, after_loss, freed, has_targets}
 use Rattle.cluster_model.specs.MdsFiles.{Creation, Idle, Settles, Copies, Fresh, stays, a_uid, goes_idle, servers_without, replacing, adding, targets_of, copying, settled, source_left, settling_answered}
 use Rattle.cluster_model.specs.Machine.{file_id}
@@ -169,10 +169,10 @@ module _ (net : Net) (n next_uid files : ℕ) (journal : List Entry) (same : All
           names_none false = refl
 
   pub settling_answer : (copies : CopyKind) (reply : DsReplyValue) → StepOk net journal n next_uid (settling_answered (file_id n) s copies fresh reply)
-  settling_answer copies (Created fileid shown) = plain_source (Error odd_answer) KeptBack
-  settling_answer copies (Set shown) = plain_source (Error odd_answer) KeptBack
-  settling_answer copies (Written shown verifier) = plain_source (Error odd_answer) KeptBack
+  settling_answer copies (Created fileid shown) = plain_source (Error odd_status) KeptBack
+  settling_answer copies (Set shown) = plain_source (Error odd_status) KeptBack
+  settling_answer copies (Written shown verifier) = plain_source (Error odd_status) KeptBack
   settling_answer copies (Committed shown verifier) = settled_ok copies
-  settling_answer copies (Bytes shown eof bytes) = plain_source (Error odd_answer) KeptBack
-  settling_answer copies (NotSync shown) = plain_source (Error odd_answer) KeptBack
+  settling_answer copies (Bytes shown eof bytes) = plain_source (Error odd_status) KeptBack
+  settling_answer copies (NotSync shown) = plain_source (Error odd_status) KeptBack
   settling_answer copies (Failed status shown) = plain_source (Error status) KeptBack

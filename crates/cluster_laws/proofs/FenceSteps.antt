@@ -7,7 +7,7 @@ use Rattle.cluster_model.specs.declared.tick.Tick.{Tick}
 use Rattle.cluster_model.specs.declared.ids.MirrorId.{MirrorId}
 use Rattle.cluster_model.specs.declared.phase.LeftCause.{LeftCause}
 use Rattle.cluster_model.specs.declared.phase.LeftCause.TheVariants.{Unsynced, Error}
-use Rattle.cluster_model.specs.Fences.{odd_answer}
+use Rattle.cluster_model.specs.Fences.{odd_status}
 use Rattle.cluster_model.specs.declared.entry.Entry.{Entry}
 use Rattle.cluster_model.specs.declared.entry.Entry.TheVariants as entry
 use Rattle.cluster_model.specs.declared.ds_call.Shown.{Shown}
@@ -80,7 +80,7 @@ set_same_call a b u v g k e = (cc, cc)
 
 pub answered_ok : (net : Net) (n fresh : ℕ) (m : FenceMirror) (guard : Tick) (call : DsCallValue) (reply : DsReplyValue) → call ≡ SetAttr m.id.fileid fresh guard → IsReplyTo net.servers m.id.server call reply → IsInFence net n fresh m
     → IsInFence net n fresh (answered fresh m reply).mirror
-answered_ok net n fresh m guard call (Created fileid shown) is k h = failed_ok net n fresh m (Error odd_answer) h
+answered_ok net n fresh m guard call (Created fileid shown) is k h = failed_ok net n fresh m (Error odd_status) h
 answered_ok net n fresh m guard call (Set shown) is k h =
     let same = set_same_call k.0.fileid m.id.fileid k.0.uid fresh k.0.guard guard (sym k.0.asked ∙ is) in
     let owned : OwnedFrom net.servers (at_server m.id.server m.id.fileid) fresh =
@@ -90,9 +90,9 @@ answered_ok net n fresh m guard call (Set shown) is k h =
     acked : (s : Option Shown) → IsGiven net.servers m.id.server s → OwnedFrom net.servers m.id fresh → IsInFence net n fresh (acknowledged (having_seen m s)).mirror
     acked None g o = is_acknowledged net n fresh m h o
     acked (Some s) g o = is_acknowledged net n fresh (having_seen m (Some s)) (sees net n fresh m h (Some s) g) o
-answered_ok net n fresh m guard call (Written shown verifier) is k h = failed_ok net n fresh m (Error odd_answer) h
-answered_ok net n fresh m guard call (Committed shown verifier) is k h = failed_ok net n fresh m (Error odd_answer) h
-answered_ok net n fresh m guard call (Bytes shown eof bytes) is k h = failed_ok net n fresh m (Error odd_answer) h
+answered_ok net n fresh m guard call (Written shown verifier) is k h = failed_ok net n fresh m (Error odd_status) h
+answered_ok net n fresh m guard call (Committed shown verifier) is k h = failed_ok net n fresh m (Error odd_status) h
+answered_ok net n fresh m guard call (Bytes shown eof bytes) is k h = failed_ok net n fresh m (Error odd_status) h
 answered_ok net n fresh m guard call (NotSync shown) is k h =
     let seen = sees net n fresh m h (Some shown) k.1 in
     let fileid : target call ≡ m.id.fileid = ap target is in

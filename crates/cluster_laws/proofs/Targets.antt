@@ -15,7 +15,7 @@ use Rattle.cluster_model.specs.declared.call_stage.CallStage.TheVariants.{Waits,
 use Rattle.cluster_model.specs.declared.layout_state.LayoutState.{LayoutState}
 use Rattle.cluster_model.specs.declared.layout_state.LayoutPhase.TheVariants.{Settling, Copying}
 use Rattle.cluster_model.specs.DsCalls.{DsCallValue, Create, DsReplyValue, Created, Set, Written, Committed, Bytes, NotSync, Failed}
-use Rattle.cluster_model.specs.Fences.{is_out, odd_answer}
+use Rattle.cluster_model.specs.Fences.{is_out, odd_status}
 use Rattle.cluster_model.specs.Phases.{ids_of, but_for, is_last_live, is_source, phase_without, after_loss}
 use Rattle.cluster_model.specs.MdsFiles.{Creation, Creations, Settles, Copies, FileStep, nothing, stays, in_stage, made_as, with_creation, creation_of, is_given_up, source_left, target_left, target_failed, target_answered, target_timed_out, target_at, target_by}
 use Rattle.cluster_model.specs.Machine.{file_id}
@@ -116,11 +116,11 @@ module _ (net : Net) (n next_uid : ℕ) (journal : List Entry) (s : LayoutState)
     where
       same_name : (a b : ℕ) → Create a b ≡ Create c.name all.owner → a ≡ c.name
       same_name a b e = cc
-  answers xid server (Set shown) place c there ok call is k = target_fails place (Error odd_answer) (Some c) there
-  answers xid server (Written shown verifier) place c there ok call is k = target_fails place (Error odd_answer) (Some c) there
-  answers xid server (Committed shown verifier) place c there ok call is k = target_fails place (Error odd_answer) (Some c) there
-  answers xid server (Bytes shown eof bytes) place c there ok call is k = target_fails place (Error odd_answer) (Some c) there
-  answers xid server (NotSync shown) place c there ok call is k = target_fails place (Error odd_answer) (Some c) there
+  answers xid server (Set shown) place c there ok call is k = target_fails place (Error odd_status) (Some c) there
+  answers xid server (Written shown verifier) place c there ok call is k = target_fails place (Error odd_status) (Some c) there
+  answers xid server (Committed shown verifier) place c there ok call is k = target_fails place (Error odd_status) (Some c) there
+  answers xid server (Bytes shown eof bytes) place c there ok call is k = target_fails place (Error odd_status) (Some c) there
+  answers xid server (NotSync shown) place c there ok call is k = target_fails place (Error odd_status) (Some c) there
   answers xid server (Failed status shown) place c there ok call is k = target_fails place (Error status) (Some c) there
 
   -- the target whose CREATE has this number

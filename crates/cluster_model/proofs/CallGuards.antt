@@ -11,7 +11,7 @@ use Rattle.cluster_model.specs.declared.tick.Tick.{Tick}
 use Rattle.cluster_model.specs.Ticks.{IsBefore, IsUpTo, next_tick}
 use Rattle.cluster_model.specs.File.{StoredFile, FileOp, Writes, Commits, Sets, Restarts, file_after, clock_after, new_file}
 use Rattle.cluster_model.specs.Server.{ServerState, Caller, Named, Nothing, Root, File, file_at, named, Refusal, Acces, Inval, NotSync as OutOfSync, Fbig, NoSpc, Jukebox, tick_refusal, read_refusal, write_refusal, commit_refusal, set_refusal, differs, index_of, Effect, NoEffect, OnFile, NewFile, with_file, on_file, server_after, entries_of}
-use Rattle.cluster_model.specs.DsCalls.{DsCallValue, Create, SetAttr, Write, Commit, Read, DsReplyValue, Created, Set, DsPlan, refused, unless, owner_changes, ds_plan, ds_step, write_at, commit_at, set_at, read_at, bytes_reply, made_unless, created_by, created_before, mirror_name, shown_by, shown_after}
+use Rattle.cluster_model.specs.DsCalls.{DsCallValue, Create, SetAttr, Write, Commit, Read, DsReplyValue, Created, Set, DsPlan, refusal_reply, unless, owner_changes, ds_plan, ds_step, write_at, commit_at, set_at, read_at, bytes_reply, made_unless, created_by, created_before, mirror_name, shown_by, shown_after}
 use Rattle.cluster_model.specs.ServerLaws.{Does}
 use Rattle.cluster_model.specs.GuardLaws.{IsInOrder, WasAsked, MayCome, Came, Stayed, WasGiven, WasMade, target, Shows, CallLaws}
 use Rattle.cluster_model.proofs.Moments.{keeps_times, up_to_same}
@@ -66,7 +66,7 @@ module _ (files : List StoredFile) (fileid : ℕ) (P : Named → Type 0) (nothin
 seen_file : (s : ServerState) (o : IsInOrder s) (index : ℕ) (f : StoredFile) → slice_get s.files index ≡ Some f → IsUpTo f.times.ctime s.clock
 seen_file s o index f there = (o.files index f there).shown
 
-refused_shows : (s : ServerState) (o : IsInOrder s) (call : DsCallValue) (index : ℕ) (f : StoredFile) (refusal : Refusal) → target call ≡ index + 2 → slice_get s.files index ≡ Some f → Shows s call (refused refusal (shown_by f))
+refused_shows : (s : ServerState) (o : IsInOrder s) (call : DsCallValue) (index : ℕ) (f : StoredFile) (refusal : Refusal) → target call ≡ index + 2 → slice_get s.files index ≡ Some f → Shows s call (refusal_reply refusal (shown_by f))
 refused_shows s o call index f OutOfSync place there = record { index = index; place = place; file = f; there = there; owner = refl; seen = seen_file s o index f there }
 refused_shows s o call index f Acces place there = seen_file s o index f there
 refused_shows s o call index f Inval place there = seen_file s o index f there

@@ -76,24 +76,24 @@ refusal_number NoSpc = 28
 refusal_number OutOfSync = 10002
 refusal_number Jukebox = 10008
 
-abbrev pub refused : Refusal → Shown → DsReplyValue
-refused OutOfSync shown = NotSync shown
-refused Acces shown = Failed (refusal_number Acces) (Some shown)
-refused Inval shown = Failed (refusal_number Inval) (Some shown)
-refused Fbig shown = Failed (refusal_number Fbig) (Some shown)
-refused NoSpc shown = Failed (refusal_number NoSpc) (Some shown)
-refused Jukebox shown = Failed (refusal_number Jukebox) (Some shown)
+abbrev pub refusal_reply : Refusal → Shown → DsReplyValue
+refusal_reply OutOfSync shown = NotSync shown
+refusal_reply Acces shown = Failed (refusal_number Acces) (Some shown)
+refusal_reply Inval shown = Failed (refusal_number Inval) (Some shown)
+refusal_reply Fbig shown = Failed (refusal_number Fbig) (Some shown)
+refusal_reply NoSpc shown = Failed (refusal_number NoSpc) (Some shown)
+refusal_reply Jukebox shown = Failed (refusal_number Jukebox) (Some shown)
 
 -- STALE 70 at nothing, INVAL at the root
 abbrev pub no_file : DsReplyValue
 no_file = Failed 70 None
 
 abbrev pub at_root : ServerState → DsReplyValue
-at_root s = refused Inval (shown_root s.root)
+at_root s = refusal_reply Inval (shown_root s.root)
 
 -- what is done to a file, unless it is refused, and what is replied then
 abbrev pub unless : StoredFile → Option Refusal → DsReplyValue → Effect → DsPlan
-unless f (Some refusal) reply does = replies (refused refusal (shown_by f))
+unless f (Some refusal) reply does = replies (refusal_reply refusal (shown_by f))
 unless f None reply does = record { reply = reply; effect = does }
 
 -- the file as it is shown then

@@ -66,8 +66,8 @@ abbrev pub max_unsynced : ℕ
 max_unsynced = 8
 
 -- the error that an answer counts as which no server gives to this call
-abbrev pub odd_answer : ℕ
-odd_answer = 10006
+abbrev pub odd_status : ℕ
+odd_status = 10006
 
 -- a mirror and what came to pass there
 pub record MirrorStep : Type 0 where
@@ -101,10 +101,10 @@ abbrev pub answered : ℕ → FenceMirror → DsReplyValue → MirrorStep
 answered fresh m (Set shown) = acknowledged (having_seen m shown)
 answered fresh m (NotSync shown) = if shown.owner.0 == fresh then acknowledged (having_seen m (Some shown)) else out_of_sync (having_seen m (Some shown))
 answered fresh m (Failed status shown) = failed_by (having_seen m shown) (Error status)
-answered fresh m (Created fileid shown) = failed_by m (Error odd_answer)
-answered fresh m (Written shown verifier) = failed_by m (Error odd_answer)
-answered fresh m (Committed shown verifier) = failed_by m (Error odd_answer)
-answered fresh m (Bytes shown eof bytes) = failed_by m (Error odd_answer)
+answered fresh m (Created fileid shown) = failed_by m (Error odd_status)
+answered fresh m (Written shown verifier) = failed_by m (Error odd_status)
+answered fresh m (Committed shown verifier) = failed_by m (Error odd_status)
+answered fresh m (Bytes shown eof bytes) = failed_by m (Error odd_status)
 
 -- A timeout: the same record is sent again twice; behind the third timeout it is kept.
 abbrev pub stage_timed_out : FenceMirror → CallStage → MirrorStep

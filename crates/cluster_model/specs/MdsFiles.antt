@@ -24,7 +24,7 @@ use Rattle.cluster_model.specs.declared.layout_state.CopyKind.{CopyKind}
 use Rattle.cluster_model.specs.declared.layout_state.CopyKind.TheVariants.{Replacing, Adding}
 use Rattle.cluster_model.specs.Mirrors.{has_server}
 use Rattle.cluster_model.specs.DsCalls.{DsReplyValue, Created, Set, Written, Committed, Bytes, NotSync, Failed}
-use Rattle.cluster_model.specs.Fences.{is_out, is_over, odd_answer, FenceState, fence_of, outstanding_at, on_reply, on_timeout, without, is_done}
+use Rattle.cluster_model.specs.Fences.{is_out, is_over, odd_status, FenceState, fence_of, outstanding_at, on_reply, on_timeout, without, is_done}
 use Rattle.cluster_model.specs.Phases.{seen_at, is_last_live, with_live, PhaseStep, made, mirror_left, fence_done, settled_row, SwappedIn, copied, has_targets}
 
 -- ---- files that are made at data servers: those of a new file, and the targets of a copy
@@ -250,12 +250,12 @@ source_left file layout (m ∷ live) cause kept =
 
 -- an answer to the COMMIT, and a timeout of it
 abbrev pub settling_answered : FileId → LayoutState → CopyKind → Fresh → DsReplyValue → FileStep
-settling_answered file layout copies fresh (Created fileid shown) = source_left file layout layout.live (Error odd_answer) KeptBack
-settling_answered file layout copies fresh (Set shown) = source_left file layout layout.live (Error odd_answer) KeptBack
-settling_answered file layout copies fresh (Written shown verifier) = source_left file layout layout.live (Error odd_answer) KeptBack
+settling_answered file layout copies fresh (Created fileid shown) = source_left file layout layout.live (Error odd_status) KeptBack
+settling_answered file layout copies fresh (Set shown) = source_left file layout layout.live (Error odd_status) KeptBack
+settling_answered file layout copies fresh (Written shown verifier) = source_left file layout layout.live (Error odd_status) KeptBack
 settling_answered file layout copies fresh (Committed shown verifier) = settled file layout copies fresh
-settling_answered file layout copies fresh (Bytes shown eof bytes) = source_left file layout layout.live (Error odd_answer) KeptBack
-settling_answered file layout copies fresh (NotSync shown) = source_left file layout layout.live (Error odd_answer) KeptBack
+settling_answered file layout copies fresh (Bytes shown eof bytes) = source_left file layout layout.live (Error odd_status) KeptBack
+settling_answered file layout copies fresh (NotSync shown) = source_left file layout layout.live (Error odd_status) KeptBack
 settling_answered file layout copies fresh (Failed status shown) = source_left file layout layout.live (Error status) KeptBack
 
 abbrev pub settling_timed_out : FileId → LayoutState → CallStage → FileStep
@@ -294,11 +294,11 @@ target_failed file layout all place cause (Some c) =
 -- an answer to a target's CREATE
 abbrev pub target_answered : FileId → LayoutState → Creations → ℕ → Creation → DsReplyValue → FileStep
 target_answered file layout all place c (Created fileid shown) = stays layout (Copies (with_creation all place (made_as c fileid shown.seen)))
-target_answered file layout all place c (Set shown) = target_failed file layout all place (Error odd_answer) (Some c)
-target_answered file layout all place c (Written shown verifier) = target_failed file layout all place (Error odd_answer) (Some c)
-target_answered file layout all place c (Committed shown verifier) = target_failed file layout all place (Error odd_answer) (Some c)
-target_answered file layout all place c (Bytes shown eof bytes) = target_failed file layout all place (Error odd_answer) (Some c)
-target_answered file layout all place c (NotSync shown) = target_failed file layout all place (Error odd_answer) (Some c)
+target_answered file layout all place c (Set shown) = target_failed file layout all place (Error odd_status) (Some c)
+target_answered file layout all place c (Written shown verifier) = target_failed file layout all place (Error odd_status) (Some c)
+target_answered file layout all place c (Committed shown verifier) = target_failed file layout all place (Error odd_status) (Some c)
+target_answered file layout all place c (Bytes shown eof bytes) = target_failed file layout all place (Error odd_status) (Some c)
+target_answered file layout all place c (NotSync shown) = target_failed file layout all place (Error odd_status) (Some c)
 target_answered file layout all place c (Failed status shown) = target_failed file layout all place (Error status) (Some c)
 
 abbrev pub target_timed_out : FileId → LayoutState → Creations → ℕ → Creation → CallStage → FileStep

@@ -7,7 +7,7 @@ use Rattle.std.proofs.lemmas.Option.{slice_get_within}
 use Rattle.cluster_model.specs.declared.tick.Tick.{Tick}
 use Rattle.cluster_model.specs.File.{StoredFile, taken}
 use Rattle.cluster_model.specs.Server.{ServerState, Named, Nothing, Root, File, named, index_of, Caller, Refusal, Acces, Inval, NotSync as OutOfSync, Fbig, NoSpc, Jukebox, tick_refusal, may_read, may_write, max_ticks, max_file, max_total, total_size, read_refusal, room_refusal, write_refusal, commit_refusal, set_refusal, bytes_read, Effect}
-use Rattle.cluster_model.specs.DsCalls.{DsCallValue, Create, SetAttr, Write, Commit, Read, DsReplyValue, DsPlan, shown_by, refused, unless, write_at, commit_at, set_at, read_at, created_before, created_by, made_unless, mirror_name, ds_plan}
+use Rattle.cluster_model.specs.DsCalls.{DsCallValue, Create, SetAttr, Write, Commit, Read, DsReplyValue, DsPlan, shown_by, refusal_reply, unless, write_at, commit_at, set_at, read_at, created_before, created_by, made_unless, mirror_name, ds_plan}
 use Rattle.ds_calls.specs.DsCallLaws.{IsAnswerTo}
 
 abbrev asks_again : Option Refusal → Bool
@@ -29,14 +29,14 @@ write_again : (s : ServerState) (index : ℕ) (f : StoredFile) (caller : Caller)
 write_again s index f caller at bytes = either (not (may_write f caller)) (Some Acces) (room_refusal s index f at bytes) refl (room_again s index f at bytes)
 
 unless_answers : (call : DsCallValue) (f : StoredFile) (refusal : Option Refusal) (reply : DsReplyValue) (does : Effect)
-    → ((r : Refusal) → refusal ≡ Some r → IsAnswerTo call (refused r (shown_by f))) → IsAnswerTo call reply → IsAnswerTo call (unless f refusal reply does).reply
+    → ((r : Refusal) → refusal ≡ Some r → IsAnswerTo call (refusal_reply r (shown_by f))) → IsAnswerTo call reply → IsAnswerTo call (unless f refusal reply does).reply
 unless_answers call f None reply does refuses done = done
 unless_answers call f (Some r) reply does refuses done = refuses r refl
 
 -- a call whose refusals are all but NOT_SYNC
 plain_refusal : (call : DsCallValue) (refusal : Option Refusal) → asks_again refusal ≡ false → (f : StoredFile)
-    → IsAnswerTo call (refused Acces (shown_by f)) → IsAnswerTo call (refused Inval (shown_by f)) → IsAnswerTo call (refused Fbig (shown_by f)) → IsAnswerTo call (refused NoSpc (shown_by f)) → IsAnswerTo call (refused Jukebox (shown_by f))
-    → (r : Refusal) → refusal ≡ Some r → IsAnswerTo call (refused r (shown_by f))
+    → IsAnswerTo call (refusal_reply Acces (shown_by f)) → IsAnswerTo call (refusal_reply Inval (shown_by f)) → IsAnswerTo call (refusal_reply Fbig (shown_by f)) → IsAnswerTo call (refusal_reply NoSpc (shown_by f)) → IsAnswerTo call (refusal_reply Jukebox (shown_by f))
+    → (r : Refusal) → refusal ≡ Some r → IsAnswerTo call (refusal_reply r (shown_by f))
 plain_refusal call refusal never f a i b n j Acces is = a
 plain_refusal call refusal never f a i b n j Inval is = i
 plain_refusal call refusal never f a i b n j OutOfSync is = absurd (not_both (sym never ∙ ap asks_again is))
@@ -75,7 +75,7 @@ set_answers s caller fileid owner guard Nothing = (refl, λ e. omega (arith, e))
 set_answers s caller fileid owner guard Root = (refl, λ e. omega (arith, e))
 set_answers s caller fileid owner guard (File index f) = unless_answers (SetAttr fileid owner guard) f (set_refusal s f caller true (Some guard)) _ _ each tt
   where
-    each : (r : Refusal) → set_refusal s f caller true (Some guard) ≡ Some r → IsAnswerTo (SetAttr fileid owner guard) (refused r (shown_by f))
+    each : (r : Refusal) → set_refusal s f caller true (Some guard) ≡ Some r → IsAnswerTo (SetAttr fileid owner guard) (refusal_reply r (shown_by f))
     each Acces is = (refl, λ e. omega (arith, e))
     each Inval is = (refl, λ e. omega (arith, e))
     each OutOfSync is = tt

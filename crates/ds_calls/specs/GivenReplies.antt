@@ -17,10 +17,11 @@ use Rattle.nfs3_wire.specs.Read.{read_result}
 use Rattle.cluster_model.specs.declared.ds_call.Shown.{Shown}
 use Rattle.cluster_model.specs.DsCalls.{DsCallValue, DsReplyValue, Created, Set, Written, Committed, Bytes, NotSync, Failed}
 use Rattle.cluster_model.specs.DsCalls as ds
+use Rattle.cluster_model.specs.Fences.{odd_status}
 
 -- a reply that no server gives by the standard counts as SERVERFAULT (section 2.6), and nothing in it is relied on
 abbrev pub odd_answer : DsReplyValue
-odd_answer = Failed 10006 None
+odd_answer = Failed odd_status None
 
 -- ---- what attributes show (section 2.5): the user, the ctime as a tick, the size
 

@@ -17,7 +17,7 @@ use Rattle.ff_world.specs.World.{WorldState, WorldValue, preset_world, world_ste
 use Rattle.ff_replay.specs.Script.{LinePlayed, played, played_by, played_step, entries_by, setup_of, world_of, count_of}
 use Rattle.line_runs.specs.Writing.{IsBeginningOf}
 use Rattle.ff_replay.specs.Writing.{PrintsText}
-use Rattle.ff_replay.specs.Player.{PlayerValue, value_of, PlayerState, with_trace, GoesFrom, PlayerStopsAtLimit, PlayerPrintedPart, PlayerPlays}
+use Rattle.ff_replay.specs.Player.{PlayerValue, player_of, PlayerState, with_trace, GoesFrom, PlayerStopsAtLimit, PlayerPrintedPart, PlayerPlays}
 
 pub print_append : (xs ys : List Entry) → print (xs ++ ys) ≡ print xs ++ print ys
 print_append [] ys = refl
@@ -53,14 +53,14 @@ begun_in_part old new w next event entries (Err z) e failed at occurs prints =
     }
 
 -- what a view says of the world
-at_world : (old : PlayerValue) (stage : Option WorldValue) (w : WorldValue) → value_of stage ≡ old → stage ≡ Some w → old.stage ≡ Some w.world
-at_world old stage w view is = sym (ap (λ (p : PlayerValue). p.stage) view) ∙ ap (λ s. (value_of s).stage) is
+at_world : (old : PlayerValue) (stage : Option WorldValue) (w : WorldValue) → player_of stage ≡ old → stage ≡ Some w → old.stage ≡ Some w.world
+at_world old stage w view is = sym (ap (λ (p : PlayerValue). p.stage) view) ∙ ap (λ s. (player_of s).stage) is
 
-not_spent : (old : PlayerValue) (stage : Option WorldValue) (w : WorldValue) → value_of stage ≡ old → stage ≡ Some w → old.spent ≡ None → w.spent ≡ None
-not_spent old stage w view is fresh = sym (ap (λ s. (value_of s).spent) is) ∙ ap (λ (p : PlayerValue). p.spent) view ∙ fresh
+not_spent : (old : PlayerValue) (stage : Option WorldValue) (w : WorldValue) → player_of stage ≡ old → stage ≡ Some w → old.spent ≡ None → w.spent ≡ None
+not_spent old stage w view is fresh = sym (ap (λ s. (player_of s).spent) is) ∙ ap (λ (p : PlayerValue). p.spent) view ∙ fresh
 
 pub happens_in_part : (old new : PlayerValue) (stage : Option WorldValue) (trace trace' : List ℕ) (w next : WorldValue) (event : EventValue) (entries : List Entry) (printed : Result (Unit {0}) NoMemory) (e : NoMemory) (r : Result Played NoMemory) (y : NoMemory)
-    → value_of stage ≡ old → stage ≡ Some w → printed ≡ Err e → r ≡ Err y → (w.spent ≡ None → Occurs w.world event [] next entries) → PrintsText trace (print entries) printed trace'
+    → player_of stage ≡ old → stage ≡ Some w → printed ≡ Err e → r ≡ Err y → (w.spent ≡ None → Occurs w.world event [] next entries) → PrintsText trace (print entries) printed trace'
     → old.spent ≡ None → PlayerPlays (with_trace old trace) (played_step (world_step (world_of old.stage) event)) r (with_trace new trace')
 happens_in_part old new stage trace trace' w next event entries printed e (Ok x) y view is failed so occurs prints fresh = absurd (cc)
 happens_in_part old new stage trace trace' w next event entries printed e (Err z) y view is failed so occurs prints fresh =
@@ -68,7 +68,7 @@ happens_in_part old new stage trace trace' w next event entries printed e (Err z
 
 -- an event whose entries are printed
 pub happens_all : (old : PlayerValue) (stage : Option WorldValue) (trace out : List ℕ) (w next : WorldValue) (event : EventValue) (entries : List Entry)
-    → value_of stage ≡ old → stage ≡ Some w → (w.spent ≡ None → Occurs w.world event [] next entries) → out ≡ trace ++ print entries
+    → player_of stage ≡ old → stage ≡ Some w → (w.spent ≡ None → Occurs w.world event [] next entries) → out ≡ trace ++ print entries
     → old.spent ≡ None → GoesFrom (with_trace old trace) (played_step (world_step (world_of old.stage) event)) (record { stage = Some next.world; spent = next.spent; trace = out })
 happens_all old stage trace out w next event entries view is occurs prints fresh =
     let at = at_world old stage w view is in
@@ -84,7 +84,7 @@ happens_all old stage trace out w next event entries view is occurs prints fresh
 
 -- an event that would pass a limit
 pub happens_not : (old : PlayerValue) (new : PlayerState) (stage : Option WorldValue) (trace : List ℕ) (w next : WorldValue) (event : EventValue) (count : ℕ)
-    → value_of stage ≡ old → stage ≡ Some w → (w.spent ≡ None → Stays w.world event count next) → new.trace ≡ trace
+    → player_of stage ≡ old → stage ≡ Some w → (w.spent ≡ None → Stays w.world event count next) → new.trace ≡ trace
     → old.spent ≡ None → PlayerStopsAtLimit (with_trace old trace) (played_step (world_step (world_of old.stage) event)) count new
 happens_not old new stage trace w next event count view is stays same fresh =
     let at = at_world old stage w view is in
@@ -155,7 +155,7 @@ setup_first (Some Bare) text says which parsed is = absurd (none_is text which (
     none_is (c ∷ rest) which h = not_event (c == 35) (event_at (c ∷ rest)) which h
 
 -- and then nothing is spent
-pub fresh_before : (old : PlayerValue) (stage : Option WorldValue) → value_of stage ≡ old → setup_of old.stage ≡ None → old.spent ≡ None
+pub fresh_before : (old : PlayerValue) (stage : Option WorldValue) → player_of stage ≡ old → setup_of old.stage ≡ None → old.spent ≡ None
 fresh_before old None view none = sym (ap (λ (p : PlayerValue). p.spent) view)
 fresh_before old (Some w) view none =
     let at : Some w.world ≡ old.stage = ap (λ (p : PlayerValue). p.stage) view in

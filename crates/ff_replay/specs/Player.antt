@@ -15,9 +15,9 @@ pub record PlayerValue : Type 0 where
   pub stage : Option WorldState
   pub spent : Option WorldFault
 
-abbrev pub value_of : Option WorldValue → PlayerValue
-value_of None = record { stage = None; spent = None }
-value_of (Some w) = record { stage = Some w.world; spent = w.spent }
+abbrev pub player_of : Option WorldValue → PlayerValue
+player_of None = record { stage = None; spent = None }
+player_of (Some w) = record { stage = Some w.world; spent = w.spent }
 
 -- the same, with the text of its journal that is not yet written
 pub record PlayerState : Type 0 where

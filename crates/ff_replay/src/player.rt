@@ -22,11 +22,11 @@ pub struct Player {
 }
 
 impl Model for Player {
-    ghost use Rattle.ff_replay.specs.Player.{PlayerValue, value_of};
+    ghost use Rattle.ff_replay.specs.Player.{PlayerValue, player_of};
 
     ghost Value = { PlayerValue };
 
-    ghost view = { λ p. value_of p.stage };
+    ghost view = { λ p. player_of p.stage };
 }
 
 impl Player {

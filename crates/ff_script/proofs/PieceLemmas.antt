@@ -6,7 +6,7 @@ use Rattle.cluster_model.specs.declared.piece.Piece.{Piece}
 use Rattle.line_runs.specs.Lines.{onto_first}
 use Rattle.std.specs.Prelude.{decimal, IfSome, IfNone}
 use Rattle.std.specs.Str.{bytes_eq}
-use Rattle.ff_script.specs.Pieces.{◌>>=◌, value_of, decimal_at, parts, piece_from, piece_at, pieces_from, pieces_at, listed, all_listed, spelled_pieces}
+use Rattle.ff_script.specs.Pieces.{◌>>=◌, decimal_value, decimal_at, parts, piece_from, piece_at, pieces_from, pieces_at, listed, all_listed, spelled_pieces}
 
 -- ---- parts between separators
 
@@ -116,15 +116,15 @@ pub number_long : (text : List ℕ) → 10 < length text → decimal_at text ≡
 unfolding decimal_at
 number_long text long = rw (lt-leb (length text) 10 long) refl
 
-pub number_big : (text : List ℕ) → 2 ^ 32 ≤ value_of 0 text → decimal_at text ≡ None
+pub number_big : (text : List ℕ) → 2 ^ 32 ≤ decimal_value 0 text → decimal_at text ≡ None
 unfolding decimal_at
 number_big text big =
-    rw (le-ltb (value_of 0 text) (2 ^ 32) big) (elim (nat_le (length text) 10) as (λ b. cond (b && false && bytes_eq (decimal (value_of 0 text)) text) (Some (value_of 0 text)) None ≡ None) [ true ↦ refl | false ↦ refl ])
+    rw (le-ltb (decimal_value 0 text) (2 ^ 32) big) (elim (nat_le (length text) 10) as (λ b. cond (b && false && bytes_eq (decimal (decimal_value 0 text)) text) (Some (decimal_value 0 text)) None ≡ None) [ true ↦ refl | false ↦ refl ])
 
-pub number_fits : (text : List ℕ) → length text ≤ 10 → value_of 0 text < 2 ^ 32
-    → decimal_at text ≡ cond (bytes_eq (decimal (value_of 0 text)) text) (Some (value_of 0 text)) None
+pub number_fits : (text : List ℕ) → length text ≤ 10 → decimal_value 0 text < 2 ^ 32
+    → decimal_at text ≡ cond (bytes_eq (decimal (decimal_value 0 text)) text) (Some (decimal_value 0 text)) None
 unfolding decimal_at
-number_fits text short fits = rw (le-leb (length text) 10 short, lt-ltb (value_of 0 text) (2 ^ 32) fits) refl
+number_fits text short fits = rw (le-leb (length text) 10 short, lt-ltb (decimal_value 0 text) (2 ^ 32) fits) refl
 
 -- ---- what a cut shows
 

@@ -11,14 +11,14 @@ None >>= f = None
 (Some a) >>= f = f a
 
 -- what digits come to behind a number
-abbrev pub value_of : ℕ → List ℕ → ℕ
-value_of n [] = n
-value_of n (c ∷ cs) = value_of (n * 10 + (c - 48)) cs
+abbrev pub decimal_value : ℕ → List ℕ → ℕ
+decimal_value n [] = n
+decimal_value n (c ∷ cs) = decimal_value (n * 10 + (c - 48)) cs
 
 -- A number of at most ten digits and below 2^32: the text is its decimal, so it has no leading zero.
 unfoldable pub decimal_at : List ℕ → Option ℕ
 decimal_at text =
-    let n = value_of 0 text in
+    let n = decimal_value 0 text in
     if nat_le (length text) 10 && nat_lt n (2 ^ 32) && bytes_eq (decimal n) text then Some n else None
 
 -- the parts of a text between separators

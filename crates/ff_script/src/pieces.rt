@@ -1,7 +1,7 @@
 //! Pieces of pending writes, as text.
 
 ghost use Rattle.std.specs.Prelude.{◌≡◌, ◌≤◌, ◌<◌, ◌∷◌, [], ◌++◌, length, IfOk, IfSome, IfNone, is_some};
-ghost use Rattle.ff_script.specs.Pieces.{value_of, decimal_at, parts, piece_from, piece_at, pieces_at, listed};
+ghost use Rattle.ff_script.specs.Pieces.{decimal_value, decimal_at, parts, piece_from, piece_at, pieces_at, listed};
 
 use cluster_model::Piece;
 use ff_xdr::NoMemory;
@@ -14,9 +14,9 @@ use std::marker::Model;
 const DIGITS: usize = 10;
 
 /// What digits come to.
-fn value_of(text: &[u8]) -> u64
+fn decimal_value(text: &[u8]) -> u64
     requires { length text.now ≤ DIGITS }
-    ensures { result ≡ value_of 0 text.now }
+    ensures { result ≡ decimal_value 0 text.now }
 {
     let mut value = 0;
     for c in text {
@@ -32,7 +32,7 @@ fn decimal_at(text: &[u8]) -> Option<u32>
     if text.len() > DIGITS {
         return None;
     }
-    let number = u32::try_from(value_of(text)).ok()?;
+    let number = u32::try_from(decimal_value(text)).ok()?;
     let mut buffer = Buffer::new();
     (buffer.format(number).as_bytes() == text).then_some(number)
 }

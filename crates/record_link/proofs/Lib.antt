@@ -1,4 +1,4 @@
-pub mod PendingLemmas
+pub mod OutgoingLemmas
 pub mod ConnectionLemmas
 pub mod RankLemmas
 pub mod ConnectionsLemmas

@@ -7,7 +7,7 @@ ghost use Rattle.record_link.specs.Stream.{Comes};
 ghost use Rattle.record_link.specs.Connection.{new_connection, is_refused, is_spent, has_served_all, Fills, Advances, Hands, PutsAnswer, Drains, HasCome, HasGone};
 
 use crate::ahead::Ahead;
-use crate::pending::Pending;
+use crate::outgoing::Outgoing;
 use crate::stream::{Halt, Stream};
 use ff_xdr::{Data, NoMemory};
 use rpc_record::{Frames, RecordFault};
@@ -30,7 +30,7 @@ pub struct Connection {
     whole: Option<Data>,
     refused: bool,
     ahead: Ahead,
-    to_go: Pending,
+    to_go: Outgoing,
     unanswered: u64,
     ended: bool,
 }
@@ -57,7 +57,7 @@ impl Connection {
             whole: None,
             refused: false,
             ahead: Ahead::new(alloc),
-            to_go: Pending::new(alloc),
+            to_go: Outgoing::new(alloc),
             unanswered: 0,
             ended: false,
         }

@@ -4,9 +4,9 @@ ghost use Rattle.std.specs.Prelude.{◌≡◌, ◌≤◌, ◌<◌, ◌+◌, max,
 ghost use Rattle.rpc_record.specs.Frames.{is_whole};
 ghost use Rattle.rpc_record.specs.Stream.{one_more};
 ghost use Rattle.record_link.specs.declared.rank.Rank.{Rank};
-ghost use Rattle.record_link.specs.Connections.{HasNone, IsNumberOf, no_connections, at_time, OpensConnection, Closes, Crowds, FillsOf, HandsOut, AnswersOf, DrainsOf, with_entries, wants_bytes, Asks};
+ghost use Rattle.record_link.specs.Connections.{HasNone, IsNumberOf, no_connections, at_time, OpensConnection, Closes, Crowds, FillsOf, HandsOut, AnswersOf, DrainsOf, with_peers, wants_bytes, Asks};
 
-use crate::entry::Entry;
+use crate::peer::Peer;
 use crate::rank::{Rank, least};
 use crate::stream::{Halt, Stream};
 use ff_xdr::{Data, NoMemory};
@@ -21,7 +21,7 @@ pub const MAX_CONNECTIONS: usize = 64;
 #[derive(Drop)]
 pub struct Connections {
     alloc: Global,
-    entries: Vec<Entry>,
+    peers: Vec<Peer>,
     given: u32,
     orders: u64,
     time: u64,
@@ -32,24 +32,24 @@ impl Model for Connections {
 
     ghost Value = { ConnectionsState };
 
-    ghost view = { λ c. record { entries = c.entries.items; given = c.given; orders = c.orders; time = c.time } };
+    ghost view = { λ c. record { peers = c.peers.items; given = c.given; orders = c.orders; time = c.time } };
 }
 
 /// Reads once from the stream of the connection of this number. One that is gone is lost.
 fn fill_of<S: Stream>(
-    entries: &mut [Entry],
+    peers: &mut [Peer],
     number: u32,
     stream: &mut S,
     now: u64,
     order: u64,
 ) -> Result<(), Halt>
-    ensures told { FillsOf number now order entries.old (S.coming stream.old) result entries.new (S.coming stream.new) }
+    ensures told { FillsOf number now order peers.old (S.coming stream.old) result peers.new (S.coming stream.new) }
     ensures gone { S.gone stream.new ≡ S.gone stream.old }
 {
-    match least(entries, Rank::Numbered(number)) {
+    match least(peers, Rank::Numbered(number)) {
         Some(place) => {
-            let entry = &mut entries[place];
-            entry.fill(stream, now, order)
+            let peer = &mut peers[place];
+            peer.fill(stream, now, order)
         }
         None => Err(Halt::Lost),
     }
@@ -57,32 +57,32 @@ fn fill_of<S: Stream>(
 
 /// Writes what is to go on the connection of this number to its stream. One that is gone is lost.
 fn drain_of<S: Stream>(
-    entries: &mut [Entry],
+    peers: &mut [Peer],
     number: u32,
     stream: &mut S,
     now: u64,
 ) -> Result<(), Halt>
-    ensures told { DrainsOf number now entries.old (S.gone stream.old) result entries.new (S.gone stream.new) }
+    ensures told { DrainsOf number now peers.old (S.gone stream.old) result peers.new (S.gone stream.new) }
     ensures coming { S.coming stream.new ≡ S.coming stream.old }
 {
-    match least(entries, Rank::Numbered(number)) {
+    match least(peers, Rank::Numbered(number)) {
         Some(place) => {
-            let entry = &mut entries[place];
-            entry.drain(stream, now)
+            let peer = &mut peers[place];
+            peer.drain(stream, now)
         }
         None => Err(Halt::Lost),
     }
 }
 
 /// Hands out the record that became whole first, of those that may be handed out.
-fn hand_out_of(entries: &mut [Entry], order: u64) -> Result<Option<(u32, Data)>, NoMemory>
-    ensures { HandsOut order entries.old result entries.new }
+fn hand_out_of(peers: &mut [Peer], order: u64) -> Result<Option<(u32, Data)>, NoMemory>
+    ensures { HandsOut order peers.old result peers.new }
 {
-    match least(entries, Rank::Ready) {
+    match least(peers, Rank::Ready) {
         Some(place) => {
-            let entry = &mut entries[place];
-            let number = entry.number;
-            match entry.hand_out(order) {
+            let peer = &mut peers[place];
+            let number = peer.number;
+            match peer.hand_out(order) {
                 Ok(Some(message)) => Ok(Some((number, message))),
                 Ok(None) => Ok(None),
                 Err(NoMemory) => Err(NoMemory),
@@ -93,47 +93,47 @@ fn hand_out_of(entries: &mut [Entry], order: u64) -> Result<Option<(u32, Data)>,
 }
 
 /// Puts the record of an answer behind what is to go on the connection of this number.
-fn answer_of(entries: &mut [Entry], number: u32, message: &[u8], now: u64) -> Result<(), NoMemory>
-    ensures { AnswersOf number now entries.old message.now result entries.new }
+fn answer_of(peers: &mut [Peer], number: u32, message: &[u8], now: u64) -> Result<(), NoMemory>
+    ensures { AnswersOf number now peers.old message.now result peers.new }
 {
     if message.len() > MAX_RECORD {
         return Ok(());
     }
-    match least(entries, Rank::Numbered(number)) {
+    match least(peers, Rank::Numbered(number)) {
         Some(place) => {
-            let entry = &mut entries[place];
-            entry.answer(message, now)
+            let peer = &mut peers[place];
+            peer.answer(message, now)
         }
         None => Ok(()),
     }
 }
 
 /// Whether more is to be read on the connection of this number.
-fn asks_bytes(entries: &[Entry], number: u32) -> bool
-    ensures { Asks number wants_bytes entries.now result }
+fn asks_bytes(peers: &[Peer], number: u32) -> bool
+    ensures { Asks number wants_bytes peers.now result }
 {
-    match least(entries, Rank::Numbered(number)) {
-        Some(place) => entries[place].wants_bytes(),
+    match least(peers, Rank::Numbered(number)) {
+        Some(place) => peers[place].wants_bytes(),
         None => false,
     }
 }
 
 /// Whether a record of the connection of this number waits.
-fn asks_record(entries: &[Entry], number: u32) -> bool
-    ensures { Asks number (λ e. is_whole e.connection.front) entries.now result }
+fn asks_record(peers: &[Peer], number: u32) -> bool
+    ensures { Asks number (λ e. is_whole e.connection.front) peers.now result }
 {
-    match least(entries, Rank::Numbered(number)) {
-        Some(place) => entries[place].connection.is_whole(),
+    match least(peers, Rank::Numbered(number)) {
+        Some(place) => peers[place].connection.is_whole(),
         None => false,
     }
 }
 
-/// The number of the first entry by a rank.
-fn number_of(entries: &[Entry], rank: Rank) -> Option<u32>
-    ensures { MatchOption result (HasNone rank entries.now) (λ n. IsNumberOf rank entries.now n) }
+/// The number of the first peer by a rank.
+fn number_of(peers: &[Peer], rank: Rank) -> Option<u32>
+    ensures { MatchOption result (HasNone rank peers.now) (λ n. IsNumberOf rank peers.now n) }
 {
-    match least(entries, rank) {
-        Some(place) => Some(entries[place].number),
+    match least(peers, rank) {
+        Some(place) => Some(peers[place].number),
         None => None,
     }
 }
@@ -145,7 +145,7 @@ impl Connections {
     {
         Connections {
             alloc,
-            entries: Vec::new(alloc),
+            peers: Vec::new(alloc),
             given: 0,
             orders: 0,
             time: 0,
@@ -164,24 +164,24 @@ impl Connections {
     pub fn open(&mut self) -> Result<Option<u32>, NoMemory>
         ensures { OpensConnection self.old result self.new }
     {
-        if self.entries.len() >= MAX_CONNECTIONS || self.given == u32::MAX {
+        if self.peers.len() >= MAX_CONNECTIONS || self.given == u32::MAX {
             return Ok(None);
         }
         let number = self.given + 1;
-        self.entries
-            .push(Entry::new(self.alloc, number, self.time))?;
+        self.peers
+            .push(Peer::new(self.alloc, number, self.time))?;
         self.given = number;
         Ok(Some(number))
     }
 
     /// Closes the connection of this number, and answers whether it was there.
     pub fn close(&mut self, number: u32) -> bool
-        ensures told { Closes number self.old.entries result self.new.entries }
-        ensures rest { self.new ≡ with_entries self.old self.new.entries self.old.orders }
+        ensures told { Closes number self.old.peers result self.new.peers }
+        ensures rest { self.new ≡ with_peers self.old self.new.peers self.old.orders }
     {
-        match least(&self.entries, Rank::Numbered(number)) {
+        match least(&self.peers, Rank::Numbered(number)) {
             Some(place) => {
-                self.entries.remove(place);
+                self.peers.remove(place);
                 true
             }
             None => false,
@@ -191,78 +191,78 @@ impl Connections {
     /// The connection to close before another is opened: where as many are open as may be, the longest
     /// silent.
     pub fn crowded(&self) -> Option<u32>
-        ensures { Crowds self.now.entries result }
+        ensures { Crowds self.now.peers result }
     {
-        if self.entries.len() < MAX_CONNECTIONS {
+        if self.peers.len() < MAX_CONNECTIONS {
             return None;
         }
-        number_of(&self.entries, Rank::Silent)
+        number_of(&self.peers, Rank::Silent)
     }
 
     /// Whether more is to be read on the connection of this number: it is open, no record of it waits, it
     /// has not ended, and it reads what it is sent.
     pub fn wants_bytes(&self, number: u32) -> bool
-        ensures { Asks number wants_bytes self.now.entries result }
+        ensures { Asks number wants_bytes self.now.peers result }
     {
-        asks_bytes(&self.entries, number)
+        asks_bytes(&self.peers, number)
     }
 
     /// Whether a record of the connection of this number waits to be handed out.
     pub fn has_record(&self, number: u32) -> bool
-        ensures { Asks number (λ e. is_whole e.connection.front) self.now.entries result }
+        ensures { Asks number (λ e. is_whole e.connection.front) self.now.peers result }
     {
-        asks_record(&self.entries, number)
+        asks_record(&self.peers, number)
     }
 
     /// The first connection that is to be closed now.
     pub fn over(&self) -> Option<u32>
-        ensures { MatchOption result (HasNone (Rank.Over self.now.time) self.now.entries) (λ n. IsNumberOf (Rank.Over self.now.time) self.now.entries n) }
+        ensures { MatchOption result (HasNone (Rank.Over self.now.time) self.now.peers) (λ n. IsNumberOf (Rank.Over self.now.time) self.now.peers n) }
     {
-        number_of(&self.entries, Rank::Over(self.time))
+        number_of(&self.peers, Rank::Over(self.time))
     }
 
     /// Reads once from the stream of the connection of this number, and reads what came as records.
     /// One that is gone is lost.
     pub fn fill<S: Stream>(&mut self, number: u32, stream: &mut S) -> Result<(), Halt>
-        ensures told { FillsOf number self.old.time self.old.orders self.old.entries (S.coming stream.old) result self.new.entries (S.coming stream.new) }
+        ensures told { FillsOf number self.old.time self.old.orders self.old.peers (S.coming stream.old) result self.new.peers (S.coming stream.new) }
         ensures gone { S.gone stream.new ≡ S.gone stream.old }
-        ensures rest { self.new ≡ with_entries self.old self.new.entries (one_more self.old.orders) }
+        ensures rest { self.new ≡ with_peers self.old self.new.peers (one_more self.old.orders) }
     {
         let order = self.orders;
         self.orders = order.saturating_add(1);
         let time = self.time;
-        fill_of(&mut self.entries, number, stream, time, order)
+        fill_of(&mut self.peers, number, stream, time, order)
     }
 
     /// Writes what is to go on the connection of this number to its stream. One that is gone is lost.
     pub fn drain<S: Stream>(&mut self, number: u32, stream: &mut S) -> Result<(), Halt>
-        ensures told { DrainsOf number self.old.time self.old.entries (S.gone stream.old) result self.new.entries (S.gone stream.new) }
+        ensures told { DrainsOf number self.old.time self.old.peers (S.gone stream.old) result self.new.peers (S.gone stream.new) }
         ensures coming { S.coming stream.new ≡ S.coming stream.old }
-        ensures rest { self.new ≡ with_entries self.old self.new.entries self.old.orders }
+        ensures rest { self.new ≡ with_peers self.old self.new.peers self.old.orders }
     {
         let time = self.time;
-        drain_of(&mut self.entries, number, stream, time)
+        drain_of(&mut self.peers, number, stream, time)
     }
 
     /// The next record and the number of its connection: of those that may be handed out, the one that
     /// became whole first. Where memory is wanted for the bytes behind it, the record is lost.
     pub fn next_record(&mut self) -> Result<Option<(u32, Data)>, NoMemory>
-        ensures told { HandsOut self.old.orders self.old.entries result self.new.entries }
-        ensures rest { self.new ≡ with_entries self.old self.new.entries (one_more self.old.orders) }
+        ensures told { HandsOut self.old.orders self.old.peers result self.new.peers }
+        ensures rest { self.new ≡ with_peers self.old self.new.peers (one_more self.old.orders) }
     {
         let order = self.orders;
         self.orders = order.saturating_add(1);
-        hand_out_of(&mut self.entries, order)
+        hand_out_of(&mut self.peers, order)
     }
 
     /// Puts the record of an answer behind what is to go on the connection of this number. Where that
     /// is gone, or the answer is longer than a record may be, it is lost. At an error nothing has
     /// changed.
     pub fn answer(&mut self, number: u32, message: &[u8]) -> Result<(), NoMemory>
-        ensures told { AnswersOf number self.old.time self.old.entries message.now result self.new.entries }
-        ensures rest { self.new ≡ with_entries self.old self.new.entries self.old.orders }
+        ensures told { AnswersOf number self.old.time self.old.peers message.now result self.new.peers }
+        ensures rest { self.new ≡ with_peers self.old self.new.peers self.old.orders }
     {
         let time = self.time;
-        answer_of(&mut self.entries, number, message, time)
+        answer_of(&mut self.peers, number, message, time)
     }
 }

@@ -5,9 +5,9 @@
 mod ahead;
 mod connection;
 mod connections;
-mod entry;
+mod peer;
 mod memory_stream;
-mod pending;
+mod outgoing;
 mod rank;
 mod stream;
 #[cfg(test)]

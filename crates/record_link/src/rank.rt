@@ -3,7 +3,7 @@
 ghost use Rattle.std.specs.Prelude.{◌≡◌, ℕ, MatchOption};
 ghost use Rattle.record_link.specs.Connections.{rank_of, better, HasNone, IsLeast};
 
-use crate::entry::Entry;
+use crate::peer::Peer;
 
 /// What connections are ranked by.
 #[derive(Clone, Copy, Debug)]
@@ -18,7 +18,7 @@ pub enum Rank {
     Over(u64),
 }
 
-impl Entry {
+impl Peer {
     /// Where it comes by a rank.
     fn rank(&self, rank: Rank) -> Option<u64>
         ensures { result ≡ rank_of rank self.now }
@@ -32,13 +32,13 @@ impl Entry {
     }
 }
 
-/// The place of the entry with the lowest rank, and of those the first.
-pub fn least(entries: &[Entry], rank: Rank) -> Option<usize>
-    ensures { MatchOption result (HasNone rank entries.now) (λ i. IsLeast rank entries.now i) }
+/// The place of the peer with the lowest rank, and of those the first.
+pub fn least(peers: &[Peer], rank: Rank) -> Option<usize>
+    ensures { MatchOption result (HasNone rank peers.now) (λ i. IsLeast rank peers.now i) }
 {
     let mut best: Option<(usize, u64)> = None;
-    for index in 0..entries.len() {
-        best = better(best, index, entries[index].rank(rank));
+    for index in 0..peers.len() {
+        best = better(best, index, peers[index].rank(rank));
     }
     match best {
         Some((index, _)) => Some(index),

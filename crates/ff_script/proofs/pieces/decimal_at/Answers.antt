@@ -4,7 +4,7 @@ use Rattle.std.specs.Result.{OkIff, result_ok}
 use Rattle.std.proofs.lemmas.Bool.{cases_lt}
 use Rattle.std.specs.Prelude.{decimal}
 use Rattle.std.specs.Str.{bytes_eq}
-use Rattle.ff_script.specs.Pieces.{value_of}
+use Rattle.ff_script.specs.Pieces.{decimal_value}
 use Rattle.ff_script.proofs.PieceLemmas.{number_long, number_big, number_fits}
 use Rattle.ff_script.proofs.pieces.decimal_at.Goals as goal
 
@@ -22,8 +22,8 @@ small (Err e) n k said is = absurd (cc)
 
 pub returns-in_err-number : goal.returns-in_err-number
 returns-in_err-number c =
-    let big = too_big c.try_from.result c.value_of.result c.try_from.ensures c.in_err-number.ensures.value in
-    c.from_residual.ensures ∙ sym (number_big c.args.text.now (rw c.value_of.ensures at big))
+    let big = too_big c.try_from.result c.decimal_value.result c.try_from.ensures c.in_err-number.ensures.value in
+    c.from_residual.ensures ∙ sym (number_big c.args.text.now (rw c.decimal_value.ensures at big))
 
 then_cond : {A : Type 0} (b : Bool) (a : A) → then_some b a ≡ cond b (Some a) None
 then_cond true a = refl
@@ -33,11 +33,11 @@ pub returns : goal.returns
 returns c =
     let text = c.args.text.now in
     let number = c.in_ok-number.number in
-    let value = value_of 0 text in
-    let fits = small c.try_from.result c.value_of.result number c.try_from.ensures c.in_ok-number.ensures.value in
-    let same : number ≡ value = fits.1 ∙ c.value_of.ensures in
+    let value = decimal_value 0 text in
+    let fits = small c.try_from.result c.decimal_value.result number c.try_from.ensures c.in_ok-number.ensures.value in
+    let same : number ≡ value = fits.1 ∙ c.decimal_value.ensures in
     let test : c.eq.result ≡ bytes_eq (decimal value) text =
     c.eq.ensures ∙ ap (λ bs. bytes_eq bs text) (c.as_bytes.ensures.value ∙ c.format.ensures.text ∙ ap decimal same) in
     c.then_some.ensures ∙ then_cond c.eq.result number ∙ ap (λ b. cond b (Some number) None) test
     ∙ ap (λ n. cond (bytes_eq (decimal value) text) (Some n) None) same
-    ∙ sym (number_fits text c.if-text-gt-DIGITS.false (rw c.value_of.ensures at fits.0))
+    ∙ sym (number_fits text c.if-text-gt-DIGITS.false (rw c.decimal_value.ensures at fits.0))

@@ -1,6 +1,6 @@
 use Rattle.std.proofs.Common.{◌-◌, length, arith}
 use borrow.Rule.Slice.PartMut.{post_of, same_len_mid}
-use Rattle.record_link.proofs.PendingLemmas.{reads_at}
+use Rattle.record_link.proofs.OutgoingLemmas.{reads_at}
 use Rattle.record_link.proofs.ahead.read_at.Goals as goal
 
 pub returns-clause-told : goal.returns-clause-told

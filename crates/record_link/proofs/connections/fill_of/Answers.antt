@@ -1,8 +1,8 @@
 use Rattle.std.proofs.Common.{subst, inr}
-use Rattle.record_link.specs.declared.entry.Entry.{Entry}
+use Rattle.record_link.specs.declared.peer.Peer.{Peer}
 use Rattle.record_link.specs.declared.rank.Rank.TheVariants.{Numbered}
-use Rattle.record_link.specs.Connections.{FillsEntry}
-use Rattle.record_link.proofs.ConnectionsLemmas.{entry_is, becomes}
+use Rattle.record_link.specs.Connections.{FillsPeer}
+use Rattle.record_link.proofs.ConnectionsLemmas.{peer_is, becomes}
 use Rattle.record_link.proofs.connections.fill_of.Goals as goal
 
 pub returns-in-Some-clause-told : goal.returns-in-Some-clause-told
@@ -10,7 +10,7 @@ returns-in-Some-clause-told g c =
     let least = c.in-Some.ensures in
     inr (
       c.fill.new.self,
-      becomes (Numbered c.args.number) c.args.entries.now c.in-Some.place least c.fill.new.self,
-      subst (λ (e : Entry). FillsEntry c.args.now c.args.order e (g.S.Stream.coming c.args.stream.now) c.fill.result c.fill.new.self (g.S.Stream.coming c.fill.new.stream))
-          (entry_is (Numbered c.args.number) c.args.entries.now c.in-Some.place least c.index-entries-place.result c.index-entries-place.is) c.fill.ensures.told,
+      becomes (Numbered c.args.number) c.args.peers.now c.in-Some.place least c.fill.new.self,
+      subst (λ (e : Peer). FillsPeer c.args.now c.args.order e (g.S.Stream.coming c.args.stream.now) c.fill.result c.fill.new.self (g.S.Stream.coming c.fill.new.stream))
+          (peer_is (Numbered c.args.number) c.args.peers.now c.in-Some.place least c.index-peers-place.result c.index-peers-place.is) c.fill.ensures.told,
     )

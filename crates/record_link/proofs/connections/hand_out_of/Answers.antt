@@ -1,8 +1,8 @@
 use Rattle.std.proofs.Common.{ℕ, List, Option, Some, None, Result, Ok, Err, subst, ap, ◌∙◌}
-use Rattle.record_link.specs.declared.entry.Entry.{Entry}
+use Rattle.record_link.specs.declared.peer.Peer.{Peer}
 use Rattle.record_link.specs.declared.rank.Rank.TheVariants.{Ready}
-use Rattle.record_link.specs.Connections.{HandsEntry}
-use Rattle.record_link.proofs.ConnectionsLemmas.{entry_is, becomes}
+use Rattle.record_link.specs.Connections.{HandsPeer}
+use Rattle.record_link.proofs.ConnectionsLemmas.{peer_is, becomes}
 use Rattle.std.proofs.Common.{get_or}
 use Rattle.ff_xdr.specs.declared.error.NoMemory.{NoMemory}
 use Rattle.record_link.proofs.ConnectionsLemmas.{not_ready}
@@ -11,28 +11,28 @@ use Rattle.record_link.proofs.connections.hand_out_of.Goals as goal
 pub returns-in-Ok-Some : goal.returns-in-Ok-Some
 returns-in-Ok-Some c =
     let least = c.in-Some.ensures in
-    let entry = entry_is Ready c.args.entries.now c.in-Some.place least c.index-entries-place.result c.index-entries-place.is in
-    let told = subst (λ (r : Result (Option (List ℕ)) NoMemory). HandsEntry c.args.order (get_or c.args.entries.now c.in-Some.place c.index-entries-place.result) r c.hand_out.new.self) (c.in-Ok-Some.is ∙ ap Ok c.in-Ok-Some.field-0-is) c.hand_out.ensures in (
+    let peer = peer_is Ready c.args.peers.now c.in-Some.place least c.index-peers-place.result c.index-peers-place.is in
+    let told = subst (λ (r : Result (Option (List ℕ)) NoMemory). HandsPeer c.args.order (get_or c.args.peers.now c.in-Some.place c.index-peers-place.result) r c.hand_out.new.self) (c.in-Ok-Some.is ∙ ap Ok c.in-Ok-Some.field-0-is) c.hand_out.ensures in (
       c.hand_out.new.self,
-      becomes Ready c.args.entries.now c.in-Some.place least c.hand_out.new.self,
-      ap (λ (e : Entry). e.number) entry,
-      subst (λ (e : Entry). HandsEntry c.args.order e (Ok (Some c.in-Ok-Some.message)) c.hand_out.new.self) entry told,
+      becomes Ready c.args.peers.now c.in-Some.place least c.hand_out.new.self,
+      ap (λ (e : Peer). e.number) peer,
+      subst (λ (e : Peer). HandsPeer c.args.order e (Ok (Some c.in-Ok-Some.message)) c.hand_out.new.self) peer told,
     )
 
 pub returns-in-Ok-None : goal.returns-in-Ok-None
 returns-in-Ok-None c =
     let least = c.in-Some.ensures in
-    let entry = entry_is Ready c.args.entries.now c.in-Some.place least c.index-entries-place.result c.index-entries-place.is in
-    let told = subst (λ (r : Result (Option (List ℕ)) NoMemory). HandsEntry c.args.order (get_or c.args.entries.now c.in-Some.place c.index-entries-place.result) r c.hand_out.new.self) (c.in-Ok-None.is ∙ ap Ok c.in-Ok-None.field-0-is) c.hand_out.ensures in
-    let none = subst (λ (e : Entry). HandsEntry c.args.order e (Ok None) c.hand_out.new.self) entry told in
-    absurd (not_ready least.entry least.key least.ranked none.0)
+    let peer = peer_is Ready c.args.peers.now c.in-Some.place least c.index-peers-place.result c.index-peers-place.is in
+    let told = subst (λ (r : Result (Option (List ℕ)) NoMemory). HandsPeer c.args.order (get_or c.args.peers.now c.in-Some.place c.index-peers-place.result) r c.hand_out.new.self) (c.in-Ok-None.is ∙ ap Ok c.in-Ok-None.field-0-is) c.hand_out.ensures in
+    let none = subst (λ (e : Peer). HandsPeer c.args.order e (Ok None) c.hand_out.new.self) peer told in
+    absurd (not_ready least.peer least.key least.ranked none.0)
 
 pub returns-in-Err : goal.returns-in-Err
 returns-in-Err c =
     let least = c.in-Some.ensures in
-    let entry = entry_is Ready c.args.entries.now c.in-Some.place least c.index-entries-place.result c.index-entries-place.is in
-    let told = subst (λ (r : Result (Option (List ℕ)) NoMemory). HandsEntry c.args.order (get_or c.args.entries.now c.in-Some.place c.index-entries-place.result) r c.hand_out.new.self) c.in-Err.is c.hand_out.ensures in (
+    let peer = peer_is Ready c.args.peers.now c.in-Some.place least c.index-peers-place.result c.index-peers-place.is in
+    let told = subst (λ (r : Result (Option (List ℕ)) NoMemory). HandsPeer c.args.order (get_or c.args.peers.now c.in-Some.place c.index-peers-place.result) r c.hand_out.new.self) c.in-Err.is c.hand_out.ensures in (
       c.hand_out.new.self,
-      becomes Ready c.args.entries.now c.in-Some.place least c.hand_out.new.self,
-      subst (λ (e : Entry). HandsEntry c.args.order e (Err c.in-Err.field-0) c.hand_out.new.self) entry told,
+      becomes Ready c.args.peers.now c.in-Some.place least c.hand_out.new.self,
+      subst (λ (e : Peer). HandsPeer c.args.order e (Err c.in-Err.field-0) c.hand_out.new.self) peer told,
     )

@@ -5,17 +5,17 @@ use Rattle.record_link.proofs.rank.least.Goals as goal
 
 pub loop-index-preserved : goal.loop-index-preserved
 loop-index-preserved c =
-    let entry = c.index-entries-index.result in
-    let at = slice_get_read c.args.entries.now (length c.args.entries.now) c.loop-index.index entry refl c.loop-index-test.true c.index-entries-index.is in
-    subst (λ (b : Option (ℕ × ℕ)). IsBest c.args.rank c.args.entries.now (c.loop-index.index + 1) b) (sym c.better-best.ensures)
-    (best_more c.args.rank c.args.entries.now c.loop-index.index entry at c.loop-index.best c.rank.result (sym c.rank.ensures) c.loop-index.invariant)
+    let peer = c.index-peers-index.result in
+    let at = slice_get_read c.args.peers.now (length c.args.peers.now) c.loop-index.index peer refl c.loop-index-test.true c.index-peers-index.is in
+    subst (λ (b : Option (ℕ × ℕ)). IsBest c.args.rank c.args.peers.now (c.loop-index.index + 1) b) (sym c.better-best.ensures)
+    (best_more c.args.rank c.args.peers.now c.loop-index.index peer at c.loop-index.best c.rank.result (sym c.rank.ensures) c.loop-index.invariant)
 
 pub returns-in-Some : goal.returns-in-Some
 returns-in-Some c =
-    let all : c.loop-index.index ≡ length c.args.entries.now = omega (arith, c.loop-index.auto.index-end, c.loop-index-test.false) in
-    best_all c.args.rank c.args.entries.now c.loop-index.index c.in-Some.index c.in-Some.field-0-1 all (subst (λ (b : Option (ℕ × ℕ)). IsBest c.args.rank c.args.entries.now c.loop-index.index b) c.in-Some.is c.loop-index.invariant)
+    let all : c.loop-index.index ≡ length c.args.peers.now = omega (arith, c.loop-index.auto.index-end, c.loop-index-test.false) in
+    best_all c.args.rank c.args.peers.now c.loop-index.index c.in-Some.index c.in-Some.field-0-1 all (subst (λ (b : Option (ℕ × ℕ)). IsBest c.args.rank c.args.peers.now c.loop-index.index b) c.in-Some.is c.loop-index.invariant)
 
 pub returns-in-None : goal.returns-in-None
 returns-in-None c =
-    let all : c.loop-index.index ≡ length c.args.entries.now = omega (arith, c.loop-index.auto.index-end, c.loop-index-test.false) in
-    none_all c.args.rank c.args.entries.now c.loop-index.index all (subst (λ (b : Option (ℕ × ℕ)). IsBest c.args.rank c.args.entries.now c.loop-index.index b) c.in-None.is c.loop-index.invariant)
+    let all : c.loop-index.index ≡ length c.args.peers.now = omega (arith, c.loop-index.auto.index-end, c.loop-index-test.false) in
+    none_all c.args.rank c.args.peers.now c.loop-index.index all (subst (λ (b : Option (ℕ × ℕ)). IsBest c.args.rank c.args.peers.now c.loop-index.index b) c.in-None.is c.loop-index.invariant)

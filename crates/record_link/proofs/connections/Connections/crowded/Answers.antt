@@ -1,5 +1,5 @@
 use Rattle.std.proofs.Common.{List, length, subst, ap}
-use Rattle.record_link.specs.declared.entry.Entry.{Entry}
+use Rattle.record_link.specs.declared.peer.Peer.{Peer}
 use Rattle.record_link.specs.declared.rank.Rank.TheVariants.{Silent}
 use Rattle.record_link.specs.Connections.{ConnectionsState}
 use Rattle.std.proofs.Common.{arith, MatchOption}
@@ -9,6 +9,6 @@ use Rattle.record_link.proofs.connections.Connections.crowded.Goals as goal
 
 pub returns : goal.returns
 returns c =
-    let entries = c.self.inside.entries.items in
-    let told = subst (λ (l : List Entry). MatchOption c.number_of.result (HasNone Silent l) (λ n. IsNumberOf Silent l n)) c.deref.ensures.value c.number_of.ensures in
-    subst (λ (s : ConnectionsState). Crowds s.entries c.number_of.result) c.self.view_is (crowds entries c.number_of.result (omega (arith, c.if-len-lt-MAX_CONNECTIONS.false, c.len.ensures, c.deref.ensures.len, ap length c.deref.ensures.value)) told)
+    let peers = c.self.inside.peers.items in
+    let told = subst (λ (l : List Peer). MatchOption c.number_of.result (HasNone Silent l) (λ n. IsNumberOf Silent l n)) c.deref.ensures.value c.number_of.ensures in
+    subst (λ (s : ConnectionsState). Crowds s.peers c.number_of.result) c.self.view_is (crowds peers c.number_of.result (omega (arith, c.if-len-lt-MAX_CONNECTIONS.false, c.len.ensures, c.deref.ensures.len, ap length c.deref.ensures.value)) told)

@@ -1,5 +1,5 @@
 use Rattle.std.proofs.Common.{List, subst}
-use Rattle.record_link.specs.declared.entry.Entry.{Entry}
+use Rattle.record_link.specs.declared.peer.Peer.{Peer}
 use Rattle.record_link.specs.Connections.{ConnectionsState}
 use Rattle.record_link.specs.Connections.{Asks}
 use Rattle.rpc_record.specs.Frames.{is_whole}
@@ -7,5 +7,5 @@ use Rattle.record_link.proofs.connections.Connections.has_record.Goals as goal
 
 pub returns : goal.returns
 returns c =
-    subst (λ (s : ConnectionsState). Asks c.args.number (λ (e : Entry). is_whole e.connection.front) s.entries c.asks_record.result) c.self.view_is
-    (subst (λ (l : List Entry). Asks c.args.number (λ (e : Entry). is_whole e.connection.front) l c.asks_record.result) c.deref.ensures.value c.asks_record.ensures)
+    subst (λ (s : ConnectionsState). Asks c.args.number (λ (e : Peer). is_whole e.connection.front) s.peers c.asks_record.result) c.self.view_is
+    (subst (λ (l : List Peer). Asks c.args.number (λ (e : Peer). is_whole e.connection.front) l c.asks_record.result) c.deref.ensures.value c.asks_record.ensures)

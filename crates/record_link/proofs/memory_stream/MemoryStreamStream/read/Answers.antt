@@ -1,6 +1,6 @@
 use Rattle.std.proofs.Common.{◌+◌, ◌-◌, ◌++◌, ◌∙◌, List, ℕ, take, drop, length, ap, sym, subst, Some}
 use Rattle.record_link.specs.Stream.{Comes}
-use Rattle.record_link.proofs.PendingLemmas.{given_at, piece_is}
+use Rattle.record_link.proofs.OutgoingLemmas.{given_at, piece_is}
 use Rattle.record_link.proofs.memory_stream.MemoryStreamStream.read.Goals as goal
 
 pub returns-clause-told : goal.returns-clause-told

@@ -1,6 +1,6 @@
 use Rattle.std.proofs.Common.{◌≡◌, ◌++◌, List, ℕ, length}
 use Rattle.record_link.specs.Stream.{gone_more}
-use Rattle.record_link.proofs.pending.Pending.write_to.Given as goal
+use Rattle.record_link.proofs.outgoing.Outgoing.write_to.Given as goal
 
 abbrev pub invariant-loop-stream : goal.invariant-loop-stream
 invariant-loop-stream g l =

@@ -13,12 +13,12 @@ use std::marker::Model;
 
 /// Bytes that wait. Those that were taken are dropped once they are more than half.
 #[derive(Debug, Drop)]
-pub struct Pending {
+pub struct Outgoing {
     bytes: Vec<u8>,
     start: usize,
 }
 
-impl Model for Pending {
+impl Model for Outgoing {
     ghost Value = { List ℕ };
 
     ghost view = { λ p. drop p.start p.bytes.items };
@@ -36,12 +36,12 @@ fn header_of(message: &[u8]) -> [u8; 4]
     header.to_be_bytes()
 }
 
-impl Pending {
+impl Outgoing {
     /// Nothing waits; takes no memory.
-    pub fn new(alloc: Global) -> Pending
+    pub fn new(alloc: Global) -> Outgoing
         ensures { result ≡ [] }
     {
-        Pending {
+        Outgoing {
             bytes: Vec::new(alloc),
             start: 0,
         }

@@ -1,6 +1,6 @@
 use Rattle.std.proofs.Common.{ℕ, zero, suc, ◌<◌, ◌≤◌, arith}
-use Rattle.ff_script.proofs.pieces.value_of.Invariants.{most}
-use Rattle.ff_script.proofs.pieces.value_of.Goals as goal
+use Rattle.ff_script.proofs.pieces.decimal_value.Invariants.{most}
+use Rattle.ff_script.proofs.pieces.decimal_value.Goals as goal
 
 grows : (i j : ℕ) → i ≤ j → most i ≤ most j
 grows zero j h = omega arith

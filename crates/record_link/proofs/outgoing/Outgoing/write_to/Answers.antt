@@ -1,7 +1,7 @@
 use Rattle.std.proofs.Common.{ap, ◌∙◌, take}
 use Rattle.record_link.specs.Stream.{gone_more}
-use Rattle.record_link.proofs.PendingLemmas.{more_went}
-use Rattle.record_link.proofs.pending.Pending.write_to.Goals as goal
+use Rattle.record_link.proofs.OutgoingLemmas.{more_went}
+use Rattle.record_link.proofs.outgoing.Outgoing.write_to.Goals as goal
 
 pub loop-stream-preserved : goal.loop-stream-preserved
 loop-stream-preserved g c =

@@ -1,6 +1,6 @@
 use Rattle.std.proofs.Common.{ap}
-use Rattle.record_link.specs.Connections.{entry_with}
-use Rattle.record_link.proofs.entry.Entry.fill.Goals as goal
+use Rattle.record_link.specs.Connections.{peer_with}
+use Rattle.record_link.proofs.peer.Peer.fill.Goals as goal
 
 pub returns-in_ok-settle-in-Ok-clause-told : goal.returns-in_ok-settle-in-Ok-clause-told
 returns-in_ok-settle-in-Ok-clause-told g c = (
@@ -8,5 +8,5 @@ returns-in_ok-settle-in-Ok-clause-told g c = (
   c.fill.new.self,
   c.in-Ok.ensures.told,
   c.in_ok-settle-in-Ok.ensures.ok,
-  ap (λ order. entry_with c.args.self.now c.settle.new.connection c.args.now c.args.self.now.moved order) c.order_after-order.ensures,
+  ap (λ order. peer_with c.args.self.now c.settle.new.connection c.args.now c.args.self.now.moved order) c.order_after-order.ensures,
 )

@@ -2,7 +2,7 @@
 
 ghost use Rattle.std.specs.Prelude.{◌≡◌, ◌+◌, ◌≤◌, nat_le, List, ℕ, Option, length, OnOk, OnErr};
 ghost use Rattle.rpc_record.specs.Frames.{max_record};
-ghost use Rattle.record_link.specs.Connections.{is_ready, wants_bytes, is_stuck, is_finished, is_idle, is_to_close, new_entry, order_after, Settles, FillsEntry, HandsEntry, AnswersEntry, DrainsEntry};
+ghost use Rattle.record_link.specs.Connections.{is_ready, wants_bytes, is_stuck, is_finished, is_idle, is_to_close, new_peer, order_after, Settles, FillsPeer, HandsPeer, AnswersPeer, DrainsPeer};
 
 use crate::connection::Connection;
 use crate::stream::{Halt, Stream};
@@ -27,7 +27,7 @@ pub const HIGH_WATER: usize = 1_048_576;
 
 /// A connection under its number.
 #[derive(Drop)]
-pub struct Entry {
+pub struct Peer {
     /// Its number, given once.
     pub number: u32,
     /// What came and what goes.
@@ -40,7 +40,7 @@ pub struct Entry {
     pub order: u64,
 }
 
-impl Entry {
+impl Peer {
     /// A record of it may be handed out.
     pub fn is_ready(&self) -> bool
         ensures { result ≡ is_ready self.now }
@@ -91,11 +91,11 @@ impl Entry {
         self.is_stuck(now) || self.is_finished(now) || self.is_idle(now)
     }
 
-    /// The entry of a new connection; takes no memory.
-    pub fn new(alloc: Global, number: u32, now: u64) -> Entry
-        ensures { result ≡ new_entry number now }
+    /// The peer of a new connection; takes no memory.
+    pub fn new(alloc: Global, number: u32, now: u64) -> Peer
+        ensures { result ≡ new_peer number now }
     {
-        Entry {
+        Peer {
             number,
             connection: Connection::new(alloc),
             heard: now,
@@ -117,7 +117,7 @@ impl Entry {
 
     /// Reads once from the stream, and reads what came as records.
     pub fn fill<S: Stream>(&mut self, stream: &mut S, now: u64, order: u64) -> Result<(), Halt>
-        ensures told { FillsEntry now order self.old (S.coming stream.old) result self.new (S.coming stream.new) }
+        ensures told { FillsPeer now order self.old (S.coming stream.old) result self.new (S.coming stream.new) }
         ensures gone { S.gone stream.new ≡ S.gone stream.old }
     {
         let order = self.order_after(order);
@@ -139,7 +139,7 @@ impl Entry {
     /// Hands out the record that is whole, and reads the bytes behind it as records. Where memory is
     /// wanted for that, the record is lost.
     pub fn hand_out(&mut self, order: u64) -> Result<Option<Data>, NoMemory>
-        ensures { HandsEntry order self.old result self.new }
+        ensures { HandsPeer order self.old result self.new }
     {
         let Some(message) = self.connection.next_record() else {
             return Ok(None);
@@ -152,7 +152,7 @@ impl Entry {
     /// Puts the record of an answer behind what is to go. At an error nothing has changed.
     pub fn answer(&mut self, message: &[u8], now: u64) -> Result<(), NoMemory>
         requires { length message.now ≤ max_record }
-        ensures { AnswersEntry now self.old message.now result self.new }
+        ensures { AnswersPeer now self.old message.now result self.new }
     {
         let was_empty = self.connection.waiting() == 0;
         self.connection.answer(message)?;
@@ -164,7 +164,7 @@ impl Entry {
 
     /// Writes what is to go to the stream, until all went or the stream takes no more.
     pub fn drain<S: Stream>(&mut self, stream: &mut S, now: u64) -> Result<(), Halt>
-        ensures told { DrainsEntry now self.old (S.gone stream.old) result self.new (S.gone stream.new) }
+        ensures told { DrainsPeer now self.old (S.gone stream.old) result self.new (S.gone stream.new) }
         ensures coming { S.coming stream.new ≡ S.coming stream.old }
     {
         let before = self.connection.waiting();
