@@ -4,7 +4,7 @@ use Rattle.cluster_model.specs.declared.ids.MirrorId.{MirrorId}
 use Rattle.cluster_model.specs.declared.phase.LeftCause.{LeftCause}
 use Rattle.cluster_model.specs.declared.phase.LeftCause.TheVariants.{Error, Timeouts}
 use Rattle.cluster_model.specs.DsCalls.{DsReplyValue, Created, Set, Written, Committed, Bytes, NotSync, Failed}
-use Rattle.cluster_model.specs.Fences.{odd_answer}
+use Rattle.cluster_model.specs.Fences.{odd_status}
 use Rattle.mirror_writer.specs.declared.call.MirrorOutcome.{MirrorOutcome}
 use Rattle.mirror_writer.specs.declared.call.MirrorOutcome.TheVariants as outcome
 use Rattle.mirror_writer.specs.declared.call.NextCall.{NextCall}
@@ -27,20 +27,20 @@ refused_there m status =
 abbrev pub write_answered_there : WriterMirror → ℕ → DsReplyValue → MirrorAfter
 write_answered_there m write (Written shown verifier) = record { mirror = with_answer write verifier m; outcome = outcome.Waiting }
 write_answered_there m write (Failed status shown) = refused_there m status
-write_answered_there m write (Created fileid shown) = failed_there m (Error odd_answer)
-write_answered_there m write (Set shown) = failed_there m (Error odd_answer)
-write_answered_there m write (Committed shown verifier) = failed_there m (Error odd_answer)
-write_answered_there m write (Bytes shown eof bytes) = failed_there m (Error odd_answer)
-write_answered_there m write (NotSync shown) = failed_there m (Error odd_answer)
+write_answered_there m write (Created fileid shown) = failed_there m (Error odd_status)
+write_answered_there m write (Set shown) = failed_there m (Error odd_status)
+write_answered_there m write (Committed shown verifier) = failed_there m (Error odd_status)
+write_answered_there m write (Bytes shown eof bytes) = failed_there m (Error odd_status)
+write_answered_there m write (NotSync shown) = failed_there m (Error odd_status)
 
 abbrev pub commit_answered_there : WriterMirror → DsReplyValue → MirrorAfter
 commit_answered_there m (Committed shown verifier) = record { mirror = with_commit verifier m; outcome = outcome.CommitOk }
 commit_answered_there m (Failed status shown) = refused_there m status
-commit_answered_there m (Created fileid shown) = failed_there m (Error odd_answer)
-commit_answered_there m (Set shown) = failed_there m (Error odd_answer)
-commit_answered_there m (Written shown verifier) = failed_there m (Error odd_answer)
-commit_answered_there m (Bytes shown eof bytes) = failed_there m (Error odd_answer)
-commit_answered_there m (NotSync shown) = failed_there m (Error odd_answer)
+commit_answered_there m (Created fileid shown) = failed_there m (Error odd_status)
+commit_answered_there m (Set shown) = failed_there m (Error odd_status)
+commit_answered_there m (Written shown verifier) = failed_there m (Error odd_status)
+commit_answered_there m (Bytes shown eof bytes) = failed_there m (Error odd_status)
+commit_answered_there m (NotSync shown) = failed_there m (Error odd_status)
 
 abbrev pub answered_there : WriterMirror → DsReplyValue → WriterCall → MirrorAfter
 answered_there m reply NoCall = record { mirror = m; outcome = outcome.Stranger }

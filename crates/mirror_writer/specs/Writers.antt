@@ -7,7 +7,7 @@ use Rattle.cluster_model.specs.declared.ids.MirrorId.{MirrorId}
 use Rattle.cluster_model.specs.declared.phase.LeftCause.{LeftCause}
 use Rattle.cluster_model.specs.declared.phase.LeftCause.TheVariants.{Error, Timeouts}
 use Rattle.cluster_model.specs.DsCalls.{DsCallValue, Write, Commit, DsReplyValue, Created, Set, Written, Committed, Bytes, NotSync, Failed}
-use Rattle.cluster_model.specs.Fences.{odd_answer}
+use Rattle.cluster_model.specs.Fences.{odd_status}
 use Rattle.cluster_model.specs.Journal.{is_mirror}
 use Rattle.mirror_writer.specs.declared.call.TakenWrite.{TakenWrite}
 use Rattle.mirror_writer.specs.declared.call.WriteAnswer.{WriteAnswer}
@@ -212,11 +212,11 @@ with_answer write verifier m = record {
 abbrev pub write_answered : WriterValue → ℕ → WriterMirror → ℕ → DsReplyValue → WriterAfter
 write_answered s place m write (Written shown verifier) = record { writer = with_writer_mirror s place (with_answer write verifier m); step = step.Waiting }
 write_answered s place m write (Failed status shown) = refused_by s place m status
-write_answered s place m write (Created fileid shown) = fails s place m (Error odd_answer)
-write_answered s place m write (Set shown) = fails s place m (Error odd_answer)
-write_answered s place m write (Committed shown verifier) = fails s place m (Error odd_answer)
-write_answered s place m write (Bytes shown eof bytes) = fails s place m (Error odd_answer)
-write_answered s place m write (NotSync shown) = fails s place m (Error odd_answer)
+write_answered s place m write (Created fileid shown) = fails s place m (Error odd_status)
+write_answered s place m write (Set shown) = fails s place m (Error odd_status)
+write_answered s place m write (Committed shown verifier) = fails s place m (Error odd_status)
+write_answered s place m write (Bytes shown eof bytes) = fails s place m (Error odd_status)
+write_answered s place m write (NotSync shown) = fails s place m (Error odd_status)
 
 -- the answer has the verifier of the COMMIT's
 abbrev pub has_verifier : ℕ → WriteAnswer → Bool
@@ -247,11 +247,11 @@ after_commit s =
 abbrev pub commit_answered : WriterValue → ℕ → WriterMirror → DsReplyValue → WriterAfter
 commit_answered s place m (Committed shown verifier) = after_commit (with_writer_mirror s place (with_commit verifier m))
 commit_answered s place m (Failed status shown) = refused_by s place m status
-commit_answered s place m (Created fileid shown) = fails s place m (Error odd_answer)
-commit_answered s place m (Set shown) = fails s place m (Error odd_answer)
-commit_answered s place m (Written shown verifier) = fails s place m (Error odd_answer)
-commit_answered s place m (Bytes shown eof bytes) = fails s place m (Error odd_answer)
-commit_answered s place m (NotSync shown) = fails s place m (Error odd_answer)
+commit_answered s place m (Created fileid shown) = fails s place m (Error odd_status)
+commit_answered s place m (Set shown) = fails s place m (Error odd_status)
+commit_answered s place m (Written shown verifier) = fails s place m (Error odd_status)
+commit_answered s place m (Bytes shown eof bytes) = fails s place m (Error odd_status)
+commit_answered s place m (NotSync shown) = fails s place m (Error odd_status)
 
 abbrev pub is_stranger : WriterValue → WriterAfter
 is_stranger s = record { writer = s; step = step.Stranger }
