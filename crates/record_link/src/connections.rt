@@ -168,8 +168,7 @@ impl Connections {
             return Ok(None);
         }
         let number = self.given + 1;
-        self.peers
-            .push(Peer::new(self.alloc, number, self.time))?;
+        self.peers.push(Peer::new(self.alloc, number, self.time))?;
         self.given = number;
         Ok(Some(number))
     }

@@ -5,9 +5,9 @@
 mod ahead;
 mod connection;
 mod connections;
-mod peer;
 mod memory_stream;
 mod outgoing;
+mod peer;
 mod rank;
 mod stream;
 #[cfg(test)]
