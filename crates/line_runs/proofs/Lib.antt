@@ -1,2 +1,5 @@
 pub mod LineLemmas
+pub mod OweLemmas
+pub mod StepLemmas
 pub mod RunLemmas
+pub mod EndLemmas

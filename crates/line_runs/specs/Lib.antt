@@ -1,4 +1,5 @@
 pub mod Lines
 pub mod Writing
 pub mod Runs
+pub mod Tasks
 pub mod Playback

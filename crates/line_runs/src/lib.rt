@@ -11,7 +11,7 @@ mod playback;
 mod task;
 mod writing;
 
-pub use end::{Played, RunEnd};
+pub use end::{LineStep, RunEnd};
 pub use lines::{Ended, LineBuffer};
 pub use lines_law::line_laws;
 pub use playback::run_lines;
