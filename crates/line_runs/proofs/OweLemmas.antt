@@ -73,7 +73,6 @@ wrote_some a b c t u (Err e) owes wrote = wrote_part a b c t u e owes wrote
 pub part_again : (a b c : Option (List ℕ)) (t u v : List ℕ) → Owes a t b u → OwesPart b u c v → OwesPart a t c v
 part_again a b c t u v one two = (two.0, owes_again a b c t u (v ++ two.0) one two.1)
 
-
 -- a sink goes on behind text that was added
 pub owes_on : (a b c : Option (List ℕ)) (t more u x y owed : List ℕ) → Owes a (t ++ more) b u → more ++ x ≡ y → Owes b (u ++ x) c owed → Owes a (t ++ y) c owed
 owes_on a b c t more u x y owed one is two =

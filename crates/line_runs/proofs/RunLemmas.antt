@@ -87,7 +87,7 @@ breaks_at all held held' s taken bytes line held1 lines owed at breaks =
 -- no line is left
 none_at : {State : Type 0} (all : Bool) (held : Option (List ℕ)) (s : Stand State) (bytes : List ℕ) (task : TaskValue State) → IsAtEnd task s.ahead → lines_ahead all s bytes ≡ []
     → ((effect_ahead all s bytes).bad ≡ None) × ((effect_ahead all s bytes).past ≡ false) × (task.entries ≡ (effect_ahead all s bytes).count) × ((effect_ahead all s bytes).text ≡ []) × (task.state ≡ state_ahead all s bytes)
-      × Owes held (text_ahead all s bytes) held (s.text ++ task.closing)
+    × Owes held (text_ahead all s bytes) held (s.text ++ task.closing)
 none_at all held s bytes task ends at =
     let effect : effect_ahead all s bytes ≡ at_end task.entries task.closing = ap s.ahead.meaning at ∙ ends.effect in
     let text = ap (λ (e : RunEffect). e.text) effect in (

@@ -8,6 +8,8 @@ mod lines_law;
 #[cfg(test)]
 mod lines_tests;
 mod playback;
+#[cfg(test)]
+mod run_tests;
 mod task;
 mod writing;
 
