@@ -12,11 +12,10 @@ use Rattle.ff_script.specs.declared.line.Event.{Event}
 use Rattle.ff_script.specs.Line.{EventLine, SetupLine, Nothing, setup_at, event_at, line_at, line_value, event_value}
 use Rattle.cluster_model.specs.Event.{EventValue}
 use Rattle.cluster_model.specs.Print.{print, line_of}
-use Rattle.line_runs.specs.declared.end.Played.{Played}
+use Rattle.line_runs.specs.declared.end.LineStep.{LineStep}
 use Rattle.ff_world.specs.World.{WorldState, WorldValue, preset_world, world_step, Occurs, Stays}
 use Rattle.ff_replay.specs.Script.{LinePlayed, played, played_by, played_step, entries_by, setup_of, world_of, count_of}
-use Rattle.line_runs.specs.Writing.{IsBeginningOf}
-use Rattle.ff_replay.specs.Writing.{PrintsText}
+use Rattle.line_runs.specs.Writing.{IsBeginningOf, PrintsText}
 use Rattle.ff_replay.specs.Player.{PlayerValue, player_of, PlayerState, with_trace, GoesFrom, PlayerStopsAtLimit, PlayerPrintedPart, PlayerPlays}
 
 pub print_append : (xs ys : List Entry) → print (xs ++ ys) ≡ print xs ++ print ys
@@ -59,7 +58,7 @@ at_world old stage w view is = sym (ap (λ (p : PlayerValue). p.stage) view) ∙
 not_spent : (old : PlayerValue) (stage : Option WorldValue) (w : WorldValue) → player_of stage ≡ old → stage ≡ Some w → old.spent ≡ None → w.spent ≡ None
 not_spent old stage w view is fresh = sym (ap (λ s. (player_of s).spent) is) ∙ ap (λ (p : PlayerValue). p.spent) view ∙ fresh
 
-pub happens_in_part : (old new : PlayerValue) (stage : Option WorldValue) (trace trace' : List ℕ) (w next : WorldValue) (event : EventValue) (entries : List Entry) (printed : Result (Unit {0}) NoMemory) (e : NoMemory) (r : Result Played NoMemory) (y : NoMemory)
+pub happens_in_part : (old new : PlayerValue) (stage : Option WorldValue) (trace trace' : List ℕ) (w next : WorldValue) (event : EventValue) (entries : List Entry) (printed : Result (Unit {0}) NoMemory) (e : NoMemory) (r : Result LineStep NoMemory) (y : NoMemory)
     → player_of stage ≡ old → stage ≡ Some w → printed ≡ Err e → r ≡ Err y → (w.spent ≡ None → Occurs w.world event [] next entries) → PrintsText trace (print entries) printed trace'
     → old.spent ≡ None → PlayerPlays (with_trace old trace) (played_step (world_step (world_of old.stage) event)) r (with_trace new trace')
 happens_in_part old new stage trace trace' w next event entries printed e (Ok x) y view is failed so occurs prints fresh = absurd (cc)
@@ -121,7 +120,7 @@ plays_setup old new trace text says setup which chosen parsed is now = record {
   now = ap (λ n. with_trace n trace) now ∙ ap (λ t. record { stage = Some preset_world; spent = None; trace = t }) (sym (append-nil trace));
 }
 
-pub plays_event : (old : PlayerValue) (trace : List ℕ) (new : PlayerState) (text : List ℕ) (says : Option Line) (setup : Option Setup) (event : Event) (r : Result Played NoMemory) → setup ≡ setup_of old.stage
+pub plays_event : (old : PlayerValue) (trace : List ℕ) (new : PlayerState) (text : List ℕ) (says : Option Line) (setup : Option Setup) (event : Event) (r : Result LineStep NoMemory) → setup ≡ setup_of old.stage
     → option_map line_value says ≡ line_at setup text → says ≡ Some (line.Event event) → PlayerPlays (with_trace old trace) (played_step (world_step (world_of old.stage) (event_value event))) r new → PlayerPlays (with_trace old trace) (played old.stage text) r new
 plays_event old trace new text says setup event r chosen parsed is does =
     subst (λ p. PlayerPlays (with_trace old trace) p r new) (sym (said old text says setup chosen parsed ∙ ap (λ s. played_by old.stage (option_map line_value s)) is)) does

@@ -1,14 +1,15 @@
 -- What the first line of a script does to what the script says.
 use Rattle.std.proofs.Common.{◌≡◌, ℕ, ◌+◌, Bool, true, false, List, [], ◌∷◌, ◌++◌, length, Option, Some, None, Result, Ok, Err, refl, sym, ap, subst, ◌∙◌, arith, ◌==◌, if◌then◌else◌}
 use Rattle.std.specs.Option.{option_map}
-use Rattle.std.proofs.lemmas.List.{append_assoc, length-append}
+use Rattle.std.proofs.lemmas.List.{append-nil, append_assoc, length-append}
 use Rattle.cluster_model.specs.declared.entry.Entry.{Entry}
 use Rattle.cluster_model.specs.Print.{print}
 use Rattle.ff_xdr.specs.declared.error.NoMemory.{NoMemory}
-use Rattle.line_runs.specs.declared.end.Played.{Played}
-use Rattle.line_runs.specs.declared.end.Played.TheVariants as outcome
+use Rattle.line_runs.specs.declared.end.LineStep.{LineStep}
+use Rattle.line_runs.specs.declared.end.LineStep.TheVariants as step
 use Rattle.line_runs.specs.Writing.{IsBeginningOf}
-use Rattle.line_runs.specs.Runs.{Course, after_text, PlaysLine}
+use Rattle.line_runs.specs.Runs.{RunEffect, after_text}
+use Rattle.line_runs.specs.Tasks.{BeginsLine, ahead_of, on_line}
 use Rattle.ff_replay.specs.Player.{PlayerValue, PlayerState, with_trace, PlayerPlays}
 use Rattle.ff_script.specs.declared.line.Setup.{Setup}
 use Rattle.ff_script.specs.declared.line.Setup.TheVariants.{Bare}
@@ -18,7 +19,7 @@ use Rattle.cluster_model.specs.Event.{EventValue, Deliver, Restart}
 use Rattle.cluster_model.specs.Server.{ServerState}
 use Rattle.cluster_model.specs.Server.{restart_of}
 use Rattle.ff_world.specs.World.{WorldState, WorldStep, effect_of, world_step, Run, with_step, run_of, restart_step}
-use Rattle.ff_replay.specs.Script.{Script, by_line, with_event, script_of, LinePlayed, Outside, Limited, Goes, played, played_by, played_step, entries_by, setup_of, world_of, count_of, script_from, run_from, course_from}
+use Rattle.ff_replay.specs.Script.{Script, by_line, with_event, script_of, LinePlayed, Outside, Limited, Goes, played, played_by, played_step, entries_by, setup_of, world_of, count_of, script_from, run_from, meaning_from, script_task}
 use Rattle.ff_replay.proofs.PlayLemmas.{print_append}
 
 -- a setup's line stands only before a setup, and an event's only behind one
@@ -101,19 +102,19 @@ line_on number stage line lines p is =
 
 -- it is played
 goes_first : (number : ℕ) (stage next : Option WorldState) (line : List ℕ) (lines : List (List ℕ)) (entries : List Entry) → played stage line ≡ Goes next entries
-    → course_from stage number (line ∷ lines) ≡ after_text (print entries) (course_from next (number + 1) lines)
+    → meaning_from stage number (line ∷ lines) ≡ after_text (print entries) (meaning_from next (number + 1) lines)
 goes_first number stage next line lines entries is =
     let split = line_on number stage line lines (Goes next entries) is in
     let es = (run_from next (number + 1) lines).entries in
     let count : count_of stage + length (entries ++ es) ≡ count_of next + length es = omega (arith, split.2, length-append entries es) in
-    let make : List ℕ → ℕ → Course = λ t n. record { text = t; bad = (script_from next (number + 1) lines).bad; past = (run_from next (number + 1) lines).over; count = n } in
-    let all : course_from stage number (line ∷ lines) ≡ make (print (entries ++ es)) (count_of stage + length (entries ++ es)) =
-    (λ i. record { text = print (split.1 i).entries; bad = split.0 i; past = (split.1 i).over; count = count_of stage + length (split.1 i).entries }) in
+    let make : List ℕ → ℕ → RunEffect = λ t n. record { text = t; bad = (script_from next (number + 1) lines).bad; past = (run_from next (number + 1) lines).over; count = n; closing = [] } in
+    let all : meaning_from stage number (line ∷ lines) ≡ make (print (entries ++ es)) (count_of stage + length (entries ++ es)) =
+    (λ i. record { text = print (split.1 i).entries; bad = split.0 i; past = (split.1 i).over; count = count_of stage + length (split.1 i).entries; closing = [] }) in
     all ∙ (λ i. make (print_append entries es i) (count i))
 
 -- it is outside the grammar
 outside_first : (number : ℕ) (stage : Option WorldState) (line : List ℕ) (lines : List (List ℕ)) → played stage line ≡ Outside
-    → ((course_from stage number (line ∷ lines)).bad ≡ Some number) × ((course_from stage number (line ∷ lines)).past ≡ false) × ((course_from stage number (line ∷ lines)).text ≡ [])
+    → ((meaning_from stage number (line ∷ lines)).bad ≡ Some number) × ((meaning_from stage number (line ∷ lines)).past ≡ false) × ((meaning_from stage number (line ∷ lines)).text ≡ [])
 outside_first number stage line lines is =
     let split = line_on number stage line lines Outside is in (
       ap (λ (s : Script). s.bad) split,
@@ -123,7 +124,7 @@ outside_first number stage line lines is =
 
 -- its event would pass a limit
 limited_first : (number : ℕ) (stage : Option WorldState) (line : List ℕ) (lines : List (List ℕ)) (count : ℕ) → played stage line ≡ Limited → count ≡ count_of stage
-    → ((course_from stage number (line ∷ lines)).past ≡ true) × (count ≡ (course_from stage number (line ∷ lines)).count) × ((course_from stage number (line ∷ lines)).text ≡ [])
+    → ((meaning_from stage number (line ∷ lines)).past ≡ true) × (count ≡ (meaning_from stage number (line ∷ lines)).count) × ((meaning_from stage number (line ∷ lines)).text ≡ [])
 limited_first number stage line lines count is same =
     let split = line_on number stage line lines Limited is in (
       ap (λ (r : Run). r.over) split,
@@ -133,11 +134,11 @@ limited_first number stage line lines count is same =
 
 -- the text of the first line begins the text of all
 text_first : (number : ℕ) (stage : Option WorldState) (line : List ℕ) (lines : List (List ℕ)) (p : LinePlayed) → played stage line ≡ p
-    → (more : List ℕ) × ((course_from stage number (line ∷ lines)).text ≡ print (entries_by p) ++ more)
+    → (more : List ℕ) × ((meaning_from stage number (line ∷ lines)).text ≡ print (entries_by p) ++ more)
 text_first number stage line lines Outside is = ([], (outside_first number stage line lines is).2)
 text_first number stage line lines Limited is = ([], (limited_first number stage line lines (count_of stage) is refl).2)
 text_first number stage line lines (Goes next entries) is =
-    (print (run_from next (number + 1) lines).entries, ap (λ (c : Course). c.text) (goes_first number stage next line lines entries is))
+    (print (run_from next (number + 1) lines).entries, ap (λ (c : RunEffect). c.text) (goes_first number stage next line lines entries is))
 
 begins_first : (part text more all : List ℕ) → IsBeginningOf part text → all ≡ text ++ more → IsBeginningOf part all
 begins_first part text more all begins is = record {
@@ -145,20 +146,35 @@ begins_first part text more all begins is = record {
   whole = sym (append_assoc part begins.rest more) ∙ ap (λ t. t ++ more) begins.whole ∙ sym is;
 }
 
--- What a player did with a line is what a task does.
-pub does_task : (old new : PlayerValue) (text text' line : List ℕ) (r : Result Played NoMemory) (number : ℕ) → PlayerPlays (with_trace old text) (played old.stage line) r (with_trace new text')
-    → PlaysLine number line (course_from old.stage number) text r (course_from new.stage (number + 1)) text'
-does_task old new text text' line (Ok outcome.Done) number goes =
+-- What a player did with a line is what a step of a task does.
+pub does_task : (old new : PlayerValue) (text text' line : List ℕ) (r : Result LineStep NoMemory) (number : ℕ) → PlayerPlays (with_trace old text) (played old.stage line) r (with_trace new text')
+    → BeginsLine number (on_line line (ahead_of number (script_task old.stage))) text r (script_task new.stage) text'
+does_task old new text text' line (Ok step.Done) number goes =
     let stage : new.stage ≡ goes.stage = ap (λ (p : PlayerState). p.stage) goes.now in record {
       more = print goes.entries;
       now = ap (λ (p : PlayerState). p.trace) goes.now;
       same = λ lines. goes_first number old.stage goes.stage line lines goes.entries goes.is
-          ∙ ap (λ s. after_text (print goes.entries) (course_from s (number + 1) lines)) (sym stage);
+          ∙ ap (λ s. after_text (print goes.entries) (meaning_from s (number + 1) lines)) (sym stage);
+      after = λ lines. refl;
     }
-does_task old new text text' line (Ok outcome.Outside) number refuses =
-    (λ lines. outside_first number old.stage line lines refuses.0, ap (λ (p : PlayerState). p.trace) refuses.1)
-does_task old new text text' line (Ok (outcome.Limited count)) number limited =
-    (λ lines. limited_first number old.stage line lines count limited.is limited.count_is, limited.trace)
+does_task old new text text' line (Ok step.More) number goes = absurd goes
+does_task old new text text' line (Ok step.Outside) number refuses = record {
+  more = [];
+  now = ap (λ (p : PlayerState). p.trace) refuses.1 ∙ sym (append-nil text);
+  why = λ lines. outside_first number old.stage line lines refuses.0;
+  adds = λ lines. (outside_first number old.stage line lines refuses.0).2;
+  closing = λ lines. refl;
+  after = λ lines. refl;
+}
+does_task old new text text' line (Ok (step.Limited count)) number limited =
+    let first = λ (lines : List (List ℕ)). limited_first number old.stage line lines count limited.is limited.count_is in record {
+      more = [];
+      now = limited.trace ∙ sym (append-nil text);
+      why = λ lines. ((first lines).0, (first lines).1);
+      adds = λ lines. (first lines).2;
+      closing = λ lines. refl;
+      after = λ lines. refl;
+    }
 does_task old new text text' line (Err e) number begun = record {
   part = begun.part;
   now = begun.trace;
@@ -168,5 +184,5 @@ does_task old new text text' line (Err e) number begun = record {
 }
 
 -- after a line that was played nothing is spent
-pub does_fresh : (old new : PlayerState) (p : LinePlayed) (r : Result Played NoMemory) → r ≡ Ok outcome.Done → PlayerPlays old p r new → new.spent ≡ None
+pub does_fresh : (old new : PlayerState) (p : LinePlayed) (r : Result LineStep NoMemory) → r ≡ Ok step.Done → PlayerPlays old p r new → new.spent ≡ None
 does_fresh old new p r is does = ap (λ (n : PlayerState). n.spent) (subst (λ x. PlayerPlays old p x new) is does).now

@@ -3,7 +3,8 @@ use Rattle.std.specs.Prelude.{ℕ, ◌+◌, List, [], ◌∷◌, length, Option,
 use Rattle.cluster_model.specs.declared.entry.Entry.{Entry}
 use Rattle.ff_script.specs.declared.line.Setup.{Setup}
 use Rattle.ff_script.specs.declared.line.Setup.TheVariants.{Bare}
-use Rattle.line_runs.specs.Runs.{Course, LinesMeaning}
+use Rattle.line_runs.specs.Runs.{RunEffect, LinesMeaning}
+use Rattle.line_runs.specs.Tasks.{TaskValue}
 use Rattle.ff_script.specs.Line.{LineValue, Nothing, SetupLine, EventLine, line_at}
 use Rattle.cluster_model.specs.Event.{EventValue}
 use Rattle.cluster_model.specs.Print.{print}
@@ -54,17 +55,26 @@ abbrev pub run_from : Option WorldState → ℕ → List (List ℕ) → Run
 run_from stage number lines = run_of (world_of stage) (script_from stage number lines).events
 
 -- what lines come to: the text of the journal that they add
-abbrev pub course_from : Option WorldState → ℕ → List (List ℕ) → Course
-course_from stage number lines = record {
+abbrev pub meaning_from : Option WorldState → ℕ → LinesMeaning
+meaning_from stage number lines = record {
   text = print (run_from stage number lines).entries;
   bad = (script_from stage number lines).bad;
   past = (run_from stage number lines).over;
   count = count_of stage + length (run_from stage number lines).entries;
+  closing = [];
 }
 
 -- what the lines of a script come to
-abbrev pub script_course : LinesMeaning
-script_course = course_from None 1
+abbrev pub script_meaning : LinesMeaning
+script_meaning = meaning_from None 1
+
+-- the most bytes of a script: 64 MiB
+abbrev pub script_budget : ℕ
+script_budget = 67108864
+
+-- the task as its run sees it, where this is the world so far
+abbrev pub script_task : Option WorldState → TaskValue (Unit {0})
+script_task stage = record { meaning = meaning_from stage; after = λ lines. tt; entries = count_of stage; closing = []; state = tt }
 
 -- ---- a run, line by line
 

@@ -2,7 +2,7 @@
 
 ghost use Rattle.std.specs.Prelude.{◌≡◌, ◌≢◌, None, IsSome};
 ghost use Rattle.ff_script.specs.Line.{event_value};
-ghost use Rattle.ff_replay.specs.Script.{setup_of, world_of, count_of, course_from, played, played_step};
+ghost use Rattle.ff_replay.specs.Script.{setup_of, world_of, played, played_step};
 ghost use Rattle.ff_world.specs.World.{world_step};
 ghost use Rattle.ff_replay.specs.Player.{PlayerPlays, with_trace};
 
@@ -10,7 +10,7 @@ use crate::writing::print_entries;
 use ff_script::{Event, Line, Setup, parse_line};
 use ff_world::{World, WorldFault};
 use ff_xdr::{NoMemory, Out};
-use line_runs::{LineTask, Played};
+use line_runs::{LineStep, LineTask};
 use std::alloc::Global;
 use std::marker::Model;
 
@@ -48,7 +48,7 @@ impl Player {
     }
 
     /// Lets an event happen, and prints its entries.
-    fn happen(&mut self, event: &Event<'_>, text: &mut Out) -> Result<Played, NoMemory>
+    fn happen(&mut self, event: &Event<'_>, text: &mut Out) -> Result<LineStep, NoMemory>
         requires stage { IsSome self.old.stage }
         ensures does { self.old.spent ≡ None → PlayerPlays (with_trace self.old text.old) (played_step (world_step (world_of self.old.stage) (event_value event.now))) result (with_trace self.new text.new) }
         ensures spent { self.old.spent ≢ None → self.new ≡ self.old }
@@ -61,9 +61,9 @@ impl Player {
         match happened {
             Ok(()) => {
                 print_entries(&entries, text)?;
-                Ok(Played::Done)
+                Ok(LineStep::Done)
             }
-            Err(WorldFault::Limit { entries }) => Ok(Played::Limited(entries)),
+            Err(WorldFault::Limit { entries }) => Ok(LineStep::Limited(entries)),
             Err(WorldFault::NoMemory) => Err(NoMemory),
         }
     }
@@ -71,16 +71,16 @@ impl Player {
     /// Plays a line, and prints the entries that it adds to the journal. At an error a beginning of the
     /// entries is printed, and the player is not to be used again. A world that is spent stays so, and
     /// nothing changes.
-    pub fn play_line(&mut self, line: &[u8], text: &mut Out) -> Result<Played, NoMemory>
+    pub fn play_line(&mut self, line: &[u8], text: &mut Out) -> Result<LineStep, NoMemory>
         ensures does { self.old.spent ≡ None → PlayerPlays (with_trace self.old text.old) (played self.old.stage line.now) result (with_trace self.new text.new) }
         ensures spent { self.old.spent ≢ None → self.new ≡ self.old }
     {
         match parse_line(self.setup(), line) {
-            None => Ok(Played::Outside),
-            Some(Line::Nothing) => Ok(Played::Done),
+            None => Ok(LineStep::Outside),
+            Some(Line::Nothing) => Ok(LineStep::Done),
             Some(Line::Setup(Setup::Bare)) => {
                 self.stage = Some(World::bare(self.alloc)?);
-                Ok(Played::Done)
+                Ok(LineStep::Done)
             }
             Some(Line::Event(event)) => self.happen(&event, text),
         }
@@ -88,13 +88,22 @@ impl Player {
 }
 
 impl LineTask for Player {
-    ghost use Rattle.std.proofs.Common.{rules, arith};
+    ghost use Rattle.std.proofs.Common.{rules, refl, arith};
+    ghost use Rattle.ff_replay.specs.Script.{script_budget, script_task};
 
-    ghost course = { λ player number lines. course_from player.stage number lines };
+    ghost BUDGET = { script_budget };
+
+    ghost State = { Unit {0} };
+
+    ghost value = { λ player. script_task player.stage };
 
     ghost fresh = { λ player. player.spent ≡ None };
 
-    ghost entries = { λ player. count_of player.stage };
+    ghost midway = { λ player. ⊥ };
+
+    ghost steps = { λ player. 0 };
+
+    const BUDGET: usize = 67_108_864;
 
     fn count(&self) -> u64 {
         match &self.stage {
@@ -103,9 +112,18 @@ impl LineTask for Player {
         }
     }
 
-    fn play(&mut self, line: &[u8], text: &mut Out) -> Result<Played, NoMemory> {
+    fn play(&mut self, line: &[u8], text: &mut Out) -> Result<LineStep, NoMemory> {
         self.play_line(line, text)
     }
 
-    ghost ends = { λ player number. Prim.search (rules, arith) };
+    /// A line has one step.
+    fn go_on(&mut self, _text: &mut Out) -> Result<LineStep, NoMemory> {
+        Ok(LineStep::Done)
+    }
+
+    fn close(&mut self, _text: &mut Out) -> Result<(), NoMemory> {
+        Ok(())
+    }
+
+    ghost ends = { λ player number fresh. record { effect = Prim.search (rules, arith); same = refl } };
 }
