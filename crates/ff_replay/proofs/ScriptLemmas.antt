@@ -14,12 +14,9 @@ use Rattle.ff_replay.specs.Player.{PlayerValue, PlayerState, with_trace, PlayerP
 use Rattle.ff_script.specs.declared.line.Setup.{Setup}
 use Rattle.ff_script.specs.declared.line.Setup.TheVariants.{Bare}
 use Rattle.ff_script.specs.Line.{LineValue, EventLine, SetupLine, Nothing, setup_at, event_at, words_at, line_at}
-use Rattle.cluster_model.specs.declared.piece.Piece.{Piece}
-use Rattle.cluster_model.specs.Event.{EventValue, Deliver, Restart}
-use Rattle.cluster_model.specs.Server.{ServerState}
-use Rattle.cluster_model.specs.Server.{restart_of}
-use Rattle.ff_world.specs.World.{WorldState, WorldStep, effect_of, world_step, Run, with_step, run_of, restart_step}
-use Rattle.ff_replay.specs.Script.{Script, by_line, with_event, script_of, LinePlayed, Outside, Limited, Goes, played, played_by, played_step, entries_by, setup_of, world_of, count_of, script_from, run_from, meaning_from, script_task}
+use Rattle.cluster_model.specs.Event.{EventValue}
+use Rattle.ff_world.specs.World.{WorldState, WorldStep, effect_of, step_of, world_step, Run, with_step, run_of}
+use Rattle.ff_replay.specs.Script.{Script, by_line, with_event, script_of, LinePlayed, Outside, Limited, Goes, played, played_by, played_step, entries_by, setup_of, count_of, run_by, script_from, run_from, meaning_from, script_task}
 use Rattle.ff_replay.proofs.PlayLemmas.{print_append}
 
 -- a setup's line stands only before a setup, and an event's only behind one
@@ -57,34 +54,35 @@ adds entries run = record { entries = entries ++ run.entries; over = run.over }
 
 -- What a line comes to, before the lines behind it: what the script says, and the run of it.
 abbrev pub Splits : ℕ → Option WorldState → LinePlayed → (Option Setup → Script) → Script → Run → Type 0
-Splits number stage Outside rest s run = s ≡ record { events = []; bad = Some number }
+Splits number stage Outside rest s run = s ≡ record { setup = None; events = []; bad = Some number }
 Splits number stage Limited rest s run = run ≡ record { entries = []; over = true }
-Splits number stage (Goes next entries) rest s run = (s.bad ≡ (rest (setup_of next)).bad) × (run ≡ adds entries (run_of (world_of next) (rest (setup_of next)).events)) × (count_of next ≡ count_of stage + length entries)
+Splits number stage (Goes next entries) rest s run = (s.bad ≡ (rest (setup_of next)).bad) × (run ≡ adds entries (run_by next (rest (setup_of next)))) × (count_of next ≡ count_of stage + length entries)
 
-let_through : (test : Bool) (effect step : WorldStep) → (if test then Some effect else None) ≡ Some step → effect ≡ step
+let_through : (test : Bool) (effect step : WorldStep) → (if test then Some effect else None) ≡ Some step → step ≡ effect
 let_through true effect step is = cc
 let_through false effect step is = absurd (cc)
 
-counted_restart : (w : WorldState) (pieces : List Piece) (server : Option ServerState) → (restart_step w pieces server).world.count ≡ w.count + length (restart_step w pieces server).entries
-counted_restart w pieces None = omega arith
-counted_restart w pieces (Some server) = refl
+-- what an event leaves, where it happens
+stepped : (w : WorldState) (event : EventValue) (step : WorldStep) → world_step w event ≡ Some step → step ≡ step_of w (effect_of w event)
+stepped w event step is = let_through _ (step_of w (effect_of w event)) step is
 
 -- the journal's length goes with the entries
-counted : (w : WorldState) (event : EventValue) (step : WorldStep) → world_step w event ≡ Some step → step.world.count ≡ w.count + length step.entries
-counted w (Deliver bytes) step is =
-    subst (λ (s : WorldStep). s.world.count ≡ w.count + length s.entries) (let_through _ (effect_of w (Deliver bytes)) step is) refl
-counted w (Restart server pieces) step is =
-    subst (λ (s : WorldStep). s.world.count ≡ w.count + length s.entries) (let_through _ (effect_of w (Restart server pieces)) step is) (counted_restart w pieces (restart_of w.server pieces))
-counted w event step is =
-    subst (λ (s : WorldStep). s.world.count ≡ w.count + length s.entries) (let_through _ (record { world = w; entries = [] }) step is) (omega arith)
+counted : (w : WorldState) (event : EventValue) (step : WorldStep) → step ≡ step_of w (effect_of w event) → length step.world.journal ≡ length w.journal + length step.entries
+counted w event step is = rw is (length-append w.journal (effect_of w event).entries)
 
 by_event : (number : ℕ) (w : WorldState) (event : EventValue) (rest : Option Setup → Script) (o : Option WorldStep) → world_step w event ≡ o
-    → Splits number (Some w) (played_step o) rest (with_event event (rest (Some Bare))) (with_step o (λ next. run_of next (rest (Some Bare)).events))
+    → Splits number (Some w) (played_step o) rest (with_event event (rest (Some w.setup))) (with_step o (λ next. run_of next (rest (Some w.setup)).events))
 by_event number w event rest None is = refl
-by_event number w event rest (Some step) is = (refl, refl, counted w event step is)
+by_event number w event rest (Some step) is =
+    let left = stepped w event step is in
+    let kept : w.setup ≡ step.world.setup = sym (ap (λ (s : WorldStep). s.world.setup) left) in (
+      ap (λ c. (rest (Some c)).bad) kept,
+      ap (λ c. adds step.entries (run_of step.world (rest (Some c)).events)) kept,
+      counted w event step left,
+    )
 
 by_value : (number : ℕ) (stage : Option WorldState) (v : Option LineValue) (rest : Option Setup → Script) → Meets (setup_of stage) v
-    → Splits number stage (played_by stage v) rest (by_line number (setup_of stage) v rest) (run_of (world_of stage) (by_line number (setup_of stage) v rest).events)
+    → Splits number stage (played_by stage v) rest (by_line number (setup_of stage) v rest) (run_by stage (by_line number (setup_of stage) v rest))
 by_value number stage None rest met = refl
 by_value number stage (Some Nothing) rest met = (refl, refl, omega arith)
 by_value number None (Some (SetupLine Bare)) rest met = (refl, refl, omega arith)
@@ -116,10 +114,11 @@ goes_first number stage next line lines entries is =
 outside_first : (number : ℕ) (stage : Option WorldState) (line : List ℕ) (lines : List (List ℕ)) → played stage line ≡ Outside
     → ((meaning_from stage number (line ∷ lines)).bad ≡ Some number) × ((meaning_from stage number (line ∷ lines)).past ≡ false) × ((meaning_from stage number (line ∷ lines)).text ≡ [])
 outside_first number stage line lines is =
-    let split = line_on number stage line lines Outside is in (
+    let split = line_on number stage line lines Outside is in
+    let run : run_from stage number (line ∷ lines) ≡ record { entries = []; over = false } = ap (run_by stage) split in (
       ap (λ (s : Script). s.bad) split,
-      ap (λ (s : Script). (run_of (world_of stage) s.events).over) split,
-      ap (λ (s : Script). print (run_of (world_of stage) s.events).entries) split,
+      ap (λ (r : Run). r.over) run,
+      ap (λ (r : Run). print r.entries) run,
     )
 
 -- its event would pass a limit
@@ -182,7 +181,3 @@ does_task old new text text' line (Err e) number begun = record {
       let first = text_first number old.stage line lines (played old.stage line) refl in
       begins_first begun.part _ first.0 _ begun.begins first.1;
 }
-
--- after a line that was played nothing is spent
-pub does_fresh : (old new : PlayerState) (p : LinePlayed) (r : Result LineStep NoMemory) → r ≡ Ok step.Done → PlayerPlays old p r new → new.spent ≡ None
-does_fresh old new p r is does = ap (λ (n : PlayerState). n.spent) (subst (λ x. PlayerPlays old p x new) is does).now

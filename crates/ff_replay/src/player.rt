@@ -1,10 +1,10 @@
 //! A run of a script, line by line.
 
-ghost use Rattle.std.specs.Prelude.{◌≡◌, ◌≢◌, None, IsSome};
+ghost use Rattle.std.specs.Prelude.{◌≡◌, ◌≢◌, None, Some};
 ghost use Rattle.ff_script.specs.Line.{event_value};
-ghost use Rattle.ff_replay.specs.Script.{setup_of, world_of, played, played_step};
+ghost use Rattle.ff_replay.specs.Script.{setup_of, played, played_step};
 ghost use Rattle.ff_world.specs.World.{world_step};
-ghost use Rattle.ff_replay.specs.Player.{PlayerPlays, with_trace};
+ghost use Rattle.ff_replay.specs.Player.{PlayerPlays, player_of, with_trace};
 
 use crate::writing::print_entries;
 use ff_script::{Event, Line, Setup, parse_line};
@@ -29,6 +29,22 @@ impl Model for Player {
     ghost view = { λ p. player_of p.stage };
 }
 
+/// Lets an event happen in a world, and prints the entries that it adds to the journal.
+fn happen(world: &mut World, event: &Event<'_>, text: &mut Out) -> Result<LineStep, NoMemory>
+    ensures does { world.old.spent ≡ None → PlayerPlays (with_trace (player_of (Some world.old)) text.old) (played_step (world_step world.old.world (event_value event.now))) result (with_trace (player_of (Some world.new)) text.new) }
+    ensures spent { world.old.spent ≢ None → world.new ≡ world.old }
+{
+    let printed = world.journal().len();
+    match world.step(event) {
+        Ok(()) => {
+            print_entries(&world.journal()[printed..], text)?;
+            Ok(LineStep::Done)
+        }
+        Err(WorldFault::Limit { entries }) => Ok(LineStep::Limited(entries)),
+        Err(WorldFault::NoMemory) => Err(NoMemory),
+    }
+}
+
 impl Player {
     /// Before the first line; takes no memory.
     pub fn new(alloc: Global) -> Player
@@ -43,28 +59,7 @@ impl Player {
     {
         match &self.stage {
             None => None,
-            Some(_) => Some(Setup::Bare),
-        }
-    }
-
-    /// Lets an event happen, and prints its entries.
-    fn happen(&mut self, event: &Event<'_>, text: &mut Out) -> Result<LineStep, NoMemory>
-        requires stage { IsSome self.old.stage }
-        ensures does { self.old.spent ≡ None → PlayerPlays (with_trace self.old text.old) (played_step (world_step (world_of self.old.stage) (event_value event.now))) result (with_trace self.new text.new) }
-        ensures spent { self.old.spent ≢ None → self.new ≡ self.old }
-    {
-        let mut entries = Vec::new(self.alloc);
-        let happened = match &mut self.stage {
-            None => unreachable!(),
-            Some(world) => world.step(event, &mut entries),
-        };
-        match happened {
-            Ok(()) => {
-                print_entries(&entries, text)?;
-                Ok(LineStep::Done)
-            }
-            Err(WorldFault::Limit { entries }) => Ok(LineStep::Limited(entries)),
-            Err(WorldFault::NoMemory) => Err(NoMemory),
+            Some(world) => Some(world.setup()),
         }
     }
 
@@ -78,11 +73,16 @@ impl Player {
         match parse_line(self.setup(), line) {
             None => Ok(LineStep::Outside),
             Some(Line::Nothing) => Ok(LineStep::Done),
-            Some(Line::Setup(Setup::Bare)) => {
-                self.stage = Some(World::bare(self.alloc)?);
+            Some(Line::Setup(setup)) => {
+                self.stage = Some(World::new(self.alloc, setup)?);
                 Ok(LineStep::Done)
             }
-            Some(Line::Event(event)) => self.happen(&event, text),
+            Some(Line::Event(event)) => {
+                let Some(world) = &mut self.stage else {
+                    return Ok(LineStep::Outside);
+                };
+                happen(world, &event, text)
+            }
         }
     }
 }
