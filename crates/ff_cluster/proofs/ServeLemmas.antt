@@ -1,15 +1,18 @@
 -- The configuration in a source's first line.
 use Rattle.std.specs.Prelude.{⊤}
-use Rattle.std.proofs.Common.{◌≡◌, ℕ, ◌+◌, ◌<◌, List, [], length, Option, Some, None, Result, Ok, Err, sym, ap, subst, ◌∙◌, arith}
+use Rattle.std.proofs.Common.{◌≡◌, ℕ, ◌+◌, ◌<◌, List, [], length, Option, Some, None, Result, Ok, Err, refl, sym, ap, subst, ◌∙◌, arith}
 use Rattle.line_runs.specs.declared.lines.Ended.TheVariants.{Newline, End, Over as RanOver}
+use Rattle.rpc_record.specs.declared.stream.Failed.TheVariants.{Fault, NoMemory as Wanted}
+use Rattle.std.proofs.lemmas.List.{append-nil}
 use Rattle.line_runs.specs.declared.end.RunEnd.{RunEnd}
 use Rattle.line_runs.specs.declared.end.RunEnd.TheVariants.{Done, BadLine, ReadFault, WriteFault, NoMemory, Limit}
-use Rattle.line_runs.specs.Lines.{cut_line, ReadsLine}
+use Rattle.line_runs.specs.Lines.{Drawn, cut_line, ReadsLine}
 use Rattle.line_runs.proofs.LineLemmas.{cut_more-line, cut_more-over}
 use Rattle.ff_node.specs.declared.config.Config.{Config}
+use Rattle.ff_node.specs.declared.serve.NodeEnd.{NodeEnd}
 use Rattle.ff_node.specs.Config.{ConfigValue, Configures, max_line}
 use Rattle.ff_node.proofs.OneConfig.{one_config}
-use Rattle.ff_cluster.specs.Node.{line_of_cut, first_line, ConfiguresServer, FindsConfig, HasNoConfig, ReadsFirst, FirstFaults}
+use Rattle.ff_cluster.specs.Node.{DrawsFirst, Draws, line_of_cut, first_line, ConfiguresServer, FindsConfig, HasNoConfig, ReadsFirst, FirstFaults}
 
 -- ---- one line configures one node
 
@@ -59,6 +62,61 @@ reads_first left line (Err Done) first finds = absurd finds
 reads_first left line (Err ReadFault) first finds = absurd finds
 reads_first left line (Err WriteFault) first finds = absurd finds
 reads_first left line (Err (Limit count)) first finds = absurd finds
+
+-- ---- what was drawn from the source
+
+-- where it was read to the line's end
+draws_all : (bytes line : List ℕ) (left' : Option (List ℕ)) (r : Result Config RunEnd) → DrawsFirst bytes left' → FindsConfig line r → Draws (Some bytes) r left'
+draws_all bytes line left' (Ok config) drawn finds = drawn
+draws_all bytes line left' (Err (BadLine n)) drawn finds = drawn
+draws_all bytes line left' (Err NoMemory) drawn finds = drawn.drawn
+draws_all bytes line left' (Err Done) drawn finds = absurd finds
+draws_all bytes line left' (Err ReadFault) drawn finds = absurd finds
+draws_all bytes line left' (Err WriteFault) drawn finds = absurd finds
+draws_all bytes line left' (Err (Limit count)) drawn finds = absurd finds
+
+pub draws_newline : (left left' : Option (List ℕ)) (line held' : List ℕ) (r : Result Config RunEnd) → ReadsLine (max_line + 1) [] left (Ok Newline) line held' left' → FindsConfig line r → Draws left r left'
+draws_newline None left' line held' r read finds = read
+draws_newline (Some bytes) left' line held' r read finds =
+    draws_all bytes line left' r (record { drawn = read.drawn; first = ap line_of_cut read.cut ∙ sym (first_newline (Some bytes) left' line held' read) }) finds
+
+pub draws_end : (left left' : Option (List ℕ)) (line held' : List ℕ) (r : Result Config RunEnd) → ReadsLine (max_line + 1) [] left (Ok End) line held' left' → FindsConfig line r → Draws left r left'
+draws_end None left' line held' r read finds = read
+draws_end (Some bytes) left' line held' r read finds =
+    draws_all bytes line left' r (record { drawn = record { front = bytes; rest = []; told = read.none_left; whole = append-nil bytes }; first = refl }) finds
+
+pub draws_over : (left left' : Option (List ℕ)) (line held' : List ℕ) (n : ℕ) → ReadsLine (max_line + 1) [] left (Ok RanOver) line held' left' → Draws {T = Config} left (Err (BadLine n)) left'
+draws_over None left' line held' n read = read
+draws_over (Some bytes) left' line held' n read =
+    let drawn = read.keeps.drawn in
+    let over : first_line bytes ≡ None = ap line_of_cut (ap (cut_line (max_line + 1)) (sym drawn.whole) ∙ cut_more-over (max_line + 1) drawn.front drawn.rest read.cut) in
+    record { drawn = drawn; first = ap line_of_cut read.cut ∙ sym over }
+
+pub draws_fault : (left left' : Option (List ℕ)) (line held' : List ℕ) → ReadsLine (max_line + 1) [] left (Err Fault) line held' left' → Draws {T = Config} left (Err ReadFault) left'
+draws_fault None left' line held' read = read
+draws_fault (Some bytes) left' line held' read = read.keeps.drawn
+
+pub draws_wanted : (left left' : Option (List ℕ)) (line held' : List ℕ) → ReadsLine (max_line + 1) [] left (Err Wanted) line held' left' → Draws {T = Config} left (Err NoMemory) left'
+draws_wanted None left' line held' read = read
+draws_wanted (Some bytes) left' line held' read = read.drawn
+
+-- nothing was read
+pub draws_none : (left : Option (List ℕ)) → Draws {T = Config} left (Err NoMemory) left
+draws_none None = refl
+draws_none (Some bytes) = record { front = []; rest = bytes; told = refl; whole = refl }
+
+-- what was drawn for an error is drawn for any result that is the error
+pub draws_err : (left left' : Option (List ℕ)) (r : Result Config RunEnd) (q : Result NodeEnd RunEnd) (e : RunEnd) → r ≡ Err e → q ≡ Err e → Draws left r left' → Draws left q left'
+draws_err left left' r q e is so draws = subst (λ x. Draws left x left') (sym so) (same left e (subst (λ x. Draws left x left') is draws))
+  where
+    same : (l : Option (List ℕ)) (x : RunEnd) → Draws {T = Config} l (Err x) left' → Draws {T = NodeEnd} l (Err x) left'
+    same None x d = d
+    same (Some bytes) (BadLine n) d = d
+    same (Some bytes) ReadFault d = d
+    same (Some bytes) NoMemory d = d
+    same (Some bytes) Done d = absurd d
+    same (Some bytes) WriteFault d = absurd d
+    same (Some bytes) (Limit count) d = absurd d
 
 -- the source did not fail
 pub faults_first : (line : List ℕ) (r : Result Config RunEnd) (old new : ℕ) → FindsConfig line r → new ≡ old → FirstFaults r old new

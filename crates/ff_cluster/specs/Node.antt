@@ -3,7 +3,7 @@ use Rattle.std.specs.Prelude.{⊤, ◌≡◌, ℕ, ◌+◌, ◌≤◌, List, len
 use Rattle.cluster_model.specs.declared.ids.NodeId.{NodeId}
 use Rattle.line_runs.specs.declared.end.RunEnd.{RunEnd}
 use Rattle.line_runs.specs.declared.end.RunEnd.TheVariants.{Done, BadLine, ReadFault, WriteFault, NoMemory, Limit}
-use Rattle.line_runs.specs.Lines.{Cut, Line, Last, Over, cut_line}
+use Rattle.line_runs.specs.Lines.{Cut, Line, Last, Over, cut_line, Drawn}
 use Rattle.line_runs.specs.Playback.{EndFaults}
 use Rattle.cluster_model.specs.Server.{new_server}
 use Rattle.ff_node.specs.declared.config.Config.{Config}
@@ -66,11 +66,28 @@ abbrev pub FirstFaults : {T : Type 0} → Result T RunEnd → ℕ → ℕ → Ty
 FirstFaults (Ok x) old new = new ≡ old
 FirstFaults (Err end) old new = EndFaults end old new
 
--- What serving did, where these arrivals were to come and these records were sent: a new data server served by the configuration;
--- or nothing was served, and the link is as it was.
-abbrev pub ServesBy : Option (List ℕ) → Option (List Arrival) → Option (List (NodeId × List ℕ)) → Result NodeEnd RunEnd → Option (List Arrival) → Option (List (NodeId × List ℕ)) → Type 0
-ServesBy left coming sent (Ok end) coming' sent' = (c : ConfigValue) × IsConfigOf left c × Serves (new_server c.own 1) c.turns coming sent end coming' sent'
-ServesBy left coming sent (Err end) coming' sent' = Unserved left end × (coming' ≡ coming) × (sent' ≡ sent)
+-- what was drawn from a source: a front of its bytes, in which the first line lies
+pub record DrawsFirst (bytes : List ℕ) (left' : Option (List ℕ)) : Type 0 where
+  pub drawn : Drawn bytes left'
+  pub first : first_line drawn.front ≡ first_line bytes
+
+-- What looking for a configuration drew from a source, where it tells its bytes. Where it failed or memory was wanted, the first
+-- line may go on behind what was drawn.
+abbrev pub Draws : {T : Type 0} → Option (List ℕ) → Result T RunEnd → Option (List ℕ) → Type 0
+Draws None result left' = left' ≡ None
+Draws (Some bytes) (Ok x) left' = DrawsFirst bytes left'
+Draws (Some bytes) (Err (BadLine n)) left' = DrawsFirst bytes left'
+Draws (Some bytes) (Err ReadFault) left' = Drawn bytes left'
+Draws (Some bytes) (Err NoMemory) left' = Drawn bytes left'
+Draws (Some bytes) (Err Done) left' = ⊥
+Draws (Some bytes) (Err WriteFault) left' = ⊥
+Draws (Some bytes) (Err (Limit count)) left' = ⊥
+
+-- What serving did, where the source told these bytes, these arrivals were to come and these records were sent: a new data server
+-- served by the configuration; or nothing was served, and the link is as it was. The source gave what was drawn.
+abbrev pub ServesBy : Option (List ℕ) → Option (List Arrival) → Option (List (NodeId × List ℕ)) → Result NodeEnd RunEnd → Option (List ℕ) → Option (List Arrival) → Option (List (NodeId × List ℕ)) → Type 0
+ServesBy left coming sent (Ok end) left' coming' sent' = (c : ConfigValue) × IsConfigOf left c × Serves (new_server c.own 1) c.turns coming sent end coming' sent' × Draws {T = NodeEnd} left (Ok end) left'
+ServesBy left coming sent (Err end) left' coming' sent' = Unserved left end × (coming' ≡ coming) × (sent' ≡ sent) × Draws {T = NodeEnd} left (Err end) left'
 
 -- the count of the link's faults after it
 abbrev pub served_faults : Result NodeEnd RunEnd → ℕ → ℕ

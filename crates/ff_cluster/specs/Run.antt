@@ -5,8 +5,8 @@ use Rattle.rpc_record.specs.declared.stream.Failed.{Failed}
 use Rattle.rpc_record.specs.declared.stream.Failed.TheVariants as failed
 use Rattle.rpc_record.specs.Stream.{counted}
 use Rattle.line_runs.specs.declared.end.RunEnd.TheVariants.{Done, BadLine, ReadFault, WriteFault, NoMemory, Limit}
-use Rattle.ff_cluster.specs.declared.run.Outcome.{Outcome}
-use Rattle.ff_cluster.specs.declared.run.Outcome.TheVariants.{Usage, Ended, Served}
+use Rattle.ff_cluster.specs.declared.run.ProgramEnd.{ProgramEnd}
+use Rattle.ff_cluster.specs.declared.run.ProgramEnd.TheVariants.{Usage, Ended, Served}
 use Rattle.line_runs.specs.declared.end.RunEnd.{RunEnd}
 use Rattle.line_runs.specs.Runs.{Runs, ReadFaults, write_faults}
 use Rattle.cluster_model.specs.declared.ids.NodeId.{NodeId}
@@ -16,8 +16,8 @@ use Rattle.ff_node.specs.declared.serve.NodeEnd.TheVariants as served
 use Rattle.ff_node.specs.Serve.{link_faults}
 use Rattle.ff_cluster.specs.Node.{ServesBy}
 use Rattle.line_runs.specs.Writing.{WritesText}
-use Rattle.ff_replay.specs.Script.{script_course}
-use Rattle.record_show.specs.Show.{show_course}
+use Rattle.ff_replay.specs.Script.{script_budget, script_meaning}
+use Rattle.record_show.specs.Show.{show_budget, show_meaning}
 use Rattle.ff_cluster.specs.declared.run.Command.{Command}
 use Rattle.ff_cluster.specs.declared.run.Command.TheVariants.{Replay, Show, Ds}
 
@@ -31,34 +31,34 @@ command_of [] = None
 command_of (word ∷ []) = command_named word
 command_of (word ∷ next ∷ rest) = None
 
--- what the source, the sink and the link tell: the bytes that are left and that were taken, the arrivals to come and the
--- records sent
-pub record Told : Type 0 where
-  pub left : Option (List ℕ)
-  pub held : Option (List ℕ)
-  pub coming : Option (List Arrival)
+-- what the source, the sink and the link tell: the bytes that are not yet read and those that were written, the arrivals to come
+-- and the records sent
+pub record Observed : Type 0 where
+  pub unread : Option (List ℕ)
+  pub written : Option (List ℕ)
+  pub arrivals : Option (List Arrival)
   pub sent : Option (List (NodeId × List ℕ))
 
-abbrev pub told : Option (List ℕ) → Option (List ℕ) → Option (List Arrival) → Option (List (NodeId × List ℕ)) → Told
-told left held coming sent = record { left = left; held = held; coming = coming; sent = sent }
+abbrev pub observed : Option (List ℕ) → Option (List ℕ) → Option (List Arrival) → Option (List (NodeId × List ℕ)) → Observed
+observed unread written arrivals sent = record { unread = unread; written = written; arrivals = arrivals; sent = sent }
 
 -- the link is as it was
-abbrev pub KeepsLink : Told → Told → Type 0
-KeepsLink old new = (new.coming ≡ old.coming) × (new.sent ≡ old.sent)
+abbrev pub KeepsLink : Observed → Observed → Type 0
+KeepsLink old new = (new.arrivals ≡ old.arrivals) × (new.sent ≡ old.sent)
 
 -- What a command did that ended so, before any serving: the lines of the source were run; or nothing was served.
-abbrev pub Ran : Command → RunEnd → Told → Told → Type 0
-Ran Replay end old new = Runs script_course old.left old.held end new.left new.held × KeepsLink old new
-Ran Show end old new = Runs show_course old.left old.held end new.left new.held × KeepsLink old new
-Ran Ds end old new = ServesBy old.left old.coming old.sent (Err end) new.coming new.sent × (new.held ≡ old.held)
+abbrev pub RunsCommand : Command → RunEnd → Observed → Observed → Type 0
+RunsCommand Replay end old new = Runs script_budget script_meaning old.unread old.written end new.unread new.written × KeepsLink old new
+RunsCommand Show end old new = Runs show_budget show_meaning old.unread old.written end new.unread new.written × KeepsLink old new
+RunsCommand Ds end old new = ServesBy old.unread old.arrivals old.sent (Err end) new.unread new.arrivals new.sent × (new.written ≡ old.written)
 
 -- what serving came to
-abbrev pub outcome_of_end : Result NodeEnd RunEnd → Outcome
-outcome_of_end (Ok end) = Served end
-outcome_of_end (Err end) = Ended end
+abbrev pub end_of_serving : Result NodeEnd RunEnd → ProgramEnd
+end_of_serving (Ok end) = Served end
+end_of_serving (Err end) = Ended end
 
 -- the status that the program ends with
-abbrev pub status_of : Outcome → ℕ
+abbrev pub status_of : ProgramEnd → ℕ
 status_of Usage = 2
 status_of (Ended Done) = 0
 status_of (Ended (BadLine n)) = 3
@@ -75,7 +75,7 @@ abbrev pub with_number : List ℕ → ℕ → List ℕ
 with_number word n = word ++ (decimal n ++ 10 ∷ [])
 
 -- the line that the notes get, which is none where all went well
-abbrev pub note_of : Outcome → List ℕ
+abbrev pub note_of : ProgramEnd → List ℕ
 note_of Usage = codes "usage\n"
 note_of (Ended Done) = []
 note_of (Ended (BadLine n)) = with_number (codes "line ") n
@@ -88,37 +88,38 @@ note_of (Served served.LinkFault) = codes "link fault\n"
 note_of (Served served.NoMemory) = codes "no memory\n"
 
 -- a note that could not be written is a fault or want of memory of its own
-abbrev pub status_after : Outcome → Result (Unit {0}) Failed → ℕ
-status_after outcome (Ok x) = status_of outcome
-status_after outcome (Err failed.Fault) = 5
-status_after outcome (Err failed.NoMemory) = 8
+abbrev pub status_after : ProgramEnd → Result (Unit {0}) Failed → ℕ
+status_after end (Ok x) = status_of end
+status_after end (Err failed.Fault) = 5
+status_after end (Err failed.NoMemory) = 8
 
--- what was done: nothing, since the words are no command; a command was run, and ended so; or a data server served
-abbrev pub Did : Option Command → Outcome → Told → Told → Type 0
-Did asked Usage old new = (asked ≡ None) × (new ≡ old)
-Did asked (Ended end) old new = (command : Command) × (asked ≡ Some command) × Ran command end old new
-Did asked (Served end) old new = (asked ≡ Some Ds) × ServesBy old.left old.coming old.sent (Ok end) new.coming new.sent × (new.held ≡ old.held)
+-- what the program did for the command: nothing, since the words are none; it ran the command, which ended so; or it served as a
+-- data server
+abbrev pub Performs : Option Command → ProgramEnd → Observed → Observed → Type 0
+Performs asked Usage old new = (asked ≡ None) × (new ≡ old)
+Performs asked (Ended end) old new = (command : Command) × (asked ≡ Some command) × RunsCommand command end old new
+Performs asked (Served end) old new = (asked ≡ Some Ds) × ServesBy old.unread old.arrivals old.sent (Ok end) new.unread new.arrivals new.sent × (new.written ≡ old.written)
 
 -- the source's count of faults, and the sink's
-abbrev pub DidRead : Outcome → ℕ → ℕ → Type 0
-DidRead Usage old new = new ≡ old
-DidRead (Ended end) old new = ReadFaults end old new
-DidRead (Served end) old new = new ≡ old
+abbrev pub SourceFaultsAfter : ProgramEnd → ℕ → ℕ → Type 0
+SourceFaultsAfter Usage old new = new ≡ old
+SourceFaultsAfter (Ended end) old new = ReadFaults end old new
+SourceFaultsAfter (Served end) old new = new ≡ old
 
-abbrev pub did_write : Outcome → ℕ → ℕ
-did_write Usage n = n
-did_write (Ended end) n = write_faults end n
-did_write (Served end) n = n
+abbrev pub sink_faults_after : ProgramEnd → ℕ → ℕ
+sink_faults_after Usage n = n
+sink_faults_after (Ended end) n = write_faults end n
+sink_faults_after (Served end) n = n
 
 -- the link's count of faults
-abbrev pub did_link : Outcome → ℕ → ℕ
-did_link Usage n = n
-did_link (Ended end) n = n
-did_link (Served end) n = link_faults end n
+abbrev pub link_faults_after : ProgramEnd → ℕ → ℕ
+link_faults_after Usage n = n
+link_faults_after (Ended end) n = n
+link_faults_after (Served end) n = link_faults end n
 
 -- what was said of it: the notes took the line, or a beginning of it, and the status is by that
-pub record SaysOfRun (outcome : Outcome) (ends : ℕ) (notes notes' : Option (List ℕ)) (faults faults' : ℕ) : Type 0 where
+pub record Reports (end : ProgramEnd) (code : ℕ) (notes notes' : Option (List ℕ)) (faults faults' : ℕ) : Type 0 where
   pub writing : Result (Unit {0}) Failed
-  pub told : WritesText notes (note_of outcome) writing notes'
+  pub told : WritesText notes (note_of end) writing notes'
   pub counts : faults' ≡ counted writing faults
-  pub status : ends ≡ status_after outcome writing
+  pub status : code ≡ status_after end writing

@@ -3,9 +3,9 @@
 ghost use Rattle.std.specs.Prelude.{◌≡◌, ◌++◌, map, OnOk};
 ghost use Rattle.std.specs.String.{string_bytes};
 ghost use Rattle.rpc_record.specs.Stream.{counted};
-ghost use Rattle.ff_cluster.specs.declared.run.Outcome.{Outcome};
+ghost use Rattle.ff_cluster.specs.declared.run.ProgramEnd.{ProgramEnd};
 ghost use Rattle.line_runs.specs.Writing.{WritesText};
-ghost use Rattle.ff_cluster.specs.Run.{command_named, command_of, status_of, note_of, with_number, told, outcome_of_end, Did, DidRead, did_write, did_link, SaysOfRun};
+ghost use Rattle.ff_cluster.specs.Run.{command_named, command_of, status_of, note_of, with_number, observed, end_of_serving, Performs, SourceFaultsAfter, sink_faults_after, link_faults_after, Reports};
 
 use crate::serve::serve;
 use ff_node::{Link, NodeEnd};
@@ -28,9 +28,9 @@ pub enum Command {
     Ds,
 }
 
-/// What the program did.
+/// How the program ends.
 #[derive(Clone, Copy, Debug, PartialEq, Eq)]
-pub enum Outcome {
+pub enum ProgramEnd {
     /// Nothing: its words are no command.
     Usage,
     /// It ran a command, which ended so.
@@ -39,22 +39,22 @@ pub enum Outcome {
     Served(NodeEnd),
 }
 
-impl Outcome {
+impl ProgramEnd {
     /// The status that the program ends with.
     pub fn status(self) -> u8
         ensures { result ≡ status_of self }
     {
         match self {
-            Outcome::Usage => 2,
-            Outcome::Ended(RunEnd::Done) => 0,
-            Outcome::Ended(RunEnd::BadLine(_)) => 3,
-            Outcome::Ended(RunEnd::ReadFault) => 4,
-            Outcome::Ended(RunEnd::WriteFault) => 5,
-            Outcome::Ended(RunEnd::NoMemory) => 8,
-            Outcome::Ended(RunEnd::Limit(_)) => 9,
-            Outcome::Served(NodeEnd::Done) => 0,
-            Outcome::Served(NodeEnd::LinkFault) => 7,
-            Outcome::Served(NodeEnd::NoMemory) => 8,
+            ProgramEnd::Usage => 2,
+            ProgramEnd::Ended(RunEnd::Done) => 0,
+            ProgramEnd::Ended(RunEnd::BadLine(_)) => 3,
+            ProgramEnd::Ended(RunEnd::ReadFault) => 4,
+            ProgramEnd::Ended(RunEnd::WriteFault) => 5,
+            ProgramEnd::Ended(RunEnd::NoMemory) => 8,
+            ProgramEnd::Ended(RunEnd::Limit(_)) => 9,
+            ProgramEnd::Served(NodeEnd::Done) => 0,
+            ProgramEnd::Served(NodeEnd::LinkFault) => 7,
+            ProgramEnd::Served(NodeEnd::NoMemory) => 8,
         }
     }
 
@@ -64,16 +64,16 @@ impl Outcome {
         ensures faults { E.faults notes.new ≡ counted result (E.faults notes.old) }
     {
         match self {
-            Outcome::Usage => write_all(notes, b"usage\n"),
-            Outcome::Ended(RunEnd::Done) => Ok(()),
-            Outcome::Ended(RunEnd::BadLine(number)) => tell_number(alloc, b"line ", number, notes),
-            Outcome::Ended(RunEnd::ReadFault) => write_all(notes, b"read fault\n"),
-            Outcome::Ended(RunEnd::WriteFault) => write_all(notes, b"write fault\n"),
-            Outcome::Ended(RunEnd::NoMemory) => write_all(notes, b"no memory\n"),
-            Outcome::Ended(RunEnd::Limit(count)) => tell_number(alloc, b"limit ", count, notes),
-            Outcome::Served(NodeEnd::Done) => Ok(()),
-            Outcome::Served(NodeEnd::LinkFault) => write_all(notes, b"link fault\n"),
-            Outcome::Served(NodeEnd::NoMemory) => write_all(notes, b"no memory\n"),
+            ProgramEnd::Usage => write_all(notes, b"usage\n"),
+            ProgramEnd::Ended(RunEnd::Done) => Ok(()),
+            ProgramEnd::Ended(RunEnd::BadLine(number)) => tell_number(alloc, b"line ", number, notes),
+            ProgramEnd::Ended(RunEnd::ReadFault) => write_all(notes, b"read fault\n"),
+            ProgramEnd::Ended(RunEnd::WriteFault) => write_all(notes, b"write fault\n"),
+            ProgramEnd::Ended(RunEnd::NoMemory) => write_all(notes, b"no memory\n"),
+            ProgramEnd::Ended(RunEnd::Limit(count)) => tell_number(alloc, b"limit ", count, notes),
+            ProgramEnd::Served(NodeEnd::Done) => Ok(()),
+            ProgramEnd::Served(NodeEnd::LinkFault) => write_all(notes, b"link fault\n"),
+            ProgramEnd::Served(NodeEnd::NoMemory) => write_all(notes, b"no memory\n"),
         }
     }
 }
@@ -127,12 +127,12 @@ fn command_named(word: &[u8]) -> Option<Command>
 }
 
 /// What serving came to.
-fn served(ended: Result<NodeEnd, RunEnd>) -> Outcome
-    ensures { result ≡ outcome_of_end ended }
+fn served(ended: Result<NodeEnd, RunEnd>) -> ProgramEnd
+    ensures { result ≡ end_of_serving ended }
 {
     match ended {
-        Ok(end) => Outcome::Served(end),
-        Err(end) => Outcome::Ended(end),
+        Ok(end) => ProgramEnd::Served(end),
+        Err(end) => ProgramEnd::Ended(end),
     }
 }
 
@@ -150,21 +150,21 @@ pub fn run<S: Source, K: Sink, E: Sink, L: Link>(
     notes: &mut E,
     link: &mut L,
 ) -> u8
-    ensures { (outcome : Outcome)
-        × Did (command_of (map string_bytes words.now)) outcome (told (S.left source.old) (K.held sink.old) (L.coming link.old) (L.sent link.old)) (told (S.left source.new) (K.held sink.new) (L.coming link.new) (L.sent link.new))
-        × DidRead outcome (S.faults source.old) (S.faults source.new)
-        × (K.faults sink.new ≡ did_write outcome (K.faults sink.old))
-        × (L.faults link.new ≡ did_link outcome (L.faults link.old))
-        × SaysOfRun outcome result (E.held notes.old) (E.held notes.new) (E.faults notes.old) (E.faults notes.new) }
+    ensures { (end : ProgramEnd)
+        × Performs (command_of (map string_bytes words.now)) end (observed (S.left source.old) (K.held sink.old) (L.coming link.old) (L.sent link.old)) (observed (S.left source.new) (K.held sink.new) (L.coming link.new) (L.sent link.new))
+        × SourceFaultsAfter end (S.faults source.old) (S.faults source.new)
+        × (K.faults sink.new ≡ sink_faults_after end (K.faults sink.old))
+        × (L.faults link.new ≡ link_faults_after end (L.faults link.old))
+        × Reports end result (E.held notes.old) (E.held notes.new) (E.faults notes.old) (E.faults notes.new) }
 {
-    let outcome = match asked(words) {
-        Some(Command::Replay) => Outcome::Ended(replay(alloc, source, sink)),
-        Some(Command::Show) => Outcome::Ended(show(alloc, source, sink)),
+    let end = match asked(words) {
+        Some(Command::Replay) => ProgramEnd::Ended(replay(alloc, source, sink)),
+        Some(Command::Show) => ProgramEnd::Ended(show(alloc, source, sink)),
         Some(Command::Ds) => served(serve(alloc, source, link)),
-        None => Outcome::Usage,
+        None => ProgramEnd::Usage,
     };
-    match outcome.tell(alloc, notes) {
-        Ok(()) => outcome.status(),
+    match end.tell(alloc, notes) {
+        Ok(()) => end.status(),
         Err(Failed::Fault) => 5,
         Err(Failed::NoMemory) => 8,
     }

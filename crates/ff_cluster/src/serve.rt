@@ -1,7 +1,7 @@
 //! A data server that serves by the configuration in a source's first line.
 
 ghost use Rattle.std.specs.Prelude.{◌≡◌};
-ghost use Rattle.ff_cluster.specs.Node.{FindsConfig, ReadsFirst, FirstFaults, ServesBy, served_faults};
+ghost use Rattle.ff_cluster.specs.Node.{FindsConfig, ReadsFirst, Draws, FirstFaults, ServesBy, served_faults};
 
 use ff_node::{Config, ConfigFault, Link, MAX_LINE, NodeEnd, read_config, serve_ds};
 use line_runs::{Ended, LineBuffer, RunEnd};
@@ -27,6 +27,7 @@ fn config_in(alloc: Global, line: &[u8]) -> Result<Config, RunEnd>
 /// The configuration in the first line of a source.
 fn read_first<S: Source>(alloc: Global, source: &mut S) -> Result<Config, RunEnd>
     ensures told { ReadsFirst (S.left source.old) result }
+    ensures drawn { Draws (S.left source.old) result (S.left source.new) }
     ensures faults { FirstFaults result (S.faults source.old) (S.faults source.new) }
 {
     let Ok(mut buffer) = LineBuffer::new(alloc) else {
@@ -50,7 +51,7 @@ pub fn serve<S: Source, L: Link>(
     source: &mut S,
     link: &mut L,
 ) -> Result<NodeEnd, RunEnd>
-    ensures told { ServesBy (S.left source.old) (L.coming link.old) (L.sent link.old) result (L.coming link.new) (L.sent link.new) }
+    ensures told { ServesBy (S.left source.old) (L.coming link.old) (L.sent link.old) result (S.left source.new) (L.coming link.new) (L.sent link.new) }
     ensures reads { FirstFaults result (S.faults source.old) (S.faults source.new) }
     ensures faults { L.faults link.new ≡ served_faults result (L.faults link.old) }
 {

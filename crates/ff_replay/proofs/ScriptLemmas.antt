@@ -1,24 +1,22 @@
 -- What the first line of a script does to what the script says.
 use Rattle.std.proofs.Common.{◌≡◌, ℕ, ◌+◌, Bool, true, false, List, [], ◌∷◌, ◌++◌, length, Option, Some, None, Result, Ok, Err, refl, sym, ap, subst, ◌∙◌, arith, ◌==◌, if◌then◌else◌}
 use Rattle.std.specs.Option.{option_map}
-use Rattle.std.proofs.lemmas.List.{append_assoc, length-append}
+use Rattle.std.proofs.lemmas.List.{append-nil, append_assoc, length-append}
 use Rattle.cluster_model.specs.declared.entry.Entry.{Entry}
 use Rattle.cluster_model.specs.Print.{print}
 use Rattle.ff_xdr.specs.declared.error.NoMemory.{NoMemory}
-use Rattle.line_runs.specs.declared.end.Played.{Played}
-use Rattle.line_runs.specs.declared.end.Played.TheVariants as outcome
+use Rattle.line_runs.specs.declared.end.LineStep.{LineStep}
+use Rattle.line_runs.specs.declared.end.LineStep.TheVariants as step
 use Rattle.line_runs.specs.Writing.{IsBeginningOf}
-use Rattle.line_runs.specs.Runs.{Course, after_text, PlaysLine}
+use Rattle.line_runs.specs.Runs.{RunEffect, after_text}
+use Rattle.line_runs.specs.Tasks.{BeginsLine, ahead_of, on_line}
 use Rattle.ff_replay.specs.Player.{PlayerValue, PlayerState, with_trace, PlayerPlays}
 use Rattle.ff_script.specs.declared.line.Setup.{Setup}
 use Rattle.ff_script.specs.declared.line.Setup.TheVariants.{Bare}
 use Rattle.ff_script.specs.Line.{LineValue, EventLine, SetupLine, Nothing, setup_at, event_at, words_at, line_at}
-use Rattle.cluster_model.specs.declared.piece.Piece.{Piece}
-use Rattle.cluster_model.specs.Event.{EventValue, Deliver, Restart}
-use Rattle.cluster_model.specs.Server.{ServerState}
-use Rattle.cluster_model.specs.Server.{restart_of}
-use Rattle.ff_world.specs.World.{WorldState, WorldStep, effect_of, world_step, Run, with_step, run_of, restart_step}
-use Rattle.ff_replay.specs.Script.{Script, by_line, with_event, script_of, LinePlayed, Outside, Limited, Goes, played, played_by, played_step, entries_by, setup_of, world_of, count_of, script_from, run_from, course_from}
+use Rattle.cluster_model.specs.Event.{EventValue}
+use Rattle.ff_world.specs.World.{WorldState, WorldStep, effect_of, step_of, world_step, Run, with_step, run_of}
+use Rattle.ff_replay.specs.Script.{Script, by_line, with_event, script_of, LinePlayed, Outside, Limited, Goes, played, played_by, played_step, entries_by, setup_of, count_of, run_by, script_from, run_from, meaning_from, script_task}
 use Rattle.ff_replay.proofs.PlayLemmas.{print_append}
 
 -- a setup's line stands only before a setup, and an event's only behind one
@@ -56,34 +54,35 @@ adds entries run = record { entries = entries ++ run.entries; over = run.over }
 
 -- What a line comes to, before the lines behind it: what the script says, and the run of it.
 abbrev pub Splits : ℕ → Option WorldState → LinePlayed → (Option Setup → Script) → Script → Run → Type 0
-Splits number stage Outside rest s run = s ≡ record { events = []; bad = Some number }
+Splits number stage Outside rest s run = s ≡ record { setup = None; events = []; bad = Some number }
 Splits number stage Limited rest s run = run ≡ record { entries = []; over = true }
-Splits number stage (Goes next entries) rest s run = (s.bad ≡ (rest (setup_of next)).bad) × (run ≡ adds entries (run_of (world_of next) (rest (setup_of next)).events)) × (count_of next ≡ count_of stage + length entries)
+Splits number stage (Goes next entries) rest s run = (s.bad ≡ (rest (setup_of next)).bad) × (run ≡ adds entries (run_by next (rest (setup_of next)))) × (count_of next ≡ count_of stage + length entries)
 
-let_through : (test : Bool) (effect step : WorldStep) → (if test then Some effect else None) ≡ Some step → effect ≡ step
+let_through : (test : Bool) (effect step : WorldStep) → (if test then Some effect else None) ≡ Some step → step ≡ effect
 let_through true effect step is = cc
 let_through false effect step is = absurd (cc)
 
-counted_restart : (w : WorldState) (pieces : List Piece) (server : Option ServerState) → (restart_step w pieces server).world.count ≡ w.count + length (restart_step w pieces server).entries
-counted_restart w pieces None = omega arith
-counted_restart w pieces (Some server) = refl
+-- what an event leaves, where it happens
+stepped : (w : WorldState) (event : EventValue) (step : WorldStep) → world_step w event ≡ Some step → step ≡ step_of w (effect_of w event)
+stepped w event step is = let_through _ (step_of w (effect_of w event)) step is
 
 -- the journal's length goes with the entries
-counted : (w : WorldState) (event : EventValue) (step : WorldStep) → world_step w event ≡ Some step → step.world.count ≡ w.count + length step.entries
-counted w (Deliver bytes) step is =
-    subst (λ (s : WorldStep). s.world.count ≡ w.count + length s.entries) (let_through _ (effect_of w (Deliver bytes)) step is) refl
-counted w (Restart server pieces) step is =
-    subst (λ (s : WorldStep). s.world.count ≡ w.count + length s.entries) (let_through _ (effect_of w (Restart server pieces)) step is) (counted_restart w pieces (restart_of w.server pieces))
-counted w event step is =
-    subst (λ (s : WorldStep). s.world.count ≡ w.count + length s.entries) (let_through _ (record { world = w; entries = [] }) step is) (omega arith)
+counted : (w : WorldState) (event : EventValue) (step : WorldStep) → step ≡ step_of w (effect_of w event) → length step.world.journal ≡ length w.journal + length step.entries
+counted w event step is = rw is (length-append w.journal (effect_of w event).entries)
 
 by_event : (number : ℕ) (w : WorldState) (event : EventValue) (rest : Option Setup → Script) (o : Option WorldStep) → world_step w event ≡ o
-    → Splits number (Some w) (played_step o) rest (with_event event (rest (Some Bare))) (with_step o (λ next. run_of next (rest (Some Bare)).events))
+    → Splits number (Some w) (played_step o) rest (with_event event (rest (Some w.setup))) (with_step o (λ next. run_of next (rest (Some w.setup)).events))
 by_event number w event rest None is = refl
-by_event number w event rest (Some step) is = (refl, refl, counted w event step is)
+by_event number w event rest (Some step) is =
+    let left = stepped w event step is in
+    let kept : w.setup ≡ step.world.setup = sym (ap (λ (s : WorldStep). s.world.setup) left) in (
+      ap (λ c. (rest (Some c)).bad) kept,
+      ap (λ c. adds step.entries (run_of step.world (rest (Some c)).events)) kept,
+      counted w event step left,
+    )
 
 by_value : (number : ℕ) (stage : Option WorldState) (v : Option LineValue) (rest : Option Setup → Script) → Meets (setup_of stage) v
-    → Splits number stage (played_by stage v) rest (by_line number (setup_of stage) v rest) (run_of (world_of stage) (by_line number (setup_of stage) v rest).events)
+    → Splits number stage (played_by stage v) rest (by_line number (setup_of stage) v rest) (run_by stage (by_line number (setup_of stage) v rest))
 by_value number stage None rest met = refl
 by_value number stage (Some Nothing) rest met = (refl, refl, omega arith)
 by_value number None (Some (SetupLine Bare)) rest met = (refl, refl, omega arith)
@@ -101,29 +100,30 @@ line_on number stage line lines p is =
 
 -- it is played
 goes_first : (number : ℕ) (stage next : Option WorldState) (line : List ℕ) (lines : List (List ℕ)) (entries : List Entry) → played stage line ≡ Goes next entries
-    → course_from stage number (line ∷ lines) ≡ after_text (print entries) (course_from next (number + 1) lines)
+    → meaning_from stage number (line ∷ lines) ≡ after_text (print entries) (meaning_from next (number + 1) lines)
 goes_first number stage next line lines entries is =
     let split = line_on number stage line lines (Goes next entries) is in
     let es = (run_from next (number + 1) lines).entries in
     let count : count_of stage + length (entries ++ es) ≡ count_of next + length es = omega (arith, split.2, length-append entries es) in
-    let make : List ℕ → ℕ → Course = λ t n. record { text = t; bad = (script_from next (number + 1) lines).bad; past = (run_from next (number + 1) lines).over; count = n } in
-    let all : course_from stage number (line ∷ lines) ≡ make (print (entries ++ es)) (count_of stage + length (entries ++ es)) =
-    (λ i. record { text = print (split.1 i).entries; bad = split.0 i; past = (split.1 i).over; count = count_of stage + length (split.1 i).entries }) in
+    let make : List ℕ → ℕ → RunEffect = λ t n. record { text = t; bad = (script_from next (number + 1) lines).bad; past = (run_from next (number + 1) lines).over; count = n; closing = [] } in
+    let all : meaning_from stage number (line ∷ lines) ≡ make (print (entries ++ es)) (count_of stage + length (entries ++ es)) =
+    (λ i. record { text = print (split.1 i).entries; bad = split.0 i; past = (split.1 i).over; count = count_of stage + length (split.1 i).entries; closing = [] }) in
     all ∙ (λ i. make (print_append entries es i) (count i))
 
 -- it is outside the grammar
 outside_first : (number : ℕ) (stage : Option WorldState) (line : List ℕ) (lines : List (List ℕ)) → played stage line ≡ Outside
-    → ((course_from stage number (line ∷ lines)).bad ≡ Some number) × ((course_from stage number (line ∷ lines)).past ≡ false) × ((course_from stage number (line ∷ lines)).text ≡ [])
+    → ((meaning_from stage number (line ∷ lines)).bad ≡ Some number) × ((meaning_from stage number (line ∷ lines)).past ≡ false) × ((meaning_from stage number (line ∷ lines)).text ≡ [])
 outside_first number stage line lines is =
-    let split = line_on number stage line lines Outside is in (
+    let split = line_on number stage line lines Outside is in
+    let run : run_from stage number (line ∷ lines) ≡ record { entries = []; over = false } = ap (run_by stage) split in (
       ap (λ (s : Script). s.bad) split,
-      ap (λ (s : Script). (run_of (world_of stage) s.events).over) split,
-      ap (λ (s : Script). print (run_of (world_of stage) s.events).entries) split,
+      ap (λ (r : Run). r.over) run,
+      ap (λ (r : Run). print r.entries) run,
     )
 
 -- its event would pass a limit
 limited_first : (number : ℕ) (stage : Option WorldState) (line : List ℕ) (lines : List (List ℕ)) (count : ℕ) → played stage line ≡ Limited → count ≡ count_of stage
-    → ((course_from stage number (line ∷ lines)).past ≡ true) × (count ≡ (course_from stage number (line ∷ lines)).count) × ((course_from stage number (line ∷ lines)).text ≡ [])
+    → ((meaning_from stage number (line ∷ lines)).past ≡ true) × (count ≡ (meaning_from stage number (line ∷ lines)).count) × ((meaning_from stage number (line ∷ lines)).text ≡ [])
 limited_first number stage line lines count is same =
     let split = line_on number stage line lines Limited is in (
       ap (λ (r : Run). r.over) split,
@@ -133,11 +133,11 @@ limited_first number stage line lines count is same =
 
 -- the text of the first line begins the text of all
 text_first : (number : ℕ) (stage : Option WorldState) (line : List ℕ) (lines : List (List ℕ)) (p : LinePlayed) → played stage line ≡ p
-    → (more : List ℕ) × ((course_from stage number (line ∷ lines)).text ≡ print (entries_by p) ++ more)
+    → (more : List ℕ) × ((meaning_from stage number (line ∷ lines)).text ≡ print (entries_by p) ++ more)
 text_first number stage line lines Outside is = ([], (outside_first number stage line lines is).2)
 text_first number stage line lines Limited is = ([], (limited_first number stage line lines (count_of stage) is refl).2)
 text_first number stage line lines (Goes next entries) is =
-    (print (run_from next (number + 1) lines).entries, ap (λ (c : Course). c.text) (goes_first number stage next line lines entries is))
+    (print (run_from next (number + 1) lines).entries, ap (λ (c : RunEffect). c.text) (goes_first number stage next line lines entries is))
 
 begins_first : (part text more all : List ℕ) → IsBeginningOf part text → all ≡ text ++ more → IsBeginningOf part all
 begins_first part text more all begins is = record {
@@ -145,20 +145,35 @@ begins_first part text more all begins is = record {
   whole = sym (append_assoc part begins.rest more) ∙ ap (λ t. t ++ more) begins.whole ∙ sym is;
 }
 
--- What a player did with a line is what a task does.
-pub does_task : (old new : PlayerValue) (text text' line : List ℕ) (r : Result Played NoMemory) (number : ℕ) → PlayerPlays (with_trace old text) (played old.stage line) r (with_trace new text')
-    → PlaysLine number line (course_from old.stage number) text r (course_from new.stage (number + 1)) text'
-does_task old new text text' line (Ok outcome.Done) number goes =
+-- What a player did with a line is what a step of a task does.
+pub does_task : (old new : PlayerValue) (text text' line : List ℕ) (r : Result LineStep NoMemory) (number : ℕ) → PlayerPlays (with_trace old text) (played old.stage line) r (with_trace new text')
+    → BeginsLine number (on_line line (ahead_of number (script_task old.stage))) text r (script_task new.stage) text'
+does_task old new text text' line (Ok step.Done) number goes =
     let stage : new.stage ≡ goes.stage = ap (λ (p : PlayerState). p.stage) goes.now in record {
       more = print goes.entries;
       now = ap (λ (p : PlayerState). p.trace) goes.now;
       same = λ lines. goes_first number old.stage goes.stage line lines goes.entries goes.is
-          ∙ ap (λ s. after_text (print goes.entries) (course_from s (number + 1) lines)) (sym stage);
+          ∙ ap (λ s. after_text (print goes.entries) (meaning_from s (number + 1) lines)) (sym stage);
+      after = λ lines. refl;
     }
-does_task old new text text' line (Ok outcome.Outside) number refuses =
-    (λ lines. outside_first number old.stage line lines refuses.0, ap (λ (p : PlayerState). p.trace) refuses.1)
-does_task old new text text' line (Ok (outcome.Limited count)) number limited =
-    (λ lines. limited_first number old.stage line lines count limited.is limited.count_is, limited.trace)
+does_task old new text text' line (Ok step.More) number goes = absurd goes
+does_task old new text text' line (Ok step.Outside) number refuses = record {
+  more = [];
+  now = ap (λ (p : PlayerState). p.trace) refuses.1 ∙ sym (append-nil text);
+  why = λ lines. outside_first number old.stage line lines refuses.0;
+  adds = λ lines. (outside_first number old.stage line lines refuses.0).2;
+  closing = λ lines. refl;
+  after = λ lines. refl;
+}
+does_task old new text text' line (Ok (step.Limited count)) number limited =
+    let first = λ (lines : List (List ℕ)). limited_first number old.stage line lines count limited.is limited.count_is in record {
+      more = [];
+      now = limited.trace ∙ sym (append-nil text);
+      why = λ lines. ((first lines).0, (first lines).1);
+      adds = λ lines. (first lines).2;
+      closing = λ lines. refl;
+      after = λ lines. refl;
+    }
 does_task old new text text' line (Err e) number begun = record {
   part = begun.part;
   now = begun.trace;
@@ -166,7 +181,3 @@ does_task old new text text' line (Err e) number begun = record {
       let first = text_first number old.stage line lines (played old.stage line) refl in
       begins_first begun.part _ first.0 _ begun.begins first.1;
 }
-
--- after a line that was played nothing is spent
-pub does_fresh : (old new : PlayerState) (p : LinePlayed) (r : Result Played NoMemory) → r ≡ Ok outcome.Done → PlayerPlays old p r new → new.spent ≡ None
-does_fresh old new p r is does = ap (λ (n : PlayerState). n.spent) (subst (λ x. PlayerPlays old p x new) is does).now

@@ -1,3 +1,2 @@
 pub mod Script
 pub mod Player
-pub mod Writing

@@ -2,10 +2,10 @@
 use Rattle.std.specs.Prelude.{◌≡◌, ℕ, List, ◌++◌, Option, Some, None, Result, Ok, Err}
 use Rattle.ff_xdr.specs.declared.error.NoMemory.{NoMemory}
 use Rattle.cluster_model.specs.declared.entry.Entry.{Entry}
-use Rattle.line_runs.specs.declared.end.Played.{Played}
-use Rattle.line_runs.specs.declared.end.Played.TheVariants as outcome
+use Rattle.line_runs.specs.declared.end.LineStep.{LineStep}
+use Rattle.line_runs.specs.declared.end.LineStep.TheVariants as step
 use Rattle.line_runs.specs.Writing.{IsBeginningOf}
-use Rattle.ff_world.specs.declared.world.WorldFault.{WorldFault}
+use Rattle.ff_world.specs.declared.fault.WorldFault.{WorldFault}
 use Rattle.cluster_model.specs.Print.{print}
 use Rattle.ff_world.specs.World.{WorldState, WorldValue}
 use Rattle.ff_replay.specs.Script.{LinePlayed, Outside, Limited, Goes, entries_by, count_of}
@@ -49,8 +49,9 @@ pub record PlayerPrintedPart (old : PlayerState) (does : LinePlayed) (new : Play
 
 -- What happened where this was to be done: it was done; nothing has changed, since the line is outside the grammar; the event
 -- would pass a limit; or memory was wanted.
-abbrev pub PlayerPlays : PlayerState → LinePlayed → Result Played NoMemory → PlayerState → Type 0
-PlayerPlays old does (Ok outcome.Done) new = GoesFrom old does new
-PlayerPlays old does (Ok outcome.Outside) new = (does ≡ Outside) × (new ≡ old)
-PlayerPlays old does (Ok (outcome.Limited count)) new = PlayerStopsAtLimit old does count new
+abbrev pub PlayerPlays : PlayerState → LinePlayed → Result LineStep NoMemory → PlayerState → Type 0
+PlayerPlays old does (Ok step.Done) new = GoesFrom old does new
+PlayerPlays old does (Ok step.More) new = ⊥
+PlayerPlays old does (Ok step.Outside) new = (does ≡ Outside) × (new ≡ old)
+PlayerPlays old does (Ok (step.Limited count)) new = PlayerStopsAtLimit old does count new
 PlayerPlays old does (Err e) new = PlayerPrintedPart old does new

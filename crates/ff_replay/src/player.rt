@@ -1,16 +1,16 @@
 //! A run of a script, line by line.
 
-ghost use Rattle.std.specs.Prelude.{◌≡◌, ◌≢◌, None, IsSome};
+ghost use Rattle.std.specs.Prelude.{◌≡◌, ◌≢◌, None, Some};
 ghost use Rattle.ff_script.specs.Line.{event_value};
-ghost use Rattle.ff_replay.specs.Script.{setup_of, world_of, count_of, course_from, played, played_step};
+ghost use Rattle.ff_replay.specs.Script.{setup_of, played, played_step};
 ghost use Rattle.ff_world.specs.World.{world_step};
-ghost use Rattle.ff_replay.specs.Player.{PlayerPlays, with_trace};
+ghost use Rattle.ff_replay.specs.Player.{PlayerPlays, player_of, with_trace};
 
 use crate::writing::print_entries;
 use ff_script::{Event, Line, Setup, parse_line};
 use ff_world::{World, WorldFault};
 use ff_xdr::{NoMemory, Out};
-use line_runs::{LineTask, Played};
+use line_runs::{LineStep, LineTask};
 use std::alloc::Global;
 use std::marker::Model;
 
@@ -29,6 +29,22 @@ impl Model for Player {
     ghost view = { λ p. player_of p.stage };
 }
 
+/// Lets an event happen in a world, and prints the entries that it adds to the journal.
+fn happen(world: &mut World, event: &Event<'_>, text: &mut Out) -> Result<LineStep, NoMemory>
+    ensures does { world.old.spent ≡ None → PlayerPlays (with_trace (player_of (Some world.old)) text.old) (played_step (world_step world.old.world (event_value event.now))) result (with_trace (player_of (Some world.new)) text.new) }
+    ensures spent { world.old.spent ≢ None → world.new ≡ world.old }
+{
+    let printed = world.journal().len();
+    match world.step(event) {
+        Ok(()) => {
+            print_entries(&world.journal()[printed..], text)?;
+            Ok(LineStep::Done)
+        }
+        Err(WorldFault::Limit { entries }) => Ok(LineStep::Limited(entries)),
+        Err(WorldFault::NoMemory) => Err(NoMemory),
+    }
+}
+
 impl Player {
     /// Before the first line; takes no memory.
     pub fn new(alloc: Global) -> Player
@@ -43,58 +59,51 @@ impl Player {
     {
         match &self.stage {
             None => None,
-            Some(_) => Some(Setup::Bare),
-        }
-    }
-
-    /// Lets an event happen, and prints its entries.
-    fn happen(&mut self, event: &Event<'_>, text: &mut Out) -> Result<Played, NoMemory>
-        requires stage { IsSome self.old.stage }
-        ensures does { self.old.spent ≡ None → PlayerPlays (with_trace self.old text.old) (played_step (world_step (world_of self.old.stage) (event_value event.now))) result (with_trace self.new text.new) }
-        ensures spent { self.old.spent ≢ None → self.new ≡ self.old }
-    {
-        let mut entries = Vec::new(self.alloc);
-        let happened = match &mut self.stage {
-            None => unreachable!(),
-            Some(world) => world.step(event, &mut entries),
-        };
-        match happened {
-            Ok(()) => {
-                print_entries(&entries, text)?;
-                Ok(Played::Done)
-            }
-            Err(WorldFault::Limit { entries }) => Ok(Played::Limited(entries)),
-            Err(WorldFault::NoMemory) => Err(NoMemory),
+            Some(world) => Some(world.setup()),
         }
     }
 
     /// Plays a line, and prints the entries that it adds to the journal. At an error a beginning of the
     /// entries is printed, and the player is not to be used again. A world that is spent stays so, and
     /// nothing changes.
-    pub fn play_line(&mut self, line: &[u8], text: &mut Out) -> Result<Played, NoMemory>
+    pub fn play_line(&mut self, line: &[u8], text: &mut Out) -> Result<LineStep, NoMemory>
         ensures does { self.old.spent ≡ None → PlayerPlays (with_trace self.old text.old) (played self.old.stage line.now) result (with_trace self.new text.new) }
         ensures spent { self.old.spent ≢ None → self.new ≡ self.old }
     {
         match parse_line(self.setup(), line) {
-            None => Ok(Played::Outside),
-            Some(Line::Nothing) => Ok(Played::Done),
-            Some(Line::Setup(Setup::Bare)) => {
-                self.stage = Some(World::bare(self.alloc)?);
-                Ok(Played::Done)
+            None => Ok(LineStep::Outside),
+            Some(Line::Nothing) => Ok(LineStep::Done),
+            Some(Line::Setup(setup)) => {
+                self.stage = Some(World::new(self.alloc, setup)?);
+                Ok(LineStep::Done)
             }
-            Some(Line::Event(event)) => self.happen(&event, text),
+            Some(Line::Event(event)) => {
+                let Some(world) = &mut self.stage else {
+                    return Ok(LineStep::Outside);
+                };
+                happen(world, &event, text)
+            }
         }
     }
 }
 
 impl LineTask for Player {
-    ghost use Rattle.std.proofs.Common.{rules, arith};
+    ghost use Rattle.std.proofs.Common.{rules, refl, arith};
+    ghost use Rattle.ff_replay.specs.Script.{script_budget, script_task};
 
-    ghost course = { λ player number lines. course_from player.stage number lines };
+    ghost BUDGET = { script_budget };
+
+    ghost State = { Unit {0} };
+
+    ghost value = { λ player. script_task player.stage };
 
     ghost fresh = { λ player. player.spent ≡ None };
 
-    ghost entries = { λ player. count_of player.stage };
+    ghost midway = { λ player. ⊥ };
+
+    ghost steps = { λ player. 0 };
+
+    const BUDGET: usize = 67_108_864;
 
     fn count(&self) -> u64 {
         match &self.stage {
@@ -103,9 +112,18 @@ impl LineTask for Player {
         }
     }
 
-    fn play(&mut self, line: &[u8], text: &mut Out) -> Result<Played, NoMemory> {
+    fn play(&mut self, line: &[u8], text: &mut Out) -> Result<LineStep, NoMemory> {
         self.play_line(line, text)
     }
 
-    ghost ends = { λ player number. Prim.search (rules, arith) };
+    /// A line has one step.
+    fn go_on(&mut self, _text: &mut Out) -> Result<LineStep, NoMemory> {
+        Ok(LineStep::Done)
+    }
+
+    fn close(&mut self, _text: &mut Out) -> Result<(), NoMemory> {
+        Ok(())
+    }
+
+    ghost ends = { λ player number fresh. record { effect = Prim.search (rules, arith); same = refl } };
 }

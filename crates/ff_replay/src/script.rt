@@ -2,7 +2,7 @@
 
 ghost use Rattle.std.specs.Prelude.{◌≡◌};
 ghost use Rattle.line_runs.specs.Runs.{Runs, ReadFaults, write_faults};
-ghost use Rattle.ff_replay.specs.Script.{script_course};
+ghost use Rattle.ff_replay.specs.Script.{script_budget, script_meaning};
 
 use crate::player::Player;
 use line_runs::{RunEnd, run_lines};
@@ -13,7 +13,7 @@ use std::alloc::Global;
 /// that is the whole trace of the lines that ended in what it gave; where the sink failed or memory was
 /// wanted, a beginning of it.
 pub fn replay<S: Source, K: Sink>(alloc: Global, source: &mut S, sink: &mut K) -> RunEnd
-    ensures told { Runs script_course (S.left source.old) (K.held sink.old) result (S.left source.new) (K.held sink.new) }
+    ensures told { Runs script_budget script_meaning (S.left source.old) (K.held sink.old) result (S.left source.new) (K.held sink.new) }
     ensures reads { ReadFaults result (S.faults source.old) (S.faults source.new) }
     ensures writes { K.faults sink.new ≡ write_faults result (K.faults sink.old) }
 {

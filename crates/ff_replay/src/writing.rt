@@ -2,7 +2,7 @@
 
 ghost use Rattle.std.specs.Prelude.{◌≡◌};
 ghost use Rattle.cluster_model.specs.Print.{print};
-ghost use Rattle.ff_replay.specs.Writing.{PrintsText};
+ghost use Rattle.line_runs.specs.Writing.{PrintsText};
 
 use cluster_model::Entry;
 use ff_xdr::{NoMemory, Out};

@@ -1,2 +1,1 @@
-pub mod Deliveries
-pub mod Reboots
+pub mod Effects

@@ -1,93 +1,103 @@
--- The world of a bare script: one data server, and records from client 0 to it. One event is one delivery.
-use Rattle.std.specs.Prelude.{◌≡◌, ℕ, ◌+◌, ◌≤◌, Bool, true, false, ◌&&◌, nat_le, if◌then◌else◌, List, [], ◌∷◌, ◌++◌, length, Option, Some, None, Result, Ok, Err}
+-- The world of a script: its machines, the packets between them, and the journal. Of a bare script it has one data server, and
+-- records come to it from client 0. One event is one delivery.
+use Rattle.std.specs.Prelude.{◌≡◌, ℕ, ◌+◌, ◌≤◌, Bool, true, false, ◌==◌, if◌then◌else◌, List, [], ◌∷◌, ◌++◌, length, Option, Some, None, Result, Ok, Err}
+use Rattle.ff_script.specs.declared.line.Setup.{Setup}
+use Rattle.ff_script.specs.declared.line.Setup.TheVariants.{Bare}
 use Rattle.cluster_model.specs.declared.ids.NodeId.{NodeId}
 use Rattle.cluster_model.specs.declared.ids.NodeId.TheVariants.{Server, Client}
 use Rattle.cluster_model.specs.declared.entry.Entry.{Entry}
 use Rattle.cluster_model.specs.declared.entry.Entry.TheVariants.{Packet, Delivered, Restarted}
 use Rattle.cluster_model.specs.declared.piece.Piece.{Piece}
-use Rattle.cluster_model.specs.Print.{hex_of}
-use Rattle.cluster_model.specs.Server.{restart_of}
-use Rattle.cluster_model.specs.Server.{ServerState, preset_server}
-use Rattle.ds_files.specs.Receive.{Outcome, outcome_of}
-use Rattle.ff_world.specs.declared.world.WorldFault.{WorldFault}
-use Rattle.ff_world.specs.declared.world.WorldFault.TheVariants.{Limit, NoMemory}
 use Rattle.cluster_model.specs.Event.{EventValue, Deliver, Restart}
-
--- ---- limits of a run
-
--- the most entries of a journal, and the most bytes that stand in it as hexadecimal: 256 MiB
-abbrev pub max_entries : ℕ
-max_entries = 400000
-
-abbrev pub max_hex : ℕ
-max_hex = 268435456
+use Rattle.cluster_model.specs.Server.{ServerState, preset_server, restart_of}
+use Rattle.ds_files.specs.Receive.{Outcome, outcome_of}
+use Rattle.ds_files.specs.Records.{sent_to}
+use Rattle.ff_world.specs.declared.fault.WorldFault.{WorldFault}
+use Rattle.ff_world.specs.declared.fault.WorldFault.TheVariants.{Limit, NoMemory}
+use Rattle.ff_world.specs.Journal.{max_entries, is_within}
 
 -- ---- the world
 
--- The data server, how many packets were sent so far, how many entries the journal has, and how many
--- bytes stand in it as hexadecimal.
+-- The setup that the script has chosen, the data server, how many packets were sent so far, and the journal.
 pub record WorldState : Type 0 where
+  pub setup : Setup
   pub server : ServerState
   pub sent : ℕ
-  pub count : ℕ
-  pub hex : ℕ
+  pub journal : List Entry
 
-abbrev pub preset_world : WorldState
-preset_world = record { server = preset_server; sent = 0; count = 0; hex = 0 }
+-- the world of a setup, before any event
+abbrev pub preset_world : Setup → WorldState
+preset_world Bare = record { setup = Bare; server = preset_server; sent = 0; journal = [] }
+
+-- a setup has a data server of this number
+abbrev pub has_server : Setup → ℕ → Bool
+has_server Bare number = number == 1
+
+-- the data server of a number, where the setup has one
+abbrev pub server_at : WorldState → ℕ → Option ServerState
+server_at w number = if has_server w.setup number then Some w.server else None
+
+-- ---- what an event does
+
+-- What an event does where the limits let it: the data server then, how many packets there are, and the entries that it adds.
+pub record WorldEffect : Type 0 where
+  pub server : ServerState
+  pub sent : ℕ
+  pub entries : List Entry
+
+abbrev pub no_effect : WorldState → WorldEffect
+no_effect w = record { server = w.server; sent = w.sent; entries = [] }
+
+-- Each record that a machine sends becomes a packet, in order, with the next number.
+abbrev pub packets_of : NodeId → ℕ → List (NodeId × List ℕ) → List Entry
+packets_of from sent [] = []
+packets_of from sent ((to, bytes) ∷ rest) = Packet (sent + 1) from to bytes ∷ packets_of from (sent + 1) rest
+
+-- what a data server sends to client 0: its reply, where there is one
+abbrev pub sends_of : Outcome → List (NodeId × List ℕ)
+sends_of o = sent_to (Client 0) o.reply
+
+-- A delivery adds the packet with the next number, its delivery, what the data server does with it, and a packet for each record
+-- that it sends.
+abbrev pub deliver_entries : ℕ → List ℕ → List Entry → List (NodeId × List ℕ) → List Entry
+deliver_entries sent bytes entries sends = Packet (sent + 1) (Client 0) (Server 1) bytes ∷ Delivered (sent + 1) ∷ (entries ++ packets_of (Server 1) (sent + 1) sends)
+
+abbrev pub deliver_effect : ℕ → List ℕ → Outcome → WorldEffect
+deliver_effect sent bytes o = record {
+  server = o.server;
+  sent = sent + 1 + length (sends_of o);
+  entries = deliver_entries sent bytes o.entries (sends_of o);
+}
+
+-- a restart adds its entry; where the boots are spent it does nothing
+abbrev pub restart_effect : WorldState → List Piece → Option ServerState → WorldEffect
+restart_effect w pieces None = no_effect w
+restart_effect w pieces (Some server) = record { server = server; sent = w.sent; entries = Restarted 1 pieces ∷ [] }
+
+-- A delivery or a restart of the one data server. Nothing else is in a bare world, so nothing comes of the other events.
+abbrev pub effect_of : WorldState → EventValue → WorldEffect
+effect_of w (Deliver bytes) = deliver_effect w.sent bytes (outcome_of w.server bytes)
+effect_of w (Restart server pieces) = restart_effect w pieces (restart_of w.server pieces)
+effect_of w _ = no_effect w
+
+-- the world afterwards: the entries stand behind those of the journal
+abbrev pub world_after : WorldState → WorldEffect → WorldState
+world_after w effect = record { setup = w.setup; server = effect.server; sent = effect.sent; journal = w.journal ++ effect.entries }
 
 -- what an event leaves, and the entries that it adds to the journal
 pub record WorldStep : Type 0 where
   pub world : WorldState
   pub entries : List Entry
 
--- the packet of a reply, which has the next number
-abbrev pub reply_entries : ℕ → Option (List ℕ) → List Entry
-reply_entries sent None = []
-reply_entries sent (Some bytes) = Packet (sent + 1) (Server 1) (Client 0) bytes ∷ []
-
-abbrev pub sent_after : ℕ → Option (List ℕ) → ℕ
-sent_after sent None = sent
-sent_after sent (Some bytes) = sent + 1
-
--- A delivery adds the packet with the next number, its delivery, what the data server does with it, and
--- the packet of its reply.
-abbrev pub deliver_entries : ℕ → List ℕ → Outcome → List Entry
-deliver_entries sent bytes o = Packet (sent + 1) (Client 0) (Server 1) bytes ∷ Delivered (sent + 1) ∷ (o.entries ++ reply_entries (sent + 1) o.reply)
-
--- what a delivery does where the limits let it
-abbrev pub deliver_step : WorldState → List ℕ → Outcome → WorldStep
-deliver_step w bytes o =
-    let entries = deliver_entries w.sent bytes o in
-    record {
-      world = record { server = o.server; sent = sent_after (w.sent + 1) o.reply; count = w.count + length entries; hex = w.hex + hex_of entries };
-      entries = entries;
-    }
-
--- a restart adds its entry; where the boots are spent it does nothing
-abbrev pub restart_step : WorldState → List Piece → Option ServerState → WorldStep
-restart_step w pieces None = record { world = w; entries = [] }
-restart_step w pieces (Some server) = record {
-  world = record { server = server; sent = w.sent; count = w.count + 1; hex = w.hex };
-  entries = Restarted 1 pieces ∷ [];
-}
-
--- What an event does where the limits let it: a delivery or a restart of the one data server. Nothing else is in a bare world,
--- so nothing comes of the other events.
-abbrev pub effect_of : WorldState → EventValue → WorldStep
-effect_of w (Deliver bytes) = deliver_step w bytes (outcome_of w.server bytes)
-effect_of w (Restart server pieces) = restart_step w pieces (restart_of w.server pieces)
-effect_of w _ = record { world = w; entries = [] }
-
--- the journal is within the limits
-abbrev pub is_within : WorldState → Bool
-is_within w = nat_le w.count max_entries && nat_le w.hex max_hex
+abbrev pub step_of : WorldState → WorldEffect → WorldStep
+step_of w effect = record { world = world_after w effect; entries = effect.entries }
 
 -- One event. None is an event with which the journal would pass a limit: it does not happen.
 abbrev pub step_within : WorldStep → Option WorldStep
-step_within step = if is_within step.world then Some step else None
+step_within step = if is_within step.world.journal then Some step else None
 
 abbrev pub world_step : WorldState → EventValue → Option WorldStep
-world_step w event = step_within (effect_of w event)
+world_step w event = step_within (step_of w (effect_of w event))
 
 -- ---- a run of events
 
@@ -105,15 +115,6 @@ abbrev pub run_of : WorldState → List EventValue → Run
 run_of w [] = record { entries = []; over = false }
 run_of w (event ∷ events) = with_step (world_step w event) (λ next. run_of next events)
 
--- the packet of the first of these records, and how many packets there are then
-abbrev pub packets_of : ℕ → List (NodeId × List ℕ) → List Entry
-packets_of sent [] = []
-packets_of sent ((to, bytes) ∷ rest) = Packet (sent + 1) (Server 1) to bytes ∷ []
-
-abbrev pub sent_by : ℕ → List (NodeId × List ℕ) → ℕ
-sent_by sent [] = sent
-sent_by sent (first ∷ rest) = sent + 1
-
 -- ---- the world in the code
 
 -- a world, and what it is spent by
@@ -121,42 +122,52 @@ pub record WorldValue : Type 0 where
   pub world : WorldState
   pub spent : Option WorldFault
 
--- each packet is an entry, and the journal is within the limits
-pub record IsBounded (w : WorldState) : Type 0 where
-  pub sent : w.sent ≤ w.count
-  pub count : w.count ≤ max_entries
-  pub hex : w.hex ≤ max_hex
+-- the journal is within the limits, and so is the number of packets
+pub record IsSound (packets : ℕ) (journal : List Entry) : Type 0 where
+  pub sent : packets ≤ length journal
+  pub count : length journal ≤ max_entries
+  pub within : is_within journal ≡ true
 
--- a sum that is within a limit
-abbrev pub within : ℕ → ℕ → Option ℕ
-within limit sum = if nat_le sum limit then Some sum else None
-
--- how many entries and bytes a journal has with these entries, where the limits let them in
-abbrev pub tally_of : ℕ → ℕ → List Entry → Option (ℕ × ℕ)
-tally_of count hex entries = if nat_le (count + length entries) max_entries && nat_le (hex + hex_of entries) max_hex then Some (count + length entries, hex + hex_of entries) else None
+-- the setup and the journal are as before
+pub record IsKept (old new : WorldState) : Type 0 where
+  pub setup : new.setup ≡ old.setup
+  pub journal : new.journal ≡ old.journal
 
 -- The event happened, and its entries stand behind those of the journal.
-pub record Occurs (old : WorldState) (event : EventValue) (journal : List Entry) (new : WorldValue) (journal' : List Entry) : Type 0 where
+pub record Occurs (old : WorldState) (event : EventValue) (new : WorldValue) : Type 0 where
   pub step : WorldStep
   pub is : world_step old event ≡ Some step
   pub world : new ≡ record { world = step.world; spent = None }
-  pub entries : journal' ≡ journal ++ step.entries
+  pub entries : new.world.journal ≡ old.journal ++ step.entries
 
 -- The event would pass a limit, and the world is spent by it.
 pub record Stays (old : WorldState) (event : EventValue) (count : ℕ) (new : WorldValue) : Type 0 where
   pub is : world_step old event ≡ None
-  pub told : count ≡ old.count
-  pub count_is : new.world.count ≡ old.count
+  pub told : count ≡ length old.journal
+  pub kept : IsKept old new.world
   pub spent : new.spent ≡ Some (Limit count)
 
 -- What an event did in a world that was not spent: it happened; it would pass a limit; or memory was wanted.
-abbrev pub Meets : WorldState → EventValue → List Entry → Result (Unit {0}) WorldFault → WorldValue → List Entry → Type 0
-Meets old event journal (Ok x) new journal' = Occurs old event journal new journal'
-Meets old event journal (Err (Limit count)) new journal' = Stays old event count new × (journal' ≡ journal)
-Meets old event journal (Err NoMemory) new journal' = (new.spent ≡ Some NoMemory) × (journal' ≡ journal)
+abbrev pub Meets : WorldState → EventValue → Result (Unit {0}) WorldFault → WorldValue → Type 0
+Meets old event (Ok x) new = Occurs old event new
+Meets old event (Err (Limit count)) new = Stays old event count new
+Meets old event (Err NoMemory) new = IsKept old new.world × (new.spent ≡ Some NoMemory)
 
 -- The same of the world's state, before a fault is kept.
-abbrev pub Happens : WorldState → EventValue → List Entry → Result (Unit {0}) WorldFault → WorldState → List Entry → Type 0
-Happens old event journal (Ok x) new journal' = (world_step old event ≡ Some (effect_of old event)) × (new ≡ (effect_of old event).world) × (journal' ≡ journal ++ (effect_of old event).entries)
-Happens old event journal (Err (Limit count)) new journal' = (world_step old event ≡ None) × (count ≡ old.count) × (new.count ≡ old.count) × (journal' ≡ journal)
-Happens old event journal (Err NoMemory) new journal' = journal' ≡ journal
+abbrev pub Happens : WorldState → EventValue → Result (Unit {0}) WorldFault → WorldState → Type 0
+Happens old event (Ok x) new = (is_within new.journal ≡ true) × (new ≡ world_after old (effect_of old event))
+Happens old event (Err (Limit count)) new = (world_step old event ≡ None) × (count ≡ length old.journal) × IsKept old new
+Happens old event (Err NoMemory) new = IsKept old new
+
+-- these entries stand behind those of the journal, and so many packets were sent
+abbrev pub with_entries : WorldValue → ℕ → List Entry → WorldValue
+with_entries old sent entries = record {
+  world = record { setup = old.world.setup; server = old.world.server; sent = sent; journal = old.world.journal ++ entries };
+  spent = old.spent;
+}
+
+-- How entries were added to the journal of a world: they are; it would pass a limit with them; or memory was wanted.
+abbrev pub Enters : WorldValue → ℕ → List Entry → Result (Unit {0}) WorldFault → WorldValue → Type 0
+Enters old sent entries (Ok x) new = (is_within (old.world.journal ++ entries) ≡ true) × (new ≡ with_entries old sent entries)
+Enters old sent entries (Err (Limit count)) new = (is_within (old.world.journal ++ entries) ≡ false) × (count ≡ length old.world.journal) × (new ≡ old)
+Enters old sent entries (Err NoMemory) new = new ≡ old

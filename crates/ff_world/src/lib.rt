@@ -1,8 +1,12 @@
 //! The world of a script: its machines, and what an event does to them.
 #![tactic(auto)]
 
+mod fault;
+mod journal;
+mod packets;
 #[cfg(test)]
 mod tests;
 mod world;
 
-pub use world::{World, WorldFault};
+pub use fault::WorldFault;
+pub use world::World;

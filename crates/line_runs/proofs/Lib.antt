@@ -1,2 +1,6 @@
 pub mod LineLemmas
+pub mod OweLemmas
+pub mod StepLemmas
 pub mod RunLemmas
+pub mod EndLemmas
+pub mod RepeatLemmas

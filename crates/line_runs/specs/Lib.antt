@@ -1,4 +1,6 @@
 pub mod Lines
 pub mod Writing
 pub mod Runs
+pub mod Tasks
 pub mod Playback
+pub mod Repeats

@@ -1,23 +1,32 @@
 -- A run that is under way: what is still to come, and what a step does to it.
-use Rattle.std.specs.Prelude.{⊤, ◌⊎◌, ◌≡◌, ℕ, ◌+◌, ◌-◌, ◌*◌, ◌<◌, Bool, true, false, List, [], ◌∷◌, ◌++◌, length, take, Option, Some, None, Result, Ok, Err}
+use Rattle.std.specs.Prelude.{⊤, ◌⊎◌, ◌≡◌, ℕ, ◌+◌, ◌-◌, ◌*◌, ◌<◌, Bool, true, false, List, [], ◌∷◌, ◌++◌, length, take, Option, Some, None, Result, Ok, Err, if◌then◌else◌}
+use Rattle.ff_xdr.specs.declared.error.NoMemory.{NoMemory as WantsMemory}
 use Rattle.rpc_record.specs.declared.stream.Failed.{Failed}
 use Rattle.rpc_record.specs.Stream.{one_more}
 use Rattle.line_runs.specs.declared.end.RunEnd.{RunEnd}
 use Rattle.line_runs.specs.declared.end.RunEnd.TheVariants.{Done, BadLine, ReadFault, WriteFault, NoMemory, Limit}
+use Rattle.line_runs.specs.declared.end.LineStep.{LineStep}
+use Rattle.line_runs.specs.declared.end.LineStep.TheVariants as step
 use Rattle.line_runs.specs.Lines.{script_lines, ended_lines}
-use Rattle.line_runs.specs.Runs.{Course, LinesMeaning, max_source, HasRead, TookPart, Goes, IsOutside, StopsAtLimit, HasPrintedPart}
+use Rattle.line_runs.specs.Runs.{RunEffect, after_text, whole_text, HasRead}
+use Rattle.line_runs.specs.Tasks.{TaskValue, Ahead, ahead_of, on_line, IsOutside, IsAtLimit}
+use Rattle.line_runs.specs.Writing.{IsBeginningOf}
 
 -- the text that is not yet written, the bytes that were read and not yet taken, how many bytes the source may still have, and
--- the next line's number
+-- how many lines were begun
 pub record RunState : Type 0 where
   pub text : List ℕ
   pub held : List ℕ
   pub room : ℕ
-  pub number : ℕ
+  pub begun : ℕ
 
 -- before the first line
-abbrev pub start : RunState
-start = record { text = []; held = []; room = max_source; number = 1 }
+abbrev pub start : ℕ → RunState
+start budget = record { text = []; held = []; room = budget; begun = 0 }
+
+-- the same with another text
+abbrev pub with_text : List ℕ → RunState → RunState
+with_text text s = record { text = text; held = s.held; room = s.room; begun = s.begun }
 
 -- the text is written once it has so many bytes
 abbrev pub full : ℕ
@@ -31,41 +40,50 @@ some_text (b ∷ text) = 1
 abbrev pub to_do : RunState → ℕ
 to_do s = 2 * s.room + some_text s.text
 
--- where a run stands: what lines come to from here on, and the rest of its state
-pub record Stand : Type 0 where
-  pub coming : LinesMeaning
+-- what a line has to do yet after a step, where it has so many steps more
+abbrev pub steps_after : Result LineStep WantsMemory → ℕ → ℕ
+steps_after (Ok step.More) steps = steps + 1
+steps_after (Ok step.Done) steps = 0
+steps_after (Ok step.Outside) steps = 0
+steps_after (Ok (step.Limited count)) steps = 0
+steps_after (Err e) steps = 0
+
+-- where a run stands: what is to come of lines, and the rest of its state
+pub record Stand (State : Type 0) : Type 0 where
+  pub ahead : Ahead State
   pub text : List ℕ
   pub held : List ℕ
   pub room : ℕ
 
-abbrev pub stand : (ℕ → LinesMeaning) → RunState → Stand
-stand run s = record { coming = run s.number; text = s.text; held = s.held; room = s.room }
+abbrev pub stand : {State : Type 0} → TaskValue State → RunState → Stand State
+stand task s = record { ahead = ahead_of (s.begun + 1) task; text = s.text; held = s.held; room = s.room }
+
+-- the same where this line, which took so many bytes, comes first
+abbrev pub at_line : {State : Type 0} → ℕ → List ℕ → Stand State → Stand State
+at_line taken line s = record { ahead = on_line line s.ahead; text = s.text; held = s.held; room = s.room - taken }
 
 -- the lines of bytes within a budget: all of a source's, or those that end in a newline
 abbrev pub lines_by : Bool → ℕ → List ℕ → List (List ℕ)
 lines_by true budget bytes = script_lines budget bytes
 lines_by false budget bytes = ended_lines (take budget bytes)
 
--- what is to come: the line outside the grammar, whether a limit is passed, the entries in the end, and how many bytes go past
--- the limit of a source
-pub record Prospect : Type 0 where
-  pub bad : Option ℕ
-  pub past : Bool
-  pub count : ℕ
-  pub over : ℕ
-
-abbrev pub prospect : Course → ℕ → Prospect
-prospect course over = record { bad = course.bad; past = course.past; count = course.count; over = over }
-
--- What is to come where these bytes do, of all lines or of those that end in a newline, and the text to be written.
-abbrev pub lines_ahead : Bool → Stand → List ℕ → List (List ℕ)
+-- What is to come where these bytes do: all lines, or those that end in a newline; what they come to; what the task is after
+-- them; and how many bytes go past the limit of a source.
+abbrev pub lines_ahead : {State : Type 0} → Bool → Stand State → List ℕ → List (List ℕ)
 lines_ahead all s bytes = lines_by all s.room (s.held ++ bytes)
 
-abbrev pub ahead : Bool → Stand → List ℕ → Prospect
-ahead all s bytes = prospect (s.coming (lines_ahead all s bytes)) (length (s.held ++ bytes) - s.room)
+abbrev pub effect_ahead : {State : Type 0} → Bool → Stand State → List ℕ → RunEffect
+effect_ahead all s bytes = s.ahead.meaning (lines_ahead all s bytes)
 
-abbrev pub text_ahead : Bool → Stand → List ℕ → List ℕ
-text_ahead all s bytes = s.text ++ (s.coming (lines_ahead all s bytes)).text
+abbrev pub state_ahead : {State : Type 0} → Bool → Stand State → List ℕ → State
+state_ahead all s bytes = s.ahead.after (lines_ahead all s bytes)
+
+abbrev pub over_ahead : {State : Type 0} → Stand State → List ℕ → ℕ
+over_ahead s bytes = length (s.held ++ bytes) - s.room
+
+-- the whole text that is to be written
+abbrev pub text_ahead : {State : Type 0} → Bool → Stand State → List ℕ → List ℕ
+text_ahead all s bytes = s.text ++ whole_text (effect_ahead all s bytes)
 
 -- A sink had this text to come. It has taken some from its front, and this text is to come now.
 abbrev pub Owes : Option (List ℕ) → List ℕ → Option (List ℕ) → List ℕ → Type 0
@@ -76,59 +94,104 @@ Owes (Some held) text new text' = (part : List ℕ) × (new ≡ Some (held ++ pa
 abbrev pub OwesPart : Option (List ℕ) → List ℕ → Option (List ℕ) → List ℕ → Type 0
 OwesPart old text new text' = (rest : List ℕ) × Owes old text new (text' ++ rest)
 
--- The sink has taken a beginning of the text.
-abbrev pub Took : Option (List ℕ) → List ℕ → Option (List ℕ) → Type 0
-Took None text new = new ≡ None
-Took (Some held) text new = TookPart held text new
+-- ---- steps of a run
 
--- The run goes on behind the bytes that the source gave, and whatever comes behind them comes to the same.
-pub record GoesOn (left : List ℕ) (held : Option (List ℕ)) (old : Stand) (left' held' : Option (List ℕ)) (new : Stand) : Type 0 where
+-- The run goes on behind the bytes that the source gave: it added this text, and whatever comes behind the bytes comes to the
+-- same.
+pub record GoesOn {State : Type 0} (left : List ℕ) (held : Option (List ℕ)) (old : Stand State) (left' held' : Option (List ℕ)) (new : Stand State) : Type 0 where
   pub front : List ℕ
   pub gave : HasRead left front left'
-  pub same : (all : Bool) (more : List ℕ) → ahead all new more ≡ ahead all old (front ++ more)
-  pub owes : (all : Bool) (more : List ℕ) → Owes held (text_ahead all old (front ++ more)) held' (text_ahead all new more)
+  pub more : List ℕ
+  pub same : (all : Bool) (rest : List ℕ) → effect_ahead all old (front ++ rest) ≡ after_text more (effect_ahead all new rest)
+  pub after : (all : Bool) (rest : List ℕ) → state_ahead all old (front ++ rest) ≡ state_ahead all new rest
+  pub over : (rest : List ℕ) → over_ahead old (front ++ rest) ≡ over_ahead new rest
+  pub owes : Owes held (old.text ++ more) held' new.text
 
--- The source failed: of the lines that end in what it gave, the whole text was written but for what is owed.
-pub record Fails (left : List ℕ) (held : Option (List ℕ)) (old : Stand) (left' held' : Option (List ℕ)) (owed : List ℕ) : Type 0 where
+-- The source failed: of the lines that end in what it gave, the text was written but for what is owed.
+pub record Fails {State : Type 0} (left : List ℕ) (held : Option (List ℕ)) (old : Stand State) (left' held' : Option (List ℕ)) (owed : List ℕ) : Type 0 where
   pub front : List ℕ
   pub gave : HasRead left front left'
-  pub good : (ahead false old front).bad ≡ None
-  pub within : (ahead false old front).past ≡ false
-  pub short : (ahead false old front).over ≡ 0
-  pub owes : Owes held (text_ahead false old front) held' owed
+  pub good : (effect_ahead false old front).bad ≡ None
+  pub within : (effect_ahead false old front).past ≡ false
+  pub short : over_ahead old front ≡ 0
+  pub owes : Owes held (old.text ++ (effect_ahead false old front).text) held' owed
 
--- The run was broken off: of the lines that end in what the source gave, or of all where it gave all, a beginning of the text
--- was written but for what is owed.
-pub record OwesRead (left : List ℕ) (held : Option (List ℕ)) (old : Stand) (left' held' : Option (List ℕ)) (owed : List ℕ) : Type 0 where
+-- The run was broken off: of the lines that end in what the source gave, or of all where it gave all, a beginning of the whole
+-- text was written but for what is owed.
+pub record OwesRead {State : Type 0} (left : List ℕ) (held : Option (List ℕ)) (old : Stand State) (left' held' : Option (List ℕ)) (owed : List ℕ) : Type 0 where
   pub front : List ℕ
   pub gave : HasRead left front left'
   pub owes : OwesPart held (text_ahead false old front) held' owed ⊎ ((front ≡ left) × OwesPart held (text_ahead true old left) held' owed)
 
 -- a limit is passed, of the run or of the source's length
-abbrev pub Passes : Prospect → Type 0
-Passes p = (p.past ≡ true) ⊎ ((p.past ≡ false) × (p.bad ≡ None) × (0 < p.over))
+abbrev pub Passes : RunEffect → ℕ → Type 0
+Passes effect over = (effect.past ≡ true) ⊎ ((effect.past ≡ false) × (effect.bad ≡ None) × (0 < over))
 
--- The run stops, and the text is written but for what is owed. Where the source may have more, it is that of what it gave, too.
-abbrev pub Stops : List ℕ → Option (List ℕ) → Stand → RunEnd → Option (List ℕ) → Option (List ℕ) → List ℕ → Type 0
-Stops left held old Done left' held' owed = ((ahead true old left).bad ≡ None) × ((ahead true old left).past ≡ false) × ((ahead true old left).over ≡ 0) × (left' ≡ Some []) × Owes held (text_ahead true old left) held' owed
-Stops left held old (BadLine n) left' held' owed = ((ahead true old left).bad ≡ Some n) × ((ahead true old left).past ≡ false) × Owes held (text_ahead true old left) held' owed × OwesRead left held old left' held' owed
-Stops left held old (Limit count) left' held' owed = Passes (ahead true old left) × (count ≡ (ahead true old left).count) × Owes held (text_ahead true old left) held' owed × OwesRead left held old left' held' owed
-Stops left held old ReadFault left' held' owed = Fails left held old left' held' owed
-Stops left held old WriteFault left' held' owed = ⊥
-Stops left held old NoMemory left' held' owed = OwesRead left held old left' held' owed
+-- why lines end a run so, by what they come to and how many bytes go past the limit
+abbrev pub EndsBy : RunEnd → RunEffect → ℕ → Type 0
+EndsBy Done effect over = (effect.bad ≡ None) × (effect.past ≡ false) × (over ≡ 0)
+EndsBy (BadLine n) effect over = (effect.bad ≡ Some n) × (effect.past ≡ false)
+EndsBy (Limit count) effect over = Passes effect over × (count ≡ effect.count)
+EndsBy ReadFault effect over = ⊥
+EndsBy WriteFault effect over = ⊥
+EndsBy NoMemory effect over = ⊥
+
+-- The lines ended the run: the whole text is written but for what is owed. Where the source may have more, it is that of what
+-- it gave, too.
+pub record LinesEnd {State : Type 0} (left : List ℕ) (held : Option (List ℕ)) (old : Stand State) (end : RunEnd) (left' held' : Option (List ℕ)) (state : State) (owed : List ℕ) : Type 0 where
+  pub why : EndsBy end (effect_ahead true old left) (over_ahead old left)
+  pub after : state ≡ state_ahead true old left
+  pub owes : Owes held (text_ahead true old left) held' owed
+  pub read : OwesRead left held old left' held' owed
+
+-- The run stops, where the task is what it is now, and the text is written but for what is owed.
+abbrev pub Stops : {State : Type 0} → List ℕ → Option (List ℕ) → Stand State → RunEnd → Option (List ℕ) → Option (List ℕ) → State → List ℕ → Type 0
+Stops left held old Done left' held' state owed = LinesEnd left held old Done left' held' state owed × (left' ≡ Some [])
+Stops left held old (BadLine n) left' held' state owed = LinesEnd left held old (BadLine n) left' held' state owed
+Stops left held old (Limit count) left' held' state owed = LinesEnd left held old (Limit count) left' held' state owed
+Stops left held old ReadFault left' held' state owed = Fails left held old left' held' owed
+Stops left held old WriteFault left' held' state owed = ⊥
+Stops left held old NoMemory left' held' state owed = OwesRead left held old left' held' owed
+
+-- the lines ended the run, and nothing failed
+abbrev pub is_of_lines : RunEnd → Bool
+is_of_lines Done = true
+is_of_lines (BadLine n) = true
+is_of_lines (Limit count) = true
+is_of_lines ReadFault = false
+is_of_lines WriteFault = false
+is_of_lines NoMemory = false
+
+-- the text with the closing text, where the run has one
+abbrev pub closed_text : RunEnd → List ℕ → List ℕ → List ℕ
+closed_text end closing text = if is_of_lines end then text ++ closing else text
 
 -- What a step did: it goes on, it stops, or the text could not be written.
-abbrev pub PlaybackSteps : Option (List ℕ) → Option (List ℕ) → Stand → Result (Option RunEnd) Failed → Option (List ℕ) → Option (List ℕ) → Stand → Type 0
-PlaybackSteps None held old result left' held' new = ⊤
-PlaybackSteps (Some left) held old (Ok None) left' held' new = GoesOn left held old left' held' new
-PlaybackSteps (Some left) held old (Ok (Some end)) left' held' new = Stops left held old end left' held' new.text
-PlaybackSteps (Some left) held old (Err e) left' held' new = OwesRead left held old left' held' []
+abbrev pub PlaybackSteps : {State : Type 0} → Option (List ℕ) → Option (List ℕ) → Stand State → Result (Option RunEnd) Failed → Option (List ℕ) → Option (List ℕ) → TaskValue State → Stand State → Type 0
+PlaybackSteps None held old result left' held' task new = ⊤
+PlaybackSteps (Some left) held old (Ok None) left' held' task new = GoesOn left held old left' held' new
+PlaybackSteps (Some left) held old (Ok (Some end)) left' held' task new = Stops left held old end left' held' task.state (closed_text end task.closing new.text)
+PlaybackSteps (Some left) held old (Err e) left' held' task new = OwesRead left held old left' held' []
 
 -- What all steps did, where so much of the text is owed.
-abbrev pub Finishes : Option (List ℕ) → Option (List ℕ) → Stand → Result RunEnd Failed → Option (List ℕ) → Option (List ℕ) → List ℕ → Type 0
-Finishes None held old result left' held' owed = ⊤
-Finishes (Some left) held old (Ok end) left' held' owed = Stops left held old end left' held' owed
-Finishes (Some left) held old (Err e) left' held' owed = OwesRead left held old left' held' []
+abbrev pub Finishes : {State : Type 0} → Option (List ℕ) → Option (List ℕ) → Stand State → Result RunEnd Failed → Option (List ℕ) → Option (List ℕ) → State → List ℕ → Type 0
+Finishes None held old result left' held' state owed = ⊤
+Finishes (Some left) held old (Ok end) left' held' state owed = Stops left held old end left' held' state owed
+Finishes (Some left) held old (Err e) left' held' state owed = OwesRead left held old left' held' []
+
+-- the same, where the text that is owed is not yet closed
+abbrev pub PlaysAll : {State : Type 0} → Option (List ℕ) → Option (List ℕ) → Stand State → Result RunEnd Failed → Option (List ℕ) → Option (List ℕ) → TaskValue State → List ℕ → Type 0
+PlaysAll left held old (Ok end) left' held' task text = Finishes left held old (Ok end) left' held' task.state (closed_text end task.closing text)
+PlaysAll left held old (Err e) left' held' task text = Finishes left held old (Err e) left' held' task.state []
+
+-- What closing a run did that ended so: the closing text was appended where the run has one, or a beginning of it for want of
+-- memory.
+abbrev pub Closes : RunEnd → List ℕ → List ℕ → RunEnd → List ℕ → Type 0
+Closes end closing text end' text' =
+    ((end' ≡ end) × (text' ≡ closed_text end closing text))
+    ⊎ ((is_of_lines end ≡ true) × (end' ≡ NoMemory) × ((part : List ℕ) × IsBeginningOf part closing × (text' ≡ text ++ part)))
+
+-- ---- the counts of faults
 
 -- the source's count of faults after lines that ended so, and not because the text could not be written
 abbrev pub EndFaults : RunEnd → ℕ → ℕ → Type 0
@@ -153,7 +216,7 @@ abbrev pub SourceFaults : Result RunEnd Failed → ℕ → ℕ → Type 0
 SourceFaults (Ok end) old new = EndFaults end old new
 SourceFaults (Err e) old new = (new ≡ old) ⊎ (new ≡ one_more old)
 
--- how lines end a run: neither the source nor the sink failed
+-- how a line ends a run: neither the source nor the sink failed
 abbrev pub IsOfLine : RunEnd → Type 0
 IsOfLine Done = ⊤
 IsOfLine (BadLine n) = ⊤
@@ -162,47 +225,64 @@ IsOfLine ReadFault = ⊥
 IsOfLine WriteFault = ⊥
 IsOfLine NoMemory = ⊤
 
--- what a line did to a run: it was played and counted
-pub record TakesLine (taken : ℕ) (line : List ℕ) (old new : Stand) : Type 0 where
-  pub goes : Goes line old.coming old.text new.coming new.text
-  pub held : new.held ≡ old.held
-  pub room : new.room + taken ≡ old.room
+-- ---- a line
 
--- or it is outside the grammar; it would pass a limit; or memory was wanted
-abbrev pub PlaysLine : ℕ → List ℕ → Stand → Option RunEnd → Stand → Type 0
-PlaysLine taken line old None new = TakesLine taken line old new
-PlaysLine taken line old (Some (BadLine n)) new = IsOutside n line old.coming × (new.text ≡ old.text)
-PlaysLine taken line old (Some (Limit count)) new = StopsAtLimit count line old.coming × (new.text ≡ old.text)
-PlaysLine taken line old (Some NoMemory) new = HasPrintedPart line old.coming old.text new.text
-PlaysLine taken line old (Some Done) new = ⊥
-PlaysLine taken line old (Some ReadFault) new = ⊥
-PlaysLine taken line old (Some WriteFault) new = ⊥
+-- Text was written where it is long, and nothing else changed.
+abbrev pub Relieves : Option (List ℕ) → RunState → Result (Unit {0}) Failed → Option (List ℕ) → RunState → Type 0
+Relieves held old (Ok x) held' new = (new ≡ with_text new.text old) × Owes held old.text held' new.text
+Relieves held old (Err e) held' new = OwesPart held old.text held' []
 
--- what the last line did, which is none where it is empty
-abbrev pub PlaysLast : List ℕ → Stand → RunEnd → Stand → Type 0
-PlaysLast [] old end new = (end ≡ Done) × (new.text ≡ old.text)
-PlaysLast (c ∷ rest) old Done new = Goes (c ∷ rest) old.coming old.text new.coming new.text
-PlaysLast (c ∷ rest) old (BadLine n) new = IsOutside n (c ∷ rest) old.coming × (new.text ≡ old.text)
-PlaysLast (c ∷ rest) old (Limit count) new = StopsAtLimit count (c ∷ rest) old.coming × (new.text ≡ old.text)
-PlaysLast (c ∷ rest) old NoMemory new = HasPrintedPart (c ∷ rest) old.coming old.text new.text
-PlaysLast (c ∷ rest) old ReadFault new = ⊥
-PlaysLast (c ∷ rest) old WriteFault new = ⊥
+-- The line goes on, or was played: it added this text, of which some may be written.
+pub record Advances {State : Type 0} (held : Option (List ℕ)) (old : Stand State) (held' : Option (List ℕ)) (new : Stand State) : Type 0 where
+  pub more : List ℕ
+  pub same : (lines : List (List ℕ)) → old.ahead.meaning lines ≡ after_text more (new.ahead.meaning lines)
+  pub after : (lines : List (List ℕ)) → old.ahead.after lines ≡ new.ahead.after lines
+  pub owes : Owes held (old.text ++ more) held' new.text
+  pub same_held : new.held ≡ old.held
+  pub same_room : new.room ≡ old.room
 
--- a line was played, and some of the text may be written since
-pub record EndsLine (held : Option (List ℕ)) (line : List ℕ) (old : Stand) (held' : Option (List ℕ)) (new : Stand) : Type 0 where
-  pub mid : Stand
-  pub takes : TakesLine (length line + 1) line old mid
-  pub same : new ≡ record { coming = mid.coming; text = new.text; held = mid.held; room = mid.room }
-  pub owes : Owes held mid.text held' new.text
+-- It ended the run, since what is to come is so.
+pub record Halts {State : Type 0} (cause : RunEffect → Type 0) (held : Option (List ℕ)) (old : Stand State) (held' : Option (List ℕ)) (task : TaskValue State) (text' : List ℕ) : Type 0 where
+  pub more : List ℕ
+  pub why : (lines : List (List ℕ)) → cause (old.ahead.meaning lines)
+  pub adds : (lines : List (List ℕ)) → (old.ahead.meaning lines).text ≡ more
+  pub closing : (lines : List (List ℕ)) → (old.ahead.meaning lines).closing ≡ task.closing
+  pub after : (lines : List (List ℕ)) → old.ahead.after lines ≡ task.state
+  pub owes : Owes held (old.text ++ more) held' text'
 
--- a line was played, and a beginning of the text is written
-pub record EndsInPart (held : Option (List ℕ)) (line : List ℕ) (old : Stand) (held' : Option (List ℕ)) : Type 0 where
-  pub mid : Stand
-  pub takes : TakesLine (length line + 1) line old mid
-  pub took : Took held mid.text held'
+-- It was broken off, and a beginning of its text was written but for what is owed.
+pub record Breaks {State : Type 0} (held : Option (List ℕ)) (old : Stand State) (held' : Option (List ℕ)) (owed : List ℕ) : Type 0 where
+  pub part : List ℕ
+  pub begins : (lines : List (List ℕ)) → IsBeginningOf part (old.ahead.meaning lines).text
+  pub owes : OwesPart held (old.text ++ part) held' owed
 
--- what a line did that ended in a newline
-abbrev pub PlaysEnded : Option (List ℕ) → List ℕ → Stand → Result (Option RunEnd) Failed → Option (List ℕ) → Stand → Type 0
-PlaysEnded held line old (Ok None) held' new = EndsLine held line old held' new
-PlaysEnded held line old (Ok (Some end)) held' new = (held' ≡ held) × PlaysLine (length line + 1) line old (Some end) new
-PlaysEnded held line old (Err e) held' new = EndsInPart held line old held'
+-- What steps of the line with this number did, the last of which was this.
+abbrev pub LineSteps : {State : Type 0} → ℕ → Option (List ℕ) → Stand State → Result LineStep WantsMemory → Option (List ℕ) → TaskValue State → Stand State → Type 0
+LineSteps number held old (Ok step.Done) held' task new = Advances held old held' new
+LineSteps number held old (Ok step.More) held' task new = Advances held old held' new
+LineSteps number held old (Ok step.Outside) held' task new = Halts (IsOutside number) held old held' task new.text
+LineSteps number held old (Ok (step.Limited count)) held' task new = Halts (IsAtLimit count) held old held' task new.text
+LineSteps number held old (Err e) held' task new = Breaks held old held' new.text
+
+-- What a line did that was played to its end: the run goes on, it stops, or the text could not be written.
+abbrev pub LinePlays : {State : Type 0} → Option (List ℕ) → Stand State → Result (Option RunEnd) Failed → Option (List ℕ) → TaskValue State → Stand State → Type 0
+LinePlays held old (Ok None) held' task new = Advances held old held' new
+LinePlays held old (Ok (Some (BadLine n))) held' task new = Halts (IsOutside n) held old held' task new.text
+LinePlays held old (Ok (Some (Limit count))) held' task new = Halts (IsAtLimit count) held old held' task new.text
+LinePlays held old (Ok (Some NoMemory)) held' task new = Breaks held old held' new.text
+LinePlays held old (Ok (Some Done)) held' task new = ⊥
+LinePlays held old (Ok (Some ReadFault)) held' task new = ⊥
+LinePlays held old (Ok (Some WriteFault)) held' task new = ⊥
+LinePlays held old (Err e) held' task new = Breaks held old held' []
+
+-- the same of the last line, which is none where it is empty
+abbrev pub LastPlays : {State : Type 0} → Option (List ℕ) → List ℕ → TaskValue State → Stand State → Result (Option RunEnd) Failed → Option (List ℕ) → TaskValue State → Stand State → Type 0
+LastPlays held [] was old result held' task new = (result ≡ Ok (Some Done)) × (held' ≡ held) × (task ≡ was) × (new ≡ old)
+LastPlays held (c ∷ rest) was old (Ok None) held' task new = ⊥
+LastPlays held (c ∷ rest) was old (Ok (Some Done)) held' task new = LinePlays held (at_line (length (c ∷ rest)) (c ∷ rest) old) (Ok None) held' task new
+LastPlays held (c ∷ rest) was old (Ok (Some (BadLine n))) held' task new = LinePlays held (at_line (length (c ∷ rest)) (c ∷ rest) old) (Ok (Some (BadLine n))) held' task new
+LastPlays held (c ∷ rest) was old (Ok (Some (Limit count))) held' task new = LinePlays held (at_line (length (c ∷ rest)) (c ∷ rest) old) (Ok (Some (Limit count))) held' task new
+LastPlays held (c ∷ rest) was old (Ok (Some NoMemory)) held' task new = LinePlays held (at_line (length (c ∷ rest)) (c ∷ rest) old) (Ok (Some NoMemory)) held' task new
+LastPlays held (c ∷ rest) was old (Ok (Some ReadFault)) held' task new = ⊥
+LastPlays held (c ∷ rest) was old (Ok (Some WriteFault)) held' task new = ⊥
+LastPlays held (c ∷ rest) was old (Err e) held' task new = LinePlays held (at_line (length (c ∷ rest)) (c ∷ rest) old) (Err e) held' task new

@@ -1,65 +1,65 @@
 -- A run over the lines of a source to its end.
-use Rattle.std.specs.Prelude.{⊤, ◌⊎◌, ◌≡◌, ℕ, ◌<◌, ◌≤◌, Bool, true, false, List, [], ◌∷◌, ◌++◌, length, take, Option, Some, None, Result, Ok, Err}
-use Rattle.ff_xdr.specs.declared.error.NoMemory.{NoMemory}
+use Rattle.std.specs.Prelude.{⊤, ◌⊎◌, ◌≡◌, ℕ, ◌<◌, ◌≤◌, Bool, true, false, List, [], ◌∷◌, ◌++◌, length, take, Option, Some, None}
 use Rattle.rpc_record.specs.Stream.{one_more}
 use Rattle.line_runs.specs.declared.end.RunEnd.{RunEnd}
 use Rattle.line_runs.specs.declared.end.RunEnd.TheVariants as ends
-use Rattle.line_runs.specs.declared.end.Played.{Played}
-use Rattle.line_runs.specs.declared.end.Played.TheVariants as played
 use Rattle.line_runs.specs.Lines.{script_lines, ended_lines}
 use Rattle.line_runs.specs.Writing.{IsBeginningOf}
 
 -- ---- what lines come to
 
 -- the text that they add; the number of the first that is outside the grammar; whether what a line asks for would pass a
--- limit; and how many entries there are by then
-pub record Course : Type 0 where
+-- limit; how many entries there are by then; and the text that is added where they end
+pub record RunEffect : Type 0 where
   pub text : List ℕ
   pub bad : Option ℕ
   pub past : Bool
   pub count : ℕ
+  pub closing : List ℕ
 
 -- what no lines come to, where there are so many entries
-abbrev pub at_end : ℕ → Course
-at_end count = record { text = []; bad = None; past = false; count = count }
+abbrev pub at_end : ℕ → List ℕ → RunEffect
+at_end count closing = record { text = []; bad = None; past = false; count = count; closing = closing }
 
--- a line added this text, and the lines behind it come to that
-abbrev pub after_text : List ℕ → Course → Course
-after_text text rest = record { text = text ++ rest.text; bad = rest.bad; past = rest.past; count = rest.count }
+-- this text was added, and what is to come comes to that
+abbrev pub after_text : List ℕ → RunEffect → RunEffect
+after_text text rest = record { text = text ++ rest.text; bad = rest.bad; past = rest.past; count = rest.count; closing = rest.closing }
 
--- where a run is, by what lines come to from there on
+-- all of the text
+abbrev pub whole_text : RunEffect → List ℕ
+whole_text effect = effect.text ++ effect.closing
+
+-- what lines come to, as a function of the lines
 abbrev pub LinesMeaning : Type 0
-LinesMeaning = List (List ℕ) → Course
+LinesMeaning = List (List ℕ) → RunEffect
 
--- the most bytes of a source: 64 MiB
-abbrev pub max_source : ℕ
-max_source = 67108864
-
--- What the bytes of a source come to: of one that is too long, its lines that end within the first 64 MiB.
-abbrev pub source_course : LinesMeaning → List ℕ → Course
-source_course coming bytes = coming (script_lines max_source bytes)
+-- What the bytes of a source come to: of one that is longer than the budget, its lines that end within it.
+abbrev pub source_effect : ℕ → LinesMeaning → List ℕ → RunEffect
+source_effect budget meaning bytes = meaning (script_lines budget bytes)
 
 -- What the lines come to that end in a newline: all that is known of bytes whose source failed behind them.
-abbrev pub ended_course : LinesMeaning → List ℕ → Course
-ended_course coming bytes = coming (ended_lines (take max_source bytes))
+abbrev pub ended_effect : ℕ → LinesMeaning → List ℕ → RunEffect
+ended_effect budget meaning bytes = meaning (ended_lines (take budget bytes))
 
 -- ---- what a run says of the bytes of its source
 
--- A line would pass a limit; or none would, all lines that end within the first 64 MiB are in the grammar, and the bytes go
--- on behind them.
-abbrev pub IsPastLimit : LinesMeaning → List ℕ → Type 0
-IsPastLimit coming bytes = ((source_course coming bytes).past ≡ true) ⊎ (((source_course coming bytes).past ≡ false) × ((source_course coming bytes).bad ≡ None) × (max_source < length bytes))
+-- A line would pass a limit; or none would, all lines that end within the budget are in the grammar, and the bytes go on behind
+-- it.
+abbrev pub IsPastLimit : ℕ → LinesMeaning → List ℕ → Type 0
+IsPastLimit budget meaning bytes =
+    ((source_effect budget meaning bytes).past ≡ true)
+    ⊎ (((source_effect budget meaning bytes).past ≡ false) × ((source_effect budget meaning bytes).bad ≡ None) × (budget < length bytes))
 
--- Why a run over these bytes ended_course so: all lines were played and there are no more bytes; this line is the first outside the
+-- Why a run over these bytes ended so: all lines were played and there are no more bytes; this line is the first outside the
 -- grammar; a limit would be passed, and there are so many entries.
 -- The other ends have their causes in the counts of faults.
-abbrev pub Ends : LinesMeaning → List ℕ → RunEnd → Type 0
-Ends coming bytes ends.Done = ((source_course coming bytes).bad ≡ None) × ((source_course coming bytes).past ≡ false) × (length bytes ≤ max_source)
-Ends coming bytes (ends.BadLine n) = ((source_course coming bytes).bad ≡ Some n) × ((source_course coming bytes).past ≡ false)
-Ends coming bytes (ends.Limit count) = IsPastLimit coming bytes × (count ≡ (source_course coming bytes).count)
-Ends coming bytes ends.ReadFault = ⊤
-Ends coming bytes ends.WriteFault = ⊤
-Ends coming bytes ends.NoMemory = ⊤
+abbrev pub Ends : ℕ → LinesMeaning → List ℕ → RunEnd → Type 0
+Ends budget meaning bytes ends.Done = ((source_effect budget meaning bytes).bad ≡ None) × ((source_effect budget meaning bytes).past ≡ false) × (length bytes ≤ budget)
+Ends budget meaning bytes (ends.BadLine n) = ((source_effect budget meaning bytes).bad ≡ Some n) × ((source_effect budget meaning bytes).past ≡ false)
+Ends budget meaning bytes (ends.Limit count) = IsPastLimit budget meaning bytes × (count ≡ (source_effect budget meaning bytes).count)
+Ends budget meaning bytes ends.ReadFault = ⊤
+Ends budget meaning bytes ends.WriteFault = ⊤
+Ends budget meaning bytes ends.NoMemory = ⊤
 
 -- the sink took all of the text, or a beginning of it
 abbrev pub TookAll : List ℕ → List ℕ → Option (List ℕ) → Type 0
@@ -74,32 +74,32 @@ pub record HasRead (bytes read : List ℕ) (left : Option (List ℕ)) : Type 0 w
   pub told : left ≡ Some rest
   pub joined : read ++ rest ≡ bytes
 
--- The source failed: the lines that end in what was read are in the grammar and within the limits, and the sink got their source_course
--- text.
-pub record FailedBehind (coming : LinesMeaning) (bytes held : List ℕ) (left' held' : Option (List ℕ)) : Type 0 where
+-- The source failed: the lines that end in what was read are in the grammar and within the limits, and the sink got their text
+-- with nothing in the end.
+pub record FailedBehind (budget : ℕ) (meaning : LinesMeaning) (bytes held : List ℕ) (left' held' : Option (List ℕ)) : Type 0 where
   pub read : List ℕ
   pub gave : HasRead bytes read left'
-  pub short : length read ≤ max_source
-  pub good : (ended_course coming read).bad ≡ None
-  pub within : (ended_course coming read).past ≡ false
-  pub text : TookAll held (ended_course coming read).text held'
+  pub short : length read ≤ budget
+  pub good : (ended_effect budget meaning read).bad ≡ None
+  pub within : (ended_effect budget meaning read).past ≡ false
+  pub text : TookAll held (ended_effect budget meaning read).text held'
 
--- The sink failed, or memory was wanted: the sink got a beginning of the text of the lines that end in what was read, or, where
--- all was read, of the source_course source.
-pub record TookOfRead (coming : LinesMeaning) (bytes held : List ℕ) (left' held' : Option (List ℕ)) : Type 0 where
+-- The sink failed, or memory was wanted: the sink got a beginning of the whole text of the lines that end in what was read, or,
+-- where all was read, of the source.
+pub record TookOfRead (budget : ℕ) (meaning : LinesMeaning) (bytes held : List ℕ) (left' held' : Option (List ℕ)) : Type 0 where
   pub read : List ℕ
   pub gave : HasRead bytes read left'
-  pub text : TookPart held (ended_course coming read).text held' ⊎ ((read ≡ bytes) × TookPart held (source_course coming bytes).text held')
+  pub text : TookPart held (whole_text (ended_effect budget meaning read)) held' ⊎ ((read ≡ bytes) × TookPart held (whole_text (source_effect budget meaning bytes)) held')
 
--- What a sink that held these bytes got: all of the text; all of the text of what was read before the source failed; or a
--- beginning of the text of what was read.
-abbrev pub SinkGot : LinesMeaning → List ℕ → List ℕ → RunEnd → Option (List ℕ) → Option (List ℕ) → Type 0
-SinkGot coming bytes held ends.Done left' new = TookAll held (source_course coming bytes).text new
-SinkGot coming bytes held (ends.BadLine n) left' new = TookAll held (source_course coming bytes).text new
-SinkGot coming bytes held (ends.Limit count) left' new = TookAll held (source_course coming bytes).text new
-SinkGot coming bytes held ends.ReadFault left' new = FailedBehind coming bytes held left' new
-SinkGot coming bytes held ends.WriteFault left' new = TookOfRead coming bytes held left' new
-SinkGot coming bytes held ends.NoMemory left' new = TookOfRead coming bytes held left' new
+-- What a sink that held these bytes got: the whole text; the text of what was read before the source failed; or a beginning of
+-- the whole text of what was read.
+abbrev pub SinkGot : ℕ → LinesMeaning → List ℕ → List ℕ → RunEnd → Option (List ℕ) → Option (List ℕ) → Type 0
+SinkGot budget meaning bytes held ends.Done left' new = TookAll held (whole_text (source_effect budget meaning bytes)) new
+SinkGot budget meaning bytes held (ends.BadLine n) left' new = TookAll held (whole_text (source_effect budget meaning bytes)) new
+SinkGot budget meaning bytes held (ends.Limit count) left' new = TookAll held (whole_text (source_effect budget meaning bytes)) new
+SinkGot budget meaning bytes held ends.ReadFault left' new = FailedBehind budget meaning bytes held left' new
+SinkGot budget meaning bytes held ends.WriteFault left' new = TookOfRead budget meaning bytes held left' new
+SinkGot budget meaning bytes held ends.NoMemory left' new = TookOfRead budget meaning bytes held left' new
 
 -- what is left of the source: nothing where all lines were played
 abbrev pub Leaves : RunEnd → Option (List ℕ) → Type 0
@@ -110,11 +110,21 @@ Leaves ends.ReadFault left = ⊤
 Leaves ends.WriteFault left = ⊤
 Leaves ends.NoMemory left = ⊤
 
--- What a run did, by what the source and the sink tell.
-abbrev pub Runs : LinesMeaning → Option (List ℕ) → Option (List ℕ) → RunEnd → Option (List ℕ) → Option (List ℕ) → Type 0
-Runs coming None held end left' held' = ⊤
-Runs coming (Some bytes) None end left' held' = Ends coming bytes end × Leaves end left'
-Runs coming (Some bytes) (Some held) end left' held' = Ends coming bytes end × Leaves end left' × SinkGot coming bytes held end left' held'
+-- What a run did that takes so many bytes of a source, by what the source and the sink tell.
+abbrev pub Runs : ℕ → LinesMeaning → Option (List ℕ) → Option (List ℕ) → RunEnd → Option (List ℕ) → Option (List ℕ) → Type 0
+Runs budget meaning None held end left' held' = ⊤
+Runs budget meaning (Some bytes) None end left' held' = Ends budget meaning bytes end × Leaves end left'
+Runs budget meaning (Some bytes) (Some held) end left' held' = Ends budget meaning bytes end × Leaves end left' × SinkGot budget meaning bytes held end left' held'
+
+-- What a task has become where lines ended the run: what it is after the lines of the source.
+abbrev pub HasBecome : {State : Type 0} → ℕ → (List (List ℕ) → State) → Option (List ℕ) → RunEnd → State → Type 0
+HasBecome budget after None end state = ⊤
+HasBecome budget after (Some bytes) ends.Done state = state ≡ after (script_lines budget bytes)
+HasBecome budget after (Some bytes) (ends.BadLine n) state = state ≡ after (script_lines budget bytes)
+HasBecome budget after (Some bytes) (ends.Limit count) state = state ≡ after (script_lines budget bytes)
+HasBecome budget after (Some bytes) ends.ReadFault state = ⊤
+HasBecome budget after (Some bytes) ends.WriteFault state = ⊤
+HasBecome budget after (Some bytes) ends.NoMemory state = ⊤
 
 -- The count of the source's faults: one more at a fault, and as before where nothing failed. Where the text could not be
 -- written in the end, the source may have failed before.
@@ -134,33 +144,3 @@ write_faults (ends.Limit count) n = n
 write_faults ends.ReadFault n = n
 write_faults ends.WriteFault n = one_more n
 write_faults ends.NoMemory n = n
-
--- ---- what playing a line does
-
--- it added this text, and the run goes on
-pub record Goes (line : List ℕ) (old : LinesMeaning) (text : List ℕ) (new : LinesMeaning) (text' : List ℕ) : Type 0 where
-  pub more : List ℕ
-  pub now : text' ≡ text ++ more
-  pub same : (lines : List (List ℕ)) → old (line ∷ lines) ≡ after_text more (new lines)
-
--- it is outside the grammar, and it is the one with this number
-abbrev pub IsOutside : ℕ → List ℕ → LinesMeaning → Type 0
-IsOutside number line coming = (lines : List (List ℕ)) → ((coming (line ∷ lines)).bad ≡ Some number) × ((coming (line ∷ lines)).past ≡ false) × ((coming (line ∷ lines)).text ≡ [])
-
--- what it asks for would pass a limit, and there are so many entries
-abbrev pub StopsAtLimit : ℕ → List ℕ → LinesMeaning → Type 0
-StopsAtLimit count line coming = (lines : List (List ℕ)) → ((coming (line ∷ lines)).past ≡ true) × (count ≡ (coming (line ∷ lines)).count) × ((coming (line ∷ lines)).text ≡ [])
-
--- a beginning of its text was added
-pub record HasPrintedPart (line : List ℕ) (coming : LinesMeaning) (text text' : List ℕ) : Type 0 where
-  pub part : List ℕ
-  pub now : text' ≡ text ++ part
-  pub begins : (lines : List (List ℕ)) → IsBeginningOf part (coming (line ∷ lines)).text
-
--- What playing the line with this number did: the run goes on from there; the line is outside the grammar; it would pass a
--- limit; or memory was wanted.
-abbrev pub PlaysLine : ℕ → List ℕ → LinesMeaning → List ℕ → Result Played NoMemory → LinesMeaning → List ℕ → Type 0
-PlaysLine number line old text (Ok played.Done) new text' = Goes line old text new text'
-PlaysLine number line old text (Ok played.Outside) new text' = IsOutside number line old × (text' ≡ text)
-PlaysLine number line old text (Ok (played.Limited count)) new text' = StopsAtLimit count line old × (text' ≡ text)
-PlaysLine number line old text (Err e) new text' = HasPrintedPart line old text text'

@@ -1,11 +1,16 @@
 //! How lines end a run.
 
-/// What a line did.
+ghost use Rattle.std.specs.Prelude.{◌≡◌};
+ghost use Rattle.line_runs.specs.Playback.{is_of_lines};
+
+/// What a step of a line did.
 #[derive(Clone, Copy, Debug, PartialEq, Eq)]
-pub enum Played {
-    /// It was played.
+pub enum LineStep {
+    /// The line was played.
     Done,
-    /// Nothing: it is outside the grammar.
+    /// There is more of the line.
+    More,
+    /// Nothing: the line is outside the grammar.
     Outside,
     /// What it asks for would pass a limit, and there are so many entries.
     Limited(u64),
@@ -24,7 +29,19 @@ pub enum RunEnd {
     WriteFault,
     /// Memory was wanted.
     NoMemory,
-    /// The source is longer than 64 MiB, or a line would pass a limit. The lines before that were
-    /// played, and there are so many entries.
+    /// The source is longer than the task's budget, or a line would pass a limit. What comes before
+    /// that was played, and there are so many entries.
     Limit(u64),
+}
+
+impl RunEnd {
+    /// The lines ended the run, and nothing failed.
+    pub(crate) fn is_of_lines(self) -> bool
+        ensures { result ≡ is_of_lines self }
+    {
+        match self {
+            RunEnd::Done | RunEnd::BadLine(_) | RunEnd::Limit(_) => true,
+            RunEnd::ReadFault | RunEnd::WriteFault | RunEnd::NoMemory => false,
+        }
+    }
 }

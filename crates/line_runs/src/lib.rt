@@ -8,10 +8,12 @@ mod lines_law;
 #[cfg(test)]
 mod lines_tests;
 mod playback;
+#[cfg(test)]
+mod run_tests;
 mod task;
 mod writing;
 
-pub use end::{Played, RunEnd};
+pub use end::{LineStep, RunEnd};
 pub use lines::{Ended, LineBuffer};
 pub use lines_law::line_laws;
 pub use playback::run_lines;

@@ -1,13 +1,14 @@
 //! A run over the lines of a source to its end.
 
-ghost use Rattle.std.specs.Prelude.{◌≡◌, ◌+◌, ◌<◌, ◌≤◌, ◌↔◌, [], None, Ok, OnOk, OnErr, IfOk, IfSome, IsTrue, length};
+ghost use Rattle.std.specs.Prelude.{◌≡◌, ◌+◌, ◌<◌, ◌≤◌, ◌↔◌, [], None, Some, Ok, OnOk, OnErr, IfOk, IfSome, IsTrue, length};
 ghost use Rattle.rpc_record.specs.Stream.{counted};
+ghost use Rattle.line_runs.specs.declared.end.RunEnd.TheVariants as ends;
 ghost use Rattle.line_runs.specs.Lines.{HoldsNoLine, IsWithinBudget, ReadsLine};
 ghost use Rattle.line_runs.specs.Writing.{WritesText};
-ghost use Rattle.line_runs.specs.Runs.{Runs, ReadFaults, write_faults};
-ghost use Rattle.line_runs.specs.Playback.{start, full, stand, StepFaults, LinesFaults, SourceFaults, PlaybackSteps, Finishes, PlaysLine, PlaysLast, PlaysEnded, IsOfLine, to_do};
+ghost use Rattle.line_runs.specs.Runs.{Runs, HasBecome, ReadFaults, write_faults};
+ghost use Rattle.line_runs.specs.Playback.{start, with_text, full, stand, at_line, StepFaults, LinesFaults, SourceFaults, EndFaults, PlaybackSteps, PlaysAll, Finishes, Closes, Relieves, LinePlays, LastPlays, IsOfLine, to_do};
 
-use crate::end::{Played, RunEnd};
+use crate::end::{LineStep, RunEnd};
 use crate::lines::{Ended, LineBuffer};
 use crate::task::LineTask;
 use crate::writing::write_all;
@@ -15,9 +16,6 @@ use ff_xdr::Out;
 use rpc_record::{Failed, Sink, Source};
 use std::alloc::{AllocError, Global};
 use std::marker::Model;
-
-/// The most bytes of a source: 64 MiB.
-const MAX_SOURCE: usize = 67_108_864;
 
 /// The text is written once it has so many bytes.
 const FULL: usize = 65_536;
@@ -28,7 +26,7 @@ struct Playback {
     text: Out,
     buffer: LineBuffer,
     room: usize,
-    number: u64,
+    begun: u64,
 }
 
 impl Model for Playback {
@@ -37,21 +35,21 @@ impl Model for Playback {
 
     ghost Value = { RunState };
 
-    ghost view = { λ r. record { text = r.text; held = r.buffer; room = r.room; number = r.number } };
+    ghost view = { λ r. record { text = r.text; held = r.buffer; room = r.room; begun = r.begun } };
 
-    ghost invariant = { λ r. r.number + r.room < 2 ^ 64 };
+    ghost invariant = { λ r. r.begun + r.room < 2 ^ 64 };
 }
 
 impl Playback {
-    /// Before the first line.
-    fn new(alloc: Global) -> Result<Playback, AllocError>
-        ensures { IfOk result (λ run. run ≡ start) }
+    /// Before the first line of a source that may have so many bytes.
+    fn new(alloc: Global, budget: usize) -> Result<Playback, AllocError>
+        ensures { IfOk result (λ run. run ≡ start budget) }
     {
         Ok(Playback {
             text: Out::new(alloc),
             buffer: LineBuffer::new(alloc)?,
-            room: MAX_SOURCE,
-            number: 1,
+            room: budget,
+            begun: 0,
         })
     }
 
@@ -67,7 +65,7 @@ impl Playback {
     fn flush<K: Sink>(&mut self, sink: &mut K) -> Result<(), Failed>
         ensures told { WritesText (K.held sink.old) self.old.text result (K.held sink.new) }
         ensures faults { K.faults sink.new ≡ counted result (K.faults sink.old) }
-        ensures ok { OnOk result (self.new ≡ record { text = []; held = self.old.held; room = self.old.room; number = self.old.number }) }
+        ensures ok { OnOk result (self.new ≡ with_text [] self.old) }
         ensures err { OnErr result (self.new ≡ self.old) }
     {
         write_all(sink, self.text.bytes())?;
@@ -75,63 +73,79 @@ impl Playback {
         Ok(())
     }
 
-    /// Plays a line, which took so many bytes of the source. An end is a line outside the grammar, one
-    /// that would pass a limit, or want of memory.
-    fn play_line<T: LineTask>(&mut self, task: &mut T, line: &[u8], taken: usize) -> Option<RunEnd>
+    /// Writes the text so far where it is long.
+    fn relieve<K: Sink>(&mut self, sink: &mut K) -> Result<(), Failed>
+        ensures told { Relieves (K.held sink.old) self.old result (K.held sink.new) self.new }
+        ensures faults { K.faults sink.new ≡ counted result (K.faults sink.old) }
+        ensures short { OnOk result (length self.new.text < full) }
+        ensures rest { (self.new.room ≡ self.old.room) × (self.new.begun ≡ self.old.begun) }
+    {
+        if self.is_full() {
+            self.flush(sink)?;
+        }
+        Ok(())
+    }
+
+    /// Plays a line to its end, which took so many bytes of the source. Between its steps the text is
+    /// written where it is long. `None` is that the line was played; an end is a line outside the
+    /// grammar, one that would pass a limit, or want of memory. An error is one of the sink.
+    fn play_line<T: LineTask, K: Sink>(
+        &mut self,
+        task: &mut T,
+        line: &[u8],
+        taken: usize,
+        sink: &mut K,
+    ) -> Result<Option<RunEnd>, Failed>
         requires some { 0 < taken }
         requires within { taken ≤ self.old.room }
-        ensures plays { T.fresh task.old → PlaysLine taken line.now (stand (T.course task.old) self.old) result (stand (T.course task.new) self.new) }
-        ensures goes_on { T.fresh task.old → result ≡ None → T.fresh task.new }
-        ensures ends { IfSome result (λ end. IsOfLine end) }
+        ensures told { T.fresh task.old → LinePlays (K.held sink.old) (at_line taken line.now (stand (T.value task.old) self.old)) result (K.held sink.new) (T.value task.new) (stand (T.value task.new) self.new) }
+        ensures rests { T.fresh task.old → result ≡ Ok None → T.fresh task.new }
+        ensures ends { IfOk result (λ end. IfSome end (λ e. IsOfLine e)) }
         ensures room { self.new.room < self.old.room }
+        ensures writes { K.faults sink.new ≡ counted result (K.faults sink.old) }
     {
         self.room -= taken;
-        match task.play(line, &mut self.text) {
-            Ok(Played::Done) => {
-                self.number += 1;
-                None
+        self.begun += 1;
+        let mut step = task.play(line, &mut self.text);
+        loop {
+            match step {
+                Ok(LineStep::More) => {
+                    self.relieve(sink)?;
+                    step = task.go_on(&mut self.text);
+                }
+                Ok(LineStep::Done) => {
+                    self.relieve(sink)?;
+                    return Ok(None);
+                }
+                Ok(LineStep::Outside) => return Ok(Some(RunEnd::BadLine(self.begun))),
+                Ok(LineStep::Limited(count)) => return Ok(Some(RunEnd::Limit(count))),
+                Err(_) => return Ok(Some(RunEnd::NoMemory)),
             }
-            Ok(Played::Outside) => Some(RunEnd::BadLine(self.number)),
-            Ok(Played::Limited(count)) => Some(RunEnd::Limit(count)),
-            Err(_) => Some(RunEnd::NoMemory),
         }
     }
 
-    /// Plays the last line, which has no newline, and is no line where it is empty.
-    fn play_last<T: LineTask>(&mut self, task: &mut T, line: &[u8]) -> RunEnd
-        requires within { length line.now ≤ self.old.room }
-        ensures plays { T.fresh task.old → PlaysLast line.now (stand (T.course task.old) self.old) result (stand (T.course task.new) self.new) }
-        ensures ends { IsOfLine result }
-    {
-        if line.is_empty() {
-            return RunEnd::Done;
-        }
-        self.play_line(task, line, line.len())
-            .unwrap_or(RunEnd::Done)
-    }
-
-    /// Plays a line that ended in a newline, and writes the text where it is long. `None` is that there
-    /// may be more lines. An error is one of the sink.
-    fn play_ended<T: LineTask, K: Sink>(
+    /// Plays the last line, which has no newline, and is no line where it is empty. The result is an
+    /// end. An error is one of the sink.
+    fn play_last<T: LineTask, K: Sink>(
         &mut self,
         task: &mut T,
         line: &[u8],
         sink: &mut K,
     ) -> Result<Option<RunEnd>, Failed>
-        requires within { length line.now + 1 ≤ self.old.room }
-        ensures told { T.fresh task.old → PlaysEnded (K.held sink.old) line.now (stand (T.course task.old) self.old) result (K.held sink.new) (stand (T.course task.new) self.new) }
-        ensures goes_on { T.fresh task.old → result ≡ Ok None → T.fresh task.new }
+        requires within { length line.now ≤ self.old.room }
+        ensures told { T.fresh task.old → LastPlays (K.held sink.old) line.now (T.value task.old) (stand (T.value task.old) self.old) result (K.held sink.new) (T.value task.new) (stand (T.value task.new) self.new) }
+        ensures rests { T.fresh task.old → result ≡ Ok (Some ends.Done) → T.fresh task.new }
         ensures ends { IfOk result (λ end. IfSome end (λ e. IsOfLine e)) }
-        ensures room { self.new.room < self.old.room }
+        ensures some { result ≡ Ok None → ⊥ }
         ensures writes { K.faults sink.new ≡ counted result (K.faults sink.old) }
     {
-        if let Some(end) = self.play_line(task, line, line.len() + 1) {
-            return Ok(Some(end));
+        if line.is_empty() {
+            return Ok(Some(RunEnd::Done));
         }
-        if self.is_full() {
-            self.flush(sink)?;
+        match self.play_line(task, line, line.len(), sink)? {
+            None => Ok(Some(RunEnd::Done)),
+            Some(end) => Ok(Some(end)),
         }
-        Ok(None)
     }
 
     /// Reads the next line. Where no line is held the source is asked, and all text is written by then.
@@ -140,7 +154,7 @@ impl Playback {
         ensures told { ReadsLine self.old.room self.old.held (S.left source.old) result line.new.items self.new.held (S.left source.new) }
         ensures within { IfOk result (λ ended. IsWithinBudget self.old.room ended line.new.items) }
         ensures faults { S.faults source.new ≡ counted result (S.faults source.old) }
-        ensures rest { self.new ≡ record { text = self.old.text; held = self.new.held; room = self.old.room; number = self.old.number } }
+        ensures rest { self.new ≡ record { text = self.old.text; held = self.new.held; room = self.old.room; begun = self.old.begun } }
     {
         let room = self.room;
         self.buffer.read_line(source, room, line)
@@ -156,7 +170,7 @@ impl Playback {
         sink: &mut K,
         line: &mut Vec<u8>,
     ) -> Result<Option<RunEnd>, Failed>
-        ensures told { T.fresh task.old → PlaybackSteps (S.left source.old) (K.held sink.old) (stand (T.course task.old) self.old) result (S.left source.new) (K.held sink.new) (stand (T.course task.new) self.new) }
+        ensures told { T.fresh task.old → PlaybackSteps (S.left source.old) (K.held sink.old) (stand (T.value task.old) self.old) result (S.left source.new) (K.held sink.new) (T.value task.new) (stand (T.value task.new) self.new) }
         ensures goes_on { T.fresh task.old → result ≡ Ok None → T.fresh task.new }
         ensures shrinks { OnOk result (result ≡ Ok None → to_do self.new < to_do self.old) }
         ensures reads { StepFaults result (S.faults source.old) (S.faults source.new) }
@@ -170,8 +184,8 @@ impl Playback {
             Err(Failed::Fault) => Ok(Some(RunEnd::ReadFault)),
             Err(Failed::NoMemory) => Ok(Some(RunEnd::NoMemory)),
             Ok(Ended::Over) => Ok(Some(RunEnd::Limit(task.count()))),
-            Ok(Ended::End) => Ok(Some(self.play_last(task, line))),
-            Ok(Ended::Newline) => self.play_ended(task, line, sink),
+            Ok(Ended::End) => self.play_last(task, line, sink),
+            Ok(Ended::Newline) => self.play_line(task, line, line.len() + 1, sink),
         }
     }
 
@@ -183,7 +197,7 @@ impl Playback {
         source: &mut S,
         sink: &mut K,
     ) -> Result<RunEnd, Failed>
-        ensures told { T.fresh task.old → Finishes (S.left source.old) (K.held sink.old) (stand (T.course task.old) self.old) result (S.left source.new) (K.held sink.new) self.new.text }
+        ensures told { T.fresh task.old → PlaysAll (S.left source.old) (K.held sink.old) (stand (T.value task.old) self.old) result (S.left source.new) (K.held sink.new) (T.value task.new) self.new.text }
         ensures reads { LinesFaults result (S.faults source.old) (S.faults source.new) }
         ensures writes { K.faults sink.new ≡ counted result (K.faults sink.old) }
     {
@@ -195,6 +209,20 @@ impl Playback {
         }
     }
 
+    /// Appends the closing text where lines ended the run so, and answers how it ends then.
+    fn close<T: LineTask>(&mut self, task: &mut T, end: RunEnd) -> RunEnd
+        ensures closes { Closes end (T.value task.old).closing self.old.text result self.new.text }
+        ensures stays { (T.value task.new).state ≡ (T.value task.old).state }
+    {
+        if !end.is_of_lines() {
+            return end;
+        }
+        match task.close(&mut self.text) {
+            Ok(()) => end,
+            Err(_) => RunEnd::NoMemory,
+        }
+    }
+
     /// Plays all lines, and writes the whole text. An error is one of the sink.
     fn finish<T: LineTask, S: Source, K: Sink>(
         &mut self,
@@ -203,19 +231,21 @@ impl Playback {
         source: &mut S,
         sink: &mut K,
     ) -> Result<RunEnd, Failed>
-        ensures told { T.fresh task.old → Finishes (S.left source.old) (K.held sink.old) (stand (T.course task.old) self.old) result (S.left source.new) (K.held sink.new) [] }
+        ensures told { T.fresh task.old → Finishes (S.left source.old) (K.held sink.old) (stand (T.value task.old) self.old) result (S.left source.new) (K.held sink.new) (T.value task.new).state [] }
         ensures reads { SourceFaults result (S.faults source.old) (S.faults source.new) }
         ensures writes { K.faults sink.new ≡ counted result (K.faults sink.old) }
     {
-        let end = self.play(alloc, task, source, sink)?;
+        let ended = self.play(alloc, task, source, sink)?;
+        let end = self.close(task, ended);
         self.flush(sink)?;
         Ok(end)
     }
 }
 
-/// Runs a task over the lines of `source`, one after the other, and writes their text to `sink`. Where
-/// the source failed, that is the whole text of the lines that ended in what it gave; where the sink
-/// failed or memory was wanted, a beginning of it.
+/// Runs a task over the lines of `source`, one after the other, and writes their text to `sink`, with
+/// the task's closing text behind it where the lines ended the run. Where the source failed, that is
+/// the text of the lines that ended in what it gave; where the sink failed or memory was wanted, a
+/// beginning of it.
 pub fn run_lines<T: LineTask, S: Source, K: Sink>(
     alloc: Global,
     task: &mut T,
@@ -223,11 +253,12 @@ pub fn run_lines<T: LineTask, S: Source, K: Sink>(
     sink: &mut K,
 ) -> RunEnd
     requires { T.fresh task.old }
-    ensures told { Runs (T.course task.old 1) (S.left source.old) (K.held sink.old) result (S.left source.new) (K.held sink.new) }
+    ensures told { Runs T.BUDGET ((T.value task.old).meaning 1) (S.left source.old) (K.held sink.old) result (S.left source.new) (K.held sink.new) }
+    ensures became { HasBecome T.BUDGET (T.value task.old).after (S.left source.old) result (T.value task.new).state }
     ensures reads { ReadFaults result (S.faults source.old) (S.faults source.new) }
     ensures writes { K.faults sink.new ≡ write_faults result (K.faults sink.old) }
 {
-    let Ok(mut run) = Playback::new(alloc) else {
+    let Ok(mut run) = Playback::new(alloc, T::BUDGET) else {
         return RunEnd::NoMemory;
     };
     match run.finish(alloc, task, source, sink) {

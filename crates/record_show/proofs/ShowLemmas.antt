@@ -8,10 +8,10 @@ use Rattle.ff_xdr.specs.Calls.{Grows}
 use Rattle.ff_xdr.specs.Reading.{arm_reading, whole}
 use Rattle.nfs3_wire.specs.Calls.{calls}
 use Rattle.rpc_record.specs.Calls.{RpcCall}
-use Rattle.line_runs.specs.declared.end.Played.{Played}
-use Rattle.line_runs.specs.declared.end.Played.TheVariants as played
-use Rattle.line_runs.specs.Runs.{PlaysLine}
-use Rattle.record_show.specs.Show.{bad_text, args_of, args_text, line_shown, show_from, by_shown, ShowsLine}
+use Rattle.line_runs.specs.declared.end.LineStep.{LineStep}
+use Rattle.line_runs.specs.declared.end.LineStep.TheVariants as step
+use Rattle.line_runs.specs.Tasks.{BeginsLine, IsOutside, ahead_of, on_line}
+use Rattle.record_show.specs.Show.{bad_text, args_of, args_text, line_shown, show_from, show_task, by_shown, ShowsLine}
 
 read_so : (c : RpcCall) (v : Value calls) → whole c.args (arm_reading calls c.procedure c.args 0) ≡ Ok v → args_of c ≡ Ok v
 unfolding args_of
@@ -29,16 +29,24 @@ refused_so c e is = is
 pub grows_bad : (header : ℕ) (c : RpcCall) (e : XdrError) (old new : List ℕ) (r : Result (Unit {0}) NoMemory) → whole c.args (arm_reading calls c.procedure c.args 0) ≡ Err e → Grows old r new (bad_text (header + e.place) e.why) → Grows old r new (args_text header (args_of c))
 grows_bad header c e old new r is grows = subst (λ (x : Result (Value calls) XdrError). Grows old r new (args_text header x)) (sym (refused_so c e is)) grows
 
--- what playing a line did is what a task does
-pub shows_line : (number : ℕ) (line text text' : List ℕ) (r : Result Played NoMemory) → ShowsLine text (line_shown line) r text' → PlaysLine number line (show_from number) text r (show_from (number + 1)) text'
-shows_line number line text text' (Ok played.Done) shows = record {
+-- what a line did is what a step of a task does
+pub shows_line : (number : ℕ) (line text text' : List ℕ) (r : Result LineStep NoMemory) → ShowsLine text (line_shown line) r text' → BeginsLine number (on_line line (ahead_of number show_task)) text r show_task text'
+shows_line number line text text' (Ok step.Done) shows = record {
   more = shows.0;
   now = shows.2;
   same = λ lines. ap (λ o. by_shown number o (show_from (number + 1) lines)) shows.1;
+  after = λ lines. refl;
 }
-shows_line number line text text' (Ok played.Outside) shows =
-    (λ lines. (ap (λ o. (by_shown number o (show_from (number + 1) lines)).bad) shows.0, ap (λ o. (by_shown number o (show_from (number + 1) lines)).past) shows.0, ap (λ o. (by_shown number o (show_from (number + 1) lines)).text) shows.0), shows.1)
-shows_line number line text text' (Ok (played.Limited count)) shows = absurd shows
+shows_line number line text text' (Ok step.More) shows = absurd shows
+shows_line number line text text' (Ok step.Outside) shows = record {
+  more = [];
+  now = shows.1 ∙ sym (append-nil text);
+  why = λ lines. subst (λ o. IsOutside number (by_shown number o (show_from (number + 1) lines))) (sym shows.0) (refl, refl, refl);
+  adds = λ lines. ap (λ o. (by_shown number o (show_from (number + 1) lines)).text) shows.0;
+  closing = λ lines. ap (λ o. (by_shown number o (show_from (number + 1) lines)).closing) shows.0;
+  after = λ lines. refl;
+}
+shows_line number line text text' (Ok (step.Limited count)) shows = absurd shows
 shows_line number line text text' (Err e) shows = record {
   part = [];
   now = shows ∙ sym (append-nil text);

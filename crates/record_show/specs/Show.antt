@@ -12,9 +12,10 @@ use Rattle.rpc_record.specs.Calls.{RpcCall, call_at}
 use Rattle.rpc_record.specs.Replies.{RpcReply, ReplyStat, is_denied, reply_stat_number, reply_at}
 use Rattle.nfs3_wire.specs.Calls.{calls}
 use Rattle.nfs4_compound.specs.Compounds.{compound_verdict, cb_compound_verdict}
-use Rattle.line_runs.specs.declared.end.Played.{Played}
-use Rattle.line_runs.specs.declared.end.Played.TheVariants as played
-use Rattle.line_runs.specs.Runs.{Course, LinesMeaning, at_end, after_text}
+use Rattle.line_runs.specs.declared.end.LineStep.{LineStep}
+use Rattle.line_runs.specs.declared.end.LineStep.TheVariants as step
+use Rattle.line_runs.specs.Runs.{RunEffect, LinesMeaning, at_end, after_text}
+use Rattle.line_runs.specs.Tasks.{TaskValue}
 use Rattle.ff_xdr.specs.declared.error.NoMemory.{NoMemory}
 use Rattle.ff_script.specs.Digits.{bytes_of_digits}
 
@@ -107,22 +108,30 @@ line_shown [] = Some []
 line_shown (c ∷ rest) = if c == 35 then Some [] else option_map record_line (bytes_of_digits (c ∷ rest))
 
 -- what the line with this number comes to, and the lines behind it
-abbrev pub by_shown : ℕ → Option (List ℕ) → Course → Course
-by_shown number None rest = record { text = []; bad = Some number; past = false; count = 0 }
+abbrev pub by_shown : ℕ → Option (List ℕ) → RunEffect → RunEffect
+by_shown number None rest = record { text = []; bad = Some number; past = false; count = 0; closing = [] }
 by_shown number (Some text) rest = after_text text rest
 
-abbrev pub show_from : ℕ → List (List ℕ) → Course
-show_from number [] = at_end 0
+abbrev pub show_from : ℕ → LinesMeaning
+show_from number [] = at_end 0 []
 show_from number (line ∷ lines) = by_shown number (line_shown line) (show_from (number + 1) lines)
 
 -- what the lines of the source come to
-abbrev pub show_course : LinesMeaning
-show_course = show_from 1
+abbrev pub show_meaning : LinesMeaning
+show_meaning = show_from 1
 
--- What playing a line did: its text stands behind the old one; it is outside the grammar; or memory was wanted, and all is as
--- before.
-abbrev pub ShowsLine : List ℕ → Option (List ℕ) → Result Played NoMemory → List ℕ → Type 0
-ShowsLine old text (Ok played.Done) new = (more : List ℕ) × (text ≡ Some more) × (new ≡ old ++ more)
-ShowsLine old text (Ok played.Outside) new = (text ≡ None) × (new ≡ old)
-ShowsLine old text (Ok (played.Limited count)) new = ⊥
+-- the most bytes of the source: 64 MiB
+abbrev pub show_budget : ℕ
+show_budget = 67108864
+
+-- the task as its run sees it: nothing becomes of it
+abbrev pub show_task : TaskValue (Unit {0})
+show_task = record { meaning = show_from; after = λ lines. tt; entries = 0; closing = []; state = tt }
+
+-- What a line did: its text stands behind the old one; it is outside the grammar; or memory was wanted, and all is as before.
+abbrev pub ShowsLine : List ℕ → Option (List ℕ) → Result LineStep NoMemory → List ℕ → Type 0
+ShowsLine old text (Ok step.Done) new = (more : List ℕ) × (text ≡ Some more) × (new ≡ old ++ more)
+ShowsLine old text (Ok step.More) new = ⊥
+ShowsLine old text (Ok step.Outside) new = (text ≡ None) × (new ≡ old)
+ShowsLine old text (Ok (step.Limited count)) new = ⊥
 ShowsLine old text (Err e) new = new ≡ old

@@ -9,13 +9,13 @@ ghost use Rattle.rpc_record.specs.declared.call.CallFault.{CallFault};
 ghost use Rattle.rpc_record.specs.Replies.{reply_stat, reply_at};
 ghost use Rattle.nfs3_wire.specs.Calls.{calls};
 ghost use Rattle.line_runs.specs.Runs.{Runs, ReadFaults, write_faults};
-ghost use Rattle.record_show.specs.Show.{why_text, bad_text, args_of, args_text, compound_text, cb_compound_text, verdict_text, program_text, procedure_text, call_text, stat_text, refused_text, reply_text, found_text, record_line, line_shown, show_from, show_course, ShowsLine};
+ghost use Rattle.record_show.specs.Show.{why_text, bad_text, args_of, args_text, compound_text, cb_compound_text, verdict_text, program_text, procedure_text, call_text, stat_text, refused_text, reply_text, found_text, record_line, line_shown, show_budget, show_meaning, ShowsLine};
 
 use ff_script::Digits;
 use ff_xdr::{Cursor, NoMemory, Out, XdrError, XdrWhy};
 use itoa::Buffer;
 use journal_print::put_numbered;
-use line_runs::{LineTask, Played, RunEnd, run_lines};
+use line_runs::{LineStep, LineTask, RunEnd, run_lines};
 use nfs3_wire::{is_built, read_call};
 use nfs4_compound::{judge_cb_compound, judge_compound};
 use rpc_record::{Call, CallFault, Reply, ReplyBody, Sink, Source};
@@ -243,45 +243,64 @@ impl Shower {
     }
 
     /// Appends the line of the record that a line spells.
-    fn show_line(&self, line: &[u8], text: &mut Out) -> Result<Played, NoMemory>
+    fn show_line(&self, line: &[u8], text: &mut Out) -> Result<LineStep, NoMemory>
         ensures { ShowsLine text.old (line_shown line.now) result text.new }
     {
         if let None | Some(b'#') = line.first() {
-            return Ok(Played::Done);
+            return Ok(LineStep::Done);
         }
         let Some(digits) = Digits::read(line) else {
-            return Ok(Played::Outside);
+            return Ok(LineStep::Outside);
         };
         let message = digits.decode(self.alloc)?;
         put_shown(&message, text)?;
-        Ok(Played::Done)
+        Ok(LineStep::Done)
     }
 }
 
 impl LineTask for Shower {
     ghost use Rattle.std.specs.Prelude.{refl};
 
-    ghost course = { λ shower number lines. show_from number lines };
+    ghost use Rattle.record_show.specs.Show.{show_budget, show_task};
+
+    ghost BUDGET = { show_budget };
+
+    ghost State = { Unit {0} };
+
+    ghost value = { λ shower. show_task };
 
     ghost fresh = { λ shower. ⊤ };
 
-    ghost entries = { λ shower. 0 };
+    ghost midway = { λ shower. ⊥ };
+
+    ghost steps = { λ shower. 0 };
+
+    const BUDGET: usize = 67_108_864;
 
     fn count(&self) -> u64 {
         0
     }
 
-    fn play(&mut self, line: &[u8], text: &mut Out) -> Result<Played, NoMemory> {
+    fn play(&mut self, line: &[u8], text: &mut Out) -> Result<LineStep, NoMemory> {
         self.show_line(line, text)
     }
 
-    ghost ends = { λ shower number. refl };
+    /// A line has one step.
+    fn go_on(&mut self, _text: &mut Out) -> Result<LineStep, NoMemory> {
+        Ok(LineStep::Done)
+    }
+
+    fn close(&mut self, _text: &mut Out) -> Result<(), NoMemory> {
+        Ok(())
+    }
+
+    ghost ends = { λ shower number fresh. record { effect = refl; same = refl } };
 }
 
 /// Writes to `sink` what the records are that the lines of `source` spell, a line for each. An empty
 /// line and one that begins with `#` add nothing.
 pub fn show<S: Source, K: Sink>(alloc: Global, source: &mut S, sink: &mut K) -> RunEnd
-    ensures told { Runs show_course (S.left source.old) (K.held sink.old) result (S.left source.new) (K.held sink.new) }
+    ensures told { Runs show_budget show_meaning (S.left source.old) (K.held sink.old) result (S.left source.new) (K.held sink.new) }
     ensures reads { ReadFaults result (S.faults source.old) (S.faults source.new) }
     ensures writes { K.faults sink.new ≡ write_faults result (K.faults sink.old) }
 {

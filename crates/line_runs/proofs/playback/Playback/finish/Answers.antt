@@ -1,18 +1,42 @@
 use Rattle.std.proofs.lemmas.Result.{err_from_is_err_and}
 use Rattle.line_runs.specs.Playback.{stand}
-use Rattle.line_runs.proofs.RunLemmas.{finished, finished_err, faults_err}
+use Rattle.line_runs.proofs.EndLemmas.{closed, closed_faults, finished, finished_err, unfinished, faults_err}
 use Rattle.line_runs.proofs.playback.Playback.finish.Goals as goal
+
+pub returns-in_err-ended-clause-told : goal.returns-in_err-ended-clause-told
+returns-in_err-ended-clause-told g c =
+    let p = err_from_is_err_and c.from_residual.result c.from_residual.ensures.1 in
+    λ fresh. unfinished (g.S.Source.left c.args.source.now) (g.K.Sink.held c.args.sink.now) _ _ (stand (g.T.LineTask.value c.args.task.now) c.args.self.now) (g.T.LineTask.value c.play.new.task) _ c.play.result c.from_residual.result _ p.0 c.play.new.self.text _ c.in_err-ended.was p.1 (c.play.ensures.told fresh)
 
 pub returns-in_err-flush-clause-told : goal.returns-in_err-flush-clause-told
 returns-in_err-flush-clause-told g c =
+    let left = g.S.Source.left in
+    let held = g.K.Sink.held in
+    let s = stand (g.T.LineTask.value c.args.task.now) c.args.self.now in
+    let task = g.T.LineTask.value c.play.new.task in
+    let state = (g.T.LineTask.value c.close-end.new.task).state in
     let p = err_from_is_err_and c.from_residual-in_err-flush.result c.from_residual-in_err-flush.ensures.1 in
-    λ fresh. finished_err (g.S.Source.left c.args.source.now) (g.K.Sink.held c.args.sink.now) _ _ _ (stand (g.T.LineTask.course c.args.task.now) c.args.self.now) c.play.result c.in_ok-end.end c.flush.result c.from_residual-in_err-flush.result p.0 c.play.new.self.text c.in_ok-end.was p.1 (c.play.ensures.told fresh) c.flush.ensures.told
+    λ fresh. finished_err (left c.args.source.now) (held c.args.sink.now) _ _ _ s c.close-end.result state c.flush.result c.from_residual-in_err-flush.result p.0 c.close-end.new.self.text p.1
+    (closed (left c.args.source.now) (held c.args.sink.now) _ _ s c.play.result c.in_ok-ended.ended c.close-end.result task state c.play.new.self.text c.close-end.new.self.text c.in_ok-ended.was (c.play.ensures.told fresh) c.close-end.ensures.closes c.close-end.ensures.stays)
+    c.flush.ensures.told
 
 pub returns-in_err-flush-clause-reads : goal.returns-in_err-flush-clause-reads
 returns-in_err-flush-clause-reads g c =
     let p = err_from_is_err_and c.from_residual-in_err-flush.result c.from_residual-in_err-flush.ensures.1 in
-    faults_err c.in_ok-end.end c.play.result c.from_residual-in_err-flush.result p.0 _ _ c.in_ok-end.was p.1 c.play.ensures.reads
+    faults_err c.close-end.result c.from_residual-in_err-flush.result p.0 _ _ p.1
+    (closed_faults c.play.result c.in_ok-ended.ended c.close-end.result (g.T.LineTask.value c.play.new.task).closing c.play.new.self.text c.close-end.new.self.text _ _ c.in_ok-ended.was c.close-end.ensures.closes c.play.ensures.reads)
 
 pub returns-clause-told : goal.returns-clause-told
 returns-clause-told g c =
-    λ fresh. finished (g.S.Source.left c.args.source.now) (g.K.Sink.held c.args.sink.now) _ _ _ (stand (g.T.LineTask.course c.args.task.now) c.args.self.now) c.play.result c.in_ok-end.end c.flush.result c.in_ok-flush.field-0 c.play.new.self.text c.in_ok-end.was c.in_ok-flush.was (c.play.ensures.told fresh) c.flush.ensures.told
+    let left = g.S.Source.left in
+    let held = g.K.Sink.held in
+    let s = stand (g.T.LineTask.value c.args.task.now) c.args.self.now in
+    let task = g.T.LineTask.value c.play.new.task in
+    let state = (g.T.LineTask.value c.close-end.new.task).state in
+    λ fresh. finished (left c.args.source.now) (held c.args.sink.now) _ _ _ s c.close-end.result state c.flush.result c.in_ok-flush.field-0 c.close-end.new.self.text c.in_ok-flush.was
+    (closed (left c.args.source.now) (held c.args.sink.now) _ _ s c.play.result c.in_ok-ended.ended c.close-end.result task state c.play.new.self.text c.close-end.new.self.text c.in_ok-ended.was (c.play.ensures.told fresh) c.close-end.ensures.closes c.close-end.ensures.stays)
+    c.flush.ensures.told
+
+pub returns-clause-reads : goal.returns-clause-reads
+returns-clause-reads g c =
+    closed_faults c.play.result c.in_ok-ended.ended c.close-end.result (g.T.LineTask.value c.play.new.task).closing c.play.new.self.text c.close-end.new.self.text _ _ c.in_ok-ended.was c.close-end.ensures.closes c.play.ensures.reads

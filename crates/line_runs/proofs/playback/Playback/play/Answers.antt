@@ -4,23 +4,35 @@ use Rattle.rpc_record.specs.Stream.{counted}
 use Rattle.rpc_record.specs.declared.stream.Failed.{Failed}
 use Rattle.line_runs.specs.declared.end.RunEnd.{RunEnd}
 use Rattle.line_runs.specs.Playback.{stand, StepFaults}
-use Rattle.line_runs.proofs.RunLemmas.{goes, finishes, finishes_err}
+use Rattle.line_runs.proofs.EndLemmas.{goes, finishes, finishes_err, went_nowhere}
 use Rattle.line_runs.proofs.playback.Playback.play.Goals as goal
 
 pub returns-in_err-end-clause-told : goal.returns-in_err-end-clause-told
 returns-in_err-end-clause-told g c =
+    let left = g.S.Source.left in
+    let held = g.K.Sink.held in
+    let value = g.T.LineTask.value in
     let p = err_from_is_err_and c.from_residual.result c.from_residual.ensures.1 in
-    λ fresh. finishes_err (g.S.Source.left c.args.source.now) (g.K.Sink.held c.args.sink.now) (stand (g.T.LineTask.course c.args.task.now) c.args.self.now) (g.S.Source.left c.loop-line.source) (g.K.Sink.held c.loop-line.sink) (stand (g.T.LineTask.course c.loop-line.task) c.loop-line.self) _ _ (stand (g.T.LineTask.course c.next.new.task) c.next.new.self) c.next.result _ c.from_residual.result p.0 _ c.in_err-end.was p.1 (c.loop-line.invariant.told fresh) (c.next.ensures.told (c.loop-line.invariant.fresh fresh))
+    λ fresh. finishes_err (left c.args.source.now) (held c.args.sink.now) (stand (value c.args.task.now) c.args.self.now) (left c.loop-line.source) (held c.loop-line.sink) (stand (value c.loop-line.task) c.loop-line.self) _ _
+    (value c.next.new.task) (stand (value c.next.new.task) c.next.new.self) c.next.result _ c.from_residual.result p.0 _ c.in_err-end.was p.1 (c.loop-line.invariant.told fresh) (c.next.ensures.told (c.loop-line.invariant.fresh fresh))
 
 pub returns-in-Some-clause-told : goal.returns-in-Some-clause-told
 returns-in-Some-clause-told g c =
-    λ fresh. finishes (g.S.Source.left c.args.source.now) (g.K.Sink.held c.args.sink.now) (stand (g.T.LineTask.course c.args.task.now) c.args.self.now) (g.S.Source.left c.loop-line.source) (g.K.Sink.held c.loop-line.sink) (stand (g.T.LineTask.course c.loop-line.task) c.loop-line.self) _ _ (stand (g.T.LineTask.course c.next.new.task) c.next.new.self) c.next.result c.in-Some.end (c.in_ok-end.was ∙ ap (λ x. Ok x) c.in-Some.is) (c.loop-line.invariant.told fresh) (c.next.ensures.told (c.loop-line.invariant.fresh fresh))
+    let left = g.S.Source.left in
+    let held = g.K.Sink.held in
+    let value = g.T.LineTask.value in
+    λ fresh. finishes (left c.args.source.now) (held c.args.sink.now) (stand (value c.args.task.now) c.args.self.now) (left c.loop-line.source) (held c.loop-line.sink) (stand (value c.loop-line.task) c.loop-line.self) _ _
+    (value c.next.new.task) (stand (value c.next.new.task) c.next.new.self) c.next.result c.in-Some.end (c.in_ok-end.was ∙ ap (λ x. Ok x) c.in-Some.is) (c.loop-line.invariant.told fresh) (c.next.ensures.told (c.loop-line.invariant.fresh fresh))
 
 pub loop-line-preserved : goal.loop-line-preserved
 loop-line-preserved g c =
+    let left = g.S.Source.left in
+    let held = g.K.Sink.held in
+    let value = g.T.LineTask.value in
     let on : c.next.result ≡ Ok None = c.in_ok-end.was ∙ ap (λ x. Ok x) c.in_default.is in record {
       fresh = λ fresh. c.next.ensures.goes_on (c.loop-line.invariant.fresh fresh) on;
-      told = λ fresh. goes (g.S.Source.left c.args.source.now) (g.K.Sink.held c.args.sink.now) (stand (g.T.LineTask.course c.args.task.now) c.args.self.now) (g.S.Source.left c.loop-line.source) (g.K.Sink.held c.loop-line.sink) (stand (g.T.LineTask.course c.loop-line.task) c.loop-line.self) _ _ (stand (g.T.LineTask.course c.next.new.task) c.next.new.self) c.next.result on (c.loop-line.invariant.told fresh) (c.next.ensures.told (c.loop-line.invariant.fresh fresh));
+      told = λ fresh. goes (left c.args.source.now) (held c.args.sink.now) (stand (value c.args.task.now) c.args.self.now) (left c.loop-line.source) (held c.loop-line.sink) (stand (value c.loop-line.task) c.loop-line.self) _ _
+          (value c.next.new.task) (stand (value c.next.new.task) c.next.new.self) c.next.result on (c.loop-line.invariant.told fresh) (c.next.ensures.told (c.loop-line.invariant.fresh fresh));
       reads = subst (λ (r : Result (Option RunEnd) Failed). StepFaults r (g.S.Source.faults c.loop-line.source) (g.S.Source.faults c.next.new.source)) on c.next.ensures.reads ∙ c.loop-line.invariant.reads;
       writes = subst (λ (r : Result (Option RunEnd) Failed). g.K.Sink.faults c.next.new.sink ≡ counted r (g.K.Sink.faults c.loop-line.sink)) on c.next.ensures.writes ∙ c.loop-line.invariant.writes;
     }

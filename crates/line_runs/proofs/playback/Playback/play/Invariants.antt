@@ -6,7 +6,7 @@ use Rattle.line_runs.proofs.playback.Playback.play.Given as goal
 abbrev pub invariant-loop-line : goal.invariant-loop-line
 invariant-loop-line g l = record {
   fresh : g.T.LineTask.fresh l.fn.task → g.T.LineTask.fresh l.task;
-  told : g.T.LineTask.fresh l.fn.task → Went (g.S.Source.left l.fn.source) (g.K.Sink.held l.fn.sink) (stand (g.T.LineTask.course l.fn.task) l.fn.self) (g.S.Source.left l.source) (g.K.Sink.held l.sink) (stand (g.T.LineTask.course l.task) l.self);
+  told : g.T.LineTask.fresh l.fn.task → Went (g.S.Source.left l.fn.source) (g.K.Sink.held l.fn.sink) (stand (g.T.LineTask.value l.fn.task) l.fn.self) (g.S.Source.left l.source) (g.K.Sink.held l.sink) (stand (g.T.LineTask.value l.task) l.self);
   reads : g.S.Source.faults l.source ≡ g.S.Source.faults l.fn.source;
   writes : g.K.Sink.faults l.sink ≡ g.K.Sink.faults l.fn.sink;
 }
