@@ -15,7 +15,7 @@ use Rattle.ff_script.specs.declared.line.Setup.{Setup}
 use Rattle.ff_script.specs.declared.line.Setup.TheVariants.{Bare}
 use Rattle.ff_script.specs.Line.{LineValue, EventLine, SetupLine, Nothing, setup_at, event_at, words_at, line_at}
 use Rattle.cluster_model.specs.Event.{EventValue}
-use Rattle.ff_world.specs.World.{WorldState, WorldStep, effect_of, step_of, world_step, Run, with_step, run_of}
+use Rattle.ff_world.specs.World.{WorldState, WorldStep, effect_of, step_by_effect, world_step, Run, with_step, run_of}
 use Rattle.ff_replay.specs.Script.{Script, by_line, with_event, script_of, LinePlayed, Outside, Limited, Goes, played, played_by, played_step, entries_by, setup_of, count_of, run_by, script_from, run_from, meaning_from, script_task}
 use Rattle.ff_replay.proofs.PlayLemmas.{print_append}
 
@@ -63,11 +63,11 @@ let_through true effect step is = cc
 let_through false effect step is = absurd (cc)
 
 -- what an event leaves, where it happens
-stepped : (w : WorldState) (event : EventValue) (step : WorldStep) → world_step w event ≡ Some step → step ≡ step_of w (effect_of w event)
-stepped w event step is = let_through _ (step_of w (effect_of w event)) step is
+stepped : (w : WorldState) (event : EventValue) (step : WorldStep) → world_step w event ≡ Some step → step ≡ step_by_effect w (effect_of w event)
+stepped w event step is = let_through _ (step_by_effect w (effect_of w event)) step is
 
 -- the journal's length goes with the entries
-counted : (w : WorldState) (event : EventValue) (step : WorldStep) → step ≡ step_of w (effect_of w event) → length step.world.journal ≡ length w.journal + length step.entries
+counted : (w : WorldState) (event : EventValue) (step : WorldStep) → step ≡ step_by_effect w (effect_of w event) → length step.world.journal ≡ length w.journal + length step.entries
 counted w event step is = rw is (length-append w.journal (effect_of w event).entries)
 
 by_event : (number : ℕ) (w : WorldState) (event : EventValue) (rest : Option Setup → Script) (o : Option WorldStep) → world_step w event ≡ o

@@ -12,7 +12,7 @@ use Rattle.ds_files.specs.Receive.{outcome_of}
 use Rattle.ff_world.specs.declared.fault.WorldFault.{WorldFault}
 use Rattle.ff_world.specs.declared.fault.WorldFault.TheVariants.{Limit, NoMemory}
 use Rattle.ff_world.specs.Journal.{is_within}
-use Rattle.ff_world.specs.World.{WorldState, WorldValue, WorldStep, IsKept, Happens, packets_of, sends_of, deliver_entries, effect_of, no_effect, world_after, step_of, world_step, Occurs, Enters}
+use Rattle.ff_world.specs.World.{WorldState, WorldValue, WorldStep, KeepsJournal, Happens, packets_of, sends_of, deliver_entries, effect_of, no_effect, world_after, step_by_effect, world_step, Occurs, Enters}
 
 -- each record is one packet
 length-packets : (from : NodeId) (sent : ℕ) (sends : List (NodeId × List ℕ)) → length (packets_of from sent sends) ≡ length sends
@@ -38,12 +38,12 @@ one_step false step is = absurd (cc)
 
 -- an event whose entries would pass a limit
 pub kept_out : (w : WorldState) (event : EventValue) (added : List Entry) → added ≡ (effect_of w event).entries → is_within (w.journal ++ added) ≡ false → world_step w event ≡ None
-kept_out w event added are over = no_step _ (step_of w (effect_of w event)) (ap (λ es. is_within (w.journal ++ es)) (sym are) ∙ over)
+kept_out w event added are over = no_step _ (step_by_effect w (effect_of w event)) (ap (λ es. is_within (w.journal ++ es)) (sym are) ∙ over)
 
 -- an event that happened
 pub occurs : (old : WorldState) (event : EventValue) (new : WorldValue) → new.spent ≡ None → is_within new.world.journal ≡ true → new.world ≡ world_after old (effect_of old event) → Occurs old event new
 occurs old event new fresh within now = record {
-  step = step_of old (effect_of old event);
+  step = step_by_effect old (effect_of old event);
   is = one_step _ _ (ap (λ (w : WorldState). is_within w.journal) (sym now) ∙ within);
   world = λ i. record { world = now i; spent = fresh i };
   entries = ap (λ (w : WorldState). w.journal) now;
@@ -61,7 +61,7 @@ entered old mid new event sent entries r is many are enters = by_result r (subst
     moved : WorldValue
     moved = with_server old (effect_of old.world event).server
 
-    kept : new ≡ moved → IsKept old.world new.world × (new.spent ≡ old.spent)
+    kept : new ≡ moved → KeepsJournal old.world new.world × (new.spent ≡ old.spent)
     kept same = (record { setup = ap (λ (v : WorldValue). v.world.setup) same; journal = ap (λ (v : WorldValue). v.world.journal) same }, ap (λ (v : WorldValue). v.spent) same)
 
     by_result : (r : Result (Unit {0}) WorldFault) → Enters moved sent entries r new → Happens old.world event r new.world × (new.spent ≡ old.spent)

@@ -32,7 +32,7 @@ abbrev pub hex_within : ℕ → ℕ → List Entry → Option ℕ
 hex_within count hex entries = if nat_le (count + length entries) max_entries && nat_le (hex + hex_of entries) max_hex then Some (hex + hex_of entries) else None
 
 -- How entries were added to a journal: they stand behind the others; it would pass a limit with them; or memory was wanted.
-abbrev pub Adds : List Entry → List Entry → Result (Unit {0}) WorldFault → List Entry → Type 0
-Adds old entries (Ok x) new = (is_within (old ++ entries) ≡ true) × (new ≡ old ++ entries)
-Adds old entries (Err (Limit count)) new = (is_within (old ++ entries) ≡ false) × (count ≡ length old) × (new ≡ old)
-Adds old entries (Err NoMemory) new = new ≡ old
+abbrev pub AddsEntries : List Entry → List Entry → Result (Unit {0}) WorldFault → List Entry → Type 0
+AddsEntries old entries (Ok x) new = (is_within (old ++ entries) ≡ true) × (new ≡ old ++ entries)
+AddsEntries old entries (Err (Limit count)) new = (is_within (old ++ entries) ≡ false) × (count ≡ length old) × (new ≡ old)
+AddsEntries old entries (Err NoMemory) new = new ≡ old

@@ -30,12 +30,12 @@ abbrev pub preset_world : Setup → WorldState
 preset_world Bare = record { setup = Bare; server = preset_server; sent = 0; journal = [] }
 
 -- a setup has a data server of this number
-abbrev pub has_server : Setup → ℕ → Bool
-has_server Bare number = number == 1
+abbrev pub setup_has_server : Setup → ℕ → Bool
+setup_has_server Bare number = number == 1
 
 -- the data server of a number, where the setup has one
 abbrev pub server_at : WorldState → ℕ → Option ServerState
-server_at w number = if has_server w.setup number then Some w.server else None
+server_at w number = if setup_has_server w.setup number then Some w.server else None
 
 -- ---- what an event does
 
@@ -89,15 +89,15 @@ pub record WorldStep : Type 0 where
   pub world : WorldState
   pub entries : List Entry
 
-abbrev pub step_of : WorldState → WorldEffect → WorldStep
-step_of w effect = record { world = world_after w effect; entries = effect.entries }
+abbrev pub step_by_effect : WorldState → WorldEffect → WorldStep
+step_by_effect w effect = record { world = world_after w effect; entries = effect.entries }
 
 -- One event. None is an event with which the journal would pass a limit: it does not happen.
 abbrev pub step_within : WorldStep → Option WorldStep
 step_within step = if is_within step.world.journal then Some step else None
 
 abbrev pub world_step : WorldState → EventValue → Option WorldStep
-world_step w event = step_within (step_of w (effect_of w event))
+world_step w event = step_within (step_by_effect w (effect_of w event))
 
 -- ---- a run of events
 
@@ -129,7 +129,7 @@ pub record IsSound (packets : ℕ) (journal : List Entry) : Type 0 where
   pub within : is_within journal ≡ true
 
 -- the setup and the journal are as before
-pub record IsKept (old new : WorldState) : Type 0 where
+pub record KeepsJournal (old new : WorldState) : Type 0 where
   pub setup : new.setup ≡ old.setup
   pub journal : new.journal ≡ old.journal
 
@@ -144,20 +144,20 @@ pub record Occurs (old : WorldState) (event : EventValue) (new : WorldValue) : T
 pub record Stays (old : WorldState) (event : EventValue) (count : ℕ) (new : WorldValue) : Type 0 where
   pub is : world_step old event ≡ None
   pub told : count ≡ length old.journal
-  pub kept : IsKept old new.world
+  pub kept : KeepsJournal old new.world
   pub spent : new.spent ≡ Some (Limit count)
 
 -- What an event did in a world that was not spent: it happened; it would pass a limit; or memory was wanted.
 abbrev pub Meets : WorldState → EventValue → Result (Unit {0}) WorldFault → WorldValue → Type 0
 Meets old event (Ok x) new = Occurs old event new
 Meets old event (Err (Limit count)) new = Stays old event count new
-Meets old event (Err NoMemory) new = IsKept old new.world × (new.spent ≡ Some NoMemory)
+Meets old event (Err NoMemory) new = KeepsJournal old new.world × (new.spent ≡ Some NoMemory)
 
 -- The same of the world's state, before a fault is kept.
 abbrev pub Happens : WorldState → EventValue → Result (Unit {0}) WorldFault → WorldState → Type 0
 Happens old event (Ok x) new = (is_within new.journal ≡ true) × (new ≡ world_after old (effect_of old event))
-Happens old event (Err (Limit count)) new = (world_step old event ≡ None) × (count ≡ length old.journal) × IsKept old new
-Happens old event (Err NoMemory) new = IsKept old new
+Happens old event (Err (Limit count)) new = (world_step old event ≡ None) × (count ≡ length old.journal) × KeepsJournal old new
+Happens old event (Err NoMemory) new = KeepsJournal old new
 
 -- these entries stand behind those of the journal, and so many packets were sent
 abbrev pub with_entries : WorldValue → ℕ → List Entry → WorldValue

@@ -2,7 +2,7 @@
 
 ghost use Rattle.std.specs.Prelude.{◌≡◌, ◌+◌, ◌≤◌, [], length, true};
 ghost use Rattle.cluster_model.specs.Print.{hex_len, hex_of};
-ghost use Rattle.ff_world.specs.Journal.{Adds, is_within, within, hex_within, max_entries, max_hex};
+ghost use Rattle.ff_world.specs.Journal.{AddsEntries, is_within, within, hex_within, max_entries, max_hex};
 
 use crate::fault::WorldFault;
 use cluster_model::{Entry, UserAnswer};
@@ -117,7 +117,7 @@ impl Journal {
 
     /// Adds entries, where the limits let them in. At an error nothing has changed.
     pub fn add(&mut self, mut added: Vec<Entry>) -> Result<(), WorldFault>
-        ensures { Adds self.old added.items result self.new }
+        ensures { AddsEntries self.old added.items result self.new }
     {
         let count = self.count();
         let Some(hex) = tally(count, self.hex, &added) else {

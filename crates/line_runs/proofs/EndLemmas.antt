@@ -10,7 +10,7 @@ use Rattle.line_runs.specs.Lines.{script_lines}
 use Rattle.line_runs.specs.Writing.{IsBeginningOf, WritesText}
 use Rattle.line_runs.specs.Runs.{RunEffect, after_text, whole_text, ended_effect, IsPastLimit, Ends, HasRead, TookAll, TookPart, TookOfRead, SinkGot, Leaves, Runs, HasBecome, ReadFaults, write_faults}
 use Rattle.line_runs.specs.Tasks.{TaskValue, Ahead, ahead_of}
-use Rattle.line_runs.specs.Playback.{Stand, stand, start, effect_ahead, state_ahead, over_ahead, text_ahead, Owes, OwesPart, GoesOn, Fails, OwesRead, Passes, EndsBy, LinesEnd, Stops, closed_text, is_of_lines, PlaybackSteps, Finishes, PlaysAll, Closes, EndFaults, StepFaults, LinesFaults, SourceFaults}
+use Rattle.line_runs.specs.Playback.{Stand, stand, start, effect_ahead, state_ahead, over_ahead, text_ahead, Owes, OwesPart, GoesOn, Fails, OwesRead, Passes, EndsBy, LinesEnd, Stops, closed_text, is_of_lines, PlaybackSteps, Finishes, PlaysAll, ClosesRun, EndFaults, StepFaults, LinesFaults, SourceFaults}
 use Rattle.line_runs.proofs.OweLemmas.{owes_same, owes_as, owes_again, whole_part, wrote_all, wrote_some, some_is, owes_on, part_on, part_more, part_less, begins_whole}
 use Rattle.line_runs.proofs.StepLemmas.{text_again}
 use Rattle.line_runs.proofs.RunLemmas.{Went}
@@ -141,7 +141,7 @@ closed_in_part a held left' held' s text closing part begins owes = record {
 }
 
 pub closed : {State : Type 0} (left held left' held' : Option (List ℕ)) (s : Stand State) (r : Result RunEnd Failed) (end end' : RunEnd) (task : TaskValue State) (state : State) (text text' : List ℕ) → r ≡ Ok end → PlaysAll left held s r left' held' task text
-    → Closes end task.closing text end' text' → state ≡ task.state → Finishes left held s (Ok end') left' held' state text'
+    → ClosesRun end task.closing text end' text' → state ≡ task.state → Finishes left held s (Ok end') left' held' state text'
 closed None held left' held' s r end end' task state text text' is plays closes stays = tt
 closed (Some a) held left' held' s r end end' task state text text' is plays closes stays =
     let stops : Stops a held s end left' held' task.state (closed_text end task.closing text) = subst (λ q. PlaysAll (Some a) held s q left' held' task text) is plays in
@@ -161,7 +161,7 @@ closed (Some a) held left' held' s r end end' task state text text' is plays clo
     of_lines NoMemory is_lines stops = absurd (cc)
 
 -- the counts of faults stay
-pub closed_faults : (r : Result RunEnd Failed) (end end' : RunEnd) (closing text text' : List ℕ) (old new : ℕ) → r ≡ Ok end → Closes end closing text end' text' → LinesFaults r old new → EndFaults end' old new
+pub closed_faults : (r : Result RunEnd Failed) (end end' : RunEnd) (closing text text' : List ℕ) (old new : ℕ) → r ≡ Ok end → ClosesRun end closing text end' text' → LinesFaults r old new → EndFaults end' old new
 closed_faults r end end' closing text text' old new is closes counts =
     let here : EndFaults end old new = subst (λ q. LinesFaults q old new) is counts in
     ⊎_elim (λ all. subst (λ e. EndFaults e old new) (sym all.0) here) (λ part. subst (λ e. EndFaults e old new) (sym part.1) (of_lines end part.0 here)) closes

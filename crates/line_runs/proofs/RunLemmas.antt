@@ -12,7 +12,7 @@ use Rattle.line_runs.specs.Lines.{Line, Over, cut_line, ended_lines, script_line
 use Rattle.line_runs.specs.Writing.{IsBeginningOf, WritesText}
 use Rattle.line_runs.specs.Runs.{RunEffect, at_end, after_text, whole_text, LinesMeaning, HasRead}
 use Rattle.line_runs.specs.Tasks.{TaskValue, Ahead, IsAtEnd, IsOutside, IsAtLimit}
-use Rattle.line_runs.specs.Playback.{RunState, with_text, Stand, stand, at_line, lines_by, lines_ahead, effect_ahead, state_ahead, over_ahead, text_ahead, Owes, OwesPart, GoesOn, Fails, OwesRead, Passes, EndsBy, LinesEnd, Stops, closed_text, is_of_lines, PlaybackSteps, Finishes, PlaysAll, Closes, Advances, Halts, Breaks, LinePlays, LastPlays}
+use Rattle.line_runs.specs.Playback.{RunState, with_text, Stand, stand, at_line, lines_by, lines_ahead, effect_ahead, state_ahead, over_ahead, text_ahead, Owes, OwesPart, GoesOn, Fails, OwesRead, Passes, EndsBy, LinesEnd, Stops, closed_text, is_of_lines, PlaybackSteps, Finishes, PlaysAll, ClosesRun, AdvancesLine, Halts, Breaks, LinePlays, LastPlays}
 use Rattle.line_runs.proofs.LineLemmas.{cut_more-line, cut_more-over, script_line, line_length, script_end, script_last, script_over, over_lines, last_length, ended_line, ended_last}
 use Rattle.line_runs.proofs.OweLemmas.{owes_same, owes_as, owes_again, owes_part, owes_all, whole_part, wrote_owes, wrote_all, wrote_some, wrote_part, broke_off, some_is, owes_on, part_on, part_more, part_less, begins_more, begins_whole, owes_whole}
 use Rattle.line_runs.proofs.StepLemmas.{text_again}
@@ -38,7 +38,7 @@ cut_on room old front more line held cut = ap (cut_line room) (sym (append_assoc
 
 -- the run went past a line
 goes_past : {State : Type 0} (left : List ℕ) (held held' left' : Option (List ℕ)) (s new : Stand State) (line held1 : List ℕ) → (drawn : Drawn left left') → cut_line s.room (s.held ++ drawn.front) ≡ Line line held1
-    → Advances held (at_line (length line + 1) line (holding held1 s)) held' new → GoesOn left held s left' held' new
+    → AdvancesLine held (at_line (length line + 1) line (holding held1 s)) held' new → GoesOn left held s left' held' new
 goes_past left held held' left' s new line held1 drawn cut went = record {
   front = drawn.front;
   gave = record { rest = drawn.rest; told = drawn.told; joined = drawn.whole };

@@ -10,7 +10,7 @@ use Rattle.line_runs.specs.declared.end.LineStep.TheVariants as step
 use Rattle.line_runs.specs.Writing.{IsBeginningOf}
 use Rattle.line_runs.specs.Runs.{RunEffect, after_text}
 use Rattle.line_runs.specs.Tasks.{TaskValue, Ahead, ahead_of, on_line, Goes, EndsRun, HasPrintedPart, IsOutside, IsAtLimit, StepsFrom, BeginsLine}
-use Rattle.line_runs.specs.Playback.{RunState, with_text, Stand, stand, at_line, Owes, OwesPart, Relieves, Advances, Halts, Breaks, LineSteps, LinePlays, LastPlays}
+use Rattle.line_runs.specs.Playback.{RunState, with_text, Stand, stand, at_line, Owes, OwesPart, Relieves, AdvancesLine, Halts, Breaks, LineSteps, LinePlays, LastPlays}
 use Rattle.line_runs.proofs.OweLemmas.{owes_same, owes_as, owes_more, owes_again, whole_part, part_again}
 
 -- text behind text
@@ -19,7 +19,7 @@ text_again a b e = ap (λ t. record { text = t; bad = e.bad; past = e.past; coun
 
 -- ---- the first step
 
-goes_first : {State : Type 0} (held : Option (List ℕ)) (old new : Stand State) → Goes old.ahead old.text new.ahead new.text → new.held ≡ old.held → new.room ≡ old.room → Advances held old held new
+goes_first : {State : Type 0} (held : Option (List ℕ)) (old new : Stand State) → Goes old.ahead old.text new.ahead new.text → new.held ≡ old.held → new.room ≡ old.room → AdvancesLine held old held new
 goes_first held old new goes same_held same_room = record {
   more = goes.more;
   same = goes.same;
@@ -57,7 +57,7 @@ begins number taken line held s text' (Err e) task did = breaks_first held (at_l
 
 -- ---- one step after another
 
-goes_again : {State : Type 0} (held mid_held : Option (List ℕ)) (old mid new : Stand State) → Advances held old mid_held mid → Goes mid.ahead mid.text new.ahead new.text → new.held ≡ mid.held → new.room ≡ mid.room → Advances held old mid_held new
+goes_again : {State : Type 0} (held mid_held : Option (List ℕ)) (old mid new : Stand State) → AdvancesLine held old mid_held mid → Goes mid.ahead mid.text new.ahead new.text → new.held ≡ mid.held → new.room ≡ mid.room → AdvancesLine held old mid_held new
 goes_again held mid_held old mid new went goes same_held same_room = record {
   more = went.more ++ goes.more;
   same = λ lines. went.same lines ∙ ap (after_text went.more) (goes.same lines) ∙ text_again went.more goes.more (new.ahead.meaning lines);
@@ -67,7 +67,7 @@ goes_again held mid_held old mid new went goes same_held same_room = record {
   same_room = same_room ∙ went.same_room;
 }
 
-ends_again : {State : Type 0} (count : ℕ) (held mid_held : Option (List ℕ)) (old mid : Stand State) (task : TaskValue State) (text' : List ℕ) → Advances held old mid_held mid → EndsRun (IsAtLimit count) mid.ahead mid.text task text'
+ends_again : {State : Type 0} (count : ℕ) (held mid_held : Option (List ℕ)) (old mid : Stand State) (task : TaskValue State) (text' : List ℕ) → AdvancesLine held old mid_held mid → EndsRun (IsAtLimit count) mid.ahead mid.text task text'
     → Halts (IsAtLimit count) held old mid_held task text'
 ends_again count held mid_held old mid task text' went ends = record {
   more = went.more ++ ends.more;
@@ -78,7 +78,7 @@ ends_again count held mid_held old mid task text' went ends = record {
   owes = owes_as held mid_held _ _ _ _ (append_assoc old.text went.more ends.more) (sym ends.now) (owes_more held mid_held _ _ ends.more went.owes);
 }
 
-breaks_again : {State : Type 0} (held mid_held : Option (List ℕ)) (old mid : Stand State) (text' : List ℕ) → Advances held old mid_held mid → HasPrintedPart mid.ahead mid.text text' → Breaks held old mid_held text'
+breaks_again : {State : Type 0} (held mid_held : Option (List ℕ)) (old mid : Stand State) (text' : List ℕ) → AdvancesLine held old mid_held mid → HasPrintedPart mid.ahead mid.text text' → Breaks held old mid_held text'
 breaks_again held mid_held old mid text' went printed = record {
   part = went.more ++ printed.part;
   begins = λ lines.
@@ -90,7 +90,7 @@ breaks_again held mid_held old mid text' went printed = record {
 }
 
 pub steps_again : {State : Type 0} (number next : ℕ) (held mid_held : Option (List ℕ)) (old mid : Stand State) (text' : List ℕ) (r : Result LineStep WantsMemory) (task : TaskValue State)
-    → Advances held old mid_held mid → StepsFrom next mid.ahead mid.text r task text'
+    → AdvancesLine held old mid_held mid → StepsFrom next mid.ahead mid.text r task text'
     → LineSteps number held old r mid_held task (record { ahead = ahead_of next task; text = text'; held = mid.held; room = mid.room })
 steps_again number next held mid_held old mid text' (Ok step.Done) task went did = goes_again held mid_held old mid _ went did refl refl
 steps_again number next held mid_held old mid text' (Ok step.More) task went did = goes_again held mid_held old mid _ went did refl refl
@@ -102,10 +102,10 @@ steps_again number next held mid_held old mid text' (Err e) task went did = brea
 
 -- some of the text was written, and nothing else changed
 pub written_within : {State : Type 0} (held mid_held held' : Option (List ℕ)) (old : Stand State) (task : TaskValue State) (mid new : RunState) (r : Result (Unit {0}) Failed) (x : Unit {0}) → r ≡ Ok x
-    → Advances held old mid_held (stand task mid) → Relieves mid_held mid r held' new → Advances held old held' (stand task new)
+    → AdvancesLine held old mid_held (stand task mid) → Relieves mid_held mid r held' new → AdvancesLine held old held' (stand task new)
 written_within held mid_held held' old task mid new r x is went relieves =
     let wrote : (new ≡ with_text new.text mid) × Owes mid_held mid.text held' new.text = subst (λ q. Relieves mid_held mid q held' new) is relieves in
-    subst (λ (n : RunState). Advances held old held' (stand task n)) (sym wrote.0) (record {
+    subst (λ (n : RunState). AdvancesLine held old held' (stand task n)) (sym wrote.0) (record {
       more = went.more;
       same = went.same;
       after = went.after;
@@ -116,7 +116,7 @@ written_within held mid_held held' old task mid new r x is went relieves =
 
 -- it could not be written
 pub unwritten_within : {State : Type 0} (held mid_held held' : Option (List ℕ)) (old : Stand State) (task task' : TaskValue State) (mid new : RunState) (after : Stand State) (r : Result (Unit {0}) Failed) (q : Result (Option RunEnd) Failed) (e f : Failed) → r ≡ Err e → q ≡ Err f
-    → Advances held old mid_held (stand task mid) → Relieves mid_held mid r held' new → LinePlays held old q held' task' after
+    → AdvancesLine held old mid_held (stand task mid) → Relieves mid_held mid r held' new → LinePlays held old q held' task' after
 unwritten_within held mid_held held' old task task' mid new after r (Ok end) e f is so went relieves = absurd (cc)
 unwritten_within held mid_held held' old task task' mid new after r (Err g) e f is so went relieves =
     let owes : OwesPart mid_held mid.text held' [] = subst (λ q. Relieves mid_held mid q held' new) is relieves in record {

@@ -186,8 +186,8 @@ PlaysAll left held old (Err e) left' held' task text = Finishes left held old (E
 
 -- What closing a run did that ended so: the closing text was appended where the run has one, or a beginning of it for want of
 -- memory.
-abbrev pub Closes : RunEnd → List ℕ → List ℕ → RunEnd → List ℕ → Type 0
-Closes end closing text end' text' =
+abbrev pub ClosesRun : RunEnd → List ℕ → List ℕ → RunEnd → List ℕ → Type 0
+ClosesRun end closing text end' text' =
     ((end' ≡ end) × (text' ≡ closed_text end closing text))
     ⊎ ((is_of_lines end ≡ true) × (end' ≡ NoMemory) × ((part : List ℕ) × IsBeginningOf part closing × (text' ≡ text ++ part)))
 
@@ -233,7 +233,7 @@ Relieves held old (Ok x) held' new = (new ≡ with_text new.text old) × Owes he
 Relieves held old (Err e) held' new = OwesPart held old.text held' []
 
 -- The line goes on, or was played: it added this text, of which some may be written.
-pub record Advances {State : Type 0} (held : Option (List ℕ)) (old : Stand State) (held' : Option (List ℕ)) (new : Stand State) : Type 0 where
+pub record AdvancesLine {State : Type 0} (held : Option (List ℕ)) (old : Stand State) (held' : Option (List ℕ)) (new : Stand State) : Type 0 where
   pub more : List ℕ
   pub same : (lines : List (List ℕ)) → old.ahead.meaning lines ≡ after_text more (new.ahead.meaning lines)
   pub after : (lines : List (List ℕ)) → old.ahead.after lines ≡ new.ahead.after lines
@@ -258,15 +258,15 @@ pub record Breaks {State : Type 0} (held : Option (List ℕ)) (old : Stand State
 
 -- What steps of the line with this number did, the last of which was this.
 abbrev pub LineSteps : {State : Type 0} → ℕ → Option (List ℕ) → Stand State → Result LineStep WantsMemory → Option (List ℕ) → TaskValue State → Stand State → Type 0
-LineSteps number held old (Ok step.Done) held' task new = Advances held old held' new
-LineSteps number held old (Ok step.More) held' task new = Advances held old held' new
+LineSteps number held old (Ok step.Done) held' task new = AdvancesLine held old held' new
+LineSteps number held old (Ok step.More) held' task new = AdvancesLine held old held' new
 LineSteps number held old (Ok step.Outside) held' task new = Halts (IsOutside number) held old held' task new.text
 LineSteps number held old (Ok (step.Limited count)) held' task new = Halts (IsAtLimit count) held old held' task new.text
 LineSteps number held old (Err e) held' task new = Breaks held old held' new.text
 
 -- What a line did that was played to its end: the run goes on, it stops, or the text could not be written.
 abbrev pub LinePlays : {State : Type 0} → Option (List ℕ) → Stand State → Result (Option RunEnd) Failed → Option (List ℕ) → TaskValue State → Stand State → Type 0
-LinePlays held old (Ok None) held' task new = Advances held old held' new
+LinePlays held old (Ok None) held' task new = AdvancesLine held old held' new
 LinePlays held old (Ok (Some (BadLine n))) held' task new = Halts (IsOutside n) held old held' task new.text
 LinePlays held old (Ok (Some (Limit count))) held' task new = Halts (IsAtLimit count) held old held' task new.text
 LinePlays held old (Ok (Some NoMemory)) held' task new = Breaks held old held' new.text

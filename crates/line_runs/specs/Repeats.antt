@@ -6,12 +6,12 @@ use Rattle.line_runs.specs.Runs.{RunEffect, LinesMeaning, at_end, after_text}
 use Rattle.line_runs.specs.Tasks.{TaskValue, ahead_of, IsAtEnd}
 
 -- how often a line asks for which byte
-abbrev pub asked : List ℕ → Option (ℕ × ℕ)
-asked [] = None
-asked (digit ∷ []) = None
-asked (digit ∷ blank ∷ []) = None
-asked (digit ∷ blank ∷ byte ∷ []) = if blank == 32 then Some (digit - 48, byte) else None
-asked (digit ∷ blank ∷ byte ∷ more ∷ rest) = None
+abbrev pub repeat_asked : List ℕ → Option (ℕ × ℕ)
+repeat_asked [] = None
+repeat_asked (digit ∷ []) = None
+repeat_asked (digit ∷ blank ∷ []) = None
+repeat_asked (digit ∷ blank ∷ byte ∷ []) = if blank == 32 then Some (digit - 48, byte) else None
+repeat_asked (digit ∷ blank ∷ byte ∷ more ∷ rest) = None
 
 -- so many bytes are to be printed behind these, and then comes the rest: it stops at the limit, or one is added
 abbrev pub repeats : {A : Type 0} → (ℕ → A) → (A → A) → ℕ → ℕ → (ℕ → A) → A
@@ -39,11 +39,11 @@ by_asked bad good printed (Some a) = good a.0 a.1
 
 abbrev pub prints_from : ℕ → ℕ → LinesMeaning
 prints_from printed number [] = at_end printed (printed ∷ [])
-prints_from printed number (line ∷ lines) = by_asked (at_bad number) (λ times byte. prints byte times printed (λ p. prints_from p (number + 1) lines)) printed (asked line)
+prints_from printed number (line ∷ lines) = by_asked (at_bad number) (λ times byte. prints byte times printed (λ p. prints_from p (number + 1) lines)) printed (repeat_asked line)
 
 abbrev pub counts_from : ℕ → List (List ℕ) → ℕ
 counts_from printed [] = printed
-counts_from printed (line ∷ lines) = by_asked (λ n. n) (λ times byte. counts times printed (λ p. counts_from p lines)) printed (asked line)
+counts_from printed (line ∷ lines) = by_asked (λ n. n) (λ times byte. counts times printed (λ p. counts_from p lines)) printed (repeat_asked line)
 
 -- the task, where so many bytes of the line are left
 abbrev pub repeat_task : ℕ → ℕ → ℕ → TaskValue ℕ

@@ -6,7 +6,7 @@ ghost use Rattle.line_runs.specs.declared.end.RunEnd.TheVariants as ends;
 ghost use Rattle.line_runs.specs.Lines.{HoldsNoLine, IsWithinBudget, ReadsLine};
 ghost use Rattle.line_runs.specs.Writing.{WritesText};
 ghost use Rattle.line_runs.specs.Runs.{Runs, HasBecome, ReadFaults, write_faults};
-ghost use Rattle.line_runs.specs.Playback.{start, with_text, full, stand, at_line, StepFaults, LinesFaults, SourceFaults, EndFaults, PlaybackSteps, PlaysAll, Finishes, Closes, Relieves, LinePlays, LastPlays, IsOfLine, to_do};
+ghost use Rattle.line_runs.specs.Playback.{start, with_text, full, stand, at_line, StepFaults, LinesFaults, SourceFaults, EndFaults, PlaybackSteps, PlaysAll, Finishes, ClosesRun, Relieves, LinePlays, LastPlays, IsOfLine, to_do};
 
 use crate::end::{LineStep, RunEnd};
 use crate::lines::{Ended, LineBuffer};
@@ -211,7 +211,7 @@ impl Playback {
 
     /// Appends the closing text where lines ended the run so, and answers how it ends then.
     fn close<T: LineTask>(&mut self, task: &mut T, end: RunEnd) -> RunEnd
-        ensures closes { Closes end (T.value task.old).closing self.old.text result self.new.text }
+        ensures closes { ClosesRun end (T.value task.old).closing self.old.text result self.new.text }
         ensures stays { (T.value task.new).state ≡ (T.value task.old).state }
     {
         if !end.is_of_lines() {

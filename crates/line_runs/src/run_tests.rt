@@ -1,7 +1,7 @@
 //! Runs of a small task over memory.
 
 ghost use Rattle.std.specs.Prelude.{◌≡◌};
-ghost use Rattle.line_runs.specs.Repeats.{asked};
+ghost use Rattle.line_runs.specs.Repeats.{repeat_asked};
 
 use crate::end::{LineStep, RunEnd};
 use crate::playback::run_lines;
@@ -12,8 +12,8 @@ use std::alloc::Global;
 use std::test::Fail;
 
 /// How often a line asks for which byte.
-fn asked(line: &[u8]) -> Option<(u8, u8)>
-    ensures { result ≡ asked line.now }
+fn repeat_asked(line: &[u8]) -> Option<(u8, u8)>
+    ensures { result ≡ repeat_asked line.now }
 {
     match line {
         [digit, blank, byte] => (*blank == b' ').then_some((digit.saturating_sub(48), *byte)),
@@ -52,7 +52,7 @@ impl LineTask for Repeat {
     }
 
     fn play(&mut self, line: &[u8], _text: &mut Out) -> Result<LineStep, NoMemory> {
-        match asked(line) {
+        match repeat_asked(line) {
             None => Ok(LineStep::Outside),
             Some((times, byte)) => {
                 self.left = times;

@@ -4,7 +4,7 @@ use Rattle.ff_xdr.specs.declared.error.NoMemory.{NoMemory}
 use Rattle.line_runs.specs.declared.end.LineStep.{LineStep}
 use Rattle.line_runs.specs.declared.end.LineStep.TheVariants as step
 use Rattle.line_runs.specs.Tasks.{Rests}
-use Rattle.line_runs.specs.Playback.{RunState, stand, at_line, Advances, LineSteps}
+use Rattle.line_runs.specs.Playback.{RunState, stand, at_line, AdvancesLine, LineSteps}
 use Rattle.line_runs.proofs.StepLemmas.{begins, steps_again, written_within, unwritten_within}
 use Rattle.line_runs.proofs.playback.Playback.play_line.Goals as goal
 
@@ -47,7 +47,7 @@ loop-step-preserved g c =
           let went = written_within (held c.args.sink.now) (held c.loop-step.sink) (held c.relieve.new.sink) old task mid c.relieve.new.self c.relieve.result c.in_ok-relieve-in-Ok-More.field-0 c.in_ok-relieve-in-Ok-More.was
           (subst (λ (r : Result LineStep NoMemory). LineSteps mid.begun (held c.args.sink.now) old r (held c.loop-step.sink) task (stand task mid)) on (c.loop-step.invariant.told fresh))
           c.relieve.ensures.told in
-          let here = subst (λ (n : RunState). Advances (held c.args.sink.now) old (held c.relieve.new.sink) (stand task n)) (sym c.self-in-Ok-More.view_is) went in
+          let here = subst (λ (n : RunState). AdvancesLine (held c.args.sink.now) old (held c.relieve.new.sink) (stand task n)) (sym c.self-in-Ok-More.view_is) went in
           steps_again inside.begun (inside.begun + 1) (held c.args.sink.now) (held c.relieve.new.sink) old _ c.go_on-step.new.text c.go_on-step.result (value c.go_on-step.new.self) here (c.go_on-step.ensures.does (midway fresh) (inside.begun + 1));
       rests = λ fresh. c.go_on-step.ensures.rests (midway fresh);
       room = (let room = ap (λ (s : RunState). s.room) c.self-in-Ok-More.view_is in omega (arith, room, c.relieve.ensures.rest.0, c.loop-step.invariant.room));
