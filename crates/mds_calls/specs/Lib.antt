@@ -1,5 +1,6 @@
 pub mod MdsCalls
 pub mod MdsCompounds
+pub mod MdsLists
 pub mod MdsResults
 pub mod MdsDevices
 pub mod MdsReplies

@@ -1,6 +1,6 @@
 -- The compounds that a client makes (RFC 8881, section 18), in records of RPC (RFC 5531, section 9). What has no other value is zero,
 -- false, absent or empty.
-use Rattle.std.specs.Prelude.{ℕ, ◌^◌, ◌-◌, Bool, true, false, List, [], ◌∷◌, map}
+use Rattle.std.specs.Prelude.{ℕ, ◌^◌, ◌-◌, ◌<◌, ◌≤◌, Bool, true, false, List, [], ◌∷◌, length, map}
 use Rattle.std.proofs.Common.{inl, inr}
 use Rattle.ff_xdr.specs.Form.{Form, Value, spelling}
 use Rattle.ff_xdr.specs.Arms.{arm}
@@ -94,9 +94,12 @@ io_error_of stateid m = (0, (whole_length, (stateid4_value stateid, ((device_id_
 abbrev pub return_body : Stateid → List FailedMirror → List ℕ
 return_body stateid failed = spelling ff_layoutreturn4 (map (io_error_of stateid) failed, [])
 
--- (section 18.44): LAYOUTRETURN4_FILE 1, all of the file
+-- (section 18.44): LAYOUTRETURN4_FILE 1, all of the file, with a report's body
+abbrev pub layout_return_of : Stateid → List ℕ → Value argop4
+layout_return_of stateid body = arm 51 argop4 (false, (flex_files, (reads_and_writes, arm 1 layoutreturn4 (0, (whole_length, (stateid4_value stateid, body))))))
+
 abbrev pub layout_return_op : Stateid → List FailedMirror → Value argop4
-layout_return_op stateid failed = arm 51 argop4 (false, (flex_files, (reads_and_writes, arm 1 layoutreturn4 (0, (whole_length, (stateid4_value stateid, return_body stateid failed))))))
+layout_return_op stateid failed = layout_return_of stateid (return_body stateid failed)
 
 -- ---- compounds
 
@@ -118,7 +121,11 @@ mds_ops owner (OnSlot session sequence call) = sequence_op session sequence (is_
 
 -- ---- records
 
--- a COMPOUND 1 of NFS version 4 (RFC 8881, section 16.2), with an empty tag and minor version 1, by AUTH_NONE
+-- the arguments of a compound of these operations: an empty tag, and minor version 1 (RFC 8881, section 16.2)
+unfoldable pub compound_args : List (Value argop4) → List ℕ
+compound_args ops = spelling compound4_args ([], (1, ops))
+
+-- a COMPOUND 1 of NFS version 4 by AUTH_NONE
 abbrev pub mds_rpc_call : ℕ → List ℕ → MdsCallValue → RpcCall
 mds_rpc_call xid owner call = record {
   xid = xid;
@@ -127,7 +134,7 @@ mds_rpc_call xid owner call = record {
   procedure = 1;
   cred = auth_none;
   verf = auth_none;
-  args = spelling compound4_args ([], (1, mds_ops owner call));
+  args = compound_args (mds_ops owner call);
 }
 
 abbrev pub mds_call_bytes : ℕ → List ℕ → MdsCallValue → List ℕ
@@ -151,3 +158,10 @@ servers_of_call call = []
 abbrev pub failed_of_call : MdsCallValue → List FailedMirror
 failed_of_call (OnSlot session sequence (LayoutReturn file stateid failed)) = failed
 failed_of_call call = []
+
+-- the name and the data have fewer than 2^32 bytes, and there are at most four data servers and mirrors
+pub record HasRoom (call : MdsCallValue) : Type 0 where
+  pub name : length (name_of_call call) < 2 ^ 32
+  pub data_few : length (data_of_call call) < 2 ^ 32
+  pub servers : length (servers_of_call call) ≤ 4
+  pub failed : length (failed_of_call call) ≤ 4

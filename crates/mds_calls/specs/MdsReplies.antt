@@ -1,5 +1,5 @@
 -- What the reply of a metadata server to a client's compound comes to (RFC 8881, sections 16.2 and 18).
-use Rattle.std.specs.Prelude.{◌≡◌, ℕ, Bool, true, false, ◌&&◌, ◌==◌, List, [], ◌∷◌, length, Option, Some, None, Result, Ok, Err, if◌then◌else◌}
+use Rattle.std.specs.Prelude.{◌≡◌, ℕ, Bool, true, false, ◌&&◌, ◌==◌, List, [], ◌∷◌, length, nat_le, Option, Some, None, Result, Ok, Err, if◌then◌else◌}
 use Rattle.std.specs.Option.{option_map, option_to_list}
 use Rattle.std.specs.List.{flat_map}
 use Rattle.ff_xdr.specs.declared.error.XdrError.{XdrError}
@@ -100,7 +100,7 @@ abbrev pub layout_get_results : List (Value resop4) → MdsAnswerValue
 layout_get_results (s ∷ p ∷ l ∷ []) = if sequence_ok s && put_fh_ok p then answer_of Granted (layout_get_ok l) else odd_results
 layout_get_results results = odd_results
 
--- one address for each data server that was asked for
+-- one address for each data server that was asked for; there are at most four
 abbrev pub joined_address : Option NetAddr → Option (List NetAddr) → Option (List NetAddr)
 joined_address (Some address) (Some addresses) = Some (address ∷ addresses)
 joined_address address addresses = None
@@ -110,7 +110,7 @@ device_addresses [] = Some []
 device_addresses (d ∷ results) = joined_address (device_info_ok d) (device_addresses results)
 
 abbrev pub device_info_results : ℕ → List (Value resop4) → MdsAnswerValue
-device_info_results count (s ∷ results) = if sequence_ok s && (length results == count) then answer_of Devices (device_addresses results) else odd_results
+device_info_results count (s ∷ results) = if sequence_ok s && ((length results == count) && nat_le count 4) then answer_of Devices (device_addresses results) else odd_results
 device_info_results count [] = odd_results
 
 abbrev pub write_results : List (Value resop4) → MdsAnswerValue

@@ -1,5 +1,5 @@
 -- What each result of a compound says (RFC 8881, section 18).
-use Rattle.std.specs.Prelude.{ℕ, Bool, true, false, ◌&&◌, ◌==◌, nat_eq, nat_le, List, [], ◌∷◌, length, drop, bytes_eq, decimal, codes, Option, Some, None, Result, Ok, Err, if◌then◌else◌, ◌<◌, ◌^◌, nat_lt, ◌⊎◌}
+use Rattle.std.specs.Prelude.{ℕ, ◌+◌, Bool, true, false, ◌&&◌, ◌==◌, nat_eq, nat_le, List, [], ◌∷◌, length, drop, bytes_eq, decimal, codes, Option, Some, None, Result, Ok, Err, if◌then◌else◌, ◌<◌, ◌^◌, nat_lt, ◌⊎◌}
 use Rattle.std.specs.Str.Parse.{digits_value}
 use Rattle.std.specs.Int.{w64, from_be_bytes}
 use Rattle.std.proofs.Common.{inl, inr}
@@ -24,6 +24,7 @@ use Rattle.mds_calls.specs.declared.call.OpenFile.{OpenFile}
 use Rattle.mds_calls.specs.declared.reply.SlotAnswer.{SlotAnswer}
 use Rattle.mds_calls.specs.declared.reply.SlotAnswer.TheVariants.{Taken, Uncached, Delayed, Unknown}
 use Rattle.mds_calls.specs.declared.reply.LayoutGrant.{LayoutGrant}
+use Rattle.mds_calls.specs.declared.grant.GrantedMirror.{GrantedMirror}
 
 -- ---- a union's value, where it is of one arm
 
@@ -131,36 +132,37 @@ abbrev pub server_in : List ℕ → Option ℕ
 server_in device = let n = from_be_bytes w64 (drop 8 device) in server_number n (bytes_eq device (device_id_of n).0)
 
 -- a mirror, and the user under whom it is written
-pub record GrantedMirror : Type 0 where
-  pub mirror : Mirror
-  pub uid : ℕ
-
 abbrev pub mirror_at : Option ℕ → Option ℕ → Option ℕ → Option GrantedMirror
 mirror_at (Some server) (Some fileid) (Some uid) = Some (record { mirror = record { id = record { server = server; fileid = fileid }; seen = record { boot = 0; count = 0 } }; uid = uid })
 mirror_at server fileid uid = None
 
--- one handle, of eight bytes; the user and the group are one number
+-- one handle, of eight bytes
+abbrev pub one_handle : List (List ℕ) → Option ℕ
+one_handle (handle ∷ []) = file_number_of handle
+one_handle handles = None
+
+-- the user and the group are one number
 abbrev pub data_server_of : Value ff_data_server4 → Option GrantedMirror
-data_server_of (device, (efficiency, (stateid, (handle ∷ [], (user, group))))) = if bytes_eq user group then mirror_at (server_in device) (file_number_of handle) (number_in user) else None
-data_server_of (device, (efficiency, (stateid, (handles, (user, group))))) = None
+data_server_of (device, (efficiency, (stateid, (handles, (user, group))))) = if bytes_eq user group then mirror_at (server_in device) (one_handle handles) (number_in user) else None
 
 -- one data server
 abbrev pub mirror_of : Value ff_mirror4 → Option GrantedMirror
 mirror_of (server ∷ []) = data_server_of server
 mirror_of servers = None
 
--- mirrors of one user, in order
-abbrev pub joins : GrantedMirror → Option (List Mirror) → Option (List Mirror)
-joins m None = None
-joins m (Some mirrors) = Some (m.mirror ∷ mirrors)
+-- the mirror, where it is written under this user
+abbrev pub under_one : ℕ → Option GrantedMirror → Option Mirror
+under_one uid None = None
+under_one uid (Some m) = if m.uid == uid then Some m.mirror else None
 
-abbrev pub and_then : Option GrantedMirror → ℕ → Option (List Mirror) → Option (List Mirror)
-and_then None uid rest = None
-and_then (Some m) uid rest = if m.uid == uid then joins m rest else None
+-- mirrors of one user, in order
+abbrev pub joined_mirror : Option Mirror → Option (List Mirror) → Option (List Mirror)
+joined_mirror (Some m) (Some mirrors) = Some (m ∷ mirrors)
+joined_mirror m mirrors = None
 
 abbrev pub mirrors_under : ℕ → List (Value ff_mirror4) → Option (List Mirror)
 mirrors_under uid [] = Some []
-mirrors_under uid (m ∷ rest) = and_then (mirror_of m) uid (mirrors_under uid rest)
+mirrors_under uid (m ∷ rest) = joined_mirror (under_one uid (mirror_of m)) (mirrors_under uid rest)
 
 -- one to four mirrors, no two on one server
 abbrev pub granted_to : Stateid → ℕ → Option (List Mirror) → Option LayoutGrant

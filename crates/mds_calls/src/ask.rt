@@ -9,15 +9,10 @@ pub enum MdsAsk {
     Open,
     LayoutGet,
     /// The addresses of so many data servers.
-    DeviceInfo {
-        count: u32,
-    },
+    DeviceInfo { count: u32 },
     Write,
     /// At most `count` bytes from the byte `at` on.
-    Read {
-        at: u64,
-        count: u32,
-    },
+    Read { at: u64, count: u32 },
     LayoutReturn,
     Renew,
 }

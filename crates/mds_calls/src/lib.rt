@@ -2,10 +2,29 @@
 //! in records (RFC 8881, RFC 5531).
 #![tactic(auto)]
 
+mod answer;
 mod ask;
+mod asked;
 mod call;
+mod create_session;
+mod device_info;
+mod exchange_id;
+mod grant;
+mod header;
+mod layout_get;
+mod layout_return;
+mod open;
+mod ops;
+mod read;
+mod reclaim_complete;
+mod record;
+mod renew;
 mod reply;
+mod results;
+mod write;
 
+pub use answer::mds_reply_of;
 pub use ask::MdsAsk;
 pub use call::{FailedMirror, MdsCall, OpenFile, SlotCall};
+pub use record::{fits, put_mds_call};
 pub use reply::{LayoutGrant, MdsAnswer, MdsReply, SlotAnswer};

@@ -31,10 +31,7 @@ pub struct LayoutGrant {
 #[derive(Clone, Copy, Debug, PartialEq, Eq)]
 pub enum MdsAnswer<'a> {
     /// The client's number, and that of its next CREATE_SESSION.
-    Client {
-        clientid: u64,
-        sequence: u32,
-    },
+    Client { clientid: u64, sequence: u32 },
     /// The session.
     Session(SessionId),
     /// RECLAIM_COMPLETE is done.
@@ -49,10 +46,7 @@ pub enum MdsAnswer<'a> {
     /// The bytes are written, and stable.
     Written,
     /// The bytes that were read, and whether the file ends behind them.
-    Bytes {
-        eof: bool,
-        bytes: &'a [u8],
-    },
+    Bytes { eof: bool, bytes: &'a [u8] },
     /// The layout is given back.
     Returned,
     /// The lease is renewed.
