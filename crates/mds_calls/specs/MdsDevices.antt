@@ -30,17 +30,17 @@ address_of_parts (a ∷ b ∷ c ∷ d ∷ high ∷ low ∷ []) = Some (record {
 })
 address_of_parts parts = None
 
--- The address whose one text this is.
+-- this is the one text of an address
 abbrev pub is_text_of : List ℕ → NetAddr → Bool
 is_text_of text a = bytes_eq (address_text (record { host = a.host; port = a.port })) text
+
+abbrev pub are_bytes : List ℕ → Bool
+are_bytes [] = true
+are_bytes (n ∷ rest) = nat_lt n 256 && are_bytes rest
 
 abbrev pub spelled_address : List ℕ → Option NetAddr → Option NetAddr
 spelled_address text None = None
 spelled_address text (Some a) = if are_bytes a.host && nat_lt a.port 65536 && is_text_of text a then Some a else None
-  where
-    are_bytes : List ℕ → Bool
-    are_bytes [] = true
-    are_bytes (n ∷ rest) = nat_lt n 256 && are_bytes rest
 
 abbrev pub universal_address : List ℕ → Option NetAddr
 universal_address text = spelled_address text (address_of_parts (dot_parts text))

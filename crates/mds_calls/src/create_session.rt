@@ -10,7 +10,7 @@ ghost use Rattle.mds_calls.specs.MdsReplies.{plain_mds_answer, create_session_re
 
 use crate::ops::put_ops;
 use crate::reply::MdsAnswer;
-use crate::results::{Few, Results, few, odd_results};
+use crate::results::{Few, Results, few_of, odd_results};
 use ff_xdr::{Array, Items, NoMemory, Out};
 use nfs4_compound::{Op, OpRes};
 use nfs4_file_ops::OpResult;
@@ -68,7 +68,7 @@ pub fn put_create_session(clientid: u64, sequence: u32, out: &mut Out) -> Result
 pub fn create_session_results<'a>(results: Results<'_>) -> MdsAnswer<'a>
     ensures { plain_mds_answer result ≡ create_session_results (contents resop4 op_res_value results.entry.place) }
 {
-    match few(results) {
+    match few_of(results) {
         Few::One(OpRes::CreateSession(OpResult::Done(done))) => MdsAnswer::Session(done.session),
         _ => odd_results(),
     }

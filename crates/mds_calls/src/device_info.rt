@@ -20,7 +20,7 @@ ghost use Rattle.mds_calls.specs.MdsResults.{sequence_ok};
 
 use crate::ops::{FLEX_FILES, Start, put_ops, sequence_op};
 use crate::reply::MdsAnswer;
-use crate::results::{Few, Results, few, odd_results, sequence_ok, whole_message};
+use crate::results::{Few, Results, few_of, odd_results, sequence_ok, whole_message};
 use device_addr::{FfDeviceAddr, NetAddr, NetText, parse_universal};
 use ff_xdr::{Items, NoMemory, Out};
 use nfs4_compound::{Op, OpRes};
@@ -89,7 +89,7 @@ fn universal_address(text: &str) -> Option<NetAddr>
 fn address_on_tcp(address: &NetText<'_>) -> Option<NetAddr>
     ensures { result ≡ address_on_tcp (netaddr4_value address.now) }
 {
-    if address.netid.as_bytes() == b"tcp" {
+    if address.netid == "tcp" {
         universal_address(address.address)
     } else {
         None
@@ -182,7 +182,7 @@ fn devices<'a>(start: &OpRes<'_>, is_all: bool, results: &[OpRes<'_>]) -> MdsAns
 pub fn device_info_results<'a>(count: u32, results: Results<'_>) -> MdsAnswer<'a>
     ensures { plain_mds_answer result ≡ device_info_results count (contents resop4 op_res_value results.entry.place) }
 {
-    match few(results) {
+    match few_of(results) {
         Few::One(s) => devices(&s, count == 0, &[]),
         Few::Two(s, a) => devices(&s, count == 1, &[a]),
         Few::Three(s, a, b) => devices(&s, count == 2, &[a, b]),

@@ -9,7 +9,7 @@ ghost use Rattle.mds_calls.specs.MdsReplies.{plain_mds_answer, exchange_id_resul
 
 use crate::ops::put_ops;
 use crate::reply::MdsAnswer;
-use crate::results::{Few, Results, few, odd_results};
+use crate::results::{Few, Results, few_of, odd_results};
 use ff_xdr::{NoMemory, Out};
 use nfs4_compound::{Op, OpRes};
 use nfs4_file_ops::{ArmZero, OpResult, Owner4};
@@ -35,7 +35,7 @@ pub fn put_exchange_id(owner: &[u8], verifier: u64, out: &mut Out) -> Result<(),
 pub fn exchange_id_results<'a>(results: Results<'_>) -> MdsAnswer<'a>
     ensures { plain_mds_answer result ≡ exchange_id_results (contents resop4 op_res_value results.entry.place) }
 {
-    match few(results) {
+    match few_of(results) {
         Few::One(OpRes::ExchangeId(OpResult::Done(done))) => MdsAnswer::Client {
             clientid: done.clientid,
             sequence: done.sequence,

@@ -10,7 +10,7 @@ ghost use Rattle.ff_layout.specs.Layout.{ff_layout4, ff_layout4_value};
 ghost use Rattle.mds_calls.specs.MdsResults.{data_server_of, grant_of, granted_to, mirror_of, number_in, one_handle, server_in, under_one};
 
 use crate::reply::LayoutGrant;
-use crate::results::{Few, few, whole_message};
+use crate::results::{Few, few_of, whole_message};
 use cluster_model::{Cred, Mirror, MirrorId, Mirrors, Tick};
 use ff_layout::{FfDataServer, FfLayout, FfMirror, user_number};
 use ff_xdr::Items;
@@ -50,7 +50,7 @@ fn server_in(device: DeviceId) -> Option<u32>
 fn one_handle(handles: Items<'_, Handle4<'_>>) -> Option<u64>
     ensures { result ≡ one_handle (contents nfs_fh4 (λ handle. handle.bytes.now) handles.entry.place) }
 {
-    match few(handles) {
+    match few_of(handles) {
         Few::One(handle) => file_number(handle.bytes),
         _ => None,
     }
@@ -60,7 +60,7 @@ fn one_handle(handles: Items<'_, Handle4<'_>>) -> Option<u64>
 fn data_server_of(server: &FfDataServer<'_>) -> Option<GrantedMirror>
     ensures { result ≡ data_server_of (ff_data_server4_value server.now) }
 {
-    if server.user.as_bytes() != server.group.as_bytes() {
+    if server.user != server.group {
         return None;
     }
     let fileid = one_handle(server.handles)?;
@@ -79,7 +79,7 @@ fn data_server_of(server: &FfDataServer<'_>) -> Option<GrantedMirror>
 fn mirror_of(mirror: &FfMirror<'_>) -> Option<GrantedMirror>
     ensures { result ≡ mirror_of (ff_mirror4_value mirror.now) }
 {
-    match few(mirror.servers) {
+    match few_of(mirror.servers) {
         Few::One(server) => data_server_of(&server),
         _ => None,
     }
@@ -115,7 +115,7 @@ fn granted_to(stateid: Stateid, uid: u32, mirrors: &[Mirror]) -> Option<LayoutGr
 fn grant_of(stateid: Stateid, layout: &FfLayout<'_>) -> Option<LayoutGrant>
     ensures { result ≡ grant_of stateid (Ok (ff_layout4_value layout.now)) }
 {
-    match few(layout.mirrors) {
+    match few_of(layout.mirrors) {
         Few::One(a) => {
             let GrantedMirror { mirror: a, uid } = mirror_of(&a)?;
             granted_to(stateid, uid, &[a])

@@ -16,7 +16,7 @@ use crate::call::OpenFile;
 use crate::grant::grant_in;
 use crate::ops::{FLEX_FILES, READS_AND_WRITES, Start, handle_of, put_ops, sequence_op};
 use crate::reply::{LayoutGrant, MdsAnswer};
-use crate::results::{Few, Results, few, odd_results, put_fh_ok, sequence_ok};
+use crate::results::{Few, Results, few_of, odd_results, put_fh_ok, sequence_ok};
 use ff_xdr::{Items, NoMemory, Out};
 use nfs4_compound::{Op, OpRes};
 use nfs4_file_ops::{Layout4, LayoutGetArgs, LayoutGetRes};
@@ -59,7 +59,7 @@ pub fn put_layout_get(start: Start, file: OpenFile, out: &mut Out) -> Result<(),
 fn one_layout(stateid: Stateid, layouts: Items<'_, Layout4<'_>>) -> Option<LayoutGrant>
     ensures { result ≡ one_layout stateid (contents layout4 layout4_value layouts.entry.place) }
 {
-    match few(layouts) {
+    match few_of(layouts) {
         Few::One(layout) => {
             if layout.iomode == READS_AND_WRITES && layout.layout_type == FLEX_FILES {
                 grant_in(stateid, layout.body.bytes)
@@ -87,7 +87,7 @@ fn layout_get_ok(of: &OpRes<'_>) -> Option<LayoutGrant>
 pub fn layout_get_results<'a>(results: Results<'_>) -> MdsAnswer<'a>
     ensures { plain_mds_answer result ≡ layout_get_results (contents resop4 op_res_value results.entry.place) }
 {
-    match few(results) {
+    match few_of(results) {
         Few::Three(s, p, l) => {
             if !sequence_ok(&s) || !put_fh_ok(&p) {
                 return odd_results();

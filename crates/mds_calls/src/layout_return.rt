@@ -15,7 +15,7 @@ ghost use Rattle.mds_calls.specs.MdsReplies.{layout_return_results, plain_mds_an
 use crate::call::FailedMirror;
 use crate::ops::{FLEX_FILES, READS_AND_WRITES, Start, handle_of, put_ops, sequence_op};
 use crate::reply::MdsAnswer;
-use crate::results::{Few, Results, few, odd_results, put_fh_ok, sequence_ok};
+use crate::results::{Few, Results, few_of, odd_results, put_fh_ok, sequence_ok};
 use cluster_model::FileId;
 use ff_layout::{DeviceError, IoErr};
 use ff_xdr::{Items, NoMemory, Out, Wire};
@@ -112,7 +112,7 @@ fn layout_return_ok(of: &OpRes<'_>) -> bool
 pub fn layout_return_results<'a>(results: Results<'_>) -> MdsAnswer<'a>
     ensures { plain_mds_answer result ≡ layout_return_results (contents resop4 op_res_value results.entry.place) }
 {
-    match few(results) {
+    match few_of(results) {
         Few::Three(s, p, r) => {
             if sequence_ok(&s) && put_fh_ok(&p) && layout_return_ok(&r) {
                 MdsAnswer::Returned

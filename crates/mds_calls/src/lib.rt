@@ -21,6 +21,8 @@ mod record;
 mod renew;
 mod reply;
 mod results;
+#[cfg(test)]
+mod tests;
 mod write;
 
 pub use answer::mds_reply_of;

@@ -15,7 +15,7 @@ ghost use Rattle.mds_calls.specs.MdsReplies.{Opened, answer_of, opened_file, ope
 use crate::call::OpenFile;
 use crate::ops::{Start, put_ops, sequence_op};
 use crate::reply::MdsAnswer;
-use crate::results::{Few, Results, few, odd_results, put_root_fh_ok, sequence_ok};
+use crate::results::{Few, Results, few_of, odd_results, put_root_fh_ok, sequence_ok};
 use cluster_model::FileId;
 use ff_xdr::{Items, NoMemory, Out};
 use nfs4_compound::{Op, OpRes};
@@ -54,7 +54,12 @@ fn open_op<'a>(owner: &'a [u8], name: &'a str) -> Op<'a>
 }
 
 /// Appends the arguments of the compound, or nothing.
-pub fn put_open(start: Start, owner: &[u8], name: &str, out: &mut Out) -> Result<(), NoMemory>
+pub fn put_open<'a>(
+    start: Start,
+    owner: &'a [u8],
+    name: &'a str,
+    out: &mut Out,
+) -> Result<(), NoMemory>
     requires owner { length owner.now ≤ 1024 }
     requires name { length name.now < 2 ^ 32 }
     ensures { Puts out.old result out.new (compound_args (mds_ops owner.now (OnSlot start.session start.sequence (Open name.now)))) }
@@ -120,7 +125,7 @@ fn opened<'a>(of: &OpRes<'_>, handle: &OpRes<'_>) -> MdsAnswer<'a>
 pub fn open_results<'a>(results: Results<'_>) -> MdsAnswer<'a>
     ensures { plain_mds_answer result ≡ open_results (contents resop4 op_res_value results.entry.place) }
 {
-    match few(results) {
+    match few_of(results) {
         Few::Four(s, p, o, g) => {
             if sequence_ok(&s) && put_root_fh_ok(&p) {
                 opened(&o, &g)

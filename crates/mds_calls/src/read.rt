@@ -14,7 +14,7 @@ ghost use Rattle.mds_calls.specs.MdsReplies.{Bytes, answer_of, plain_mds_answer,
 use crate::call::OpenFile;
 use crate::ops::{Start, handle_of, put_ops, sequence_op};
 use crate::reply::MdsAnswer;
-use crate::results::{Few, Results, few, odd_results, put_fh_ok, sequence_ok};
+use crate::results::{Few, Results, few_of, odd_results, put_fh_ok, sequence_ok};
 use ff_xdr::{NoMemory, Out};
 use nfs4_compound::{Op, OpRes};
 use nfs4_file_ops::{OpResult, Read4Args};
@@ -85,7 +85,7 @@ fn bytes_read<'a>(at: u64, count: u32, of: &OpRes<'a>) -> MdsAnswer<'a>
 pub fn read_results<'a>(at: u64, count: u32, results: Results<'a>) -> MdsAnswer<'a>
     ensures { plain_mds_answer result ≡ read_results at count (contents resop4 op_res_value results.entry.place) }
 {
-    match few(results) {
+    match few_of(results) {
         Few::Three(s, p, r) => {
             if sequence_ok(&s) && put_fh_ok(&p) {
                 bytes_read(at, count, &r)

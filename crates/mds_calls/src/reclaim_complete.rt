@@ -11,7 +11,7 @@ ghost use Rattle.mds_calls.specs.MdsReplies.{plain_mds_answer, reclaim_complete_
 
 use crate::ops::{Start, put_ops, sequence_op};
 use crate::reply::MdsAnswer;
-use crate::results::{Few, Results, few, odd_results, sequence_ok};
+use crate::results::{Few, Results, few_of, odd_results, sequence_ok};
 use ff_xdr::{NoMemory, Out};
 use nfs4_compound::{Op, OpRes};
 use nfs4_file_ops::OpResult;
@@ -34,7 +34,7 @@ fn reclaim_complete_ok(of: &OpRes<'_>) -> bool
 pub fn reclaim_complete_results<'a>(results: Results<'_>) -> MdsAnswer<'a>
     ensures { plain_mds_answer result ≡ reclaim_complete_results (contents resop4 op_res_value results.entry.place) }
 {
-    match few(results) {
+    match few_of(results) {
         Few::Two(s, r) => {
             if sequence_ok(&s) && reclaim_complete_ok(&r) {
                 MdsAnswer::Complete

@@ -10,7 +10,7 @@ ghost use Rattle.mds_calls.specs.MdsReplies.{plain_mds_answer, renew_results};
 
 use crate::ops::{Start, put_ops, sequence_op};
 use crate::reply::MdsAnswer;
-use crate::results::{Few, Results, few, odd_results, sequence_ok};
+use crate::results::{Few, Results, few_of, odd_results, sequence_ok};
 use ff_xdr::{NoMemory, Out};
 
 /// Appends the arguments of the compound, or nothing.
@@ -24,7 +24,7 @@ pub fn put_renew(start: Start, out: &mut Out) -> Result<(), NoMemory>
 pub fn renew_results<'a>(results: Results<'_>) -> MdsAnswer<'a>
     ensures { plain_mds_answer result ≡ renew_results (contents resop4 op_res_value results.entry.place) }
 {
-    match few(results) {
+    match few_of(results) {
         Few::One(s) => {
             if sequence_ok(&s) {
                 MdsAnswer::Renewed

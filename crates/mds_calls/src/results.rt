@@ -32,7 +32,7 @@ pub enum Few<T> {
 }
 
 /// The values of a list, where they are few.
-pub fn few<'a, T: Wire<'a> + Copy>(list: Items<'a, T>) -> Few<T>
+pub fn few_of<'a, T: Wire<'a> + Copy>(list: Items<'a, T>) -> Few<T>
     ensures { AreFew T.meaning (contents T.form T.meaning list.entry.place) result }
 {
     let mut items = list.items();

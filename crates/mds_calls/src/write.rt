@@ -14,7 +14,7 @@ ghost use Rattle.mds_calls.specs.MdsReplies.{plain_mds_answer, write_results};
 use crate::call::OpenFile;
 use crate::ops::{Start, handle_of, put_ops, sequence_op};
 use crate::reply::MdsAnswer;
-use crate::results::{Few, Results, few, odd_results, put_fh_ok, sequence_ok};
+use crate::results::{Few, Results, few_of, odd_results, put_fh_ok, sequence_ok};
 use ff_xdr::{NoMemory, Out};
 use nfs4_compound::{Op, OpRes};
 use nfs4_file_ops::{OpResult, OpaqueBody, StableHow4, Write4Args};
@@ -65,7 +65,7 @@ fn write_ok(of: &OpRes<'_>) -> bool
 pub fn write_results<'a>(results: Results<'_>) -> MdsAnswer<'a>
     ensures { plain_mds_answer result ≡ write_results (contents resop4 op_res_value results.entry.place) }
 {
-    match few(results) {
+    match few_of(results) {
         Few::Three(s, p, w) => {
             if sequence_ok(&s) && put_fh_ok(&p) && write_ok(&w) {
                 MdsAnswer::Written
