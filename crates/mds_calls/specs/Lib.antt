@@ -4,3 +4,4 @@ pub mod MdsLists
 pub mod MdsResults
 pub mod MdsDevices
 pub mod MdsReplies
+pub mod MdsCallLaws

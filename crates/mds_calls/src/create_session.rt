@@ -61,7 +61,8 @@ pub fn put_create_session(clientid: u64, sequence: u32, out: &mut Out) -> Result
             items: Items::made(&security),
         },
     };
-    put_ops(&[Op::CreateSession(args)], out)
+    put_ops(&[Op::CreateSession(args)], out)?;
+    Ok(())
 }
 
 /// What the results say.

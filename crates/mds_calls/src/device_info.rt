@@ -52,28 +52,32 @@ pub fn put_device_info(start: Start, servers: &[u32], out: &mut Out) -> Result<(
 {
     let s = sequence_op(start, true);
     match servers {
-        [] => put_ops(&[s], out),
-        [a] => put_ops(&[s, device_info_op(*a)], out),
-        [a, b] => put_ops(&[s, device_info_op(*a), device_info_op(*b)], out),
-        [a, b, c] => put_ops(
-            &[
-                s,
-                device_info_op(*a),
-                device_info_op(*b),
-                device_info_op(*c),
-            ],
-            out,
-        ),
-        [a, b, c, d] => put_ops(
-            &[
-                s,
-                device_info_op(*a),
-                device_info_op(*b),
-                device_info_op(*c),
-                device_info_op(*d),
-            ],
-            out,
-        ),
+        [] => {
+            put_ops(&[s], out)?;
+            Ok(())
+        }
+        [a] => {
+            put_ops(&[s, device_info_op(*a)], out)?;
+            Ok(())
+        }
+        [a, b] => {
+            put_ops(&[s, device_info_op(*a), device_info_op(*b)], out)?;
+            Ok(())
+        }
+        [a, b, c] => {
+            let a = device_info_op(*a);
+            let b = device_info_op(*b);
+            let c = device_info_op(*c);
+            put_ops(&[s, a, b, c], out)?;
+            Ok(())
+        }
+        [a, b, c, d] => {
+            let a = device_info_op(*a);
+            let b = device_info_op(*b);
+            let c = device_info_op(*c);
+            put_ops(&[s, a, b, c, device_info_op(*d)], out)?;
+            Ok(())
+        }
         _ => unreachable!(),
     }
 }
@@ -101,8 +105,8 @@ fn first_address(addresses: Items<'_, NetText<'_>>) -> Option<NetAddr>
     ensures { result ≡ first_address (contents netaddr4 netaddr4_value addresses.entry.place) }
 {
     for address in addresses.items() {
-        if let Some(address) = address_on_tcp(&address) {
-            return Some(address);
+        if let Some(found) = address_on_tcp(&address) {
+            return Some(found);
         }
     }
     None

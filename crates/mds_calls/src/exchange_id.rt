@@ -28,7 +28,8 @@ pub fn put_exchange_id(owner: &[u8], verifier: u64, out: &mut Out) -> Result<(),
         protect: ArmZero { body: () },
         impl_id: AtMostOne { value: None },
     };
-    put_ops(&[Op::ExchangeId(args)], out)
+    put_ops(&[Op::ExchangeId(args)], out)?;
+    Ok(())
 }
 
 /// What the results say.

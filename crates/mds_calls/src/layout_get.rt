@@ -52,7 +52,8 @@ pub fn put_layout_get(start: Start, file: OpenFile, out: &mut Out) -> Result<(),
         Op::PutFh(Handle4 { bytes: &handle }),
         layout_get_op(file.stateid),
     ];
-    put_ops(&ops, out)
+    put_ops(&ops, out)?;
+    Ok(())
 }
 
 /// The layout, where there is one alone, for reading and writing and of flexible files.

@@ -4,6 +4,8 @@ ghost use Rattle.std.specs.Prelude.{◌≡◌, ◌≤◌, ◌<◌, ◌^◌, [], 
 ghost use Rattle.ff_xdr.specs.Form.{Fits, spelling};
 ghost use Rattle.ff_xdr.specs.Calls.{Grows, Puts};
 ghost use Rattle.ff_xdr.specs.Items.{contents};
+ghost use Rattle.nfs4_types.specs.Ids.{device_id_of};
+ghost use Rattle.ff_layout.specs.DeviceError.{device_error4, device_error4_value};
 ghost use Rattle.ff_layout.specs.IoError.{ff_ioerr4};
 ghost use Rattle.nfs4_compound.specs.Args.{argop4, op_value};
 ghost use Rattle.nfs4_compound.specs.Results.{resop4, op_res_value};
@@ -27,23 +29,32 @@ use std::alloc::Global;
 /// The operation that failed: WRITE.
 const WRITE: u32 = 38;
 
+/// The error at the device of a mirror.
+fn device_error(mirror: &FailedMirror) -> DeviceError
+    ensures value { device_error4_value result ≡ ((device_id_of mirror.now.server).0, (mirror.now.status, 38)) }
+    ensures fits { Fits device_error4 (device_error4_value result) }
+{
+    DeviceError {
+        device: device_of(mirror.server),
+        status: mirror.status,
+        opnum: WRITE,
+    }
+}
+
 /// Appends what is reported of a mirror that failed (RFC 8435, section 9.1.1). At an error a part of it may
 /// stand.
 fn put_error(stateid: Stateid, mirror: &FailedMirror, out: &mut Out) -> Result<(), NoMemory>
     ensures { Grows out.old result out.new (spelling ff_ioerr4 (io_error_of stateid mirror.now)) }
 {
-    let errors = [DeviceError {
-        device: device_of(mirror.server),
-        status: mirror.status,
-        opnum: WRITE,
-    }];
+    let errors = [device_error(mirror)];
     let error = IoErr {
         offset: 0,
         length: u64::MAX,
         stateid,
         errors: Items::made(&errors),
     };
-    error.put(out)
+    error.put(out)?;
+    Ok(())
 }
 
 /// Appends the report; there are no statistics (RFC 8435, section 9.3). At an error a part of it may stand.
@@ -98,7 +109,8 @@ pub fn put_layout_return(
         Op::PutFh(Handle4 { bytes: &handle }),
         layout_return_op(stateid, body.bytes()),
     ];
-    put_ops(&ops, out)
+    put_ops(&ops, out)?;
+    Ok(())
 }
 
 /// A LAYOUTRETURN that is OK.

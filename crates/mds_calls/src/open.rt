@@ -70,7 +70,8 @@ pub fn put_open<'a>(
         open_op(owner, name),
         Op::GetFh,
     ];
-    put_ops(&ops, out)
+    put_ops(&ops, out)?;
+    Ok(())
 }
 
 /// The stateid of an OPEN that is OK.

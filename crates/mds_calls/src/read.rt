@@ -51,7 +51,8 @@ pub fn put_read(
         Op::PutFh(Handle4 { bytes: &handle }),
         read_op(file.stateid, at, count),
     ];
-    put_ops(&ops, out)
+    put_ops(&ops, out)?;
+    Ok(())
 }
 
 /// There are no more bytes than were asked for, and none past the end of the longest file.

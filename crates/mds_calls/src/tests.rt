@@ -247,7 +247,17 @@ fn refused(slot: SlotAnswer, status: Stat4) -> MdsReply<'static> {
 
 /// SEQUENCE is OK: session, number, slot 0, highest 7 and 7, no flags.
 const SEQUENCE: [u32; 11] = [
-    53, 0, 0x0100_0000, 0x0200_0000, 0x0300_0000, 0x0400_0005, 10, 0, 7, 7, 0,
+    53,
+    0,
+    0x0100_0000,
+    0x0200_0000,
+    0x0300_0000,
+    0x0400_0005,
+    10,
+    0,
+    7,
+    7,
+    0,
 ];
 
 const READ: MdsAsk = MdsAsk::Read { at: 4, count: 5 };
@@ -277,9 +287,7 @@ fn replies(rt: HostRuntime) -> Result<(), Fail> {
     let ask = MdsAsk::CreateSession;
     reply_is(&rt, alloc, ask, &[&created, &channels], 0, session)?;
     // OPEN: the stateid, a change, no flags, no attributes, no delegation; the handle of file 1
-    let opened: [u32; 16] = [
-        24, 0, 18, 0, 6, 7, 8, 9, 1, 0, 1, 0, 2, 0, 0, 0,
-    ];
+    let opened: [u32; 16] = [24, 0, 18, 0, 6, 7, 8, 9, 1, 0, 1, 0, 2, 0, 0, 0];
     let parts: [&[u32]; 4] = [&[0, 0, 4], &SEQUENCE, &opened, &[10, 0, 8, 0, 1]];
     let answer = taken(MdsAnswer::Opened(FILE));
     reply_is(&rt, alloc, MdsAsk::Open, &parts, 0, answer)?;
@@ -325,7 +333,14 @@ fn short_replies(rt: HostRuntime) -> Result<(), Fail> {
         let unread = refused(SlotAnswer::Unknown, Stat4::ServerFault);
         let parts: [&[u32]; 4] = [&[0, 0, count], &SEQUENCE, words, &[0]];
         reply_is(&rt, alloc, ask, &parts, 0, unread)?;
-        reply_is(&rt, alloc, ask, &[&[0, 0, count], &SEQUENCE, words], 4, unread)?;
+        reply_is(
+            &rt,
+            alloc,
+            ask,
+            &[&[0, 0, count], &SEQUENCE, words],
+            4,
+            unread,
+        )?;
     }
     // a result missing, another operation's, a status in the middle of an OK compound
     let table: [(MdsAsk, u32, &[u32]); 7] = [
@@ -367,7 +382,14 @@ fn statuses(rt: HostRuntime) -> Result<(), Fail> {
         reply_is(&rt, alloc, ask, &[&words], 0, refused(slot, status))?;
     }
     let stale = refused(SlotAnswer::Taken, Stat4::Stale);
-    reply_is(&rt, alloc, ask, &[&[70, 0, 2], &SEQUENCE, &[22, 70]], 0, stale)?;
+    reply_is(
+        &rt,
+        alloc,
+        ask,
+        &[&[70, 0, 2], &SEQUENCE, &[22, 70]],
+        0,
+        stale,
+    )?;
     let stale = refused(SlotAnswer::Unknown, Stat4::Stale);
     reply_is(&rt, alloc, ask, &[&[70, 0, 1, 22, 70]], 0, stale)?;
     reply_is(&rt, alloc, ask, &[&[70, 0, 0]], 0, stale)?;
@@ -391,7 +413,7 @@ fn layout_is(
 ) -> Result<(), Fail> {
     let body = bytes_of(alloc, body)?;
     let all = u32::MAX;
-    let parts = [&[0, 0, 3][..], &SEQUENCE, &LAYOUT];
+    let parts: [&[u32]; 3] = [&[0, 0, 3], &SEQUENCE, &LAYOUT];
     let mut bytes = bytes_of(alloc, &[&[7, 1, 0, 0, 0, 0]])?;
     bytes.extend_from_slice(bytes_of(alloc, &parts)?.as_slice())?;
     let size = body.len() as u32;
@@ -411,6 +433,11 @@ fn mirror(server: u32, fileid: u32) -> [u32; 20] {
         1, 0, 0, 0, server, 1, 0, 0, 0, 0, 1, 8, 0, fileid, user[0], user[1], user[2], user[0],
         user[1], user[2],
     ]
+}
+
+/// Stripes of 64 KiB, and so many mirrors.
+fn mirrors_of(count: u32) -> [u32; 3] {
+    [0, 0x1_0000, count]
 }
 
 /// A layout under uid 65,536 with these mirrors.
@@ -439,10 +466,8 @@ fn layouts(rt: HostRuntime) -> Result<(), Fail> {
     let flex = [2, 4];
     let odd = refused(SlotAnswer::Taken, Stat4::ServerFault);
     let (a, b, c, d) = (mirror(1, 2), mirror(2, 3), mirror(16, 4), mirror(4, 5));
-    // 64 KiB stripes, one mirror; flags and hint
-    let head: [[u32; 3]; 6] = [0, 1, 2, 3, 4, 5].map(|n| [0, 0x1_0000, n]);
     let end = [1, 0];
-    let one: [&[u32]; 3] = [&head[1], &a, &end];
+    let one: [&[u32]; 3] = [&mirrors_of(1), &a, &end];
     let want = granted(&[on_server(1, 2)]);
     layout_is(&rt, alloc, flex, &one, want)?;
     let all = [
@@ -451,49 +476,94 @@ fn layouts(rt: HostRuntime) -> Result<(), Fail> {
         on_server(16, 4),
         on_server(4, 5),
     ];
-    let four: [&[u32]; 6] = [&head[4], &a, &b, &c, &d, &end];
+    let four: [&[u32]; 6] = [&mirrors_of(4), &a, &b, &c, &d, &end];
     layout_is(&rt, alloc, flex, &four, granted(&all))?;
     // for reading; of another type; bytes behind the body; no mirror, five, two on one server
     layout_is(&rt, alloc, [1, 4], &one, odd)?;
     layout_is(&rt, alloc, [2, 1], &one, odd)?;
-    layout_is(&rt, alloc, flex, &[&head[1], &a, &end, &[0]], odd)?;
-    layout_is(&rt, alloc, flex, &[&head[0], &end], odd)?;
+    layout_is(&rt, alloc, flex, &[&mirrors_of(1), &a, &end, &[0]], odd)?;
+    layout_is(&rt, alloc, flex, &[&mirrors_of(0), &end], odd)?;
     let e = mirror(5, 6);
-    let five: [&[u32]; 7] = [&head[5], &a, &b, &c, &d, &e, &end];
+    let five: [&[u32]; 7] = [&mirrors_of(5), &a, &b, &c, &d, &e, &end];
     layout_is(&rt, alloc, flex, &five, odd)?;
     let twice = mirror(1, 7);
-    layout_is(&rt, alloc, flex, &[&head[2], &a, &twice, &end], odd)?;
-    // server 17; a device that is none of a data server; a group of another number
-    let mut odd_mirrors = [mirror(17, 2), mirror(1, 2), mirror(1, 2), mirror(1, 2)];
-    odd_mirrors[1][1] = 1;
-    odd_mirrors[2][17] = 5;
-    odd_mirrors[2][18] = 0x3635_3534;
-    // a handle of seven bytes
-    odd_mirrors[3][11] = 7;
-    odd_mirrors[3][13] = 0;
-    for words in odd_mirrors {
-        layout_is(&rt, alloc, flex, &[&head[1], &words, &end], odd)?;
+    layout_is(&rt, alloc, flex, &[&mirrors_of(2), &a, &twice, &end], odd)?;
+    // server 17; a device that is none of a data server; a group of another number; a handle of 7 bytes
+    let far = mirror(17, 2);
+    let mut device = mirror(1, 2);
+    device[1] = 1;
+    let mut group = mirror(1, 2);
+    group[18] = 0x3635_3534;
+    let mut handle = mirror(1, 0);
+    handle[11] = 7;
+    for words in [far, device, group, handle] {
+        layout_is(&rt, alloc, flex, &[&mirrors_of(1), &words, &end], odd)?;
     }
     // a second mirror under another uid
     let mut other = mirror(2, 3);
     other[15] = 0x3635_3534;
     other[18] = 0x3635_3534;
-    layout_is(&rt, alloc, flex, &[&head[2], &a, &other, &end], odd)?;
+    layout_is(&rt, alloc, flex, &[&mirrors_of(2), &a, &other, &end], odd)?;
     // the user 065536 has six bytes
     let zero: [u32; 20] = [
-        1, 0, 0, 0, 1, 1, 0, 0, 0, 0, 1, 8, 0, 2, 6, 0x3036_3535, 0x3336_0000, 6, 0x3036_3535,
+        1,
+        0,
+        0,
+        0,
+        1,
+        1,
+        0,
+        0,
+        0,
+        0,
+        1,
+        8,
+        0,
+        2,
+        6,
+        0x3036_3535,
+        0x3336_0000,
+        6,
+        0x3036_3535,
         0x3336_0000,
     ];
-    layout_is(&rt, alloc, flex, &[&head[1], &zero, &end], odd)?;
+    layout_is(&rt, alloc, flex, &[&mirrors_of(1), &zero, &end], odd)?;
     // two data servers in a mirror; two handles of one
     let mut two = a;
     two[0] = 2;
-    layout_is(&rt, alloc, flex, &[&head[1], &two, &b[1..], &end], odd)?;
+    layout_is(
+        &rt,
+        alloc,
+        flex,
+        &[&mirrors_of(1), &two, &b[1..], &end],
+        odd,
+    )?;
     let handles: [u32; 23] = [
-        1, 0, 0, 0, 1, 1, 0, 0, 0, 0, 2, 8, 0, 2, 8, 0, 3, 5, 0x3635_3533, 0x3600_0000, 5,
-        0x3635_3533, 0x3600_0000,
+        1,
+        0,
+        0,
+        0,
+        1,
+        1,
+        0,
+        0,
+        0,
+        0,
+        2,
+        8,
+        0,
+        2,
+        8,
+        0,
+        3,
+        5,
+        0x3635_3533,
+        0x3600_0000,
+        5,
+        0x3635_3533,
+        0x3600_0000,
     ];
-    layout_is(&rt, alloc, flex, &[&head[1], &handles, &end], odd)?;
+    layout_is(&rt, alloc, flex, &[&mirrors_of(1), &handles, &end], odd)?;
     // no layout, and two
     let none: [u32; 9] = [22, 0, 50, 0, 1, 6, 7, 8, 9];
     let parts: [&[u32]; 4] = [&[0, 0, 3], &SEQUENCE, &none, &[0]];
@@ -507,7 +577,20 @@ fn layouts(rt: HostRuntime) -> Result<(), Fail> {
 /// GETDEVICEINFO is OK: of flexible files, with one address over this network, no version, and no
 /// notification. `127.0.0.1.8.1` has 13 bytes.
 const DEVICE: [u32; 14] = [
-    47, 0, 4, 36, 1, 3, 0x7463_7000, 13, 0x3132_372E, 0x302E_302E, 0x312E_382E, 0x3100_0000, 0, 0,
+    47,
+    0,
+    4,
+    36,
+    1,
+    3,
+    0x7463_7000,
+    13,
+    0x3132_372E,
+    0x302E_302E,
+    0x312E_382E,
+    0x3100_0000,
+    0,
+    0,
 ];
 
 #[test]

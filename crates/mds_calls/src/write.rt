@@ -51,7 +51,8 @@ pub fn put_write(
         Op::PutFh(Handle4 { bytes: &handle }),
         write_op(file.stateid, at, bytes),
     ];
-    put_ops(&ops, out)
+    put_ops(&ops, out)?;
+    Ok(())
 }
 
 /// A WRITE that is OK. Its count and its verifier are not looked at.
