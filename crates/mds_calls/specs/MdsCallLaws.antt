@@ -1,0 +1,41 @@
+-- The law of calls to a metadata server.
+use Rattle.std.specs.Prelude.{◌≡◌, ℕ, ◌^◌, ◌<◌, List, [], Ok}
+use Rattle.ff_xdr.specs.Form.{Fits}
+use Rattle.ff_xdr.specs.Reading.{reading, whole}
+use Rattle.rpc_record.specs.Calls.{RpcCall, call_at}
+use Rattle.nfs4_compound.specs.Compounds.{compound4_args}
+use Rattle.mds_calls.specs.MdsCalls.{MdsCallValue}
+use Rattle.mds_calls.specs.MdsCompounds.{mds_call_bytes, mds_ops, mds_rpc_call}
+
+-- a call of a client, under a number
+pub record MdsMessage : Type 0 where
+  pub xid : ℕ
+  pub owner : List ℕ
+  pub call : MdsCallValue
+
+abbrev pub record_of : MdsMessage → List ℕ
+record_of m = mds_call_bytes m.xid m.owner m.call
+
+abbrev pub message_call : MdsMessage → RpcCall
+message_call m = mds_rpc_call m.xid m.owner m.call
+
+-- each number is in its range, and each length within its maximum
+pub record HasRecord (m : MdsMessage) : Type 0 where
+  pub xid_fits : m.xid < 2 ^ 32
+  pub ops_fit : Fits compound4_args ([], (1, mds_ops m.owner m.call))
+
+-- The record is read as this COMPOUND of NFS version 4, and its arguments as exactly these operations, with nothing behind them.
+pub record IsReadAsCall (m : MdsMessage) : Type 0 where
+  pub header : call_at (record_of m) ≡ Ok (message_call m)
+  pub operations : whole (message_call m).args (reading compound4_args (message_call m).args 0) ≡ Ok ([], (1, mds_ops m.owner m.call))
+
+abbrev pub IsUnderstood : MdsMessage → Type 0
+IsUnderstood m = HasRecord m → IsReadAsCall m
+
+-- records that are equal have one number and the same operations
+pub record SayTheSame (m n : MdsMessage) : Type 0 where
+  pub xid : m.xid ≡ n.xid
+  pub operations : mds_ops m.owner m.call ≡ mds_ops n.owner n.call
+
+abbrev pub AreToldApart : MdsMessage → MdsMessage → Type 0
+AreToldApart m n = HasRecord m → HasRecord n → record_of m ≡ record_of n → SayTheSame m n

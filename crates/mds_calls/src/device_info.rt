@@ -1,0 +1,198 @@
+//! GETDEVICEINFO of the devices of data servers (RFC 8881, section 18.40; RFC 8435, section 4.1).
+
+ghost use Rattle.std.specs.Prelude.{◌≡◌, ◌≤◌, ◌&&◌, [], length, map, if◌then◌else◌};
+ghost use Rattle.std.specs.List.{flat_map};
+ghost use Rattle.std.specs.Option.{option_map, option_to_list};
+ghost use Rattle.ff_xdr.specs.Form.{Fits};
+ghost use Rattle.ff_xdr.specs.Calls.{Puts};
+ghost use Rattle.ff_xdr.specs.Items.{contents};
+ghost use Rattle.ff_xdr.specs.Reading.{reading, whole};
+ghost use Rattle.nfs4_types.specs.Texts.{netaddr4};
+ghost use Rattle.nfs4_compound.specs.Args.{argop4, op_value};
+ghost use Rattle.nfs4_compound.specs.Results.{resop4, op_res_value};
+ghost use Rattle.device_addr.specs.Device.{ff_device_addr4};
+ghost use Rattle.device_addr.specs.NetText.{netaddr4_value};
+ghost use Rattle.mds_calls.specs.MdsCalls.{OnSlot, DeviceInfo};
+ghost use Rattle.mds_calls.specs.MdsCompounds.{compound_args, mds_ops, device_info_op};
+ghost use Rattle.mds_calls.specs.MdsDevices.{address_on_tcp, device_address, device_info_ok, first_address, universal_address};
+ghost use Rattle.mds_calls.specs.MdsReplies.{Devices, answer_of, device_addresses, device_info_results, odd_results, plain_mds_answer};
+ghost use Rattle.mds_calls.specs.MdsResults.{sequence_ok};
+
+use crate::ops::{FLEX_FILES, Start, put_ops, sequence_op};
+use crate::reply::MdsAnswer;
+use crate::results::{Few, Results, few_of, odd_results, sequence_ok, whole_message};
+use device_addr::{FfDeviceAddr, NetAddr, NetText, parse_universal};
+use ff_xdr::{Items, NoMemory, Out};
+use nfs4_compound::{Op, OpRes};
+use nfs4_file_ops::{GetDeviceInfoArgs, GetDeviceInfoRes};
+use nfs4_types::{Bitmap, device_of};
+
+/// The most bytes of the result.
+const MOST: u32 = 4_096;
+
+/// GETDEVICEINFO of the device of a data server.
+fn device_info_op<'a>(server: u32) -> Op<'a>
+    ensures value { op_value result ≡ device_info_op server }
+    ensures fits { Fits argop4 (op_value result) }
+{
+    Op::GetDeviceInfo(GetDeviceInfoArgs {
+        device: device_of(server),
+        layout_type: FLEX_FILES,
+        maxcount: MOST,
+        notify_types: Bitmap {
+            words: Items::made(&[]),
+        },
+    })
+}
+
+/// Appends the arguments of the compound, or nothing.
+pub fn put_device_info(start: Start, servers: &[u32], out: &mut Out) -> Result<(), NoMemory>
+    requires { length servers.now ≤ 4 }
+    ensures { Puts out.old result out.new (compound_args (mds_ops [] (OnSlot start.session start.sequence (DeviceInfo servers.now)))) }
+{
+    let s = sequence_op(start, true);
+    match servers {
+        [] => {
+            put_ops(&[s], out)?;
+            Ok(())
+        }
+        [a] => {
+            put_ops(&[s, device_info_op(*a)], out)?;
+            Ok(())
+        }
+        [a, b] => {
+            put_ops(&[s, device_info_op(*a), device_info_op(*b)], out)?;
+            Ok(())
+        }
+        [a, b, c] => {
+            let a = device_info_op(*a);
+            let b = device_info_op(*b);
+            let c = device_info_op(*c);
+            put_ops(&[s, a, b, c], out)?;
+            Ok(())
+        }
+        [a, b, c, d] => {
+            let a = device_info_op(*a);
+            let b = device_info_op(*b);
+            let c = device_info_op(*c);
+            put_ops(&[s, a, b, c, device_info_op(*d)], out)?;
+            Ok(())
+        }
+        _ => unreachable!(),
+    }
+}
+
+/// The address that a text is (RFC 5665, section 5.2.3.3).
+fn universal_address(text: &str) -> Option<NetAddr>
+    ensures { result ≡ universal_address text.now }
+{
+    parse_universal(text)
+}
+
+/// The address, where it is one over TCP.
+fn address_on_tcp(address: &NetText<'_>) -> Option<NetAddr>
+    ensures { result ≡ address_on_tcp (netaddr4_value address.now) }
+{
+    if address.netid == "tcp" {
+        universal_address(address.address)
+    } else {
+        None
+    }
+}
+
+/// The first address over TCP that is one.
+fn first_address(addresses: Items<'_, NetText<'_>>) -> Option<NetAddr>
+    ensures { result ≡ first_address (contents netaddr4 netaddr4_value addresses.entry.place) }
+{
+    for address in addresses.items() {
+        if let Some(found) = address_on_tcp(&address) {
+            return Some(found);
+        }
+    }
+    None
+}
+
+/// The address of a device, where the body is in its form.
+fn device_address(body: &[u8]) -> Option<NetAddr>
+    ensures { result ≡ device_address (whole body.now (reading ff_device_addr4 body.now 0)) }
+{
+    match whole_message::<FfDeviceAddr<'_>>(body) {
+        Ok(device) => first_address(device.addresses),
+        Err(_) => None,
+    }
+}
+
+/// The address of a GETDEVICEINFO that is OK.
+fn device_info_ok(of: &OpRes<'_>) -> Option<NetAddr>
+    ensures { result ≡ device_info_ok (op_res_value of.now) }
+{
+    match of {
+        OpRes::GetDeviceInfo(GetDeviceInfoRes::Done(done)) => {
+            if done.layout_type == FLEX_FILES {
+                device_address(done.body.bytes)
+            } else {
+                None
+            }
+        }
+        _ => None,
+    }
+}
+
+/// The addresses of so many devices, where all are there.
+fn addresses(results: &[OpRes<'_>]) -> Option<[Option<NetAddr>; 4]>
+    requires { length results.now ≤ 4 }
+    ensures { option_map (flat_map option_to_list) result ≡ device_addresses (map op_res_value results.now) }
+{
+    match results {
+        [] => Some([None; 4]),
+        [a] => Some([Some(device_info_ok(a)?), None, None, None]),
+        [a, b] => {
+            let a = device_info_ok(a)?;
+            let b = device_info_ok(b)?;
+            Some([Some(a), Some(b), None, None])
+        }
+        [a, b, c] => {
+            let a = device_info_ok(a)?;
+            let b = device_info_ok(b)?;
+            let c = device_info_ok(c)?;
+            Some([Some(a), Some(b), Some(c), None])
+        }
+        [a, b, c, d] => {
+            let a = device_info_ok(a)?;
+            let b = device_info_ok(b)?;
+            let c = device_info_ok(c)?;
+            let d = device_info_ok(d)?;
+            Some([Some(a), Some(b), Some(c), Some(d)])
+        }
+        _ => unreachable!(),
+    }
+}
+
+/// The addresses behind a SEQUENCE, where these are all that were asked for.
+fn devices<'a>(start: &OpRes<'_>, is_all: bool, results: &[OpRes<'_>]) -> MdsAnswer<'a>
+    requires { length results.now ≤ 4 }
+    ensures { plain_mds_answer result ≡ (if sequence_ok (op_res_value start.now) && is_all then answer_of Devices (device_addresses (map op_res_value results.now)) else odd_results) }
+{
+    if !sequence_ok(start) || !is_all {
+        return odd_results();
+    }
+    match addresses(results) {
+        Some(addresses) => MdsAnswer::Devices(addresses),
+        None => odd_results(),
+    }
+}
+
+/// What the results say, where so many devices were asked for.
+pub fn device_info_results<'a>(count: u32, results: Results<'_>) -> MdsAnswer<'a>
+    ensures { plain_mds_answer result ≡ device_info_results count (contents resop4 op_res_value results.entry.place) }
+{
+    match few_of(results) {
+        Few::One(s) => devices(&s, count == 0, &[]),
+        Few::Two(s, a) => devices(&s, count == 1, &[a]),
+        Few::Three(s, a, b) => devices(&s, count == 2, &[a, b]),
+        Few::Four(s, a, b, c) => devices(&s, count == 3, &[a, b, c]),
+        Few::Five(s, a, b, c, d) => devices(&s, count == 4, &[a, b, c, d]),
+        Few::Empty => odd_results(),
+        Few::More => odd_results(),
+    }
+}

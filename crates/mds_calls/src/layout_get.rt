@@ -1,0 +1,103 @@
+//! LAYOUTGET of a flexible-file layout (RFC 8881, section 18.43; RFC 8435, section 5.1).
+
+ghost use Rattle.std.specs.Prelude.{◌≡◌, []};
+ghost use Rattle.ff_xdr.specs.Form.{Fits};
+ghost use Rattle.ff_xdr.specs.Calls.{Puts};
+ghost use Rattle.ff_xdr.specs.Items.{contents};
+ghost use Rattle.nfs4_file_ops.specs.Layout4.{layout4, layout4_value};
+ghost use Rattle.nfs4_compound.specs.Args.{argop4, op_value};
+ghost use Rattle.nfs4_compound.specs.Results.{resop4, op_res_value};
+ghost use Rattle.mds_calls.specs.MdsCalls.{OnSlot, LayoutGet};
+ghost use Rattle.mds_calls.specs.MdsCompounds.{compound_args, mds_ops, layout_get_op};
+ghost use Rattle.mds_calls.specs.MdsResults.{layout_get_ok, one_layout};
+ghost use Rattle.mds_calls.specs.MdsReplies.{layout_get_results, plain_mds_answer};
+
+use crate::call::OpenFile;
+use crate::grant::grant_in;
+use crate::ops::{FLEX_FILES, READS_AND_WRITES, Start, handle_of, put_ops, sequence_op};
+use crate::reply::{LayoutGrant, MdsAnswer};
+use crate::results::{Few, Results, few_of, odd_results, put_fh_ok, sequence_ok};
+use ff_xdr::{Items, NoMemory, Out};
+use nfs4_compound::{Op, OpRes};
+use nfs4_file_ops::{Layout4, LayoutGetArgs, LayoutGetRes};
+use nfs4_types::{Handle4, Stateid};
+
+/// The most bytes of the result.
+const MOST: u32 = 4_096;
+
+/// LAYOUTGET of all of the file.
+fn layout_get_op<'a>(stateid: Stateid) -> Op<'a>
+    ensures value { op_value result ≡ layout_get_op stateid }
+    ensures fits { Fits argop4 (op_value result) }
+{
+    Op::LayoutGet(LayoutGetArgs {
+        signal: false,
+        layout_type: FLEX_FILES,
+        iomode: READS_AND_WRITES,
+        offset: 0,
+        length: u64::MAX,
+        minlength: 0,
+        stateid,
+        maxcount: MOST,
+    })
+}
+
+/// Appends the arguments of the compound, or nothing.
+pub fn put_layout_get(start: Start, file: OpenFile, out: &mut Out) -> Result<(), NoMemory>
+    ensures { Puts out.old result out.new (compound_args (mds_ops [] (OnSlot start.session start.sequence (LayoutGet file)))) }
+{
+    let handle = handle_of(file.file);
+    let ops = [
+        sequence_op(start, true),
+        Op::PutFh(Handle4 { bytes: &handle }),
+        layout_get_op(file.stateid),
+    ];
+    put_ops(&ops, out)?;
+    Ok(())
+}
+
+/// The layout, where there is one alone, for reading and writing and of flexible files.
+fn one_layout(stateid: Stateid, layouts: Items<'_, Layout4<'_>>) -> Option<LayoutGrant>
+    ensures { result ≡ one_layout stateid (contents layout4 layout4_value layouts.entry.place) }
+{
+    match few_of(layouts) {
+        Few::One(layout) => {
+            if layout.iomode == READS_AND_WRITES && layout.layout_type == FLEX_FILES {
+                grant_in(stateid, layout.body.bytes)
+            } else {
+                None
+            }
+        }
+        _ => None,
+    }
+}
+
+/// The layout of a LAYOUTGET that is OK.
+fn layout_get_ok(of: &OpRes<'_>) -> Option<LayoutGrant>
+    ensures { result ≡ layout_get_ok (op_res_value of.now) }
+{
+    match of {
+        OpRes::LayoutGet(LayoutGetRes::Done(done)) => {
+            one_layout(done.stateid, done.layouts.items)
+        }
+        _ => None,
+    }
+}
+
+/// What the results say.
+pub fn layout_get_results<'a>(results: Results<'_>) -> MdsAnswer<'a>
+    ensures { plain_mds_answer result ≡ layout_get_results (contents resop4 op_res_value results.entry.place) }
+{
+    match few_of(results) {
+        Few::Three(s, p, l) => {
+            if !sequence_ok(&s) || !put_fh_ok(&p) {
+                return odd_results();
+            }
+            match layout_get_ok(&l) {
+                Some(grant) => MdsAnswer::Granted(grant),
+                None => odd_results(),
+            }
+        }
+        _ => odd_results(),
+    }
+}

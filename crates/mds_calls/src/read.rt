@@ -1,0 +1,99 @@
+//! READ through the metadata server (RFC 8881, section 18.22).
+
+ghost use Rattle.std.specs.Prelude.{◌≡◌, ◌+◌, ◌&&◌, [], length, nat_le};
+ghost use Rattle.ff_xdr.specs.Form.{Fits};
+ghost use Rattle.ff_xdr.specs.Calls.{Puts};
+ghost use Rattle.ff_xdr.specs.Items.{contents};
+ghost use Rattle.nfs4_compound.specs.Args.{argop4, op_value};
+ghost use Rattle.nfs4_compound.specs.Results.{resop4, op_res_value};
+ghost use Rattle.mds_calls.specs.MdsCalls.{OnSlot, Read};
+ghost use Rattle.mds_calls.specs.MdsCompounds.{compound_args, mds_ops, read_op};
+ghost use Rattle.mds_calls.specs.MdsResults.{BytesRead, read_ok};
+ghost use Rattle.mds_calls.specs.MdsReplies.{Bytes, answer_of, plain_mds_answer, read_results};
+
+use crate::call::OpenFile;
+use crate::ops::{Start, handle_of, put_ops, sequence_op};
+use crate::reply::MdsAnswer;
+use crate::results::{Few, Results, few_of, odd_results, put_fh_ok, sequence_ok};
+use ff_xdr::{NoMemory, Out};
+use nfs4_compound::{Op, OpRes};
+use nfs4_file_ops::{OpResult, Read4Args};
+use nfs4_types::{Handle4, Stateid};
+
+/// The most bytes of a file.
+const MAX_FILE: u64 = 67_108_864;
+
+/// READ.
+fn read_op<'a>(stateid: Stateid, at: u64, count: u32) -> Op<'a>
+    ensures value { op_value result ≡ read_op stateid at count }
+    ensures fits { Fits argop4 (op_value result) }
+{
+    Op::Read(Read4Args {
+        stateid,
+        offset: at,
+        count,
+    })
+}
+
+/// Appends the arguments of the compound, or nothing.
+pub fn put_read(
+    start: Start,
+    file: OpenFile,
+    at: u64,
+    count: u32,
+    out: &mut Out,
+) -> Result<(), NoMemory>
+    ensures { Puts out.old result out.new (compound_args (mds_ops [] (OnSlot start.session start.sequence (Read file at count)))) }
+{
+    let handle = handle_of(file.file);
+    let ops = [
+        sequence_op(start, false),
+        Op::PutFh(Handle4 { bytes: &handle }),
+        read_op(file.stateid, at, count),
+    ];
+    put_ops(&ops, out)?;
+    Ok(())
+}
+
+/// There are no more bytes than were asked for, and none past the end of the longest file.
+fn are_in_place(at: u64, count: u32, bytes: &[u8]) -> bool
+    ensures { result ≡ (nat_le (length bytes.now) count && nat_le (at + length bytes.now) 67108864) }
+{
+    let size = bytes.len() as u64;
+    size <= count as u64 && size <= MAX_FILE && at <= MAX_FILE - size
+}
+
+/// The bytes of a READ that is OK.
+fn bytes_read<'a>(at: u64, count: u32, of: &OpRes<'a>) -> MdsAnswer<'a>
+    ensures { plain_mds_answer result ≡ answer_of (λ b. Bytes b.eof b.bytes) (read_ok at count (op_res_value of.now)) }
+{
+    match of {
+        OpRes::Read(OpResult::Done(done)) => {
+            if are_in_place(at, count, done.bytes.bytes) {
+                MdsAnswer::Bytes {
+                    eof: done.eof,
+                    bytes: done.bytes.bytes,
+                }
+            } else {
+                odd_results()
+            }
+        }
+        _ => odd_results(),
+    }
+}
+
+/// What the results say, of a READ of at most `count` bytes from the byte `at` on.
+pub fn read_results<'a>(at: u64, count: u32, results: Results<'a>) -> MdsAnswer<'a>
+    ensures { plain_mds_answer result ≡ read_results at count (contents resop4 op_res_value results.entry.place) }
+{
+    match few_of(results) {
+        Few::Three(s, p, r) => {
+            if sequence_ok(&s) && put_fh_ok(&p) {
+                bytes_read(at, count, &r)
+            } else {
+                odd_results()
+            }
+        }
+        _ => odd_results(),
+    }
+}

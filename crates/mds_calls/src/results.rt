@@ -1,0 +1,96 @@
+//! The results of a compound, and which of them are OK.
+
+ghost use Rattle.std.specs.Prelude.{◌≡◌};
+ghost use Rattle.ff_xdr.specs.Calls.{Finds};
+ghost use Rattle.ff_xdr.specs.Items.{contents};
+ghost use Rattle.ff_xdr.specs.Reading.{reading, whole};
+ghost use Rattle.nfs4_compound.specs.Results.{op_res_value};
+ghost use Rattle.mds_calls.specs.MdsLists.{AreFew};
+ghost use Rattle.mds_calls.specs.MdsResults.{sequence_ok, put_fh_ok, put_root_fh_ok};
+ghost use Rattle.mds_calls.specs.MdsReplies.{odd_results, plain_mds_answer};
+
+use crate::reply::MdsAnswer;
+use ff_xdr::{Cursor, Items, Wire, XdrError};
+use nfs4_compound::OpRes;
+use nfs4_file_ops::OpResult;
+use nfs4_types::Stat4;
+
+/// The results of a compound.
+pub type Results<'a> = Items<'a, OpRes<'a>>;
+
+/// A list's values, where there are at most five.
+#[derive(Clone, Copy)]
+pub enum Few<T> {
+    Empty,
+    One(T),
+    Two(T, T),
+    Three(T, T, T),
+    Four(T, T, T, T),
+    Five(T, T, T, T, T),
+    /// There are more.
+    More,
+}
+
+/// The values of a list, where they are few.
+pub fn few_of<'a, T: Wire<'a> + Copy>(list: Items<'a, T>) -> Few<T>
+    ensures { AreFew T.meaning (contents T.form T.meaning list.entry.place) result }
+{
+    let mut items = list.items();
+    let Some(a) = items.next() else {
+        return Few::Empty;
+    };
+    let Some(b) = items.next() else {
+        return Few::One(a);
+    };
+    let Some(c) = items.next() else {
+        return Few::Two(a, b);
+    };
+    let Some(d) = items.next() else {
+        return Few::Three(a, b, c);
+    };
+    let Some(e) = items.next() else {
+        return Few::Four(a, b, c, d);
+    };
+    match items.next() {
+        None => Few::Five(a, b, c, d, e),
+        Some(_) => Few::More,
+    }
+}
+
+/// A message that is all the bytes. A refusal names the first byte that no message has there.
+pub fn whole_message<'a, T: Wire<'a>>(bytes: &'a [u8]) -> Result<T, XdrError>
+    ensures { Finds T.meaning result (whole bytes.now (reading T.form bytes.now 0)) }
+{
+    let mut cursor = Cursor::new(bytes);
+    let message = T::read(&mut cursor)?;
+    cursor.finish()?;
+    Ok(message)
+}
+
+/// A SEQUENCE that is OK (RFC 8881, section 18.46).
+pub fn sequence_ok(of: &OpRes<'_>) -> bool
+    ensures { result ≡ sequence_ok (op_res_value of.now) }
+{
+    matches!(of, OpRes::Sequence(OpResult::Done(_)))
+}
+
+/// A PUTFH that is OK (RFC 8881, section 18.19).
+pub fn put_fh_ok(of: &OpRes<'_>) -> bool
+    ensures { result ≡ put_fh_ok (op_res_value of.now) }
+{
+    matches!(of, OpRes::PutFh(OpResult::Done(_)))
+}
+
+/// A PUTROOTFH that is OK (RFC 8881, section 18.21).
+pub fn put_root_fh_ok(of: &OpRes<'_>) -> bool
+    ensures { result ≡ put_root_fh_ok (op_res_value of.now) }
+{
+    matches!(of, OpRes::PutRootFh(OpResult::Done(_)))
+}
+
+/// A reply that no server gives by the standard: SERVERFAULT (RFC 8881, section 15.1.1.9).
+pub fn odd_results<'a>() -> MdsAnswer<'a>
+    ensures { plain_mds_answer result ≡ odd_results }
+{
+    MdsAnswer::Refused(Stat4::ServerFault)
+}

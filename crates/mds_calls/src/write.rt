@@ -1,0 +1,79 @@
+//! WRITE through the metadata server (RFC 8881, section 18.32).
+
+ghost use Rattle.std.specs.Prelude.{◌≡◌, ◌<◌, ◌^◌, [], length};
+ghost use Rattle.ff_xdr.specs.Form.{Fits};
+ghost use Rattle.ff_xdr.specs.Calls.{Puts};
+ghost use Rattle.ff_xdr.specs.Items.{contents};
+ghost use Rattle.nfs4_compound.specs.Args.{argop4, op_value};
+ghost use Rattle.nfs4_compound.specs.Results.{resop4, op_res_value};
+ghost use Rattle.mds_calls.specs.MdsCalls.{OnSlot, Write};
+ghost use Rattle.mds_calls.specs.MdsCompounds.{compound_args, mds_ops, write_op};
+ghost use Rattle.mds_calls.specs.MdsResults.{write_ok};
+ghost use Rattle.mds_calls.specs.MdsReplies.{plain_mds_answer, write_results};
+
+use crate::call::OpenFile;
+use crate::ops::{Start, handle_of, put_ops, sequence_op};
+use crate::reply::MdsAnswer;
+use crate::results::{Few, Results, few_of, odd_results, put_fh_ok, sequence_ok};
+use ff_xdr::{NoMemory, Out};
+use nfs4_compound::{Op, OpRes};
+use nfs4_file_ops::{OpResult, OpaqueBody, StableHow4, Write4Args};
+use nfs4_types::{Handle4, Stateid};
+
+/// WRITE, FILE_SYNC.
+fn write_op<'a>(stateid: Stateid, at: u64, bytes: &'a [u8]) -> Op<'a>
+    requires { length bytes.now < 2 ^ 32 }
+    ensures value { op_value result ≡ write_op stateid at bytes.now }
+    ensures fits { Fits argop4 (op_value result) }
+{
+    Op::Write(Write4Args {
+        stateid,
+        offset: at,
+        stable: StableHow4::FileSync,
+        bytes: OpaqueBody { bytes },
+    })
+}
+
+/// Appends the arguments of the compound, or nothing.
+pub fn put_write(
+    start: Start,
+    file: OpenFile,
+    at: u64,
+    bytes: &[u8],
+    out: &mut Out,
+) -> Result<(), NoMemory>
+    requires { length bytes.now < 2 ^ 32 }
+    ensures { Puts out.old result out.new (compound_args (mds_ops [] (OnSlot start.session start.sequence (Write file at bytes.now)))) }
+{
+    let handle = handle_of(file.file);
+    let ops = [
+        sequence_op(start, true),
+        Op::PutFh(Handle4 { bytes: &handle }),
+        write_op(file.stateid, at, bytes),
+    ];
+    put_ops(&ops, out)?;
+    Ok(())
+}
+
+/// A WRITE that is OK. Its count and its verifier are not looked at.
+fn write_ok(of: &OpRes<'_>) -> bool
+    ensures { result ≡ write_ok (op_res_value of.now) }
+{
+    matches!(of, OpRes::Write(OpResult::Done(_)))
+}
+
+/// What the results say.
+pub fn write_results<'a>(results: Results<'_>) -> MdsAnswer<'a>
+    ensures { plain_mds_answer result ≡ write_results (contents resop4 op_res_value results.entry.place) }
+{
+    match few_of(results) {
+        Few::Three(s, p, w) => {
+            if sequence_ok(&s) && put_fh_ok(&p) && write_ok(&w) {
+                MdsAnswer::Written
+            } else {
+                odd_results()
+            }
+        }
+        _ => odd_results(),
+    }
+}
