@@ -12,7 +12,7 @@ use Rattle.rpc_record.specs.Laws.{IsCallReadAgain}
 use Rattle.nfs4_compound.specs.Args.{argop4}
 use Rattle.nfs4_compound.specs.Compounds.{compound4_args}
 use Rattle.mds_calls.specs.MdsCompounds.{compound_args, mds_ops}
-use Rattle.mds_calls.specs.MdsCallLaws.{MdsMessage, HasRecord, message_call, IsUnderstood, AreToldApart}
+use Rattle.mds_calls.specs.MdsCallLaws.{MdsMessage, HasCompoundRecord, compound_message_call, IsCompoundUnderstood, AreCompoundsApart}
 
 -- ---- a value that is all the bytes
 
@@ -39,17 +39,17 @@ ok_same : {A : Type 0} (E : Type 0) (a b : A) → found E a ≡ found E b → a 
 ok_same E a b e = cc
 
 module _ (header : (c : RpcCall) → IsCallReadAgain c) where
-  pub understood : (m : MdsMessage) → IsUnderstood m
+  pub understood : (m : MdsMessage) → IsCompoundUnderstood m
   understood m = λ h. record {
-    header = header (message_call m) h.xid_fits (omega arith, (omega arith, (omega arith, ((omega arith, omega arith), (omega arith, omega arith)))));
+    header = header (compound_message_call m) h.xid_fits (omega arith, (omega arith, (omega arith, ((omega arith, omega arith), (omega arith, omega arith)))));
     operations = ops_again (mds_ops m.owner m.call) h.ops_fit;
   }
 
-  pub told_apart : (m n : MdsMessage) → AreToldApart m n
+  pub told_apart : (m n : MdsMessage) → AreCompoundsApart m n
   told_apart m n = λ h k e.
       let a = understood m h in
       let b = understood n k in
-      let same : message_call m ≡ message_call n = ok_same CallFault (message_call m) (message_call n) (sym a.header ∙ ap call_at e ∙ b.header) in
+      let same : compound_message_call m ≡ compound_message_call n = ok_same CallFault (compound_message_call m) (compound_message_call n) (sym a.header ∙ ap call_at e ∙ b.header) in
       let values : ([], (1, mds_ops m.owner m.call)) ≡ ([], (1, mds_ops n.owner n.call)) =
       ok_same {A = Value compound4_args} XdrError _ _ (sym a.operations ∙ ap (λ (r : RpcCall). whole r.args (reading compound4_args r.args 0)) same ∙ b.operations) in
       record {

@@ -6,9 +6,9 @@ use Rattle.std.proofs.lemmas.Bool.{lt-ltb, ltb-true}
 use Rattle.std.proofs.lemmas.Fmt.{decimal_is_IsNumeral}
 use Rattle.std.proofs.lemmas.Slice.Eq.{bytes_eq-Decides}
 use Rattle.ff_layout.specs.User.{IsUserNumber}
-use Rattle.mds_calls.specs.MdsResults.{number_in}
+use Rattle.mds_calls.specs.MdsResults.{user_number_in}
 
-pub number_is : (text : List ℕ) (r : Option ℕ) → IsUserNumber text r → r ≡ number_in text
+pub number_is : (text : List ℕ) (r : Option ℕ) → IsUserNumber text r → r ≡ user_number_in text
 number_is text (Some n) h =
     let value : digits_value 10 text ≡ n = ap (digits_value 10) h.0 ∙ (decimal_is_IsNumeral n (omega (arith, h.1))).1 in
     let same : bytes_eq text (decimal (digits_value 10 text)) ≡ true = (bytes_eq-Decides text (decimal (digits_value 10 text))).1 (h.0 ∙ ap decimal (sym value)) in

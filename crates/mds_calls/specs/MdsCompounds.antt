@@ -160,7 +160,7 @@ failed_of_call (OnSlot session sequence (LayoutReturn file stateid failed)) = fa
 failed_of_call call = []
 
 -- the name and the data have fewer than 2^32 bytes, and there are at most four data servers and mirrors
-pub record HasRoom (call : MdsCallValue) : Type 0 where
+pub record FitsCompound (call : MdsCallValue) : Type 0 where
   pub name : length (name_of_call call) < 2 ^ 32
   pub data_few : length (data_of_call call) < 2 ^ 32
   pub servers : length (servers_of_call call) ≤ 4

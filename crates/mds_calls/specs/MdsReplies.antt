@@ -15,15 +15,15 @@ use Rattle.cluster_model.specs.declared.ids.FileId.{FileId}
 use Rattle.device_addr.specs.declared.net_addr.NetAddr.{NetAddr}
 use Rattle.mds_calls.specs.declared.call.OpenFile.{OpenFile}
 use Rattle.mds_calls.specs.declared.reply.LayoutGrant.{LayoutGrant}
-use Rattle.mds_calls.specs.declared.reply.SlotAnswer.{SlotAnswer}
-use Rattle.mds_calls.specs.declared.reply.SlotAnswer.TheVariants.{Unknown}
+use Rattle.mds_calls.specs.declared.reply.SlotReport.{SlotReport}
+use Rattle.mds_calls.specs.declared.reply.SlotReport.TheVariants.{Unknown}
 use Rattle.mds_calls.specs.declared.reply.MdsAnswer.{MdsAnswer}
 use Rattle.mds_calls.specs.declared.reply.MdsAnswer.TheVariants as declared
 use Rattle.mds_calls.specs.declared.reply.MdsReply.{MdsReply}
 use Rattle.mds_calls.specs.declared.ask.MdsAsk.{MdsAsk}
 use Rattle.mds_calls.specs.declared.ask.MdsAsk.TheVariants as ask
 use Rattle.mds_calls.specs.MdsCalls.{takes_slot}
-use Rattle.mds_calls.specs.MdsResults.{slot_answer_of, sequence_ok, put_fh_ok, put_root_fh_ok, reclaim_complete_ok, write_ok, layout_return_ok, ClientGiven, exchange_id_ok, create_session_ok, open_ok, get_fh_ok, BytesRead, read_ok, layout_get_ok}
+use Rattle.mds_calls.specs.MdsResults.{slot_answer_of, sequence_ok, put_fh_ok, put_root_fh_ok, reclaim_complete_ok, write4_done, layout_return_ok, ClientGiven, exchange_id_ok, create_session_ok, open_ok, get_fh_ok, BytesRead, read4_done, layout_get_ok}
 use Rattle.mds_calls.specs.MdsDevices.{device_info_ok}
 
 -- ---- answers as plain values
@@ -56,7 +56,7 @@ plain_mds_answer (declared.Refused status) = Refused (stat4_number status)
 
 -- what a reply comes to: for the slot, and for what was asked
 pub record MdsReplyValue : Type 0 where
-  pub slot : SlotAnswer
+  pub slot : SlotReport
   pub answer : MdsAnswerValue
 
 abbrev pub plain_mds_reply : MdsReply → MdsReplyValue
@@ -72,16 +72,16 @@ abbrev pub answer_if : Bool → MdsAnswerValue → MdsAnswerValue
 answer_if true answer = answer
 answer_if false answer = odd_results
 
-abbrev pub answer_of : {A : Type 0} → (A → MdsAnswerValue) → Option A → MdsAnswerValue
-answer_of answer None = odd_results
-answer_of answer (Some a) = answer a
+abbrev pub answer_where : {A : Type 0} → (A → MdsAnswerValue) → Option A → MdsAnswerValue
+answer_where answer None = odd_results
+answer_where answer (Some a) = answer a
 
 abbrev pub exchange_id_results : List (Value resop4) → MdsAnswerValue
-exchange_id_results (e ∷ []) = answer_of (λ c. Client c.clientid c.sequence) (exchange_id_ok e)
+exchange_id_results (e ∷ []) = answer_where (λ c. Client c.clientid c.sequence) (exchange_id_ok e)
 exchange_id_results results = odd_results
 
 abbrev pub create_session_results : List (Value resop4) → MdsAnswerValue
-create_session_results (c ∷ []) = answer_of Session (create_session_ok c)
+create_session_results (c ∷ []) = answer_where Session (create_session_ok c)
 create_session_results results = odd_results
 
 abbrev pub reclaim_complete_results : List (Value resop4) → MdsAnswerValue
@@ -93,11 +93,11 @@ opened_file (Some stateid) (Some file) = Some (record { file = record { 0 = file
 opened_file stateid file = None
 
 abbrev pub open_results : List (Value resop4) → MdsAnswerValue
-open_results (s ∷ p ∷ o ∷ g ∷ []) = if sequence_ok s && put_root_fh_ok p then answer_of Opened (opened_file (open_ok o) (get_fh_ok g)) else odd_results
+open_results (s ∷ p ∷ o ∷ g ∷ []) = if sequence_ok s && put_root_fh_ok p then answer_where Opened (opened_file (open_ok o) (get_fh_ok g)) else odd_results
 open_results results = odd_results
 
 abbrev pub layout_get_results : List (Value resop4) → MdsAnswerValue
-layout_get_results (s ∷ p ∷ l ∷ []) = if sequence_ok s && put_fh_ok p then answer_of Granted (layout_get_ok l) else odd_results
+layout_get_results (s ∷ p ∷ l ∷ []) = if sequence_ok s && put_fh_ok p then answer_where Granted (layout_get_ok l) else odd_results
 layout_get_results results = odd_results
 
 -- one address for each data server that was asked for; there are at most four
@@ -110,15 +110,15 @@ device_addresses [] = Some []
 device_addresses (d ∷ results) = joined_address (device_info_ok d) (device_addresses results)
 
 abbrev pub device_info_results : ℕ → List (Value resop4) → MdsAnswerValue
-device_info_results count (s ∷ results) = if sequence_ok s && ((length results == count) && nat_le count 4) then answer_of Devices (device_addresses results) else odd_results
+device_info_results count (s ∷ results) = if sequence_ok s && ((length results == count) && nat_le count 4) then answer_where Devices (device_addresses results) else odd_results
 device_info_results count [] = odd_results
 
 abbrev pub write_results : List (Value resop4) → MdsAnswerValue
-write_results (s ∷ p ∷ w ∷ []) = answer_if (sequence_ok s && put_fh_ok p && write_ok w) Written
+write_results (s ∷ p ∷ w ∷ []) = answer_if (sequence_ok s && put_fh_ok p && write4_done w) Written
 write_results results = odd_results
 
 abbrev pub read_results : ℕ → ℕ → List (Value resop4) → MdsAnswerValue
-read_results at count (s ∷ p ∷ r ∷ []) = if sequence_ok s && put_fh_ok p then answer_of (λ b. Bytes b.eof b.bytes) (read_ok at count r) else odd_results
+read_results at count (s ∷ p ∷ r ∷ []) = if sequence_ok s && put_fh_ok p then answer_where (λ b. Bytes b.eof b.bytes) (read4_done at count r) else odd_results
 read_results at count results = odd_results
 
 abbrev pub layout_return_results : List (Value resop4) → MdsAnswerValue
@@ -145,7 +145,7 @@ results_of_ask ask.Renew results = renew_results results
 -- ---- a reply
 
 -- what the slot is told: nothing by a call that takes none
-abbrev pub slot_told : MdsAsk → List (Value resop4) → SlotAnswer
+abbrev pub slot_told : MdsAsk → List (Value resop4) → SlotReport
 slot_told kind results = if takes_slot kind then slot_answer_of results else Unknown
 
 -- Of a compound that is not OK its status counts alone, and its first result, where that is a SEQUENCE's.

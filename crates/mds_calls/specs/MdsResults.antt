@@ -21,8 +21,8 @@ use Rattle.ff_layout.specs.Layout.{ff_layout4}
 use Rattle.cluster_model.specs.declared.ids.Mirror.{Mirror}
 use Rattle.cluster_model.specs.Mirrors.{are_mirrors}
 use Rattle.mds_calls.specs.declared.call.OpenFile.{OpenFile}
-use Rattle.mds_calls.specs.declared.reply.SlotAnswer.{SlotAnswer}
-use Rattle.mds_calls.specs.declared.reply.SlotAnswer.TheVariants.{Taken, Uncached, Delayed, Unknown}
+use Rattle.mds_calls.specs.declared.reply.SlotReport.{SlotReport}
+use Rattle.mds_calls.specs.declared.reply.SlotReport.TheVariants.{Taken, Uncached, Delayed, Unknown}
 use Rattle.mds_calls.specs.declared.reply.LayoutGrant.{LayoutGrant}
 use Rattle.mds_calls.specs.declared.grant.GrantedMirror.{GrantedMirror}
 
@@ -42,23 +42,23 @@ in_arm n form some none v = none
 
 -- ---- SEQUENCE (section 18.46)
 
-abbrev pub slot_status : ℕ → SlotAnswer
+abbrev pub slot_status : ℕ → SlotReport
 slot_status status = if status == 10068 then Uncached else if status == 10008 then Delayed else Unknown
 
-abbrev pub slot_result : {A : Type 0} → A ⊎ ℕ → SlotAnswer
+abbrev pub slot_result : {A : Type 0} → A ⊎ ℕ → SlotReport
 slot_result (inl ok) = Taken
 slot_result (inr status) = slot_status status
 
 -- what the first result says of the slot
-abbrev pub slot_answer_of : List (Value resop4) → SlotAnswer
+abbrev pub slot_answer_of : List (Value resop4) → SlotReport
 slot_answer_of [] = Unknown
 slot_answer_of (first ∷ rest) = in_arm 53 resop4 slot_result Unknown first
 
 -- ---- results that are OK
 
-abbrev pub is_done : {A B : Type 0} → A ⊎ B → Bool
-is_done (inl done) = true
-is_done (inr status) = false
+abbrev pub is_done_result : {A B : Type 0} → A ⊎ B → Bool
+is_done_result (inl done) = true
+is_done_result (inr status) = false
 
 -- what is made of a result that is OK
 abbrev pub done_as : {A B R : Type 0} → (A → Option R) → A ⊎ B → Option R
@@ -66,22 +66,22 @@ done_as some (inl done) = some done
 done_as some (inr status) = None
 
 abbrev pub sequence_ok : Value resop4 → Bool
-sequence_ok = in_arm 53 resop4 is_done false
+sequence_ok = in_arm 53 resop4 is_done_result false
 
 abbrev pub put_fh_ok : Value resop4 → Bool
-put_fh_ok = in_arm 22 resop4 is_done false
+put_fh_ok = in_arm 22 resop4 is_done_result false
 
 abbrev pub put_root_fh_ok : Value resop4 → Bool
-put_root_fh_ok = in_arm 24 resop4 is_done false
+put_root_fh_ok = in_arm 24 resop4 is_done_result false
 
 abbrev pub reclaim_complete_ok : Value resop4 → Bool
-reclaim_complete_ok = in_arm 58 resop4 is_done false
+reclaim_complete_ok = in_arm 58 resop4 is_done_result false
 
-abbrev pub write_ok : Value resop4 → Bool
-write_ok = in_arm 38 resop4 is_done false
+abbrev pub write4_done : Value resop4 → Bool
+write4_done = in_arm 38 resop4 is_done_result false
 
 abbrev pub layout_return_ok : Value resop4 → Bool
-layout_return_ok = in_arm 51 resop4 is_done false
+layout_return_ok = in_arm 51 resop4 is_done_result false
 
 -- the client's number, and that of its next CREATE_SESSION (section 18.35)
 pub record ClientGiven : Type 0 where
@@ -115,14 +115,14 @@ pub record BytesRead : Type 0 where
   pub eof : Bool
   pub bytes : List ℕ
 
-abbrev pub read_ok : ℕ → ℕ → Value resop4 → Option BytesRead
-read_ok at count = in_arm 25 resop4 (done_as (λ (eof, bytes). if nat_le (length bytes) count && nat_le (at + length bytes) 67108864 then Some (record { eof = eof; bytes = bytes }) else None)) None
+abbrev pub read4_done : ℕ → ℕ → Value resop4 → Option BytesRead
+read4_done at count = in_arm 25 resop4 (done_as (λ (eof, bytes). if nat_le (length bytes) count && nat_le (at + length bytes) 67108864 then Some (record { eof = eof; bytes = bytes }) else None)) None
 
 -- ---- the layout (section 18.43; RFC 8435, section 5.1)
 
 -- the number that a text is in decimal, where it is one below 2^32 (RFC 8435, section 2.2)
-abbrev pub number_in : List ℕ → Option ℕ
-number_in text = if bytes_eq text (decimal (digits_value 10 text)) && nat_lt (digits_value 10 text) (2 ^ 32) then Some (digits_value 10 text) else None
+abbrev pub user_number_in : List ℕ → Option ℕ
+user_number_in text = if bytes_eq text (decimal (digits_value 10 text)) && nat_lt (digits_value 10 text) (2 ^ 32) then Some (digits_value 10 text) else None
 
 -- the data server of a device, from 1 to 16
 abbrev pub server_number : ℕ → Bool → Option ℕ
@@ -132,9 +132,9 @@ abbrev pub server_in : List ℕ → Option ℕ
 server_in device = let n = from_be_bytes w64 (drop 8 device) in server_number n (bytes_eq device (device_id_of n).0)
 
 -- a mirror, and the user under whom it is written
-abbrev pub mirror_at : Option ℕ → Option ℕ → Option ℕ → Option GrantedMirror
-mirror_at (Some server) (Some fileid) (Some uid) = Some (record { mirror = record { id = record { server = server; fileid = fileid }; seen = record { boot = 0; count = 0 } }; uid = uid })
-mirror_at server fileid uid = None
+abbrev pub granted_mirror_at : Option ℕ → Option ℕ → Option ℕ → Option GrantedMirror
+granted_mirror_at (Some server) (Some fileid) (Some uid) = Some (record { mirror = record { id = record { server = server; fileid = fileid }; seen = record { boot = 0; count = 0 } }; uid = uid })
+granted_mirror_at server fileid uid = None
 
 -- one handle, of eight bytes
 abbrev pub one_handle : List (List ℕ) → Option ℕ
@@ -143,12 +143,12 @@ one_handle handles = None
 
 -- the user and the group are one number
 abbrev pub data_server_of : Value ff_data_server4 → Option GrantedMirror
-data_server_of (device, (efficiency, (stateid, (handles, (user, group))))) = if bytes_eq user group then mirror_at (server_in device) (one_handle handles) (number_in user) else None
+data_server_of (device, (efficiency, (stateid, (handles, (user, group))))) = if bytes_eq user group then granted_mirror_at (server_in device) (one_handle handles) (user_number_in user) else None
 
 -- one data server
-abbrev pub mirror_of : Value ff_mirror4 → Option GrantedMirror
-mirror_of (server ∷ []) = data_server_of server
-mirror_of servers = None
+abbrev pub granted_mirror_of : Value ff_mirror4 → Option GrantedMirror
+granted_mirror_of (server ∷ []) = data_server_of server
+granted_mirror_of servers = None
 
 -- the mirror, where it is written under this user
 abbrev pub under_one : ℕ → Option GrantedMirror → Option Mirror
@@ -162,7 +162,7 @@ joined_mirror m mirrors = None
 
 abbrev pub mirrors_under : ℕ → List (Value ff_mirror4) → Option (List Mirror)
 mirrors_under uid [] = Some []
-mirrors_under uid (m ∷ rest) = joined_mirror (under_one uid (mirror_of m)) (mirrors_under uid rest)
+mirrors_under uid (m ∷ rest) = joined_mirror (under_one uid (granted_mirror_of m)) (mirrors_under uid rest)
 
 -- one to four mirrors, no two on one server
 abbrev pub granted_to : Stateid → ℕ → Option (List Mirror) → Option LayoutGrant
@@ -174,14 +174,14 @@ abbrev pub grant_by : Stateid → List (Value ff_mirror4) → Option GrantedMirr
 grant_by stateid mirrors None = None
 grant_by stateid mirrors (Some first) = granted_to stateid first.uid (mirrors_under first.uid mirrors)
 
-abbrev pub grant_of : Stateid → Result (Value ff_layout4) XdrError → Option LayoutGrant
-grant_of stateid (Ok (stripe, (first ∷ rest, hints))) = grant_by stateid (first ∷ rest) (mirror_of first)
-grant_of stateid (Ok (stripe, ([], hints))) = None
-grant_of stateid (Err e) = None
+abbrev pub layout_grant_of : Stateid → Result (Value ff_layout4) XdrError → Option LayoutGrant
+layout_grant_of stateid (Ok (stripe, (first ∷ rest, hints))) = grant_by stateid (first ∷ rest) (granted_mirror_of first)
+layout_grant_of stateid (Ok (stripe, ([], hints))) = None
+layout_grant_of stateid (Err e) = None
 
 -- exactly one layout, for reading and writing and of flexible files
 abbrev pub one_layout : Stateid → List (Value layout4) → Option LayoutGrant
-one_layout stateid ((offset, (length, (iomode, (kind, body)))) ∷ []) = if iomode == 2 && kind == 4 then grant_of stateid (whole body (reading ff_layout4 body 0)) else None
+one_layout stateid ((offset, (length, (iomode, (kind, body)))) ∷ []) = if iomode == 2 && kind == 4 then layout_grant_of stateid (whole body (reading ff_layout4 body 0)) else None
 one_layout stateid layouts = None
 
 abbrev pub layout_get_ok : Value resop4 → Option LayoutGrant

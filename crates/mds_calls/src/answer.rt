@@ -21,7 +21,7 @@ use crate::open::open_results;
 use crate::read::read_results;
 use crate::reclaim_complete::reclaim_complete_results;
 use crate::renew::renew_results;
-use crate::reply::{MdsAnswer, MdsReply, SlotAnswer};
+use crate::reply::{MdsAnswer, MdsReply, SlotReport};
 use crate::results::{Results, odd_results, whole_message};
 use crate::write::write_results;
 use ff_xdr::Array;
@@ -34,34 +34,34 @@ use rpc_record::{Reply, ReplyBody};
 type CompoundRes<'a> = (Stat4, Tag4<'a>, Array<'a, OpRes<'a>, { u32::MAX }>);
 
 /// What a refused SEQUENCE says of the slot (RFC 8881, section 18.46.3).
-fn slot_status(status: Stat4) -> SlotAnswer
+fn slot_status(status: Stat4) -> SlotReport
     ensures { result ≡ slot_status (stat4_number status) }
 {
     match status.number() {
-        10068 => SlotAnswer::Uncached,
-        10008 => SlotAnswer::Delayed,
-        _ => SlotAnswer::Unknown,
+        10068 => SlotReport::Uncached,
+        10008 => SlotReport::Delayed,
+        _ => SlotReport::Unknown,
     }
 }
 
 /// What a result says of the slot, where it is a SEQUENCE's.
-fn slot_of(first: &OpRes<'_>) -> SlotAnswer
-    ensures { result ≡ in_arm 53 resop4 slot_result SlotAnswer.Unknown (op_res_value first.now) }
+fn slot_of(first: &OpRes<'_>) -> SlotReport
+    ensures { result ≡ in_arm 53 resop4 slot_result SlotReport.Unknown (op_res_value first.now) }
 {
     match first {
-        OpRes::Sequence(OpResult::Done(_)) => SlotAnswer::Taken,
+        OpRes::Sequence(OpResult::Done(_)) => SlotReport::Taken,
         OpRes::Sequence(OpResult::Refused(status)) => slot_status(*status),
-        _ => SlotAnswer::Unknown,
+        _ => SlotReport::Unknown,
     }
 }
 
 /// What the first result says of the slot.
-fn slot_answer_of(results: Results<'_>) -> SlotAnswer
+fn slot_answer_of(results: Results<'_>) -> SlotReport
     ensures { result ≡ slot_answer_of (contents resop4 op_res_value results.entry.place) }
 {
     let mut results = results.items();
     match results.next() {
-        None => SlotAnswer::Unknown,
+        None => SlotReport::Unknown,
         Some(first) => slot_of(&first),
     }
 }
@@ -74,13 +74,13 @@ fn takes_slot(ask: &MdsAsk) -> bool
 }
 
 /// What the slot is told: nothing by a call that takes none.
-fn slot_told(ask: &MdsAsk, results: Results<'_>) -> SlotAnswer
+fn slot_told(ask: &MdsAsk, results: Results<'_>) -> SlotReport
     ensures { result ≡ slot_told ask.now (contents resop4 op_res_value results.entry.place) }
 {
     if takes_slot(ask) {
         slot_answer_of(results)
     } else {
-        SlotAnswer::Unknown
+        SlotReport::Unknown
     }
 }
 
@@ -118,7 +118,7 @@ fn odd_reply<'a>() -> MdsReply<'a>
     ensures { plain_mds_reply result ≡ odd_mds_reply }
 {
     MdsReply {
-        slot: SlotAnswer::Unknown,
+        slot: SlotReport::Unknown,
         answer: odd_results(),
     }
 }

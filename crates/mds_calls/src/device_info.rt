@@ -15,7 +15,7 @@ ghost use Rattle.device_addr.specs.NetText.{netaddr4_value};
 ghost use Rattle.mds_calls.specs.MdsCalls.{OnSlot, DeviceInfo};
 ghost use Rattle.mds_calls.specs.MdsCompounds.{compound_args, mds_ops, device_info_op};
 ghost use Rattle.mds_calls.specs.MdsDevices.{address_on_tcp, device_address, device_info_ok, first_address, universal_address};
-ghost use Rattle.mds_calls.specs.MdsReplies.{Devices, answer_of, device_addresses, device_info_results, odd_results, plain_mds_answer};
+ghost use Rattle.mds_calls.specs.MdsReplies.{Devices, answer_where, device_addresses, device_info_results, odd_results, plain_mds_answer};
 ghost use Rattle.mds_calls.specs.MdsResults.{sequence_ok};
 
 use crate::ops::{FLEX_FILES, Start, put_ops, sequence_op};
@@ -171,7 +171,7 @@ fn addresses(results: &[OpRes<'_>]) -> Option<[Option<NetAddr>; 4]>
 /// The addresses behind a SEQUENCE, where these are all that were asked for.
 fn devices<'a>(start: &OpRes<'_>, is_all: bool, results: &[OpRes<'_>]) -> MdsAnswer<'a>
     requires { length results.now ≤ 4 }
-    ensures { plain_mds_answer result ≡ (if sequence_ok (op_res_value start.now) && is_all then answer_of Devices (device_addresses (map op_res_value results.now)) else odd_results) }
+    ensures { plain_mds_answer result ≡ (if sequence_ok (op_res_value start.now) && is_all then answer_where Devices (device_addresses (map op_res_value results.now)) else odd_results) }
 {
     if !sequence_ok(start) || !is_all {
         return odd_results();

@@ -7,7 +7,7 @@ ghost use Rattle.nfs4_types.specs.Handles.{nfs_fh4};
 ghost use Rattle.ff_layout.specs.DataServer.{ff_data_server4_value};
 ghost use Rattle.ff_layout.specs.Mirror.{ff_mirror4_value};
 ghost use Rattle.ff_layout.specs.Layout.{ff_layout4, ff_layout4_value};
-ghost use Rattle.mds_calls.specs.MdsResults.{data_server_of, grant_of, granted_to, mirror_of, number_in, one_handle, server_in, under_one};
+ghost use Rattle.mds_calls.specs.MdsResults.{data_server_of, layout_grant_of, granted_to, granted_mirror_of, user_number_in, one_handle, server_in, under_one};
 
 use crate::reply::LayoutGrant;
 use crate::results::{Few, few_of, whole_message};
@@ -24,8 +24,8 @@ pub struct GrantedMirror {
 }
 
 /// The number that a text is in decimal, where it is one below 2^32 (RFC 8435, section 2.2).
-fn number_in(text: &str) -> Option<u32>
-    ensures { result ≡ number_in text.now }
+fn user_number_in(text: &str) -> Option<u32>
+    ensures { result ≡ user_number_in text.now }
 {
     user_number(text)
 }
@@ -64,7 +64,7 @@ fn data_server_of(server: &FfDataServer<'_>) -> Option<GrantedMirror>
         return None;
     }
     let fileid = one_handle(server.handles)?;
-    let uid = number_in(server.user)?;
+    let uid = user_number_in(server.user)?;
     let server = server_in(server.device)?;
     Some(GrantedMirror {
         mirror: Mirror {
@@ -76,8 +76,8 @@ fn data_server_of(server: &FfDataServer<'_>) -> Option<GrantedMirror>
 }
 
 /// A mirror, where it has one data server.
-fn mirror_of(mirror: &FfMirror<'_>) -> Option<GrantedMirror>
-    ensures { result ≡ mirror_of (ff_mirror4_value mirror.now) }
+fn granted_mirror_of(mirror: &FfMirror<'_>) -> Option<GrantedMirror>
+    ensures { result ≡ granted_mirror_of (ff_mirror4_value mirror.now) }
 {
     match few_of(mirror.servers) {
         Few::One(server) => data_server_of(&server),
@@ -87,9 +87,9 @@ fn mirror_of(mirror: &FfMirror<'_>) -> Option<GrantedMirror>
 
 /// A mirror that is written under this user.
 fn under(uid: u32, mirror: &FfMirror<'_>) -> Option<Mirror>
-    ensures { result ≡ under_one uid (mirror_of (ff_mirror4_value mirror.now)) }
+    ensures { result ≡ under_one uid (granted_mirror_of (ff_mirror4_value mirror.now)) }
 {
-    let granted = mirror_of(mirror)?;
+    let granted = granted_mirror_of(mirror)?;
     if granted.uid == uid {
         Some(granted.mirror)
     } else {
@@ -112,24 +112,24 @@ fn granted_to(stateid: Stateid, uid: u32, mirrors: &[Mirror]) -> Option<LayoutGr
 }
 
 /// The layout: one to four mirrors of one user, no two on one server.
-fn grant_of(stateid: Stateid, layout: &FfLayout<'_>) -> Option<LayoutGrant>
-    ensures { result ≡ grant_of stateid (Ok (ff_layout4_value layout.now)) }
+fn layout_grant_of(stateid: Stateid, layout: &FfLayout<'_>) -> Option<LayoutGrant>
+    ensures { result ≡ layout_grant_of stateid (Ok (ff_layout4_value layout.now)) }
 {
     match few_of(layout.mirrors) {
         Few::One(a) => {
-            let GrantedMirror { mirror: a, uid } = mirror_of(&a)?;
+            let GrantedMirror { mirror: a, uid } = granted_mirror_of(&a)?;
             granted_to(stateid, uid, &[a])
         }
         Few::Two(a, b) => {
-            let GrantedMirror { mirror: a, uid } = mirror_of(&a)?;
+            let GrantedMirror { mirror: a, uid } = granted_mirror_of(&a)?;
             granted_to(stateid, uid, &[a, under(uid, &b)?])
         }
         Few::Three(a, b, c) => {
-            let GrantedMirror { mirror: a, uid } = mirror_of(&a)?;
+            let GrantedMirror { mirror: a, uid } = granted_mirror_of(&a)?;
             granted_to(stateid, uid, &[a, under(uid, &b)?, under(uid, &c)?])
         }
         Few::Four(a, b, c, d) => {
-            let GrantedMirror { mirror: a, uid } = mirror_of(&a)?;
+            let GrantedMirror { mirror: a, uid } = granted_mirror_of(&a)?;
             granted_to(
                 stateid,
                 uid,
@@ -142,10 +142,10 @@ fn grant_of(stateid: Stateid, layout: &FfLayout<'_>) -> Option<LayoutGrant>
 
 /// The layout of a body, where it is in its form.
 pub fn grant_in(stateid: Stateid, body: &[u8]) -> Option<LayoutGrant>
-    ensures { result ≡ grant_of stateid (whole body.now (reading ff_layout4 body.now 0)) }
+    ensures { result ≡ layout_grant_of stateid (whole body.now (reading ff_layout4 body.now 0)) }
 {
     match whole_message::<FfLayout<'_>>(body) {
-        Ok(layout) => grant_of(stateid, &layout),
+        Ok(layout) => layout_grant_of(stateid, &layout),
         Err(_) => None,
     }
 }

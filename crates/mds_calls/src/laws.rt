@@ -1,6 +1,6 @@
 //! The laws of calls to a metadata server.
 
-ghost use Rattle.mds_calls.specs.MdsCallLaws.{AreToldApart, IsUnderstood, MdsMessage};
+ghost use Rattle.mds_calls.specs.MdsCallLaws.{AreCompoundsApart, IsCompoundUnderstood, MdsMessage};
 
 use rpc_record::every_message;
 
@@ -8,8 +8,8 @@ use rpc_record::every_message;
 /// its header, and its arguments as a compound of exactly its operations. Calls of different operations,
 /// or under different numbers, have different records.
 pub fn every_mds_call()
-    ensures understood { (m : MdsMessage) → IsUnderstood m }
-    ensures told_apart { (m n : MdsMessage) → AreToldApart m n }
+    ensures understood { (m : MdsMessage) → IsCompoundUnderstood m }
+    ensures told_apart { (m n : MdsMessage) → AreCompoundsApart m n }
 {
     every_message();
 }

@@ -31,4 +31,4 @@ pub use ask::MdsAsk;
 pub use call::{FailedMirror, MdsCall, OpenFile, SlotCall};
 pub use laws::every_mds_call;
 pub use record::{fits, put_mds_call};
-pub use reply::{LayoutGrant, MdsAnswer, MdsReply, SlotAnswer};
+pub use reply::{LayoutGrant, MdsAnswer, MdsReply, SlotReport};

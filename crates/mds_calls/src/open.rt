@@ -10,7 +10,7 @@ ghost use Rattle.nfs4_compound.specs.Results.{resop4, op_res_value};
 ghost use Rattle.mds_calls.specs.MdsCalls.{OnSlot, Open};
 ghost use Rattle.mds_calls.specs.MdsCompounds.{compound_args, mds_ops, open_op};
 ghost use Rattle.mds_calls.specs.MdsResults.{open_ok, get_fh_ok, small_number};
-ghost use Rattle.mds_calls.specs.MdsReplies.{Opened, answer_of, opened_file, open_results, plain_mds_answer};
+ghost use Rattle.mds_calls.specs.MdsReplies.{Opened, answer_where, opened_file, open_results, plain_mds_answer};
 
 use crate::call::OpenFile;
 use crate::ops::{Start, put_ops, sequence_op};
@@ -111,7 +111,7 @@ fn get_fh_ok(of: &OpRes<'_>) -> Option<u32>
 
 /// The file that is open, where both results are OK.
 fn opened<'a>(of: &OpRes<'_>, handle: &OpRes<'_>) -> MdsAnswer<'a>
-    ensures { plain_mds_answer result ≡ answer_of Opened (opened_file (open_ok (op_res_value of.now)) (get_fh_ok (op_res_value handle.now))) }
+    ensures { plain_mds_answer result ≡ answer_where Opened (opened_file (open_ok (op_res_value of.now)) (get_fh_ok (op_res_value handle.now))) }
 {
     match (open_ok(of), get_fh_ok(handle)) {
         (Some(stateid), Some(file)) => MdsAnswer::Opened(OpenFile {

@@ -8,8 +8,8 @@ ghost use Rattle.nfs4_compound.specs.Args.{argop4, op_value};
 ghost use Rattle.nfs4_compound.specs.Results.{resop4, op_res_value};
 ghost use Rattle.mds_calls.specs.MdsCalls.{OnSlot, Read};
 ghost use Rattle.mds_calls.specs.MdsCompounds.{compound_args, mds_ops, read_op};
-ghost use Rattle.mds_calls.specs.MdsResults.{BytesRead, read_ok};
-ghost use Rattle.mds_calls.specs.MdsReplies.{Bytes, answer_of, plain_mds_answer, read_results};
+ghost use Rattle.mds_calls.specs.MdsResults.{BytesRead, read4_done};
+ghost use Rattle.mds_calls.specs.MdsReplies.{Bytes, answer_where, plain_mds_answer, read_results};
 
 use crate::call::OpenFile;
 use crate::ops::{Start, handle_of, put_ops, sequence_op};
@@ -65,7 +65,7 @@ fn are_in_place(at: u64, count: u32, bytes: &[u8]) -> bool
 
 /// The bytes of a READ that is OK.
 fn bytes_read<'a>(at: u64, count: u32, of: &OpRes<'a>) -> MdsAnswer<'a>
-    ensures { plain_mds_answer result ≡ answer_of (λ b. Bytes b.eof b.bytes) (read_ok at count (op_res_value of.now)) }
+    ensures { plain_mds_answer result ≡ answer_where (λ b. Bytes b.eof b.bytes) (read4_done at count (op_res_value of.now)) }
 {
     match of {
         OpRes::Read(OpResult::Done(done)) => {

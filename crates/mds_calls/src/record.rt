@@ -3,7 +3,7 @@
 ghost use Rattle.std.specs.Prelude.{◌≤◌, ◌↔◌, IsTrue, length};
 ghost use Rattle.ff_xdr.specs.Calls.{Puts, Grows};
 ghost use Rattle.mds_calls.specs.MdsCalls.{OnSlot, plain_mds_call, plain_slot_call};
-ghost use Rattle.mds_calls.specs.MdsCompounds.{HasRoom, compound_args, mds_call_bytes, mds_ops};
+ghost use Rattle.mds_calls.specs.MdsCompounds.{FitsCompound, compound_args, mds_call_bytes, mds_ops};
 
 use crate::call::{MdsCall, SlotCall};
 use crate::create_session::put_create_session;
@@ -34,7 +34,7 @@ fn put_on_slot(
     out: &mut Out,
 ) -> Result<(), NoMemory>
     requires owner { length owner.now ≤ 1024 }
-    requires room { HasRoom (OnSlot start.session start.sequence (plain_slot_call call.now)) }
+    requires room { FitsCompound (OnSlot start.session start.sequence (plain_slot_call call.now)) }
     ensures { Puts out.old result out.new (compound_args (mds_ops owner.now (OnSlot start.session start.sequence (plain_slot_call call.now)))) }
 {
     match call {
@@ -56,7 +56,7 @@ fn put_on_slot(
 /// Appends the arguments, or nothing.
 fn put_args(alloc: Global, owner: &[u8], call: &MdsCall<'_>, out: &mut Out) -> Result<(), NoMemory>
     requires owner { length owner.now ≤ 1024 }
-    requires room { HasRoom (plain_mds_call call.now) }
+    requires room { FitsCompound (plain_mds_call call.now) }
     ensures { Puts out.old result out.new (compound_args (mds_ops owner.now (plain_mds_call call.now))) }
 {
     match call {
@@ -87,7 +87,7 @@ fn put(
     out: &mut Out,
 ) -> Result<(), NoMemory>
     requires owner { length owner.now ≤ 1024 }
-    requires room { HasRoom (plain_mds_call call.now) }
+    requires room { FitsCompound (plain_mds_call call.now) }
     ensures { Grows out.old result out.new (mds_call_bytes xid owner.now (plain_mds_call call.now)) }
 {
     put_start(xid, out)?;
@@ -99,7 +99,7 @@ fn put(
 /// Such a call of such a client has a record: `owner` has at most 1,024 bytes, the name of an OPEN and the
 /// data of a WRITE fewer than 2^32, and a GETDEVICEINFO and a report name at most four.
 pub fn fits(owner: &[u8], call: &MdsCall<'_>) -> bool
-    ensures { IsTrue result ↔ ((length owner.now ≤ 1024) × HasRoom (plain_mds_call call.now)) }
+    ensures { IsTrue result ↔ ((length owner.now ≤ 1024) × FitsCompound (plain_mds_call call.now)) }
 {
     if owner.len() > MAX_OPAQUE4 as usize {
         return false;
@@ -127,7 +127,7 @@ pub fn put_mds_call(
     out: &mut Out,
 ) -> Result<(), NoMemory>
     requires owner { length owner.now ≤ 1024 }
-    requires room { HasRoom (plain_mds_call call.now) }
+    requires room { FitsCompound (plain_mds_call call.now) }
     ensures { Puts out.old result out.new (mds_call_bytes xid owner.now (plain_mds_call call.now)) }
 {
     let mark = out.len();

@@ -7,7 +7,7 @@ use nfs4_types::{SessionId, Stat4, Stateid};
 
 /// What the SEQUENCE of a request came to (RFC 8881, section 18.46.3).
 #[derive(Clone, Copy, Debug, PartialEq, Eq)]
-pub enum SlotAnswer {
+pub enum SlotReport {
     /// OK: the request took effect on its slot, now or before.
     Taken,
     /// NFS4ERR_RETRY_UNCACHED_REP: it took effect before, and its reply was not kept.
@@ -58,6 +58,6 @@ pub enum MdsAnswer<'a> {
 /// What a reply comes to.
 #[derive(Clone, Copy, Debug, PartialEq, Eq)]
 pub struct MdsReply<'a> {
-    pub slot: SlotAnswer,
+    pub slot: SlotReport,
     pub answer: MdsAnswer<'a>,
 }

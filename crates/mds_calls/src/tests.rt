@@ -1,7 +1,7 @@
 //! Records that were worked out by hand from RFC 8881, RFC 8435 and RFC 5531.
 
 use crate::{
-    FailedMirror, LayoutGrant, MdsAnswer, MdsAsk, MdsCall, MdsReply, OpenFile, SlotAnswer,
+    FailedMirror, LayoutGrant, MdsAnswer, MdsAsk, MdsCall, MdsReply, OpenFile, SlotReport,
     SlotCall, fits, mds_reply_of, put_mds_call,
 };
 use cluster_model::{Cred, FileId, Mirror, MirrorId, Mirrors, Tick};
@@ -232,13 +232,13 @@ fn reply_is(
 /// A reply that took effect, and says this.
 fn taken<'a>(answer: MdsAnswer<'a>) -> MdsReply<'a> {
     MdsReply {
-        slot: SlotAnswer::Taken,
+        slot: SlotReport::Taken,
         answer,
     }
 }
 
 /// A reply of this status, by which the slot is told this.
-fn refused(slot: SlotAnswer, status: Stat4) -> MdsReply<'static> {
+fn refused(slot: SlotReport, status: Stat4) -> MdsReply<'static> {
     MdsReply {
         slot,
         answer: MdsAnswer::Refused(status),
@@ -269,7 +269,7 @@ fn replies(rt: HostRuntime) -> Result<(), Fail> {
     // EXCHANGE_ID: the client, its number, flags, SP4_NONE, minor id, major id, scope, no impl id
     let exchange: [u32; 13] = [0, 0, 1, 42, 0, 3, 4, 5, 0x20000, 0, 0, 9, 0];
     let client = MdsReply {
-        slot: SlotAnswer::Unknown,
+        slot: SlotReport::Unknown,
         answer: MdsAnswer::Client {
             clientid: 0x3_0000_0004,
             sequence: 5,
@@ -281,7 +281,7 @@ fn replies(rt: HostRuntime) -> Result<(), Fail> {
     let created = [0, 0, 1, 43, 0, s[0], s[1], s[2], s[3], 5, 2];
     let channels = [0, 1, 2, 3, 4, 5, 0, 0, 1, 2, 3, 4, 5, 0];
     let session = MdsReply {
-        slot: SlotAnswer::Unknown,
+        slot: SlotReport::Unknown,
         answer: MdsAnswer::Session(SESSION),
     };
     let ask = MdsAsk::CreateSession;
@@ -291,7 +291,7 @@ fn replies(rt: HostRuntime) -> Result<(), Fail> {
     let parts: [&[u32]; 4] = [&[0, 0, 4], &SEQUENCE, &opened, &[10, 0, 8, 0, 1]];
     let answer = taken(MdsAnswer::Opened(FILE));
     reply_is(&rt, alloc, MdsAsk::Open, &parts, 0, answer)?;
-    let odd = refused(SlotAnswer::Taken, Stat4::ServerFault);
+    let odd = refused(SlotReport::Taken, Stat4::ServerFault);
     let handles: [&[u32]; 2] = [&[10, 0, 7, 0, 0], &[10, 0, 8, 1, 0]];
     for handle in handles {
         let parts: [&[u32]; 4] = [&[0, 0, 4], &SEQUENCE, &opened, handle];
@@ -303,7 +303,7 @@ fn replies(rt: HostRuntime) -> Result<(), Fail> {
 #[test]
 fn short_replies(rt: HostRuntime) -> Result<(), Fail> {
     let alloc = rt.alloc();
-    let odd = refused(SlotAnswer::Taken, Stat4::ServerFault);
+    let odd = refused(SlotReport::Taken, Stat4::ServerFault);
     // RECLAIM_COMPLETE, WRITE of 2 bytes FILE_SYNC, READ of 2 bytes to the end, LAYOUTRETURN of all, and
     // nothing more
     let write = [22, 0, 38, 0, 2, 2, 0, 1];
@@ -330,7 +330,7 @@ fn short_replies(rt: HostRuntime) -> Result<(), Fail> {
         // one result too many; bytes behind the last one; bytes cut short
         let parts: [&[u32]; 4] = [&[0, 0, count + 1], &SEQUENCE, words, &[22, 0]];
         reply_is(&rt, alloc, ask, &parts, 0, odd)?;
-        let unread = refused(SlotAnswer::Unknown, Stat4::ServerFault);
+        let unread = refused(SlotReport::Unknown, Stat4::ServerFault);
         let parts: [&[u32]; 4] = [&[0, 0, count], &SEQUENCE, words, &[0]];
         reply_is(&rt, alloc, ask, &parts, 0, unread)?;
         reply_is(
@@ -373,15 +373,15 @@ fn statuses(rt: HostRuntime) -> Result<(), Fail> {
     let ask = MdsAsk::Write;
     // of a compound that is not OK its status and its SEQUENCE count
     let table = [
-        (10008, SlotAnswer::Delayed, Stat4::Delay),
-        (10068, SlotAnswer::Uncached, Stat4::RetryUncachedRep),
-        (10052, SlotAnswer::Unknown, Stat4::BadSession),
+        (10008, SlotReport::Delayed, Stat4::Delay),
+        (10068, SlotReport::Uncached, Stat4::RetryUncachedRep),
+        (10052, SlotReport::Unknown, Stat4::BadSession),
     ];
     for (number, slot, status) in table {
         let words = [number, 0, 1, 53, number];
         reply_is(&rt, alloc, ask, &[&words], 0, refused(slot, status))?;
     }
-    let stale = refused(SlotAnswer::Taken, Stat4::Stale);
+    let stale = refused(SlotReport::Taken, Stat4::Stale);
     reply_is(
         &rt,
         alloc,
@@ -390,12 +390,12 @@ fn statuses(rt: HostRuntime) -> Result<(), Fail> {
         0,
         stale,
     )?;
-    let stale = refused(SlotAnswer::Unknown, Stat4::Stale);
+    let stale = refused(SlotReport::Unknown, Stat4::Stale);
     reply_is(&rt, alloc, ask, &[&[70, 0, 1, 22, 70]], 0, stale)?;
     reply_is(&rt, alloc, ask, &[&[70, 0, 0]], 0, stale)?;
     // PROG_UNAVAIL
     let bytes = bytes_of(alloc, &[&[7, 1, 0, 0, 0, 1]])?;
-    let odd = refused(SlotAnswer::Unknown, Stat4::ServerFault);
+    let odd = refused(SlotReport::Unknown, Stat4::ServerFault);
     assert_eq!(rt; mds_reply_of(&ask, &Reply::read(bytes.as_slice())?), odd);
     Ok(())
 }
@@ -448,7 +448,7 @@ fn granted(mirrors: &[Mirror]) -> MdsReply<'static> {
             uid: Cred(0x1_0000),
             mirrors,
         })),
-        None => refused(SlotAnswer::Unknown, Stat4::Inval),
+        None => refused(SlotReport::Unknown, Stat4::Inval),
     }
 }
 
@@ -464,7 +464,7 @@ fn on_server(server: u32, fileid: u64) -> Mirror {
 fn layouts(rt: HostRuntime) -> Result<(), Fail> {
     let alloc = rt.alloc();
     let flex = [2, 4];
-    let odd = refused(SlotAnswer::Taken, Stat4::ServerFault);
+    let odd = refused(SlotReport::Taken, Stat4::ServerFault);
     let (a, b, c, d) = (mirror(1, 2), mirror(2, 3), mirror(16, 4), mirror(4, 5));
     let end = [1, 0];
     let one: [&[u32]; 3] = [&mirrors_of(1), &a, &end];
@@ -596,7 +596,7 @@ const DEVICE: [u32; 14] = [
 #[test]
 fn devices(rt: HostRuntime) -> Result<(), Fail> {
     let alloc = rt.alloc();
-    let odd = refused(SlotAnswer::Taken, Stat4::ServerFault);
+    let odd = refused(SlotReport::Taken, Stat4::ServerFault);
     let place = Some(NetAddr {
         host: [127, 0, 0, 1],
         port: 0x801,

@@ -8,7 +8,7 @@ ghost use Rattle.nfs4_compound.specs.Args.{argop4, op_value};
 ghost use Rattle.nfs4_compound.specs.Results.{resop4, op_res_value};
 ghost use Rattle.mds_calls.specs.MdsCalls.{OnSlot, Write};
 ghost use Rattle.mds_calls.specs.MdsCompounds.{compound_args, mds_ops, write_op};
-ghost use Rattle.mds_calls.specs.MdsResults.{write_ok};
+ghost use Rattle.mds_calls.specs.MdsResults.{write4_done};
 ghost use Rattle.mds_calls.specs.MdsReplies.{plain_mds_answer, write_results};
 
 use crate::call::OpenFile;
@@ -56,8 +56,8 @@ pub fn put_write(
 }
 
 /// A WRITE that is OK. Its count and its verifier are not looked at.
-fn write_ok(of: &OpRes<'_>) -> bool
-    ensures { result ≡ write_ok (op_res_value of.now) }
+fn write4_done(of: &OpRes<'_>) -> bool
+    ensures { result ≡ write4_done (op_res_value of.now) }
 {
     matches!(of, OpRes::Write(OpResult::Done(_)))
 }
@@ -68,7 +68,7 @@ pub fn write_results<'a>(results: Results<'_>) -> MdsAnswer<'a>
 {
     match few_of(results) {
         Few::Three(s, p, w) => {
-            if sequence_ok(&s) && put_fh_ok(&p) && write_ok(&w) {
+            if sequence_ok(&s) && put_fh_ok(&p) && write4_done(&w) {
                 MdsAnswer::Written
             } else {
                 odd_results()

@@ -1,0 +1,165 @@
+-- The rule of a client of the cluster: what each event leaves of it, what it enters into the journal, and what it sends.
+use Rattle.std.specs.Prelude.{ℕ, ◌+◌, ◌-◌, Bool, true, false, ◌&&◌, ◌||◌, not, ◌==◌, nat_le, List, [], ◌∷◌, ◌++◌, Option, Some, None, Result, Ok, Err, if◌then◌else◌, slice_get}
+use Rattle.ff_xdr.specs.declared.error.XdrError.{XdrError}
+use Rattle.rpc_record.specs.Calls.{call_at}
+use Rattle.rpc_record.specs.Replies.{RpcReply, reply_at, reply_bytes}
+use Rattle.cluster_model.specs.declared.ids.NodeId.{NodeId}
+use Rattle.cluster_model.specs.declared.ids.NodeId.TheVariants.{Mds, Server, Client}
+use Rattle.cluster_model.specs.declared.entry.Entry.TheVariants.{TimedOut, Rogue}
+use Rattle.cluster_model.specs.declared.ids.Mirror.{Mirror}
+use Rattle.cluster_model.specs.DsCalls.{DsCallValue, DsReplyValue}
+use Rattle.cluster_model.specs.DsCalls as ds
+use Rattle.mirror_client.specs.Outstanding.{OutCall}
+use Rattle.ds_calls.specs.MadeCalls.{ds_call_bytes}
+use Rattle.ds_calls.specs.GivenReplies.{reply_of_call}
+use Rattle.mds_calls.specs.declared.call.OpenFile.{OpenFile}
+use Rattle.mds_calls.specs.declared.ask.MdsAsk.{MdsAsk}
+use Rattle.mds_calls.specs.declared.ask.MdsAsk.TheVariants as ask
+use Rattle.mds_calls.specs.MdsReplies.{MdsReplyValue, reply_of_ask}
+use Rattle.mirror_client.specs.declared.stage.LayoutStage.{LayoutStage}
+use Rattle.mirror_client.specs.declared.stage.LayoutStage.TheVariants.{Writing, Ending, Deferred, Returning}
+use Rattle.mirror_client.specs.ClientStates.{RequestValue, SessionValue, TieValue, HasSession, LayoutValue, AskedValue, ClientValue, ClientRun, unmoved}
+use Rattle.mirror_client.specs.ClientQueue.{run_queue}
+use Rattle.mirror_client.specs.ClientMirrors.{TimeoutRun, ds_answered, ds_timed_out}
+use Rattle.mirror_client.specs.ClientCalls.{SendValue, ClientStep, sends_none, and_then, run_then, calls_all, asks, may_ask, ends_event, xid_after}
+use Rattle.mirror_client.specs.ClientAnswers.{mds_answered}
+use Rattle.mirror_client.specs.Callbacks.{CbReply, callback_of}
+
+-- an event of a client that has not left the protocol
+abbrev pub unless_left : ClientValue → ClientStep → ClientStep
+unless_left c step = if c.has_left then sends_none c else step
+
+-- ---- a request of the user
+
+abbrev pub client_requested : RequestValue → ClientValue → ClientStep
+client_requested request c = unless_left c (ends_event (record c { queue = c.queue ++ request ∷ [] }))
+
+-- ---- a reply
+
+-- to the compound that is outstanding
+-- (what it says goes by what was asked)
+abbrev pub mds_replied : Option AskedValue → ℕ → (MdsAsk → MdsReplyValue) → ℕ → ClientValue → ClientStep
+mds_replied None xid reply now c = sends_none c
+mds_replied (Some asked) xid reply now c =
+    if asked.xid == xid then run_then (mds_answered asked (reply asked.ask) now c) ends_event else sends_none c
+
+-- to a call that is outstanding at this data server
+abbrev pub ds_replied : ℕ → ℕ → (DsCallValue → DsReplyValue) → ClientValue → ClientStep
+ds_replied server xid reply c = run_then (ds_answered server xid reply c) ends_event
+
+-- a reply counts from the node that was called alone
+abbrev pub replied : NodeId → RpcReply → ℕ → ClientValue → ClientStep
+replied Mds reply now c = mds_replied c.asked reply.xid (λ kind. reply_of_ask kind reply) now c
+replied (Server server) reply now c = ds_replied server reply.xid (λ call. reply_of_call call reply) c
+replied (Client number) reply now c = sends_none c
+
+-- ---- a timeout
+
+-- the same record goes to the metadata server again
+abbrev pub mds_timed_out : Option AskedValue → ClientValue → ClientStep
+mds_timed_out None c = sends_none c
+mds_timed_out (Some asked) c = record { client = c; entries = TimedOut (Client c.number) asked.xid ∷ []; sends = (Mds, asked.message) ∷ [] }
+
+abbrev pub resent : ℕ → ℕ → ClientValue → Option OutCall → List SendValue
+resent server cred c None = []
+resent server cred c (Some out) = (Server server, ds_call_bytes out.xid c.name cred out.call) ∷ []
+
+abbrev pub cred_of : Option LayoutValue → ℕ
+cred_of None = 0
+cred_of (Some l) = l.writer.cred
+
+-- the same record goes to the data server again, before what goes out else
+abbrev pub ds_late : ℕ → ClientValue → TimeoutRun → ClientStep
+ds_late server c r = let rest = run_then r.run ends_event in
+    record { client = rest.client; entries = rest.entries; sends = resent server (cred_of c.layout) c r.resends ++ rest.sends }
+
+abbrev pub timed_out_to : NodeId → ClientValue → ClientStep
+timed_out_to Mds c = mds_timed_out c.asked c
+timed_out_to (Server server) c = ds_late server c (ds_timed_out server c)
+timed_out_to (Client number) c = sends_none c
+
+abbrev pub client_timed_out : NodeId → ClientValue → ClientStep
+client_timed_out to c = unless_left c (timed_out_to to c)
+
+-- ---- a tick
+
+-- what waited for the tick waits no longer
+abbrev pub stage_after_tick : LayoutStage → LayoutStage
+stage_after_tick Deferred = Ending
+stage_after_tick stage = stage
+
+abbrev pub layout_at_tick : Option LayoutValue → Option LayoutValue
+layout_at_tick None = None
+layout_at_tick (Some l) = Some (record l { stage = stage_after_tick l.stage })
+
+abbrev pub client_at_tick : ClientValue → ClientValue
+client_at_tick c = record c { waits = false; layout = layout_at_tick c.layout }
+
+-- the record whose SEQUENCE was answered DELAY
+abbrev pub resends_late : ClientValue → Option AskedValue → ClientStep
+resends_late c None = sends_none c
+resends_late c (Some asked) =
+    if asked.is_late then record { client = record c { asked = Some (record asked { is_late = false }) }; entries = []; sends = (Mds, asked.message) ∷ [] }
+    else sends_none c
+
+-- a SEQUENCE alone, 30 s after the last that was answered, where nothing else is outstanding
+abbrev pub is_stale : ℕ → Option ℕ → Bool
+is_stale now None = false
+is_stale now (Some renewed) = nat_le (renewed + 30) now
+
+abbrev pub is_stale_tie : ℕ → TieValue → Bool
+is_stale_tie now (HasSession s) = is_stale now s.renewed
+is_stale_tie now tie = false
+
+abbrev pub renews : ℕ → ClientValue → ClientStep
+renews now c = if may_ask c c.asked && is_stale_tie now c.tie then asks c (Some ask.Renew) else sends_none c
+
+abbrev pub client_ticked : ℕ → ClientValue → ClientStep
+client_ticked now c = unless_left c (and_then (and_then (ends_event (client_at_tick c)) (λ d. resends_late d d.asked)) (renews now))
+
+-- ---- a client that leaves the protocol
+
+abbrev pub turned : ClientValue → ClientValue
+turned c = record c { has_left = true }
+
+abbrev pub rogue_write : ClientValue → OpenFile → LayoutValue → ℕ → List ℕ → Option Mirror → ClientStep
+rogue_write c file l at bytes None = sends_none c
+rogue_write c file l at bytes (Some m) = record {
+  client = record c { next_xid = xid_after c.next_xid };
+  entries = Rogue file.file (record { 0 = l.writer.cred }) at bytes ∷ [];
+  sends = (Server m.id.server, ds_call_bytes c.next_xid c.name l.writer.cred (ds.Write m.id.fileid at false bytes)) ∷ [];
+}
+
+abbrev pub mirror_of_place : List Mirror → ℕ → Option Mirror
+mirror_of_place mirrors place = if place == 0 then None else slice_get mirrors (place - 1)
+
+-- It sends a WRITE to the mirror at this place of its layout, from 1, while no LAYOUTRETURN of it was sent.
+abbrev pub strays : Option OpenFile → Option LayoutValue → ℕ → ℕ → List ℕ → ClientValue → ClientStep
+strays (Some file) (Some l) place at bytes c =
+    if l.was_sent || (c.next_xid == 0) then sends_none c else rogue_write c file l at bytes (mirror_of_place l.mirrors place)
+strays file layout place at bytes c = sends_none c
+
+-- ---- a record
+
+-- a callback is answered before the calls that it brings
+abbrev pub answers_callback : CbReply → ClientStep
+answers_callback k = let rest = ends_event k.client in
+    record { client = rest.client; entries = rest.entries; sends = (Mds, reply_bytes k.reply) ∷ rest.sends }
+
+-- what is no reply in its form is passed over
+abbrev pub found_reply : NodeId → Result RpcReply XdrError → ℕ → ClientValue → ClientStep
+found_reply from (Ok reply) now c = replied from reply now c
+found_reply from (Err e) now c = sends_none c
+
+-- callbacks come from the metadata server alone
+abbrev pub found_call : Option CbReply → List ℕ → ℕ → ClientValue → ClientStep
+found_call (Some k) bytes now c = answers_callback k
+found_call None bytes now c = found_reply Mds (reply_at bytes) now c
+
+abbrev pub record_from : NodeId → List ℕ → ℕ → ClientValue → ClientStep
+record_from Mds bytes now c = found_call (callback_of (call_at bytes) c) bytes now c
+record_from (Server server) bytes now c = found_reply (Server server) (reply_at bytes) now c
+record_from (Client number) bytes now c = sends_none c
+
+abbrev pub client_recorded : NodeId → List ℕ → ℕ → ClientValue → ClientStep
+client_recorded from bytes now c = unless_left c (record_from from bytes now c)

@@ -1,0 +1,52 @@
+-- Runs of a client: events, one after the other, and all that comes of them.
+use Rattle.std.specs.Prelude.{ℕ, List, [], ◌∷◌, ◌++◌, map, Option}
+use Rattle.std.specs.Option.{option_map}
+use Rattle.rpc_record.specs.Calls.{RpcCall}
+use Rattle.cluster_model.specs.declared.ids.NodeId.{NodeId}
+use Rattle.cluster_model.specs.declared.ids.NodeId.TheVariants.{Mds}
+use Rattle.cluster_model.specs.declared.entry.Entry.{Entry}
+use Rattle.cluster_model.specs.DsCalls.{DsReplyValue}
+use Rattle.mds_calls.specs.declared.ask.MdsAsk.{MdsAsk}
+use Rattle.mds_calls.specs.MdsReplies.{MdsReplyValue}
+use Rattle.mirror_client.specs.ClientStates.{RequestValue, AskedValue, ClientValue}
+use Rattle.mirror_client.specs.ClientCalls.{SendValue, ClientStep, sends_none, and_then}
+use Rattle.mirror_client.specs.Callbacks.{cb_reply, cb_call_answer}
+use Rattle.mirror_client.specs.ClientRule.{unless_left, client_requested, mds_replied, ds_replied, client_timed_out, client_ticked, answers_callback}
+
+-- What may happen to a client, without the bytes of records: a request of its user; the answer to a compound, or to a call of a data
+-- server, by its number; a callback; a timeout of its call to a node; a tick at a moment.
+pub data ClientEvent : Type 0 where
+  Asks : (request : RequestValue) → ClientEvent
+  MdsSays : (xid : ℕ) (reply : MdsReplyValue) (now : ℕ) → ClientEvent
+  DsSays : (server xid : ℕ) (reply : DsReplyValue) → ClientEvent
+  CallsBack : (call : RpcCall) → ClientEvent
+  TimesOut : (to : NodeId) → ClientEvent
+  Ticks : (now : ℕ) → ClientEvent
+
+abbrev pub client_step : ClientEvent → ClientValue → ClientStep
+client_step (Asks request) c = client_requested request c
+client_step (MdsSays xid reply now) c = unless_left c (mds_replied c.asked xid (λ kind. reply) now c)
+client_step (DsSays server xid reply) c = unless_left c (ds_replied server xid (λ call. reply) c)
+client_step (CallsBack call) c = unless_left c (answers_callback (cb_reply call.xid (cb_call_answer call c)))
+client_step (TimesOut to) c = client_timed_out to c
+client_step (Ticks now) c = client_ticked now c
+
+-- what the events of a run leave, enter and send, in order
+abbrev pub client_run : ClientValue → List ClientEvent → ClientStep
+client_run c [] = sends_none c
+client_run c (event ∷ events) = and_then (client_step event c) (λ d. client_run d events)
+
+-- What is seen of a run: the journal, to whom records went, and what is outstanding at the metadata server.
+pub record ClientSeen : Type 0 where
+  pub entries : List Entry
+  pub sent_to : List NodeId
+  pub asked : Option MdsAsk
+
+abbrev pub receiver : SendValue → NodeId
+receiver s = s.0
+
+abbrev pub seen_of : ClientStep → ClientSeen
+seen_of s = record { entries = s.entries; sent_to = map receiver s.sends; asked = option_map (λ (a : AskedValue). a.ask) s.client.asked }
+
+abbrev pub seen_in : ClientValue → List ClientEvent → ClientSeen
+seen_in c events = seen_of (client_run c events)

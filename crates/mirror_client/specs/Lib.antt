@@ -1,0 +1,11 @@
+pub mod Outstanding
+pub mod ClientStates
+pub mod ClientQueue
+pub mod ClientMirrors
+pub mod ClientCalls
+pub mod ClientAnswers
+pub mod Callbacks
+pub mod ClientRule
+pub mod ClientRuns
+pub mod WorkedClient
+pub mod ClientLaws

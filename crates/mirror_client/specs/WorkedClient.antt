@@ -1,0 +1,207 @@
+-- Runs of a client that are worked out by hand: a file's whole conversation, and each way in which a layout is lost.
+use Rattle.std.specs.Prelude.{ℕ, ◌+◌, true, false, List, [], ◌∷◌, ◌++◌, replicate, Option, Some, None}
+use Rattle.std.proofs.Common.{inl, inr}
+use Rattle.nfs4_types.specs.declared.ids.SessionId.{SessionId}
+use Rattle.nfs4_types.specs.declared.stateid.Stateid.{Stateid}
+use Rattle.nfs4_types.specs.Stateids.{layout_stateid_of, open_stateid_of}
+use Rattle.device_addr.specs.declared.net_addr.NetAddr.{NetAddr}
+use Rattle.cluster_model.specs.declared.ids.NodeId.{NodeId}
+use Rattle.cluster_model.specs.declared.ids.NodeId.TheVariants.{Mds, Server, Client}
+use Rattle.cluster_model.specs.declared.ids.FileId.{FileId}
+use Rattle.cluster_model.specs.declared.ids.Mirror.{Mirror}
+use Rattle.cluster_model.specs.declared.answer.UserAnswer.{UserAnswer}
+use Rattle.cluster_model.specs.declared.answer.UserAnswer.TheVariants as answer
+use Rattle.cluster_model.specs.declared.answer.FailCause.TheVariants as failing
+use Rattle.cluster_model.specs.declared.entry.Entry.{Entry}
+use Rattle.cluster_model.specs.declared.entry.Entry.TheVariants.{Sent, Told, TimedOut, Answer}
+use Rattle.cluster_model.specs.DsCalls as ds
+use Rattle.mds_calls.specs.declared.call.OpenFile.{OpenFile}
+use Rattle.mds_calls.specs.declared.ask.MdsAsk.TheVariants as ask
+use Rattle.mds_calls.specs.declared.reply.LayoutGrant.{LayoutGrant}
+use Rattle.mds_calls.specs.declared.reply.SlotReport.TheVariants.{Taken, Uncached, Delayed, Unknown}
+use Rattle.mds_calls.specs.MdsReplies as says
+use Rattle.mirror_client.specs.ClientStates.{Open, Write, Through, Commit, Read, Return, ClientValue, fresh_client}
+use Rattle.mirror_client.specs.ClientRuns.{ClientEvent, Asks, MdsSays, DsSays, TimesOut, Ticks, ClientSeen}
+
+-- ---- who takes part
+
+abbrev pub client : ClientValue
+client = fresh_client 1 1 1
+
+abbrev pub session : SessionId
+session = record { 0 = replicate 15 0 ++ 1 ∷ [] }
+
+abbrev pub the_file : FileId
+the_file = record { 0 = 1 }
+
+abbrev pub opened : OpenFile
+opened = record { file = the_file; stateid = open_stateid_of 1 1 }
+
+abbrev pub mirror_on : ℕ → Mirror
+mirror_on server = record { id = record { server = server; fileid = 2 }; seen = record { boot = 0; count = 0 } }
+
+-- a layout under this uid, with a mirror on each of two data servers
+abbrev pub grant : ℕ → LayoutGrant
+grant uid = record { stateid = layout_stateid_of 1 uid 1; uid = record { 0 = uid }; mirrors = mirror_on 1 ∷ mirror_on 2 ∷ [] }
+
+abbrev pub address : ℕ → NetAddr
+address server = record { host = 127 ∷ 0 ∷ 0 ∷ 1 ∷ []; port = 2048 + server }
+
+abbrev pub says_ok : ℕ → says.MdsAnswerValue → ClientEvent
+says_ok xid a = MdsSays xid (record { slot = Taken; answer = a }) 0
+
+abbrev pub says_at : ℕ → says.MdsAnswerValue → ℕ → ClientEvent
+says_at xid a now = MdsSays xid (record { slot = Taken; answer = a }) now
+
+abbrev pub says_plain : ℕ → says.MdsAnswerValue → ClientEvent
+says_plain xid a = MdsSays xid (record { slot = Unknown; answer = a }) 0
+
+abbrev pub answer_entry : UserAnswer → Entry
+answer_entry a = Answer 1 a
+
+abbrev pub sent_write : ℕ → ℕ → List ℕ → Entry
+sent_write uid at bytes = Sent the_file (record { 0 = uid }) at bytes
+
+abbrev pub told_write : ℕ → ℕ → List ℕ → Entry
+told_write uid at bytes = Told the_file (record { 0 = uid }) at bytes
+
+-- ---- before a file is open
+
+abbrev pub unopened : List ClientEvent
+unopened = Asks (Write 0 (65 ∷ [])) ∷ []
+
+abbrev pub unopened_seen : ClientSeen
+unopened_seen = record { entries = answer_entry (answer.Failed (failing.Refused 10020)) ∷ []; sent_to = []; asked = None }
+
+-- ---- a file is opened: EXCHANGE_ID 1, CREATE_SESSION 2, RECLAIM_COMPLETE 3, OPEN 4
+
+abbrev pub opening : List ClientEvent
+opening =
+    Asks (Open (97 ∷ [])) ∷ says_plain 1 (says.Client 4294967297 1) ∷ says_plain 2 (says.Session session) ∷ says_ok 3 says.Complete
+    ∷ says_ok 4 (says.Opened opened) ∷ []
+
+abbrev pub opening_seen : ClientSeen
+opening_seen = record { entries = answer_entry (answer.Opened the_file) ∷ []; sent_to = replicate 4 Mds; asked = None }
+
+-- ---- a write goes to both mirrors: LAYOUTGET 5, GETDEVICEINFO 6, WRITE 7 and 8
+
+abbrev pub writing : List ClientEvent
+writing = opening ++ Asks (Write 0 (65 ∷ 66 ∷ [])) ∷ says_ok 5 (says.Granted (grant 65536)) ∷ says_ok 6 (says.Devices (address 1 ∷ address 2 ∷ [])) ∷ []
+
+abbrev pub writing_seen : ClientSeen
+writing_seen = record {
+  entries = answer_entry (answer.Opened the_file) ∷ sent_write 65536 0 (65 ∷ 66 ∷ []) ∷ [];
+  sent_to = replicate 6 Mds ++ Server 1 ∷ Server 2 ∷ [];
+  asked = None;
+}
+
+-- ---- it is committed at both, COMMIT 9 and 10, and then told
+
+abbrev pub committing : List ClientEvent
+committing =
+    writing ++ DsSays 1 7 (ds.Written None 1) ∷ DsSays 2 8 (ds.Written None 1) ∷ Asks Commit ∷ DsSays 1 9 (ds.Committed None 1)
+    ∷ DsSays 2 10 (ds.Committed None 1) ∷ []
+
+abbrev pub committing_seen : ClientSeen
+committing_seen = record {
+  entries = answer_entry (answer.Opened the_file) ∷ sent_write 65536 0 (65 ∷ 66 ∷ []) ∷ told_write 65536 0 (65 ∷ 66 ∷ []) ∷ answer_entry (answer.Committed 1) ∷ [];
+  sent_to = replicate 6 Mds ++ Server 1 ∷ Server 2 ∷ Server 1 ∷ Server 2 ∷ [];
+  asked = None;
+}
+
+-- ---- a write over it goes under another layout: LAYOUTRETURN 11, LAYOUTGET 12, and 13 at the next tick; WRITE 14 and 15
+
+abbrev pub overlapping : List ClientEvent
+overlapping =
+    committing ++ Asks (Write 0 (67 ∷ [])) ∷ says_ok 11 says.Returned ∷ says_ok 12 (says.Refused 10058) ∷ Ticks 1
+    ∷ says_ok 13 (says.Granted (grant 65537)) ∷ []
+
+abbrev pub overlapping_seen : ClientSeen
+overlapping_seen = record {
+  entries = committing_seen.entries ++ sent_write 65537 0 (67 ∷ []) ∷ [];
+  sent_to = committing_seen.sent_to ++ Mds ∷ Mds ∷ Mds ∷ Server 1 ∷ Server 2 ∷ [];
+  asked = None;
+}
+
+-- ---- a mirror times out three times: the other commits, 9, and LAYOUTRETURN 10 reports it; then the write is told
+
+abbrev pub reporting : List ClientEvent
+reporting =
+    writing ++ DsSays 1 7 (ds.Written None 1) ∷ TimesOut (Server 2) ∷ TimesOut (Server 2) ∷ TimesOut (Server 2)
+    ∷ DsSays 1 9 (ds.Committed None 1) ∷ []
+
+abbrev pub late_entry : Entry
+late_entry = TimedOut (Client 1) 8
+
+abbrev pub reporting_seen : ClientSeen
+reporting_seen = record {
+  entries = writing_seen.entries ++ replicate 3 late_entry;
+  sent_to = writing_seen.sent_to ++ Server 2 ∷ Server 2 ∷ Server 1 ∷ Mds ∷ [];
+  asked = Some ask.LayoutReturn;
+}
+
+abbrev pub reported : List ClientEvent
+reported = reporting ++ says_ok 10 says.Returned ∷ Asks Commit ∷ []
+
+abbrev pub reported_seen : ClientSeen
+reported_seen = record {
+  entries = reporting_seen.entries ++ told_write 65536 0 (65 ∷ 66 ∷ []) ∷ answer_entry (answer.Committed 1) ∷ [];
+  sent_to = reporting_seen.sent_to;
+  asked = None;
+}
+
+-- ---- ACCES 13 from a mirror: the layout is lost, with a commit that waits; the other mirror's answer is passed over
+
+abbrev pub taken_away : List ClientEvent
+taken_away = writing ++ Asks Commit ∷ DsSays 2 8 (ds.Failed 13 None) ∷ DsSays 1 7 (ds.Written None 1) ∷ []
+
+abbrev pub taken_away_seen : ClientSeen
+taken_away_seen = record { entries = writing_seen.entries ++ answer_entry (answer.Failed failing.Revoked) ∷ []; sent_to = writing_seen.sent_to; asked = None }
+
+-- ---- each mirror fails, IO 5: the user is told at once, and LAYOUTRETURN 9 reports both; refused as BAD_STATEID 10025 it is told again
+
+abbrev pub all_failed : List ClientEvent
+all_failed = writing ++ DsSays 1 7 (ds.Failed 5 None) ∷ DsSays 2 8 (ds.Failed 5 None) ∷ says_ok 9 (says.Refused 10025) ∷ []
+
+abbrev pub all_failed_seen : ClientSeen
+all_failed_seen = record {
+  entries = writing_seen.entries ++ answer_entry (answer.Failed failing.AllMirrors) ∷ answer_entry (answer.Failed failing.Revoked) ∷ [];
+  sent_to = writing_seen.sent_to ++ Mds ∷ [];
+  asked = None;
+}
+
+-- ---- BADSESSION 10052 under a layout, with a read, a commit and an open waiting: the first two run without a file
+
+abbrev pub session_gone : List ClientEvent
+session_gone = writing ++ Asks (Read 0 1) ∷ Asks Commit ∷ Asks (Open (98 ∷ [])) ∷ says_plain 9 (says.Refused 10052) ∷ []
+
+abbrev pub session_gone_seen : ClientSeen
+session_gone_seen = record {
+  entries =
+    writing_seen.entries ++ answer_entry (answer.Failed failing.Revoked) ∷ answer_entry (answer.Failed (failing.Refused 10020))
+    ∷ answer_entry (answer.Failed (failing.Refused 10020)) ∷ [];
+  sent_to = writing_seen.sent_to ++ Mds ∷ Mds ∷ [];
+  asked = Some ask.ExchangeId;
+}
+
+-- ---- the slot: DELAY at SEQUENCE, so the same record goes out at the next tick; then RETRY_UNCACHED_REP, so the read goes out anew, as 6
+
+abbrev pub retried : List ClientEvent
+retried =
+    opening ++ Asks (Read 0 2) ∷ MdsSays 5 (record { slot = Delayed; answer = says.Refused 10008 }) 0 ∷ Ticks 1
+    ∷ MdsSays 5 (record { slot = Uncached; answer = says.Refused 10068 }) 1 ∷ says_at 6 (says.Bytes true (65 ∷ [])) 2 ∷ []
+
+abbrev pub retried_seen : ClientSeen
+retried_seen = record {
+  entries = answer_entry (answer.Opened the_file) ∷ answer_entry (answer.Bytes true (65 ∷ [])) ∷ [];
+  sent_to = replicate 7 Mds;
+  asked = None;
+}
+
+-- ---- the lease: a SEQUENCE alone, 30 s after the last that was answered, at 2
+
+abbrev pub renewing : List ClientEvent
+renewing = retried ++ Ticks 31 ∷ Ticks 32 ∷ []
+
+abbrev pub renewing_seen : ClientSeen
+renewing_seen = record { entries = retried_seen.entries; sent_to = replicate 8 Mds; asked = Some ask.Renew }

@@ -1,0 +1,14 @@
+//! How far the giving back of a layout is.
+
+/// Whether a layout is to be given back, and how far that is.
+#[derive(Clone, Copy, Debug, PartialEq, Eq)]
+pub enum LayoutStage {
+    /// Writes are taken.
+    Writing,
+    /// It is to be given back: what is taken is committed, and then LAYOUTRETURN goes out.
+    Ending,
+    /// LAYOUTRETURN was refused for now, and goes out again at the next tick.
+    Deferred,
+    /// LAYOUTRETURN is outstanding.
+    Returning,
+}

@@ -1,0 +1,24 @@
+//! Runs of a client that are worked out by hand.
+
+ghost use Rattle.std.specs.Prelude.{◌≡◌};
+ghost use Rattle.mirror_client.specs.ClientRuns.{seen_in};
+ghost use Rattle.mirror_client.specs.WorkedClient.{client, unopened, unopened_seen, opening, opening_seen, writing, writing_seen, committing, committing_seen, overlapping, overlapping_seen, reporting, reporting_seen, reported, reported_seen, taken_away, taken_away_seen, all_failed, all_failed_seen, session_gone, session_gone_seen, retried, retried_seen, renewing, renewing_seen};
+
+/// What the rule of a client makes of runs that are worked out by hand: the journal, to whom records go, and
+/// what is outstanding at the end. A request before a file is open; the conversation of one file; a write over
+/// another; a mirror that times out, and what is told once it is reported; a layout that is taken away, and
+/// one whose mirrors all failed; a session that is gone; a request that is sent again; a lease that is renewed.
+pub fn worked_client_runs()
+    ensures unopened { seen_in client unopened ≡ unopened_seen }
+    ensures opening { seen_in client opening ≡ opening_seen }
+    ensures writing { seen_in client writing ≡ writing_seen }
+    ensures committing { seen_in client committing ≡ committing_seen }
+    ensures overlapping { seen_in client overlapping ≡ overlapping_seen }
+    ensures reporting { seen_in client reporting ≡ reporting_seen }
+    ensures reported { seen_in client reported ≡ reported_seen }
+    ensures taken_away { seen_in client taken_away ≡ taken_away_seen }
+    ensures all_failed { seen_in client all_failed ≡ all_failed_seen }
+    ensures session_gone { seen_in client session_gone ≡ session_gone_seen }
+    ensures retried { seen_in client retried ≡ retried_seen }
+    ensures renewing { seen_in client renewing ≡ renewing_seen }
+{}
