@@ -1,4 +1,4 @@
--- What a client answer_entry to its callbacks (RFC 8881, sections 2.10.6, 20.3 and 20.9; RFC 5531, section 9).
+-- What a client answers to its callbacks (RFC 8881, sections 2.10.6, 20.3 and 20.9; RFC 5531, section 9).
 use Rattle.std.specs.Prelude.{ℕ, Bool, true, false, ◌&&◌, ◌==◌, nat_le, nat_lt, List, [], ◌∷◌, bytes_eq, Option, Some, None, Result, Ok, Err, if◌then◌else◌}
 use Rattle.std.proofs.Common.{inl, inr}
 use Rattle.ff_xdr.specs.declared.error.XdrError.{XdrError}
@@ -101,7 +101,7 @@ recall_of (Some l) state c =
 abbrev pub recalls : Value cb_layoutrecall4_args → ClientValue → Recall
 recalls (kind, (iomode, (changed, recall))) c = recall_of c.layout (recalled_state recall) c
 
--- ---- the operations run_then CB_SEQUENCE
+-- ---- the operations behind CB_SEQUENCE
 
 abbrev pub is_ok : Stat4 → Bool
 is_ok stat.Ok = true
@@ -170,7 +170,7 @@ cb_refused stat c = record { stat = stat; results = []; client = c }
 abbrev pub cb_results : List ℕ → CbJudged → CbAnswer
 cb_results tag j = record { stat = success; results = spelling cb_compound4_res (stat4_number j.status, (tag, j.results)); client = j.client }
 
--- bytes run_then the last operation are no arguments
+-- bytes behind the last operation are no arguments
 abbrev pub cb_walked : CbCompoundValue → Option ℕ → ClientValue → CbAnswer
 cb_walked cb (Some rest) c = cb_refused garbage_args c
 cb_walked cb None c = cb_results cb.tag (cb_first cb.ops.values cb.ops.stop c)

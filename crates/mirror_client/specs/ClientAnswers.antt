@@ -22,7 +22,7 @@ use Rattle.mirror_client.specs.ClientMirrors.{tells}
 
 -- ---- the slot
 
--- the request took effect: the next has the number run_then it, and the lease is renewed
+-- the request took effect: the next has the number behind it, and the lease is renewed
 abbrev pub moved_session : ℕ → SessionValue → SessionValue
 moved_session now s = record s { next = sequence_after s.next; renewed = Some now }
 

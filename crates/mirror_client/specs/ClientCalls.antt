@@ -30,7 +30,7 @@ pub record ClientStep : Type 0 where
   pub entries : List Entry
   pub sends : List SendValue
 
--- the number run_then a call's; 0 run_then the last, so that none is left
+-- the number behind a call's; 0 behind the last, so that none is left
 abbrev pub xid_after : ℕ → ℕ
 xid_after xid = if xid == 4294967295 then 0 else xid + 1
 

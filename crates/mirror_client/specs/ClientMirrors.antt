@@ -1,4 +1,4 @@
--- What the answer_entry of data servers come to for a client, and timeouts of its calls to them (RFC 8435, sections 5 and 8).
+-- What the answers of data servers come to for a client, and timeouts of its calls to them (RFC 8435, sections 5 and 8).
 use Rattle.std.specs.Prelude.{ℕ, ◌+◌, Bool, true, false, ◌&&◌, not, ◌==◌, nat_lt, List, [], ◌∷◌, ◌++◌, length, map, position, Option, Some, None, slice_get, slice_set, if◌then◌else◌}
 use Rattle.std.specs.List.{list_all, filter, find}
 use Rattle.cluster_model.specs.declared.ids.NodeId.TheVariants.{Client}

@@ -18,11 +18,11 @@ use Rattle.mirror_client.specs.declared.stage.LayoutStage.{LayoutStage}
 use Rattle.mirror_client.specs.declared.stage.LayoutStage.TheVariants.{Writing, Ending, Deferred, Returning}
 use Rattle.mirror_client.specs.ClientStates.{RequestValue, Open, Write, Through, Commit, Read, Return, LayoutValue, ClientValue, ClientRun, unmoved, followed_by}
 
--- ---- answer_entry to the user
+-- ---- answers to the user
 
 -- an answer, which is an entry of the journal too
 abbrev pub answers_user : UserAnswer → ClientValue → ClientRun
-answers_user a c = record { client = record c { answer_entry = c.answers ++ a ∷ [] }; entries = Answer c.number a ∷ [] }
+answers_user a c = record { client = record c { answers = c.answers ++ a ∷ [] }; entries = Answer c.number a ∷ [] }
 
 abbrev pub refuses_request : ℕ → ClientValue → ClientRun
 refuses_request status = answers_user (answer.Failed (failing.Refused status))

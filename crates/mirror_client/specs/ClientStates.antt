@@ -74,8 +74,8 @@ pub record ClientValue : Type 0 where
   pub asked : Option AskedValue
   -- what goes out anew, since its reply was not kept
   pub again : Option MdsAsk
-  -- the answer_entry that the user has not taken, and how many writes were told since the last that says so
-  pub answer_entry : List UserAnswer
+  -- the answers that the user has not taken, and how many writes were told since the last that says so
+  pub answers : List UserAnswer
   pub told : ℕ
   -- it left the protocol
   pub has_left : Bool
@@ -88,12 +88,12 @@ client_name number = codes "c" ++ decimal number
 abbrev pub fresh_client : ℕ → ℕ → ℕ → ClientValue
 fresh_client number verifier first_xid = record {
   number = number; name = client_name number; verifier = verifier; next_xid = first_xid; queue = []; waits = false; tie = NoClient; file = None; layout = None;
-  devices = []; asked = None; again = None; answer_entry = []; told = 0; has_left = false;
+  devices = []; asked = None; again = None; answers = []; told = 0; has_left = false;
 }
 
--- the same client as new: its calls are numbered on, and its requests and answer_entry stay
+-- the same client as new: its calls are numbered on, and its requests and answers stay
 abbrev pub as_new : ClientValue → ClientValue
-as_new c = record (fresh_client c.number c.verifier c.next_xid) { name = c.name; queue = c.queue; answer_entry = c.answers; has_left = c.has_left }
+as_new c = record (fresh_client c.number c.verifier c.next_xid) { name = c.name; queue = c.queue; answers = c.answers; has_left = c.has_left }
 
 -- a client, and the entries of the journal that it made so far in an event
 pub record ClientRun : Type 0 where
@@ -103,6 +103,6 @@ pub record ClientRun : Type 0 where
 abbrev pub unmoved : ClientValue → ClientRun
 unmoved c = record { client = c; entries = [] }
 
--- what follows comes run_then what was entered before
+-- what follows comes behind what was entered before
 abbrev pub followed_by : ClientRun → (ClientValue → ClientRun) → ClientRun
 followed_by r next = record { client = (next r.client).client; entries = r.entries ++ (next r.client).entries }
