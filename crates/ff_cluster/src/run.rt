@@ -66,7 +66,9 @@ impl ProgramEnd {
         match self {
             ProgramEnd::Usage => write_all(notes, b"usage\n"),
             ProgramEnd::Ended(RunEnd::Done) => Ok(()),
-            ProgramEnd::Ended(RunEnd::BadLine(number)) => tell_number(alloc, b"line ", number, notes),
+            ProgramEnd::Ended(RunEnd::BadLine(number)) => tell_number(
+                alloc, b"line ", number, notes,
+            ),
             ProgramEnd::Ended(RunEnd::ReadFault) => write_all(notes, b"read fault\n"),
             ProgramEnd::Ended(RunEnd::WriteFault) => write_all(notes, b"write fault\n"),
             ProgramEnd::Ended(RunEnd::NoMemory) => write_all(notes, b"no memory\n"),

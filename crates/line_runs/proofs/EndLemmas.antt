@@ -1,17 +1,15 @@
 -- How a run over lines ends.
-use Rattle.std.specs.Prelude.{⊤}
-use Rattle.std.proofs.Common.{◌⊎◌, inl, inr, ◌≡◌, ℕ, ◌+◌, ◌-◌, Bool, true, false, List, [], ◌∷◌, ◌++◌, length, Option, Some, None, Result, Ok, Err, refl, sym, ap, subst, ◌∙◌, arith, ⊎_elim}
+use Rattle.std.proofs.Common.{◌⊎◌, inl, inr, ◌≡◌, ℕ, true, false, List, [], ◌++◌, Option, Some, None, Result, Ok, Err, refl, sym, ap, subst, ◌∙◌, arith, ⊎_elim}
 use Rattle.std.proofs.lemmas.List.{append-nil, append_assoc}
 use Rattle.rpc_record.specs.declared.stream.Failed.{Failed}
 use Rattle.rpc_record.specs.Stream.{one_more}
 use Rattle.line_runs.specs.declared.end.RunEnd.{RunEnd}
 use Rattle.line_runs.specs.declared.end.RunEnd.TheVariants.{Done, BadLine, ReadFault, WriteFault, NoMemory, Limit}
-use Rattle.line_runs.specs.Lines.{script_lines}
 use Rattle.line_runs.specs.Writing.{IsBeginningOf, WritesText}
 use Rattle.line_runs.specs.Runs.{RunEffect, after_text, whole_text, ended_effect, IsPastLimit, Ends, HasRead, TookAll, TookPart, TookOfRead, SinkGot, Leaves, Runs, HasBecome, ReadFaults, write_faults}
-use Rattle.line_runs.specs.Tasks.{TaskValue, Ahead, ahead_of}
-use Rattle.line_runs.specs.Playback.{Stand, stand, start, effect_ahead, state_ahead, over_ahead, text_ahead, Owes, OwesPart, GoesOn, Fails, OwesRead, Passes, EndsBy, LinesEnd, Stops, closed_text, is_of_lines, PlaybackSteps, Finishes, PlaysAll, ClosesRun, EndFaults, StepFaults, LinesFaults, SourceFaults}
-use Rattle.line_runs.proofs.OweLemmas.{owes_same, owes_as, owes_again, whole_part, wrote_all, wrote_some, some_is, owes_on, part_on, part_more, part_less, begins_whole}
+use Rattle.line_runs.specs.Tasks.{TaskValue}
+use Rattle.line_runs.specs.Playback.{Stand, stand, start, effect_ahead, state_ahead, over_ahead, Owes, OwesPart, GoesOn, OwesRead, Passes, EndsBy, LinesEnd, Stops, closed_text, is_of_lines, PlaybackSteps, Finishes, PlaysAll, ClosesRun, EndFaults, StepFaults, LinesFaults, SourceFaults}
+use Rattle.line_runs.proofs.OweLemmas.{owes_same, owes_as, whole_part, wrote_all, wrote_some, some_is, owes_on, part_on, part_more, part_less, begins_whole}
 use Rattle.line_runs.proofs.StepLemmas.{text_again}
 use Rattle.line_runs.proofs.RunLemmas.{Went}
 

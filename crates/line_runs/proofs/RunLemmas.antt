@@ -1,21 +1,19 @@
 -- How a run over lines goes on from line to line.
 use Rattle.std.specs.Prelude.{⊤}
-use Rattle.std.proofs.Common.{◌⊎◌, inl, inr, ◌≡◌, ℕ, ◌+◌, ◌-◌, Bool, true, false, List, [], ◌∷◌, ◌++◌, length, take, Option, Some, None, Result, Ok, Err, refl, sym, ap, subst, ◌∙◌, arith, ⊎_elim}
+use Rattle.std.proofs.Common.{inl, inr, ◌≡◌, ℕ, ◌+◌, ◌-◌, Bool, true, false, List, [], ◌∷◌, ◌++◌, length, take, Option, Some, None, Result, Ok, Err, refl, sym, ap, subst, ◌∙◌, arith}
 use Rattle.std.proofs.lemmas.List.{append-nil, append_assoc}
 use Rattle.rpc_record.specs.declared.stream.Failed.{Failed}
 use Rattle.rpc_record.specs.declared.stream.Failed.TheVariants.{Fault, NoMemory as Wanted}
-use Rattle.rpc_record.specs.Stream.{one_more}
 use Rattle.line_runs.specs.declared.lines.Ended.TheVariants.{Newline, End, Over as RanOver}
 use Rattle.line_runs.specs.declared.end.RunEnd.{RunEnd}
 use Rattle.line_runs.specs.declared.end.RunEnd.TheVariants.{Done, BadLine, ReadFault, WriteFault, NoMemory, Limit}
 use Rattle.line_runs.specs.Lines.{Line, Over, cut_line, ended_lines, script_lines, Drawn, ReadsLine, CutsLine}
 use Rattle.line_runs.specs.Writing.{IsBeginningOf, WritesText}
-use Rattle.line_runs.specs.Runs.{RunEffect, at_end, after_text, whole_text, LinesMeaning, HasRead}
-use Rattle.line_runs.specs.Tasks.{TaskValue, Ahead, IsAtEnd, IsOutside, IsAtLimit}
-use Rattle.line_runs.specs.Playback.{RunState, with_text, Stand, stand, at_line, lines_by, lines_ahead, effect_ahead, state_ahead, over_ahead, text_ahead, Owes, OwesPart, GoesOn, Fails, OwesRead, Passes, EndsBy, LinesEnd, Stops, closed_text, is_of_lines, PlaybackSteps, Finishes, PlaysAll, ClosesRun, AdvancesLine, Halts, Breaks, LinePlays, LastPlays}
+use Rattle.line_runs.specs.Runs.{RunEffect, at_end, after_text, whole_text}
+use Rattle.line_runs.specs.Tasks.{TaskValue, IsAtEnd, IsOutside, IsAtLimit}
+use Rattle.line_runs.specs.Playback.{RunState, with_text, Stand, stand, at_line, lines_by, lines_ahead, effect_ahead, state_ahead, over_ahead, text_ahead, Owes, OwesPart, GoesOn, OwesRead, EndsBy, LinesEnd, PlaybackSteps, AdvancesLine, Halts, Breaks, LinePlays, LastPlays}
 use Rattle.line_runs.proofs.LineLemmas.{cut_more-line, cut_more-over, script_line, line_length, script_end, script_last, script_over, over_lines, last_length, ended_line, ended_last}
-use Rattle.line_runs.proofs.OweLemmas.{owes_same, owes_as, owes_again, owes_part, owes_all, whole_part, wrote_owes, wrote_all, wrote_some, wrote_part, broke_off, some_is, owes_on, part_on, part_more, part_less, begins_more, begins_whole, owes_whole}
-use Rattle.line_runs.proofs.StepLemmas.{text_again}
+use Rattle.line_runs.proofs.OweLemmas.{owes_same, owes_as, owes_part, whole_part, wrote_owes, broke_off, part_more, begins_more, owes_whole}
 
 -- the run has gone on for some steps
 abbrev pub Went : {State : Type 0} → Option (List ℕ) → Option (List ℕ) → Stand State → Option (List ℕ) → Option (List ℕ) → Stand State → Type 0

@@ -1,15 +1,14 @@
 -- How a line goes on from step to step.
 use Rattle.std.proofs.Common.{◌≡◌, ℕ, ◌+◌, ◌-◌, ◌<◌, List, [], ◌∷◌, ◌++◌, length, arith, Option, Some, None, Result, Ok, Err, refl, sym, ap, subst, ◌∙◌}
-use Rattle.std.proofs.lemmas.List.{append-nil, append_assoc}
+use Rattle.std.proofs.lemmas.List.{append_assoc}
 use Rattle.ff_xdr.specs.declared.error.NoMemory.{NoMemory as WantsMemory}
 use Rattle.rpc_record.specs.declared.stream.Failed.{Failed}
 use Rattle.line_runs.specs.declared.end.RunEnd.{RunEnd}
 use Rattle.line_runs.specs.declared.end.RunEnd.TheVariants.{Done, BadLine, ReadFault, WriteFault, NoMemory, Limit}
 use Rattle.line_runs.specs.declared.end.LineStep.{LineStep}
 use Rattle.line_runs.specs.declared.end.LineStep.TheVariants as step
-use Rattle.line_runs.specs.Writing.{IsBeginningOf}
 use Rattle.line_runs.specs.Runs.{RunEffect, after_text}
-use Rattle.line_runs.specs.Tasks.{TaskValue, Ahead, ahead_of, on_line, Goes, EndsRun, HasPrintedPart, IsOutside, IsAtLimit, StepsFrom, BeginsLine}
+use Rattle.line_runs.specs.Tasks.{TaskValue, ahead_of, on_line, Goes, EndsRun, HasPrintedPart, IsOutside, IsAtLimit, StepsFrom, BeginsLine}
 use Rattle.line_runs.specs.Playback.{RunState, with_text, Stand, stand, at_line, Owes, OwesPart, Relieves, AdvancesLine, Halts, Breaks, LineSteps, LinePlays, LastPlays}
 use Rattle.line_runs.proofs.OweLemmas.{owes_same, owes_as, owes_more, owes_again, whole_part, part_again}
 

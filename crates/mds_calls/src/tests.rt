@@ -1,8 +1,8 @@
 //! Records that were worked out by hand from RFC 8881, RFC 8435 and RFC 5531.
 
 use crate::{
-    FailedMirror, LayoutGrant, MdsAnswer, MdsAsk, MdsCall, MdsReply, OpenFile, SlotReport,
-    SlotCall, fits, mds_reply_of, put_mds_call,
+    FailedMirror, LayoutGrant, MdsAnswer, MdsAsk, MdsCall, MdsReply, OpenFile, SlotCall,
+    SlotReport, fits, mds_reply_of, put_mds_call,
 };
 use cluster_model::{Cred, FileId, Mirror, MirrorId, Mirrors, Tick};
 use device_addr::NetAddr;

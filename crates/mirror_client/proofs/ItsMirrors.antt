@@ -37,9 +37,9 @@ sent_at_mirror w xid place m next at None s is = absurd cc
 sent_at_mirror w xid place m next at (Some call) s is =
     let e : record { writer = with_writer_mirrors w (slice_set w.mirrors place (with_out xid next m)); id = m.id; call = call } ≡ s = cc in
     subst (λ (x : WriterSends). SendsHome w x) e (record {
-  home = any_passes_from_place (nat_eq m.id.server) (writer_servers w) place m.id.server (slice_get-map (λ (x : WriterMirror). x.id.server) w.mirrors place ∙ ap (option_map (λ (x : WriterMirror). x.id.server)) at) (equal m.id.server);
-  same = map-set_same (λ (x : WriterMirror). x.id.server) w.mirrors place (with_out xid next m) m (stays_there xid next m ∙ sym (ap (λ (x : WriterMirror). x.id.server) (get_or_from_slice_get w.mirrors place m m at)));
-})
+      home = any_passes_from_place (nat_eq m.id.server) (writer_servers w) place m.id.server (slice_get-map (λ (x : WriterMirror). x.id.server) w.mirrors place ∙ ap (option_map (λ (x : WriterMirror). x.id.server)) at) (equal m.id.server);
+      same = map-set_same (λ (x : WriterMirror). x.id.server) w.mirrors place (with_out xid next m) m (stays_there xid next m ∙ sym (ap (λ (x : WriterMirror). x.id.server) (get_or_from_slice_get w.mirrors place m m at)));
+    })
 
 sent_next : (w : WriterValue) (xid place : ℕ) (m : WriterMirror) → slice_get w.mirrors place ≡ Some m
     → (next : Option NextCall) (s : WriterSends) → sends_next w xid place m next ≡ Some s → SendsHome w s
@@ -72,7 +72,8 @@ writer_home (suc n) name w xid = by_test (xid == 0) (λ v. writer_home n name v 
     by_sent (Some s) is rest =
         let h = sent_home w xid s is in
         both_true (list_any (nat_eq s.id.server) (writer_servers w)) (list_all (goes_to (writer_servers w)) (writer_calls n name s.writer (xid_after xid)).sends)
-            h.home (subst (λ servers. list_all (goes_to servers) (writer_calls n name s.writer (xid_after xid)).sends ≡ true) h.same (rest s.writer))
+        h.home (subst (λ servers. list_all (goes_to servers) (writer_calls n name s.writer (xid_after xid)).sends ≡ true) h.same (rest s.writer))
+
     by_test : (t : Bool) → ((v : WriterValue) → list_all (goes_to (writer_servers v)) (writer_calls n name v (xid_after xid)).sends ≡ true)
         → list_all (goes_to (writer_servers w)) (if t then sends_nothing w xid else by_next name w xid (next_sent w xid) (writer_calls n name)).sends ≡ true
     by_test true rest = refl
@@ -108,4 +109,4 @@ all_append servers (x ∷ s) t first second = by_test (goes_to servers x) (list_
 pub all_home : (c : ClientValue) → CallsItsMirrors c
 all_home c =
     all_append (layout_servers c.layout) (calls_mirrors c c.layout).sends (calls_mds (calls_mirrors c c.layout).client).sends
-        (mirrors_home c c.layout) (mds_home (layout_servers c.layout) (calls_mirrors c c.layout).client)
+    (mirrors_home c c.layout) (mds_home (layout_servers c.layout) (calls_mirrors c c.layout).client)

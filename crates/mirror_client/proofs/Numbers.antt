@@ -40,6 +40,7 @@ writer_numbered (suc n) name w xid = by_test (xid == 0) refl (λ v. writer_numbe
         → (s : Option WriterSends) → CarryNumbers xid (by_next name w xid s (writer_calls n name)).sends (by_next name w xid s (writer_calls n name)).next_xid
     by_sent some rest None = refl
     by_sent some rest (Some s) = (some, (call_bears (ds_rpc_call xid name w.cred s.call) _, rest s.writer))
+
     by_test : (t : Bool) → (xid == 0) ≡ t → ((v : WriterValue) → CarryNumbers (xid_after xid) (writer_calls n name v (xid_after xid)).sends (writer_calls n name v (xid_after xid)).next_xid)
         → CarryNumbers xid (if t then sends_nothing w xid else by_next name w xid (next_sent w xid) (writer_calls n name)).sends (if t then sends_nothing w xid else by_next name w xid (next_sent w xid) (writer_calls n name)).next_xid
     by_test true is rest = refl
@@ -71,4 +72,4 @@ mds_numbered c = by_test (may_ask c c.asked) refl
 pub all_numbered : (c : ClientValue) → NumbersCalls c
 all_numbered c =
     numbered_append c.next_xid (calls_mirrors c c.layout).client.next_xid (calls_all c).client.next_xid (calls_mirrors c c.layout).sends (calls_mds (calls_mirrors c c.layout).client).sends
-        (mirrors_numbered c c.layout) (mds_numbered (calls_mirrors c c.layout).client)
+    (mirrors_numbered c c.layout) (mds_numbered (calls_mirrors c c.layout).client)

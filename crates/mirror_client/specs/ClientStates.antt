@@ -87,8 +87,21 @@ client_name number = codes "c" ++ decimal number
 -- a new client
 abbrev pub fresh_client : ℕ → ℕ → ℕ → ClientValue
 fresh_client number verifier first_xid = record {
-  number = number; name = client_name number; verifier = verifier; next_xid = first_xid; queue = []; waits = false; tie = NoClient; file = None; layout = None;
-  devices = []; asked = None; again = None; answers = []; told = 0; has_left = false;
+  number = number;
+  name = client_name number;
+  verifier = verifier;
+  next_xid = first_xid;
+  queue = [];
+  waits = false;
+  tie = NoClient;
+  file = None;
+  layout = None;
+  devices = [];
+  asked = None;
+  again = None;
+  answers = [];
+  told = 0;
+  has_left = false;
 }
 
 -- the same client as new: its calls are numbered on, and its requests and answers stay

@@ -39,4 +39,3 @@ is_covered_everywhere w n = list_all (λ (m : WriterMirror). covered_flag (slice
 -- every mirror has failed
 abbrev pub has_no_mirror : WriterValue → Bool
 has_no_mirror w = list_all (λ (m : WriterMirror). m.has_failed) w.mirrors
-

@@ -178,8 +178,8 @@ session_gone = writing ++ Asks (Read 0 1) ∷ Asks Commit ∷ Asks (Open (98 ∷
 abbrev pub session_gone_seen : ClientSeen
 session_gone_seen = record {
   entries =
-    writing_seen.entries ++ answer_entry (answer.Failed failing.Revoked) ∷ answer_entry (answer.Failed (failing.Refused 10020))
-    ∷ answer_entry (answer.Failed (failing.Refused 10020)) ∷ [];
+      writing_seen.entries ++ answer_entry (answer.Failed failing.Revoked) ∷ answer_entry (answer.Failed (failing.Refused 10020))
+      ∷ answer_entry (answer.Failed (failing.Refused 10020)) ∷ [];
   sent_to = writing_seen.sent_to ++ Mds ∷ Mds ∷ [];
   asked = Some ask.ExchangeId;
 }

@@ -260,7 +260,6 @@ impl Shower {
 
 impl LineTask for Shower {
     ghost use Rattle.std.specs.Prelude.{refl};
-
     ghost use Rattle.record_show.specs.Show.{show_budget, show_task};
 
     ghost BUDGET = { show_budget };

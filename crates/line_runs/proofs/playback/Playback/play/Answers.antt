@@ -4,7 +4,7 @@ use Rattle.rpc_record.specs.Stream.{counted}
 use Rattle.rpc_record.specs.declared.stream.Failed.{Failed}
 use Rattle.line_runs.specs.declared.end.RunEnd.{RunEnd}
 use Rattle.line_runs.specs.Playback.{stand, StepFaults}
-use Rattle.line_runs.proofs.EndLemmas.{goes, finishes, finishes_err, went_nowhere}
+use Rattle.line_runs.proofs.EndLemmas.{goes, finishes, finishes_err}
 use Rattle.line_runs.proofs.playback.Playback.play.Goals as goal
 
 pub returns-in_err-end-clause-told : goal.returns-in_err-end-clause-told

@@ -1,4 +1,4 @@
-use Rattle.std.proofs.Common.{◌≡◌, ℕ, ◌<◌, ◌≤◌, sym, subst, arith}
+use Rattle.std.proofs.Common.{ℕ, ◌<◌, sym, subst, arith}
 use Rattle.std.proofs.lemmas.Grind.{common_steps}
 use Rattle.line_runs.specs.Tasks.{EndsRun, IsAtLimit, ahead_of}
 use Rattle.line_runs.specs.Repeats.{repeat_task}
