@@ -1,18 +1,20 @@
 -- What an event leaves of a world.
-use Rattle.std.proofs.Common.{◌≡◌, ℕ, suc, ◌+◌, ◌≤◌, Bool, true, false, if◌then◌else◌, List, [], ◌∷◌, ◌++◌, length, Option, Some, None, refl, sym, ap, subst, ◌∙◌, arith, Result, Ok, Err}
-use Rattle.std.proofs.lemmas.List.{append-nil, append_assoc, length-append}
+use Rattle.std.proofs.Common.{◌≡◌, ℕ, suc, ◌+◌, ◌≤◌, Bool, true, false, if◌then◌else◌, List, [], ◌∷◌, ◌++◌, length, Some, None, refl, sym, ap, subst, ◌∙◌, arith, Result, Ok, Err}
+use Rattle.std.proofs.lemmas.List.{length-append}
 use Rattle.cluster_model.specs.declared.ids.NodeId.{NodeId}
 use Rattle.cluster_model.specs.declared.ids.NodeId.TheVariants.{Server}
 use Rattle.cluster_model.specs.declared.entry.Entry.{Entry}
-use Rattle.cluster_model.specs.declared.entry.Entry.TheVariants.{Packet, Restarted}
-use Rattle.cluster_model.specs.declared.piece.Piece.{Piece}
-use Rattle.cluster_model.specs.Event.{EventValue, Deliver, Restart}
-use Rattle.cluster_model.specs.Server.{ServerState, restart_of}
+use Rattle.cluster_model.specs.Event.{EventValue, Deliver}
+use Rattle.cluster_model.specs.Server.{ServerState}
 use Rattle.ds_files.specs.Receive.{outcome_of}
 use Rattle.ff_world.specs.declared.fault.WorldFault.{WorldFault}
 use Rattle.ff_world.specs.declared.fault.WorldFault.TheVariants.{Limit, NoMemory}
 use Rattle.ff_world.specs.Journal.{is_within}
+<<<<<<< HEAD
 use Rattle.ff_world.specs.World.{WorldState, WorldValue, WorldStep, KeepsJournal, Happens, packets_of, sends_of, deliver_entries, effect_of, no_effect, world_after, step_by_effect, world_step, Occurs, Enters}
+=======
+use Rattle.ff_world.specs.World.{WorldState, WorldValue, WorldStep, IsKept, Happens, packets_of, sends_of, deliver_entries, effect_of, world_after, step_of, world_step, Occurs, Enters}
+>>>>>>> 26d8ad1dd5abce34a954e651a842387699a43b54
 
 -- each record is one packet
 length-packets : (from : NodeId) (sent : ℕ) (sends : List (NodeId × List ℕ)) → length (packets_of from sent sends) ≡ length sends

@@ -104,7 +104,7 @@ impl World {
     #[cfg(test)]
     pub(crate) fn holding(alloc: Global, entries: Vec<Entry>) -> Result<World, WorldFault> {
         let mut world = World::new(alloc, Setup::Bare)?;
-        world.journal.add(entries)?;
+        world.enter(0, entries)?;
         Ok(world)
     }
 

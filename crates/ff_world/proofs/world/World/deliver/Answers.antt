@@ -1,5 +1,4 @@
 use Rattle.std.proofs.Common.{◌≡◌, ◌+◌, ◌≤◌, length, subst, ap, arith}
-use Rattle.cluster_model.specs.declared.ids.NodeId.TheVariants.{Client}
 use Rattle.cluster_model.specs.Event.{Deliver}
 use Rattle.ds_files.specs.Receive.{outcome_of}
 use Rattle.ff_world.specs.World.{WorldValue, Happens, sends_of}
