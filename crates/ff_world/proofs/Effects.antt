@@ -10,11 +10,7 @@ use Rattle.ds_files.specs.Receive.{outcome_of}
 use Rattle.ff_world.specs.declared.fault.WorldFault.{WorldFault}
 use Rattle.ff_world.specs.declared.fault.WorldFault.TheVariants.{Limit, NoMemory}
 use Rattle.ff_world.specs.Journal.{is_within}
-<<<<<<< HEAD
-use Rattle.ff_world.specs.World.{WorldState, WorldValue, WorldStep, KeepsJournal, Happens, packets_of, sends_of, deliver_entries, effect_of, no_effect, world_after, step_by_effect, world_step, Occurs, Enters}
-=======
-use Rattle.ff_world.specs.World.{WorldState, WorldValue, WorldStep, IsKept, Happens, packets_of, sends_of, deliver_entries, effect_of, world_after, step_of, world_step, Occurs, Enters}
->>>>>>> 26d8ad1dd5abce34a954e651a842387699a43b54
+use Rattle.ff_world.specs.World.{WorldState, WorldValue, WorldStep, KeepsJournal, Happens, packets_of, sends_of, deliver_entries, effect_of, world_after, step_by_effect, world_step, Occurs, Enters}
 
 -- each record is one packet
 length-packets : (from : NodeId) (sent : ℕ) (sends : List (NodeId × List ℕ)) → length (packets_of from sent sends) ≡ length sends

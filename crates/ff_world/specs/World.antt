@@ -160,14 +160,14 @@ Happens old event (Err (Limit count)) new = (world_step old event ≡ None) × (
 Happens old event (Err NoMemory) new = KeepsJournal old new
 
 -- these entries stand behind those of the journal, and so many packets were sent
-abbrev pub with_entries : WorldValue → ℕ → List Entry → WorldValue
-with_entries old sent entries = record {
+abbrev pub with_journaled : WorldValue → ℕ → List Entry → WorldValue
+with_journaled old sent entries = record {
   world = record { setup = old.world.setup; server = old.world.server; sent = sent; journal = old.world.journal ++ entries };
   spent = old.spent;
 }
 
 -- How entries were added to the journal of a world: they are; it would pass a limit with them; or memory was wanted.
 abbrev pub Enters : WorldValue → ℕ → List Entry → Result (Unit {0}) WorldFault → WorldValue → Type 0
-Enters old sent entries (Ok x) new = (is_within (old.world.journal ++ entries) ≡ true) × (new ≡ with_entries old sent entries)
+Enters old sent entries (Ok x) new = (is_within (old.world.journal ++ entries) ≡ true) × (new ≡ with_journaled old sent entries)
 Enters old sent entries (Err (Limit count)) new = (is_within (old.world.journal ++ entries) ≡ false) × (count ≡ length old.world.journal) × (new ≡ old)
 Enters old sent entries (Err NoMemory) new = new ≡ old
