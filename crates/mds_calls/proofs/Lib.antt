@@ -1,5 +1,6 @@
 pub mod Numbers
 pub mod Addresses
-pub mod FewLemmas
+pub mod ManyLemmas
 pub mod Reports
+pub mod Sliced
 pub mod MdsCallsAgain

@@ -49,7 +49,8 @@ const BACK: ChannelAttrs = ChannelAttrs {
 pub fn put_create_session(clientid: u64, sequence: u32, out: &mut Out) -> Result<(), NoMemory>
     ensures { Puts out.old result out.new (compound_args (create_session_op clientid sequence ∷ [])) }
 {
-    let security = [CallbackSec::None];
+    let flavors = [CallbackSec::None];
+    let security = Items::made(&flavors);
     let args = CreateSessionArgs {
         clientid,
         sequence,
@@ -57,9 +58,7 @@ pub fn put_create_session(clientid: u64, sequence: u32, out: &mut Out) -> Result
         fore: FORE,
         back: BACK,
         cb_program: CALLBACK_PROGRAM,
-        security: Array {
-            items: Items::made(&security),
-        },
+        security: Array { items: security },
     };
     put_ops(&[Op::CreateSession(args)], out)?;
     Ok(())

@@ -1,6 +1,6 @@
 //! GETDEVICEINFO of the devices of data servers (RFC 8881, section 18.40; RFC 8435, section 4.1).
 
-ghost use Rattle.std.specs.Prelude.{◌≡◌, ◌≤◌, ◌&&◌, [], length, map, if◌then◌else◌};
+ghost use Rattle.std.specs.Prelude.{◌≡◌, ◌≤◌, ◌&&◌, [], ◌∷◌, length, map, if◌then◌else◌};
 ghost use Rattle.std.specs.List.{flat_map};
 ghost use Rattle.std.specs.Option.{option_map, option_to_list};
 ghost use Rattle.ff_xdr.specs.Form.{Fits};
@@ -19,6 +19,7 @@ ghost use Rattle.mds_calls.specs.MdsReplies.{Devices, answer_where, device_addre
 ghost use Rattle.mds_calls.specs.MdsResults.{sequence_ok};
 
 use crate::ops::{FLEX_FILES, Start, put_ops, sequence_op};
+use crate::renew::put_renew;
 use crate::reply::MdsAnswer;
 use crate::results::{Few, Results, few_of, odd_results, sequence_ok, whole_message};
 use device_addr::{FfDeviceAddr, NetAddr, NetText, parse_universal};
@@ -45,39 +46,63 @@ fn device_info_op<'a>(server: u32) -> Op<'a>
     })
 }
 
+/// Appends the arguments for one data server, or nothing.
+fn put_one(start: Start, a: u32, out: &mut Out) -> Result<(), NoMemory>
+    ensures { Puts out.old result out.new (compound_args (mds_ops [] (OnSlot start.session start.sequence (DeviceInfo (a ∷ []))))) }
+{
+    let s = sequence_op(start, true);
+    let a = device_info_op(a);
+    put_ops(&[s, a], out)?;
+    Ok(())
+}
+
+/// Appends the arguments for two data servers, or nothing.
+fn put_two(start: Start, a: u32, b: u32, out: &mut Out) -> Result<(), NoMemory>
+    ensures { Puts out.old result out.new (compound_args (mds_ops [] (OnSlot start.session start.sequence (DeviceInfo (a ∷ b ∷ []))))) }
+{
+    let s = sequence_op(start, true);
+    let a = device_info_op(a);
+    let b = device_info_op(b);
+    put_ops(&[s, a, b], out)?;
+    Ok(())
+}
+
+/// Appends the arguments for three data servers, or nothing.
+fn put_three(start: Start, a: u32, b: u32, c: u32, out: &mut Out) -> Result<(), NoMemory>
+    ensures { Puts out.old result out.new (compound_args (mds_ops [] (OnSlot start.session start.sequence (DeviceInfo (a ∷ b ∷ c ∷ []))))) }
+{
+    let s = sequence_op(start, true);
+    let a = device_info_op(a);
+    let b = device_info_op(b);
+    let c = device_info_op(c);
+    put_ops(&[s, a, b, c], out)?;
+    Ok(())
+}
+
+/// Appends the arguments for four data servers, or nothing.
+fn put_four(start: Start, a: u32, b: u32, c: u32, d: u32, out: &mut Out) -> Result<(), NoMemory>
+    ensures { Puts out.old result out.new (compound_args (mds_ops [] (OnSlot start.session start.sequence (DeviceInfo (a ∷ b ∷ c ∷ d ∷ []))))) }
+{
+    let s = sequence_op(start, true);
+    let a = device_info_op(a);
+    let b = device_info_op(b);
+    let c = device_info_op(c);
+    let d = device_info_op(d);
+    put_ops(&[s, a, b, c, d], out)?;
+    Ok(())
+}
+
 /// Appends the arguments of the compound, or nothing.
 pub fn put_device_info(start: Start, servers: &[u32], out: &mut Out) -> Result<(), NoMemory>
     requires { length servers.now ≤ 4 }
     ensures { Puts out.old result out.new (compound_args (mds_ops [] (OnSlot start.session start.sequence (DeviceInfo servers.now)))) }
 {
-    let s = sequence_op(start, true);
     match servers {
-        [] => {
-            put_ops(&[s], out)?;
-            Ok(())
-        }
-        [a] => {
-            put_ops(&[s, device_info_op(*a)], out)?;
-            Ok(())
-        }
-        [a, b] => {
-            put_ops(&[s, device_info_op(*a), device_info_op(*b)], out)?;
-            Ok(())
-        }
-        [a, b, c] => {
-            let a = device_info_op(*a);
-            let b = device_info_op(*b);
-            let c = device_info_op(*c);
-            put_ops(&[s, a, b, c], out)?;
-            Ok(())
-        }
-        [a, b, c, d] => {
-            let a = device_info_op(*a);
-            let b = device_info_op(*b);
-            let c = device_info_op(*c);
-            put_ops(&[s, a, b, c, device_info_op(*d)], out)?;
-            Ok(())
-        }
+        [] => put_renew(start, out),
+        [a] => put_one(start, *a, out),
+        [a, b] => put_two(start, *a, *b, out),
+        [a, b, c] => put_three(start, *a, *b, *c, out),
+        [a, b, c, d] => put_four(start, *a, *b, *c, *d, out),
         _ => unreachable!(),
     }
 }

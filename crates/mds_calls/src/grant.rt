@@ -136,7 +136,9 @@ fn layout_grant_of(stateid: Stateid, layout: &FfLayout<'_>) -> Option<LayoutGran
                 &[a, under(uid, &b)?, under(uid, &c)?, under(uid, &d)?],
             )
         }
-        Few::Empty | Few::Five(..) | Few::More => None,
+        Few::Empty => None,
+        Few::Five(..) => None,
+        Few::More => None,
     }
 }
 

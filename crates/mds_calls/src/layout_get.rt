@@ -47,12 +47,10 @@ pub fn put_layout_get(start: Start, file: OpenFile, out: &mut Out) -> Result<(),
     ensures { Puts out.old result out.new (compound_args (mds_ops [] (OnSlot start.session start.sequence (LayoutGet file)))) }
 {
     let handle = handle_of(file.file);
-    let ops = [
-        sequence_op(start, true),
-        Op::PutFh(Handle4 { bytes: &handle }),
-        layout_get_op(file.stateid),
-    ];
-    put_ops(&ops, out)?;
+    let s = sequence_op(start, true);
+    let p = Op::PutFh(Handle4 { bytes: &handle });
+    let l = layout_get_op(file.stateid);
+    put_ops(&[s, p, l], out)?;
     Ok(())
 }
 

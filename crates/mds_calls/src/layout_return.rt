@@ -30,8 +30,8 @@ use std::alloc::Global;
 const WRITE: u32 = 38;
 
 /// The error at the device of a mirror.
-fn device_error(mirror: &FailedMirror) -> DeviceError
-    ensures value { device_error4_value result ≡ ((device_id_of mirror.now.server).0, (mirror.now.status, 38)) }
+fn device_error(mirror: FailedMirror) -> DeviceError
+    ensures value { device_error4_value result ≡ ((device_id_of mirror.server).0, (mirror.status, 38)) }
     ensures fits { Fits device_error4 (device_error4_value result) }
 {
     DeviceError {
@@ -46,7 +46,7 @@ fn device_error(mirror: &FailedMirror) -> DeviceError
 fn put_error(stateid: Stateid, mirror: &FailedMirror, out: &mut Out) -> Result<(), NoMemory>
     ensures { Grows out.old result out.new (spelling ff_ioerr4 (io_error_of stateid mirror.now)) }
 {
-    let errors = [device_error(mirror)];
+    let errors = [device_error(*mirror)];
     let error = IoErr {
         offset: 0,
         length: u64::MAX,
@@ -101,15 +101,14 @@ pub fn put_layout_return(
     requires { length failed.now ≤ 4 }
     ensures { Puts out.old result out.new (compound_args (mds_ops [] (OnSlot start.session start.sequence (Return file stateid failed.now)))) }
 {
-    let mut body = Out::new(alloc);
-    put_report(stateid, failed, &mut body)?;
+    let mut report = Out::new(alloc);
+    put_report(stateid, failed, &mut report)?;
+    let body = report.bytes();
     let handle = handle_of(file);
-    let ops = [
-        sequence_op(start, true),
-        Op::PutFh(Handle4 { bytes: &handle }),
-        layout_return_op(stateid, body.bytes()),
-    ];
-    put_ops(&ops, out)?;
+    let s = sequence_op(start, true);
+    let p = Op::PutFh(Handle4 { bytes: &handle });
+    let l = layout_return_op(stateid, body);
+    put_ops(&[s, p, l], out)?;
     Ok(())
 }
 

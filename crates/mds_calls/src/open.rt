@@ -64,13 +64,9 @@ pub fn put_open<'a>(
     requires name { length name.now < 2 ^ 32 }
     ensures { Puts out.old result out.new (compound_args (mds_ops owner.now (OnSlot start.session start.sequence (Open name.now)))) }
 {
-    let ops = [
-        sequence_op(start, true),
-        Op::PutRootFh,
-        open_op(owner, name),
-        Op::GetFh,
-    ];
-    put_ops(&ops, out)?;
+    let s = sequence_op(start, true);
+    let o = open_op(owner, name);
+    put_ops(&[s, Op::PutRootFh, o, Op::GetFh], out)?;
     Ok(())
 }
 

@@ -46,12 +46,10 @@ pub fn put_read(
     ensures { Puts out.old result out.new (compound_args (mds_ops [] (OnSlot start.session start.sequence (Read file at count)))) }
 {
     let handle = handle_of(file.file);
-    let ops = [
-        sequence_op(start, false),
-        Op::PutFh(Handle4 { bytes: &handle }),
-        read_op(file.stateid, at, count),
-    ];
-    put_ops(&ops, out)?;
+    let s = sequence_op(start, false);
+    let p = Op::PutFh(Handle4 { bytes: &handle });
+    let r = read_op(file.stateid, at, count);
+    put_ops(&[s, p, r], out)?;
     Ok(())
 }
 

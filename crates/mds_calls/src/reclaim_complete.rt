@@ -20,7 +20,8 @@ use nfs4_file_ops::OpResult;
 pub fn put_reclaim_complete(start: Start, out: &mut Out) -> Result<(), NoMemory>
     ensures { Puts out.old result out.new (compound_args (mds_ops [] (OnSlot start.session start.sequence ReclaimComplete))) }
 {
-    put_ops(&[sequence_op(start, true), Op::ReclaimComplete(false)], out)?;
+    let s = sequence_op(start, true);
+    put_ops(&[s, Op::ReclaimComplete(false)], out)?;
     Ok(())
 }
 

@@ -17,7 +17,8 @@ use ff_xdr::{NoMemory, Out};
 pub fn put_renew(start: Start, out: &mut Out) -> Result<(), NoMemory>
     ensures { Puts out.old result out.new (compound_args (mds_ops [] (OnSlot start.session start.sequence Renew))) }
 {
-    put_ops(&[sequence_op(start, true)], out)?;
+    let s = sequence_op(start, true);
+    put_ops(&[s], out)?;
     Ok(())
 }
 

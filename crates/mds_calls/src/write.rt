@@ -46,12 +46,10 @@ pub fn put_write(
     ensures { Puts out.old result out.new (compound_args (mds_ops [] (OnSlot start.session start.sequence (Write file at bytes.now)))) }
 {
     let handle = handle_of(file.file);
-    let ops = [
-        sequence_op(start, true),
-        Op::PutFh(Handle4 { bytes: &handle }),
-        write_op(file.stateid, at, bytes),
-    ];
-    put_ops(&ops, out)?;
+    let s = sequence_op(start, true);
+    let p = Op::PutFh(Handle4 { bytes: &handle });
+    let w = write_op(file.stateid, at, bytes);
+    put_ops(&[s, p, w], out)?;
     Ok(())
 }
 

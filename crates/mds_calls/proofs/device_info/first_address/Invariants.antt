@@ -10,4 +10,4 @@ abbrev pub invariant-loop-address : goal.invariant-loop-address
 invariant-loop-address l =
     (goal.iterator-loop-address).can_next l.address-iterator
     × (goal.iterator-loop-address).is_finite l.address-iterator
-    × (first_address (contents netaddr4 netaddr4_value l.address-iterator.rest) ≡ first_address (contents netaddr4 netaddr4_value l.addresses.place))
+    × (first_address (contents netaddr4 netaddr4_value l.address-iterator.rest) ≡ first_address (contents netaddr4 netaddr4_value l.fn.addresses.place))
