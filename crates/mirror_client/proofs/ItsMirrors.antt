@@ -1,5 +1,5 @@
 -- Calls to data servers go to the mirrors of the layout.
-use Rattle.std.proofs.Common.{◌≡◌, ℕ, zero, suc, Bool, true, false, List, [], ◌∷◌, ◌++◌, map, set, get_or, Option, Some, None, refl, sym, ap, ◌∙◌, subst}
+use Rattle.std.proofs.Common.{◌≡◌, ℕ, zero, suc, Bool, true, false, List, [], ◌∷◌, ◌++◌, Option, Some, None, refl, sym, ap, ◌∙◌, subst}
 use Rattle.std.specs.Prelude.{◌==◌, nat_eq, if◌then◌else◌, ◌&&◌, slice_get, slice_set, option_map}
 use Rattle.std.specs.List.{list_all, list_any}
 use Rattle.std.proofs.Math.Seq.{map-set_same}
@@ -13,7 +13,7 @@ use Rattle.mirror_writer.specs.Writers.{WriterValue, WriterMirror, WriterSends, 
 use Rattle.mds_calls.specs.declared.ask.MdsAsk.{MdsAsk}
 use Rattle.mds_calls.specs.MdsCalls.{MdsCallValue}
 use Rattle.mirror_client.specs.ClientStates.{LayoutValue, ClientValue}
-use Rattle.mirror_client.specs.ClientCalls.{SendValue, ClientStep, xid_after, writer_calls, by_next, sends_nothing, calls_mirrors, may_ask, asks, asks_as, sends_none, due_ask, call_by_ask, calls_mds, calls_all}
+use Rattle.mirror_client.specs.ClientCalls.{SendValue, xid_after, writer_calls, by_next, sends_nothing, calls_mirrors, may_ask, asks, asks_as, sends_none, due_ask, call_by_ask, calls_mds}
 use Rattle.mirror_client.specs.ClientLaws.{writer_servers, layout_servers, goes_to, CallsItsMirrors}
 
 server_of : WriterMirror → ℕ

@@ -1,18 +1,17 @@
 -- The calls at the end of an event are numbered on.
 use Rattle.std.proofs.Common.{◌≡◌, ◌≢◌, ℕ, zero, suc, Bool, true, false, List, [], ◌∷◌, ◌++◌, Option, Some, None, refl, sym, ap, ◌∙◌, subst}
-use Rattle.std.specs.Prelude.{not, ◌==◌, if◌then◌else◌, length}
+use Rattle.std.specs.Prelude.{not, ◌==◌, if◌then◌else◌}
 use Rattle.std.proofs.lemmas.List.{append_assoc}
 use Rattle.ff_xdr.specs.Form.{word, spelling}
 use Rattle.rpc_record.specs.Calls.{RpcCall, call_bytes, call_body, body_value}
 use Rattle.cluster_model.specs.declared.ids.NodeId.{NodeId}
-use Rattle.cluster_model.specs.DsCalls.{DsCallValue}
 use Rattle.mirror_writer.specs.Writers.{WriterValue, WriterSends, next_sent}
 use Rattle.ds_calls.specs.MadeCalls.{ds_rpc_call}
 use Rattle.mds_calls.specs.declared.ask.MdsAsk.{MdsAsk}
 use Rattle.mds_calls.specs.MdsCalls.{MdsCallValue}
 use Rattle.mds_calls.specs.MdsCompounds.{mds_rpc_call}
 use Rattle.mirror_client.specs.ClientStates.{LayoutValue, AskedValue, ClientValue}
-use Rattle.mirror_client.specs.ClientCalls.{SendValue, ClientStep, xid_after, writer_calls, by_next, sends_nothing, calls_mirrors, may_ask, asks, asks_as, sends_none, due_ask, call_by_ask, calls_mds, calls_all}
+use Rattle.mirror_client.specs.ClientCalls.{SendValue, xid_after, writer_calls, by_next, sends_nothing, calls_mirrors, may_ask, asks, asks_as, sends_none, due_ask, call_by_ask, calls_mds, calls_all}
 use Rattle.mirror_client.specs.ClientLaws.{BearsNumber, CarryNumbers, SendsNumbered, NumbersCalls}
 
 not_both : false ≡ true → ⊥

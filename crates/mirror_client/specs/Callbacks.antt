@@ -24,7 +24,7 @@ use Rattle.nfs4_compound.specs.Behind.{behind_arms}
 use Rattle.nfs4_compound.specs.CbArgs.{cb_argop4}
 use Rattle.nfs4_compound.specs.CbResults.{cb_resop4}
 use Rattle.nfs4_compound.specs.Compounds.{CbCompoundValue, cb_compound_at, cb_compound4_res}
-use Rattle.nfs4_compound.specs.Operations.{OpList, rest_of_stop}
+use Rattle.nfs4_compound.specs.Operations.{rest_of_stop}
 use Rattle.mirror_client.specs.ClientStates.{SessionValue, TieValue, HasSession, LayoutValue, ClientValue}
 use Rattle.mirror_client.specs.ClientQueue.{with_layout, ending}
 

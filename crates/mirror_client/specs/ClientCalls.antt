@@ -1,6 +1,6 @@
 -- What a client sends at the end of an event: first the calls to data servers, by the place of the mirror in the layout, then a
 -- compound to the metadata server.
-use Rattle.std.specs.Prelude.{ℕ, zero, suc, ◌+◌, ◌-◌, Bool, true, false, ◌&&◌, ◌||◌, not, ◌==◌, nat_le, List, [], ◌∷◌, ◌++◌, length, Option, Some, None, if◌then◌else◌}
+use Rattle.std.specs.Prelude.{ℕ, zero, suc, ◌+◌, Bool, true, false, ◌&&◌, ◌||◌, not, ◌==◌, List, [], ◌∷◌, ◌++◌, length, Option, Some, None, if◌then◌else◌}
 use Rattle.cluster_model.specs.declared.ids.NodeId.{NodeId}
 use Rattle.cluster_model.specs.declared.ids.NodeId.TheVariants.{Mds, Server}
 use Rattle.cluster_model.specs.declared.ids.Mirror.{Mirror}
@@ -16,8 +16,8 @@ use Rattle.mds_calls.specs.MdsCalls as slot
 use Rattle.mds_calls.specs.MdsCompounds.{mds_call_bytes}
 use Rattle.mirror_client.specs.declared.stage.LayoutStage.{LayoutStage}
 use Rattle.mirror_client.specs.declared.stage.LayoutStage.TheVariants.{Writing, Ending, Deferred, Returning}
-use Rattle.mirror_client.specs.ClientStates.{RequestValue, Open, Write, Through, Commit, Read, Return, SessionValue, TieValue, NoClient, HasClient, HasSession, LayoutValue, AskedValue, ClientValue, ClientRun}
-use Rattle.mirror_client.specs.ClientQueue.{with_layout, is_writing, is_none_of, unknown_servers, run_queue}
+use Rattle.mirror_client.specs.ClientStates.{RequestValue, Open, Write, Through, Read, TieValue, NoClient, HasClient, HasSession, LayoutValue, AskedValue, ClientValue, ClientRun}
+use Rattle.mirror_client.specs.ClientQueue.{is_writing, unknown_servers, run_queue}
 use Rattle.mirror_client.specs.Outstanding.{has_no_mirror}
 
 -- a record for a node

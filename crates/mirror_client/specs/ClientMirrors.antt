@@ -1,6 +1,6 @@
 -- What the answers of data servers come to for a client, and timeouts of its calls to them (RFC 8435, sections 5 and 8).
-use Rattle.std.specs.Prelude.{ℕ, ◌+◌, Bool, true, false, ◌&&◌, not, ◌==◌, nat_lt, List, [], ◌∷◌, ◌++◌, length, map, position, Option, Some, None, slice_get, slice_set, if◌then◌else◌}
-use Rattle.std.specs.List.{list_all, filter, find}
+use Rattle.std.specs.Prelude.{ℕ, ◌+◌, not, ◌==◌, nat_lt, List, [], ◌∷◌, ◌++◌, length, position, Option, Some, None, slice_get, slice_set, if◌then◌else◌}
+use Rattle.std.specs.List.{filter}
 use Rattle.cluster_model.specs.declared.ids.NodeId.TheVariants.{Client}
 use Rattle.cluster_model.specs.declared.ids.Mirror.{Mirror}
 use Rattle.cluster_model.specs.declared.ids.MirrorId.{MirrorId}
@@ -11,11 +11,9 @@ use Rattle.cluster_model.specs.declared.entry.Entry.TheVariants.{Told, TimedOut}
 use Rattle.cluster_model.specs.DsCalls.{DsCallValue, Commit, DsReplyValue}
 use Rattle.cluster_model.specs.Journal.{is_mirror}
 use Rattle.mirror_writer.specs.declared.call.TakenWrite.{TakenWrite}
-use Rattle.mirror_writer.specs.declared.call.WriterCall.{WriterCall}
-use Rattle.mirror_writer.specs.declared.call.WriterCall.TheVariants.{NoCall, OutWrite, OutCommit}
 use Rattle.mirror_writer.specs.declared.step.WriterStep.{WriterStep}
 use Rattle.mirror_writer.specs.declared.step.WriterStep.TheVariants as step
-use Rattle.mirror_writer.specs.Writers.{WriterValue, WriterMirror, WriterAfter, after_reply, after_timeout, covered_flag, write_of_taken}
+use Rattle.mirror_writer.specs.Writers.{WriterValue, WriterAfter, after_reply, after_timeout}
 use Rattle.mirror_client.specs.Outstanding.{OutCall, out_at, is_covered_everywhere, has_no_mirror}
 use Rattle.mds_calls.specs.declared.call.OpenFile.{OpenFile}
 use Rattle.mirror_client.specs.ClientStates.{LayoutValue, ClientValue, ClientRun, unmoved, followed_by}

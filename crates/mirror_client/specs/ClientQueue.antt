@@ -1,6 +1,6 @@
 -- What a client does for its user's requests, in order, as far as it can by itself.
-use Rattle.std.specs.Prelude.{ℕ, ◌+◌, Bool, true, false, ◌&&◌, ◌||◌, not, nat_lt, List, [], ◌∷◌, ◌++◌, length, map, drop, Option, Some, None, if◌then◌else◌}
-use Rattle.std.specs.List.{list_all, list_any, filter}
+use Rattle.std.specs.Prelude.{ℕ, ◌+◌, Bool, true, false, ◌||◌, not, nat_lt, List, [], ◌∷◌, ◌++◌, length, map, Option, Some, None, if◌then◌else◌}
+use Rattle.std.specs.List.{filter}
 use Rattle.nfs4_types.specs.declared.ids.DeviceId.{DeviceId}
 use Rattle.nfs4_types.specs.Ids.{device_id_of}
 use Rattle.device_addr.specs.declared.net_addr.NetAddr.{NetAddr}
@@ -10,7 +10,6 @@ use Rattle.cluster_model.specs.declared.answer.UserAnswer.{UserAnswer}
 use Rattle.cluster_model.specs.declared.answer.UserAnswer.TheVariants as answer
 use Rattle.cluster_model.specs.declared.answer.FailCause.{FailCause}
 use Rattle.cluster_model.specs.declared.answer.FailCause.TheVariants as failing
-use Rattle.cluster_model.specs.declared.entry.Entry.{Entry}
 use Rattle.cluster_model.specs.declared.entry.Entry.TheVariants.{Sent, Answer}
 use Rattle.mirror_writer.specs.Writers.{WriterValue, overlaps_taken, with_write, commit_wanted}
 use Rattle.mds_calls.specs.declared.call.OpenFile.{OpenFile}

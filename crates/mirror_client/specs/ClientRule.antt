@@ -1,5 +1,5 @@
 -- The rule of a client of the cluster: what each event leaves of it, what it enters into the journal, and what it sends.
-use Rattle.std.specs.Prelude.{ℕ, ◌+◌, ◌-◌, Bool, true, false, ◌&&◌, ◌||◌, not, ◌==◌, nat_le, List, [], ◌∷◌, ◌++◌, Option, Some, None, Result, Ok, Err, if◌then◌else◌, slice_get}
+use Rattle.std.specs.Prelude.{ℕ, ◌+◌, ◌-◌, Bool, true, false, ◌&&◌, ◌||◌, ◌==◌, nat_le, List, [], ◌∷◌, ◌++◌, Option, Some, None, Result, Ok, Err, if◌then◌else◌, slice_get}
 use Rattle.ff_xdr.specs.declared.error.XdrError.{XdrError}
 use Rattle.rpc_record.specs.Calls.{call_at}
 use Rattle.rpc_record.specs.Replies.{RpcReply, reply_at, reply_bytes}
@@ -17,11 +17,10 @@ use Rattle.mds_calls.specs.declared.ask.MdsAsk.{MdsAsk}
 use Rattle.mds_calls.specs.declared.ask.MdsAsk.TheVariants as ask
 use Rattle.mds_calls.specs.MdsReplies.{MdsReplyValue, reply_of_ask}
 use Rattle.mirror_client.specs.declared.stage.LayoutStage.{LayoutStage}
-use Rattle.mirror_client.specs.declared.stage.LayoutStage.TheVariants.{Writing, Ending, Deferred, Returning}
-use Rattle.mirror_client.specs.ClientStates.{RequestValue, SessionValue, TieValue, HasSession, LayoutValue, AskedValue, ClientValue, ClientRun, unmoved}
-use Rattle.mirror_client.specs.ClientQueue.{run_queue}
+use Rattle.mirror_client.specs.declared.stage.LayoutStage.TheVariants.{Ending, Deferred}
+use Rattle.mirror_client.specs.ClientStates.{RequestValue, TieValue, HasSession, LayoutValue, AskedValue, ClientValue}
 use Rattle.mirror_client.specs.ClientMirrors.{TimeoutRun, ds_answered, ds_timed_out}
-use Rattle.mirror_client.specs.ClientCalls.{SendValue, ClientStep, sends_none, and_then, run_then, calls_all, asks, may_ask, ends_event, xid_after}
+use Rattle.mirror_client.specs.ClientCalls.{SendValue, ClientStep, sends_none, and_then, run_then, asks, may_ask, ends_event, xid_after}
 use Rattle.mirror_client.specs.ClientAnswers.{mds_answered}
 use Rattle.mirror_client.specs.Callbacks.{CbReply, callback_of}
 

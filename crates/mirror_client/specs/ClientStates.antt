@@ -1,5 +1,5 @@
 -- What a client of the cluster has (RFC 8881, sections 2.4, 2.10 and 12; RFC 8435, sections 5 to 8).
-use Rattle.std.specs.Prelude.{ℕ, Bool, true, false, List, [], ◌∷◌, ◌++◌, codes, decimal, Option, Some, None}
+use Rattle.std.specs.Prelude.{ℕ, Bool, false, List, [], ◌++◌, codes, decimal, Option, None}
 use Rattle.nfs4_types.specs.declared.ids.SessionId.{SessionId}
 use Rattle.nfs4_types.specs.declared.ids.DeviceId.{DeviceId}
 use Rattle.nfs4_types.specs.declared.stateid.Stateid.{Stateid}

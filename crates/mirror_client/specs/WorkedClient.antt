@@ -1,11 +1,8 @@
 -- Runs of a client that are worked out by hand: a file's whole conversation, and each way in which a layout is lost.
-use Rattle.std.specs.Prelude.{ℕ, ◌+◌, true, false, List, [], ◌∷◌, ◌++◌, replicate, Option, Some, None}
-use Rattle.std.proofs.Common.{inl, inr}
+use Rattle.std.specs.Prelude.{ℕ, ◌+◌, true, List, [], ◌∷◌, ◌++◌, replicate, Some, None}
 use Rattle.nfs4_types.specs.declared.ids.SessionId.{SessionId}
-use Rattle.nfs4_types.specs.declared.stateid.Stateid.{Stateid}
 use Rattle.nfs4_types.specs.Stateids.{layout_stateid_of, open_stateid_of}
 use Rattle.device_addr.specs.declared.net_addr.NetAddr.{NetAddr}
-use Rattle.cluster_model.specs.declared.ids.NodeId.{NodeId}
 use Rattle.cluster_model.specs.declared.ids.NodeId.TheVariants.{Mds, Server, Client}
 use Rattle.cluster_model.specs.declared.ids.FileId.{FileId}
 use Rattle.cluster_model.specs.declared.ids.Mirror.{Mirror}
@@ -20,7 +17,7 @@ use Rattle.mds_calls.specs.declared.ask.MdsAsk.TheVariants as ask
 use Rattle.mds_calls.specs.declared.reply.LayoutGrant.{LayoutGrant}
 use Rattle.mds_calls.specs.declared.reply.SlotReport.TheVariants.{Taken, Uncached, Delayed, Unknown}
 use Rattle.mds_calls.specs.MdsReplies as says
-use Rattle.mirror_client.specs.ClientStates.{Open, Write, Through, Commit, Read, Return, ClientValue, fresh_client}
+use Rattle.mirror_client.specs.ClientStates.{Open, Write, Commit, Read, ClientValue, fresh_client}
 use Rattle.mirror_client.specs.ClientRuns.{ClientEvent, Asks, MdsSays, DsSays, TimesOut, Ticks, ClientSeen}
 
 -- ---- who takes part

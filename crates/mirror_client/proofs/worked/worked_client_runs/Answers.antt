@@ -1,5 +1,4 @@
 use Rattle.std.proofs.Common.{refl}
-use Rattle.std.specs.Int.{to_be_bytes}
 use Rattle.ff_xdr.specs.Form.{long, word}
 use Rattle.mirror_client.proofs.worked.worked_client_runs.Goals as goal
 
