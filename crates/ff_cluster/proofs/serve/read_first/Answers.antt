@@ -43,3 +43,9 @@ returns-in-Ok-Newline-clause-drawn g c =
     let left = g.S.Source.left in
     let read = subst (λ (ended : Ended). ReadsLine (max_line + 1) [] (left c.args.source.now) (Ok ended) c.read_line.new.line.items c.read_line.new.self (left c.read_line.new.source)) c.in-Ok-Newline.field-0-is (rw c.in-Ok.ensures at c.in-Ok-Newline.ensures.told) in
     draws_newline (left c.args.source.now) (left c.read_line.new.source) c.read_line.new.line.items c.read_line.new.self c.config_in.result read (rw c.deref.ensures.value at c.config_in.ensures)
+
+pub returns-clause-drawn : goal.returns-clause-drawn
+returns-clause-drawn g c =
+    let left = g.S.Source.left in
+    let read = subst (λ (ended : Ended). ReadsLine (max_line + 1) [] (left c.args.source.now) (Ok ended) c.read_line.new.line.items c.read_line.new.self (left c.read_line.new.source)) c.in-Ok-End.field-0-is (rw c.in-Ok.ensures at c.in-Ok-End.ensures.told) in
+    draws_end (left c.args.source.now) (left c.read_line.new.source) c.read_line.new.line.items c.read_line.new.self c.config_in-in-Ok-End.result read (rw c.deref-in-Ok-End.ensures.value at c.config_in-in-Ok-End.ensures)
