@@ -1,7 +1,9 @@
 -- Runs of a client: events, one after the other, and all that comes of them.
-use Rattle.std.specs.Prelude.{ℕ, List, [], ◌∷◌, map, Option}
+use Rattle.std.specs.Prelude.{ℕ, List, [], ◌∷◌, map, Option, None}
 use Rattle.std.specs.Option.{option_map}
-use Rattle.rpc_record.specs.Calls.{RpcCall}
+use Rattle.ff_xdr.specs.Form.{Value}
+use Rattle.nfs4_compound.specs.declared.stop.Stop.TheVariants.{End}
+use Rattle.nfs4_compound.specs.CbArgs.{cb_argop4}
 use Rattle.cluster_model.specs.declared.ids.NodeId.{NodeId}
 use Rattle.cluster_model.specs.declared.entry.Entry.{Entry}
 use Rattle.cluster_model.specs.DsCalls.{DsReplyValue}
@@ -9,26 +11,31 @@ use Rattle.mds_calls.specs.declared.ask.MdsAsk.{MdsAsk}
 use Rattle.mds_calls.specs.MdsReplies.{MdsReplyValue}
 use Rattle.mirror_client.specs.ClientStates.{RequestValue, AskedValue, ClientValue}
 use Rattle.mirror_client.specs.ClientCalls.{SendValue, ClientStep, sends_none, and_then}
-use Rattle.mirror_client.specs.Callbacks.{cb_reply, cb_call_answer}
-use Rattle.mirror_client.specs.ClientRule.{unless_left, client_requested, mds_replied, ds_replied, client_timed_out, client_ticked, answers_callback}
+use Rattle.mirror_client.specs.Callbacks.{cb_reply, cb_results, cb_first}
+use Rattle.mirror_client.specs.ClientRule.{unless_left, client_requested, mds_replied, ds_replied, client_timed_out, client_ticked, answers_callback, turned, strays}
 
 -- What may happen to a client, without the bytes of records: a request of its user; the answer to a compound, or to a call of a data
--- server, by its number; a callback; a timeout of its call to a node; a tick at a moment.
+-- server, by its number; a callback under a number; a timeout of its call to a node; a tick at a moment; it leaves the protocol, and
+-- then sends a write to a mirror by its place.
 pub data ClientEvent : Type 0 where
   Asks : (request : RequestValue) → ClientEvent
   MdsSays : (xid : ℕ) (reply : MdsReplyValue) (now : ℕ) → ClientEvent
   DsSays : (server xid : ℕ) (reply : DsReplyValue) → ClientEvent
-  CallsBack : (call : RpcCall) → ClientEvent
+  CallsBack : (xid : ℕ) (ops : List (Value cb_argop4)) → ClientEvent
   TimesOut : (to : NodeId) → ClientEvent
   Ticks : (now : ℕ) → ClientEvent
+  Leaves : ClientEvent
+  Strays : (place at : ℕ) (bytes : List ℕ) → ClientEvent
 
 abbrev pub client_step : ClientEvent → ClientValue → ClientStep
 client_step (Asks request) c = client_requested request c
 client_step (MdsSays xid reply now) c = unless_left c (mds_replied c.asked xid (λ kind. reply) now c)
 client_step (DsSays server xid reply) c = unless_left c (ds_replied server xid (λ call. reply) c)
-client_step (CallsBack call) c = unless_left c (answers_callback (cb_reply call.xid (cb_call_answer call c)))
+client_step (CallsBack xid ops) c = unless_left c (answers_callback (cb_reply xid (cb_results [] (cb_first ops (End None) c))))
 client_step (TimesOut to) c = client_timed_out to c
 client_step (Ticks now) c = client_ticked now c
+client_step Leaves c = sends_none (turned c)
+client_step (Strays place at bytes) c = strays c.file c.layout place at bytes c
 
 -- what the events of a run leave, enter and send, in order
 abbrev pub client_run : ClientValue → List ClientEvent → ClientStep

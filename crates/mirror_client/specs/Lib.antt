@@ -9,3 +9,4 @@ pub mod ClientRule
 pub mod ClientRuns
 pub mod WorkedClient
 pub mod ClientLaws
+pub mod WorkedWays

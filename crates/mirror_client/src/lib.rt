@@ -7,4 +7,4 @@ mod worked;
 
 pub use laws::client_law;
 pub use stage::LayoutStage;
-pub use worked::worked_client_runs;
+pub use worked::{worked_client_runs, worked_client_ways};

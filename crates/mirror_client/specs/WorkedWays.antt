@@ -1,0 +1,132 @@
+-- More runs of a client that are worked out by hand: recalls, returns, requests that are refused, and a client that leaves.
+use Rattle.std.specs.Prelude.{ℕ, true, false, List, [], ◌∷◌, ◌++◌, replicate, Option, Some, None}
+use Rattle.std.proofs.Common.{inl}
+use Rattle.ff_xdr.specs.Form.{Value}
+use Rattle.ff_xdr.specs.Arms.{arm}
+use Rattle.nfs4_types.specs.declared.status.Stat4.{Stat4}
+use Rattle.nfs4_types.specs.Stateids.{stateid4_value, layout_stateid_of}
+use Rattle.nfs4_types.specs.Handles.{file_handle_of}
+use Rattle.nfs4_compound.specs.declared.stop.Stop.TheVariants.{End}
+use Rattle.nfs4_compound.specs.CbArgs.{cb_argop4}
+use Rattle.nfs4_file_ops.specs.CbLayoutRecall.{layoutrecall4}
+use Rattle.cluster_model.specs.declared.ids.NodeId.TheVariants.{Mds, Server}
+use Rattle.cluster_model.specs.declared.answer.UserAnswer.TheVariants as answer
+use Rattle.cluster_model.specs.declared.answer.FailCause.TheVariants as failing
+use Rattle.cluster_model.specs.declared.entry.Entry.TheVariants.{Rogue}
+use Rattle.cluster_model.specs.DsCalls as ds
+use Rattle.mds_calls.specs.declared.ask.MdsAsk.TheVariants as ask
+use Rattle.mds_calls.specs.MdsReplies as says
+use Rattle.mirror_client.specs.ClientStates.{Open, Write, Through, Commit, Read, Return, ClientValue, fresh_client}
+use Rattle.mirror_client.specs.Callbacks.{cb_first}
+use Rattle.mirror_client.specs.ClientRuns.{ClientEvent, Asks, DsSays, CallsBack, Ticks, Leaves, Strays, client_run, ClientSeen}
+use Rattle.mirror_client.specs.WorkedClient.{client, session, the_file, says_ok, says_plain, answers, told_write, opening, opening_seen, writing, writing_seen, committing, committing_seen}
+
+-- ---- recalls
+
+-- a callback of this number: the layout of the file under this uid is asked back
+abbrev pub recall_call : ℕ → ℕ → List (Value cb_argop4)
+recall_call number uid =
+    arm 11 cb_argop4 (session.0, (number, (0, (0, (false, [])))))
+    ∷ arm 5 cb_argop4 (4, (2, (false, arm 1 layoutrecall4 (file_handle_of 1, (0, (18446744073709551615, stateid4_value (layout_stateid_of 1 uid 1)))))))
+    ∷ []
+
+-- how a callback is answered behind a run
+abbrev pub recall_status : List ClientEvent → ℕ → ℕ → Stat4
+recall_status events number uid = (cb_first (recall_call number uid) (End None) (client_run client events).client).status
+
+-- The writes are committed, COMMIT 9 and 10, and told; then LAYOUTRETURN 11 goes out.
+abbrev pub own_recall : List ClientEvent
+own_recall =
+    writing ++ CallsBack 1 (recall_call 1 65536) ∷ DsSays 1 7 (ds.Written None 1) ∷ DsSays 2 8 (ds.Written None 1)
+    ∷ DsSays 1 9 (ds.Committed None 1) ∷ DsSays 2 10 (ds.Committed None 1) ∷ []
+
+abbrev pub own_recall_seen : ClientSeen
+own_recall_seen = record {
+  entries = writing_seen.entries ++ told_write 65536 0 (65 ∷ 66 ∷ []) ∷ [];
+  sent_to = writing_seen.sent_to ++ Mds ∷ Server 1 ∷ Server 2 ∷ Mds ∷ [];
+  asked = Some ask.LayoutReturn;
+}
+
+-- a recall of another layout does nothing
+abbrev pub other_recall : List ClientEvent
+other_recall = writing ++ CallsBack 1 (recall_call 1 65537) ∷ []
+
+abbrev pub other_recall_seen : ClientSeen
+other_recall_seen = record { entries = writing_seen.entries; sent_to = writing_seen.sent_to ++ Mds ∷ []; asked = None }
+
+-- ---- returns
+
+-- a write through the metadata server, WRITE 12, goes behind the layout's return, LAYOUTRETURN 11
+abbrev pub through : List ClientEvent
+through = committing ++ Asks (Through 5 (67 ∷ [])) ∷ says_ok 11 says.Returned ∷ says_ok 12 says.Written ∷ []
+
+abbrev pub through_seen : ClientSeen
+through_seen = record { entries = committing_seen.entries ++ answers answer.Written ∷ []; sent_to = committing_seen.sent_to ++ Mds ∷ Mds ∷ []; asked = None }
+
+-- a return without a layout is done at once; one that is refused for now, DELAY 10008, goes out again at the next tick, 12
+abbrev pub giving_back : List ClientEvent
+giving_back = opening ++ Asks Return ∷ []
+
+abbrev pub giving_back_seen : ClientSeen
+giving_back_seen = record { entries = opening_seen.entries ++ answers answer.Returned ∷ []; sent_to = opening_seen.sent_to; asked = None }
+
+abbrev pub deferred : List ClientEvent
+deferred = committing ++ Asks Return ∷ says_ok 11 (says.Refused 10008) ∷ Ticks 1 ∷ says_ok 12 says.Returned ∷ []
+
+abbrev pub deferred_seen : ClientSeen
+deferred_seen = record { entries = committing_seen.entries ++ answers answer.Returned ∷ []; sent_to = committing_seen.sent_to ++ Mds ∷ Mds ∷ []; asked = None }
+
+-- ---- requests that are refused
+
+-- a second open, INVAL 22, and a write past the end, FBIG 27; and a read that the metadata server refuses, IO 5
+abbrev pub refusing : List ClientEvent
+refusing = opening ++ Asks (Open (98 ∷ [])) ∷ Asks (Write 67108863 (65 ∷ 66 ∷ [])) ∷ Asks (Read 0 1) ∷ says_ok 5 (says.Refused 5) ∷ []
+
+abbrev pub refusing_seen : ClientSeen
+refusing_seen = record {
+  entries =
+      opening_seen.entries ++ answers (answer.Failed (failing.Refused 22)) ∷ answers (answer.Failed (failing.Refused 27))
+      ∷ answers (answer.Failed (failing.Refused 5)) ∷ [];
+  sent_to = opening_seen.sent_to ++ Mds ∷ [];
+  asked = None;
+}
+
+-- before there is a session a refusal leaves the client as new
+abbrev pub unknown : List ClientEvent
+unknown = Asks (Open (97 ∷ [])) ∷ says_plain 1 (says.Client 4294967297 1) ∷ says_plain 2 (says.Refused 10022) ∷ Asks (Open (97 ∷ [])) ∷ []
+
+abbrev pub unknown_seen : ClientSeen
+unknown_seen = record { entries = answers (answer.Failed (failing.Refused 10022)) ∷ []; sent_to = replicate 3 Mds; asked = Some ask.ExchangeId }
+
+-- ---- a data server that lost a write: COMMIT 9 shows another verifier, so the WRITE goes out again, 11, and COMMIT 12 behind it
+
+abbrev pub written_again : List ClientEvent
+written_again =
+    writing ++ DsSays 1 7 (ds.Written None 1) ∷ DsSays 2 8 (ds.Written None 1) ∷ Asks Commit ∷ DsSays 1 9 (ds.Committed None 2)
+    ∷ DsSays 2 10 (ds.Committed None 1) ∷ DsSays 1 11 (ds.Written None 2) ∷ DsSays 1 12 (ds.Committed None 2) ∷ []
+
+abbrev pub written_again_seen : ClientSeen
+written_again_seen = record {
+  entries = committing_seen.entries;
+  sent_to = writing_seen.sent_to ++ Server 1 ∷ Server 2 ∷ Server 1 ∷ Server 1 ∷ [];
+  asked = None;
+}
+
+-- ---- no numbers are left: the last goes to EXCHANGE_ID
+
+abbrev pub last_number : ClientValue
+last_number = fresh_client 1 1 4294967295
+
+abbrev pub numberless : List ClientEvent
+numberless = Asks (Open (97 ∷ [])) ∷ says_plain 4294967295 (says.Client 4294967297 1) ∷ []
+
+abbrev pub numberless_seen : ClientSeen
+numberless_seen = record { entries = []; sent_to = Mds ∷ []; asked = None }
+
+-- ---- a client that leaves the protocol does nothing but write to a mirror of its layout
+
+abbrev pub leaving : List ClientEvent
+leaving = writing ++ Leaves ∷ DsSays 1 7 (ds.Written None 1) ∷ Asks Commit ∷ Ticks 99 ∷ Strays 2 9 (90 ∷ []) ∷ Strays 3 0 (90 ∷ []) ∷ []
+
+abbrev pub leaving_seen : ClientSeen
+leaving_seen = record { entries = writing_seen.entries ++ Rogue the_file (record { 0 = 65536 }) 9 (90 ∷ []) ∷ []; sent_to = writing_seen.sent_to ++ Server 2 ∷ []; asked = None }
