@@ -1,6 +1,5 @@
 -- More runs of a client that are worked out by hand: recalls, returns, requests that are refused, and a client that leaves.
-use Rattle.std.specs.Prelude.{ℕ, true, false, List, [], ◌∷◌, ◌++◌, replicate, Option, Some, None}
-use Rattle.std.proofs.Common.{inl}
+use Rattle.std.specs.Prelude.{ℕ, false, List, [], ◌∷◌, ◌++◌, replicate, Some, None}
 use Rattle.ff_xdr.specs.Form.{Value}
 use Rattle.ff_xdr.specs.Arms.{arm}
 use Rattle.nfs4_types.specs.declared.status.Stat4.{Stat4}
@@ -19,7 +18,7 @@ use Rattle.mds_calls.specs.MdsReplies as says
 use Rattle.mirror_client.specs.ClientStates.{Open, Write, Through, Commit, Read, Return, ClientValue, fresh_client}
 use Rattle.mirror_client.specs.Callbacks.{cb_first}
 use Rattle.mirror_client.specs.ClientRuns.{ClientEvent, Asks, DsSays, CallsBack, Ticks, Leaves, Strays, client_run, ClientSeen}
-use Rattle.mirror_client.specs.WorkedClient.{client, session, the_file, says_ok, says_plain, answers, told_write, opening, opening_seen, writing, writing_seen, committing, committing_seen}
+use Rattle.mirror_client.specs.WorkedClient.{client, session, the_file, says_ok, says_plain, answer_entry, told_write, opening, opening_seen, writing, writing_seen, committing, committing_seen}
 
 -- ---- recalls
 
@@ -61,20 +60,20 @@ abbrev pub through : List ClientEvent
 through = committing ++ Asks (Through 5 (67 ∷ [])) ∷ says_ok 11 says.Returned ∷ says_ok 12 says.Written ∷ []
 
 abbrev pub through_seen : ClientSeen
-through_seen = record { entries = committing_seen.entries ++ answers answer.Written ∷ []; sent_to = committing_seen.sent_to ++ Mds ∷ Mds ∷ []; asked = None }
+through_seen = record { entries = committing_seen.entries ++ answer_entry answer.Written ∷ []; sent_to = committing_seen.sent_to ++ Mds ∷ Mds ∷ []; asked = None }
 
 -- a return without a layout is done at once; one that is refused for now, DELAY 10008, goes out again at the next tick, 12
 abbrev pub giving_back : List ClientEvent
 giving_back = opening ++ Asks Return ∷ []
 
 abbrev pub giving_back_seen : ClientSeen
-giving_back_seen = record { entries = opening_seen.entries ++ answers answer.Returned ∷ []; sent_to = opening_seen.sent_to; asked = None }
+giving_back_seen = record { entries = opening_seen.entries ++ answer_entry answer.Returned ∷ []; sent_to = opening_seen.sent_to; asked = None }
 
-abbrev pub deferred : List ClientEvent
-deferred = committing ++ Asks Return ∷ says_ok 11 (says.Refused 10008) ∷ Ticks 1 ∷ says_ok 12 says.Returned ∷ []
+abbrev pub deferring : List ClientEvent
+deferring = committing ++ Asks Return ∷ says_ok 11 (says.Refused 10008) ∷ Ticks 1 ∷ says_ok 12 says.Returned ∷ []
 
-abbrev pub deferred_seen : ClientSeen
-deferred_seen = record { entries = committing_seen.entries ++ answers answer.Returned ∷ []; sent_to = committing_seen.sent_to ++ Mds ∷ Mds ∷ []; asked = None }
+abbrev pub deferring_seen : ClientSeen
+deferring_seen = record { entries = committing_seen.entries ++ answer_entry answer.Returned ∷ []; sent_to = committing_seen.sent_to ++ Mds ∷ Mds ∷ []; asked = None }
 
 -- ---- requests that are refused
 
@@ -85,8 +84,8 @@ refusing = opening ++ Asks (Open (98 ∷ [])) ∷ Asks (Write 67108863 (65 ∷ 6
 abbrev pub refusing_seen : ClientSeen
 refusing_seen = record {
   entries =
-      opening_seen.entries ++ answers (answer.Failed (failing.Refused 22)) ∷ answers (answer.Failed (failing.Refused 27))
-      ∷ answers (answer.Failed (failing.Refused 5)) ∷ [];
+      opening_seen.entries ++ answer_entry (answer.Failed (failing.Refused 22)) ∷ answer_entry (answer.Failed (failing.Refused 27))
+      ∷ answer_entry (answer.Failed (failing.Refused 5)) ∷ [];
   sent_to = opening_seen.sent_to ++ Mds ∷ [];
   asked = None;
 }
@@ -96,7 +95,7 @@ abbrev pub unknown : List ClientEvent
 unknown = Asks (Open (97 ∷ [])) ∷ says_plain 1 (says.Client 4294967297 1) ∷ says_plain 2 (says.Refused 10022) ∷ Asks (Open (97 ∷ [])) ∷ []
 
 abbrev pub unknown_seen : ClientSeen
-unknown_seen = record { entries = answers (answer.Failed (failing.Refused 10022)) ∷ []; sent_to = replicate 3 Mds; asked = Some ask.ExchangeId }
+unknown_seen = record { entries = answer_entry (answer.Failed (failing.Refused 10022)) ∷ []; sent_to = replicate 3 Mds; asked = Some ask.ExchangeId }
 
 -- ---- a data server that lost a write: COMMIT 9 shows another verifier, so the WRITE goes out again, 11, and COMMIT 12 behind it
 

@@ -3,7 +3,7 @@
 ghost use Rattle.std.specs.Prelude.{◌≡◌};
 ghost use Rattle.mirror_client.specs.ClientRuns.{seen_in};
 ghost use Rattle.nfs4_types.specs.declared.status.Stat4.TheVariants as stat;
-ghost use Rattle.mirror_client.specs.WorkedWays.{recall_status, own_recall, own_recall_seen, other_recall, other_recall_seen, through, through_seen, giving_back, giving_back_seen, deferred, deferred_seen, refusing, refusing_seen, unknown, unknown_seen, written_again, written_again_seen, last_number, numberless, numberless_seen, leaving, leaving_seen};
+ghost use Rattle.mirror_client.specs.WorkedWays.{recall_status, own_recall, own_recall_seen, other_recall, other_recall_seen, through, through_seen, giving_back, giving_back_seen, deferring, deferring_seen, refusing, refusing_seen, unknown, unknown_seen, written_again, written_again_seen, last_number, numberless, numberless_seen, leaving, leaving_seen};
 ghost use Rattle.mirror_client.specs.WorkedClient.{client, unopened, unopened_seen, opening, opening_seen, writing, writing_seen, committing, committing_seen, overlapping, overlapping_seen, reporting, reporting_seen, reported, reported_seen, taken_away, taken_away_seen, all_failed, all_failed_seen, session_gone, session_gone_seen, retried, retried_seen, renewing, renewing_seen};
 
 /// What the rule of a client makes of runs that are worked out by hand: the journal, to whom records go, and
@@ -37,7 +37,7 @@ pub fn worked_client_ways()
     ensures out_of_order { recall_status other_recall 3 65536 ≡ stat.SeqMisordered }
     ensures through { seen_in client through ≡ through_seen }
     ensures giving_back { seen_in client giving_back ≡ giving_back_seen }
-    ensures deferred { seen_in client deferred ≡ deferred_seen }
+    ensures deferring { seen_in client deferring ≡ deferring_seen }
     ensures refusing { seen_in client refusing ≡ refusing_seen }
     ensures unknown { seen_in client unknown ≡ unknown_seen }
     ensures written_again { seen_in client written_again ≡ written_again_seen }

@@ -28,9 +28,9 @@ pub returns-clause-reported : goal.returns-clause-reported
 unfolding long word
 returns-clause-reported c = refl
 
-pub returns-clause-revoked : goal.returns-clause-revoked
+pub returns-clause-taken_away : goal.returns-clause-taken_away
 unfolding long word
-returns-clause-revoked c = refl
+returns-clause-taken_away c = refl
 
 pub returns-clause-all_failed : goal.returns-clause-all_failed
 unfolding long word

@@ -34,9 +34,9 @@ pub returns-clause-giving_back : goal.returns-clause-giving_back
 unfolding long word
 returns-clause-giving_back c = refl
 
-pub returns-clause-deferred : goal.returns-clause-deferred
+pub returns-clause-deferring : goal.returns-clause-deferring
 unfolding long word
-returns-clause-deferred c = refl
+returns-clause-deferring c = refl
 
 pub returns-clause-refusing : goal.returns-clause-refusing
 unfolding long word
