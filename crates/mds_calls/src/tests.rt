@@ -1,13 +1,9 @@
 //! Records that were worked out by hand from RFC 8881, RFC 8435 and RFC 5531.
 
-use crate::{
-    FailedMirror, LayoutGrant, MdsAnswer, MdsAsk, MdsCall, MdsReply, OpenFile, SlotCall,
-    SlotReport, fits, mds_reply_of, put_mds_call,
-};
-use cluster_model::{Cred, FileId, Mirror, MirrorId, Mirrors, Tick};
-use device_addr::NetAddr;
+use crate::{FailedMirror, MdsAsk, MdsCall, OpenFile, SlotCall, fits, mds_reply_of, put_mds_call};
+use cluster_model::FileId;
 use ff_xdr::Out;
-use nfs4_types::{SessionId, Stat4, Stateid};
+use nfs4_types::{SessionId, Stateid};
 use rpc_record::Reply;
 use std::alloc::{AllocError, Global};
 use std::process::Abort;
@@ -77,28 +73,34 @@ fn calls(rt: HostRuntime) -> Result<(), Fail> {
     let call = MdsCall::ExchangeId {
         verifier: 0x1_0000_0002,
     };
-    let args: [u32; 9] = [1, 42, 1, 2, 2, 0x6331_0000, 0, 0, 0];
-    call_is(&rt, alloc, call, [&args, &[]])?;
+    let one = [1, 42, 1, 2];
+    let args = [2, 0x6331_0000, 0, 0, 0];
+    call_is(&rt, alloc, call, [&one, &args])?;
     // CREATE_SESSION: the client, its number, the back channel; both channels; the program; AUTH_NONE
     let call = MdsCall::CreateSession {
         clientid: 0x3_0000_0004,
         sequence: 5,
     };
-    let args: [u32; 13] = [1, 43, 3, 4, 5, 2, 0, 0x12_0000, 0x12_0000, 0x8000, 16, 8, 0];
-    let back: [u32; 10] = [0, 0x1000, 0x1000, 0, 2, 1, 0, 0x4000_0000, 1, 0];
-    call_is(&rt, alloc, call, [&args, &back])?;
-    // SEQUENCE: session, number, slot 0, highest 0, kept; the count of operations stands before it
+    let fore = [1, 43, 3, 4, 5, 2, 0, 0x12_0000, 0x12_0000, 0x8000, 16, 8, 0];
+    let back = [0, 0x1000, 0x1000, 0, 2, 1, 0, 0x4000_0000, 1, 0];
+    call_is(&rt, alloc, call, [&fore, &back])?;
+    Ok(())
+}
+
+#[test]
+fn calls_on_a_slot(rt: HostRuntime) -> Result<(), Fail> {
+    let alloc = rt.alloc();
     let s = SESSION_WORDS;
-    let start = |count: u32, kept: u32| [count, 53, s[0], s[1], s[2], s[3], 10, 0, 0, kept];
-    let one = start(1, 1);
-    call_is(&rt, alloc, on_slot(SlotCall::Renew), [&one, &[]])?;
-    let two = start(2, 1);
+    // SEQUENCE: session, number, slot 0, highest 0, kept; the count of operations stands before it
+    let two = [2, 53, s[0], s[1], s[2], s[3], 10, 0, 0, 1];
     let call = on_slot(SlotCall::ReclaimComplete);
-    call_is(&rt, alloc, call, [&two, &[58, 0]])?;
+    let args = [58, 0];
+    call_is(&rt, alloc, call, [&two, &args])?;
     // PUTROOTFH; OPEN: seqid, BOTH, deny none, client 0, owner, CREATE UNCHECKED, no attributes, no
     // values, CLAIM_NULL, the name; GETFH
     let call = on_slot(SlotCall::Open { name: "ab" });
-    let args: [u32; 17] = [
+    let four = [4, 53, s[0], s[1], s[2], s[3], 10, 0, 0, 1];
+    let args = [
         24,
         18,
         0,
@@ -117,44 +119,20 @@ fn calls(rt: HostRuntime) -> Result<(), Fail> {
         0x6162_0000,
         10,
     ];
-    let four = start(4, 1);
     call_is(&rt, alloc, call, [&four, &args])?;
     // PUTFH of file 1; LAYOUTGET: no signal, FLEX_FILES, RW, all of the file, no least, the stateid, 4096
     let call = on_slot(SlotCall::LayoutGet { file: FILE });
-    let args: [u32; 19] = [
-        22,
-        8,
-        0,
-        1,
-        50,
-        0,
-        4,
-        2,
-        0,
-        0,
-        0xFFFF_FFFF,
-        0xFFFF_FFFF,
-        0,
-        0,
-        6,
-        7,
-        8,
-        9,
-        0x1000,
+    let three = [3, 53, s[0], s[1], s[2], s[3], 10, 0, 0, 1];
+    let all = u32::MAX;
+    let args = [
+        22, 8, 0, 1, 50, 0, 4, 2, 0, 0, all, all, 0, 0, 6, 7, 8, 9, 0x1000,
     ];
-    let three = start(3, 1);
     call_is(&rt, alloc, call, [&three, &args])?;
-    // GETDEVICEINFO: the device, FLEX_FILES, 4096, no notification
-    let call = on_slot(SlotCall::DeviceInfo { servers: &[3] });
-    call_is(&rt, alloc, call, [&two, &[47, 0, 0, 0, 3, 4, 0x1000, 0]])?;
-    let servers = [1, 2, 3, 16];
+    // GETDEVICEINFO of each: the device, FLEX_FILES, 4096, no notification
+    let servers = [3, 16];
     let call = on_slot(SlotCall::DeviceInfo { servers: &servers });
-    let device = |n: u32| [47, 0, 0, 0, n, 4, 0x1000, 0];
-    let (a, b, c, d) = (device(1), device(2), device(3), device(16));
-    let args = bytes_of(alloc, &[&start(5, 1), &a, &b, &c, &d])?;
-    let mut out = Out::new(alloc);
-    put_mds_call(alloc, 7, b"c1", &call, &mut out)?;
-    assert!(rt; out.bytes().ends_with(args.as_slice()));
+    let args = [47, 0, 0, 0, 3, 4, 0x1000, 0, 47, 0, 0, 0, 16, 4, 0x1000, 0];
+    call_is(&rt, alloc, call, [&three, &args])?;
     Ok(())
 }
 
@@ -211,414 +189,195 @@ fn calls_on_files(rt: HostRuntime) -> Result<(), Fail> {
     Ok(())
 }
 
-/// A reply of SUCCESS with these words, all read but for the last `cut` bytes.
-fn reply_is(
-    rt: &impl Abort,
-    alloc: Global,
-    ask: MdsAsk,
-    parts: &[&[u32]],
-    cut: usize,
-    want: MdsReply<'_>,
-) -> Result<(), Fail> {
-    // the number, a reply, accepted, no verifier, SUCCESS
-    let mut bytes = bytes_of(alloc, &[&[7, 1, 0, 0, 0, 0]])?;
-    bytes.extend_from_slice(bytes_of(alloc, parts)?.as_slice())?;
-    bytes.truncate(bytes.len() - cut);
+/// A SEQUENCE that is OK: session, number, slot 0, highest 7 and 7, no flags. In a row `S` stands for it.
+const SEQUENCE: &str = "35 0 1000000 2000000 3000000 4000005 a 0 7 7 0";
+
+/// A LAYOUTGET that is OK, up to the layout's iomode and type; in a row `P`.
+const PUT_LAYOUT: &str = "0 0 3 S 16 0 32 0 1 6 7 8 9 1 0 0 ffffffff ffffffff";
+
+/// A mirror on data server 1, and on 2, up to its user and group: one data server, the device, efficiency
+/// 1, no stateid, one handle of eight bytes. In a row `M` and `N`.
+const FIRST: &str = "1 0 0 0 1 1 0 0 0 0 1 8 0 2";
+
+const SECOND: &str = "1 0 0 0 2 1 0 0 0 0 1 8 0 3";
+
+/// The user and the group 65536; in a row `U`.
+const USER: &str = "5 36353533 36000000 5 36353533 36000000";
+
+/// A GETDEVICEINFO that is OK: of flexible files, one address over `tcp`, `127.0.0.1.8.1`, no version, no
+/// notification. In a row `D`.
+const DEVICE: &str = "2f 0 4 24 1 3 74637000 d 3132372e 302e302e 312e382e 31000000 0 0";
+
+/// The words of a row, each a number in hexadecimal.
+fn words_of(alloc: Global, row: &str) -> Result<String, Fail> {
+    let row = row.replace(alloc, "P", PUT_LAYOUT)?;
+    let row = row.replace(alloc, "S", SEQUENCE)?;
+    let row = row.replace(alloc, "M", FIRST)?;
+    let row = row.replace(alloc, "N", SECOND)?;
+    let row = row.replace(alloc, "U", USER)?;
+    let row = row.replace(alloc, "D", DEVICE)?;
+    Ok(row)
+}
+
+/// Appends the bytes of words.
+fn push_words(words: &str, bytes: &mut Vec<u8>) -> Result<(), Fail> {
+    for word in words.split(' ') {
+        let number = u32::from_str_radix(word, 16).ok().ok_or("no word")?;
+        bytes.extend_from_slice(&number.to_be_bytes())?;
+    }
+    Ok(())
+}
+
+/// What a reply of SUCCESS with these words says, but for the last `cut` bytes.
+fn said(alloc: Global, ask: MdsAsk, row: &str, cut: usize) -> Result<String, Fail> {
+    let words = words_of(alloc, row)?;
+    let mut bytes = Vec::new(alloc);
+    push_words("7 1 0 0 0 0", &mut bytes)?;
+    push_words(words.as_str(), &mut bytes)?;
+    bytes.truncate(bytes.len().saturating_sub(cut));
     let reply = Reply::read(bytes.as_slice())?;
-    assert_eq!(rt; mds_reply_of(&ask, &reply), want, "{ask:?} {parts:?}");
-    Ok(())
+    let told = mds_reply_of(&ask, &reply);
+    let text = format!(in alloc; "{:?} {:?}", told.slot, told.answer)?;
+    Ok(text)
 }
 
-/// A reply that took effect, and says this.
-fn taken<'a>(answer: MdsAnswer<'a>) -> MdsReply<'a> {
-    MdsReply {
-        slot: SlotReport::Taken,
-        answer,
-    }
-}
-
-/// A reply of this status, by which the slot is told this.
-fn refused(slot: SlotReport, status: Stat4) -> MdsReply<'static> {
-    MdsReply {
-        slot,
-        answer: MdsAnswer::Refused(status),
-    }
-}
-
-/// SEQUENCE is OK: session, number, slot 0, highest 7 and 7, no flags.
-const SEQUENCE: [u32; 11] = [
-    53,
-    0,
-    0x0100_0000,
-    0x0200_0000,
-    0x0300_0000,
-    0x0400_0005,
-    10,
-    0,
-    7,
-    7,
-    0,
-];
-
-const READ: MdsAsk = MdsAsk::Read { at: 4, count: 5 };
-
-#[test]
-fn replies(rt: HostRuntime) -> Result<(), Fail> {
-    let alloc = rt.alloc();
-    let s = SESSION_WORDS;
-    // EXCHANGE_ID: the client, its number, flags, SP4_NONE, minor id, major id, scope, no impl id
-    let exchange: [u32; 13] = [0, 0, 1, 42, 0, 3, 4, 5, 0x20000, 0, 0, 9, 0];
-    let client = MdsReply {
-        slot: SlotReport::Unknown,
-        answer: MdsAnswer::Client {
-            clientid: 0x3_0000_0004,
-            sequence: 5,
-        },
-    };
-    let ask = MdsAsk::ExchangeId;
-    reply_is(&rt, alloc, ask, &[&exchange, &[0, 0]], 0, client)?;
-    // CREATE_SESSION: the session, its number, flags, both channels
-    let created = [0, 0, 1, 43, 0, s[0], s[1], s[2], s[3], 5, 2];
-    let channels = [0, 1, 2, 3, 4, 5, 0, 0, 1, 2, 3, 4, 5, 0];
-    let session = MdsReply {
-        slot: SlotReport::Unknown,
-        answer: MdsAnswer::Session(SESSION),
-    };
-    let ask = MdsAsk::CreateSession;
-    reply_is(&rt, alloc, ask, &[&created, &channels], 0, session)?;
-    // OPEN: the stateid, a change, no flags, no attributes, no delegation; the handle of file 1
-    let opened: [u32; 16] = [24, 0, 18, 0, 6, 7, 8, 9, 1, 0, 1, 0, 2, 0, 0, 0];
-    let parts: [&[u32]; 4] = [&[0, 0, 4], &SEQUENCE, &opened, &[10, 0, 8, 0, 1]];
-    let answer = taken(MdsAnswer::Opened(FILE));
-    reply_is(&rt, alloc, MdsAsk::Open, &parts, 0, answer)?;
-    let odd = refused(SlotReport::Taken, Stat4::ServerFault);
-    let handles: [&[u32]; 2] = [&[10, 0, 7, 0, 0], &[10, 0, 8, 1, 0]];
-    for handle in handles {
-        let parts: [&[u32]; 4] = [&[0, 0, 4], &SEQUENCE, &opened, handle];
-        reply_is(&rt, alloc, MdsAsk::Open, &parts, 0, odd)?;
+/// Each row, words and what they say, is so; and cut short it is out of form.
+fn rows_say(rt: &impl Abort, alloc: Global, ask: MdsAsk, rows: &str) -> Result<(), Fail> {
+    for row in rows.lines() {
+        let (words, want) = row.split_once('=').ok_or("no row")?;
+        let text = said(alloc, ask, words, 0)?;
+        assert_eq!(rt; text.as_str(), want, "{row}");
+        let short = said(alloc, ask, words, 4)?;
+        assert_eq!(rt; short.as_str(), "Unknown Refused(ServerFault)", "{row}");
     }
     Ok(())
 }
 
+/// EXCHANGE_ID: the client, its number, flags, SP4_NONE, minor id, major id, scope, no impl id.
+const EXCHANGED: &str = "\
+0 0 1 2a 0 3 4 5 20000 0 0 9 0 0 0=Unknown Client { clientid: 12884901892, sequence: 5 }\n\
+0 0 0=Unknown Refused(ServerFault)\n\
+0 0 1 16 0=Unknown Refused(ServerFault)\n\
+46 0 0=Unknown Refused(Stale)\n";
+
+/// CREATE_SESSION: the session, its number, flags, both channels.
+const CREATED: &str = "\
+0 0 1 2b 0 1000000 2000000 3000000 4000005 5 2 0 1 2 3 4 5 0 0 1 2 3 4 5 0=Unknown Session(SessionId([1, 0, 0, 0, 2, 0, 0, 0, 3, 0, 0, 0, 4, 0, 0, 5]))\n\
+0 0 0=Unknown Refused(ServerFault)\n\
+2726 0 1 2b 2726=Unknown Refused(StaleClientId)\n";
+
+/// RECLAIM_COMPLETE: done; a result missing, one too many, another operation's.
+const RECLAIMED: &str = "\
+0 0 2 S 3a 0=Taken Complete\n\
+0 0 1 S=Taken Refused(ServerFault)\n\
+0 0 3 S 3a 0 16 0=Taken Refused(ServerFault)\n\
+0 0 2 S 16 0=Taken Refused(ServerFault)\n";
+
+/// OPEN: the stateid, a change, no flags, no attributes, no delegation, and the handle of file 1; a handle of
+/// seven bytes, one of 2^32; no handle.
+const OPENED: &str = "\
+0 0 4 S 18 0 12 0 6 7 8 9 1 0 1 0 2 0 0 0 a 0 8 0 1=Taken Opened(OpenFile { file: FileId(1), stateid: Stateid { seqid: 6, other: [0, 0, 0, 7, 0, 0, 0, 8, 0, 0, 0, 9] } })\n\
+0 0 4 S 18 0 12 0 6 7 8 9 1 0 1 0 2 0 0 0 a 0 7 0 0=Taken Refused(ServerFault)\n\
+0 0 4 S 18 0 12 0 6 7 8 9 1 0 1 0 2 0 0 0 a 0 8 1 0=Taken Refused(ServerFault)\n\
+0 0 3 S 18 0 12 0 6 7 8 9 1 0 1 0 2 0 0 0=Taken Refused(ServerFault)\n";
+
 #[test]
-fn short_replies(rt: HostRuntime) -> Result<(), Fail> {
+fn replies_of_a_session(rt: HostRuntime) -> Result<(), Fail> {
     let alloc = rt.alloc();
-    let odd = refused(SlotReport::Taken, Stat4::ServerFault);
-    // RECLAIM_COMPLETE, WRITE of 2 bytes FILE_SYNC, READ of 2 bytes to the end, LAYOUTRETURN of all, and
-    // nothing more
-    let write = [22, 0, 38, 0, 2, 2, 0, 1];
-    let read = [22, 0, 25, 0, 1, 2, 0x4142_0000];
-    let bytes = MdsAnswer::Bytes {
-        eof: true,
-        bytes: b"AB",
-    };
-    let table: [(MdsAsk, u32, &[u32], MdsAnswer<'_>); 5] = [
-        (MdsAsk::ReclaimComplete, 2, &[58, 0], MdsAnswer::Complete),
-        (MdsAsk::Write, 3, &write, MdsAnswer::Written),
-        (READ, 3, &read, bytes),
-        (
-            MdsAsk::LayoutReturn,
-            3,
-            &[22, 0, 51, 0, 0],
-            MdsAnswer::Returned,
-        ),
-        (MdsAsk::Renew, 1, &[], MdsAnswer::Renewed),
-    ];
-    for (ask, count, words, answer) in table {
-        let parts: [&[u32]; 3] = [&[0, 0, count], &SEQUENCE, words];
-        reply_is(&rt, alloc, ask, &parts, 0, taken(answer))?;
-        // one result too many; bytes behind the last one; bytes cut short
-        let parts: [&[u32]; 4] = [&[0, 0, count + 1], &SEQUENCE, words, &[22, 0]];
-        reply_is(&rt, alloc, ask, &parts, 0, odd)?;
-        let unread = refused(SlotReport::Unknown, Stat4::ServerFault);
-        let parts: [&[u32]; 4] = [&[0, 0, count], &SEQUENCE, words, &[0]];
-        reply_is(&rt, alloc, ask, &parts, 0, unread)?;
-        reply_is(
-            &rt,
-            alloc,
-            ask,
-            &[&[0, 0, count], &SEQUENCE, words],
-            4,
-            unread,
-        )?;
-    }
-    // a result missing, another operation's, a status in the middle of an OK compound
-    let table: [(MdsAsk, u32, &[u32]); 7] = [
-        (MdsAsk::ReclaimComplete, 1, &[]),
-        (MdsAsk::ReclaimComplete, 2, &[22, 0]),
-        (MdsAsk::Write, 2, &[22, 0]),
-        (MdsAsk::Write, 3, &[22, 70, 38, 0, 2, 2, 0, 1]),
-        (MdsAsk::LayoutReturn, 3, &[24, 0, 51, 0, 0]),
-        // six bytes of five; two bytes from 67,108,863 on
-        (READ, 3, &[22, 0, 25, 0, 0, 6, 0, 0]),
-        (
-            MdsAsk::Read {
-                at: 0x3FF_FFFF,
-                count: 5,
-            },
-            3,
-            &[22, 0, 25, 0, 1, 2, 0],
-        ),
-    ];
-    for (ask, count, words) in table {
-        let parts: [&[u32]; 3] = [&[0, 0, count], &SEQUENCE, words];
-        reply_is(&rt, alloc, ask, &parts, 0, odd)?;
-    }
+    rows_say(&rt, alloc, MdsAsk::ExchangeId, EXCHANGED)?;
+    rows_say(&rt, alloc, MdsAsk::CreateSession, CREATED)?;
+    rows_say(&rt, alloc, MdsAsk::ReclaimComplete, RECLAIMED)?;
+    rows_say(&rt, alloc, MdsAsk::Open, OPENED)?;
+    let renewed = "0 0 1 S=Taken Renewed\n0 0 2 S 16 0=Taken Refused(ServerFault)";
+    rows_say(&rt, alloc, MdsAsk::Renew, renewed)?;
     Ok(())
 }
 
+/// WRITE of 2 bytes, FILE_SYNC; a result missing, a status in the middle of an OK compound; statuses of SEQUENCE
+/// and of others.
+const WRITTEN: &str = "\
+0 0 3 S 16 0 26 0 2 2 0 1=Taken Written\n\
+0 0 2 S 16 0=Taken Refused(ServerFault)\n\
+0 0 3 S 16 46 26 0 2 2 0 1=Taken Refused(ServerFault)\n\
+2718 0 1 35 2718=Delayed Refused(Delay)\n\
+2754 0 1 35 2754=Uncached Refused(RetryUncachedRep)\n\
+2744 0 1 35 2744=Unknown Refused(BadSession)\n\
+46 0 2 S 16 46=Taken Refused(Stale)\n\
+46 0 1 16 46=Unknown Refused(Stale)\n\
+46 0 0=Unknown Refused(Stale)\n";
+
+/// READ of at most 5 bytes: two of them, and the end; six.
+const BYTES: &str = "\
+0 0 3 S 16 0 19 0 1 2 41420000=Taken Bytes { eof: true, bytes: [65, 66] }\n\
+0 0 3 S 16 0 19 0 0 6 0 0=Taken Refused(ServerFault)\n";
+
+/// LAYOUTRETURN: nothing is left; a result of another operation.
+const RETURNED: &str = "\
+0 0 3 S 16 0 33 0 0=Taken Returned\n\
+0 0 3 S 18 0 33 0 0=Taken Refused(ServerFault)\n";
+
 #[test]
-fn statuses(rt: HostRuntime) -> Result<(), Fail> {
+fn replies_on_files(rt: HostRuntime) -> Result<(), Fail> {
     let alloc = rt.alloc();
-    let ask = MdsAsk::Write;
-    // of a compound that is not OK its status and its SEQUENCE count
-    let table = [
-        (10008, SlotReport::Delayed, Stat4::Delay),
-        (10068, SlotReport::Uncached, Stat4::RetryUncachedRep),
-        (10052, SlotReport::Unknown, Stat4::BadSession),
-    ];
-    for (number, slot, status) in table {
-        let words = [number, 0, 1, 53, number];
-        reply_is(&rt, alloc, ask, &[&words], 0, refused(slot, status))?;
-    }
-    let stale = refused(SlotReport::Taken, Stat4::Stale);
-    reply_is(
-        &rt,
-        alloc,
-        ask,
-        &[&[70, 0, 2], &SEQUENCE, &[22, 70]],
-        0,
-        stale,
-    )?;
-    let stale = refused(SlotReport::Unknown, Stat4::Stale);
-    reply_is(&rt, alloc, ask, &[&[70, 0, 1, 22, 70]], 0, stale)?;
-    reply_is(&rt, alloc, ask, &[&[70, 0, 0]], 0, stale)?;
+    rows_say(&rt, alloc, MdsAsk::Write, WRITTEN)?;
+    rows_say(&rt, alloc, MdsAsk::Read { at: 4, count: 5 }, BYTES)?;
+    rows_say(&rt, alloc, MdsAsk::LayoutReturn, RETURNED)?;
+    // two bytes from 67,108,863 on
+    let far = MdsAsk::Read {
+        at: 0x3FF_FFFF,
+        count: 5,
+    };
+    let past = "0 0 3 S 16 0 19 0 1 2 0=Taken Refused(ServerFault)";
+    rows_say(&rt, alloc, far, past)?;
+    // bytes behind the last result
+    let text = said(alloc, MdsAsk::Write, "0 0 3 S 16 0 26 0 2 2 0 1 0", 0)?;
+    assert_eq!(rt; text.as_str(), "Unknown Refused(ServerFault)");
+    Ok(())
+}
+
+/// LAYOUTGET: one mirror, the body of 100 bytes; two mirrors; for reading; of another type; bytes behind the body;
+/// no mirror; two on one server; server 17; a device of none; a handle of seven bytes; another group; the user
+/// 065536; a second mirror under another user; two data servers in a mirror; two handles; no layout; two.
+const LAYOUTS: &str = "\
+P 2 4 64 0 10000 1 M U 1 0=Taken Granted(LayoutGrant { stateid: Stateid { seqid: 6, other: [0, 0, 0, 7, 0, 0, 0, 8, 0, 0, 0, 9] }, uid: Cred(65536), mirrors: Mirrors { items: [Some(Mirror { id: MirrorId { server: 1, fileid: 2 }, seen: Tick { boot: 0, count: 0 } }), None, None, None] } })\n\
+P 2 4 b4 0 10000 2 M U N U 1 0=Taken Granted(LayoutGrant { stateid: Stateid { seqid: 6, other: [0, 0, 0, 7, 0, 0, 0, 8, 0, 0, 0, 9] }, uid: Cred(65536), mirrors: Mirrors { items: [Some(Mirror { id: MirrorId { server: 1, fileid: 2 }, seen: Tick { boot: 0, count: 0 } }), Some(Mirror { id: MirrorId { server: 2, fileid: 3 }, seen: Tick { boot: 0, count: 0 } }), None, None] } })\n\
+P 1 4 64 0 10000 1 M U 1 0=Taken Refused(ServerFault)\n\
+P 2 1 64 0 10000 1 M U 1 0=Taken Refused(ServerFault)\n\
+P 2 4 68 0 10000 1 M U 1 0 0=Taken Refused(ServerFault)\n\
+P 2 4 14 0 10000 0 1 0=Taken Refused(ServerFault)\n\
+P 2 4 b4 0 10000 2 M U M U 1 0=Taken Refused(ServerFault)\n\
+P 2 4 64 0 10000 1 1 0 0 0 11 1 0 0 0 0 1 8 0 2 U 1 0=Taken Refused(ServerFault)\n\
+P 2 4 64 0 10000 1 1 1 0 0 1 1 0 0 0 0 1 8 0 2 U 1 0=Taken Refused(ServerFault)\n\
+P 2 4 64 0 10000 1 1 0 0 0 1 1 0 0 0 0 1 7 0 0 U 1 0=Taken Refused(ServerFault)\n\
+P 2 4 64 0 10000 1 M 5 36353533 36000000 5 36353534 36000000 1 0=Taken Refused(ServerFault)\n\
+P 2 4 64 0 10000 1 M 6 30363535 33360000 6 30363535 33360000 1 0=Taken Refused(ServerFault)\n\
+P 2 4 b4 0 10000 2 M U N 5 36353534 36000000 5 36353534 36000000 1 0=Taken Refused(ServerFault)\n\
+P 2 4 b0 0 10000 1 2 0 0 0 1 1 0 0 0 0 1 8 0 2 U 0 0 0 2 1 0 0 0 0 1 8 0 3 U 1 0=Taken Refused(ServerFault)\n\
+P 2 4 70 0 10000 1 1 0 0 0 1 1 0 0 0 0 2 8 0 2 8 0 3 U 1 0=Taken Refused(ServerFault)\n\
+0 0 3 S 16 0 32 0 1 6 7 8 9 0=Taken Refused(ServerFault)\n\
+0 0 3 S 16 0 32 0 1 6 7 8 9 2 0 0 0 0 2 4 0 0 0 0 0 2 4 0=Taken Refused(ServerFault)\n";
+
+/// GETDEVICEINFO of one: its address; the second address, where the first is over another network; another
+/// network alone; another type; a text that is no address; none, and two.
+const DEVICES: &str = "\
+0 0 2 S D=Taken Devices([Some(NetAddr { host: [127, 0, 0, 1], port: 2049 }), None, None, None])\n\
+0 0 2 S 2f 0 4 40 2 3 75647000 d 3132372e 302e302e 312e382e 31000000 3 74637000 d 3132372e 302e302e 312e382e 31000000 0 0=Taken Devices([Some(NetAddr { host: [127, 0, 0, 1], port: 2049 }), None, None, None])\n\
+0 0 2 S 2f 0 4 24 1 3 75647000 d 3132372e 302e302e 312e382e 31000000 0 0=Taken Refused(ServerFault)\n\
+0 0 2 S 2f 0 1 24 1 3 74637000 d 3132372e 302e302e 312e382e 31000000 0 0=Taken Refused(ServerFault)\n\
+0 0 2 S 2f 0 4 24 1 3 74637000 d 3132372e 302e3030 312e382e 31000000 0 0=Taken Refused(ServerFault)\n\
+0 0 1 S=Taken Refused(ServerFault)\n\
+0 0 3 S D D=Taken Refused(ServerFault)\n";
+
+#[test]
+fn replies_on_layouts(rt: HostRuntime) -> Result<(), Fail> {
+    let alloc = rt.alloc();
+    rows_say(&rt, alloc, MdsAsk::LayoutGet, LAYOUTS)?;
+    rows_say(&rt, alloc, MdsAsk::DeviceInfo { count: 1 }, DEVICES)?;
     // PROG_UNAVAIL
     let bytes = bytes_of(alloc, &[&[7, 1, 0, 0, 0, 1]])?;
-    let odd = refused(SlotReport::Unknown, Stat4::ServerFault);
-    assert_eq!(rt; mds_reply_of(&ask, &Reply::read(bytes.as_slice())?), odd);
-    Ok(())
-}
-
-/// The words of a LAYOUTGET's result up to the layout's body, and behind them.
-const LAYOUT: [u32; 12] = [22, 0, 50, 0, 1, 6, 7, 8, 9, 1, 0, 0];
-
-/// The answer of one layout of this iomode and type, with this body of whole words, is this.
-fn layout_is(
-    rt: &impl Abort,
-    alloc: Global,
-    kind: [u32; 2],
-    body: &[&[u32]],
-    want: MdsReply<'_>,
-) -> Result<(), Fail> {
-    let body = bytes_of(alloc, body)?;
-    let all = u32::MAX;
-    let parts: [&[u32]; 3] = [&[0, 0, 3], &SEQUENCE, &LAYOUT];
-    let mut bytes = bytes_of(alloc, &[&[7, 1, 0, 0, 0, 0]])?;
-    bytes.extend_from_slice(bytes_of(alloc, &parts)?.as_slice())?;
-    let size = body.len() as u32;
-    let rest = bytes_of(alloc, &[&[all, all, kind[0], kind[1], size]])?;
-    bytes.extend_from_slice(rest.as_slice())?;
-    bytes.extend_from_slice(body.as_slice())?;
     let reply = Reply::read(bytes.as_slice())?;
-    assert_eq!(rt; mds_reply_of(&MdsAsk::LayoutGet, &reply), want);
-    Ok(())
-}
-
-/// A mirror of one data server: the device, efficiency 1, no stateid, one handle of eight bytes, and uid
-/// 65,536 as user and group.
-fn mirror(server: u32, fileid: u32) -> [u32; 20] {
-    let user = [5, 0x3635_3533, 0x3600_0000];
-    [
-        1, 0, 0, 0, server, 1, 0, 0, 0, 0, 1, 8, 0, fileid, user[0], user[1], user[2], user[0],
-        user[1], user[2],
-    ]
-}
-
-/// Stripes of 64 KiB, and so many mirrors.
-fn mirrors_of(count: u32) -> [u32; 3] {
-    [0, 0x1_0000, count]
-}
-
-/// A layout under uid 65,536 with these mirrors.
-fn granted(mirrors: &[Mirror]) -> MdsReply<'static> {
-    match Mirrors::of(mirrors) {
-        Some(mirrors) => taken(MdsAnswer::Granted(LayoutGrant {
-            stateid: STATEID,
-            uid: Cred(0x1_0000),
-            mirrors,
-        })),
-        None => refused(SlotReport::Unknown, Stat4::Inval),
-    }
-}
-
-/// The mirror on a data server.
-fn on_server(server: u32, fileid: u64) -> Mirror {
-    Mirror {
-        id: MirrorId { server, fileid },
-        seen: Tick { boot: 0, count: 0 },
-    }
-}
-
-#[test]
-fn layouts(rt: HostRuntime) -> Result<(), Fail> {
-    let alloc = rt.alloc();
-    let flex = [2, 4];
-    let odd = refused(SlotReport::Taken, Stat4::ServerFault);
-    let (a, b, c, d) = (mirror(1, 2), mirror(2, 3), mirror(16, 4), mirror(4, 5));
-    let end = [1, 0];
-    let one: [&[u32]; 3] = [&mirrors_of(1), &a, &end];
-    let want = granted(&[on_server(1, 2)]);
-    layout_is(&rt, alloc, flex, &one, want)?;
-    let all = [
-        on_server(1, 2),
-        on_server(2, 3),
-        on_server(16, 4),
-        on_server(4, 5),
-    ];
-    let four: [&[u32]; 6] = [&mirrors_of(4), &a, &b, &c, &d, &end];
-    layout_is(&rt, alloc, flex, &four, granted(&all))?;
-    // for reading; of another type; bytes behind the body; no mirror, five, two on one server
-    layout_is(&rt, alloc, [1, 4], &one, odd)?;
-    layout_is(&rt, alloc, [2, 1], &one, odd)?;
-    layout_is(&rt, alloc, flex, &[&mirrors_of(1), &a, &end, &[0]], odd)?;
-    layout_is(&rt, alloc, flex, &[&mirrors_of(0), &end], odd)?;
-    let e = mirror(5, 6);
-    let five: [&[u32]; 7] = [&mirrors_of(5), &a, &b, &c, &d, &e, &end];
-    layout_is(&rt, alloc, flex, &five, odd)?;
-    let twice = mirror(1, 7);
-    layout_is(&rt, alloc, flex, &[&mirrors_of(2), &a, &twice, &end], odd)?;
-    // server 17; a device that is none of a data server; a group of another number; a handle of 7 bytes
-    let far = mirror(17, 2);
-    let mut device = mirror(1, 2);
-    device[1] = 1;
-    let mut group = mirror(1, 2);
-    group[18] = 0x3635_3534;
-    let mut handle = mirror(1, 0);
-    handle[11] = 7;
-    for words in [far, device, group, handle] {
-        layout_is(&rt, alloc, flex, &[&mirrors_of(1), &words, &end], odd)?;
-    }
-    // a second mirror under another uid
-    let mut other = mirror(2, 3);
-    other[15] = 0x3635_3534;
-    other[18] = 0x3635_3534;
-    layout_is(&rt, alloc, flex, &[&mirrors_of(2), &a, &other, &end], odd)?;
-    // the user 065536 has six bytes
-    let zero: [u32; 20] = [
-        1,
-        0,
-        0,
-        0,
-        1,
-        1,
-        0,
-        0,
-        0,
-        0,
-        1,
-        8,
-        0,
-        2,
-        6,
-        0x3036_3535,
-        0x3336_0000,
-        6,
-        0x3036_3535,
-        0x3336_0000,
-    ];
-    layout_is(&rt, alloc, flex, &[&mirrors_of(1), &zero, &end], odd)?;
-    // two data servers in a mirror; two handles of one
-    let mut two = a;
-    two[0] = 2;
-    layout_is(
-        &rt,
-        alloc,
-        flex,
-        &[&mirrors_of(1), &two, &b[1..], &end],
-        odd,
-    )?;
-    let handles: [u32; 23] = [
-        1,
-        0,
-        0,
-        0,
-        1,
-        1,
-        0,
-        0,
-        0,
-        0,
-        2,
-        8,
-        0,
-        2,
-        8,
-        0,
-        3,
-        5,
-        0x3635_3533,
-        0x3600_0000,
-        5,
-        0x3635_3533,
-        0x3600_0000,
-    ];
-    layout_is(&rt, alloc, flex, &[&mirrors_of(1), &handles, &end], odd)?;
-    // no layout, and two
-    let none: [u32; 9] = [22, 0, 50, 0, 1, 6, 7, 8, 9];
-    let parts: [&[u32]; 4] = [&[0, 0, 3], &SEQUENCE, &none, &[0]];
-    reply_is(&rt, alloc, MdsAsk::LayoutGet, &parts, 0, odd)?;
-    let empty = [0, 0, 0, 0, 2, 4, 0];
-    let parts: [&[u32]; 6] = [&[0, 0, 3], &SEQUENCE, &none, &[2], &empty, &empty];
-    reply_is(&rt, alloc, MdsAsk::LayoutGet, &parts, 0, odd)?;
-    Ok(())
-}
-
-/// GETDEVICEINFO is OK: of flexible files, with one address over this network, no version, and no
-/// notification. `127.0.0.1.8.1` has 13 bytes.
-const DEVICE: [u32; 14] = [
-    47,
-    0,
-    4,
-    36,
-    1,
-    3,
-    0x7463_7000,
-    13,
-    0x3132_372E,
-    0x302E_302E,
-    0x312E_382E,
-    0x3100_0000,
-    0,
-    0,
-];
-
-#[test]
-fn devices(rt: HostRuntime) -> Result<(), Fail> {
-    let alloc = rt.alloc();
-    let odd = refused(SlotReport::Taken, Stat4::ServerFault);
-    let place = Some(NetAddr {
-        host: [127, 0, 0, 1],
-        port: 0x801,
-    });
-    let one = taken(MdsAnswer::Devices([place, None, None, None]));
-    let four = taken(MdsAnswer::Devices([place; 4]));
-    let none = taken(MdsAnswer::Devices([None; 4]));
-    let ask = |count| MdsAsk::DeviceInfo { count };
-    let d = DEVICE;
-    reply_is(&rt, alloc, ask(0), &[&[0, 0, 1], &SEQUENCE], 0, none)?;
-    reply_is(&rt, alloc, ask(1), &[&[0, 0, 2], &SEQUENCE, &d], 0, one)?;
-    let all: [&[u32]; 6] = [&[0, 0, 5], &SEQUENCE, &d, &d, &d, &d];
-    reply_is(&rt, alloc, ask(4), &all, 0, four)?;
-    reply_is(&rt, alloc, ask(3), &all, 0, odd)?;
-    reply_is(&rt, alloc, ask(2), &[&[0, 0, 2], &SEQUENCE, &d], 0, odd)?;
-    // another network; another type; an address of five numbers, one with a leading zero
-    let table: [(usize, u32); 3] = [(6, 0x7564_7000), (2, 1), (9, 0x302E_3030)];
-    for (place, word) in table {
-        let mut words = DEVICE;
-        words[place] = word;
-        let parts: [&[u32]; 3] = [&[0, 0, 2], &SEQUENCE, &words];
-        reply_is(&rt, alloc, ask(1), &parts, 0, odd)?;
-    }
+    let told = mds_reply_of(&MdsAsk::Write, &reply);
+    let text = format!(in alloc; "{:?} {:?}", told.slot, told.answer)?;
+    assert_eq!(rt; text.as_str(), "Unknown Refused(ServerFault)");
     Ok(())
 }
