@@ -4,28 +4,27 @@ use Rattle.std.specs.Prelude.{slice_get, if◌then◌else◌}
 use Rattle.std.proofs.lemmas.Bool.{cases_lt, leb-true, leb-false}
 use Rattle.std.proofs.lemmas.Option.{same_Some, slice_get_within}
 use Rattle.record_link.specs.declared.rank.Rank.{Rank}
-use Rattle.record_link.specs.declared.peer.Peer.{Peer}
-use Rattle.record_link.specs.Connections.{rank_of, better, HasNone, IsLeast}
+use Rattle.record_link.specs.Connections.{PeerState, rank_of, better, HasNone, IsLeast}
 
 -- none of the first n has the rank
-abbrev pub NoneBelow : Rank → List Peer → ℕ → Type 0
-NoneBelow rank peers n = (i : ℕ) (e : Peer) → i < n → slice_get peers i ≡ Some e → rank_of rank e ≡ None
+abbrev pub NoneBelow : Rank → List PeerState → ℕ → Type 0
+NoneBelow rank peers n = (i : ℕ) (e : PeerState) → i < n → slice_get peers i ≡ Some e → rank_of rank e ≡ None
 
 -- the best of the first n
-pub record BestBelow (rank : Rank) (peers : List Peer) (n place key : ℕ) : Type 0 where
-  pub peer : Peer
+pub record BestBelow (rank : Rank) (peers : List PeerState) (n place key : ℕ) : Type 0 where
+  pub peer : PeerState
   pub below : place < n
   pub at : slice_get peers place ≡ Some peer
   pub ranked : rank_of rank peer ≡ Some key
-  pub lowest : (i : ℕ) (e : Peer) (k : ℕ) → i < n → slice_get peers i ≡ Some e → rank_of rank e ≡ Some k → key ≤ k
-  pub first : (i : ℕ) (e : Peer) (k : ℕ) → slice_get peers i ≡ Some e → rank_of rank e ≡ Some k → i < place → key < k
+  pub lowest : (i : ℕ) (e : PeerState) (k : ℕ) → i < n → slice_get peers i ≡ Some e → rank_of rank e ≡ Some k → key ≤ k
+  pub first : (i : ℕ) (e : PeerState) (k : ℕ) → slice_get peers i ≡ Some e → rank_of rank e ≡ Some k → i < place → key < k
 
-abbrev pub IsBest : Rank → List Peer → ℕ → Option (ℕ × ℕ) → Type 0
+abbrev pub IsBest : Rank → List PeerState → ℕ → Option (ℕ × ℕ) → Type 0
 IsBest rank peers n None = NoneBelow rank peers n
 IsBest rank peers n (Some best) = BestBelow rank peers n best.0 best.1
 
-module _ (rank : Rank) (peers : List Peer) (n : ℕ) (peer : Peer) (at : slice_get peers n ≡ Some peer) where
-  same : (i : ℕ) (e : Peer) → i < n + 1 → n ≤ i → slice_get peers i ≡ Some e → rank_of rank e ≡ rank_of rank peer
+module _ (rank : Rank) (peers : List PeerState) (n : ℕ) (peer : PeerState) (at : slice_get peers n ≡ Some peer) where
+  same : (i : ℕ) (e : PeerState) → i < n + 1 → n ≤ i → slice_get peers i ≡ Some e → rank_of rank e ≡ rank_of rank peer
   same i e below over there =
       let last : i ≡ n = omega arith in
       ap (λ x. rank_of rank x) (same_Some e peer (sym there ∙ ap (λ j. slice_get peers j) last ∙ at))
@@ -47,11 +46,11 @@ module _ (rank : Rank) (peers : List Peer) (n : ℕ) (peer : Peer) (at : slice_g
     first = best.first;
   }
     where
-      by_case : (i : ℕ) (e : Peer) (k : ℕ) → i < n + 1 → slice_get peers i ≡ Some e → rank_of rank e ≡ Some k → (i < n) ⊎ (n ≤ i) → key ≤ k
+      by_case : (i : ℕ) (e : PeerState) (k : ℕ) → i < n + 1 → slice_get peers i ≡ Some e → rank_of rank e ≡ Some k → (i < n) ⊎ (n ≤ i) → key ≤ k
       by_case i e k below there ranked (inl less) = best.lowest i e k less there ranked
       by_case i e k below there ranked (inr over) = low k (sym (same i e below over there) ∙ ranked)
 
-  best_new : (key : ℕ) → rank_of rank peer ≡ Some key → ((i : ℕ) (e : Peer) (k : ℕ) → i < n → slice_get peers i ≡ Some e → rank_of rank e ≡ Some k → key < k) → BestBelow rank peers (n + 1) n key
+  best_new : (key : ℕ) → rank_of rank peer ≡ Some key → ((i : ℕ) (e : PeerState) (k : ℕ) → i < n → slice_get peers i ≡ Some e → rank_of rank e ≡ Some k → key < k) → BestBelow rank peers (n + 1) n key
   best_new key is low = record {
     peer = peer;
     below = omega arith;
@@ -61,7 +60,7 @@ module _ (rank : Rank) (peers : List Peer) (n : ℕ) (peer : Peer) (at : slice_g
     first = λ i e k there ranked below. low i e k below there ranked;
   }
     where
-      by_case : (i : ℕ) (e : Peer) (k : ℕ) → i < n + 1 → slice_get peers i ≡ Some e → rank_of rank e ≡ Some k → (i < n) ⊎ (n ≤ i) → key ≤ k
+      by_case : (i : ℕ) (e : PeerState) (k : ℕ) → i < n + 1 → slice_get peers i ≡ Some e → rank_of rank e ≡ Some k → (i < n) ⊎ (n ≤ i) → key ≤ k
       by_case i e k below there ranked (inl less) = let lower = low i e k less there ranked in omega arith
       by_case i e k below there ranked (inr over) = let equal : key ≡ k = same_Some key k (sym is ∙ sym (same i e below over there) ∙ ranked) in omega arith
 
@@ -75,14 +74,14 @@ module _ (rank : Rank) (peers : List Peer) (n : ℕ) (peer : Peer) (at : slice_g
       by_case true low = best_kept b.0 b.1 best (λ k ranked. let equal : key ≡ k = same_Some key k (sym is ∙ ranked) in omega (arith, equal, leb-true b.1 key low))
       by_case false high = best_new key is (λ i e k below there ranked. let lower = best.lowest i e k below there ranked in omega (arith, lower, leb-false b.1 key high))
 
-pub none_first : (rank : Rank) (peers : List Peer) → IsBest rank peers 0 None
+pub none_first : (rank : Rank) (peers : List PeerState) → IsBest rank peers 0 None
 none_first rank peers i e below there = absurd (omega (arith, below))
 
 -- the best of all
-pub none_all : (rank : Rank) (peers : List Peer) (n : ℕ) → n ≡ length peers → IsBest rank peers n None → HasNone rank peers
+pub none_all : (rank : Rank) (peers : List PeerState) (n : ℕ) → n ≡ length peers → IsBest rank peers n None → HasNone rank peers
 none_all rank peers n all none i e there = none i e (omega (arith, all, slice_get_within peers i e there)) there
 
-pub best_all : (rank : Rank) (peers : List Peer) (n place key : ℕ) → n ≡ length peers → BestBelow rank peers n place key → IsLeast rank peers place
+pub best_all : (rank : Rank) (peers : List PeerState) (n place key : ℕ) → n ≡ length peers → BestBelow rank peers n place key → IsLeast rank peers place
 best_all rank peers n place key all best = record {
   peer = best.peer;
   key = key;

@@ -1,10 +1,10 @@
 //! Connections under numbers.
 
-ghost use Rattle.std.specs.Prelude.{◌≡◌, ◌≤◌, ◌<◌, ◌+◌, max, List, ℕ, Option, Some, length, MatchOption};
+ghost use Rattle.std.specs.Prelude.{◌≡◌, ◌+◌, ◌-◌, ◌^◌, ◌==◌, length, MatchOption};
 ghost use Rattle.rpc_record.specs.Frames.{is_whole};
 ghost use Rattle.rpc_record.specs.Stream.{one_more};
 ghost use Rattle.record_link.specs.declared.rank.Rank.{Rank};
-ghost use Rattle.record_link.specs.Connections.{HasNone, IsNumberOf, no_connections, at_time, OpensConnection, Closes, Crowds, FillsOf, HandsOut, AnswersOf, DrainsOf, with_peers, wants_bytes, Asks};
+ghost use Rattle.record_link.specs.Connections.{HasNone, IsNumberOf, no_connections, at_time, OpensConnection, Closes, Crowds, FillsOf, HandsOut, AnswersOf, DrainsOf, with_peers, wants_bytes, Asks, HasStream};
 
 use crate::peer::Peer;
 use crate::rank::{Rank, least};
@@ -17,17 +17,17 @@ use std::marker::Model;
 /// The most connections that are open at once.
 pub const MAX_CONNECTIONS: usize = 64;
 
-/// Connections, each under a number that is given once, in rising order.
+/// Connections over their own streams, each under a number that is given once, in rising order.
 #[derive(Drop)]
-pub struct Connections {
+pub struct Connections<S: Stream> {
     alloc: Global,
-    peers: Vec<Peer>,
+    peers: Vec<Peer<S>>,
     given: u32,
     orders: u64,
     time: u64,
 }
 
-impl Model for Connections {
+impl<S: Stream> Model for Connections<S> {
     ghost use Rattle.record_link.specs.Connections.{ConnectionsState};
 
     ghost Value = { ConnectionsState };
@@ -35,53 +35,43 @@ impl Model for Connections {
     ghost view = { λ c. record { peers = c.peers.items; given = c.given; orders = c.orders; time = c.time } };
 }
 
-/// Reads once from the stream of the connection of this number. One that is gone is lost.
-fn fill_of<S: Stream>(
-    peers: &mut [Peer],
-    number: u32,
-    stream: &mut S,
-    now: u64,
-    order: u64,
-) -> Result<(), Halt>
-    ensures told { FillsOf number now order peers.old (S.coming stream.old) result peers.new (S.coming stream.new) }
-    ensures gone { S.gone stream.new ≡ S.gone stream.old }
+/// Reads once on the connection of this number. One that is gone is lost.
+fn fill_of<S: Stream>(peers: &mut [Peer<S>], number: u32, now: u64, order: u64) -> Result<(), Halt>
+    ensures { FillsOf number now order peers.old result peers.new }
 {
     match least(peers, Rank::Numbered(number)) {
         Some(place) => {
             let peer = &mut peers[place];
-            peer.fill(stream, now, order)
+            peer.fill(now, order)
         }
         None => Err(Halt::Lost),
     }
 }
 
-/// Writes what is to go on the connection of this number to its stream. One that is gone is lost.
-fn drain_of<S: Stream>(
-    peers: &mut [Peer],
-    number: u32,
-    stream: &mut S,
-    now: u64,
-) -> Result<(), Halt>
-    ensures told { DrainsOf number now peers.old (S.gone stream.old) result peers.new (S.gone stream.new) }
-    ensures coming { S.coming stream.new ≡ S.coming stream.old }
+/// Writes what is to go on the connection of this number. One that is gone is lost.
+fn drain_of<S: Stream>(peers: &mut [Peer<S>], number: u32, now: u64) -> Result<(), Halt>
+    ensures { DrainsOf number now peers.old result peers.new }
 {
     match least(peers, Rank::Numbered(number)) {
         Some(place) => {
             let peer = &mut peers[place];
-            peer.drain(stream, now)
+            peer.drain(now)
         }
         None => Err(Halt::Lost),
     }
 }
 
 /// Hands out the record that became whole first, of those that may be handed out.
-fn hand_out_of(peers: &mut [Peer], order: u64) -> Result<Option<(u32, Data)>, NoMemory>
+fn hand_out_of<S: Stream>(
+    peers: &mut [Peer<S>],
+    order: u64,
+) -> Result<Option<(u32, Data)>, NoMemory>
     ensures { HandsOut order peers.old result peers.new }
 {
     match least(peers, Rank::Ready) {
         Some(place) => {
             let peer = &mut peers[place];
-            let number = peer.number;
+            let number = peer.number();
             match peer.hand_out(order) {
                 Ok(Some(message)) => Ok(Some((number, message))),
                 Ok(None) => Ok(None),
@@ -93,7 +83,12 @@ fn hand_out_of(peers: &mut [Peer], order: u64) -> Result<Option<(u32, Data)>, No
 }
 
 /// Puts the record of an answer behind what is to go on the connection of this number.
-fn answer_of(peers: &mut [Peer], number: u32, message: &[u8], now: u64) -> Result<(), NoMemory>
+fn answer_of<S: Stream>(
+    peers: &mut [Peer<S>],
+    number: u32,
+    message: &[u8],
+    now: u64,
+) -> Result<(), NoMemory>
     ensures { AnswersOf number now peers.old message.now result peers.new }
 {
     if message.len() > MAX_RECORD {
@@ -109,7 +104,7 @@ fn answer_of(peers: &mut [Peer], number: u32, message: &[u8], now: u64) -> Resul
 }
 
 /// Whether more is to be read on the connection of this number.
-fn asks_bytes(peers: &[Peer], number: u32) -> bool
+fn asks_bytes<S: Stream>(peers: &[Peer<S>], number: u32) -> bool
     ensures { Asks number wants_bytes peers.now result }
 {
     match least(peers, Rank::Numbered(number)) {
@@ -119,28 +114,38 @@ fn asks_bytes(peers: &[Peer], number: u32) -> bool
 }
 
 /// Whether a record of the connection of this number waits.
-fn asks_record(peers: &[Peer], number: u32) -> bool
+fn asks_record<S: Stream>(peers: &[Peer<S>], number: u32) -> bool
     ensures { Asks number (λ e. is_whole e.connection.front) peers.now result }
 {
     match least(peers, Rank::Numbered(number)) {
-        Some(place) => peers[place].connection.is_whole(),
+        Some(place) => peers[place].is_whole(),
         None => false,
     }
 }
 
-/// The number of the first peer by a rank.
-fn number_of(peers: &[Peer], rank: Rank) -> Option<u32>
-    ensures { MatchOption result (HasNone rank peers.now) (λ n. IsNumberOf rank peers.now n) }
+/// The stream of the connection of this number.
+fn stream_of<S: Stream>(peers: &[Peer<S>], number: u32) -> Option<&S>
+    ensures { MatchOption result (HasNone (Rank.Numbered number) peers.now) (λ s. HasStream number peers.now (S.coming s.now) (S.gone s.now)) }
 {
-    match least(peers, rank) {
-        Some(place) => Some(peers[place].number),
+    match least(peers, Rank::Numbered(number)) {
+        Some(place) => Some(peers[place].stream()),
         None => None,
     }
 }
 
-impl Connections {
+/// The number of the first peer by a rank.
+fn number_of<S: Stream>(peers: &[Peer<S>], rank: Rank) -> Option<u32>
+    ensures { MatchOption result (HasNone rank peers.now) (λ n. IsNumberOf rank peers.now n) }
+{
+    match least(peers, rank) {
+        Some(place) => Some(peers[place].number()),
+        None => None,
+    }
+}
+
+impl<S: Stream + Drop> Connections<S> {
     /// No connections; takes no memory.
-    pub fn new(alloc: Global) -> Connections
+    pub fn new(alloc: Global) -> Connections<S>
         ensures { result ≡ no_connections }
     {
         Connections {
@@ -159,16 +164,34 @@ impl Connections {
         self.time = self.time.max(time);
     }
 
-    /// Opens a connection under the next number. `None` where as many are open as may be, or all
-    /// numbers are given. At an error nothing has changed.
-    pub fn open(&mut self) -> Result<Option<u32>, NoMemory>
-        ensures { OpensConnection self.old result self.new }
+    /// The number of the next connection that is opened, or none where all are given.
+    pub fn next_number(&self) -> Option<u32>
+        ensures { MatchOption result (self.now.given ≡ 2 ^ 32 - 1) (λ n. n ≡ self.now.given + 1) }
+    {
+        if self.given == u32::MAX {
+            return None;
+        }
+        Some(self.given + 1)
+    }
+
+    /// No connection is open.
+    pub fn is_empty(&self) -> bool
+        ensures { result ≡ (length self.now.peers == 0) }
+    {
+        self.peers.is_empty()
+    }
+
+    /// Opens a connection over this stream, under the next number. `None` where as many are open as may
+    /// be, or all numbers are given; the stream is dropped then. At an error nothing has changed.
+    pub fn open(&mut self, stream: S) -> Result<Option<u32>, NoMemory>
+        ensures { OpensConnection self.old (S.coming stream) (S.gone stream) result self.new }
     {
         if self.peers.len() >= MAX_CONNECTIONS || self.given == u32::MAX {
             return Ok(None);
         }
         let number = self.given + 1;
-        self.peers.push(Peer::new(self.alloc, number, self.time))?;
+        let peer = Peer::new(self.alloc, number, stream, self.time);
+        self.peers.push(peer)?;
         self.given = number;
         Ok(Some(number))
     }
@@ -206,6 +229,13 @@ impl Connections {
         asks_bytes(&self.peers, number)
     }
 
+    /// The stream of the connection of this number.
+    pub fn stream(&self, number: u32) -> Option<&S>
+        ensures { MatchOption result (HasNone (Rank.Numbered number) self.now.peers) (λ s. HasStream number self.now.peers (S.coming s.now) (S.gone s.now)) }
+    {
+        stream_of(&self.peers, number)
+    }
+
     /// Whether a record of the connection of this number waits to be handed out.
     pub fn has_record(&self, number: u32) -> bool
         ensures { Asks number (λ e. is_whole e.connection.front) self.now.peers result }
@@ -222,25 +252,23 @@ impl Connections {
 
     /// Reads once from the stream of the connection of this number, and reads what came as records.
     /// One that is gone is lost.
-    pub fn fill<S: Stream>(&mut self, number: u32, stream: &mut S) -> Result<(), Halt>
-        ensures told { FillsOf number self.old.time self.old.orders self.old.peers (S.coming stream.old) result self.new.peers (S.coming stream.new) }
-        ensures gone { S.gone stream.new ≡ S.gone stream.old }
+    pub fn fill(&mut self, number: u32) -> Result<(), Halt>
+        ensures told { FillsOf number self.old.time self.old.orders self.old.peers result self.new.peers }
         ensures rest { self.new ≡ with_peers self.old self.new.peers (one_more self.old.orders) }
     {
         let order = self.orders;
         self.orders = order.saturating_add(1);
         let time = self.time;
-        fill_of(&mut self.peers, number, stream, time, order)
+        fill_of(&mut self.peers, number, time, order)
     }
 
     /// Writes what is to go on the connection of this number to its stream. One that is gone is lost.
-    pub fn drain<S: Stream>(&mut self, number: u32, stream: &mut S) -> Result<(), Halt>
-        ensures told { DrainsOf number self.old.time self.old.peers (S.gone stream.old) result self.new.peers (S.gone stream.new) }
-        ensures coming { S.coming stream.new ≡ S.coming stream.old }
+    pub fn drain(&mut self, number: u32) -> Result<(), Halt>
+        ensures told { DrainsOf number self.old.time self.old.peers result self.new.peers }
         ensures rest { self.new ≡ with_peers self.old self.new.peers self.old.orders }
     {
         let time = self.time;
-        drain_of(&mut self.peers, number, stream, time)
+        drain_of(&mut self.peers, number, time)
     }
 
     /// The next record and the number of its connection: of those that may be handed out, the one that

@@ -5,6 +5,7 @@
 mod ahead;
 mod connection;
 mod connections;
+mod line;
 mod memory_stream;
 mod outgoing;
 mod peer;

@@ -1,14 +1,16 @@
 //! A connection under its number.
 
-ghost use Rattle.std.specs.Prelude.{◌≡◌, ◌+◌, ◌≤◌, nat_le, List, ℕ, Option, length, OnOk, OnErr};
-ghost use Rattle.rpc_record.specs.Frames.{max_record};
+ghost use Rattle.std.specs.Prelude.{◌≡◌, ◌+◌, ◌≤◌, nat_le, ℕ, length, OnOk, OnErr};
+ghost use Rattle.rpc_record.specs.Frames.{is_whole, max_record};
 ghost use Rattle.record_link.specs.Connections.{is_ready, wants_bytes, is_stuck, is_finished, is_idle, is_to_close, new_peer, order_after, Settles, FillsPeer, HandsPeer, AnswersPeer, DrainsPeer};
 
 use crate::connection::Connection;
+use crate::line::Line;
 use crate::stream::{Halt, Stream};
 use ff_xdr::{Data, NoMemory};
 use rpc_record::RecordFault;
 use std::alloc::Global;
+use std::marker::Model;
 
 /// A peer that sends nothing, with nothing unanswered, is kept so many milliseconds.
 pub const IDLE_LIMIT: u64 = 60_000;
@@ -25,43 +27,87 @@ pub const MOST_WAITING: usize = 4_194_304;
 /// The most bytes that wait for a peer when another record of its is handed out.
 pub const HIGH_WATER: usize = 1_048_576;
 
-/// A connection under its number.
+/// A connection under its number, over its own stream. Clauses see what came and what goes on it,
+/// its times, and what its stream tells.
 #[derive(Drop)]
-pub struct Peer {
-    /// Its number, given once.
-    pub number: u32,
-    /// What came and what goes.
-    pub connection: Connection,
-    /// When it was opened or the last bytes came, in milliseconds.
-    pub heard: u64,
-    /// When bytes began to wait for it or the last of them went, in milliseconds.
-    pub moved: u64,
-    /// Its place in the order in which records became whole.
-    pub order: u64,
+pub struct Peer<S: Stream> {
+    // given once
+    number: u32,
+    line: Line<S>,
+    // when it was opened or the last bytes came, in milliseconds
+    heard: u64,
+    // when bytes began to wait for it or the last of them went, in milliseconds
+    moved: u64,
+    // its place in the order in which records became whole
+    order: u64,
 }
 
-impl Peer {
+impl<S: Stream> Model for Peer<S> {
+    ghost use Rattle.record_link.specs.Connections.{PeerState};
+
+    ghost Value = { PeerState };
+
+    ghost view = { λ p. record { number = p.number; connection = p.line.connection; heard = p.heard; moved = p.moved; order = p.order; coming = S.coming p.line.stream; gone = S.gone p.line.stream } };
+}
+
+impl<S: Stream> Peer<S> {
+    /// Its number, given once.
+    pub fn number(&self) -> u32
+        ensures { result ≡ self.now.number }
+    {
+        self.number
+    }
+
+    /// Its stream.
+    pub fn stream(&self) -> &S
+        ensures coming { S.coming result.now ≡ self.now.coming }
+        ensures gone { S.gone result.now ≡ self.now.gone }
+    {
+        &self.line.stream
+    }
+
+    /// When it was opened or the last bytes came, in milliseconds.
+    pub fn heard(&self) -> u64
+        ensures { result ≡ self.now.heard }
+    {
+        self.heard
+    }
+
+    /// Its place in the order in which records became whole.
+    pub fn order(&self) -> u64
+        ensures { result ≡ self.now.order }
+    {
+        self.order
+    }
+
+    /// A record of it is whole, and waits to be handed out.
+    pub fn is_whole(&self) -> bool
+        ensures { result ≡ is_whole self.now.connection.front }
+    {
+        self.line.connection.is_whole()
+    }
+
     /// A record of it may be handed out.
     pub fn is_ready(&self) -> bool
         ensures { result ≡ is_ready self.now }
     {
-        self.connection.is_whole() && self.connection.waiting() <= HIGH_WATER
+        self.line.connection.is_whole() && self.line.connection.waiting() <= HIGH_WATER
     }
 
     /// More is to be read from it: no record of it waits, it has not ended, and it reads what it is sent.
     pub fn wants_bytes(&self) -> bool
         ensures { result ≡ wants_bytes self.now }
     {
-        !self.connection.is_whole()
-            && !self.connection.is_spent()
-            && self.connection.waiting() <= HIGH_WATER
+        !self.line.connection.is_whole()
+            && !self.line.connection.is_spent()
+            && self.line.connection.waiting() <= HIGH_WATER
     }
 
     /// Too much waits for it, or did not move for too long.
     fn is_stuck(&self, now: u64) -> bool
         ensures { result ≡ is_stuck now self.now }
     {
-        let waiting = self.connection.waiting();
+        let waiting = self.line.connection.waiting();
         waiting > MOST_WAITING || (waiting != 0 && has_passed(self.moved, STUCK_LIMIT, now))
     }
 
@@ -70,17 +116,17 @@ impl Peer {
         ensures { result ≡ is_finished now self.now }
     {
         let moved = self.heard.max(self.moved);
-        self.connection.is_spent()
-            && self.connection.waiting() == 0
-            && (self.connection.is_answered() || has_passed(moved, ANSWER_LIMIT, now))
+        self.line.connection.is_spent()
+            && self.line.connection.waiting() == 0
+            && (self.line.connection.is_answered() || has_passed(moved, ANSWER_LIMIT, now))
     }
 
     /// It was silent for too long.
     fn is_idle(&self, now: u64) -> bool
         ensures { result ≡ is_idle now self.now }
     {
-        !self.connection.is_whole()
-            && self.connection.is_answered()
+        !self.line.connection.is_whole()
+            && self.line.connection.is_answered()
             && has_passed(self.heard, IDLE_LIMIT, now)
     }
 
@@ -91,13 +137,16 @@ impl Peer {
         self.is_stuck(now) || self.is_finished(now) || self.is_idle(now)
     }
 
-    /// The peer of a new connection; takes no memory.
-    pub fn new(alloc: Global, number: u32, now: u64) -> Peer
-        ensures { result ≡ new_peer number now }
+    /// The peer of a new connection over this stream; takes no memory.
+    pub fn new(alloc: Global, number: u32, stream: S, now: u64) -> Peer<S>
+        ensures { result ≡ new_peer number now (S.coming stream) (S.gone stream) }
     {
         Peer {
             number,
-            connection: Connection::new(alloc),
+            line: Line {
+                stream,
+                connection: Connection::new(alloc),
+            },
             heard: now,
             moved: now,
             order: 0,
@@ -108,24 +157,23 @@ impl Peer {
     fn order_after(&self, order: u64) -> u64
         ensures { result ≡ order_after self.now order }
     {
-        if self.connection.is_whole() {
+        if self.line.connection.is_whole() {
             self.order
         } else {
             order
         }
     }
 
-    /// Reads once from the stream, and reads what came as records.
-    pub fn fill<S: Stream>(&mut self, stream: &mut S, now: u64, order: u64) -> Result<(), Halt>
-        ensures told { FillsPeer now order self.old (S.coming stream.old) result self.new (S.coming stream.new) }
-        ensures gone { S.gone stream.new ≡ S.gone stream.old }
+    /// Reads once from its stream, and reads what came as records.
+    pub fn fill(&mut self, now: u64, order: u64) -> Result<(), Halt>
+        ensures { FillsPeer now order self.old result self.new }
     {
         let order = self.order_after(order);
-        match self.connection.fill(stream) {
+        match self.line.fill() {
             Ok(_) => {
                 self.heard = now;
                 self.order = order;
-                settle(&mut self.connection)?;
+                settle(&mut self.line.connection)?;
                 Ok(())
             }
             Err(Halt::Ended) => {
@@ -141,11 +189,11 @@ impl Peer {
     pub fn hand_out(&mut self, order: u64) -> Result<Option<Data>, NoMemory>
         ensures { HandsPeer order self.old result self.new }
     {
-        let Some(message) = self.connection.next_record() else {
+        let Some(message) = self.line.connection.next_record() else {
             return Ok(None);
         };
         self.order = order;
-        settle(&mut self.connection)?;
+        settle(&mut self.line.connection)?;
         Ok(Some(message))
     }
 
@@ -154,22 +202,21 @@ impl Peer {
         requires { length message.now ≤ max_record }
         ensures { AnswersPeer now self.old message.now result self.new }
     {
-        let was_empty = self.connection.waiting() == 0;
-        self.connection.answer(message)?;
+        let was_empty = self.line.connection.waiting() == 0;
+        self.line.connection.answer(message)?;
         if was_empty {
             self.moved = now;
         }
         Ok(())
     }
 
-    /// Writes what is to go to the stream, until all went or the stream takes no more.
-    pub fn drain<S: Stream>(&mut self, stream: &mut S, now: u64) -> Result<(), Halt>
-        ensures told { DrainsPeer now self.old (S.gone stream.old) result self.new (S.gone stream.new) }
-        ensures coming { S.coming stream.new ≡ S.coming stream.old }
+    /// Writes what is to go to its stream, until all went or the stream takes no more.
+    pub fn drain(&mut self, now: u64) -> Result<(), Halt>
+        ensures { DrainsPeer now self.old result self.new }
     {
-        let before = self.connection.waiting();
-        let drained = self.connection.drain(stream);
-        if self.connection.waiting() != before {
+        let before = self.line.connection.waiting();
+        let drained = self.line.drain();
+        if self.line.connection.waiting() != before {
             self.moved = now;
         }
         drained

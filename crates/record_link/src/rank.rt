@@ -1,9 +1,10 @@
 //! Which of the connections comes first.
 
-ghost use Rattle.std.specs.Prelude.{◌≡◌, ℕ, MatchOption};
+ghost use Rattle.std.specs.Prelude.{◌≡◌, ◌<◌, length, MatchOption, IfSome};
 ghost use Rattle.record_link.specs.Connections.{rank_of, better, HasNone, IsLeast};
 
 use crate::peer::Peer;
+use crate::stream::Stream;
 
 /// What connections are ranked by.
 #[derive(Clone, Copy, Debug)]
@@ -18,23 +19,24 @@ pub enum Rank {
     Over(u64),
 }
 
-impl Peer {
+impl<S: Stream> Peer<S> {
     /// Where it comes by a rank.
     fn rank(&self, rank: Rank) -> Option<u64>
         ensures { result ≡ rank_of rank self.now }
     {
         match rank {
-            Rank::Numbered(number) => (self.number == number).then_some(0),
-            Rank::Silent => Some(self.heard),
-            Rank::Ready => self.is_ready().then_some(self.order),
+            Rank::Numbered(number) => (self.number() == number).then_some(0),
+            Rank::Silent => Some(self.heard()),
+            Rank::Ready => self.is_ready().then_some(self.order()),
             Rank::Over(now) => self.is_to_close(now).then_some(0),
         }
     }
 }
 
 /// The place of the peer with the lowest rank, and of those the first.
-pub fn least(peers: &[Peer], rank: Rank) -> Option<usize>
-    ensures { MatchOption result (HasNone rank peers.now) (λ i. IsLeast rank peers.now i) }
+pub fn least<S: Stream>(peers: &[Peer<S>], rank: Rank) -> Option<usize>
+    ensures told { MatchOption result (HasNone rank peers.now) (λ i. IsLeast rank peers.now i) }
+    ensures within { IfSome result (λ i. i < length peers.now) }
 {
     let mut best: Option<(usize, u64)> = None;
     for index in 0..peers.len() {

@@ -17,22 +17,30 @@ const ONE_FOUR: [u8; 15] = [
     0x80, 0, 0, 3, b'o', b'n', b'e', 0x80, 0, 0, 4, b'f', b'o', b'u', b'r',
 ];
 
+/// The bytes that went on the connection of this number are these.
+fn has_gone(connections: &Connections<MemoryStream>, number: u32, want: &[u8]) -> bool {
+    match connections.stream(number) {
+        Some(stream) => stream.gone() == want,
+        None => false,
+    }
+}
+
 #[test]
 fn records_of_three_connections(rt: HostRuntime) -> Result<(), Fail> {
     let alloc = rt.alloc();
     let mut connections = Connections::new(alloc);
-    let mut first = stream(alloc, &ONE_FOUR, &[5, 0])?;
-    let mut second = stream(alloc, &ONE, &[])?;
-    let mut third = stream(alloc, &[0xff, 0xff, 0xff, 0xff], &[])?;
-    for number in 1..4 {
-        assert_eq!(rt; connections.open()?, Some(number));
-    }
-    assert_eq!(rt; connections.fill(1, &mut first), Ok(()));
-    assert_eq!(rt; connections.fill(1, &mut first), Err(Halt::WouldBlock));
-    assert_eq!(rt; connections.fill(2, &mut second), Ok(()));
-    assert_eq!(rt; connections.fill(1, &mut first), Ok(()));
-    assert_eq!(rt; connections.fill(3, &mut third), Ok(()));
-    assert_eq!(rt; connections.fill(9, &mut third), Err(Halt::Lost));
+    let first = stream(alloc, &ONE_FOUR, &[5, 0, 64, 3, 0])?;
+    let second = stream(alloc, &ONE, &[])?;
+    let third = stream(alloc, &[0xff, 0xff, 0xff, 0xff], &[])?;
+    assert_eq!(rt; connections.open(first)?, Some(1));
+    assert_eq!(rt; connections.open(second)?, Some(2));
+    assert_eq!(rt; connections.open(third)?, Some(3));
+    assert_eq!(rt; connections.fill(1), Ok(()));
+    assert_eq!(rt; connections.fill(1), Err(Halt::WouldBlock));
+    assert_eq!(rt; connections.fill(2), Ok(()));
+    assert_eq!(rt; connections.fill(1), Ok(()));
+    assert_eq!(rt; connections.fill(3), Ok(()));
+    assert_eq!(rt; connections.fill(9), Err(Halt::Lost));
     let want: [(u32, &[u8]); 3] = [(2, b"one"), (1, b"one"), (1, b"four")];
     for (number, message) in want {
         match connections.next_record()? {
@@ -48,26 +56,20 @@ fn records_of_three_connections(rt: HostRuntime) -> Result<(), Fail> {
     assert_eq!(rt; connections.over(), Some(3));
     assert!(rt; connections.close(3));
     assert_eq!(rt; connections.over(), None);
-    answers(&rt, alloc, &mut connections, &mut first)
+    answers(&rt, &mut connections)
 }
 
 /// Answers go on the connection that they answer, in the pieces that it takes.
-fn answers(
-    rt: &impl Abort,
-    alloc: Global,
-    connections: &mut Connections,
-    first: &mut MemoryStream,
-) -> Result<(), Fail> {
-    let mut other = stream(alloc, &[], &[3, 0])?;
+fn answers(rt: &impl Abort, connections: &mut Connections<MemoryStream>) -> Result<(), Fail> {
     connections.answer(1, b"one")?;
     connections.answer(1, b"four")?;
     connections.answer(9, b"lost")?;
-    assert_eq!(rt; connections.drain(2, &mut other), Ok(()));
-    assert_eq!(rt; other.gone().len(), 0);
-    assert_eq!(rt; connections.drain(1, &mut other), Err(Halt::WouldBlock));
-    assert_eq!(rt; connections.drain(1, &mut other), Ok(()));
-    assert_eq!(rt; other.gone(), &ONE_FOUR[..]);
-    assert_eq!(rt; connections.fill(1, first), Err(Halt::Ended));
+    assert_eq!(rt; connections.drain(2), Ok(()));
+    assert!(rt; has_gone(connections, 2, &[]));
+    assert_eq!(rt; connections.drain(1), Err(Halt::WouldBlock));
+    assert_eq!(rt; connections.drain(1), Ok(()));
+    assert!(rt; has_gone(connections, 1, &ONE_FOUR));
+    assert_eq!(rt; connections.fill(1), Err(Halt::Ended));
     assert_eq!(rt; connections.over(), Some(1));
     Ok(())
 }
@@ -79,19 +81,18 @@ fn limits(rt: HostRuntime) -> Result<(), Fail> {
     for time in 0..MAX_CONNECTIONS {
         connections.set_time(time as u64);
         assert_eq!(rt; connections.crowded(), None);
-        assert!(rt; connections.open()?.is_some());
+        assert!(rt; connections.open(stream(alloc, &[0], &[])?)?.is_some());
     }
-    assert_eq!(rt; connections.open()?, None);
+    assert_eq!(rt; connections.open(stream(alloc, &[0], &[])?)?, None);
     assert_eq!(rt; connections.crowded(), Some(1));
-    let mut one = stream(alloc, &[0], &[])?;
-    assert_eq!(rt; connections.fill(1, &mut one), Ok(()));
+    assert_eq!(rt; connections.fill(1), Ok(()));
     assert_eq!(rt; connections.crowded(), Some(2));
     connections.set_time(60_000);
     assert_eq!(rt; connections.over(), None);
     connections.set_time(60_001);
     assert_eq!(rt; connections.over(), Some(2));
     let mut other = Connections::new(alloc);
-    assert_eq!(rt; other.open()?, Some(1));
+    assert_eq!(rt; other.open(stream(alloc, &[], &[])?)?, Some(1));
     other.set_time(1_000);
     other.answer(1, b"never read")?;
     other.set_time(2_999);
