@@ -1,0 +1,12 @@
+//! A server that keeps many connections over any network: which is accepted, read, written and
+//! closed, and which record is handed out next.
+#![tactic(auto)]
+
+mod memory_network;
+mod network;
+mod readiness;
+mod server;
+
+pub use memory_network::MemoryNetwork;
+pub use network::Network;
+pub use server::RecordServer;
