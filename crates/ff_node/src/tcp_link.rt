@@ -8,7 +8,8 @@ use crate::link::{Arrival, Link, Opening, Role};
 use cluster_model::NodeId;
 use device_addr::NetAddr;
 use ff_xdr::NoMemory;
-use record_tcp::RecordServer;
+use record_server::RecordServer;
+use record_tcp::TcpNetwork;
 use rpc_record::Failed;
 use std::alloc::Global;
 use std::net::{IpAddr, Ipv4Addr, Net, SocketAddr};
@@ -21,7 +22,7 @@ pub struct TcpLink<'r, R: Net> {
     rt: &'r R,
     alloc: Global,
     opened: Option<Opening>,
-    server: Option<RecordServer>,
+    server: Option<RecordServer<TcpNetwork<'r, R>>>,
     faults: u64,
 }
 
@@ -69,9 +70,9 @@ impl<R: Net + Clock> Link for TcpLink<'_, R> {
         let Some(address) = opening.address else {
             return Err(self.fault());
         };
-        match RecordServer::bind(self.rt, self.alloc, socket_address(address)) {
-            Ok(server) => {
-                self.server = Some(server);
+        match TcpNetwork::bind(self.rt, self.alloc, socket_address(address)) {
+            Ok(network) => {
+                self.server = Some(RecordServer::new(self.alloc, network));
                 self.opened = Some(opening);
                 Ok(())
             }
@@ -82,7 +83,7 @@ impl<R: Net + Clock> Link for TcpLink<'_, R> {
     /// The next record. A link that is not open fails.
     fn next(&mut self) -> Result<Arrival, Failed> {
         let came = match &mut self.server {
-            Some(server) => server.next(self.rt),
+            Some(server) => server.next(),
             None => Err(Failed::Fault),
         };
         match came {

@@ -1,9 +1,10 @@
-//! Records over TCP (RFC 5531, section 11), on many connections at once.
+//! The network over TCP (RFC 5531, section 11): the calls of the system that a server stands on.
 #![tactic(auto)]
 
-mod server;
+mod network;
 mod socket;
 #[cfg(test)]
 mod tests;
 
-pub use server::RecordServer;
+pub use network::TcpNetwork;
+pub use socket::Socket;

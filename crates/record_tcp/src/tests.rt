@@ -1,6 +1,7 @@
 //! Three connections at once, over loopback.
 
-use crate::RecordServer;
+use crate::TcpNetwork;
+use record_server::RecordServer;
 use std::io::{Read, Write};
 use std::net::{IpAddr, Ipv4Addr, Shutdown, SocketAddr, TcpStream};
 use std::test::Fail;
@@ -30,8 +31,9 @@ const ANSWERS: [&[u8]; 3] = [
 #[test]
 fn three_connections(rt: HostRuntime) -> Result<(), Fail> {
     let any = SocketAddr::new(IpAddr::V4(Ipv4Addr::LOCALHOST), 0);
-    let mut server = RecordServer::bind(&rt, rt.alloc(), any)?;
-    let address = server.address()?;
+    let network = TcpNetwork::bind(&rt, rt.alloc(), any)?;
+    let address = network.address()?;
+    let mut server = RecordServer::new(rt.alloc(), network);
     let mut peers = Vec::new(rt.alloc());
     for _ in 0..3 {
         peers.push(TcpStream::connect(&rt, address)?)?;
@@ -45,7 +47,7 @@ fn three_connections(rt: HostRuntime) -> Result<(), Fail> {
         peer.shutdown(Shutdown::Write)?;
     }
     for _ in 0..6 {
-        if let Ok(Some((connection, message))) = server.next(&rt) {
+        if let Ok(Some((connection, message))) = server.next() {
             server.send(connection, message.bytes())?;
         }
     }
