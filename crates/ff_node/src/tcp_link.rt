@@ -18,7 +18,7 @@ use std::time::Clock;
 /// The link of a server over TCP. A connection that was accepted is the node `Client(k)`, with k its
 /// number from 1. It tells nothing of what comes and of what is sent.
 #[derive(Drop)]
-pub struct TcpLink<'r, R: Net> {
+pub struct TcpLink<'r, R: Net + Clock> {
     rt: &'r R,
     alloc: Global,
     opened: Option<Opening>,

@@ -1,5 +1,5 @@
 -- What a server does between two records: a run of steps, each on one connection at most.
-use Rattle.std.specs.Prelude.{◌≡◌, ◌⊎◌, ℕ, ◌-◌, ◌^◌, ◌≤◌, Bool, List, [], length, ◌∷◌, Option, None, Some, Result, Ok, Err}
+use Rattle.std.specs.Prelude.{◌≡◌, ◌⊎◌, ℕ, ◌-◌, ◌^◌, ◌≤◌, Bool, true, List, [], length, ◌∷◌, Option, None, Some, Result, Ok, Err}
 use Rattle.ff_xdr.specs.declared.error.NoMemory.{NoMemory}
 use Rattle.rpc_record.specs.declared.stream.Failed.{Failed}
 use Rattle.rpc_record.specs.declared.stream.Failed.TheVariants as failed
@@ -7,7 +7,7 @@ use Rattle.rpc_record.specs.Stream.{one_more}
 use Rattle.record_link.specs.declared.stream.Halt.{Halt}
 use Rattle.record_link.specs.declared.stream.Halt.TheVariants as halt
 use Rattle.record_link.specs.declared.rank.Rank.TheVariants.{Over}
-use Rattle.record_link.specs.Connections.{ConnectionsState, OpensConnection, Closes, Crowds, FillsOf, DrainsOf, HandsOut, AnswersOf, IsNumberOf, with_peers, at_time}
+use Rattle.record_link.specs.Connections.{ConnectionsState, OpensConnection, Closes, Crowds, FillsOf, DrainsOf, HandsOut, AnswersOf, IsNumberOf, with_peers, at_time, wants_bytes, Asks}
 use Rattle.record_server.specs.declared.server.Taken.{Taken}
 use Rattle.record_server.specs.declared.server.Taken.TheVariants as taken
 use Rattle.record_server.specs.Network.{Waiting, ComesNext}
@@ -66,7 +66,7 @@ pub data Step : Type 0 where
   Timed : (time : ℕ) → Step
   -- a connection was accepted, and opened under the next number; none where as many are open as may be, or all numbers are given
   Accepted : (opened : Option ℕ) → Step
-  -- the connection of this number was read once, from its own stream
+  -- the connection of this number, of which more is wanted, was read once, from its own stream
   Read : (number : ℕ) (result : Result (Unit {0}) Halt) → Step
   -- what is to go on it was written, to its own stream
   Wrote : (number : ℕ) (result : Result (Unit {0}) Halt) → Step
@@ -85,7 +85,7 @@ abbrev pub Steps : Step → ServerState → ServerState → Type 0
 Steps (Timed time) old new = (new.waiting ≡ old.waiting) × (new.connections ≡ at_time old.connections time)
 Steps (Accepted opened) old new =
     (coming gone : Option (List ℕ)) × ComesNext old.waiting coming new.waiting × OpensConnection old.connections coming gone (Ok opened) new.connections
-Steps (Read number result) old new = (new.waiting ≡ old.waiting) × ReadsOn number old.connections result new.connections
+Steps (Read number result) old new = (new.waiting ≡ old.waiting) × Asks number wants_bytes old.connections.peers true × ReadsOn number old.connections result new.connections
 Steps (Wrote number result) old new = (new.waiting ≡ old.waiting) × WritesOn number old.connections result new.connections
 Steps (Closed number cause) old new = (new.waiting ≡ old.waiting) × IsCause cause number old.connections × ClosesOn number old.connections new.connections
 Steps FoundNone old new = (new.waiting ≡ old.waiting) × HandsOn old.connections (Ok None) new.connections

@@ -6,6 +6,8 @@ mod memory_network;
 mod network;
 mod readiness;
 mod server;
+#[cfg(test)]
+mod tests;
 
 pub use memory_network::MemoryNetwork;
 pub use network::Network;

@@ -1,8 +1,9 @@
 //! A server that keeps many connections.
 
 ghost use Rattle.std.specs.Bool.{OnTrue};
-ghost use Rattle.std.specs.Prelude.{◌≡◌};
-ghost use Rattle.record_link.specs.Connections.{no_connections};
+ghost use Rattle.std.specs.Prelude.{◌≡◌, MatchOption};
+ghost use Rattle.record_link.specs.declared.rank.Rank.{Rank};
+ghost use Rattle.record_link.specs.Connections.{no_connections, HasNone, HasStream};
 ghost use Rattle.record_server.specs.Server.{server_state, Admits, ClosesOn, GivesRecord, GoesFor, IsSpent, MakesRoom, SendsRecord, Takes, Turns, WritesOnce};
 
 use crate::network::Network;
@@ -41,6 +42,13 @@ impl<N: Network + Drop> RecordServer<N> {
             connections: Connections::new(alloc),
             readiness: Readiness::new(alloc),
         }
+    }
+
+    /// The stream of the connection of this number, where it is open.
+    pub fn stream(&self, number: u32) -> Option<&N::Conn>
+        ensures { MatchOption result (HasNone (Rank.Numbered number) self.now.connections.peers) (λ s. HasStream number self.now.connections.peers (N.Conn.coming s.now) (N.Conn.gone s.now)) }
+    {
+        self.connections.stream(number)
     }
 
     /// The next record, and the number of the connection that it came on, from 1. It waits until one

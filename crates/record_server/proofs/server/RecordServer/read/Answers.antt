@@ -8,27 +8,28 @@ pub returns-in-Ok : goal.returns-in-Ok
 returns-in-Ok g c =
     let waiting = g.N.Network.waiting c.args.self.now.network in
     let old = c.args.self.now.connections in
-    one (Read c.args.number (Ok tt)) (server_state old waiting) (server_state c.fill.new.self waiting) (refl, filled c.args.number old c.fill.new.self c.fill.result (Ok tt) c.in-Ok.is (c.fill.ensures.told, c.fill.ensures.rest))
+    one (Read c.args.number (Ok tt)) (server_state old waiting) (server_state c.fill.new.self waiting) (refl, c.if-not-wants_bytes.ensures, filled c.args.number old c.fill.new.self c.fill.result (Ok tt) c.in-Ok.is (c.fill.ensures.told, c.fill.ensures.rest))
 
 pub returns-in-Err-WouldBlock : goal.returns-in-Err-WouldBlock
 returns-in-Err-WouldBlock g c =
     let waiting = g.N.Network.waiting c.args.self.now.network in
     let old = c.args.self.now.connections in
     one (Read c.args.number (Err halt.WouldBlock)) (server_state old waiting) (server_state c.fill.new.self waiting)
-    (refl, filled c.args.number old c.fill.new.self c.fill.result (Err halt.WouldBlock) (c.in-Err-WouldBlock.is ∙ ap Err c.in-Err-WouldBlock.field-0-is) (c.fill.ensures.told, c.fill.ensures.rest))
+    (refl, c.if-not-wants_bytes.ensures, filled c.args.number old c.fill.new.self c.fill.result (Err halt.WouldBlock) (c.in-Err-WouldBlock.is ∙ ap Err c.in-Err-WouldBlock.field-0-is) (c.fill.ensures.told, c.fill.ensures.rest))
 
 pub returns-in-Err-Ended : goal.returns-in-Err-Ended
 returns-in-Err-Ended g c =
     let waiting = g.N.Network.waiting c.args.self.now.network in
     let old = c.args.self.now.connections in
     one (Read c.args.number (Err halt.Ended)) (server_state old waiting) (server_state c.fill.new.self waiting)
-    (refl, filled c.args.number old c.fill.new.self c.fill.result (Err halt.Ended) (c.in-Err-Ended.is ∙ ap Err c.in-Err-Ended.field-0-is) (c.fill.ensures.told, c.fill.ensures.rest))
+    (refl, c.if-not-wants_bytes.ensures, filled c.args.number old c.fill.new.self c.fill.result (Err halt.Ended) (c.in-Err-Ended.is ∙ ap Err c.in-Err-Ended.field-0-is) (c.fill.ensures.told, c.fill.ensures.rest))
 
 pub returns-in-Err-Lost : goal.returns-in-Err-Lost
 returns-in-Err-Lost g c =
     let old = c.args.self.now.connections in
     one (Read c.args.number (Err halt.Lost)) (server_state old (g.N.Network.waiting c.args.self.now.network)) (server_state c.close.new.self.connections (g.N.Network.waiting c.close.new.self.network)) (
       ap (λ n. g.N.Network.waiting n) c.close.ensures.network,
+      c.if-not-wants_bytes.ensures,
       (c.fill.new.self, filled c.args.number old c.fill.new.self c.fill.result (Err halt.Lost) (c.in-Err-Lost.is ∙ ap Err c.in-Err-Lost.field-0-is) (c.fill.ensures.told, c.fill.ensures.rest), c.close.ensures.told),
     )
 
