@@ -43,7 +43,7 @@ whole_stays s message fed whole is =
     } in
     (0, takes, refl)
 
-not_refused : (fed piece left : List ℕ) (f : Front) → f ≡ front_of fed → StopsAt (front_of (fed ++ piece)) left → is_refused f ≡ false
+pub not_refused : (fed piece left : List ℕ) (f : Front) → f ≡ front_of fed → StopsAt (front_of (fed ++ piece)) left → is_refused f ≡ false
 unfolding resume
 not_refused fed piece left (Open part) e stops = refl
 not_refused fed piece left (Whole message rest) e stops = refl

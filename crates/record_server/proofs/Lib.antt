@@ -1,1 +1,4 @@
 pub mod StepLemmas
+pub mod AccountLemmas
+pub mod PeerLists
+pub mod HistoryLemmas

@@ -46,7 +46,7 @@ pub admitted : (old new : ConnectionsState) (waiting waiting' : Waiting) (coming
     → GoesOn (server_state old waiting) (server_state new waiting')
 admitted old new waiting waiting' coming gone comes admits =
     goes_on (server_state old waiting) (server_state admits.0 waiting) (server_state new waiting') (roomed old admits.0 waiting admits.2)
-    (one (Accepted admits.1) (server_state admits.0 waiting) (server_state new waiting') (coming, gone, comes, admits.3))
+    (one (Accepted admits.1 coming gone) (server_state admits.0 waiting) (server_state new waiting') (comes, admits.3))
 
 pub dropped : (old new : ConnectionsState) (waiting waiting' : Waiting) (coming : Option (List ℕ)) → ComesNext waiting coming waiting' → MakesRoom old new
     → EndsAt (server_state old waiting) failed.NoMemory (server_state new waiting')

@@ -1,2 +1,3 @@
 pub mod Network
 pub mod Server
+pub mod History

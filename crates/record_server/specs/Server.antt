@@ -64,8 +64,9 @@ pub data Cause : Type 0 where
 pub data Step : Type 0 where
   -- the clock shows so many milliseconds
   Timed : (time : ℕ) → Step
-  -- a connection was accepted, and opened under the next number; none where as many are open as may be, or all numbers are given
-  Accepted : (opened : Option ℕ) → Step
+  -- A connection was accepted whose stream tells this, and opened under the next number; under none where as many are open as
+  -- may be, or all numbers are given.
+  Accepted : (opened : Option ℕ) (coming gone : Option (List ℕ)) → Step
   -- the connection of this number, of which more is wanted, was read once, from its own stream
   Read : (number : ℕ) (result : Result (Unit {0}) Halt) → Step
   -- what is to go on it was written, to its own stream
@@ -83,8 +84,7 @@ IsCause IsCrowded number s = Crowds s.peers (Some number)
 -- what a step does
 abbrev pub Steps : Step → ServerState → ServerState → Type 0
 Steps (Timed time) old new = (new.waiting ≡ old.waiting) × (new.connections ≡ at_time old.connections time)
-Steps (Accepted opened) old new =
-    (coming gone : Option (List ℕ)) × ComesNext old.waiting coming new.waiting × OpensConnection old.connections coming gone (Ok opened) new.connections
+Steps (Accepted opened to_come went) old new = ComesNext old.waiting to_come new.waiting × OpensConnection old.connections to_come went (Ok opened) new.connections
 Steps (Read number result) old new = (new.waiting ≡ old.waiting) × Asks number wants_bytes old.connections.peers true × ReadsOn number old.connections result new.connections
 Steps (Wrote number result) old new = (new.waiting ≡ old.waiting) × WritesOn number old.connections result new.connections
 Steps (Closed number cause) old new = (new.waiting ≡ old.waiting) × IsCause cause number old.connections × ClosesOn number old.connections new.connections

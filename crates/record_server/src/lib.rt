@@ -2,6 +2,7 @@
 //! closed, and which record is handed out next.
 #![tactic(auto)]
 
+mod laws;
 mod memory_network;
 mod network;
 mod readiness;
@@ -9,6 +10,7 @@ mod server;
 #[cfg(test)]
 mod tests;
 
+pub use laws::server_law;
 pub use memory_network::MemoryNetwork;
 pub use network::Network;
 pub use server::RecordServer;

@@ -1,0 +1,96 @@
+-- Whole histories of a server, and what they say of each connection.
+use Rattle.std.specs.Prelude.{◌≡◌, ℕ, ◌==◌, Bool, false, if◌then◌else◌, List, [], ◌∷◌, ◌++◌, slice_get, Option, None, Some, Result, Ok}
+use Rattle.record_link.specs.Stream.{Comes, gone_more}
+use Rattle.record_link.specs.declared.rank.Rank.TheVariants.{Numbered}
+use Rattle.record_link.specs.Connection.{HasCome, HasGone, is_refused}
+use Rattle.record_link.specs.Connections.{PeerState, Becomes, AnswersPeer, no_connections, with_peers}
+use Rattle.record_server.specs.Network.{Waiting}
+use Rattle.record_server.specs.Server.{ServerState, server_state, Step, Timed, Accepted, Read, Wrote, Closed, FoundNone, Steps, HandsOn}
+
+-- what a server does
+pub data Event : Type 0 where
+  -- a step
+  Does : (step : Step) → Event
+  -- this record was handed out, of the connection of this number
+  Hands : (number : ℕ) (message : List ℕ) → Event
+  -- this answer was put behind what is to go on the connection of this number, which is open
+  Answers : (number : ℕ) (message : List ℕ) → Event
+
+-- what an event does
+abbrev pub Happens : Event → ServerState → ServerState → Type 0
+Happens (Does step) old new = Steps step old new
+Happens (Hands number message) old new = (new.waiting ≡ old.waiting) × HandsOn old.connections (Ok (Some (number, message))) new.connections
+Happens (Answers number message) old new =
+    (new.waiting ≡ old.waiting) × (new.connections ≡ with_peers old.connections new.connections.peers old.connections.orders)
+    × ((after : PeerState) × (becomes : Becomes (Numbered number) old.connections.peers after new.connections.peers)
+      × AnswersPeer old.connections.time becomes.least.peer message (Ok tt) after)
+
+-- events, one after the other
+abbrev pub HasHappened : List Event → ServerState → ServerState → Type 0
+HasHappened [] old new = new ≡ old
+HasHappened (event ∷ events) old new = (mid : ServerState) × Happens event old mid × HasHappened events mid new
+
+-- What was done under a number: what the stream told when it was opened under it, of the bytes to come and of those that went;
+-- the records that were handed out since, and the answers, in order.
+pub record Account : Type 0 where
+  pub to_come : Option (List ℕ)
+  pub went : Option (List ℕ)
+  pub messages : List (List ℕ)
+  pub answers : List (List ℕ)
+
+abbrev pub new_account : Option (List ℕ) → Option (List ℕ) → Account
+new_account to_come went = record { to_come = to_come; went = went; messages = []; answers = [] }
+
+-- one more record, and one more answer
+abbrev pub with_message : Account → List ℕ → Account
+with_message a message = record { to_come = a.to_come; went = a.went; messages = a.messages ++ message ∷ []; answers = a.answers }
+
+abbrev pub with_answer : Account → List ℕ → Account
+with_answer a message = record { to_come = a.to_come; went = a.went; messages = a.messages; answers = a.answers ++ message ∷ [] }
+
+-- the account of each number
+abbrev pub Accounts : Type 0
+Accounts = ℕ → Account
+
+abbrev pub no_accounts : Accounts
+no_accounts number = new_account None None
+
+-- the accounts with this one of this number
+abbrev pub with_account : Accounts → ℕ → Account → Accounts
+with_account accounts number a k = if k == number then a else accounts k
+
+-- the accounts after an event
+abbrev pub account_step : Step → Accounts → Accounts
+account_step (Accepted (Some number) to_come went) accounts = with_account accounts number (new_account to_come went)
+account_step (Accepted None to_come went) accounts = accounts
+account_step (Timed time) accounts = accounts
+account_step (Read number result) accounts = accounts
+account_step (Wrote number result) accounts = accounts
+account_step (Closed number cause) accounts = accounts
+account_step FoundNone accounts = accounts
+
+abbrev pub account_event : Event → Accounts → Accounts
+account_event (Does step) accounts = account_step step accounts
+account_event (Hands number message) accounts = with_account accounts number (with_message (accounts number) message)
+account_event (Answers number message) accounts = with_account accounts number (with_answer (accounts number) message)
+
+abbrev pub accounts_after : List Event → Accounts → Accounts
+accounts_after [] accounts = accounts
+accounts_after (event ∷ events) accounts = accounts_after events (account_event event accounts)
+
+-- A connection stands as its account says: the bytes that came on it are the next of those that were to come, and the records
+-- that were handed out are those of them, in order, each once; the bytes that went on it, and behind them those that are to go,
+-- are the records of its answers, in order, each once. Of one that is refused only the answers are told.
+pub record StandsAs (a : Account) (e : PeerState) : Type 0 where
+  pub came : List ℕ
+  pub of_stream : Comes a.to_come came e.coming
+  pub handed : is_refused e.connection.front ≡ false → HasCome came a.messages e.connection
+  pub sent : List ℕ
+  pub to_stream : e.gone ≡ gone_more a.went sent
+  pub answered : HasGone sent a.answers e.connection
+
+-- so stands each connection that is open after this history of a server that began with none
+abbrev pub AllStand : Waiting → List Event → ServerState → Type 0
+AllStand waiting events new =
+    HasHappened events (server_state no_connections waiting) new → (i : ℕ) (e : PeerState) → slice_get new.connections.peers i ≡ Some e
+    → StandsAs (accounts_after events no_accounts e.number) e
