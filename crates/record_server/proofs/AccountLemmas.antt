@@ -1,6 +1,5 @@
 -- One connection and its account.
-use Rattle.std.proofs.Common.{◌≡◌, ◌≢◌, ℕ, Bool, true, false, List, [], ◌∷◌, ◌++◌, take, drop, refl, sym, ap, subst, ◌∙◌, Option, Some, None, Result, Ok, Err, append_assoc}
-use Rattle.std.specs.List.{flat_map}
+use Rattle.std.proofs.Common.{◌≡◌, ◌≢◌, ℕ, false, List, [], ◌∷◌, ◌++◌, take, drop, refl, sym, ap, subst, ◌∙◌, Option, Some, None, Result, Ok, Err, append_assoc}
 use Rattle.std.proofs.lemmas.List.{flat_map_more}
 use Rattle.rpc_record.specs.declared.frames.RecordFault.{RecordFault}
 use Rattle.rpc_record.specs.declared.frames.RecordFault.TheVariants as fault
@@ -11,7 +10,7 @@ use Rattle.rpc_record.proofs.FrameCalls.{given_more}
 use Rattle.record_link.specs.declared.stream.Halt.{Halt}
 use Rattle.record_link.specs.declared.stream.Halt.TheVariants as halt
 use Rattle.record_link.specs.Stream.{Comes, gone_more}
-use Rattle.record_link.specs.Connection.{ConnectionState, HasCome, HasGone, is_refused, Advances}
+use Rattle.record_link.specs.Connection.{ConnectionState, HasCome, is_refused, Advances}
 use Rattle.record_link.specs.Connections.{PeerState, new_peer, Settles, FillsPeer, HandsPeer, AnswersPeer, DrainsPeer}
 use Rattle.record_link.proofs.ConnectionLemmas.{not_refused, read_on, handed_on}
 use Rattle.record_link.proofs.OutgoingLemmas.{gone_nil, gone_gone}
@@ -155,7 +154,7 @@ answered_good a now message old new answers good =
         sent = stands.sent;
         to_stream = ap (λ e. e.gone) answers.1 ∙ stands.to_stream;
         answered = ap (λ s. stands.sent ++ s.to_go) put ∙ sym (append_assoc stands.sent old.connection.to_go (record_bytes message)) ∙ ap (λ l. l ++ record_bytes message) stands.answered
-        ∙ flat_map_more record_bytes [] a.answers message;
+            ∙ flat_map_more record_bytes [] a.answers message;
       },
       (good.1.0, ap (λ s. s.front) put ∙ good.1.1),
     )

@@ -1,17 +1,17 @@
 -- What each event leaves of all connections and their accounts.
-use Rattle.std.proofs.Common.{◌≡◌, ◌≢◌, ◌⊎◌, inl, inr, ℕ, ◌+◌, ◌≤◌, Bool, true, false, List, [], ◌∷◌, ◌++◌, set, refl, sym, ap, subst, ◌∙◌, arith, eqb, Option, Some, None, Result, Ok, Err}
+use Rattle.std.proofs.Common.{◌≡◌, ◌≢◌, inl, inr, ℕ, Bool, true, false, List, [], ◌∷◌, refl, sym, ap, subst, ◌∙◌, arith, eqb, Some, None, Result, Ok, Err}
 use Rattle.std.specs.Prelude.{slice_get, cond}
 use Rattle.std.proofs.lemmas.Bool.{eq-eqb, ne_eqb, eqb-true}
 use Rattle.record_link.specs.declared.rank.Rank.{Rank}
 use Rattle.record_link.specs.declared.rank.Rank.TheVariants.{Numbered}
 use Rattle.record_link.specs.declared.stream.Halt.{Halt}
 use Rattle.record_link.specs.declared.stream.Halt.TheVariants as halt
-use Rattle.record_link.specs.Connections.{PeerState, ConnectionsState, Becomes, IsLeast, rank_of, FillsPeer, FillsOf, DrainsOf, Closes, HandsOut, new_peer, no_connections}
+use Rattle.record_link.specs.Connections.{PeerState, ConnectionsState, Becomes, IsLeast, rank_of, FillsPeer, FillsOf, DrainsOf, Closes, new_peer, no_connections}
 use Rattle.record_server.specs.Network.{Waiting}
-use Rattle.record_server.specs.Server.{ServerState, server_state, Step, Timed, Accepted, Read, Wrote, Closed, FoundNone, Steps, FillsOn, DrainsOn, ClosesOn, ReadsOn, WritesOn, HandsOn}
+use Rattle.record_server.specs.Server.{ServerState, server_state, Step, Timed, Accepted, Read, Wrote, Closed, FoundNone, Steps, FillsOn, DrainsOn, ClosesOn, ReadsOn, WritesOn}
 use Rattle.record_server.specs.History.{Account, Accounts, new_account, with_account, with_message, with_answer, no_accounts, account_step, account_event, accounts_after, Event, Does, Hands, Answers, Happens, HasHappened, StandsAs}
 use Rattle.record_server.proofs.AccountLemmas.{Good, filled_good, drained_good, answered_good, handed_good, new_good}
-use Rattle.record_server.proofs.PeerLists.{Each, each_at, each_set, each_removed, each_push, each_agree}
+use Rattle.record_server.proofs.PeerLists.{Each, each_at, each_set, each_removed, each_push}
 
 -- ---- the account of a number
 
@@ -53,6 +53,7 @@ fills_good accounts number old new r some fills all = by_case fills.0
   where
     given : new.given ≡ old.given
     given = ap (λ s. s.given) fills.1
+
     by_case : FillsOf number old.time old.orders old.peers r new.peers → AllGood accounts new
     by_case (inl gone) = same_good accounts old new gone.2 given all
     by_case (inr did) =
@@ -65,6 +66,7 @@ drains_good accounts number old new r drains all = by_case drains.0
   where
     given : new.given ≡ old.given
     given = ap (λ s. s.given) drains.1
+
     by_case : DrainsOf number old.time old.peers r new.peers → AllGood accounts new
     by_case (inl gone) = same_good accounts old new gone.2 given all
     by_case (inr did) =
@@ -77,6 +79,7 @@ closes_good accounts number old new closes all = by_case closes.0 closes.1
   where
     given : new.given ≡ old.given
     given = ap (λ s. s.given) closes.2
+
     by_case : (found : Bool) → Closes number old.peers found new.peers → AllGood accounts new
     by_case true did =
         subst (λ (n : ℕ). Each accounts 0 new.peers n) (sym given)
@@ -123,7 +126,7 @@ event_good accounts (Hands number message) old new did all =
     let order = old.connections.orders in
     let handed = handed_good (accounts least.peer.number) order message least.peer out.0 out.3 (least_good accounts _ old.connections out.1.place least all) in
     let good : Good (accounts' number) out.0 =
-            subst (λ (a : Account). Good a out.0) (sym (account_same accounts number (with_message (accounts number) message)) ) (subst (λ (n : ℕ). Good (with_message (accounts n) message) out.0) (sym out.2) handed) in
+    subst (λ (a : Account). Good a out.0) (sym (account_same accounts number (with_message (accounts number) message))) (subst (λ (n : ℕ). Good (with_message (accounts n) message) out.0) (sym out.2) handed) in
     became_good accounts accounts' _ old.connections new.connections out.0 out.1 (ap (λ s. s.given) did.1.1) (ap (λ e. e.number) out.3.3) (subst (λ (n : ℕ). Good (accounts' n) out.0) out.2 good)
     (λ k other. account_other accounts number (with_message (accounts number) message) k (λ is. other (is ∙ out.2))) all
 event_good accounts (Answers number message) old new did all =
@@ -132,7 +135,7 @@ event_good accounts (Answers number message) old new did all =
     let numbered : least.peer.number ≡ number = number_is number least.peer least.key least.ranked in
     let answered = answered_good (accounts least.peer.number) old.connections.time message least.peer did.2.0 did.2.2 (least_good accounts (Numbered number) old.connections did.2.1.place least all) in
     let good : Good (accounts' number) did.2.0 =
-            subst (λ (a : Account). Good a did.2.0) (sym (account_same accounts number (with_answer (accounts number) message))) (subst (λ (n : ℕ). Good (with_answer (accounts n) message) did.2.0) numbered answered) in
+    subst (λ (a : Account). Good a did.2.0) (sym (account_same accounts number (with_answer (accounts number) message))) (subst (λ (n : ℕ). Good (with_answer (accounts n) message) did.2.0) numbered answered) in
     became_good accounts accounts' (Numbered number) old.connections new.connections did.2.0 did.2.1 (ap (λ s. s.given) did.1) (ap (λ e. e.number) did.2.2.1) (subst (λ (n : ℕ). Good (accounts' n) did.2.0) (sym numbered) good)
     (λ k other. account_other accounts number (with_answer (accounts number) message) k (λ is. other (is ∙ sym numbered))) all
   where

@@ -2,3 +2,4 @@ pub mod StepLemmas
 pub mod AccountLemmas
 pub mod PeerLists
 pub mod HistoryLemmas
+pub mod CallLemmas

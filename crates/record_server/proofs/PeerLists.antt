@@ -1,9 +1,9 @@
 -- Lists of connections in the order of their numbers, each as its account says.
-use Rattle.std.proofs.Common.{◌≡◌, ◌≢◌, ℕ, zero, suc, ◌+◌, ◌<◌, ◌≤◌, List, [], ◌∷◌, ◌++◌, take, drop, set, refl, sym, ap, subst, ◌∙◌, arith, Some}
+use Rattle.std.proofs.Common.{◌≡◌, ◌≢◌, ℕ, zero, suc, ◌+◌, ◌<◌, ◌≤◌, List, [], ◌∷◌, ◌++◌, take, drop, set, sym, ap, subst, ◌∙◌, arith, Some}
 use Rattle.std.specs.Prelude.{slice_get}
 use Rattle.std.proofs.lemmas.Option.{same_Some}
 use Rattle.record_link.specs.Connections.{PeerState}
-use Rattle.record_server.specs.History.{Account, Accounts, StandsAs}
+use Rattle.record_server.specs.History.{Account, Accounts}
 use Rattle.record_server.proofs.AccountLemmas.{Good}
 
 -- all numbers are above the low one, rise, and are at most the high one
@@ -44,7 +44,7 @@ each_set accounts accounts' low (x ∷ es) high zero e after there same good agr
       omega (arith, each.0, number, same),
       subst (λ (n : ℕ). Good (accounts' n) after) (sym same) good,
       each_agree accounts accounts' after.number es high (λ k more most. agree k (λ is. absurd (omega (arith, is, more, same))))
-      (subst (λ (n : ℕ). Each accounts n es high) (number ∙ sym same) each.2),
+          (subst (λ (n : ℕ). Each accounts n es high) (number ∙ sym same) each.2),
     )
 each_set accounts accounts' low (x ∷ es) high (suc i) e after there same good agree each =
     let later = each_at accounts x.number es high i e there each.2 in (

@@ -1,11 +1,12 @@
 -- Whole histories of a server, and what they say of each connection.
-use Rattle.std.specs.Prelude.{◌≡◌, ℕ, ◌==◌, Bool, false, if◌then◌else◌, List, [], ◌∷◌, ◌++◌, slice_get, Option, None, Some, Result, Ok}
+use Rattle.std.specs.Prelude.{⊤, ◌≡◌, ℕ, ◌==◌, Bool, true, false, if◌then◌else◌, List, [], ◌∷◌, ◌++◌, length, map, ◌<◌, ◌⊎◌, slice_get, Option, None, Some, Ok}
 use Rattle.record_link.specs.Stream.{Comes, gone_more}
 use Rattle.record_link.specs.declared.rank.Rank.TheVariants.{Numbered}
 use Rattle.record_link.specs.Connection.{HasCome, HasGone, is_refused}
-use Rattle.record_link.specs.Connections.{PeerState, Becomes, AnswersPeer, no_connections, with_peers}
+use Rattle.rpc_record.specs.Frames.{max_record}
+use Rattle.record_link.specs.Connections.{ConnectionsState, PeerState, HasNone, Becomes, AnswersPeer, no_connections, with_peers}
 use Rattle.record_server.specs.Network.{Waiting}
-use Rattle.record_server.specs.Server.{ServerState, server_state, Step, Timed, Accepted, Read, Wrote, Closed, FoundNone, Steps, HandsOn}
+use Rattle.record_server.specs.Server.{ServerState, server_state, Step, Timed, Accepted, Read, Wrote, Closed, FoundNone, Steps, GoesOn, HandsOn, GivesRecord, SendsRecord}
 
 -- what a server does
 pub data Event : Type 0 where
@@ -23,7 +24,7 @@ Happens (Hands number message) old new = (new.waiting ≡ old.waiting) × HandsO
 Happens (Answers number message) old new =
     (new.waiting ≡ old.waiting) × (new.connections ≡ with_peers old.connections new.connections.peers old.connections.orders)
     × ((after : PeerState) × (becomes : Becomes (Numbered number) old.connections.peers after new.connections.peers)
-      × AnswersPeer old.connections.time becomes.least.peer message (Ok tt) after)
+    × AnswersPeer old.connections.time becomes.least.peer message (Ok tt) after)
 
 -- events, one after the other
 abbrev pub HasHappened : List Event → ServerState → ServerState → Type 0
@@ -94,3 +95,31 @@ abbrev pub AllStand : Waiting → List Event → ServerState → Type 0
 AllStand waiting events new =
     HasHappened events (server_state no_connections waiting) new → (i : ℕ) (e : PeerState) → slice_get new.connections.peers i ≡ Some e
     → StandsAs (accounts_after events no_accounts e.number) e
+
+-- ---- the calls of a server as events
+
+-- only steps
+abbrev pub OnlySteps : ServerState → ServerState → Type 0
+OnlySteps old new = (steps : List Step) × HasHappened (map Does steps) old new
+
+-- a record was handed out behind steps
+abbrev pub NextHappens : Type 0
+NextHappens = (old new : ServerState) (number : ℕ) (message : List ℕ) → GivesRecord old (Ok (Some (number, message))) new → (steps : List Step) × HasHappened (map Does steps ++ Hands number message ∷ []) old new
+
+-- an answer that is kept, or is lost
+abbrev pub answer_events : Bool → ℕ → List ℕ → List Event
+answer_events true number message = Answers number message ∷ []
+answer_events false number message = []
+
+-- why an answer is lost
+abbrev pub IsLost : Bool → ℕ → List ℕ → ConnectionsState → Type 0
+IsLost true number message old = ⊤
+IsLost false number message old = HasNone (Numbered number) old.peers ⊎ (max_record < length message)
+
+-- an answer was put on its connection, where that is open and the answer is no longer than a record may be; then steps
+abbrev pub SendHappens : Type 0
+SendHappens = (waiting : Waiting) (old new : ConnectionsState) (number : ℕ) (message : List ℕ) → SendsRecord number message old (Ok tt) new
+    → (kept : Bool) × (steps : List Step) × IsLost kept number message old × HasHappened (answer_events kept number message ++ map Does steps) (server_state old waiting) (server_state new waiting)
+
+abbrev pub StepsHappen : Type 0
+StepsHappen = (old new : ServerState) → GoesOn old new → OnlySteps old new

@@ -10,7 +10,7 @@ mod server;
 #[cfg(test)]
 mod tests;
 
-pub use laws::server_law;
+pub use laws::{calls_law, server_law};
 pub use memory_network::MemoryNetwork;
 pub use network::Network;
 pub use server::RecordServer;

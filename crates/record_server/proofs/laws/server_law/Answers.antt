@@ -1,4 +1,3 @@
-use Rattle.record_server.specs.History.{accounts_after, no_accounts}
 use Rattle.record_server.proofs.HistoryLemmas.{all_stand}
 use Rattle.record_server.proofs.laws.server_law.Goals as goal
 
