@@ -1,5 +1,5 @@
 -- What each event leaves of all connections and their accounts.
-use Rattle.std.proofs.Common.{◌≡◌, ◌≢◌, inl, inr, ℕ, Bool, true, false, List, [], ◌∷◌, refl, sym, ap, subst, ◌∙◌, arith, eqb, Some, None, Result, Ok, Err}
+use Rattle.std.proofs.Common.{◌≤◌, ◌≡◌, ◌≢◌, inl, inr, ℕ, Bool, true, false, List, [], ◌∷◌, refl, sym, ap, subst, ◌∙◌, arith, eqb, Some, None, Result, Ok, Err}
 use Rattle.std.specs.Prelude.{slice_get, cond}
 use Rattle.std.proofs.lemmas.Bool.{eq-eqb, ne_eqb, eqb-true}
 use Rattle.record_link.specs.declared.rank.Rank.{Rank}
@@ -8,7 +8,7 @@ use Rattle.record_link.specs.declared.stream.Halt.{Halt}
 use Rattle.record_link.specs.declared.stream.Halt.TheVariants as halt
 use Rattle.record_link.specs.Connections.{PeerState, ConnectionsState, Becomes, IsLeast, rank_of, FillsPeer, FillsOf, DrainsOf, Closes, new_peer, no_connections}
 use Rattle.record_server.specs.Network.{Waiting}
-use Rattle.record_server.specs.Server.{ServerState, server_state, Step, Timed, Accepted, Read, Wrote, Closed, FoundNone, Steps, FillsOn, DrainsOn, ClosesOn, ReadsOn, WritesOn}
+use Rattle.record_server.specs.Server.{ServerState, server_state, Step, Timed, Accepted, Read, Wrote, Closed, FoundNone, Steps, FillsOn, DrainsOn, ClosesOn, MakesRoom, ReadsOn, WritesOn}
 use Rattle.record_server.specs.History.{Account, Accounts, new_account, with_account, with_message, with_answer, no_accounts, account_step, account_event, accounts_after, Event, Does, Hands, Answers, Happens, HasHappened, StandsAs}
 use Rattle.record_server.proofs.AccountLemmas.{Good, filled_good, drained_good, answered_good, handed_good, new_good}
 use Rattle.record_server.proofs.PeerLists.{Each, each_at, each_set, each_removed, each_push}
@@ -102,19 +102,27 @@ writes_good accounts number old new (Err halt.Ended) writes all = closes_good ac
 writes_good accounts number old new (Err halt.Lost) writes all = closes_good accounts number writes.0 new writes.2 (drains_good accounts number old writes.0 (Err halt.Lost) writes.1 all)
 writes_good accounts number old new (Err halt.NoMemory) writes all = closes_good accounts number writes.0 new writes.2 (drains_good accounts number old writes.0 (Err halt.NoMemory) writes.1 all)
 
+room_good : (accounts : Accounts) (old new : ConnectionsState) → MakesRoom old new → AllGood accounts old → AllGood accounts new
+room_good accounts old new (inl same) all = same_good accounts old new (ap (λ s. s.peers) same) (ap (λ s. s.given) same) all
+room_good accounts old new (inr did) all = closes_good accounts did.0 old new did.2 all
+
 step_good : (accounts : Accounts) (step : Step) (old new : ServerState) → Steps step old new → AllGood accounts old.connections → AllGood (account_step step accounts) new.connections
 step_good accounts (Timed time) old new did all = same_good accounts old.connections new.connections (ap (λ s. s.peers) did.1) (ap (λ s. s.given) did.1) all
 step_good accounts (Accepted (Some number) to_come went) old new did all =
-    let opens = did.1 in
-    let accounts' = with_account accounts number (new_account to_come went) in
-    let peer = new_peer number old.connections.time to_come went in
-    let good : Good (accounts' number) peer = subst (λ (a : Account). Good a peer) (sym (account_same accounts number (new_account to_come went))) (new_good number old.connections.time to_come went) in
-    let pushed = each_push accounts accounts' 0 old.connections.peers old.connections.given peer opens.0 good (λ k most. account_other accounts number (new_account to_come went) k (λ is. absurd (omega (arith, is, most, opens.0)))) all in
-    subst (λ (s : ConnectionsState). AllGood accounts' s) (sym opens.2) pushed
-step_good accounts (Accepted None to_come went) old new did all = same_good accounts old.connections new.connections (ap (λ s. s.peers) did.1.1) (ap (λ s. s.given) did.1.1) all
+    let mid = did.1.0 in
+    let opens = did.1.2 in
+    let account = new_account to_come went in
+    let accounts' = with_account accounts number account in
+    let peer = new_peer number mid.time to_come went in
+    let good : Good (accounts' number) peer = subst (λ (a : Account). Good a peer) (sym (account_same accounts number account)) (new_good number mid.time to_come went) in
+    let agree = λ (k : ℕ) (most : k ≤ mid.given). account_other accounts number account k (λ is. absurd (omega (arith, is, most, opens.0))) in
+    subst (λ (s : ConnectionsState). AllGood accounts' s) (sym opens.2) (each_push accounts accounts' 0 mid.peers mid.given peer opens.0 good agree (room_good accounts old.connections mid did.1.1 all))
+step_good accounts (Accepted None to_come went) old new did all =
+    let mid = did.1.0 in
+    same_good accounts mid new.connections (ap (λ s. s.peers) did.1.2.1) (ap (λ s. s.given) did.1.2.1) (room_good accounts old.connections mid did.1.1 all)
 step_good accounts (Read number r) old new did all = reads_good accounts number old.connections new.connections r did.2 all
 step_good accounts (Wrote number r) old new did all = writes_good accounts number old.connections new.connections r did.1 all
-step_good accounts (Closed number cause) old new did all = closes_good accounts number old.connections new.connections did.2 all
+step_good accounts (Closed number) old new did all = closes_good accounts number old.connections new.connections did.2 all
 step_good accounts FoundNone old new did all = same_good accounts old.connections new.connections did.1.0.1 (ap (λ s. s.given) did.1.1) all
 
 event_good : (accounts : Accounts) (event : Event) (old new : ServerState) → Happens event old new → AllGood accounts old.connections → AllGood (account_event event accounts) new.connections

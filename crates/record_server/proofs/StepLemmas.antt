@@ -8,7 +8,7 @@ use Rattle.record_link.specs.declared.stream.Halt.{Halt}
 use Rattle.record_link.specs.Connections.{ConnectionsState}
 use Rattle.record_server.specs.declared.server.Taken.{Taken}
 use Rattle.record_server.specs.Network.{Waiting, ComesNext}
-use Rattle.record_server.specs.Server.{ServerState, server_state, Step, Accepted, Wrote, Closed, FoundNone, IsCrowded, Steps, Runs, GoesOn, GoesFor, FillsOn, DrainsOn, HandsOn, WritesOnce, EndsAt, Turns, GivesRecord, Takes, MakesRoom, Admits, ToOpen}
+use Rattle.record_server.specs.Server.{ServerState, server_state, Step, Accepted, Wrote, FoundNone, Steps, Runs, GoesOn, GoesFor, FillsOn, DrainsOn, HandsOn, WritesOnce, EndsAt, Turns, GivesRecord, Takes, MakesRoom, Admits, ToOpen}
 
 pub one : (step : Step) (old new : ServerState) → Steps step old new → GoesOn old new
 one step old new did = (step ∷ [], (new, did, refl))
@@ -36,21 +36,15 @@ pub wrote : (number : ℕ) (old new : ConnectionsState) (waiting waiting' : Wait
 wrote number old new waiting waiting' same (inl is) = ([], (λ i. server_state (is i) (same i)))
 wrote number old new waiting waiting' same (inr did) = one (Wrote number did.0) (server_state old waiting) (server_state new waiting') (same, did.1)
 
--- room was made
-pub roomed : (old new : ConnectionsState) (waiting : Waiting) → MakesRoom old new → GoesOn (server_state old waiting) (server_state new waiting)
-roomed old new waiting (inl same) = ([], (λ i. server_state (same i) waiting))
-roomed old new waiting (inr did) = one (Closed did.0 IsCrowded) (server_state old waiting) (server_state new waiting) (refl, did.1, did.2)
-
 -- a connection came, and was kept or dropped
 pub admitted : (old new : ConnectionsState) (waiting waiting' : Waiting) (coming gone : Option (List ℕ)) → ComesNext waiting coming waiting' → Admits old coming gone (Ok tt) new
     → GoesOn (server_state old waiting) (server_state new waiting')
 admitted old new waiting waiting' coming gone comes admits =
-    goes_on (server_state old waiting) (server_state admits.0 waiting) (server_state new waiting') (roomed old admits.0 waiting admits.2)
-    (one (Accepted admits.1 coming gone) (server_state admits.0 waiting) (server_state new waiting') (comes, admits.3))
+    one (Accepted admits.1 coming gone) (server_state old waiting) (server_state new waiting') (comes, (admits.0, admits.2, admits.3))
 
 pub dropped : (old new : ConnectionsState) (waiting waiting' : Waiting) (coming : Option (List ℕ)) → ComesNext waiting coming waiting' → MakesRoom old new
     → EndsAt (server_state old waiting) failed.NoMemory (server_state new waiting')
-dropped old new waiting waiting' coming comes room = (server_state new waiting, ToOpen, roomed old new waiting room, (refl, (coming, comes)))
+dropped old new waiting waiting' coming comes room = (server_state old waiting, ToOpen, stays (server_state old waiting), (room, (coming, comes)))
 
 -- a call whose result is known by an equation
 pub filled : (number : ℕ) (old new : ConnectionsState) (r r' : Result (Unit {0}) Halt) → r ≡ r' → FillsOn number old r new → FillsOn number old r' new

@@ -67,7 +67,7 @@ account_step (Accepted None to_come went) accounts = accounts
 account_step (Timed time) accounts = accounts
 account_step (Read number result) accounts = accounts
 account_step (Wrote number result) accounts = accounts
-account_step (Closed number cause) accounts = accounts
+account_step (Closed number) accounts = accounts
 account_step FoundNone accounts = accounts
 
 abbrev pub account_event : Event → Accounts → Accounts

@@ -55,39 +55,34 @@ HandsOn old result new = HandsOut old.orders old.peers result new.peers × (new 
 
 -- ---- the steps
 
-pub data Cause : Type 0 where
-  -- it is stuck, finished or idle
-  IsOver : Cause
-  -- another comes, and of as many as may be open it is the longest silent
-  IsCrowded : Cause
+-- The longest silent was closed, where as many are open as may be.
+abbrev pub MakesRoom : ConnectionsState → ConnectionsState → Type 0
+MakesRoom old new = (new ≡ old) ⊎ ((number : ℕ) × Crowds old.peers (Some number) × ClosesOn number old new)
 
 pub data Step : Type 0 where
   -- the clock shows so many milliseconds
   Timed : (time : ℕ) → Step
-  -- A connection was accepted whose stream tells this, and opened under the next number; under none where as many are open as
-  -- may be, or all numbers are given.
+  -- A connection was accepted whose stream tells this. Room was made for it, and it was opened under the next number; under none
+  -- where there is no room, or all numbers are given.
   Accepted : (opened : Option ℕ) (coming gone : Option (List ℕ)) → Step
   -- the connection of this number, of which more is wanted, was read once, from its own stream
   Read : (number : ℕ) (result : Result (Unit {0}) Halt) → Step
   -- what is to go on it was written, to its own stream
   Wrote : (number : ℕ) (result : Result (Unit {0}) Halt) → Step
-  -- it was closed
-  Closed : (number : ℕ) (cause : Cause) → Step
+  -- the connection of this number was closed, since it is over: stuck, finished or idle
+  Closed : (number : ℕ) → Step
   -- no record may be handed out
   FoundNone : Step
-
--- why a connection is closed
-abbrev pub IsCause : Cause → ℕ → ConnectionsState → Type 0
-IsCause IsOver number s = IsNumberOf (Over s.time) s.peers number
-IsCause IsCrowded number s = Crowds s.peers (Some number)
 
 -- what a step does
 abbrev pub Steps : Step → ServerState → ServerState → Type 0
 Steps (Timed time) old new = (new.waiting ≡ old.waiting) × (new.connections ≡ at_time old.connections time)
-Steps (Accepted opened to_come went) old new = ComesNext old.waiting to_come new.waiting × OpensConnection old.connections to_come went (Ok opened) new.connections
+Steps (Accepted opened to_come went) old new =
+    ComesNext old.waiting to_come new.waiting
+    × ((mid : ConnectionsState) × MakesRoom old.connections mid × OpensConnection mid to_come went (Ok opened) new.connections)
 Steps (Read number result) old new = (new.waiting ≡ old.waiting) × Asks number wants_bytes old.connections.peers true × ReadsOn number old.connections result new.connections
 Steps (Wrote number result) old new = (new.waiting ≡ old.waiting) × WritesOn number old.connections result new.connections
-Steps (Closed number cause) old new = (new.waiting ≡ old.waiting) × IsCause cause number old.connections × ClosesOn number old.connections new.connections
+Steps (Closed number) old new = (new.waiting ≡ old.waiting) × IsNumberOf (Over old.connections.time) old.connections.peers number × ClosesOn number old.connections new.connections
 Steps FoundNone old new = (new.waiting ≡ old.waiting) × HandsOn old.connections (Ok None) new.connections
 
 -- what steps do, one after the other
@@ -115,7 +110,7 @@ pub data Want : Type 0 where
   ToHand : Want
   -- to read on the connection of this number: bytes may have come that are still ahead
   ToRead : (number : ℕ) → Want
-  -- to open a connection that was accepted: it is dropped
+  -- to open a connection that was accepted, and for which room was made: it is dropped
   ToOpen : Want
   -- to accept one: nothing was done
   ToAccept : Want
@@ -123,7 +118,7 @@ pub data Want : Type 0 where
 abbrev pub Wants : Want → ServerState → ServerState → Type 0
 Wants ToHand old new = (e : NoMemory) × (new.waiting ≡ old.waiting) × HandsOn old.connections (Err e) new.connections
 Wants (ToRead number) old new = (new.waiting ≡ old.waiting) × FillsOn number old.connections (Err halt.NoMemory) new.connections
-Wants ToOpen old new = (new.connections ≡ old.connections) × ((coming : Option (List ℕ)) × ComesNext old.waiting coming new.waiting)
+Wants ToOpen old new = MakesRoom old.connections new.connections × ((coming : Option (List ℕ)) × ComesNext old.waiting coming new.waiting)
 Wants ToAccept old new = new ≡ old
 
 -- how a server ends at an error: by steps alone where it can accept or wait no more; else memory was wanted behind them
@@ -139,10 +134,6 @@ Turns old (Err e) new = EndsAt old e new
 -- no connection is left, and all numbers are given
 abbrev pub IsSpent : ConnectionsState → Type 0
 IsSpent s = (length s.peers ≡ 0) × (s.given ≡ 2 ^ 32 - 1)
-
--- what making room for another connection did
-abbrev pub MakesRoom : ConnectionsState → ConnectionsState → Type 0
-MakesRoom old new = (new ≡ old) ⊎ ((number : ℕ) × IsCause IsCrowded number old × ClosesOn number old new)
 
 -- what keeping a connection did whose stream tells this
 abbrev pub Admits : ConnectionsState → Option (List ℕ) → Option (List ℕ) → Result (Unit {0}) NoMemory → ConnectionsState → Type 0
