@@ -103,7 +103,7 @@ writes_good accounts number old new (Err halt.Lost) writes all = closes_good acc
 writes_good accounts number old new (Err halt.NoMemory) writes all = closes_good accounts number writes.0 new writes.2 (drains_good accounts number old writes.0 (Err halt.NoMemory) writes.1 all)
 
 room_good : (accounts : Accounts) (old new : ConnectionsState) → MakesRoom old new → AllGood accounts old → AllGood accounts new
-room_good accounts old new (inl same) all = same_good accounts old new (ap (λ s. s.peers) same) (ap (λ s. s.given) same) all
+room_good accounts old new (inl same) all = same_good accounts old new (ap (λ s. s.peers) same.1) (ap (λ s. s.given) same.1) all
 room_good accounts old new (inr did) all = closes_good accounts did.0 old new did.2 all
 
 step_good : (accounts : Accounts) (step : Step) (old new : ServerState) → Steps step old new → AllGood accounts old.connections → AllGood (account_step step accounts) new.connections

@@ -3,3 +3,4 @@ pub mod AccountLemmas
 pub mod PeerLists
 pub mod HistoryLemmas
 pub mod CallLemmas
+pub mod CrowdLemmas

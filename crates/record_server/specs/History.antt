@@ -1,10 +1,10 @@
 -- Whole histories of a server, and what they say of each connection.
-use Rattle.std.specs.Prelude.{⊤, ◌≡◌, ℕ, ◌==◌, Bool, true, false, if◌then◌else◌, List, [], ◌∷◌, ◌++◌, length, map, ◌<◌, ◌⊎◌, slice_get, Option, None, Some, Ok}
+use Rattle.std.specs.Prelude.{⊤, ◌≡◌, ℕ, ◌==◌, Bool, true, false, if◌then◌else◌, List, [], ◌∷◌, ◌++◌, length, map, ◌<◌, ◌≤◌, ◌⊎◌, slice_get, Option, None, Some, Ok}
 use Rattle.record_link.specs.Stream.{Comes, gone_more}
 use Rattle.record_link.specs.declared.rank.Rank.TheVariants.{Numbered}
 use Rattle.record_link.specs.Connection.{HasCome, HasGone, is_refused}
 use Rattle.rpc_record.specs.Frames.{max_record}
-use Rattle.record_link.specs.Connections.{ConnectionsState, PeerState, HasNone, Becomes, AnswersPeer, no_connections, with_peers}
+use Rattle.record_link.specs.Connections.{ConnectionsState, PeerState, HasNone, Becomes, AnswersPeer, max_connections, no_connections, with_peers}
 use Rattle.record_server.specs.Network.{Waiting}
 use Rattle.record_server.specs.Server.{ServerState, server_state, Step, Timed, Accepted, Read, Wrote, Closed, FoundNone, Steps, GoesOn, HandsOn, GivesRecord, SendsRecord}
 
@@ -95,6 +95,10 @@ abbrev pub AllStand : Waiting → List Event → ServerState → Type 0
 AllStand waiting events new =
     HasHappened events (server_state no_connections waiting) new → (i : ℕ) (e : PeerState) → slice_get new.connections.peers i ≡ Some e
     → StandsAs (accounts_after events no_accounts e.number) e
+
+-- no more connections than may be are open after it
+abbrev pub FewOpen : Waiting → List Event → ServerState → Type 0
+FewOpen waiting events new = HasHappened events (server_state no_connections waiting) new → length new.connections.peers ≤ max_connections
 
 -- ---- the calls of a server as events
 

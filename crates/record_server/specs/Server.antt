@@ -55,9 +55,9 @@ HandsOn old result new = HandsOut old.orders old.peers result new.peers × (new 
 
 -- ---- the steps
 
--- The longest silent was closed, where as many are open as may be.
+-- There was room for another, or the longest silent was closed.
 abbrev pub MakesRoom : ConnectionsState → ConnectionsState → Type 0
-MakesRoom old new = (new ≡ old) ⊎ ((number : ℕ) × Crowds old.peers (Some number) × ClosesOn number old new)
+MakesRoom old new = (Crowds old.peers None × (new ≡ old)) ⊎ ((number : ℕ) × Crowds old.peers (Some number) × ClosesOn number old new)
 
 pub data Step : Type 0 where
   -- the clock shows so many milliseconds

@@ -3,13 +3,15 @@
 ghost use Rattle.std.specs.Prelude.{List};
 ghost use Rattle.record_server.specs.Network.{Waiting};
 ghost use Rattle.record_server.specs.Server.{ServerState};
-ghost use Rattle.record_server.specs.History.{AllStand, Event, NextHappens, SendHappens, StepsHappen};
+ghost use Rattle.record_server.specs.History.{AllStand, Event, FewOpen, NextHappens, SendHappens, StepsHappen};
 
 /// In every history of a server, whatever its network and its streams do: on each connection the
 /// records that were handed out are those of the bytes that came on it, and the bytes that went on it
-/// are the records of its answers, up to those that are still to go (RFC 5531, section 11).
+/// are the records of its answers, up to those that are still to go (RFC 5531, section 11). No more than
+/// 64 are open.
 pub fn server_law()
-    ensures { (waiting : Waiting) (events : List Event) (new : ServerState) → AllStand waiting events new }
+    ensures stand { (waiting : Waiting) (events : List Event) (new : ServerState) → AllStand waiting events new }
+    ensures few { (waiting : Waiting) (events : List Event) (new : ServerState) → FewOpen waiting events new }
 {}
 
 /// What `RecordServer::next` and `RecordServer::send` do are histories: steps, and behind them the

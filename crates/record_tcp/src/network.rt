@@ -31,11 +31,7 @@ pub struct TcpNetwork<'r, R: Net> {
 
 impl<'r, R: Net + Clock> TcpNetwork<'r, R> {
     /// A network that listens at an address. An error is the system's.
-    pub fn bind(
-        rt: &'r R,
-        alloc: Global,
-        address: SocketAddr,
-    ) -> io::Result<TcpNetwork<'r, R>> {
+    pub fn bind(rt: &'r R, alloc: Global, address: SocketAddr) -> io::Result<TcpNetwork<'r, R>> {
         let mut listener = TcpListener::bind(rt, address)?;
         let poll = Poll::new(rt)?;
         poll.registry()
