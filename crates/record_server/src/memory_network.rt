@@ -15,7 +15,9 @@ pub struct MemoryNetwork {
 
 impl MemoryNetwork {
     /// A network that gives these streams.
-    pub fn new(streams: Vec<MemoryStream>) -> MemoryNetwork {
+    pub fn new(streams: Vec<MemoryStream>) -> MemoryNetwork
+        ensures { result.streams.items ≡ streams.items }
+    {
         MemoryNetwork {
             streams: VecDeque::from_vec(streams),
             time: 0,
