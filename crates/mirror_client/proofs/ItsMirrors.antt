@@ -1,5 +1,5 @@
 -- Calls to data servers go to the mirrors of the layout.
-use Rattle.std.proofs.Common.{◌≡◌, ℕ, zero, suc, Bool, true, false, List, [], ◌∷◌, ◌++◌, Option, Some, None, refl, sym, ap, ◌∙◌, subst}
+use Rattle.std.proofs.Common.{◌≡◌, ℕ, Bool, true, false, List, [], ◌∷◌, ◌++◌, Option, Some, None, refl, sym, ap, ◌∙◌, subst}
 use Rattle.std.specs.Prelude.{◌==◌, nat_eq, if◌then◌else◌, ◌&&◌, slice_get, slice_set, option_map}
 use Rattle.std.specs.List.{list_all, list_any}
 use Rattle.std.proofs.Math.Seq.{map-set_same}
@@ -11,9 +11,9 @@ use Rattle.mirror_writer.specs.declared.call.NextCall.{NextCall}
 use Rattle.mirror_writer.specs.declared.call.NextCall.TheVariants.{SendsWrite, SendsCommit}
 use Rattle.mirror_writer.specs.Writers.{WriterValue, WriterMirror, WriterSends, next_sent, next_place, next_at, call_for, sends_at, sends_to, sends_next, sends_as, with_out, with_writer_mirrors}
 use Rattle.mds_calls.specs.declared.ask.MdsAsk.{MdsAsk}
-use Rattle.mds_calls.specs.MdsCalls.{MdsCallValue}
-use Rattle.mirror_client.specs.ClientStates.{LayoutValue, ClientValue}
-use Rattle.mirror_client.specs.ClientCalls.{SendValue, xid_after, writer_calls, by_next, sends_nothing, calls_mirrors, may_ask, asks, asks_as, sends_none, due_ask, call_by_ask, calls_mds}
+use Rattle.mirror_client.specs.declared.layout.Layout.{Layout}
+use Rattle.mirror_client.specs.ClientStates.{ClientValue}
+use Rattle.mirror_client.specs.ClientCalls.{SendValue, ClientStep, and_then, calls_next, calls_under, calls_mirror, calls_two, calls_mirrors, may_ask, asks, asks_as, sends_none, due_ask, message_of, calls_mds}
 use Rattle.mirror_client.specs.ClientLaws.{writer_servers, layout_servers, goes_to, CallsItsMirrors}
 
 server_of : WriterMirror → ℕ
@@ -62,34 +62,39 @@ both_true : (a b : Bool) → a ≡ true → b ≡ true → a && b ≡ true
 both_true true b first second = second
 both_true false b first second = first
 
-writer_home : (n : ℕ) (name : List ℕ) (w : WriterValue) (xid : ℕ) → list_all (goes_to (writer_servers w)) (writer_calls n name w xid).sends ≡ true
-writer_home zero name w xid = refl
-writer_home (suc n) name w xid = by_test (xid == 0) (λ v. writer_home n name v (xid_after xid))
+-- its records go to the mirrors of the layout, which stays on its data servers
+record StaysHome (c : ClientValue) (s : ClientStep) : Type 0 where
+  home : list_all (goes_to (layout_servers c.layout)) s.sends ≡ true
+  same : layout_servers s.client.layout ≡ layout_servers c.layout
+
+next_home : (c : ClientValue) (l : Layout) → c.layout ≡ Some l → (s : Option WriterSends) → next_sent l.writer c.next_xid ≡ s → StaysHome c (calls_next c l s)
+next_home c l at None is = record { home = refl; same = refl }
+next_home c l at (Some s) is =
+    let h = sent_home l.writer c.next_xid s is in
+    let there : writer_servers l.writer ≡ layout_servers c.layout = ap layout_servers (sym at) in
+    record {
+      home = subst (λ servers. list_all (goes_to servers) (calls_next c l (Some s)).sends ≡ true) there (both_true _ true h.home refl);
+      same = h.same ∙ there;
+    }
+
+under_home : (c : ClientValue) (layout : Option Layout) → c.layout ≡ layout → StaysHome c (calls_under c layout)
+under_home c None at = record { home = refl; same = refl }
+under_home c (Some l) at = next_home c l at (next_sent l.writer c.next_xid) refl
+
+mirror_home : (c : ClientValue) → StaysHome c (calls_mirror c)
+mirror_home c = by_test (c.next_xid == 0)
   where
-    by_sent : (s : Option WriterSends) → next_sent w xid ≡ s → ((v : WriterValue) → list_all (goes_to (writer_servers v)) (writer_calls n name v (xid_after xid)).sends ≡ true)
-        → list_all (goes_to (writer_servers w)) (by_next name w xid s (writer_calls n name)).sends ≡ true
-    by_sent None is rest = refl
-    by_sent (Some s) is rest =
-        let h = sent_home w xid s is in
-        both_true (list_any (nat_eq s.id.server) (writer_servers w)) (list_all (goes_to (writer_servers w)) (writer_calls n name s.writer (xid_after xid)).sends)
-        h.home (subst (λ servers. list_all (goes_to servers) (writer_calls n name s.writer (xid_after xid)).sends ≡ true) h.same (rest s.writer))
+    by_test : (t : Bool) → StaysHome c (if t then sends_none c else calls_under c c.layout)
+    by_test true = record { home = refl; same = refl }
+    by_test false = under_home c c.layout refl
 
-    by_test : (t : Bool) → ((v : WriterValue) → list_all (goes_to (writer_servers v)) (writer_calls n name v (xid_after xid)).sends ≡ true)
-        → list_all (goes_to (writer_servers w)) (if t then sends_nothing w xid else by_next name w xid (next_sent w xid) (writer_calls n name)).sends ≡ true
-    by_test true rest = refl
-    by_test false rest = by_sent (next_sent w xid) refl rest
-
-mirrors_home : (c : ClientValue) (layout : Option LayoutValue) → list_all (goes_to (layout_servers layout)) (calls_mirrors c layout).sends ≡ true
-mirrors_home c None = refl
-mirrors_home c (Some l) = writer_home 4 c.name l.writer c.next_xid
-
-asked_home : (servers : List ℕ) (c : ClientValue) (kind : MdsAsk) (call : Option MdsCallValue) → list_all (goes_to servers) (asks_as c kind call).sends ≡ true
+asked_home : (servers : List ℕ) (c : ClientValue) (kind : MdsAsk) (message : Option (List ℕ)) → list_all (goes_to servers) (asks_as c kind message).sends ≡ true
 asked_home servers c kind None = refl
-asked_home servers c kind (Some call) = refl
+asked_home servers c kind (Some message) = refl
 
 due_home : (servers : List ℕ) (c : ClientValue) (kind : Option MdsAsk) → list_all (goes_to servers) (asks c kind).sends ≡ true
 due_home servers c None = refl
-due_home servers c (Some kind) = asked_home servers c kind (call_by_ask c kind)
+due_home servers c (Some kind) = asked_home servers c kind (message_of c kind)
 
 mds_home : (servers : List ℕ) (c : ClientValue) → list_all (goes_to servers) (calls_mds c).sends ≡ true
 mds_home servers c = by_test (may_ask c c.asked)
@@ -106,7 +111,21 @@ all_append servers (x ∷ s) t first second = by_test (goes_to servers x) (list_
     by_test true b d first rest = rest first
     by_test false b d first rest = first
 
+then_home : (c : ClientValue) (s : ClientStep) (next : ClientValue → ClientStep) → StaysHome c s → ((d : ClientValue) → StaysHome d (next d)) → StaysHome c (and_then s next)
+then_home c s next first second =
+    let more = second s.client in
+    record {
+      home = all_append (layout_servers c.layout) s.sends (next s.client).sends first.home (subst (λ servers. list_all (goes_to servers) (next s.client).sends ≡ true) first.same more.home);
+      same = more.same ∙ first.same;
+    }
+
+two_home : (c : ClientValue) → StaysHome c (calls_two c)
+two_home c = then_home c (calls_mirror c) calls_mirror (mirror_home c) mirror_home
+
+mirrors_home : (c : ClientValue) → StaysHome c (calls_mirrors c)
+mirrors_home c = then_home c (calls_two c) calls_two (two_home c) two_home
+
 pub all_home : (c : ClientValue) → CallsItsMirrors c
 all_home c =
-    all_append (layout_servers c.layout) (calls_mirrors c c.layout).sends (calls_mds (calls_mirrors c c.layout).client).sends
-    (mirrors_home c c.layout) (mds_home (layout_servers c.layout) (calls_mirrors c c.layout).client)
+    all_append (layout_servers c.layout) (calls_mirrors c).sends (calls_mds (calls_mirrors c).client).sends
+    (mirrors_home c).home (mds_home (layout_servers c.layout) (calls_mirrors c).client)

@@ -1,17 +1,19 @@
 -- The calls at the end of an event are numbered on.
-use Rattle.std.proofs.Common.{◌≡◌, ◌≢◌, ℕ, zero, suc, Bool, true, false, List, [], ◌∷◌, ◌++◌, Option, Some, None, refl, sym, ap, ◌∙◌, subst}
+use Rattle.std.proofs.Common.{◌≡◌, ◌≢◌, ℕ, Bool, true, false, List, [], ◌∷◌, ◌++◌, Option, Some, None, refl, sym, ap, ◌∙◌, subst}
 use Rattle.std.specs.Prelude.{not, ◌==◌, if◌then◌else◌}
 use Rattle.std.proofs.lemmas.List.{append_assoc}
 use Rattle.ff_xdr.specs.Form.{word, spelling}
 use Rattle.rpc_record.specs.Calls.{RpcCall, call_bytes, call_body, body_value}
 use Rattle.cluster_model.specs.declared.ids.NodeId.{NodeId}
-use Rattle.mirror_writer.specs.Writers.{WriterValue, WriterSends, next_sent}
+use Rattle.mirror_writer.specs.Writers.{WriterSends, next_sent}
 use Rattle.ds_calls.specs.MadeCalls.{ds_rpc_call}
 use Rattle.mds_calls.specs.declared.ask.MdsAsk.{MdsAsk}
 use Rattle.mds_calls.specs.MdsCalls.{MdsCallValue}
 use Rattle.mds_calls.specs.MdsCompounds.{mds_rpc_call}
-use Rattle.mirror_client.specs.ClientStates.{LayoutValue, AskedValue, ClientValue}
-use Rattle.mirror_client.specs.ClientCalls.{SendValue, xid_after, writer_calls, by_next, sends_nothing, calls_mirrors, may_ask, asks, asks_as, sends_none, due_ask, call_by_ask, calls_mds, calls_all}
+use Rattle.mirror_client.specs.declared.layout.Layout.{Layout}
+use Rattle.mirror_client.specs.declared.asked.Asked.{Asked}
+use Rattle.mirror_client.specs.ClientStates.{ClientValue}
+use Rattle.mirror_client.specs.ClientCalls.{SendValue, ClientStep, xid_after, and_then, calls_next, calls_under, calls_mirror, calls_two, calls_mirrors, may_ask, asks, asks_as, spelled, sends_none, due_ask, call_by_ask, calls_mds}
 use Rattle.mirror_client.specs.ClientLaws.{BearsNumber, CarryNumbers, SendsNumbered, NumbersCalls}
 
 not_both : false ≡ true → ⊥
@@ -31,25 +33,32 @@ numbered_append xid mid next (x ∷ s) t first second = (first.0, (first.1.0, nu
 nonzero : (xid : ℕ) → (xid == 0) ≡ false → xid ≢ 0
 nonzero xid is e = not_both (sym is ∙ ap (λ x. x == 0) e)
 
-writer_numbered : (n : ℕ) (name : List ℕ) (w : WriterValue) (xid : ℕ) → CarryNumbers xid (writer_calls n name w xid).sends (writer_calls n name w xid).next_xid
-writer_numbered zero name w xid = refl
-writer_numbered (suc n) name w xid = by_test (xid == 0) refl (λ v. writer_numbered n name v (xid_after xid))
+next_numbered : (c : ClientValue) (l : Layout) (s : Option WriterSends) → c.next_xid ≢ 0 → SendsNumbered c (calls_next c l s)
+next_numbered c l None some = refl
+next_numbered c l (Some s) some = (some, (call_bears (ds_rpc_call c.next_xid c.name l.writer.cred s.call) _, refl))
+
+under_numbered : (c : ClientValue) (layout : Option Layout) → c.next_xid ≢ 0 → SendsNumbered c (calls_under c layout)
+under_numbered c None some = refl
+under_numbered c (Some l) some = next_numbered c l (next_sent l.writer c.next_xid) some
+
+mirror_numbered : (c : ClientValue) → SendsNumbered c (calls_mirror c)
+mirror_numbered c = by_test (c.next_xid == 0) refl
   where
-    by_sent : xid ≢ 0 → ((v : WriterValue) → CarryNumbers (xid_after xid) (writer_calls n name v (xid_after xid)).sends (writer_calls n name v (xid_after xid)).next_xid)
-        → (s : Option WriterSends) → CarryNumbers xid (by_next name w xid s (writer_calls n name)).sends (by_next name w xid s (writer_calls n name)).next_xid
-    by_sent some rest None = refl
-    by_sent some rest (Some s) = (some, (call_bears (ds_rpc_call xid name w.cred s.call) _, rest s.writer))
+    by_test : (t : Bool) → (c.next_xid == 0) ≡ t → SendsNumbered c (if t then sends_none c else calls_under c c.layout)
+    by_test true is = refl
+    by_test false is = under_numbered c c.layout (nonzero c.next_xid is)
 
-    by_test : (t : Bool) → (xid == 0) ≡ t → ((v : WriterValue) → CarryNumbers (xid_after xid) (writer_calls n name v (xid_after xid)).sends (writer_calls n name v (xid_after xid)).next_xid)
-        → CarryNumbers xid (if t then sends_nothing w xid else by_next name w xid (next_sent w xid) (writer_calls n name)).sends (if t then sends_nothing w xid else by_next name w xid (next_sent w xid) (writer_calls n name)).next_xid
-    by_test true is rest = refl
-    by_test false is rest = by_sent (nonzero xid is) rest (next_sent w xid)
+-- what follows goes on with the numbers
+then_numbered : (c : ClientValue) (s : ClientStep) (next : ClientValue → ClientStep) → SendsNumbered c s → ((d : ClientValue) → SendsNumbered d (next d)) → SendsNumbered c (and_then s next)
+then_numbered c s next first second = numbered_append c.next_xid s.client.next_xid (next s.client).client.next_xid s.sends (next s.client).sends first (second s.client)
 
-mirrors_numbered : (c : ClientValue) (layout : Option LayoutValue) → SendsNumbered c (calls_mirrors c layout)
-mirrors_numbered c None = refl
-mirrors_numbered c (Some l) = writer_numbered 4 c.name l.writer c.next_xid
+two_numbered : (c : ClientValue) → SendsNumbered c (calls_two c)
+two_numbered c = then_numbered c (calls_mirror c) calls_mirror (mirror_numbered c) mirror_numbered
 
-asked_numbered : (c : ClientValue) (kind : MdsAsk) (call : Option MdsCallValue) → c.next_xid ≢ 0 → SendsNumbered c (asks_as c kind call)
+mirrors_numbered : (c : ClientValue) → SendsNumbered c (calls_mirrors c)
+mirrors_numbered c = then_numbered c (calls_two c) calls_two (two_numbered c) two_numbered
+
+asked_numbered : (c : ClientValue) (kind : MdsAsk) (call : Option MdsCallValue) → c.next_xid ≢ 0 → SendsNumbered c (asks_as c kind (spelled c call))
 asked_numbered c kind None some = refl
 asked_numbered c kind (Some call) some = (some, (call_bears (mds_rpc_call c.next_xid c.name call) _, refl))
 
@@ -57,7 +66,7 @@ due_numbered : (c : ClientValue) (kind : Option MdsAsk) → c.next_xid ≢ 0 →
 due_numbered c None some = refl
 due_numbered c (Some kind) some = asked_numbered c kind (call_by_ask c kind) some
 
-may_nonzero : (c : ClientValue) (asked : Option AskedValue) → may_ask c asked ≡ true → c.next_xid ≢ 0
+may_nonzero : (c : ClientValue) (asked : Option Asked) → may_ask c asked ≡ true → c.next_xid ≢ 0
 may_nonzero c None may e = not_both (sym (sym may ∙ ap (λ x. not (x == 0)) e))
 may_nonzero c (Some asked) may e = not_both may
 
@@ -69,6 +78,4 @@ mds_numbered c = by_test (may_ask c c.asked) refl
     by_test false may = refl
 
 pub all_numbered : (c : ClientValue) → NumbersCalls c
-all_numbered c =
-    numbered_append c.next_xid (calls_mirrors c c.layout).client.next_xid (calls_all c).client.next_xid (calls_mirrors c c.layout).sends (calls_mds (calls_mirrors c c.layout).client).sends
-    (mirrors_numbered c c.layout) (mds_numbered (calls_mirrors c c.layout).client)
+all_numbered c = then_numbered c (calls_mirrors c) calls_mds (mirrors_numbered c) mds_numbered

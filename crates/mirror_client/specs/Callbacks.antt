@@ -25,7 +25,11 @@ use Rattle.nfs4_compound.specs.CbArgs.{cb_argop4}
 use Rattle.nfs4_compound.specs.CbResults.{cb_resop4}
 use Rattle.nfs4_compound.specs.Compounds.{CbCompoundValue, cb_compound_at, cb_compound4_res}
 use Rattle.nfs4_compound.specs.Operations.{rest_of_stop}
-use Rattle.mirror_client.specs.ClientStates.{SessionValue, TieValue, HasSession, LayoutValue, ClientValue}
+use Rattle.mirror_client.specs.declared.tie.OwnSession.{OwnSession}
+use Rattle.mirror_client.specs.declared.tie.Tie.{Tie}
+use Rattle.mirror_client.specs.declared.layout.Layout.{Layout}
+use Rattle.mirror_client.specs.declared.tie.Tie.TheVariants.{HasSession}
+use Rattle.mirror_client.specs.ClientStates.{ClientValue}
 use Rattle.mirror_client.specs.ClientQueue.{with_layout, ending}
 
 -- ---- results
@@ -44,14 +48,30 @@ cb_recall_result status = arm 5 cb_resop4 (inr (stat4_number status))
 abbrev pub cb_sequence_result : SessionId → ℕ → Value cb_resop4
 cb_sequence_result session sequence = arm 11 cb_resop4 (inl (session.0, (sequence, (0, (0, 0)))))
 
--- the results of a compound, its status, and the client then
+-- the results of a compound, and its status
+pub record CbGiven : Type 0 where
+  pub status : Stat4
+  pub results : List (Value cb_resop4)
+
+abbrev pub given : Stat4 → List (Value cb_resop4) → CbGiven
+given status results = record { status = status; results = results }
+
+-- by one result, that of the operation which is not OK
+abbrev pub refused : Stat4 → Value cb_resop4 → CbGiven
+refused status result = given status (result ∷ [])
+
+abbrev pub behind_given : Value cb_resop4 → CbGiven → CbGiven
+behind_given result g = record { status = g.status; results = result ∷ g.results }
+
+-- the same, and the client then
 pub record CbJudged : Type 0 where
   pub status : Stat4
   pub results : List (Value cb_resop4)
   pub client : ClientValue
 
-abbrev pub judged : Stat4 → List (Value cb_resop4) → ClientValue → CbJudged
-judged status results c = record { status = status; results = results; client = c }
+-- the client stays as it is
+abbrev pub leaves : CbGiven → ClientValue → CbJudged
+leaves g c = record { status = g.status; results = g.results; client = c }
 
 abbrev pub behind_result : Value cb_resop4 → CbJudged → CbJudged
 behind_result result j = record { status = j.status; results = result ∷ j.results; client = j.client }
@@ -69,12 +89,12 @@ unread_number number false = 10044
 abbrev pub is_callback_number : ℕ → Bool
 is_callback_number number = nat_le 3 number && nat_le number 14
 
-abbrev pub stopped : Stop → ClientValue → CbJudged
-stopped (stop.End rest) c = judged stat.Ok [] c
-stopped (stop.Unread number) c =
+abbrev pub stopped : Stop → CbGiven
+stopped (stop.End rest) = given stat.Ok []
+stopped (stop.Unread number) =
     let known = is_callback_number number in
-    judged (unread_status number known) (cb_refusal (unread_number number known) (unread_status number known) ∷ []) c
-stopped (stop.Bad e) c = judged stat.BadXdr (cb_refusal 10044 stat.BadXdr ∷ []) c
+    refused (unread_status number known) (cb_refusal (unread_number number known) (unread_status number known))
+stopped (stop.Bad e) = refused stat.BadXdr (cb_refusal 10044 stat.BadXdr)
 
 -- ---- CB_LAYOUTRECALL
 
@@ -92,7 +112,7 @@ pub record Recall : Type 0 where
   pub status : Stat4
   pub client : ClientValue
 
-abbrev pub recall_of : Option LayoutValue → Option (List ℕ) → ClientValue → Recall
+abbrev pub recall_of : Option Layout → Option (List ℕ) → ClientValue → Recall
 recall_of None state c = record { status = stat.NoMatchingLayout; client = c }
 recall_of (Some l) state c =
     if is_state_of state l.stateid then record { status = stat.Ok; client = with_layout c (ending l) }
@@ -107,54 +127,56 @@ abbrev pub is_ok : Stat4 → Bool
 is_ok stat.Ok = true
 is_ok status = false
 
--- an operation that is OK is followed by the next
-abbrev pub goes_by : Stat4 → Value cb_resop4 → ClientValue → (ClientValue → CbJudged) → CbJudged
-goes_by status result c next = if is_ok status then behind_result result (next c) else judged status (result ∷ []) c
-
 -- a second CB_SEQUENCE stands in a wrong place
-abbrev pub misplaced : ClientValue → CbJudged
-misplaced c = judged stat.SequencePos (arm 11 cb_resop4 (inr (stat4_number stat.SequencePos)) ∷ []) c
+abbrev pub misplaced : CbGiven
+misplaced = refused stat.SequencePos (arm 11 cb_resop4 (inr (stat4_number stat.SequencePos)))
 
+-- a recall that is OK is followed by the next operation
 abbrev pub recall_step : Recall → (ClientValue → CbJudged) → CbJudged
-recall_step r next = goes_by r.status (cb_recall_result r.status) r.client next
+recall_step r next =
+    if is_ok r.status then behind_result (cb_recall_result r.status) (next r.client)
+    else leaves (refused r.status (cb_recall_result r.status)) r.client
 
 abbrev pub cb_behind : List (Value cb_argop4) → Stop → ClientValue → CbJudged
-cb_behind [] s c = stopped s c
-cb_behind (op ∷ ops) s c = by_arm cb_argop4 ((λ recall. recall_step (recalls recall c) (λ d. cb_behind ops s d)), ((λ sequence. misplaced c), tt)) op
+cb_behind [] s c = leaves (stopped s) c
+cb_behind (op ∷ ops) s c = by_arm cb_argop4 ((λ recall. recall_step (recalls recall c) (λ d. cb_behind ops s d)), ((λ sequence. leaves misplaced c), tt)) op
 
 -- the same of a callback that came before: its status is answered again, and nothing else is done
-abbrev pub cb_repeated : Stat4 → List (Value cb_argop4) → Stop → ClientValue → CbJudged
-cb_repeated status [] s c = stopped s c
-cb_repeated status (op ∷ ops) s c = by_arm cb_argop4 ((λ recall. goes_by status (cb_recall_result status) c (λ d. cb_repeated status ops s d)), ((λ sequence. misplaced c), tt)) op
+abbrev pub repeat_step : Stat4 → CbGiven → CbGiven
+repeat_step status next = if is_ok status then behind_given (cb_recall_result status) next else refused status (cb_recall_result status)
+
+abbrev pub cb_repeated : Stat4 → List (Value cb_argop4) → Stop → CbGiven
+cb_repeated status [] s = stopped s
+cb_repeated status (op ∷ ops) s = by_arm cb_argop4 ((λ recall. repeat_step status (cb_repeated status ops s)), ((λ sequence. misplaced), tt)) op
 
 -- ---- CB_SEQUENCE
 
-abbrev pub with_callbacks : SessionValue → CbSlotState → ClientValue → ClientValue
+abbrev pub with_callbacks : OwnSession → CbSlotState → ClientValue → ClientValue
 with_callbacks s slot c = record c { tie = HasSession (record s { callbacks = slot }) }
 
-abbrev pub sequence_refused : Stat4 → ClientValue → CbJudged
-sequence_refused status c = judged status (arm 11 cb_resop4 (inr (stat4_number status)) ∷ []) c
+abbrev pub sequence_refused : Stat4 → CbGiven
+sequence_refused status = refused status (arm 11 cb_resop4 (inr (stat4_number status)))
 
 -- the status of a callback is kept with its number
-abbrev pub keeps_status : SessionValue → CbSlotState → CbJudged → CbJudged
+abbrev pub keeps_status : OwnSession → CbSlotState → CbJudged → CbJudged
 keeps_status s slot j = record { status = j.status; results = j.results; client = with_callbacks s (with_cb_status slot j.status) j.client }
 
-abbrev pub cb_begun : SessionValue → ℕ → CbBegin → List (Value cb_argop4) → Stop → ClientValue → CbJudged
+abbrev pub cb_begun : OwnSession → ℕ → CbBegin → List (Value cb_argop4) → Stop → ClientValue → CbJudged
 cb_begun s number New ops st c = behind_result (cb_sequence_result s.id number) (keeps_status s (after_cb_begin s.callbacks number New) (cb_behind ops st c))
-cb_begun s number (Again status) ops st c = behind_result (cb_sequence_result s.id number) (cb_repeated status ops st c)
-cb_begun s number Misordered ops st c = sequence_refused stat.SeqMisordered c
+cb_begun s number (Again status) ops st c = leaves (behind_given (cb_sequence_result s.id number) (cb_repeated status ops st)) c
+cb_begun s number Misordered ops st c = leaves (sequence_refused stat.SeqMisordered) c
 
 -- the client's session alone, and slot 0 alone
-abbrev pub cb_in_session : TieValue → Value cb_sequence4_args → List (Value cb_argop4) → Stop → ClientValue → CbJudged
+abbrev pub cb_in_session : Tie → Value cb_sequence4_args → List (Value cb_argop4) → Stop → ClientValue → CbJudged
 cb_in_session (HasSession s) (session, (number, (slot, rest))) ops st c =
-    if bytes_eq session s.id.0 then (if slot == 0 then cb_begun s number (cb_begin s.callbacks number) ops st c else sequence_refused stat.BadSlot c)
-    else sequence_refused stat.BadSession c
-cb_in_session tie sequence ops st c = sequence_refused stat.BadSession c
+    if bytes_eq session s.id.0 then (if slot == 0 then cb_begun s number (cb_begin s.callbacks number) ops st c else leaves (sequence_refused stat.BadSlot) c)
+    else leaves (sequence_refused stat.BadSession) c
+cb_in_session tie sequence ops st c = leaves (sequence_refused stat.BadSession) c
 
 -- the first operation: no other than CB_SEQUENCE stands there
 abbrev pub cb_first : List (Value cb_argop4) → Stop → ClientValue → CbJudged
-cb_first [] s c = stopped s c
-cb_first (op ∷ ops) s c = by_arm cb_argop4 ((λ recall. judged stat.OpNotInSession (cb_refusal 5 stat.OpNotInSession ∷ []) c), ((λ sequence. cb_in_session c.tie sequence ops s c), tt)) op
+cb_first [] s c = leaves (stopped s) c
+cb_first (op ∷ ops) s c = by_arm cb_argop4 ((λ recall. leaves (refused stat.OpNotInSession (cb_refusal 5 stat.OpNotInSession)) c), ((λ sequence. cb_in_session c.tie sequence ops s c), tt)) op
 
 -- ---- the callback
 
@@ -180,8 +202,8 @@ abbrev pub cb_compound_answer : Result CbCompoundValue XdrError → ClientValue 
 cb_compound_answer (Err e) c = cb_refused garbage_args c
 cb_compound_answer (Ok cb) c =
     if cb.minorversion == 1
-    then (if nat_lt 16 cb.count then cb_results cb.tag (judged stat.TooManyOps [] c) else cb_walked cb (rest_of_stop cb.ops.stop) c)
-    else cb_results cb.tag (judged stat.MinorVersMismatch [] c)
+    then (if nat_lt 16 cb.count then cb_results cb.tag (leaves (given stat.TooManyOps []) c) else cb_walked cb (rest_of_stop cb.ops.stop) c)
+    else cb_results cb.tag (leaves (given stat.MinorVersMismatch []) c)
 
 abbrev pub cb_null_answer : List ℕ → ClientValue → CbAnswer
 cb_null_answer [] c = record { stat = success; results = []; client = c }

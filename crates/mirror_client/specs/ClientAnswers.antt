@@ -1,5 +1,5 @@
 -- What the answer to a compound comes to for a client (RFC 8881, sections 2.10.6, 18; RFC 8435, section 7).
-use Rattle.std.specs.Prelude.{ℕ, Bool, true, false, ◌&&◌, ◌||◌, ◌==◌, List, [], ◌∷◌, ◌++◌, drop, replicate, Option, Some, None, if◌then◌else◌}
+use Rattle.std.specs.Prelude.{ℕ, Bool, true, false, ◌&&◌, ◌||◌, ◌==◌, List, [], ◌∷◌, ◌++◌, length, nat_lt, drop, replicate, Option, Some, None, if◌then◌else◌}
 use Rattle.nfs4_types.specs.declared.ids.SessionId.{SessionId}
 use Rattle.nfs4_types.specs.declared.ids.DeviceId.{DeviceId}
 use Rattle.nfs4_types.specs.Ids.{device_id_of}
@@ -16,17 +16,23 @@ use Rattle.mds_calls.specs.declared.reply.SlotReport.{SlotReport}
 use Rattle.mds_calls.specs.declared.reply.SlotReport.TheVariants.{Taken, Uncached, Delayed, Unknown}
 use Rattle.mds_calls.specs.MdsReplies.{MdsAnswerValue, Client, Session, Complete, Opened, Granted, Devices, Written, Bytes, Returned, Renewed, Refused, MdsReplyValue}
 use Rattle.mirror_client.specs.declared.stage.LayoutStage.TheVariants.{Writing, Deferred}
-use Rattle.mirror_client.specs.ClientStates.{RequestValue, SessionValue, TieValue, NoClient, HasClient, HasSession, LayoutValue, AskedValue, ClientValue, ClientRun, unmoved, followed_by, as_new}
-use Rattle.mirror_client.specs.ClientQueue.{answers_user, refuses_request, unknown_servers, revoked_layout}
+use Rattle.mirror_client.specs.declared.request.UserRequest.{UserRequest}
+use Rattle.mirror_client.specs.declared.tie.OwnSession.{OwnSession}
+use Rattle.mirror_client.specs.declared.tie.Tie.{Tie}
+use Rattle.mirror_client.specs.declared.layout.Layout.{Layout}
+use Rattle.mirror_client.specs.declared.asked.Asked.{Asked}
+use Rattle.mirror_client.specs.declared.tie.Tie.TheVariants.{NoClient, HasClient, HasSession}
+use Rattle.mirror_client.specs.ClientStates.{ClientValue, ClientRun, unmoved, ends_as, as_new}
+use Rattle.mirror_client.specs.ClientQueue.{answers_user, refuses_request, knows, unknown_servers, revoked_layout}
 use Rattle.mirror_client.specs.ClientMirrors.{tells}
 
 -- ---- the slot
 
 -- the request took effect: the next has the number behind it, and the lease is renewed
-abbrev pub moved_session : ℕ → SessionValue → SessionValue
+abbrev pub moved_session : ℕ → OwnSession → OwnSession
 moved_session now s = record s { next = sequence_after s.next; renewed = Some now }
 
-abbrev pub moved_tie : ℕ → TieValue → TieValue
+abbrev pub moved_tie : ℕ → Tie → Tie
 moved_tie now (HasSession s) = HasSession (moved_session now s)
 moved_tie now tie = tie
 
@@ -39,43 +45,51 @@ next_on_slot now c = record c { tie = moved_tie now c.tie }
 abbrev pub without_head : ClientValue → ClientValue
 without_head c = record c { queue = drop 1 c.queue; waits = false }
 
+abbrev pub opened_file : OpenFile → ClientValue → ClientRun
+opened_file file c = answers_user (answer.Opened file.file) (record (without_head c) { file = Some file })
+
 -- a new session: the first request on its slot has the number 1 (RFC 8881, section 2.10.6.1)
-abbrev pub fresh_session : SessionId → SessionValue
+abbrev pub fresh_session : SessionId → OwnSession
 fresh_session id = record { id = id; next = 1; is_complete = false; callbacks = new_cb_slot id; renewed = None }
 
-abbrev pub completed_tie : TieValue → TieValue
+abbrev pub completed_tie : Tie → Tie
 completed_tie (HasSession s) = HasSession (record s { is_complete = true })
 completed_tie tie = tie
 
-abbrev pub new_layout : LayoutGrant → LayoutValue
+abbrev pub new_layout : LayoutGrant → Layout
 new_layout g = record { stateid = g.stateid; mirrors = g.mirrors; writer = new_writer g.mirrors g.uid.0; untold = []; statuses = replicate 4 None; stage = Writing; was_sent = false }
 
-abbrev pub device_pairs : List ℕ → List NetAddr → List (DeviceId × NetAddr)
-device_pairs (server ∷ servers) (address ∷ addresses) = (device_id_of server, address) ∷ device_pairs servers addresses
-device_pairs servers addresses = []
+-- the device of a data server has this address from now on, unless it is known; at most 16 are
+abbrev pub with_device : List (DeviceId × NetAddr) → ℕ → NetAddr → List (DeviceId × NetAddr)
+with_device devices server address =
+    if knows devices server then devices else if nat_lt (length devices) 16 then devices ++ (device_id_of server, address) ∷ [] else devices
 
-abbrev pub learns_devices : Option LayoutValue → List NetAddr → ClientValue → ClientValue
+abbrev pub with_addresses : List (DeviceId × NetAddr) → List ℕ → List NetAddr → List (DeviceId × NetAddr)
+with_addresses devices (server ∷ servers) (address ∷ addresses) = with_addresses (with_device devices server address) servers addresses
+with_addresses devices servers addresses = devices
+
+abbrev pub learns_devices : Option Layout → List NetAddr → ClientValue → ClientValue
 learns_devices None addresses c = c
-learns_devices (Some l) addresses c = record c { devices = c.devices ++ device_pairs (unknown_servers c l) addresses }
+learns_devices (Some l) addresses c = record c { devices = with_addresses c.devices (unknown_servers c l) addresses }
 
 -- the return was accepted: the writes that are not told count as committed now
-abbrev pub layout_returned : Option OpenFile → Option LayoutValue → ClientValue → ClientRun
+abbrev pub layout_returned : Option OpenFile → Option Layout → ClientValue → ClientRun
 layout_returned (Some file) (Some l) c = tells file l.writer l.untold (record c { layout = None })
 layout_returned file layout c = unmoved c
 
 -- ---- it was refused
 
 -- the request at the head gets the status, if there is one
-abbrev pub head_refused : ℕ → List RequestValue → ClientValue → ClientRun
+abbrev pub head_refused : ℕ → List UserRequest → ClientValue → ClientRun
 head_refused status [] c = unmoved c
 head_refused status (request ∷ rest) c = refuses_request status (without_head c)
 
-abbrev pub has_session : TieValue → Bool
+abbrev pub has_session : Tie → Bool
 has_session NoClient = false
 has_session (HasClient clientid sequence) = false
 has_session (HasSession s) = true
 
-abbrev pub deferred : Option LayoutValue → Option LayoutValue
+abbrev pub deferred : Option Layout → Option Layout
 deferred None = None
 deferred (Some l) = Some (record l { stage = Deferred })
 
@@ -89,7 +103,7 @@ abbrev pub after_refusal : MdsAsk → ClientValue → ClientValue
 after_refusal kind c = if has_session c.tie then defers kind c else as_new c
 
 abbrev pub refused_otherwise : MdsAsk → ℕ → ClientValue → ClientRun
-refused_otherwise kind status c = followed_by (head_refused status c.queue c) (λ d. unmoved (after_refusal kind d))
+refused_otherwise kind status c = ends_as (head_refused status c.queue c) (after_refusal kind)
 
 -- the same is asked again at the next tick: LAYOUTTRYLATER 10058, RECALLCONFLICT 10061, DELAY 10008
 abbrev pub is_for_later : ℕ → Bool
@@ -101,9 +115,9 @@ asks_later ask.Renew c = c
 asks_later kind c = record c { waits = true }
 
 -- BADSESSION 10052: with a layout that is lost with it; without one the request at the head gets the status; then the client is as new
-abbrev pub session_lost : Option LayoutValue → ClientValue → ClientRun
-session_lost None c = followed_by (head_refused 10052 c.queue c) (λ d. unmoved (as_new d))
-session_lost (Some l) c = followed_by (revoked_layout c) (λ d. unmoved (as_new d))
+abbrev pub session_lost : Option Layout → ClientValue → ClientRun
+session_lost None c = ends_as (head_refused 10052 c.queue c) as_new
+session_lost (Some l) c = ends_as (revoked_layout c) as_new
 
 -- BAD_STATEID 10025 at LAYOUTRETURN: the layout was taken away
 abbrev pub is_layout_return : MdsAsk → Bool
@@ -124,7 +138,7 @@ by_answer kind (Refused status) c = refused_by_mds kind status c
 by_answer kind (Client clientid sequence) c = unmoved (record c { tie = HasClient clientid sequence })
 by_answer kind (Session session) c = unmoved (record c { tie = HasSession (fresh_session session) })
 by_answer kind Complete c = unmoved (record c { tie = completed_tie c.tie })
-by_answer kind (Opened file) c = answers_user (answer.Opened file.file) (record (without_head c) { file = Some file })
+by_answer kind (Opened file) c = opened_file file c
 by_answer kind (Granted grant) c = unmoved (record c { layout = Some (new_layout grant) })
 by_answer kind (Devices addresses) c = unmoved (learns_devices c.layout addresses c)
 by_answer kind Written c = answers_user answer.Written (without_head c)
@@ -136,7 +150,7 @@ abbrev pub without_asked : ClientValue → ClientValue
 without_asked c = record c { asked = None }
 
 -- By what became of the slot: the answer counts; the same goes out anew, under another number; or the same record at the next tick.
-abbrev pub mds_answered : AskedValue → MdsReplyValue → ℕ → ClientValue → ClientRun
+abbrev pub mds_answered : Asked → MdsReplyValue → ℕ → ClientValue → ClientRun
 mds_answered asked reply now c = by_slot reply.slot
   where
     by_slot : SlotReport → ClientRun
@@ -144,3 +158,11 @@ mds_answered asked reply now c = by_slot reply.slot
     by_slot Unknown = by_answer asked.ask reply.answer (without_asked c)
     by_slot Uncached = unmoved (record (without_asked (next_on_slot now c)) { again = Some asked.ask })
     by_slot Delayed = unmoved (record c { asked = Some (record asked { is_late = true }) })
+
+abbrev pub mds_heard : Option Asked → (MdsAsk → MdsReplyValue) → ℕ → ClientValue → ClientRun
+mds_heard None reply now c = unmoved c
+mds_heard (Some asked) reply now c = mds_answered asked (reply asked.ask) now c
+
+abbrev pub answered_as : Option Asked → MdsReplyValue → ℕ → ClientValue → ClientRun
+answered_as None reply now c = unmoved c
+answered_as (Some asked) reply now c = mds_answered asked reply now c

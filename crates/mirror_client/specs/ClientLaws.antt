@@ -5,7 +5,8 @@ use Rattle.ff_xdr.specs.Form.{word}
 use Rattle.cluster_model.specs.declared.ids.NodeId.{NodeId}
 use Rattle.cluster_model.specs.declared.ids.NodeId.TheVariants.{Mds, Server, Client}
 use Rattle.mirror_writer.specs.Writers.{WriterValue, WriterMirror}
-use Rattle.mirror_client.specs.ClientStates.{LayoutValue, ClientValue}
+use Rattle.mirror_client.specs.declared.layout.Layout.{Layout}
+use Rattle.mirror_client.specs.ClientStates.{ClientValue}
 use Rattle.mirror_client.specs.ClientCalls.{SendValue, ClientStep, xid_after, calls_all}
 
 -- the record begins with this number (RFC 5531, section 9)
@@ -30,7 +31,7 @@ NumbersCalls c = SendsNumbered c (calls_all c)
 abbrev pub writer_servers : WriterValue → List ℕ
 writer_servers w = map (λ (m : WriterMirror). m.id.server) w.mirrors
 
-abbrev pub layout_servers : Option LayoutValue → List ℕ
+abbrev pub layout_servers : Option Layout → List ℕ
 layout_servers None = []
 layout_servers (Some l) = writer_servers l.writer
 

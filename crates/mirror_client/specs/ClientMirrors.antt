@@ -1,5 +1,5 @@
 -- What the answers of data servers come to for a client, and timeouts of its calls to them (RFC 8435, sections 5 and 8).
-use Rattle.std.specs.Prelude.{ℕ, ◌+◌, not, ◌==◌, nat_lt, List, [], ◌∷◌, ◌++◌, length, position, Option, Some, None, slice_get, slice_set, if◌then◌else◌}
+use Rattle.std.specs.Prelude.{ℕ, ◌+◌, Bool, true, false, not, ◌==◌, nat_lt, List, [], ◌∷◌, ◌++◌, length, position, Option, Some, None, slice_get, slice_set, if◌then◌else◌}
 use Rattle.std.specs.List.{filter}
 use Rattle.cluster_model.specs.declared.ids.NodeId.TheVariants.{Client}
 use Rattle.cluster_model.specs.declared.ids.Mirror.{Mirror}
@@ -14,9 +14,10 @@ use Rattle.mirror_writer.specs.declared.call.TakenWrite.{TakenWrite}
 use Rattle.mirror_writer.specs.declared.step.WriterStep.{WriterStep}
 use Rattle.mirror_writer.specs.declared.step.WriterStep.TheVariants as step
 use Rattle.mirror_writer.specs.Writers.{WriterValue, WriterAfter, after_reply, after_timeout}
-use Rattle.mirror_client.specs.Outstanding.{OutCall, out_at, is_covered_everywhere, has_no_mirror}
+use Rattle.mirror_writer.specs.Outstanding.{OutCall, out_at, is_covered_everywhere, has_no_mirror}
 use Rattle.mds_calls.specs.declared.call.OpenFile.{OpenFile}
-use Rattle.mirror_client.specs.ClientStates.{LayoutValue, ClientValue, ClientRun, unmoved, followed_by}
+use Rattle.mirror_client.specs.declared.layout.Layout.{Layout}
+use Rattle.mirror_client.specs.ClientStates.{ClientValue, ClientRun, unmoved, followed_by}
 use Rattle.mirror_client.specs.ClientQueue.{with_layout, with_writer, ending, revoked_layout, lost_mirrors}
 
 -- ---- writes that are told
@@ -38,15 +39,16 @@ abbrev pub tells : OpenFile → WriterValue → List ℕ → ClientValue → Cli
 tells file w ns c = record { client = record c { told = counted_on c.told (length ns) }; entries = told_entries file w ns }
 
 -- those that are covered by now
-abbrev pub tells_covered : OpenFile → LayoutValue → ClientValue → ClientRun
-tells_covered file l c =
+abbrev pub tells_covered : OpenFile → Option Layout → ClientValue → ClientRun
+tells_covered file None c = unmoved c
+tells_covered file (Some l) c =
     tells file l.writer (filter (is_covered_everywhere l.writer) l.untold)
     (with_layout c (record l { untold = filter (λ n. not (is_covered_everywhere l.writer n)) l.untold }))
 
 -- only a COMMIT covers
-abbrev pub tells_if : DsCallValue → OpenFile → LayoutValue → ClientValue → ClientRun
-tells_if (Commit fileid) file l c = tells_covered file l c
-tells_if call file l c = unmoved (with_layout c l)
+abbrev pub is_commit : DsCallValue → Bool
+is_commit (Commit fileid) = true
+is_commit call = false
 
 -- ---- a mirror failed
 
@@ -61,31 +63,36 @@ abbrev pub with_status_at : List (Option ℕ) → Option ℕ → ℕ → List (O
 with_status_at statuses None status = statuses
 with_status_at statuses (Some place) status = slice_set statuses place (Some status)
 
-abbrev pub with_failed : LayoutValue → MirrorId → LeftCause → LayoutValue
+abbrev pub with_failed : Layout → MirrorId → LeftCause → Layout
 with_failed l id cause = record l { statuses = with_status_at l.statuses (position (λ (m : Mirror). is_mirror id m.id) l.mirrors) (reported_status cause) }
 
 -- the others commit, and the layout is given back with a report
-abbrev pub mirror_failed : LayoutValue → ClientValue → ClientRun
-mirror_failed l c = if has_no_mirror l.writer then lost_mirrors l c else unmoved (with_layout c (ending l))
+abbrev pub mirror_failed : MirrorId → LeftCause → Option Layout → ClientValue → ClientRun
+mirror_failed id cause None c = unmoved c
+mirror_failed id cause (Some l) c =
+    if has_no_mirror l.writer then lost_mirrors (with_failed l id cause) c else unmoved (with_layout c (ending (with_failed l id cause)))
 
 -- ---- what an answer and a timeout come to
 
-abbrev pub after_step : DsCallValue → OpenFile → LayoutValue → WriterStep → ClientValue → ClientRun
-after_step call file l step.Stranger c = unmoved c
-after_step call file l step.Waiting c = tells_if call file l c
-after_step call file l step.Committed c = tells_if call file l c
-after_step call file l (step.Failed id cause) c = mirror_failed (with_failed l id cause) c
-after_step call file l (step.Fenced id status) c = revoked_layout c
+-- behind what the writer came to
+abbrev pub after_step : Bool → OpenFile → WriterStep → ClientValue → ClientRun
+after_step commit file step.Stranger c = unmoved c
+after_step commit file step.Waiting c = if commit then tells_covered file c.layout c else unmoved c
+after_step commit file step.Committed c = if commit then tells_covered file c.layout c else unmoved c
+after_step commit file (step.Failed id cause) c = mirror_failed id cause c.layout c
+after_step commit file (step.Fenced id status) c = revoked_layout c
 
-abbrev pub after_writer : OutCall → OpenFile → LayoutValue → WriterAfter → ClientValue → ClientRun
-after_writer out file l after c = after_step out.call file (with_writer l after.writer) after.step c
+abbrev pub has_writer : ClientValue → Layout → WriterAfter → ClientValue
+has_writer c l after = with_layout c (with_writer l after.writer)
 
-abbrev pub answered_out : OpenFile → LayoutValue → ℕ → (DsCallValue → DsReplyValue) → Option OutCall → ClientValue → ClientRun
+abbrev pub answered_out : OpenFile → Layout → ℕ → (DsCallValue → DsReplyValue) → Option OutCall → ClientValue → ClientRun
 answered_out file l xid reply None c = unmoved c
-answered_out file l xid reply (Some out) c = if out.xid == xid then after_writer out file l (after_reply l.writer xid (reply out.call)) c else unmoved c
+answered_out file l xid reply (Some out) c =
+    if out.xid == xid then (let after = after_reply l.writer xid (reply out.call) in after_step (is_commit out.call) file after.step (has_writer c l after))
+    else unmoved c
 
 -- the answer of a data server to the call of this number, if it is outstanding there; what it says goes by the call
-abbrev pub ds_answered_by : Option OpenFile → Option LayoutValue → ℕ → ℕ → (DsCallValue → DsReplyValue) → ClientValue → ClientRun
+abbrev pub ds_answered_by : Option OpenFile → Option Layout → ℕ → ℕ → (DsCallValue → DsReplyValue) → ClientValue → ClientRun
 ds_answered_by (Some file) (Some l) server xid reply c = answered_out file l xid reply (out_at l.writer server) c
 ds_answered_by file layout server xid reply c = unmoved c
 
@@ -101,14 +108,14 @@ abbrev pub goes_again : OutCall → WriterStep → Option OutCall
 goes_again out step.Waiting = Some out
 goes_again out s = None
 
-abbrev pub late_out : OpenFile → LayoutValue → Option OutCall → ClientValue → TimeoutRun
+abbrev pub late_out : OpenFile → Layout → Option OutCall → ClientValue → TimeoutRun
 late_out file l None c = record { run = unmoved c; resends = None }
 late_out file l (Some out) c = let after = after_timeout l.writer out.xid in record {
-  run = followed_by (record { client = c; entries = TimedOut (Client c.number) out.xid ∷ [] }) (after_writer out file l after);
+  run = followed_by (record { client = has_writer c l after; entries = TimedOut (Client c.number) out.xid ∷ [] }) (after_step (is_commit out.call) file after.step);
   resends = goes_again out after.step;
 }
 
-abbrev pub ds_timed_out_by : Option OpenFile → Option LayoutValue → ℕ → ClientValue → TimeoutRun
+abbrev pub ds_timed_out_by : Option OpenFile → Option Layout → ℕ → ClientValue → TimeoutRun
 ds_timed_out_by (Some file) (Some l) server c = late_out file l (out_at l.writer server) c
 ds_timed_out_by file layout server c = record { run = unmoved c; resends = None }
 

@@ -9,7 +9,7 @@ use Rattle.cluster_model.specs.declared.entry.Entry.TheVariants.{TimedOut, Rogue
 use Rattle.cluster_model.specs.declared.ids.Mirror.{Mirror}
 use Rattle.cluster_model.specs.DsCalls.{DsCallValue, DsReplyValue}
 use Rattle.cluster_model.specs.DsCalls as ds
-use Rattle.mirror_client.specs.Outstanding.{OutCall}
+use Rattle.mirror_writer.specs.Outstanding.{OutCall}
 use Rattle.ds_calls.specs.MadeCalls.{ds_call_bytes}
 use Rattle.ds_calls.specs.GivenReplies.{reply_of_call}
 use Rattle.mds_calls.specs.declared.call.OpenFile.{OpenFile}
@@ -18,7 +18,12 @@ use Rattle.mds_calls.specs.declared.ask.MdsAsk.TheVariants as ask
 use Rattle.mds_calls.specs.MdsReplies.{MdsReplyValue, reply_of_ask}
 use Rattle.mirror_client.specs.declared.stage.LayoutStage.{LayoutStage}
 use Rattle.mirror_client.specs.declared.stage.LayoutStage.TheVariants.{Ending, Deferred}
-use Rattle.mirror_client.specs.ClientStates.{RequestValue, TieValue, HasSession, LayoutValue, AskedValue, ClientValue}
+use Rattle.mirror_client.specs.declared.request.UserRequest.{UserRequest}
+use Rattle.mirror_client.specs.declared.tie.Tie.{Tie}
+use Rattle.mirror_client.specs.declared.layout.Layout.{Layout}
+use Rattle.mirror_client.specs.declared.asked.Asked.{Asked}
+use Rattle.mirror_client.specs.declared.tie.Tie.TheVariants.{HasSession}
+use Rattle.mirror_client.specs.ClientStates.{ClientValue}
 use Rattle.mirror_client.specs.ClientMirrors.{TimeoutRun, ds_answered, ds_timed_out}
 use Rattle.mirror_client.specs.ClientCalls.{SendValue, ClientStep, sends_none, and_then, run_then, asks, may_ask, ends_event, xid_after}
 use Rattle.mirror_client.specs.ClientAnswers.{mds_answered}
@@ -30,14 +35,17 @@ unless_left c step = if c.has_left then sends_none c else step
 
 -- ---- a request of the user
 
-abbrev pub client_requested : RequestValue → ClientValue → ClientStep
-client_requested request c = unless_left c (ends_event (record c { queue = c.queue ++ request ∷ [] }))
+abbrev pub with_request : UserRequest → ClientValue → ClientValue
+with_request request c = record c { queue = c.queue ++ request ∷ [] }
+
+abbrev pub client_requested : UserRequest → ClientValue → ClientStep
+client_requested request c = unless_left c (ends_event (with_request request c))
 
 -- ---- a reply
 
 -- to the compound that is outstanding
 -- (what it says goes by what was asked)
-abbrev pub mds_replied : Option AskedValue → ℕ → (MdsAsk → MdsReplyValue) → ℕ → ClientValue → ClientStep
+abbrev pub mds_replied : Option Asked → ℕ → (MdsAsk → MdsReplyValue) → ℕ → ClientValue → ClientStep
 mds_replied None xid reply now c = sends_none c
 mds_replied (Some asked) xid reply now c =
     if asked.xid == xid then run_then (mds_answered asked (reply asked.ask) now c) ends_event else sends_none c
@@ -55,7 +63,7 @@ replied (Client number) reply now c = sends_none c
 -- ---- a timeout
 
 -- the same record goes to the metadata server again
-abbrev pub mds_timed_out : Option AskedValue → ClientValue → ClientStep
+abbrev pub mds_timed_out : Option Asked → ClientValue → ClientStep
 mds_timed_out None c = sends_none c
 mds_timed_out (Some asked) c = record { client = c; entries = TimedOut (Client c.number) asked.xid ∷ []; sends = (Mds, asked.message) ∷ [] }
 
@@ -63,18 +71,17 @@ abbrev pub resent : ℕ → ℕ → ClientValue → Option OutCall → List Send
 resent server cred c None = []
 resent server cred c (Some out) = (Server server, ds_call_bytes out.xid c.name cred out.call) ∷ []
 
-abbrev pub cred_of : Option LayoutValue → ℕ
+abbrev pub cred_of : Option Layout → ℕ
 cred_of None = 0
 cred_of (Some l) = l.writer.cred
 
 -- the same record goes to the data server again, before what goes out else
 abbrev pub ds_late : ℕ → ClientValue → TimeoutRun → ClientStep
-ds_late server c r = let rest = run_then r.run ends_event in
-    record { client = rest.client; entries = rest.entries; sends = resent server (cred_of c.layout) c r.resends ++ rest.sends }
+ds_late server c r = record { client = r.run.client; entries = r.run.entries; sends = resent server (cred_of c.layout) c r.resends }
 
 abbrev pub timed_out_to : NodeId → ClientValue → ClientStep
 timed_out_to Mds c = mds_timed_out c.asked c
-timed_out_to (Server server) c = ds_late server c (ds_timed_out server c)
+timed_out_to (Server server) c = and_then (ds_late server c (ds_timed_out server c)) ends_event
 timed_out_to (Client number) c = sends_none c
 
 abbrev pub client_timed_out : NodeId → ClientValue → ClientStep
@@ -87,7 +94,7 @@ abbrev pub stage_after_tick : LayoutStage → LayoutStage
 stage_after_tick Deferred = Ending
 stage_after_tick stage = stage
 
-abbrev pub layout_at_tick : Option LayoutValue → Option LayoutValue
+abbrev pub layout_at_tick : Option Layout → Option Layout
 layout_at_tick None = None
 layout_at_tick (Some l) = Some (record l { stage = stage_after_tick l.stage })
 
@@ -95,7 +102,7 @@ abbrev pub client_at_tick : ClientValue → ClientValue
 client_at_tick c = record c { waits = false; layout = layout_at_tick c.layout }
 
 -- the record whose SEQUENCE was answered DELAY
-abbrev pub resends_late : ClientValue → Option AskedValue → ClientStep
+abbrev pub resends_late : ClientValue → Option Asked → ClientStep
 resends_late c None = sends_none c
 resends_late c (Some asked) =
     if asked.is_late then record { client = record c { asked = Some (record asked { is_late = false }) }; entries = []; sends = (Mds, asked.message) ∷ [] }
@@ -106,22 +113,25 @@ abbrev pub is_stale : ℕ → Option ℕ → Bool
 is_stale now None = false
 is_stale now (Some renewed) = nat_le (renewed + 30) now
 
-abbrev pub is_stale_tie : ℕ → TieValue → Bool
+abbrev pub is_stale_tie : ℕ → Tie → Bool
 is_stale_tie now (HasSession s) = is_stale now s.renewed
 is_stale_tie now tie = false
 
 abbrev pub renews : ℕ → ClientValue → ClientStep
 renews now c = if may_ask c c.asked && is_stale_tie now c.tie then asks c (Some ask.Renew) else sends_none c
 
+abbrev pub ticks_on : ℕ → ClientValue → ClientStep
+ticks_on now c = and_then (and_then (ends_event c) (λ d. resends_late d d.asked)) (renews now)
+
 abbrev pub client_ticked : ℕ → ClientValue → ClientStep
-client_ticked now c = unless_left c (and_then (and_then (ends_event (client_at_tick c)) (λ d. resends_late d d.asked)) (renews now))
+client_ticked now c = unless_left c (ticks_on now (client_at_tick c))
 
 -- ---- a client that leaves the protocol
 
 abbrev pub turned : ClientValue → ClientValue
 turned c = record c { has_left = true }
 
-abbrev pub rogue_write : ClientValue → OpenFile → LayoutValue → ℕ → List ℕ → Option Mirror → ClientStep
+abbrev pub rogue_write : ClientValue → OpenFile → Layout → ℕ → List ℕ → Option Mirror → ClientStep
 rogue_write c file l at bytes None = sends_none c
 rogue_write c file l at bytes (Some m) = record {
   client = record c { next_xid = xid_after c.next_xid };
@@ -133,7 +143,7 @@ abbrev pub mirror_of_place : List Mirror → ℕ → Option Mirror
 mirror_of_place mirrors place = if place == 0 then None else slice_get mirrors (place - 1)
 
 -- It sends a WRITE to the mirror at this place of its layout, from 1, while no LAYOUTRETURN of it was sent.
-abbrev pub strays : Option OpenFile → Option LayoutValue → ℕ → ℕ → List ℕ → ClientValue → ClientStep
+abbrev pub strays : Option OpenFile → Option Layout → ℕ → ℕ → List ℕ → ClientValue → ClientStep
 strays (Some file) (Some l) place at bytes c =
     if l.was_sent || (c.next_xid == 0) then sends_none c else rogue_write c file l at bytes (mirror_of_place l.mirrors place)
 strays file layout place at bytes c = sends_none c

@@ -9,7 +9,9 @@ use Rattle.cluster_model.specs.declared.entry.Entry.{Entry}
 use Rattle.cluster_model.specs.DsCalls.{DsReplyValue}
 use Rattle.mds_calls.specs.declared.ask.MdsAsk.{MdsAsk}
 use Rattle.mds_calls.specs.MdsReplies.{MdsReplyValue}
-use Rattle.mirror_client.specs.ClientStates.{RequestValue, AskedValue, ClientValue}
+use Rattle.mirror_client.specs.declared.request.UserRequest.{UserRequest}
+use Rattle.mirror_client.specs.declared.asked.Asked.{Asked}
+use Rattle.mirror_client.specs.ClientStates.{ClientValue}
 use Rattle.mirror_client.specs.ClientCalls.{SendValue, ClientStep, sends_none, and_then}
 use Rattle.mirror_client.specs.Callbacks.{cb_reply, cb_results, cb_first}
 use Rattle.mirror_client.specs.ClientRule.{unless_left, client_requested, mds_replied, ds_replied, client_timed_out, client_ticked, answers_callback, turned, strays}
@@ -18,7 +20,7 @@ use Rattle.mirror_client.specs.ClientRule.{unless_left, client_requested, mds_re
 -- server, by its number; a callback under a number; a timeout of its call to a node; a tick at a moment; it leaves the protocol, and
 -- then sends a write to a mirror by its place.
 pub data ClientEvent : Type 0 where
-  Asks : (request : RequestValue) → ClientEvent
+  Asks : (request : UserRequest) → ClientEvent
   MdsSays : (xid : ℕ) (reply : MdsReplyValue) (now : ℕ) → ClientEvent
   DsSays : (server xid : ℕ) (reply : DsReplyValue) → ClientEvent
   CallsBack : (xid : ℕ) (ops : List (Value cb_argop4)) → ClientEvent
@@ -52,7 +54,7 @@ abbrev pub receiver : SendValue → NodeId
 receiver s = s.0
 
 abbrev pub seen_of : ClientStep → ClientSeen
-seen_of s = record { entries = s.entries; sent_to = map receiver s.sends; asked = option_map (λ (a : AskedValue). a.ask) s.client.asked }
+seen_of s = record { entries = s.entries; sent_to = map receiver s.sends; asked = option_map (λ (a : Asked). a.ask) s.client.asked }
 
 abbrev pub seen_in : ClientValue → List ClientEvent → ClientSeen
 seen_in c events = seen_of (client_run c events)

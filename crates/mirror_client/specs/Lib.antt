@@ -1,4 +1,3 @@
-pub mod Outstanding
 pub mod ClientStates
 pub mod ClientQueue
 pub mod ClientMirrors
@@ -10,3 +9,5 @@ pub mod ClientRuns
 pub mod WorkedClient
 pub mod ClientLaws
 pub mod WorkedWays
+pub mod ClientBody
+pub mod CallbackBody

@@ -1,5 +1,8 @@
 //! How far the giving back of a layout is.
 
+ghost use Rattle.std.specs.Prelude.{◌≡◌};
+ghost use Rattle.mirror_client.specs.ClientQueue.{is_writing};
+
 /// Whether a layout is to be given back, and how far that is.
 #[derive(Clone, Copy, Debug, PartialEq, Eq)]
 pub enum LayoutStage {
@@ -11,4 +14,18 @@ pub enum LayoutStage {
     Deferred,
     /// LAYOUTRETURN is outstanding.
     Returning,
+}
+
+impl LayoutStage {
+    /// Writes are taken.
+    pub fn is_writing(self) -> bool
+        ensures { result ≡ is_writing self }
+    {
+        match self {
+            LayoutStage::Writing => true,
+            LayoutStage::Ending => false,
+            LayoutStage::Deferred => false,
+            LayoutStage::Returning => false,
+        }
+    }
 }

@@ -1,6 +1,7 @@
 mod MirrorLemmas
 pub mod Shown
 mod WriterSteps
+mod FirstOn
 mod PlaceLemmas
 mod RunLemmas
 mod Stretches

@@ -1,5 +1,6 @@
 pub mod Extents
 pub mod Writers
+pub mod Outstanding
 pub mod WriterLaws
 pub mod Calls
 pub mod Rooms

@@ -1,13 +1,13 @@
 //! What a writer keeps of its writes and calls.
 
+use crate::write_bytes::WriteBytes;
 use cluster_model::LeftCause;
-use ff_xdr::Data;
 
 /// A write that was taken: its first byte's place in the file, and its bytes.
 #[derive(Debug, Drop)]
 pub struct TakenWrite {
     pub at: u64,
-    pub bytes: Data,
+    pub bytes: WriteBytes,
 }
 
 /// An OK answer to a WRITE: which of the taken writes, counted from 0, and the answer's verifier.

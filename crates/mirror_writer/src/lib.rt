@@ -8,12 +8,15 @@ mod extents;
 mod laws;
 mod mirror;
 mod mirrors;
+mod outstanding;
 mod step;
 #[cfg(test)]
 mod tests;
+mod write_bytes;
 mod writer;
 
 pub use extents::Extents;
 pub use laws::writer_law;
 pub use step::{WriteStart, WriterStep};
+pub use write_bytes::WriteBytes;
 pub use writer::Writer;

@@ -105,6 +105,13 @@ impl MirrorWrites {
         }
     }
 
+    /// Its call.
+    pub fn call(&self) -> WriterCall
+        ensures { result ≡ self.now.mirror.call }
+    {
+        self.call
+    }
+
     /// Its call of this number is out.
     pub fn is_call(&self, xid: u32) -> bool
         ensures { result ≡ is_call xid self.now.mirror.call }

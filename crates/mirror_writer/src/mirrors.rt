@@ -1,14 +1,14 @@
 //! The mirrors of a writer.
 
-ghost use Rattle.std.specs.Prelude.{◌≡◌, ◌++◌, ◌<◌, ◌&&◌, ◌||◌, not, true, false, length, IfOk, OnOk, IfSome, map, position, take, replicate, slice_get, slice_set, option_map, Option, Some, None};
+ghost use Rattle.std.specs.Prelude.{◌≡◌, ◌++◌, ◌<◌, ◌==◌, ◌&&◌, ◌||◌, not, true, false, length, IfOk, OnOk, IfSome, map, position, take, replicate, slice_get, slice_set, option_map, Option, Some, None};
 ghost use Rattle.std.specs.List.{All, list_all, list_any, find};
 ghost use Rattle.cluster_model.specs.DsCalls.{plain_ds_reply};
 ghost use Rattle.cluster_model.specs.Journal.{is_mirror};
-ghost use Rattle.mirror_writer.specs.Writers.{new_mirror, is_committed, open_committed, is_some_call, next_at, is_call, queued, with_out, covered_in};
+ghost use Rattle.mirror_writer.specs.Writers.{new_mirror, is_committed, open_committed, is_some_call, next_at, is_call, queued, with_out, covered_flag, covered_in};
 ghost use Rattle.mirror_writer.specs.Rooms.{mirrors_shown, has_failed_in, HasSpareRoom, CanSend};
 ghost use Rattle.mirror_writer.specs.MirrorSteps.{StepsAt, SetsAt, NextOf, answered_there, late_there};
 
-use crate::call::{MirrorOutcome, NextCall};
+use crate::call::{MirrorOutcome, NextCall, WriterCall};
 use crate::mirror::MirrorWrites;
 use cluster_model::{DsReply, MirrorId, Mirrors};
 use ff_xdr::NoMemory;
@@ -192,4 +192,40 @@ pub fn covers_at(n: usize, id: MirrorId, mirrors: &[MirrorWrites]) -> bool
         }
     }
     false
+}
+
+/// The name and the call of the first of them on this server.
+pub fn first_on(server: u32, mirrors: &[MirrorWrites]) -> Option<(MirrorId, WriterCall)>
+    ensures { result ≡ option_map (λ r. (r.mirror.id, r.mirror.call)) (find (λ r. r.mirror.id.server == server) mirrors.now) }
+{
+    for mirror in mirrors {
+        if mirror.id().server == server {
+            return Some((mirror.id(), mirror.call()));
+        }
+    }
+    None
+}
+
+/// The taken write of this number is covered at each of them.
+pub fn all_cover(n: usize, mirrors: &[MirrorWrites]) -> bool
+    ensures { result ≡ list_all (λ r. covered_flag (slice_get r.mirror.covered n)) mirrors.now }
+{
+    for mirror in mirrors {
+        if !mirror.covers(n) {
+            return false;
+        }
+    }
+    true
+}
+
+/// Each of them has failed.
+pub fn all_failed(mirrors: &[MirrorWrites]) -> bool
+    ensures { result ≡ list_all (λ r. r.mirror.has_failed) mirrors.now }
+{
+    for mirror in mirrors {
+        if !mirror.has_failed() {
+            return false;
+        }
+    }
+    true
 }

@@ -272,8 +272,21 @@ fn lends_what_was_taken(rt: HostRuntime) -> Result<(), NoMemory> {
     assert_eq!(rt; writer.write(5, b"AB"), WriteStart::Taken);
     assert_eq!(rt; writer.taken(0), Some((5, &b"AB"[..])));
     assert!(rt; writer.taken(1).is_none());
+    assert!(rt; writer.call_to(1).is_none());
     assert!(rt; writer.next_call(1).is_some());
     assert!(rt; writer.next_call(2).is_none());
+    let call = DsCall::Write {
+        fileid: 2,
+        at: 5,
+        synced: false,
+        bytes: b"AB",
+    };
+    assert!(rt; writer.call_to(1) == Some((1, call)));
+    assert!(rt; writer.call_to(2).is_none());
+    assert_eq!(rt; writer.count(), 1);
+    assert!(rt; writer.write_numbered(1).is_none());
+    assert!(rt; !writer.covered_everywhere(0));
+    assert!(rt; !writer.has_no_mirror());
     Ok(())
 }
 

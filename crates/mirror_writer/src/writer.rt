@@ -7,7 +7,7 @@ ghost use mathlib.Core.Option.{none};
 ghost use Rattle.mirror_writer.specs.contracts.writer.Writer.{the_row};
 ghost use Rattle.cluster_model.specs.DsCalls.{plain_ds_call, plain_ds_reply};
 ghost use Rattle.mirror_writer.specs.Writers.{new_writer, commit_wanted, all_committed, rest_committed, after_reply, after_timeout, reported_places, is_covered_at, overlaps_taken, with_write, call_for};
-ghost use Rattle.mirror_writer.specs.Calls.{TakesWriteAs, SendsCall, SendsNamed, LendsCall, IsToSend, IsGone, LendsTaken};
+ghost use Rattle.mirror_writer.specs.Calls.{TakesWriteAs, SendsCall, SendsNamed, LendsCall, CarriesFewBytes, IsToSend, IsGone, LendsTaken};
 ghost use Rattle.mirror_writer.specs.MirrorSteps.{settled_as};
 
 use crate::call::{MirrorOutcome, NextCall, TakenWrite};
@@ -18,8 +18,9 @@ use crate::mirrors::{
     outstanding, queue_all, reserve_all, send_at, some_committed, time_out_at, waiting,
 };
 use crate::step::{WriteStart, WriterStep};
+use crate::write_bytes::WriteBytes;
 use cluster_model::{Cred, DsCall, DsReply, MirrorId, Mirrors, Reported};
-use ff_xdr::{Data, NoMemory};
+use ff_xdr::NoMemory;
 use std::alloc::Global;
 use std::marker::Model;
 
@@ -28,10 +29,10 @@ use std::marker::Model;
 pub struct Writer {
     alloc: Global,
     cred: Cred,
-    taken: Vec<TakenWrite>,
+    pub(crate) taken: Vec<TakenWrite>,
     // the places of the taken writes
-    places: Extents,
-    mirrors: Vec<MirrorWrites>,
+    pub(crate) places: Extents,
+    pub(crate) mirrors: Vec<MirrorWrites>,
     wants_commit: bool,
     is_fenced: bool,
 }
@@ -91,6 +92,7 @@ impl Writer {
     /// Takes a write that has no place in common with the taken ones. At an error nothing has changed.
     fn take(&mut self, at: u64, bytes: &[u8]) -> Result<(), NoMemory>
         requires some { 1 ≤ length bytes.now }
+        requires few { length bytes.now ≤ 65536 }
         requires within { at + length bytes.now ≤ 67108864 }
         requires apart { overlaps_taken self.old at (length bytes.now) ≡ false }
         ensures ok { OnOk result (self.new ≡ with_write self.old at bytes.now) }
@@ -98,7 +100,7 @@ impl Writer {
     {
         let write = TakenWrite {
             at,
-            bytes: Data::of(self.alloc, bytes)?,
+            bytes: WriteBytes::of(self.alloc, bytes)?,
         };
         reserve_all(&mut self.mirrors)?;
         self.taken.reserve(1)?;
@@ -120,7 +122,8 @@ impl Writer {
     /// UNSTABLE, of the bytes as they were taken, or a COMMIT of the whole file (RFC 1813, sections 3.3.7 and 3.3.21).
     /// `None` where none waits. No call of this number is outstanding before. Takes no memory.
     pub fn next_call(&mut self, xid: u32) -> Option<(MirrorId, DsCall<'_>)>
-        ensures* { sem 𝓛 (follows_so the_row the_row self.entry.ghost_name none (λ _ _. ⊤) (λ new. SendsCall self.old xid result new)) }
+        ensures few { CarriesFewBytes result }
+        ensures* sends { sem 𝓛 (follows_so the_row the_row self.entry.ghost_name none (λ _ _. ⊤) (λ new. SendsCall self.old xid result new)) }
     {
         let named = self.send_next(xid);
         self.lend(named)
@@ -166,7 +169,8 @@ impl Writer {
 
     /// The call that goes to a mirror, if one does.
     fn lend(&self, named: Option<(MirrorId, NextCall)>) -> Option<(MirrorId, DsCall<'_>)>
-        ensures { LendsCall self.now named result }
+        ensures few { CarriesFewBytes result }
+        ensures lends { LendsCall self.now named result }
     {
         let (id, next) = named?;
         let NextCall::SendsWrite(n) = next else {
@@ -253,8 +257,7 @@ impl Writer {
     pub fn taken(&self, n: u32) -> Option<(u64, &[u8])>
         ensures { LendsTaken (slice_get self.now.taken n) (option_map (λ w. (w.0, w.1.now)) result) }
     {
-        let write = self.taken.get(n as usize)?;
-        Some((write.at, write.bytes.bytes()))
+        self.write_numbered(n as usize)
     }
 
     /// The taken write of this number is covered at this mirror.

@@ -2,7 +2,8 @@
 use Rattle.std.specs.Prelude.{ℕ, Bool, ◌==◌, Option, Some, None, slice_get}
 use Rattle.std.specs.List.{list_all, find}
 use Rattle.cluster_model.specs.declared.ids.MirrorId.{MirrorId}
-use Rattle.cluster_model.specs.DsCalls.{DsCallValue, Commit}
+use Rattle.cluster_model.specs.declared.ds_call.DsCall.{DsCall}
+use Rattle.cluster_model.specs.DsCalls.{DsCallValue, Commit, plain_ds_call}
 use Rattle.mirror_writer.specs.declared.call.WriterCall.{WriterCall}
 use Rattle.mirror_writer.specs.declared.call.WriterCall.TheVariants.{NoCall, OutWrite, OutCommit}
 use Rattle.mirror_writer.specs.Writers.{WriterValue, WriterMirror, covered_flag, write_of_taken}
@@ -29,6 +30,11 @@ out_at_mirror w (Some m) = out_call w m.id m.call
 
 abbrev pub out_at : WriterValue → ℕ → Option OutCall
 out_at w server = out_at_mirror w (find (λ (m : WriterMirror). m.id.server == server) w.mirrors)
+
+-- the same as it is lent
+abbrev pub out_shown : Option (ℕ × DsCall) → Option OutCall
+out_shown None = None
+out_shown (Some (xid, call)) = Some (record { xid = xid; call = plain_ds_call call })
 
 -- ---- its mirrors together
 

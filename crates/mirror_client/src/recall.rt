@@ -1,0 +1,38 @@
+//! Recalls of layouts.
+
+ghost use Rattle.std.specs.Prelude.{◌≡◌};
+ghost use Rattle.nfs4_file_ops.specs.CbLayoutRecall.{layoutrecall4_value, cb_layoutrecall4_args_value};
+ghost use Rattle.mirror_client.specs.Callbacks.{recalled_state, is_state_of, recalls};
+ghost use Rattle.mirror_client.specs.CallbackBody.{HasRecalled};
+
+use crate::state::State;
+use nfs4_file_ops::{CbLayoutRecallArgs, LayoutRecall};
+use nfs4_types::{Stat4, Stateid};
+
+/// The layout with this stateid is asked back.
+fn is_recalled(kind: &LayoutRecall<'_>, stateid: Stateid) -> bool
+    ensures { result ≡ is_state_of (recalled_state (layoutrecall4_value kind.now)) stateid }
+{
+    match kind {
+        LayoutRecall::File(file) => file.stateid.other == stateid.other,
+        LayoutRecall::Fsid(_) => false,
+        LayoutRecall::All => false,
+    }
+}
+
+impl State {
+    /// CB_LAYOUTRECALL (RFC 8881, section 20.3): the client's layout is given back from now on; a recall of
+    /// another is NFS4ERR_NOMATCHING_LAYOUT.
+    pub fn recall(&mut self, args: &CbLayoutRecallArgs<'_>) -> Stat4
+        ensures { HasRecalled (recalls (cb_layoutrecall4_args_value args.now) self.old) result self.new }
+    {
+        let Some(layout) = &self.layout else {
+            return Stat4::NoMatchingLayout;
+        };
+        if !is_recalled(&args.kind, layout.stateid) {
+            return Stat4::NoMatchingLayout;
+        }
+        self.end_layout();
+        Stat4::Ok
+    }
+}

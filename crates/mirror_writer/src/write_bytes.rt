@@ -1,0 +1,44 @@
+//! The bytes of a write.
+
+ghost use Rattle.std.specs.Prelude.{◌≡◌, ◌≤◌, length, IfOk};
+
+use ff_xdr::{Data, NoMemory};
+use std::alloc::Global;
+use std::marker::Model;
+
+/// The bytes of a write: 1 to 65,536.
+#[derive(Debug, Drop)]
+pub struct WriteBytes {
+    bytes: Data,
+}
+
+impl Model for WriteBytes {
+    ghost use Rattle.std.specs.Prelude.{List, ℕ, ◌≤◌, length};
+
+    ghost Value = { List ℕ };
+
+    ghost view = { λ w. w.bytes };
+
+    ghost invariant = { λ w. (1 ≤ length w.bytes) × (length w.bytes ≤ 65536) };
+}
+
+impl WriteBytes {
+    /// A copy of 1 to 65,536 bytes.
+    pub fn of(alloc: Global, bytes: &[u8]) -> Result<WriteBytes, NoMemory>
+        requires some { 1 ≤ length bytes.now }
+        requires few { length bytes.now ≤ 65536 }
+        ensures { IfOk result (λ copy. copy ≡ bytes.now) }
+    {
+        let bytes = Data::of(alloc, bytes)?;
+        Ok(WriteBytes { bytes })
+    }
+
+    /// The bytes.
+    pub fn bytes(&self) -> &[u8]
+        ensures bytes { result.now ≡ self.now }
+        ensures some { 1 ≤ length self.now }
+        ensures few { length self.now ≤ 65536 }
+    {
+        self.bytes.bytes()
+    }
+}
