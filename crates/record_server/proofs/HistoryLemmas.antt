@@ -8,8 +8,8 @@ use Rattle.record_link.specs.declared.stream.Halt.{Halt}
 use Rattle.record_link.specs.declared.stream.Halt.TheVariants as halt
 use Rattle.record_link.specs.Connections.{PeerState, ConnectionsState, Becomes, IsLeast, rank_of, FillsPeer, FillsOf, DrainsOf, Closes, new_peer, no_connections}
 use Rattle.record_server.specs.Network.{Waiting}
-use Rattle.record_server.specs.Server.{ServerState, server_state, Step, Timed, Accepted, Read, Wrote, Closed, FoundNone, Steps, FillsOn, DrainsOn, ClosesOn, MakesRoom, ReadsOn, WritesOn}
-use Rattle.record_server.specs.History.{Account, Accounts, new_account, with_account, with_message, with_answer, no_accounts, account_step, account_event, accounts_after, Event, Does, Hands, Answers, Happens, HasHappened, StandsAs}
+use Rattle.record_server.specs.Server.{ServingState, serving_state, ServingStep, Timed, Accepted, Read, Wrote, Closed, FoundNone, DoesStep, FillsOn, DrainsOn, ClosesOn, MakesRoom, ReadsOn, WritesOn}
+use Rattle.record_server.specs.History.{Account, Accounts, new_account, with_account, with_message, with_answer, no_accounts, account_step, account_event, accounts_after, Event, Does, Hands, Answers, DoesEvent, HasHappened, StandsAs}
 use Rattle.record_server.proofs.AccountLemmas.{Good, filled_good, drained_good, answered_good, handed_good, new_good}
 use Rattle.record_server.proofs.PeerLists.{Each, each_at, each_set, each_removed, each_push}
 
@@ -106,7 +106,7 @@ room_good : (accounts : Accounts) (old new : ConnectionsState) → MakesRoom old
 room_good accounts old new (inl same) all = same_good accounts old new (ap (λ s. s.peers) same.1) (ap (λ s. s.given) same.1) all
 room_good accounts old new (inr did) all = closes_good accounts did.0 old new did.2 all
 
-step_good : (accounts : Accounts) (step : Step) (old new : ServerState) → Steps step old new → AllGood accounts old.connections → AllGood (account_step step accounts) new.connections
+step_good : (accounts : Accounts) (step : ServingStep) (old new : ServingState) → DoesStep step old new → AllGood accounts old.connections → AllGood (account_step step accounts) new.connections
 step_good accounts (Timed time) old new did all = same_good accounts old.connections new.connections (ap (λ s. s.peers) did.1) (ap (λ s. s.given) did.1) all
 step_good accounts (Accepted (Some number) to_come went) old new did all =
     let mid = did.1.0 in
@@ -125,7 +125,7 @@ step_good accounts (Wrote number r) old new did all = writes_good accounts numbe
 step_good accounts (Closed number) old new did all = closes_good accounts number old.connections new.connections did.2 all
 step_good accounts FoundNone old new did all = same_good accounts old.connections new.connections did.1.0.1 (ap (λ s. s.given) did.1.1) all
 
-event_good : (accounts : Accounts) (event : Event) (old new : ServerState) → Happens event old new → AllGood accounts old.connections → AllGood (account_event event accounts) new.connections
+event_good : (accounts : Accounts) (event : Event) (old new : ServingState) → DoesEvent event old new → AllGood accounts old.connections → AllGood (account_event event accounts) new.connections
 event_good accounts (Does step) old new did all = step_good accounts step old new did all
 event_good accounts (Hands number message) old new did all =
     let out = did.1.0 in
@@ -154,11 +154,11 @@ event_good accounts (Answers number message) old new did all =
         by_case true test is = eqb-true e.number number test
         by_case false test is = absurd (cc (is))
 
-history_good : (accounts : Accounts) (events : List Event) (old new : ServerState) → HasHappened events old new → AllGood accounts old.connections → AllGood (accounts_after events accounts) new.connections
-history_good accounts [] old new same all = subst (λ (s : ServerState). AllGood accounts s.connections) (sym same) all
+history_good : (accounts : Accounts) (events : List Event) (old new : ServingState) → HasHappened events old new → AllGood accounts old.connections → AllGood (accounts_after events accounts) new.connections
+history_good accounts [] old new same all = subst (λ (s : ServingState). AllGood accounts s.connections) (sym same) all
 history_good accounts (event ∷ events) old new did all = history_good (account_event event accounts) events did.0 new did.2 (event_good accounts event old did.0 did.1 all)
 
-pub all_stand : (waiting : Waiting) (events : List Event) (new : ServerState) → HasHappened events (server_state no_connections waiting) new → (i : ℕ) (e : PeerState) → slice_get new.connections.peers i ≡ Some e
+pub all_stand : (waiting : Waiting) (events : List Event) (new : ServingState) → HasHappened events (serving_state no_connections waiting) new → (i : ℕ) (e : PeerState) → slice_get new.connections.peers i ≡ Some e
     → StandsAs (accounts_after events no_accounts e.number) e
 all_stand waiting events new happened i e there =
-    (each_at (accounts_after events no_accounts) 0 new.connections.peers new.connections.given i e there (history_good no_accounts events (server_state no_connections waiting) new happened (omega (arith)))).1.0
+    (each_at (accounts_after events no_accounts) 0 new.connections.peers new.connections.given i e there (history_good no_accounts events (serving_state no_connections waiting) new happened (omega (arith)))).1.0

@@ -6,30 +6,30 @@ use Rattle.record_link.specs.Connection.{HasCome, HasGone, is_refused}
 use Rattle.rpc_record.specs.Frames.{max_record}
 use Rattle.record_link.specs.Connections.{ConnectionsState, PeerState, HasNone, Becomes, AnswersPeer, max_connections, no_connections, with_peers}
 use Rattle.record_server.specs.Network.{Waiting}
-use Rattle.record_server.specs.Server.{ServerState, server_state, Step, Timed, Accepted, Read, Wrote, Closed, FoundNone, Steps, GoesOn, HandsOn, GivesRecord, SendsRecord}
+use Rattle.record_server.specs.Server.{ServingState, serving_state, ServingStep, Timed, Accepted, Read, Wrote, Closed, FoundNone, DoesStep, GoesBySteps, HandsOn, GivesRecord, SendsRecord}
 
 -- what a server does
 pub data Event : Type 0 where
   -- a step
-  Does : (step : Step) → Event
+  Does : (step : ServingStep) → Event
   -- this record was handed out, of the connection of this number
   Hands : (number : ℕ) (message : List ℕ) → Event
   -- this answer was put behind what is to go on the connection of this number, which is open
   Answers : (number : ℕ) (message : List ℕ) → Event
 
 -- what an event does
-abbrev pub Happens : Event → ServerState → ServerState → Type 0
-Happens (Does step) old new = Steps step old new
-Happens (Hands number message) old new = (new.waiting ≡ old.waiting) × HandsOn old.connections (Ok (Some (number, message))) new.connections
-Happens (Answers number message) old new =
+abbrev pub DoesEvent : Event → ServingState → ServingState → Type 0
+DoesEvent (Does step) old new = DoesStep step old new
+DoesEvent (Hands number message) old new = (new.waiting ≡ old.waiting) × HandsOn old.connections (Ok (Some (number, message))) new.connections
+DoesEvent (Answers number message) old new =
     (new.waiting ≡ old.waiting) × (new.connections ≡ with_peers old.connections new.connections.peers old.connections.orders)
     × ((after : PeerState) × (becomes : Becomes (Numbered number) old.connections.peers after new.connections.peers)
     × AnswersPeer old.connections.time becomes.least.peer message (Ok tt) after)
 
 -- events, one after the other
-abbrev pub HasHappened : List Event → ServerState → ServerState → Type 0
+abbrev pub HasHappened : List Event → ServingState → ServingState → Type 0
 HasHappened [] old new = new ≡ old
-HasHappened (event ∷ events) old new = (mid : ServerState) × Happens event old mid × HasHappened events mid new
+HasHappened (event ∷ events) old new = (mid : ServingState) × DoesEvent event old mid × HasHappened events mid new
 
 -- What was done under a number: what the stream told when it was opened under it, of the bytes to come and of those that went;
 -- the records that were handed out since, and the answers, in order.
@@ -61,7 +61,7 @@ abbrev pub with_account : Accounts → ℕ → Account → Accounts
 with_account accounts number a k = if k == number then a else accounts k
 
 -- the accounts after an event
-abbrev pub account_step : Step → Accounts → Accounts
+abbrev pub account_step : ServingStep → Accounts → Accounts
 account_step (Accepted (Some number) to_come went) accounts = with_account accounts number (new_account to_come went)
 account_step (Accepted None to_come went) accounts = accounts
 account_step (Timed time) accounts = accounts
@@ -91,24 +91,24 @@ pub record StandsAs (a : Account) (e : PeerState) : Type 0 where
   pub answered : HasGone sent a.answers e.connection
 
 -- so stands each connection that is open after this history of a server that began with none
-abbrev pub AllStand : Waiting → List Event → ServerState → Type 0
+abbrev pub AllStand : Waiting → List Event → ServingState → Type 0
 AllStand waiting events new =
-    HasHappened events (server_state no_connections waiting) new → (i : ℕ) (e : PeerState) → slice_get new.connections.peers i ≡ Some e
+    HasHappened events (serving_state no_connections waiting) new → (i : ℕ) (e : PeerState) → slice_get new.connections.peers i ≡ Some e
     → StandsAs (accounts_after events no_accounts e.number) e
 
 -- no more connections than may be are open after it
-abbrev pub FewOpen : Waiting → List Event → ServerState → Type 0
-FewOpen waiting events new = HasHappened events (server_state no_connections waiting) new → length new.connections.peers ≤ max_connections
+abbrev pub FewOpen : Waiting → List Event → ServingState → Type 0
+FewOpen waiting events new = HasHappened events (serving_state no_connections waiting) new → length new.connections.peers ≤ max_connections
 
 -- ---- the calls of a server as events
 
 -- only steps
-abbrev pub OnlySteps : ServerState → ServerState → Type 0
-OnlySteps old new = (steps : List Step) × HasHappened (map Does steps) old new
+abbrev pub OnlySteps : ServingState → ServingState → Type 0
+OnlySteps old new = (steps : List ServingStep) × HasHappened (map Does steps) old new
 
 -- a record was handed out behind steps
 abbrev pub NextHappens : Type 0
-NextHappens = (old new : ServerState) (number : ℕ) (message : List ℕ) → GivesRecord old (Ok (Some (number, message))) new → (steps : List Step) × HasHappened (map Does steps ++ Hands number message ∷ []) old new
+NextHappens = (old new : ServingState) (number : ℕ) (message : List ℕ) → GivesRecord old (Ok (Some (number, message))) new → (steps : List ServingStep) × HasHappened (map Does steps ++ Hands number message ∷ []) old new
 
 -- an answer that is kept, or is lost
 abbrev pub answer_events : Bool → ℕ → List ℕ → List Event
@@ -123,7 +123,7 @@ IsLost false number message old = HasNone (Numbered number) old.peers ⊎ (max_r
 -- an answer was put on its connection, where that is open and the answer is no longer than a record may be; then steps
 abbrev pub SendHappens : Type 0
 SendHappens = (waiting : Waiting) (old new : ConnectionsState) (number : ℕ) (message : List ℕ) → SendsRecord number message old (Ok tt) new
-    → (kept : Bool) × (steps : List Step) × IsLost kept number message old × HasHappened (answer_events kept number message ++ map Does steps) (server_state old waiting) (server_state new waiting)
+    → (kept : Bool) × (steps : List ServingStep) × IsLost kept number message old × HasHappened (answer_events kept number message ++ map Does steps) (serving_state old waiting) (serving_state new waiting)
 
 abbrev pub StepsHappen : Type 0
-StepsHappen = (old new : ServerState) → GoesOn old new → OnlySteps old new
+StepsHappen = (old new : ServingState) → GoesBySteps old new → OnlySteps old new

@@ -13,12 +13,12 @@ use Rattle.record_server.specs.declared.server.Taken.TheVariants as taken
 use Rattle.record_server.specs.Network.{Waiting, ComesNext}
 
 -- the connections, each with what its own stream tells; and what those that are still to be accepted will give
-pub record ServerState : Type 0 where
+pub record ServingState : Type 0 where
   pub connections : ConnectionsState
   pub waiting : Waiting
 
-abbrev pub server_state : ConnectionsState → Waiting → ServerState
-server_state connections waiting = record { connections = connections; waiting = waiting }
+abbrev pub serving_state : ConnectionsState → Waiting → ServingState
+serving_state connections waiting = record { connections = connections; waiting = waiting }
 
 -- ---- what is done to one connection
 
@@ -59,48 +59,48 @@ HandsOn old result new = HandsOut old.orders old.peers result new.peers × (new 
 abbrev pub MakesRoom : ConnectionsState → ConnectionsState → Type 0
 MakesRoom old new = (Crowds old.peers None × (new ≡ old)) ⊎ ((number : ℕ) × Crowds old.peers (Some number) × ClosesOn number old new)
 
-pub data Step : Type 0 where
+pub data ServingStep : Type 0 where
   -- the clock shows so many milliseconds
-  Timed : (time : ℕ) → Step
+  Timed : (time : ℕ) → ServingStep
   -- A connection was accepted whose stream tells this. Room was made for it, and it was opened under the next number; under none
   -- where there is no room, or all numbers are given.
-  Accepted : (opened : Option ℕ) (coming gone : Option (List ℕ)) → Step
+  Accepted : (opened : Option ℕ) (coming gone : Option (List ℕ)) → ServingStep
   -- the connection of this number, of which more is wanted, was read once, from its own stream
-  Read : (number : ℕ) (result : Result (Unit {0}) Halt) → Step
+  Read : (number : ℕ) (result : Result (Unit {0}) Halt) → ServingStep
   -- what is to go on it was written, to its own stream
-  Wrote : (number : ℕ) (result : Result (Unit {0}) Halt) → Step
+  Wrote : (number : ℕ) (result : Result (Unit {0}) Halt) → ServingStep
   -- the connection of this number was closed, since it is over: stuck, finished or idle
-  Closed : (number : ℕ) → Step
+  Closed : (number : ℕ) → ServingStep
   -- no record may be handed out
-  FoundNone : Step
+  FoundNone : ServingStep
 
 -- what a step does
-abbrev pub Steps : Step → ServerState → ServerState → Type 0
-Steps (Timed time) old new = (new.waiting ≡ old.waiting) × (new.connections ≡ at_time old.connections time)
-Steps (Accepted opened to_come went) old new =
+abbrev pub DoesStep : ServingStep → ServingState → ServingState → Type 0
+DoesStep (Timed time) old new = (new.waiting ≡ old.waiting) × (new.connections ≡ at_time old.connections time)
+DoesStep (Accepted opened to_come went) old new =
     ComesNext old.waiting to_come new.waiting
     × ((mid : ConnectionsState) × MakesRoom old.connections mid × OpensConnection mid to_come went (Ok opened) new.connections)
-Steps (Read number result) old new = (new.waiting ≡ old.waiting) × Asks number wants_bytes old.connections.peers true × ReadsOn number old.connections result new.connections
-Steps (Wrote number result) old new = (new.waiting ≡ old.waiting) × WritesOn number old.connections result new.connections
-Steps (Closed number) old new = (new.waiting ≡ old.waiting) × IsNumberOf (Over old.connections.time) old.connections.peers number × ClosesOn number old.connections new.connections
-Steps FoundNone old new = (new.waiting ≡ old.waiting) × HandsOn old.connections (Ok None) new.connections
+DoesStep (Read number result) old new = (new.waiting ≡ old.waiting) × Asks number wants_bytes old.connections.peers true × ReadsOn number old.connections result new.connections
+DoesStep (Wrote number result) old new = (new.waiting ≡ old.waiting) × WritesOn number old.connections result new.connections
+DoesStep (Closed number) old new = (new.waiting ≡ old.waiting) × IsNumberOf (Over old.connections.time) old.connections.peers number × ClosesOn number old.connections new.connections
+DoesStep FoundNone old new = (new.waiting ≡ old.waiting) × HandsOn old.connections (Ok None) new.connections
 
 -- what steps do, one after the other
-abbrev pub Runs : List Step → ServerState → ServerState → Type 0
-Runs [] old new = new ≡ old
-Runs (step ∷ steps) old new = (mid : ServerState) × Steps step old mid × Runs steps mid new
+abbrev pub RunsSteps : List ServingStep → ServingState → ServingState → Type 0
+RunsSteps [] old new = new ≡ old
+RunsSteps (step ∷ steps) old new = (mid : ServingState) × DoesStep step old mid × RunsSteps steps mid new
 
 -- a server went on by steps alone
-abbrev pub GoesOn : ServerState → ServerState → Type 0
-GoesOn old new = (steps : List Step) × Runs steps old new
+abbrev pub GoesBySteps : ServingState → ServingState → Type 0
+GoesBySteps old new = (steps : List ServingStep) × RunsSteps steps old new
 
 -- what is to go on the connection of this number was written once, or not at all
 abbrev pub WritesOnce : ℕ → ConnectionsState → ConnectionsState → Type 0
 WritesOnce number old new = (new ≡ old) ⊎ ((result : Result (Unit {0}) Halt) × WritesOn number old result new)
 
 -- the same by so many steps at least
-abbrev pub GoesFor : ℕ → ServerState → ServerState → Type 0
-GoesFor n old new = (steps : List Step) × (n ≤ length steps) × Runs steps old new
+abbrev pub GoesFor : ℕ → ServingState → ServingState → Type 0
+GoesFor n old new = (steps : List ServingStep) × (n ≤ length steps) × RunsSteps steps old new
 
 -- ---- what the calls of a server do
 
@@ -115,21 +115,21 @@ pub data Want : Type 0 where
   -- to accept one: nothing was done
   ToAccept : Want
 
-abbrev pub Wants : Want → ServerState → ServerState → Type 0
+abbrev pub Wants : Want → ServingState → ServingState → Type 0
 Wants ToHand old new = (e : NoMemory) × (new.waiting ≡ old.waiting) × HandsOn old.connections (Err e) new.connections
 Wants (ToRead number) old new = (new.waiting ≡ old.waiting) × FillsOn number old.connections (Err halt.NoMemory) new.connections
 Wants ToOpen old new = MakesRoom old.connections new.connections × ((coming : Option (List ℕ)) × ComesNext old.waiting coming new.waiting)
 Wants ToAccept old new = new ≡ old
 
 -- how a server ends at an error: by steps alone where it can accept or wait no more; else memory was wanted behind them
-abbrev pub EndsAt : ServerState → Failed → ServerState → Type 0
-EndsAt old failed.Fault new = GoesOn old new
-EndsAt old failed.NoMemory new = (mid : ServerState) × (want : Want) × GoesOn old mid × Wants want mid new
+abbrev pub EndsBySteps : ServingState → Failed → ServingState → Type 0
+EndsBySteps old failed.Fault new = GoesBySteps old new
+EndsBySteps old failed.NoMemory new = (mid : ServingState) × (want : Want) × GoesBySteps old mid × Wants want mid new
 
 -- what one turn did
-abbrev pub Turns : {T : Type 0} → ServerState → Result T Failed → ServerState → Type 0
-Turns old (Ok x) new = GoesOn old new
-Turns old (Err e) new = EndsAt old e new
+abbrev pub Turns : {T : Type 0} → ServingState → Result T Failed → ServingState → Type 0
+Turns old (Ok x) new = GoesBySteps old new
+Turns old (Err e) new = EndsBySteps old e new
 
 -- no connection is left, and all numbers are given
 abbrev pub IsSpent : ConnectionsState → Type 0
@@ -142,18 +142,18 @@ Admits old to_come went (Err e) new = MakesRoom old new
 
 -- What asking for the next record did: steps, and behind them the record was handed out. There is none where no connection is
 -- left and all numbers are given, or after very many steps.
-abbrev pub GivesRecord : ServerState → Result (Option (ℕ × List ℕ)) Failed → ServerState → Type 0
+abbrev pub GivesRecord : ServingState → Result (Option (ℕ × List ℕ)) Failed → ServingState → Type 0
 GivesRecord old (Ok (Some handed)) new =
-    (mid : ServerState) × GoesOn old mid × (new.waiting ≡ mid.waiting) × HandsOn mid.connections (Ok (Some handed)) new.connections
-GivesRecord old (Ok None) new = (GoesOn old new × IsSpent new.connections) ⊎ GoesFor (2 ^ 64 - 1) old new
-GivesRecord old (Err e) new = EndsAt old e new
+    (mid : ServingState) × GoesBySteps old mid × (new.waiting ≡ mid.waiting) × HandsOn mid.connections (Ok (Some handed)) new.connections
+GivesRecord old (Ok None) new = (GoesBySteps old new × IsSpent new.connections) ⊎ GoesFor (2 ^ 64 - 1) old new
+GivesRecord old (Err e) new = EndsBySteps old e new
 
 -- the same of looking for a record once
-abbrev pub Takes : ServerState → Result Taken Failed → ServerState → Type 0
-Takes old (Ok (taken.Record number message)) new = GivesRecord old (Ok (Some (number, message))) new
-Takes old (Ok taken.Nothing) new = GoesFor 1 old new
-Takes old (Ok taken.Closed) new = GoesOn old new × IsSpent new.connections
-Takes old (Err e) new = EndsAt old e new
+abbrev pub TakesRecord : ServingState → Result Taken Failed → ServingState → Type 0
+TakesRecord old (Ok (taken.Record number message)) new = GivesRecord old (Ok (Some (number, message))) new
+TakesRecord old (Ok taken.Nothing) new = GoesFor 1 old new
+TakesRecord old (Ok taken.Closed) new = GoesBySteps old new × IsSpent new.connections
+TakesRecord old (Err e) new = EndsBySteps old e new
 
 -- What sending did: the answer stands behind what is to go on its connection, which then was written once or not at all.
 abbrev pub SendsRecord : ℕ → List ℕ → ConnectionsState → Result (Unit {0}) NoMemory → ConnectionsState → Type 0

@@ -4,7 +4,7 @@ ghost use Rattle.std.specs.Bool.{OnTrue};
 ghost use Rattle.std.specs.Prelude.{◌≡◌, MatchOption};
 ghost use Rattle.record_link.specs.declared.rank.Rank.{Rank};
 ghost use Rattle.record_link.specs.Connections.{no_connections, HasNone, HasStream};
-ghost use Rattle.record_server.specs.Server.{server_state, Admits, ClosesOn, GivesRecord, GoesFor, IsSpent, MakesRoom, SendsRecord, Takes, Turns, WritesOnce};
+ghost use Rattle.record_server.specs.Server.{serving_state, Admits, ClosesOn, GivesRecord, GoesFor, IsSpent, MakesRoom, SendsRecord, TakesRecord, Turns, WritesOnce};
 
 use crate::network::Network;
 use crate::readiness::Readiness;
@@ -55,7 +55,7 @@ impl<N: Network + Drop> RecordServer<N> {
     /// comes. `None` is that all numbers are given and no connection is left. `Failed::Fault` is that
     /// no connection can be accepted or waited for.
     pub fn next(&mut self) -> Result<Option<(u32, Data)>, Failed>
-        ensures { GivesRecord (server_state self.old.connections (N.waiting self.old.network)) result (server_state self.new.connections (N.waiting self.new.network)) }
+        ensures { GivesRecord (serving_state self.old.connections (N.waiting self.old.network)) result (serving_state self.new.connections (N.waiting self.new.network)) }
     {
         for _turn in 0..u64::MAX {
             match self.take() {
@@ -85,7 +85,7 @@ impl<N: Network + Drop> RecordServer<N> {
     /// Looks for a record once. Where there is none, everything that may be tried is tried once, and
     /// where nothing comes of that, it waits.
     fn take(&mut self) -> Result<Taken, Failed>
-        ensures { Takes (server_state self.old.connections (N.waiting self.old.network)) result (server_state self.new.connections (N.waiting self.new.network)) }
+        ensures { TakesRecord (serving_state self.old.connections (N.waiting self.old.network)) result (serving_state self.new.connections (N.waiting self.new.network)) }
     {
         self.close_over();
         match self.connections.next_record() {
@@ -114,7 +114,7 @@ impl<N: Network + Drop> RecordServer<N> {
 
     /// Tries everything once that may be tried, and waits where nothing comes of that.
     fn pass(&mut self) -> Result<(), Failed>
-        ensures { Turns (server_state self.old.connections (N.waiting self.old.network)) result (server_state self.new.connections (N.waiting self.new.network)) }
+        ensures { Turns (serving_state self.old.connections (N.waiting self.old.network)) result (serving_state self.new.connections (N.waiting self.new.network)) }
     {
         match self.turn() {
             Ok(true) => return Ok(()),
@@ -130,7 +130,7 @@ impl<N: Network + Drop> RecordServer<N> {
     /// Accepts what waits, and writes and reads once on each connection. Answers whether something
     /// came.
     fn turn(&mut self) -> Result<bool, Failed>
-        ensures { Turns (server_state self.old.connections (N.waiting self.old.network)) result (server_state self.new.connections (N.waiting self.new.network)) }
+        ensures { Turns (serving_state self.old.connections (N.waiting self.old.network)) result (serving_state self.new.connections (N.waiting self.new.network)) }
     {
         match self.accept() {
             Ok(came) => self.serve_all(came),
@@ -140,7 +140,7 @@ impl<N: Network + Drop> RecordServer<N> {
 
     /// Writes and reads once on each connection. Answers whether something came, now or before.
     fn serve_all(&mut self, before: bool) -> Result<bool, Failed>
-        ensures { Turns (server_state self.old.connections (N.waiting self.old.network)) result (server_state self.new.connections (N.waiting self.new.network)) }
+        ensures { Turns (serving_state self.old.connections (N.waiting self.old.network)) result (serving_state self.new.connections (N.waiting self.new.network)) }
     {
         let mut came = before;
         let mut number = 0;
@@ -159,7 +159,7 @@ impl<N: Network + Drop> RecordServer<N> {
 
     /// Writes and reads once on the connection of this number. Answers whether something came.
     fn serve(&mut self, number: u32) -> Result<bool, Failed>
-        ensures { Turns (server_state self.old.connections (N.waiting self.old.network)) result (server_state self.new.connections (N.waiting self.new.network)) }
+        ensures { Turns (serving_state self.old.connections (N.waiting self.old.network)) result (serving_state self.new.connections (N.waiting self.new.network)) }
     {
         self.write(number);
         self.read(number)
@@ -167,7 +167,7 @@ impl<N: Network + Drop> RecordServer<N> {
 
     /// Reads once, where something may be read and more is wanted. Answers whether something came.
     fn read(&mut self, number: u32) -> Result<bool, Failed>
-        ensures { Turns (server_state self.old.connections (N.waiting self.old.network)) result (server_state self.new.connections (N.waiting self.new.network)) }
+        ensures { Turns (serving_state self.old.connections (N.waiting self.old.network)) result (serving_state self.new.connections (N.waiting self.new.network)) }
     {
         if !self.readiness.is_readable(number) {
             return Ok(false);
@@ -212,7 +212,7 @@ impl<N: Network + Drop> RecordServer<N> {
 
     /// Closes the connections that are over by now.
     fn close_over(&mut self)
-        ensures { GoesFor 1 (server_state self.old.connections (N.waiting self.old.network)) (server_state self.new.connections (N.waiting self.new.network)) }
+        ensures { GoesFor 1 (serving_state self.old.connections (N.waiting self.old.network)) (serving_state self.new.connections (N.waiting self.new.network)) }
     {
         self.connections.set_time(self.network.time());
         for _place in 0..MAX_CONNECTIONS {
@@ -234,7 +234,7 @@ impl<N: Network + Drop> RecordServer<N> {
 
     /// Accepts one connection, where one waits. Answers whether one came.
     fn accept(&mut self) -> Result<bool, Failed>
-        ensures { Turns (server_state self.old.connections (N.waiting self.old.network)) result (server_state self.new.connections (N.waiting self.new.network)) }
+        ensures { Turns (serving_state self.old.connections (N.waiting self.old.network)) result (serving_state self.new.connections (N.waiting self.new.network)) }
     {
         if !self.readiness.is_asked {
             return Ok(false);

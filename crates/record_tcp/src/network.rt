@@ -70,7 +70,7 @@ impl<R: Net + Clock> Network for TcpNetwork<'_, R> {
     fn accept(&mut self, number: u32) -> Result<Socket, Halt> {
         match self.listener.accept() {
             Ok((stream, _)) => self.register(stream, number),
-            Err(e) => Err(halt_of(&e)),
+            Err(e) => Err(halt_of_accept(&e)),
         }
     }
 
@@ -96,7 +96,7 @@ impl<R: Net + Clock> Network for TcpNetwork<'_, R> {
 }
 
 /// Why nothing was accepted.
-fn halt_of(error: &Error) -> Halt {
+fn halt_of_accept(error: &Error) -> Halt {
     match error.kind() {
         ErrorKind::WouldBlock => Halt::WouldBlock,
         ErrorKind::Interrupted | ErrorKind::ConnectionAborted | ErrorKind::ConnectionReset => {
