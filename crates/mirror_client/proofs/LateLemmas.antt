@@ -8,14 +8,16 @@ use Rattle.mirror_writer.specs.declared.step.WriterStep.{WriterStep}
 use Rattle.mirror_writer.specs.declared.step.WriterStep.TheVariants as step
 use Rattle.mirror_writer.specs.Writers.{WriterAfter, after_timeout}
 use Rattle.mirror_writer.specs.Outstanding.{OutCall, out_at}
-use Rattle.mirror_client.specs.declared.layout.Layout.{Layout}
+use Rattle.client_state.specs.declared.layout.Layout.{Layout}
 use Rattle.mirror_client.specs.declared.late.Late.{Late}
-use Rattle.mirror_client.specs.ClientStates.{ClientValue, ClientRun}
-use Rattle.mirror_client.specs.ClientQueue.{with_layout}
-use Rattle.mirror_client.specs.ClientCalls.{SendValue}
-use Rattle.mirror_client.specs.ClientMirrors.{TimeoutRun, is_commit, after_step, has_writer, goes_again, late_out, ds_timed_out_by, ds_timed_out}
+use Rattle.client_state.specs.ClientStates.{ClientValue, ClientRun}
+use Rattle.client_state.specs.ClientQueue.{with_layout}
+use Rattle.client_calls.specs.ClientCalls.{SendValue}
+use Rattle.client_answers.specs.ClientMirrors.{TimeoutRun, is_commit, after_step, has_writer, goes_again, late_out, ds_timed_out_by, ds_timed_out}
 use Rattle.mirror_client.specs.ClientRule.{cred_of, resent, ds_late}
-use Rattle.mirror_client.specs.ClientBody.{HasRun, HasStepped, out_under, IsLate, TimesOut, SendsAgain}
+use Rattle.client_state.specs.QueueSteps.{HasRun}
+use Rattle.client_calls.specs.CallSteps.{HasStepped}
+use Rattle.mirror_client.specs.LateSteps.{out_under, IsLate, TimesOut, SendsAgain}
 
 abbrev sent_again : WriterStep → SendValue → List SendValue
 sent_again step.Waiting s = s ∷ []

@@ -1,35 +1,20 @@
 -- What was done, and then what follows.
-use Rattle.std.proofs.Common.{◌≡◌, ℕ, Bool, false, List, [], ◌∷◌, ◌++◌, Option, Some, None, Result, ap, sym, ◌∙◌, subst, append_assoc, append-nil}
-use Rattle.std.specs.Prelude.{IfOk, if◌then◌else◌}
-use Rattle.ff_xdr.specs.declared.error.NoMemory.{NoMemory}
+use Rattle.std.proofs.Common.{◌≡◌, ℕ, false, List, [], ◌∷◌, ◌++◌, Option, Some, None, ap, sym, ◌∙◌, subst, append_assoc}
 use Rattle.cluster_model.specs.declared.outbox.Outbox.{Outbox}
-use Rattle.mirror_client.specs.ClientStates.{ClientValue, ClientRun}
-use Rattle.mirror_writer.specs.Writers.{WriterSends}
-use Rattle.mds_calls.specs.MdsCalls.{SlotCallValue}
-use Rattle.mirror_client.specs.declared.tie.OwnSession.{OwnSession}
-use Rattle.mirror_client.specs.declared.tie.Tie.TheVariants.{HasSession}
-use Rattle.mirror_client.specs.declared.layout.Layout.{Layout}
-use Rattle.rpc_record.specs.Replies.{reply_at, reply_bytes}
+use Rattle.client_state.specs.ClientStates.{ClientValue, ClientRun}
+use Rattle.rpc_record.specs.Replies.{reply_bytes}
 use Rattle.cluster_model.specs.declared.ids.NodeId.TheVariants.{Mds}
-use Rattle.mirror_client.specs.Callbacks.{CbReply}
-use Rattle.mirror_client.specs.CallbackBody.{HasCalledBack}
+use Rattle.client_callbacks.specs.Callbacks.{CbReply}
+use Rattle.client_callbacks.specs.CallbackSteps.{HasCalledBack}
 use Rattle.std.proofs.lemmas.Bool.{eq-eqb}
 use Rattle.mds_calls.specs.declared.ask.MdsAsk.{MdsAsk}
 use Rattle.mds_calls.specs.MdsReplies.{MdsReplyValue}
-use Rattle.mirror_client.specs.declared.asked.Asked.{Asked}
-use Rattle.mirror_client.specs.ClientAnswers.{mds_answered, mds_heard}
-use Rattle.mirror_client.specs.ClientRule.{unless_left, mds_replied, found_reply, found_call}
-use Rattle.mirror_client.specs.ClientCalls.{ClientStep, sends_none, and_then, run_then, ends_event, spelled, on_slot, calls_next, xid_after}
-use Rattle.mirror_client.specs.ClientBody.{HasRun, HasStepped, HasSent}
-
-pub stepped_then : (s : ClientStep) (next : ClientValue → ClientStep) (old mid new : Outbox) (c d : ClientValue) → HasStepped s old c mid → HasStepped (next c) mid d new → HasStepped (and_then s next) old d new
-stepped_then s next old mid new c d first second =
-    let more = subst (λ (x : ClientValue). HasStepped (next x) mid d new) first.client second in
-    record {
-      client = more.client;
-      entries = more.entries ∙ ap (λ x. x ++ (next s.client).entries) first.entries ∙ append_assoc old.entries.items s.entries (next s.client).entries;
-      sends = more.sends ∙ ap (λ x. x ++ (next s.client).sends) first.sends ∙ append_assoc old.sends.items s.sends (next s.client).sends;
-    }
+use Rattle.client_state.specs.declared.asked.Asked.{Asked}
+use Rattle.client_answers.specs.ClientAnswers.{mds_answered, mds_heard}
+use Rattle.mirror_client.specs.ClientRule.{unless_left, mds_replied, found_call}
+use Rattle.client_calls.specs.ClientCalls.{ClientStep, sends_none, run_then, ends_event}
+use Rattle.client_state.specs.QueueSteps.{HasRun}
+use Rattle.client_calls.specs.CallSteps.{HasStepped}
 
 pub ran_then : (r : ClientRun) (next : ClientValue → ClientStep) (old mid new : Outbox) (c d : ClientValue) → HasRun r old c mid → HasStepped (next c) mid d new → HasStepped (run_then r next) old d new
 ran_then r next old mid new c d first second =
@@ -39,25 +24,6 @@ ran_then r next old mid new c d first second =
       entries = more.entries ∙ ap (λ x. x ++ (next r.client).entries) first.entries ∙ append_assoc old.entries.items r.entries (next r.client).entries;
       sends = more.sends ∙ ap (λ x. x ++ (next r.client).sends) first.sends;
     }
-
--- a record that spells the same call
-pub spelled_as : (c : ClientValue) (s : OwnSession) (call call' : SlotCallValue) (result : Result (Option (List ℕ)) NoMemory) → call ≡ call'
-    → IfOk result (λ m. m ≡ spelled c (on_slot (HasSession s) (Some call))) → IfOk result (λ m. m ≡ spelled c (on_slot (HasSession s) (Some call')))
-spelled_as c s call call' result same h = subst (λ x. IfOk result (λ m. m ≡ spelled c (on_slot (HasSession s) (Some x)))) same h
-
--- a call under the layout
-pub called_under : (c : ClientValue) (l : Layout) (s : Option WriterSends) (sent : Bool) (old new : Outbox) (l' : Layout) → c.layout ≡ Some l → HasSent s c.name c.next_xid l sent old l' new
-    → HasStepped (calls_next c l s) old (record c { layout = Some l'; next_xid = if sent then xid_after c.next_xid else c.next_xid }) new
-called_under c l None sent old new l' at h = record {
-  client = (λ i. record c { layout = Some (h.1 i); next_xid = if h.0 i then xid_after c.next_xid else c.next_xid }) ∙ (λ i. record c { layout = sym at i });
-  entries = h.2 ∙ sym (append-nil old.entries.items);
-  sends = h.3 ∙ sym (append-nil old.sends.items);
-}
-called_under c l (Some s) sent old new l' at h = record {
-  client = (λ i. record c { layout = Some (h.1 i); next_xid = if h.0 i then xid_after c.next_xid else c.next_xid });
-  entries = h.2 ∙ sym (append-nil old.entries.items);
-  sends = h.3;
-}
 
 -- a record that is a call: it is answered, and then the calls go out
 pub called_back : (k : Option CbReply) (message : List ℕ) (now : ℕ) (old c : ClientValue) (reply : List ℕ) (before mid new : Outbox) (d : ClientValue)
@@ -74,12 +40,6 @@ called_back (Some k) message now old c reply before mid new d called entries sen
           rest.sends ∙ ap (λ x. x ++ (ends_event k.client).sends) (sends ∙ ap (λ r. before.sends.items ++ (Mds, r) ∷ []) same)
           ∙ append_assoc before.sends.items ((Mds, reply_bytes k.reply) ∷ []) (ends_event k.client).sends;
     }
-
--- a record that is none
-pub not_called : (k : Option CbReply) (message : List ℕ) (now : ℕ) (old c : ClientValue) (before new : Outbox) (d : ClientValue)
-    → HasCalledBack k None c old → HasStepped (found_reply Mds (reply_at message) now c) before d new → HasStepped (found_call k message now old) before d new
-not_called None message now old c before new d called stepped = subst (λ (x : ClientValue). HasStepped (found_reply Mds (reply_at message) now x) before d new) called.1 stepped
-not_called (Some k) message now old c before new d called stepped = absurd (cc (called.0))
 
 -- a client that has not left
 pub still_here : (c : ClientValue) (s : ClientStep) → c.has_left ≡ false → unless_left c s ≡ s

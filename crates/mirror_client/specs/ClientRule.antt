@@ -16,18 +16,18 @@ use Rattle.mds_calls.specs.declared.call.OpenFile.{OpenFile}
 use Rattle.mds_calls.specs.declared.ask.MdsAsk.{MdsAsk}
 use Rattle.mds_calls.specs.declared.ask.MdsAsk.TheVariants as ask
 use Rattle.mds_calls.specs.MdsReplies.{MdsReplyValue, reply_of_ask}
-use Rattle.mirror_client.specs.declared.stage.LayoutStage.{LayoutStage}
-use Rattle.mirror_client.specs.declared.stage.LayoutStage.TheVariants.{Ending, Deferred}
-use Rattle.mirror_client.specs.declared.request.UserRequest.{UserRequest}
-use Rattle.mirror_client.specs.declared.tie.Tie.{Tie}
-use Rattle.mirror_client.specs.declared.layout.Layout.{Layout}
-use Rattle.mirror_client.specs.declared.asked.Asked.{Asked}
-use Rattle.mirror_client.specs.declared.tie.Tie.TheVariants.{HasSession}
-use Rattle.mirror_client.specs.ClientStates.{ClientValue}
-use Rattle.mirror_client.specs.ClientMirrors.{TimeoutRun, ds_answered, ds_timed_out}
-use Rattle.mirror_client.specs.ClientCalls.{SendValue, ClientStep, sends_none, and_then, run_then, asks, may_ask, ends_event, xid_after}
-use Rattle.mirror_client.specs.ClientAnswers.{mds_answered}
-use Rattle.mirror_client.specs.Callbacks.{CbReply, callback_of}
+use Rattle.client_state.specs.declared.stage.LayoutStage.{LayoutStage}
+use Rattle.client_state.specs.declared.stage.LayoutStage.TheVariants.{Ending, Deferred}
+use Rattle.client_state.specs.declared.request.UserRequest.{UserRequest}
+use Rattle.client_state.specs.declared.tie.Tie.{Tie}
+use Rattle.client_state.specs.declared.layout.Layout.{Layout}
+use Rattle.client_state.specs.declared.asked.Asked.{Asked}
+use Rattle.client_state.specs.declared.tie.Tie.TheVariants.{HasSession}
+use Rattle.client_state.specs.ClientStates.{ClientValue}
+use Rattle.client_answers.specs.ClientMirrors.{TimeoutRun, ds_answered, ds_timed_out}
+use Rattle.client_calls.specs.ClientCalls.{SendValue, ClientStep, sends_none, and_then, run_then, asks, may_ask, ends_event, xid_after}
+use Rattle.client_answers.specs.ClientAnswers.{mds_answered}
+use Rattle.client_callbacks.specs.Callbacks.{CbReply, callback_of}
 
 -- an event of a client that has not left the protocol
 abbrev pub unless_left : ClientValue → ClientStep → ClientStep

@@ -9,11 +9,11 @@ use Rattle.cluster_model.specs.declared.entry.Entry.{Entry}
 use Rattle.cluster_model.specs.DsCalls.{DsReplyValue}
 use Rattle.mds_calls.specs.declared.ask.MdsAsk.{MdsAsk}
 use Rattle.mds_calls.specs.MdsReplies.{MdsReplyValue}
-use Rattle.mirror_client.specs.declared.request.UserRequest.{UserRequest}
-use Rattle.mirror_client.specs.declared.asked.Asked.{Asked}
-use Rattle.mirror_client.specs.ClientStates.{ClientValue}
-use Rattle.mirror_client.specs.ClientCalls.{SendValue, ClientStep, sends_none, and_then}
-use Rattle.mirror_client.specs.Callbacks.{cb_reply, cb_results, cb_first}
+use Rattle.client_state.specs.declared.request.UserRequest.{UserRequest}
+use Rattle.client_state.specs.declared.asked.Asked.{Asked}
+use Rattle.client_state.specs.ClientStates.{ClientValue}
+use Rattle.client_calls.specs.ClientCalls.{SendValue, ClientStep, sends_none, and_then}
+use Rattle.client_callbacks.specs.Callbacks.{cb_reply, cb_results, cb_first}
 use Rattle.mirror_client.specs.ClientRule.{unless_left, client_requested, mds_replied, ds_replied, client_timed_out, client_ticked, answers_callback, turned, strays}
 
 -- What may happen to a client, without the bytes of records: a request of its user; the answer to a compound, or to a call of a data

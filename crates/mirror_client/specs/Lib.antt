@@ -1,13 +1,6 @@
-pub mod ClientStates
-pub mod ClientQueue
-pub mod ClientMirrors
-pub mod ClientCalls
-pub mod ClientAnswers
-pub mod Callbacks
 pub mod ClientRule
 pub mod ClientRuns
 pub mod WorkedClient
-pub mod ClientLaws
 pub mod WorkedWays
-pub mod ClientBody
-pub mod CallbackBody
+pub mod LateSteps
+pub mod ClientSteps

@@ -17,8 +17,8 @@ use Rattle.mds_calls.specs.declared.ask.MdsAsk.TheVariants as ask
 use Rattle.mds_calls.specs.declared.reply.LayoutGrant.{LayoutGrant}
 use Rattle.mds_calls.specs.declared.reply.SlotReport.TheVariants.{Taken, Uncached, Delayed, Unknown}
 use Rattle.mds_calls.specs.MdsReplies as says
-use Rattle.mirror_client.specs.declared.request.UserRequest.TheVariants.{Open, Write, Commit, Read}
-use Rattle.mirror_client.specs.ClientStates.{ClientValue, fresh_client}
+use Rattle.client_state.specs.declared.request.UserRequest.TheVariants.{Open, Write, Commit, Read}
+use Rattle.client_state.specs.ClientStates.{ClientValue, fresh_client}
 use Rattle.mirror_client.specs.ClientRuns.{ClientEvent, Asks, MdsSays, DsSays, TimesOut, Ticks, ClientSeen}
 
 -- ---- who takes part

@@ -15,9 +15,9 @@ use Rattle.cluster_model.specs.declared.entry.Entry.TheVariants.{Rogue}
 use Rattle.cluster_model.specs.DsCalls as ds
 use Rattle.mds_calls.specs.declared.ask.MdsAsk.TheVariants as ask
 use Rattle.mds_calls.specs.MdsReplies as says
-use Rattle.mirror_client.specs.declared.request.UserRequest.TheVariants.{Open, Write, Through, Commit, Read, Return}
-use Rattle.mirror_client.specs.ClientStates.{ClientValue, fresh_client}
-use Rattle.mirror_client.specs.Callbacks.{cb_first}
+use Rattle.client_state.specs.declared.request.UserRequest.TheVariants.{Open, Write, Through, Commit, Read, Return}
+use Rattle.client_state.specs.ClientStates.{ClientValue, fresh_client}
+use Rattle.client_callbacks.specs.Callbacks.{cb_first}
 use Rattle.mirror_client.specs.ClientRuns.{ClientEvent, Asks, DsSays, CallsBack, Ticks, Leaves, Strays, client_run, ClientSeen}
 use Rattle.mirror_client.specs.WorkedClient.{client, session, the_file, says_ok, says_plain, answer_entry, told_write, opening, opening_seen, writing, writing_seen, committing, committing_seen}
 

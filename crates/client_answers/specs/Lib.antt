@@ -1,0 +1,3 @@
+pub mod ClientMirrors
+pub mod ClientAnswers
+pub mod AnswerSteps

@@ -1,0 +1,7 @@
+use Rattle.std.proofs.Common.{ap}
+use Rattle.mds_calls.specs.MdsCalls.{Write}
+use Rattle.client_calls.proofs.Spelled.{spelled_as}
+use Rattle.client_calls.proofs.compounds.spell_write.Goals as goal
+
+pub returns : goal.returns
+returns c = spelled_as c.args.client.now c.args.session _ _ c.spell_on_slot.result (ap (Write c.args.file c.args.at) c.bytes-bytes.ensures.bytes) c.spell_on_slot.ensures

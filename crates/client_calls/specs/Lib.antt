@@ -1,0 +1,3 @@
+pub mod ClientCalls
+pub mod ClientLaws
+pub mod CallSteps

@@ -1,0 +1,3 @@
+pub mod ClientStates
+pub mod ClientQueue
+pub mod QueueSteps

@@ -1,0 +1,110 @@
+//! A layout, and the writes under it.
+
+ghost use Rattle.std.specs.Prelude.{◌≡◌, ◌≤◌, ◌<◌, ◌+◌, length, position, IfSome};
+ghost use Rattle.cluster_model.specs.declared.ids.Mirror.{Mirror};
+ghost use Rattle.cluster_model.specs.Journal.{is_mirror};
+ghost use Rattle.client_state.specs.ClientQueue.{ending};
+ghost use Rattle.client_answers.specs.ClientMirrors.{reported_status, with_failed};
+ghost use Rattle.client_state.specs.QueueSteps.{TakesUnder};
+
+use crate::stage::LayoutStage;
+use crate::untold::Untold;
+use cluster_model::{LeftCause, MirrorId, Mirrors};
+use mirror_writer::{WriteStart, Writer};
+use nfs4_types::Stateid;
+
+/// NFS4ERR_DELAY (RFC 8881, section 15.1).
+pub const DELAY: u32 = 10008;
+
+/// A layout that was granted (RFC 8881, section 12.2).
+#[derive(Debug, Drop)]
+pub struct Layout {
+    pub stateid: Stateid,
+    pub mirrors: Mirrors,
+    /// The writes under it.
+    pub writer: Writer,
+    /// Those of them that are not told yet, in the order in which they were taken.
+    pub untold: Untold,
+    /// For each mirror, in the layout's order, why it failed: a status of NFS.
+    pub statuses: [Option<u32>; 4],
+    /// How far its return is.
+    pub stage: LayoutStage,
+    /// A LAYOUTRETURN of it was ever sent.
+    pub was_sent: bool,
+}
+
+impl Layout {
+    /// It is to be given back: from now on no write is taken, and what was taken is committed.
+    pub fn end(&mut self)
+        ensures { self.new ≡ ending self.old }
+    {
+        match self.stage {
+            LayoutStage::Writing => {
+                self.writer.commit();
+                self.stage = LayoutStage::Ending;
+            }
+            LayoutStage::Ending => {}
+            LayoutStage::Deferred => {}
+            LayoutStage::Returning => {}
+        }
+    }
+
+    /// Takes a write of 1 to 65,536 bytes that ends at 67,108,864 or before, unless a taken write has one of its
+    /// places. It is to be told. After `NoMemory` nothing is said.
+    pub fn take(&mut self, at: u64, bytes: &[u8]) -> WriteStart
+        requires some { 1 ≤ length bytes.now }
+        requires few { length bytes.now ≤ 65536 }
+        requires within { at + length bytes.now ≤ 67108864 }
+        ensures { TakesUnder self.old at bytes.now result self.new }
+    {
+        let number = self.writer.count();
+        let start = self.writer.write(at, bytes);
+        match start {
+            WriteStart::Taken => {}
+            WriteStart::Overlap => return WriteStart::Overlap,
+            WriteStart::NoMemory => return WriteStart::NoMemory,
+        }
+        match self.untold.push(number) {
+            Ok(()) => WriteStart::Taken,
+            Err(_) => WriteStart::NoMemory,
+        }
+    }
+
+    /// The mirror failed by this cause, which will be reported.
+    pub fn note_failure(&mut self, id: MirrorId, cause: LeftCause)
+        ensures { self.new ≡ with_failed self.old id cause }
+    {
+        let status = reported_status(cause);
+        if let Some(place) = place_of(&self.mirrors, id) {
+            self.statuses[place] = Some(status);
+        }
+    }
+}
+
+/// The status that is reported of a mirror that failed: NFS4ERR_DELAY for timeouts (RFC 8435, section 9.1.1).
+fn reported_status(cause: LeftCause) -> u32
+    ensures { result ≡ reported_status cause }
+{
+    match cause {
+        LeftCause::Error(status) => status,
+        LeftCause::Timeouts => DELAY,
+        LeftCause::Reported => DELAY,
+        LeftCause::Unsynced => DELAY,
+    }
+}
+
+/// The place of a mirror.
+fn place_of(mirrors: &Mirrors, id: MirrorId) -> Option<usize>
+    ensures place { result ≡ position (λ (m : Mirror). is_mirror id m.id) mirrors.now }
+    ensures within { IfSome result (λ place. place < 4) }
+{
+    for place in 0..mirrors.len() {
+        let Some(mirror) = mirrors.get(place) else {
+            return None;
+        };
+        if id == mirror.id {
+            return Some(place);
+        }
+    }
+    None
+}

@@ -1,6 +1,0 @@
-use Rattle.std.proofs.Common.{◌≡◌, ◌+◌, ◌≤◌, length, drop}
-use Rattle.mirror_client.specs.ClientQueue.{unknown_in}
-use Rattle.mirror_client.proofs.devices.count_unknown.Given as goal
-
-abbrev pub invariant-loop-place : goal.invariant-loop-place
-invariant-loop-place l = (l.count + length (unknown_in l.devices (drop l.place l.mirrors)) ≡ length (unknown_in l.devices l.mirrors)) × (l.count ≤ l.place)

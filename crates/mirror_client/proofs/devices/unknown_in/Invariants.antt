@@ -1,6 +1,0 @@
-use Rattle.std.proofs.Common.{◌≡◌, ◌≤◌, ◌++◌, length, drop}
-use Rattle.mirror_client.specs.ClientQueue.{unknown_in}
-use Rattle.mirror_client.proofs.devices.unknown_in.Given as goal
-
-abbrev pub invariant-loop-place : goal.invariant-loop-place
-invariant-loop-place l = (l.servers.items ++ unknown_in l.devices (drop l.place l.mirrors) ≡ unknown_in l.devices l.mirrors) × (length l.servers.items ≤ l.place)

@@ -1,9 +1,0 @@
-use Rattle.mirror_client.proofs.Numbers.{all_numbered}
-use Rattle.mirror_client.proofs.ItsMirrors.{all_home}
-use Rattle.mirror_client.proofs.laws.client_law.Goals as goal
-
-pub returns-clause-numbers : goal.returns-clause-numbers
-returns-clause-numbers c = all_numbered
-
-pub returns-clause-mirrors : goal.returns-clause-mirrors
-returns-clause-mirrors c = all_home

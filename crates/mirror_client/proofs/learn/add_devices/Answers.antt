@@ -1,7 +1,0 @@
-use Rattle.std.proofs.Common.{drop, sym, ◌∙◌}
-use Rattle.mirror_client.proofs.Over.{addresses_done}
-use Rattle.mirror_client.proofs.learn.add_devices.Goals as goal
-
-pub returns : goal.returns
-returns c =
-    sym (addresses_done c.loop-address.devices (drop c.loop-address.place c.args.servers.now) c.args.addresses.now c.loop-address.address-index c.loop-address-test.false) ∙ c.loop-address.invariant.0

@@ -1,7 +1,0 @@
-use Rattle.std.proofs.Common.{ap}
-use Rattle.mds_calls.specs.MdsCalls.{Write}
-use Rattle.mirror_client.proofs.StepLemmas.{spelled_as}
-use Rattle.mirror_client.proofs.state.State.spell_write.Goals as goal
-
-pub returns : goal.returns
-returns c = spelled_as c.args.self.now c.args.session _ _ c.spell_on_slot.result (ap (Write c.args.file c.args.at) c.bytes-bytes.ensures.bytes) c.spell_on_slot.ensures
