@@ -45,8 +45,8 @@ next_on_slot now c = record c { tie = moved_tie now c.tie }
 abbrev pub without_head : ClientValue → ClientValue
 without_head c = record c { queue = drop 1 c.queue; waits = false }
 
-abbrev pub opened_file : OpenFile → ClientValue → ClientRun
-opened_file file c = answers_user (answer.Opened file.file) (record (without_head c) { file = Some file })
+abbrev pub opens_file : OpenFile → ClientValue → ClientRun
+opens_file file c = answers_user (answer.Opened file.file) (record (without_head c) { file = Some file })
 
 -- a new session: the first request on its slot has the number 1 (RFC 8881, section 2.10.6.1)
 abbrev pub fresh_session : SessionId → OwnSession
@@ -134,7 +134,7 @@ by_answer kind (Refused status) c = refused_by_mds kind status c
 by_answer kind (Client clientid sequence) c = unmoved (record c { tie = HasClient clientid sequence })
 by_answer kind (Session session) c = unmoved (record c { tie = HasSession (fresh_session session) })
 by_answer kind Complete c = unmoved (record c { tie = completed_tie c.tie })
-by_answer kind (Opened file) c = opened_file file c
+by_answer kind (Opened file) c = opens_file file c
 by_answer kind (Granted grant) c = unmoved (record c { layout = Some (new_layout grant) })
 by_answer kind (Devices addresses) c = unmoved (learns_devices c.layout addresses c)
 by_answer kind Written c = answers_user answer.Written (without_head c)

@@ -5,7 +5,7 @@ ghost use Rattle.mds_calls.specs.MdsReplies.{plain_mds_answer};
 ghost use Rattle.client_state.specs.ClientStates.{as_new};
 ghost use Rattle.client_state.specs.ClientQueue.{answers_user};
 ghost use Rattle.client_state.specs.ClientStates.{is_layout_return};
-ghost use Rattle.client_answers.specs.ClientAnswers.{opened_file, next_on_slot, without_head, fresh_session, completed_tie, new_layout, head_refused, has_session, deferred, defers, after_refusal, refused_otherwise, is_for_later, asks_later, session_lost, refused_by_mds, by_answer};
+ghost use Rattle.client_answers.specs.ClientAnswers.{opens_file, next_on_slot, without_head, fresh_session, completed_tie, new_layout, head_refused, has_session, deferred, defers, after_refusal, refused_otherwise, is_for_later, asks_later, session_lost, refused_by_mds, by_answer};
 ghost use Rattle.client_state.specs.QueueSteps.{HasRun, with_layout_at};
 ghost use Rattle.client_answers.specs.AnswerSteps.{with_tie};
 
@@ -178,7 +178,7 @@ fn refused_by_mds(
 
 /// The file is open.
 fn take_open(client: &mut State, file: OpenFile, out: &mut Outbox) -> Result<(), NoMemory>
-    ensures { OnOk result (HasRun (opened_file file client.old) out.old client.new out.new) }
+    ensures { OnOk result (HasRun (opens_file file client.old) out.old client.new out.new) }
 {
     drop_head(client);
     client.file = Some(file);

@@ -24,7 +24,7 @@ use Rattle.client_state.specs.declared.tie.OwnSession.{OwnSession}
 use Rattle.client_state.specs.declared.tie.Tie.{Tie}
 use Rattle.client_state.specs.declared.tie.Tie.TheVariants.{NoClient, HasClient, HasSession}
 use Rattle.client_state.specs.ClientStates.{ClientValue}
-use Rattle.client_callbacks.specs.Callbacks.{CbGiven, CbJudged, Recall, is_ok, cb_recall_result, behind_given, behind_result, refused, leaves, recalls, recall_step, repeat_step, stopped, cb_behind, cb_repeated, sequence_refused, cb_begun, cb_in_session, cb_first}
+use Rattle.client_callbacks.specs.Callbacks.{CbGiven, CbJudged, Recall, is_ok, cb_recall_result, behind_given, behind_result, refused_result, leaves, recalls, recall_step, repeat_step, stopped, cb_behind, cb_repeated, sequence_refused, cb_begun, cb_in_session, cb_first}
 use Rattle.client_callbacks.specs.CallbackSteps.{CbResultList, HasJudgedCb}
 
 -- ---- what is still to come
@@ -99,7 +99,7 @@ stop_within (stop.Bad e) n = omega arith
 
 recall_within : (r : Recall) (next : ClientValue → CbJudged) (n : ℕ) → length (next r.client).results ≤ n → length (recall_step r next).results ≤ suc n
 recall_within r next n h =
-    cond_both (is_ok r.status) (behind_result (cb_recall_result r.status) (next r.client)) (leaves (refused r.status (cb_recall_result r.status)) r.client)
+    cond_both (is_ok r.status) (behind_result (cb_recall_result r.status) (next r.client)) (leaves (refused_result r.status (cb_recall_result r.status)) r.client)
     (λ (j : CbJudged). length j.results ≤ suc n) (λ ok. omega (arith, h)) (λ not_ok. omega arith)
 
 behind_within : (ops : List (Value cb_argop4)) (s : Stop) (c : ClientValue) → length (cb_behind ops s c).results ≤ suc (length ops)
@@ -110,7 +110,7 @@ behind_within (inr (inr none) ∷ ops) s c = absurd none
 
 repeat_within : (status : Stat4) (next : CbGiven) (n : ℕ) → length next.results ≤ n → length (repeat_step status next).results ≤ suc n
 repeat_within status next n h =
-    cond_both (is_ok status) (behind_given (cb_recall_result status) next) (refused status (cb_recall_result status))
+    cond_both (is_ok status) (behind_given (cb_recall_result status) next) (refused_result status (cb_recall_result status))
     (λ (g : CbGiven). length g.results ≤ suc n) (λ ok. omega (arith, h)) (λ not_ok. omega arith)
 
 repeated_within : (status : Stat4) (ops : List (Value cb_argop4)) (s : Stop) → length (cb_repeated status ops s).results ≤ suc (length ops)

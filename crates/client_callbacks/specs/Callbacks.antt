@@ -57,8 +57,8 @@ abbrev pub given : Stat4 → List (Value cb_resop4) → CbGiven
 given status results = record { status = status; results = results }
 
 -- by one result, that of the operation which is not OK
-abbrev pub refused : Stat4 → Value cb_resop4 → CbGiven
-refused status result = given status (result ∷ [])
+abbrev pub refused_result : Stat4 → Value cb_resop4 → CbGiven
+refused_result status result = given status (result ∷ [])
 
 abbrev pub behind_given : Value cb_resop4 → CbGiven → CbGiven
 behind_given result g = record { status = g.status; results = result ∷ g.results }
@@ -93,8 +93,8 @@ abbrev pub stopped : Stop → CbGiven
 stopped (stop.End rest) = given stat.Ok []
 stopped (stop.Unread number) =
     let known = is_callback_number number in
-    refused (unread_status number known) (cb_refusal (unread_number number known) (unread_status number known))
-stopped (stop.Bad e) = refused stat.BadXdr (cb_refusal 10044 stat.BadXdr)
+    refused_result (unread_status number known) (cb_refusal (unread_number number known) (unread_status number known))
+stopped (stop.Bad e) = refused_result stat.BadXdr (cb_refusal 10044 stat.BadXdr)
 
 -- ---- CB_LAYOUTRECALL
 
@@ -129,13 +129,13 @@ is_ok status = false
 
 -- a second CB_SEQUENCE stands in a wrong place
 abbrev pub misplaced : CbGiven
-misplaced = refused stat.SequencePos (arm 11 cb_resop4 (inr (stat4_number stat.SequencePos)))
+misplaced = refused_result stat.SequencePos (arm 11 cb_resop4 (inr (stat4_number stat.SequencePos)))
 
 -- a recall that is OK is followed by the next operation
 abbrev pub recall_step : Recall → (ClientValue → CbJudged) → CbJudged
 recall_step r next =
     if is_ok r.status then behind_result (cb_recall_result r.status) (next r.client)
-    else leaves (refused r.status (cb_recall_result r.status)) r.client
+    else leaves (refused_result r.status (cb_recall_result r.status)) r.client
 
 abbrev pub cb_behind : List (Value cb_argop4) → Stop → ClientValue → CbJudged
 cb_behind [] s c = leaves (stopped s) c
@@ -143,7 +143,7 @@ cb_behind (op ∷ ops) s c = by_arm cb_argop4 ((λ recall. recall_step (recalls 
 
 -- the same of a callback that came before: its status is answered again, and nothing else is done
 abbrev pub repeat_step : Stat4 → CbGiven → CbGiven
-repeat_step status next = if is_ok status then behind_given (cb_recall_result status) next else refused status (cb_recall_result status)
+repeat_step status next = if is_ok status then behind_given (cb_recall_result status) next else refused_result status (cb_recall_result status)
 
 abbrev pub cb_repeated : Stat4 → List (Value cb_argop4) → Stop → CbGiven
 cb_repeated status [] s = stopped s
@@ -155,7 +155,7 @@ abbrev pub with_callbacks : OwnSession → CbSlotState → ClientValue → Clien
 with_callbacks s slot c = record c { tie = HasSession (record s { callbacks = slot }) }
 
 abbrev pub sequence_refused : Stat4 → CbGiven
-sequence_refused status = refused status (arm 11 cb_resop4 (inr (stat4_number status)))
+sequence_refused status = refused_result status (arm 11 cb_resop4 (inr (stat4_number status)))
 
 -- the status of a callback is kept with its number
 abbrev pub keeps_status : OwnSession → CbSlotState → CbJudged → CbJudged
@@ -176,7 +176,7 @@ cb_in_session tie sequence ops st c = leaves (sequence_refused stat.BadSession) 
 -- the first operation: no other than CB_SEQUENCE stands there
 abbrev pub cb_first : List (Value cb_argop4) → Stop → ClientValue → CbJudged
 cb_first [] s c = leaves (stopped s) c
-cb_first (op ∷ ops) s c = by_arm cb_argop4 ((λ recall. leaves (refused stat.OpNotInSession (cb_refusal 5 stat.OpNotInSession)) c), ((λ sequence. cb_in_session c.tie sequence ops s c), tt)) op
+cb_first (op ∷ ops) s c = by_arm cb_argop4 ((λ recall. leaves (refused_result stat.OpNotInSession (cb_refusal 5 stat.OpNotInSession)) c), ((λ sequence. cb_in_session c.tie sequence ops s c), tt)) op
 
 -- ---- the callback
 

@@ -10,7 +10,7 @@ ghost use Rattle.nfs4_session_ops.specs.CbSequence.{cb_sequence4_args_value};
 ghost use Rattle.nfs4_compound.specs.declared.stop.Stop.TheVariants as stop;
 ghost use Rattle.nfs4_compound.specs.CbResults.{cb_resop4, cb_res_value};
 ghost use Rattle.nfs4_compound.specs.Compounds.{cb_compound4_res};
-ghost use Rattle.client_callbacks.specs.Callbacks.{cb_refusal, cb_recall_result, cb_sequence_result, refused, stopped, cb_behind, cb_repeated, keeps_status, cb_begun, cb_in_session, cb_first};
+ghost use Rattle.client_callbacks.specs.Callbacks.{cb_refusal, cb_recall_result, cb_sequence_result, refused_result, stopped, cb_behind, cb_repeated, keeps_status, cb_begun, cb_in_session, cb_first};
 ghost use Rattle.client_callbacks.specs.CallbackSteps.{HasGivenResults, HasJudgedCb};
 
 use crate::recall::recall;
@@ -75,7 +75,7 @@ impl CbResults {
     /// The operation with this number was not done, and the compound ends with its status.
     pub fn refuse(&mut self, number: u32, status: Stat4) -> Result<Stat4, NoMemory>
         requires { IsTrue (list_any (nat_eq (stat4_number status)) refusals4) }
-        ensures { IfOk result (λ end. HasGivenResults (refused status (cb_refusal number status)) self.old self.new end) }
+        ensures { IfOk result (λ end. HasGivenResults (refused_result status (cb_refusal number status)) self.old self.new end) }
     {
         match number {
             LAYOUTRECALL => self.push(CbRes::LayoutRecall(OpResult::Refused(status)))?,

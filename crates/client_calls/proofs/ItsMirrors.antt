@@ -13,7 +13,7 @@ use Rattle.mirror_writer.specs.Writers.{WriterValue, WriterMirror, WriterSends, 
 use Rattle.mds_calls.specs.declared.ask.MdsAsk.{MdsAsk}
 use Rattle.client_state.specs.declared.layout.Layout.{Layout}
 use Rattle.client_state.specs.ClientStates.{ClientValue}
-use Rattle.client_calls.specs.ClientCalls.{SendValue, ClientStep, and_then, calls_next, calls_under, calls_mirror, calls_two, calls_mirrors, may_ask, asks, asks_as, sends_none, due_ask, message_of, calls_mds}
+use Rattle.client_calls.specs.ClientCalls.{SendValue, ClientStep, and_then, calls_next, calls_under, calls_mirror, calls_two, calls_mirrors, may_ask, asks, asks_as, sends_none, due_ask, compound_message, calls_mds}
 use Rattle.client_calls.specs.ClientLaws.{writer_servers, layout_servers, goes_to, CallsItsMirrors}
 
 server_of : WriterMirror → ℕ
@@ -94,7 +94,7 @@ asked_home servers c kind (Some message) = refl
 
 due_home : (servers : List ℕ) (c : ClientValue) (kind : Option MdsAsk) → list_all (goes_to servers) (asks c kind).sends ≡ true
 due_home servers c None = refl
-due_home servers c (Some kind) = asked_home servers c kind (message_of c kind)
+due_home servers c (Some kind) = asked_home servers c kind (compound_message c kind)
 
 mds_home : (servers : List ℕ) (c : ClientValue) → list_all (goes_to servers) (calls_mds c).sends ≡ true
 mds_home servers c = by_test (may_ask c c.asked)

@@ -201,8 +201,8 @@ abbrev pub spelled : ClientValue → Option MdsCallValue → Option (List ℕ)
 spelled c None = None
 spelled c (Some call) = Some (mds_call_bytes c.next_xid c.name call)
 
-abbrev pub message_of : ClientValue → MdsAsk → Option (List ℕ)
-message_of c kind = spelled c (call_by_ask c kind)
+abbrev pub compound_message : ClientValue → MdsAsk → Option (List ℕ)
+compound_message c kind = spelled c (call_by_ask c kind)
 
 abbrev pub asks_as : ClientValue → MdsAsk → Option (List ℕ) → ClientStep
 asks_as c kind None = sends_none c
@@ -219,7 +219,7 @@ asks_as c kind (Some message) = record {
 
 abbrev pub asks : ClientValue → Option MdsAsk → ClientStep
 asks c None = sends_none c
-asks c (Some kind) = asks_as c kind (message_of c kind)
+asks c (Some kind) = asks_as c kind (compound_message c kind)
 
 -- one compound is outstanding at a time, and none goes out without a number
 abbrev pub may_ask : ClientValue → Option Asked → Bool

@@ -6,7 +6,7 @@ ghost use Rattle.mds_calls.specs.MdsCalls as slot;
 ghost use Rattle.mds_calls.specs.MdsCompounds.{FitsCompound};
 ghost use Rattle.client_state.specs.declared.tie.Tie.TheVariants.{HasSession};
 ghost use Rattle.client_state.specs.ClientQueue.{unknown_servers};
-ghost use Rattle.client_calls.specs.ClientCalls.{failed_mirrors, spelled, open_call, through_call, devices_call, return_call, file_call, slot_call, on_slot, message_of, returning, asks, calls_mds};
+ghost use Rattle.client_calls.specs.ClientCalls.{failed_mirrors, spelled, open_call, through_call, devices_call, return_call, file_call, slot_call, on_slot, compound_message, returning, asks, calls_mds};
 ghost use Rattle.client_calls.specs.CallSteps.{HasStepped};
 ghost use Rattle.client_state.specs.QueueSteps.{with_layout_at};
 
@@ -224,8 +224,8 @@ fn spell_request(client: &State, session: OwnSession, ask: MdsAsk) -> Result<Opt
 }
 
 /// The record of the compound that asks this; `None` where there is nothing to ask it of.
-fn message_of(client: &State, ask: MdsAsk) -> Result<Option<Data>, NoMemory>
-    ensures { IfOk result (λ message. message ≡ message_of client.now ask) }
+fn compound_message(client: &State, ask: MdsAsk) -> Result<Option<Data>, NoMemory>
+    ensures { IfOk result (λ message. message ≡ compound_message client.now ask) }
 {
     match (ask, client.tie) {
         (MdsAsk::ExchangeId, _) => spell(
@@ -257,7 +257,7 @@ fn begin_return(client: &mut State)
 pub fn ask_mds(client: &mut State, ask: MdsAsk, out: &mut Outbox) -> Result<(), NoMemory>
     ensures { OnOk result (HasStepped (asks client.old (Some ask)) out.old client.new out.new) }
 {
-    let Some(message) = message_of(client, ask)? else {
+    let Some(message) = compound_message(client, ask)? else {
         return Ok(());
     };
     client.asked = Some(Asked {

@@ -3,7 +3,7 @@
 ghost use Rattle.std.specs.Prelude.{◌≡◌, ◌≤◌, true, false, [], ◌++◌, length, slice_get, IfOk, OnOk, OnErr};
 ghost use Rattle.client_state.specs.declared.request.UserRequest.TheVariants.{Open, Write, Through, Commit, Read, Return};
 ghost use Rattle.mirror_client.specs.ClientRule.{client_requested, client_recorded, client_timed_out, client_ticked, strays};
-ghost use Rattle.mirror_client.specs.ClientSteps.{new_client, StepsBy, answer_taken, left};
+ghost use Rattle.mirror_client.specs.ClientSteps.{fresh_client_of_user, StepsBy, answer_taken, left};
 
 use crate::events::{request, tick, time_out};
 use crate::receive::receive;
@@ -25,9 +25,9 @@ pub struct Client {
 }
 
 impl Model for Client {
-    ghost use Rattle.mirror_client.specs.ClientSteps.{ClientState};
+    ghost use Rattle.mirror_client.specs.ClientSteps.{ClientOfUser};
 
-    ghost Value = { ClientState };
+    ghost Value = { ClientOfUser };
 
     ghost view = { λ c. record { client = c.state; is_spent = c.is_spent } };
 }
@@ -54,7 +54,7 @@ impl Client {
         verifier: [u8; 8],
         first_xid: u32,
     ) -> Result<Client, NoMemory>
-        ensures { IfOk result (λ client. client ≡ new_client number verifier first_xid) }
+        ensures { IfOk result (λ client. client ≡ fresh_client_of_user number verifier first_xid) }
     {
         let verifier = u64::from_be_bytes(verifier);
         let state = State::new(alloc, number, verifier, first_xid)?;
