@@ -12,13 +12,17 @@ ghost use Rattle.client_answers.specs.AnswerSteps.{with_tie};
 use crate::learn::learn;
 use crate::lost::lose_layout;
 use crate::told::end_return;
-use client_state::{DELAY, Layout, LayoutStage, OwnSession, State, Tie, Untold, is_layout_return};
+use client_state::{Layout, LayoutStage, OwnSession, State, Tie, Untold, is_layout_return};
 use cluster_model::{Outbox, UserAnswer};
 use ff_xdr::{Data, NoMemory};
 use mds_calls::{LayoutGrant, MdsAnswer, MdsAsk, OpenFile};
+use mirror_client::Client;
 use mirror_writer::Writer;
 use nfs4_session::{CbSlot, next_sequence};
 use nfs4_types::SessionId;
+
+/// NFS4ERR_DELAY (RFC 8881, section 15.1).
+pub const DELAY: u32 = 10008;
 
 /// NFS4ERR_BAD_STATEID.
 const BAD_STATEID: u32 = 10025;

@@ -1,22 +1,63 @@
 //! A layout that is lost.
 
-ghost use Rattle.std.specs.Prelude.{◌≡◌, OnOk};
+ghost use Rattle.std.specs.Prelude.{◌≡◌, ◌<◌, position, IfSome, OnOk};
 ghost use Rattle.mirror_writer.specs.Outstanding.{has_no_mirror};
 ghost use Rattle.client_state.specs.ClientQueue.{without_commit, fails_layout, revoked_layout};
-ghost use Rattle.client_answers.specs.ClientMirrors.{mirror_failed, with_failed};
+ghost use Rattle.cluster_model.specs.declared.ids.Mirror.{Mirror};
+ghost use Rattle.cluster_model.specs.Journal.{is_mirror};
+ghost use Rattle.client_answers.specs.ClientMirrors.{mirror_failed, reported_status, with_failed};
 ghost use Rattle.client_state.specs.QueueSteps.{HasRun};
 ghost use Rattle.client_answers.specs.AnswerSteps.{layout_after_failure, with_queue};
 
+use crate::answers::DELAY;
 use client_state::{Layout, State, UserRequest};
-use cluster_model::{FailCause, LeftCause, MirrorId, Outbox, UserAnswer};
+use cluster_model::{FailCause, LeftCause, MirrorId, Mirrors, Outbox, UserAnswer};
 use ff_xdr::NoMemory;
+
+/// The status that is reported of a mirror that failed: NFS4ERR_DELAY for timeouts (RFC 8435, section 9.1.1).
+fn reported_status(cause: LeftCause) -> u32
+    ensures { result ≡ reported_status cause }
+{
+    match cause {
+        LeftCause::Error(status) => status,
+        LeftCause::Timeouts => DELAY,
+        LeftCause::Reported => DELAY,
+        LeftCause::Unsynced => DELAY,
+    }
+}
+
+/// The place of a mirror.
+fn place_of(mirrors: &Mirrors, id: MirrorId) -> Option<usize>
+    ensures place { result ≡ position (λ (m : Mirror). is_mirror id m.id) mirrors.now }
+    ensures within { IfSome result (λ place. place < 4) }
+{
+    for place in 0..mirrors.len() {
+        let Some(mirror) = mirrors.get(place) else {
+            return None;
+        };
+        if id == mirror.id {
+            return Some(place);
+        }
+    }
+    None
+}
+
+/// The mirror failed by this cause, which will be reported.
+fn note_failure(layout: &mut Layout, id: MirrorId, cause: LeftCause)
+    ensures { layout.new ≡ with_failed layout.old id cause }
+{
+    let status = reported_status(cause);
+    if let Some(place) = place_of(&layout.mirrors, id) {
+        layout.statuses[place] = Some(status);
+    }
+}
 
 /// A mirror failed. Answers whether every mirror has failed: the writes that are not told are dropped then.
 fn fail_mirror(layout: &mut Layout, id: MirrorId, cause: LeftCause) -> bool
     ensures none { result ≡ has_no_mirror layout.old.writer }
     ensures after { layout.new ≡ layout_after_failure result (with_failed layout.old id cause) }
 {
-    layout.note_failure(id, cause);
+    note_failure(layout, id, cause);
     let none = layout.writer.has_no_mirror();
     layout.end();
     if none {

@@ -4,9 +4,7 @@ ghost use Rattle.std.specs.Prelude.{◌≡◌, OnOk};
 ghost use Rattle.rpc_record.specs.Replies.{rpc_reply};
 ghost use Rattle.mds_calls.specs.MdsReplies.{plain_mds_answer, reply_of_ask};
 ghost use Rattle.client_answers.specs.ClientAnswers.{answered_as, mds_heard};
-ghost use Rattle.mirror_client.specs.ClientRule.{mds_replied};
 ghost use Rattle.client_state.specs.QueueSteps.{HasRun};
-ghost use Rattle.client_calls.specs.CallSteps.{HasStepped};
 
 use crate::answers::{next_on_slot, take_answer};
 use client_state::State;

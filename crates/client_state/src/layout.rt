@@ -1,20 +1,14 @@
 //! A layout, and the writes under it.
 
-ghost use Rattle.std.specs.Prelude.{◌≡◌, ◌≤◌, ◌<◌, ◌+◌, length, position, IfSome};
-ghost use Rattle.cluster_model.specs.declared.ids.Mirror.{Mirror};
-ghost use Rattle.cluster_model.specs.Journal.{is_mirror};
+ghost use Rattle.std.specs.Prelude.{◌≡◌, ◌≤◌, ◌+◌, length};
 ghost use Rattle.client_state.specs.ClientQueue.{ending};
-ghost use Rattle.client_answers.specs.ClientMirrors.{reported_status, with_failed};
 ghost use Rattle.client_state.specs.QueueSteps.{TakesUnder};
 
 use crate::stage::LayoutStage;
 use crate::untold::Untold;
-use cluster_model::{LeftCause, MirrorId, Mirrors};
+use cluster_model::Mirrors;
 use mirror_writer::{WriteStart, Writer};
 use nfs4_types::Stateid;
-
-/// NFS4ERR_DELAY (RFC 8881, section 15.1).
-pub const DELAY: u32 = 10008;
 
 /// A layout that was granted (RFC 8881, section 12.2).
 #[derive(Debug, Drop)]
@@ -69,42 +63,4 @@ impl Layout {
             Err(_) => WriteStart::NoMemory,
         }
     }
-
-    /// The mirror failed by this cause, which will be reported.
-    pub fn note_failure(&mut self, id: MirrorId, cause: LeftCause)
-        ensures { self.new ≡ with_failed self.old id cause }
-    {
-        let status = reported_status(cause);
-        if let Some(place) = place_of(&self.mirrors, id) {
-            self.statuses[place] = Some(status);
-        }
-    }
-}
-
-/// The status that is reported of a mirror that failed: NFS4ERR_DELAY for timeouts (RFC 8435, section 9.1.1).
-fn reported_status(cause: LeftCause) -> u32
-    ensures { result ≡ reported_status cause }
-{
-    match cause {
-        LeftCause::Error(status) => status,
-        LeftCause::Timeouts => DELAY,
-        LeftCause::Reported => DELAY,
-        LeftCause::Unsynced => DELAY,
-    }
-}
-
-/// The place of a mirror.
-fn place_of(mirrors: &Mirrors, id: MirrorId) -> Option<usize>
-    ensures place { result ≡ position (λ (m : Mirror). is_mirror id m.id) mirrors.now }
-    ensures within { IfSome result (λ place. place < 4) }
-{
-    for place in 0..mirrors.len() {
-        let Some(mirror) = mirrors.get(place) else {
-            return None;
-        };
-        if id == mirror.id {
-            return Some(place);
-        }
-    }
-    None
 }

@@ -16,7 +16,7 @@ mod user;
 
 pub use asked::{Asked, is_layout_return};
 pub use devices::{count_unknown, knows, unknown_in};
-pub use layout::{DELAY, Layout};
+pub use layout::Layout;
 pub use name::ClientName;
 pub use request::{FileName, UserRequest};
 pub use stage::LayoutStage;

@@ -6,6 +6,7 @@ ghost use Rattle.client_calls.specs.ClientCalls.{and_then, calls_all, ends_event
 ghost use Rattle.mirror_client.specs.ClientRule.{with_request, client_requested, ticks_on, replied, mds_timed_out, timed_out_to, client_timed_out, stage_after_tick, client_at_tick, resends_late, is_stale_tie, renews, client_ticked};
 ghost use Rattle.client_calls.specs.CallSteps.{HasStepped};
 
+use crate::client::Client;
 use crate::late::ds_timed_out;
 use crate::replies::mds_replied;
 use client_answers::ds_answered;

@@ -7,6 +7,7 @@ ghost use Rattle.mirror_client.specs.ClientRule.{ds_late};
 ghost use Rattle.client_calls.specs.CallSteps.{HasStepped};
 ghost use Rattle.mirror_client.specs.LateSteps.{out_under, IsLate, TimesOut, SendsAgain};
 
+use crate::client::Client;
 use client_answers::{Heard, after_step, is_commit};
 use client_calls::ds_record;
 use client_state::{Layout, State};

@@ -7,6 +7,7 @@ ghost use Rattle.client_callbacks.specs.Callbacks.{callback_of};
 ghost use Rattle.mirror_client.specs.ClientRule.{found_reply, found_call, record_from, client_recorded};
 ghost use Rattle.client_calls.specs.CallSteps.{HasStepped};
 
+use crate::client::Client;
 use crate::events::replied;
 use client_callbacks::take_callback;
 use client_calls::end_event;

@@ -4,8 +4,8 @@ use Rattle.std.proofs.lemmas.Iterator.Adapters.{position_from-zero}
 use Rattle.cluster_model.specs.declared.ids.Mirror.{Mirror}
 use Rattle.cluster_model.specs.Journal.{is_mirror}
 use Rattle.cluster_model.proofs.MirrorLists.{le_from_test}
-use Rattle.client_state.proofs.Over.{first_here, first_later, first_none, none_at}
-use Rattle.client_state.proofs.layout.place_of.Goals as goal
+use Rattle.client_answers.proofs.OverAnswers.{first_here, first_later, first_none, none_at}
+use Rattle.client_answers.proofs.lost.place_of.Goals as goal
 
 pub loop-place-init : goal.loop-place-init
 loop-place-init c = position_from-zero (λ (m : Mirror). is_mirror c.args.id m.id) c.args.mirrors.now
