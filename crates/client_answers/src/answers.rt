@@ -16,7 +16,6 @@ use client_state::{Layout, LayoutStage, OwnSession, State, Tie, Untold, is_layou
 use cluster_model::{Outbox, UserAnswer};
 use ff_xdr::{Data, NoMemory};
 use mds_calls::{LayoutGrant, MdsAnswer, MdsAsk, OpenFile};
-use mirror_client::Client;
 use mirror_writer::Writer;
 use nfs4_session::{CbSlot, next_sequence};
 use nfs4_types::SessionId;

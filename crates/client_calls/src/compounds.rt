@@ -10,12 +10,12 @@ ghost use Rattle.client_calls.specs.ClientCalls.{failed_mirrors, spelled, open_c
 ghost use Rattle.client_calls.specs.CallSteps.{HasStepped};
 ghost use Rattle.client_state.specs.QueueSteps.{with_layout_at};
 
+use crate::asks::{due_ask, may_ask};
+use crate::calls::xid_after;
+use client_state::{
     Asked, FileName, Layout, LayoutStage, OwnSession, State, Tie, UserRequest, is_layout_return,
     unknown_in,
 };
-use crate::asks::{due_ask, may_ask};
-use crate::calls::xid_after;
-use client_state::{Asked, FileName, Layout, LayoutStage, OwnSession, State, Tie, UserRequest, is_layout_return, unknown_in};
 use cluster_model::{NodeId, Outbox};
 use ff_xdr::{Data, NoMemory, Out};
 use mds_calls::{FailedMirror, MdsAsk, MdsCall, OpenFile, SlotCall, put_mds_call};
