@@ -1,5 +1,5 @@
 -- What was done, and then what follows.
-use Rattle.std.proofs.Common.{◌≡◌, ℕ, false, List, [], ◌∷◌, ◌++◌, Option, Some, None, ap, sym, ◌∙◌, subst, append_assoc}
+use Rattle.std.proofs.Common.{◌≡◌, ℕ, if◌then◌else◌, false, List, [], ◌∷◌, ◌++◌, Option, Some, None, ap, sym, ◌∙◌, subst, append_assoc}
 use Rattle.cluster_model.specs.declared.outbox.Outbox.{Outbox}
 use Rattle.client_state.specs.ClientStates.{ClientValue, ClientRun}
 use Rattle.rpc_record.specs.Replies.{reply_bytes}

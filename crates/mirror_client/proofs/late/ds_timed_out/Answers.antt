@@ -17,9 +17,9 @@ returns c =
     let v = c.args.client.now in
     let file = c.in-Some.file in
     let late = c.in-Some-2.late in
-    let came = c.time_out-step.result in
-    let l' = c.time_out-step.new.client in
-    let mid : Outbox = record { entries = c.push.new.client; sends = c.args.out.now.sends } in
+    let came = c.time_out_call-step.result in
+    let l' = c.time_out_call-step.new.layout in
+    let mid : Outbox = record { entries = c.push.new.self; sends = c.args.out.now.sends } in
     let again = c.send_again.new.out in
     let new = c.after_step.new.out in
     let d = c.after_step.new.client in
@@ -29,6 +29,6 @@ returns c =
     c.in_ok-push.ensures.items ∙ ap (λ (x : ClientValue). c.args.out.now.entries.items ++ TimedOut (Client x.number) late.xid ∷ []) c.client.view_is in
     let facts : IsLate v (out_under v.layout c.args.server) (Some late) = subst (λ (x : Option Late). IsLate v (out_under v.layout c.args.server) x) c.in-Some-2.is c.in_ok-late.ensures in
     on_ok_weaker c.after_step.result
-    (λ ran. late_done c.args.server v file c.in-Some-layout.layout late came l' c.args.out.now mid again new d opened held c.time_out-step.ensures entered refl c.in_ok-send_again.ensures
+    (λ ran. late_done c.args.server v file c.in-Some-layout.layout late came l' c.args.out.now mid again new d opened held c.time_out_call-step.ensures entered refl c.in_ok-send_again.ensures
     (subst (λ (x : ClientValue). HasRun (after_step late.is_commit file came (with_layout x l')) again d new) c.client.view_is ran) facts)
     c.after_step.ensures

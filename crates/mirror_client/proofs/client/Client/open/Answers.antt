@@ -1,0 +1,13 @@
+use Rattle.std.proofs.Common.{ℕ, List, ap, ◌∙◌, subst}
+use Rattle.client_state.specs.declared.request.UserRequest.TheVariants.{Open}
+use Rattle.mirror_client.specs.ClientRule.{client_requested}
+use Rattle.mirror_client.specs.ClientSteps.{ClientOfUser, StepsBy}
+use Rattle.mirror_client.proofs.ClientLemmas.{ended}
+use Rattle.mirror_client.proofs.client.Client.open.Goals as goal
+
+pub returns : goal.returns
+returns c =
+    subst (λ (xs : List ℕ). StepsBy (client_requested (Open xs)) c.args.self.now c.args.out.now c.end.result c.end.new.self c.end.new.out) c.in_ok-name.ensures
+    (ended (client_requested (Open c.in_ok-name.name)) c.args.self.now c.end.new.self c.args.out.now c.in_ok-own.own c.request.new.out c.end.new.out c.self.inside.state c.request.new.client
+    c.in_ok-own.ensures.was (ap (λ (s : ClientOfUser). s.client) c.self.view_is ∙ c.begin.ensures.client) c.in_ok-own.ensures.entries c.in_ok-own.ensures.sends
+    c.in_ok-request.ensures c.end.ensures.client c.end.result c.end.ensures.is c.end.ensures.spent c.end.ensures.entries c.end.ensures.sends c.end.ensures.no_entries c.end.ensures.no_sends)
