@@ -8,7 +8,7 @@ use Rattle.std.proofs.lemmas.Option.{same_Some}
 use Rattle.mirror_writer.specs.declared.call.WriteAnswer.{WriteAnswer}
 use Rattle.mirror_writer.specs.declared.call.WriterCall.{WriterCall}
 use Rattle.mirror_writer.specs.declared.call.WriterCall.TheVariants.{NoCall, OutWrite, OutCommit}
-use Rattle.mirror_writer.specs.Writers.{WriterMirror, WriterValue, queued, with_answer, with_commit, unqueued, has_verifier, covered_flag}
+use Rattle.mirror_writer.specs.Writers.{WriterMirror, WriterValue, queued, with_write_answer, with_commit, unqueued, has_verifier, covered_flag}
 use Rattle.mirror_writer.specs.WriterLaws.{WriterNote, CommitSent, WriteAnswered, CommitAnswered, last_verifier, is_commit_at, IsCoveredBy}
 use Rattle.mirror_writer.proofs.Moved.{Turned, Queues, Moves, Moved, Rests, SentWrite, SentCommit, TookAnswer, TookCommit, Drops, Fails, LateWrite, LateCommit, IsAway}
 use Rattle.mirror_writer.proofs.PlainLaws.{flag_stays, flag_pushed}
@@ -159,7 +159,7 @@ commit_sent taken free free' place xid m m' notes is_free open' idle empty flags
 
 -- a WRITE is answered
 write_taken : (taken : ℕ) (free free' : Bool) (place xid w t v : ℕ) (m : WriterMirror) (notes : List WriterNote) → (free' ≡ true → free ≡ true) → m.call ≡ OutWrite xid w t → Holds taken free place m notes
-    → Holds taken free' place (with_answer w v m) (notes ++ WriteAnswered place w v ∷ [])
+    → Holds taken free' place (with_write_answer w v m) (notes ++ WriteAnswered place w v ∷ [])
 write_taken taken free free' place xid w t v m notes was call h = record {
   size = h.size;
   once = λ k. omega (arith, answers_push k w v m.answered, ap (in_call k) call, h.once k);
@@ -168,7 +168,7 @@ write_taken taken free free' place xid w t v m notes was call h = record {
   known = λ is_free open' k u last. by_same k u (h.known (was is_free) open' k u) last (cases_eq w k);
   sent = λ out. absurd (cc (out));
   settled = λ out k u last. absurd (cc (out));
-  covers = same_covers place m (with_answer w v m) notes (WriteAnswered place w v ∷ []) refl (inr (WriteAnswered place w v, refl, λ u same. absurd (cc (same)))) h.covers;
+  covers = same_covers place m (with_write_answer w v m) notes (WriteAnswered place w v ∷ []) refl (inr (WriteAnswered place w v, refl, λ u same. absurd (cc (same)))) h.covers;
 }
   where
     by_old : (k u : ℕ) → IsAnswered m.answered k u → (w ≡ k) ⊎ (w ≡ k → ⊥) → last_verifier place k (notes ++ WriteAnswered place w v ∷ []) ≡ Some u
@@ -179,12 +179,12 @@ write_taken taken free free' place xid w t v m notes was call h = record {
     by_sound k u (inl is) = by_old k u is (cases_eq w k)
     by_sound k u (inr (same, ends)) = subst (λ (n : ℕ). last_verifier place n (notes ++ WriteAnswered place w v ∷ []) ≡ Some u) same (last_written place w v notes ∙ ap (λ n. Some n) ends)
 
-    by_known : (k u : ℕ) → (w ≡ k → ⊥) → IsKnown m k u → IsKnown (with_answer w v m) k u
+    by_known : (k u : ℕ) → (w ≡ k → ⊥) → IsKnown m k u → IsKnown (with_write_answer w v m) k u
     by_known k u other (inl so) = inl so
     by_known k u other (inr (inl is)) = inr (inl (answered_push m.answered (record { write = w; verifier = v }) k u is))
     by_known k u other (inr (inr waits)) = inr (inr (omega (arith, waits, ap (in_call k) call, uncounted w k other)))
 
-    by_same : (k u : ℕ) → (last_verifier place k notes ≡ Some u → IsKnown m k u) → last_verifier place k (notes ++ WriteAnswered place w v ∷ []) ≡ Some u → (w ≡ k) ⊎ (w ≡ k → ⊥) → IsKnown (with_answer w v m) k u
+    by_same : (k u : ℕ) → (last_verifier place k notes ≡ Some u → IsKnown m k u) → last_verifier place k (notes ++ WriteAnswered place w v ∷ []) ≡ Some u → (w ≡ k) ⊎ (w ≡ k → ⊥) → IsKnown (with_write_answer w v m) k u
     by_same k u old last (inl same) =
         let ends : v ≡ u = same_Some v u (sym (last_written place w v notes) ∙ subst (λ (n : ℕ). last_verifier place n (notes ++ WriteAnswered place w v ∷ []) ≡ Some u) (sym same) last) in
         inr (inl (subst (λ (n : ℕ). IsAnswered (m.answered ++ (record { write = w; verifier = v }) ∷ []) n u) same (subst (λ (n : ℕ). IsAnswered (m.answered ++ (record { write = w; verifier = v }) ∷ []) w n) ends (answered_last m.answered w v))))

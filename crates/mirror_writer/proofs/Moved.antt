@@ -14,7 +14,7 @@ use Rattle.mirror_writer.specs.declared.call.NextCall.{NextCall}
 use Rattle.mirror_writer.specs.declared.call.NextCall.TheVariants.{SendsWrite, SendsCommit}
 use Rattle.mirror_writer.specs.declared.call.WriterCall.{WriterCall}
 use Rattle.mirror_writer.specs.declared.call.WriterCall.TheVariants.{NoCall, OutWrite, OutCommit}
-use Rattle.mirror_writer.specs.Writers.{WriterMirror, WriterValue, WriterAfter, queued, with_out, with_answer, with_commit, with_failure, without_call, with_writer_call, with_writer_mirrors, with_write, overlaps_taken, open_committed, is_committed, next_place, next_at, next_idle, next_of_call, next_sent, sends_at, sends_to, sends_next, sends_as, call_for, mirror_of_call, after_reply, after_timeout, answered_at, timed_out_at, mirror_answered, mirror_timed_out}
+use Rattle.mirror_writer.specs.Writers.{WriterMirror, WriterValue, WriterAfter, queued, with_out, with_write_answer, with_commit, with_failure, without_call, with_writer_call, with_writer_mirrors, with_write, overlaps_taken, open_committed, is_committed, next_place, next_at, next_idle, next_of_call, next_sent, sends_at, sends_to, sends_next, sends_as, call_for, mirror_of_call, after_reply, after_timeout, answered_at, timed_out_at, mirror_answered, mirror_timed_out}
 use Rattle.mirror_writer.specs.MirrorSteps.{MirrorAfter, answered_there, late_there, settled_as, failed_there}
 use Rattle.mirror_writer.specs.WriterLaws.{WriterMove, TakesWrite, WantsCommit, SendsOne, TakesReply, TakesTimeout, WriterNote, CommitSent, WriteAnswered, CommitAnswered, WriterRun, writer_moved, sent_notes, noted_mirror, noted_next, answer_notes, mirror_notes, call_notes, write_notes, commit_notes, sent_from, is_new_call}
 use Rattle.mirror_writer.proofs.WriterSteps.{finished, waiting, none_first, none_next, none_call, settles, answer_settles, late_settles, stays_set}
@@ -34,7 +34,7 @@ pub data Moved (free free' : Bool) (place : ℕ) (m m' : WriterMirror) (added : 
   Rests : m' ≡ m → IsAway place added → Moved free free' place m m' added
   SentWrite : (xid k : ℕ) (rest : List ℕ) → m.call ≡ NoCall → m.queue ≡ k ∷ rest → m' ≡ with_out xid (SendsWrite k) m → added ≡ [] → Moved free free' place m m' added
   SentCommit : (xid : ℕ) → free ≡ true → m.has_failed ≡ false → m.call ≡ NoCall → m.queue ≡ [] → m' ≡ with_out xid SendsCommit m → added ≡ CommitSent place ∷ [] → Moved free free' place m m' added
-  TookAnswer : (xid k timeouts v : ℕ) → m.call ≡ OutWrite xid k timeouts → m' ≡ with_answer k v m → added ≡ WriteAnswered place k v ∷ [] → Moved free free' place m m' added
+  TookAnswer : (xid k timeouts v : ℕ) → m.call ≡ OutWrite xid k timeouts → m' ≡ with_write_answer k v m → added ≡ WriteAnswered place k v ∷ [] → Moved free free' place m m' added
   TookCommit : (xid timeouts v : ℕ) → m.call ≡ OutCommit xid timeouts → m' ≡ with_commit v m → added ≡ CommitAnswered place v ∷ [] → Moved free free' place m m' added
   Drops : free' ≡ false → m' ≡ without_call m → added ≡ [] → Moved free free' place m m' added
   Fails : m' ≡ with_failure m → added ≡ [] → Moved free free' place m m' added

@@ -11,7 +11,7 @@ use Rattle.mirror_writer.specs.declared.call.NextCall.{NextCall}
 use Rattle.mirror_writer.specs.declared.call.WriterCall.{WriterCall}
 use Rattle.mirror_writer.specs.declared.call.WriterCall.TheVariants.{NoCall, OutWrite, OutCommit}
 use Rattle.mirror_writer.specs.declared.step.WriterStep.TheVariants as step
-use Rattle.mirror_writer.specs.Writers.{WriterMirror, WriterValue, WriterAfter, with_failure, without_call, with_answer, with_commit, with_writer_call, after_commit, is_stranger, fenced, next_at}
+use Rattle.mirror_writer.specs.Writers.{WriterMirror, WriterValue, WriterAfter, with_failure, without_call, with_write_answer, with_commit, with_writer_call, after_commit, is_stranger, fenced, next_at}
 
 pub record MirrorAfter : Type 0 where
   pub mirror : WriterMirror
@@ -25,7 +25,7 @@ refused_there m status =
     if (status == 13) || (status == 70) then record { mirror = without_call m; outcome = outcome.Fenced status } else failed_there m (Error status)
 
 abbrev pub write_answered_there : WriterMirror → ℕ → DsReplyValue → MirrorAfter
-write_answered_there m write (Written shown verifier) = record { mirror = with_answer write verifier m; outcome = outcome.Waiting }
+write_answered_there m write (Written shown verifier) = record { mirror = with_write_answer write verifier m; outcome = outcome.Waiting }
 write_answered_there m write (Failed status shown) = refused_there m status
 write_answered_there m write (Created fileid shown) = failed_there m (Error odd_status)
 write_answered_there m write (Set shown) = failed_there m (Error odd_status)

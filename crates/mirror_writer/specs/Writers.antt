@@ -198,8 +198,8 @@ is_fenced_by s place m status = record { writer = fenced (with_writer_mirror s p
 abbrev pub refused_by : WriterValue → ℕ → WriterMirror → ℕ → WriterAfter
 refused_by s place m status = if (status == 13) || (status == 70) then is_fenced_by s place m status else fails s place m (Error status)
 
-abbrev pub with_answer : ℕ → ℕ → WriterMirror → WriterMirror
-with_answer write verifier m = record {
+abbrev pub with_write_answer : ℕ → ℕ → WriterMirror → WriterMirror
+with_write_answer write verifier m = record {
   id = m.id;
   queue = m.queue;
   call = NoCall;
@@ -210,7 +210,7 @@ with_answer write verifier m = record {
 
 -- an answer to a WRITE of another kind counts as an error
 abbrev pub write_answered : WriterValue → ℕ → WriterMirror → ℕ → DsReplyValue → WriterAfter
-write_answered s place m write (Written shown verifier) = record { writer = with_writer_mirror s place (with_answer write verifier m); step = step.Waiting }
+write_answered s place m write (Written shown verifier) = record { writer = with_writer_mirror s place (with_write_answer write verifier m); step = step.Waiting }
 write_answered s place m write (Failed status shown) = refused_by s place m status
 write_answered s place m write (Created fileid shown) = fails s place m (Error odd_status)
 write_answered s place m write (Set shown) = fails s place m (Error odd_status)

@@ -4,7 +4,7 @@ ghost use Rattle.std.specs.Prelude.{◌≡◌, ◌≤◌, ◌+◌, ◌++◌, ◌
 ghost use Rattle.std.specs.List.{filter};
 ghost use Rattle.std.specs.VecDeque.{deque_len, deque_capacity};
 ghost use Rattle.cluster_model.specs.DsCalls.{plain_ds_reply};
-ghost use Rattle.mirror_writer.specs.Writers.{new_mirror, is_committed, is_call, next_at, with_out, queued, covered_flag, has_verifier, covered_by, with_answer, with_failure, without_call, with_writer_call, with_commit};
+ghost use Rattle.mirror_writer.specs.Writers.{new_mirror, is_committed, is_call, next_at, with_out, queued, covered_flag, has_verifier, covered_by, with_write_answer, with_failure, without_call, with_writer_call, with_commit};
 ghost use Rattle.mirror_writer.specs.Rooms.{HasSpareRoom, CanSend, writes_out, timeouts_of};
 ghost use Rattle.mirror_writer.specs.MirrorSteps.{MirrorAfter, answered_there, write_answered_there, commit_answered_there, refused_there, failed_there, late_there, timed_out_there};
 

@@ -14,7 +14,7 @@ use Rattle.record_link.specs.Connection.{ConnectionState, HasCome, is_refused, A
 use Rattle.record_link.specs.Connections.{PeerState, new_peer, Settles, FillsPeer, HandsPeer, AnswersPeer, DrainsPeer}
 use Rattle.record_link.proofs.ConnectionLemmas.{not_refused, read_on, handed_on}
 use Rattle.record_link.proofs.OutgoingLemmas.{gone_nil, gone_gone}
-use Rattle.record_server.specs.History.{Account, new_account, with_message, with_answer_behind, StandsAs}
+use Rattle.record_server.specs.History.{Account, new_account, with_message, with_answer, StandsAs}
 
 -- the front is that of some bytes
 abbrev pub HasFront : ConnectionState → Type 0
@@ -143,7 +143,7 @@ drained_good a now old new r drains good =
       (good.1.0, ap (λ s. s.front) rest ∙ good.1.1),
     )
 
-pub answered_good : (a : Account) (now : ℕ) (message : List ℕ) (old new : PeerState) → AnswersPeer now old message (Ok tt) new → Good a old → Good (with_answer_behind a message) new
+pub answered_good : (a : Account) (now : ℕ) (message : List ℕ) (old new : PeerState) → AnswersPeer now old message (Ok tt) new → Good a old → Good (with_answer a message) new
 answered_good a now message old new answers good =
     let stands = good.0 in
     let put = answers.0 in (

@@ -9,7 +9,7 @@ use Rattle.record_link.specs.declared.stream.Halt.TheVariants as halt
 use Rattle.record_link.specs.Connections.{PeerState, ConnectionsState, Becomes, IsLeast, rank_of, FillsPeer, FillsOf, DrainsOf, Closes, new_peer, no_connections}
 use Rattle.record_server.specs.Network.{Waiting}
 use Rattle.record_server.specs.Server.{ServingState, serving_state, ServingStep, Timed, Accepted, Read, Wrote, Closed, FoundNone, DoesStep, FillsOn, DrainsOn, ClosesOn, MakesRoom, ReadsOn, WritesOn}
-use Rattle.record_server.specs.History.{Account, Accounts, new_account, with_account, with_message, with_answer_behind, no_accounts, account_step, account_event, accounts_after, Event, Does, Hands, Answers, DoesEvent, HasHappened, StandsAs}
+use Rattle.record_server.specs.History.{Account, Accounts, new_account, with_account, with_message, with_answer, no_accounts, account_step, account_event, accounts_after, Event, Does, Hands, Answers, DoesEvent, HasHappened, StandsAs}
 use Rattle.record_server.proofs.AccountLemmas.{Good, filled_good, drained_good, answered_good, handed_good, new_good}
 use Rattle.record_server.proofs.PeerLists.{Each, each_at, each_set, each_removed, each_push}
 
@@ -139,13 +139,13 @@ event_good accounts (Hands number message) old new did all =
     (λ k other. account_other accounts number (with_message (accounts number) message) k (λ is. other (is ∙ out.2))) all
 event_good accounts (Answers number message) old new did all =
     let least = did.2.1.least in
-    let accounts' = with_account accounts number (with_answer_behind (accounts number) message) in
+    let accounts' = with_account accounts number (with_answer (accounts number) message) in
     let numbered : least.peer.number ≡ number = number_is number least.peer least.key least.ranked in
     let answered = answered_good (accounts least.peer.number) old.connections.time message least.peer did.2.0 did.2.2 (least_good accounts (Numbered number) old.connections did.2.1.place least all) in
     let good : Good (accounts' number) did.2.0 =
-    subst (λ (a : Account). Good a did.2.0) (sym (account_same accounts number (with_answer_behind (accounts number) message))) (subst (λ (n : ℕ). Good (with_answer_behind (accounts n) message) did.2.0) numbered answered) in
+    subst (λ (a : Account). Good a did.2.0) (sym (account_same accounts number (with_answer (accounts number) message))) (subst (λ (n : ℕ). Good (with_answer (accounts n) message) did.2.0) numbered answered) in
     became_good accounts accounts' (Numbered number) old.connections new.connections did.2.0 did.2.1 (ap (λ s. s.given) did.1) (ap (λ e. e.number) did.2.2.1) (subst (λ (n : ℕ). Good (accounts' n) did.2.0) (sym numbered) good)
-    (λ k other. account_other accounts number (with_answer_behind (accounts number) message) k (λ is. other (is ∙ sym numbered))) all
+    (λ k other. account_other accounts number (with_answer (accounts number) message) k (λ is. other (is ∙ sym numbered))) all
   where
     number_is : (number : ℕ) (e : PeerState) (key : ℕ) → rank_of (Numbered number) e ≡ Some key → e.number ≡ number
     number_is number e key ranked = by_case (eqb e.number number) refl ranked

@@ -46,8 +46,8 @@ new_account to_come went = record { to_come = to_come; went = went; messages = [
 abbrev pub with_message : Account → List ℕ → Account
 with_message a message = record { to_come = a.to_come; went = a.went; messages = a.messages ++ message ∷ []; answers = a.answers }
 
-abbrev pub with_answer_behind : Account → List ℕ → Account
-with_answer_behind a message = record { to_come = a.to_come; went = a.went; messages = a.messages; answers = a.answers ++ message ∷ [] }
+abbrev pub with_answer : Account → List ℕ → Account
+with_answer a message = record { to_come = a.to_come; went = a.went; messages = a.messages; answers = a.answers ++ message ∷ [] }
 
 -- the account of each number
 abbrev pub Accounts : Type 0
@@ -73,7 +73,7 @@ account_step FoundNone accounts = accounts
 abbrev pub account_event : Event → Accounts → Accounts
 account_event (Does step) accounts = account_step step accounts
 account_event (Hands number message) accounts = with_account accounts number (with_message (accounts number) message)
-account_event (Answers number message) accounts = with_account accounts number (with_answer_behind (accounts number) message)
+account_event (Answers number message) accounts = with_account accounts number (with_answer (accounts number) message)
 
 abbrev pub accounts_after : List Event → Accounts → Accounts
 accounts_after [] accounts = accounts
