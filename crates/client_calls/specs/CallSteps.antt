@@ -7,7 +7,7 @@ use Rattle.client_state.specs.ClientStates.{ClientValue}
 use Rattle.client_state.specs.ClientQueue.{with_writer}
 use Rattle.client_calls.specs.ClientCalls.{ClientStep, send_of}
 
--- the same of a step, which sends records too
+-- it is in the state of a step now, with the entries and the records of the step behind those that were there
 pub record HasStepped (s : ClientStep) (old : Outbox) (c : ClientValue) (new : Outbox) : Type 0 where
   pub client : c ≡ s.client
   pub entries : new.entries.items ≡ old.entries.items ++ s.entries
