@@ -1,6 +1,7 @@
 -- What a client sends at the end of an event: first the calls to data servers, by the place of the mirror in the layout, then a
 -- compound to the metadata server.
 use Rattle.std.specs.Prelude.{ℕ, ◌+◌, Bool, true, false, ◌&&◌, ◌||◌, not, ◌==◌, List, [], ◌∷◌, ◌++◌, length, Option, Some, None, if◌then◌else◌}
+use Rattle.std.specs.Option.{option_or}
 use Rattle.cluster_model.specs.declared.ids.NodeId.{NodeId}
 use Rattle.cluster_model.specs.declared.ids.NodeId.TheVariants.{Mds, Server}
 use Rattle.cluster_model.specs.declared.ids.Mirror.{Mirror}
@@ -123,13 +124,9 @@ abbrev pub return_ask : Option Layout → Option MdsAsk
 return_ask None = None
 return_ask (Some l) = if is_ending l.stage && is_settled l.writer then Some ask.LayoutReturn else None
 
-abbrev pub or_ask : Option MdsAsk → Option MdsAsk → Option MdsAsk
-or_ask None other = other
-or_ask (Some kind) other = Some kind
-
 -- what goes out anew comes first, then the layout's return, then what is asked for the head
 abbrev pub due_ask : ClientValue → Option MdsAsk
-due_ask c = or_ask c.again (or_ask (return_ask c.layout) (head_ask c c.queue))
+due_ask c = option_or c.again (option_or (return_ask c.layout) (head_ask c c.queue))
 
 -- ---- the compound
 

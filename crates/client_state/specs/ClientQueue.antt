@@ -1,5 +1,5 @@
 -- What a client does for its user's requests, in order, as far as it can by itself.
-use Rattle.std.specs.Prelude.{ℕ, ◌+◌, Bool, true, false, ◌||◌, not, ◌==◌, nat_lt, List, [], ◌∷◌, ◌++◌, length, Option, Some, None, if◌then◌else◌}
+use Rattle.std.specs.Prelude.{ℕ, ◌+◌, Bool, true, false, ◌||◌, not, ◌==◌, nat_lt, List, [], ◌∷◌, ◌++◌, length, Option, Some, None, is_some, if◌then◌else◌}
 use Rattle.nfs4_types.specs.declared.ids.DeviceId.{DeviceId}
 use Rattle.nfs4_types.specs.Ids.{device_id_of}
 use Rattle.device_addr.specs.declared.net_addr.NetAddr.{NetAddr}
@@ -57,10 +57,6 @@ is_writing Deferred = false
 is_writing Returning = false
 
 -- the address of the device of this data server is known
-abbrev pub is_some : {A : Type 0} → Option A → Bool
-is_some None = false
-is_some (Some a) = true
-
 abbrev pub knows : List (DeviceId × NetAddr) → ℕ → Bool
 knows devices server = is_some (device_at devices (device_id_of server))
 
@@ -71,10 +67,6 @@ unknown_in devices (m ∷ mirrors) = if knows devices m.id.server then unknown_i
 
 abbrev pub unknown_servers : ClientValue → Layout → List ℕ
 unknown_servers c l = unknown_in c.devices l.mirrors
-
-abbrev pub is_none_of : List ℕ → Bool
-is_none_of [] = true
-is_none_of (n ∷ ns) = false
 
 -- ---- the request at the head
 
@@ -121,7 +113,7 @@ without_layout c = IsKept (unmoved (layout_ending c c.layout))
 -- each taken write is told
 abbrev pub is_all_told : Option Layout → Bool
 is_all_told None = true
-is_all_told (Some l) = is_none_of l.untold
+is_all_told (Some l) = length l.untold == 0
 
 abbrev pub layout_committing : ClientValue → Option Layout → ClientValue
 layout_committing c None = c

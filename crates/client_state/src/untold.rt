@@ -1,7 +1,6 @@
 //! Writes that are not told yet.
 
-ghost use Rattle.std.specs.Prelude.{◌≡◌, [], ◌∷◌, ◌++◌, OnOk};
-ghost use Rattle.client_state.specs.ClientQueue.{is_none_of};
+ghost use Rattle.std.specs.Prelude.{◌≡◌, ◌==◌, [], ◌∷◌, ◌++◌, length, OnOk};
 
 use ff_xdr::NoMemory;
 use std::alloc::Global;
@@ -48,7 +47,7 @@ impl Untold {
 
     /// There is none.
     pub fn is_empty(&self) -> bool
-        ensures { result ≡ is_none_of self.now }
+        ensures { result ≡ (length self.now == 0) }
     {
         self.numbers.is_empty()
     }

@@ -27,5 +27,5 @@ abbrev pub answer_taken : ClientOfUser → ClientOfUser
 answer_taken s = record s { client = record s.client { answers = drop 1 s.client.answers } }
 
 -- it left the protocol
-abbrev pub left : ClientOfUser → ClientOfUser
-left s = record s { client = turned s.client }
+abbrev pub left_protocol : ClientOfUser → ClientOfUser
+left_protocol s = record s { client = turned s.client }

@@ -3,7 +3,7 @@
 ghost use Rattle.std.specs.Prelude.{◌≡◌, ◌≤◌, true, false, [], ◌++◌, length, slice_get, IfOk, OnOk, OnErr};
 ghost use Rattle.client_state.specs.declared.request.UserRequest.TheVariants.{Open, Write, Through, Commit, Read, Return};
 ghost use Rattle.mirror_client.specs.ClientRule.{client_requested, client_recorded, client_timed_out, client_ticked, strays};
-ghost use Rattle.mirror_client.specs.ClientSteps.{fresh_client_of_user, StepsBy, answer_taken, left};
+ghost use Rattle.mirror_client.specs.ClientSteps.{fresh_client_of_user, StepsBy, answer_taken, left_protocol};
 
 use crate::events::{request, tick, time_out};
 use crate::receive::receive;
@@ -208,7 +208,7 @@ impl Client {
 
     /// It leaves the protocol: from then on all calls but `stray`, `answers` and `next_xid` do nothing.
     pub fn turn(&mut self)
-        ensures { self.new ≡ left self.old }
+        ensures { self.new ≡ left_protocol self.old }
     {
         turn(&mut self.state);
     }
