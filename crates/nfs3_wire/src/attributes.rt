@@ -87,26 +87,6 @@ pub struct Fattr3 {
     pub ctime: Time3,
 }
 
-/// The parts of `Fattr3`: the kind, the mode, the links and the owner; the sizes, the device, the file
-/// system and the file; the times.
-type Parts = (
-    (FileType, u32, (u32, u32, u32)),
-    (u64, u64, (Specdata3, u64, u64)),
-    (Time3, Time3, Time3),
-);
-
-impl Fattr3 {
-    fn parts(&self) -> Parts
-        ensures { ⟦<Parts as Message>⟧.meaning result ≡ fattr3_value self.now }
-    {
-        (
-            (self.kind, self.mode, (self.nlink, self.uid, self.gid)),
-            (self.size, self.used, (self.rdev, self.fsid, self.fileid)),
-            (self.atime, self.mtime, self.ctime),
-        )
-    }
-}
-
 impl Message for Fattr3 {
     ghost form = { fattr3 };
 
@@ -117,7 +97,11 @@ impl Message for Fattr3 {
 
 impl<'a> Wire<'a> for Fattr3 {
     fn read(cursor: &mut Cursor<'a>) -> Result<Fattr3, XdrError> {
-        let (head, place, (atime, mtime, ctime)) = Parts::read(cursor)?;
+        let (head, place, (atime, mtime, ctime)) = <(
+            (FileType, u32, (u32, u32, u32)),
+            (u64, u64, (Specdata3, u64, u64)),
+            (Time3, Time3, Time3),
+        )>::read(cursor)?;
         let (kind, mode, (nlink, uid, gid)) = head;
         let (size, used, (rdev, fsid, fileid)) = place;
         Ok(Fattr3 {
@@ -138,10 +122,20 @@ impl<'a> Wire<'a> for Fattr3 {
     }
 
     fn put(&self, out: &mut Out) -> Result<(), NoMemory> {
-        self.parts().put(out)
+        (
+            (self.kind, self.mode, (self.nlink, self.uid, self.gid)),
+            (self.size, self.used, (self.rdev, self.fsid, self.fileid)),
+            (self.atime, self.mtime, self.ctime),
+        )
+            .put(out)
     }
 
     fn fits(&self) -> bool {
-        self.parts().fits()
+        (
+            (self.kind, self.mode, (self.nlink, self.uid, self.gid)),
+            (self.size, self.used, (self.rdev, self.fsid, self.fileid)),
+            (self.atime, self.mtime, self.ctime),
+        )
+            .fits()
     }
 }

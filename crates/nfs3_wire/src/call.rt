@@ -3,7 +3,7 @@
 ghost use Rattle.std.specs.Prelude.{◌≡◌, ◌↔◌, IsTrue};
 ghost use Rattle.ff_xdr.specs.Form.{Fits, arm_spelling, arm_of, has_arm};
 ghost use Rattle.ff_xdr.specs.Reading.{arm_reading, whole};
-ghost use Rattle.ff_xdr.specs.Calls.{Puts, Finds};
+ghost use Rattle.ff_xdr.specs.Calls.{Puts, Finds, Decodes};
 ghost use Rattle.nfs3_wire.specs.Calls.{calls, call_value, plain_call};
 
 use crate::procedures::{is_one, number_of, procedures, read_by, with_part};
@@ -13,7 +13,7 @@ use crate::{
 use ff_xdr::{Cursor, NoMemory, Out, Wire, XdrError};
 
 /// A call of a procedure that is built.
-#[derive(Clone, Copy, Debug, PartialEq, Eq)]
+#[derive(Clone, Copy, PartialEq, Eq)]
 pub enum Call3<'a> {
     /// Do nothing (RFC 1813, section 3.3.0).
     Null,
@@ -58,9 +58,17 @@ pub fn read_call(procedure: u32, args: &[u8]) -> Result<Call3<'_>, XdrError>
     ensures { Finds (λ call. call_value (plain_call call)) result (whole args.now (arm_reading calls procedure args.now 0)) }
 {
     let mut cursor = Cursor::new(args);
-    let call = procedures!(read_by, Call3 procedure, &mut cursor);
+    let call = arguments_at(procedure, &mut cursor)?;
     cursor.finish()?;
     Ok(call)
+}
+
+/// Reads the arguments of a procedure that is built, from the cursor's place on.
+fn arguments_at<'a>(procedure: u32, cursor: &mut Cursor<'a>) -> Result<Call3<'a>, XdrError>
+    requires { IsTrue (has_arm procedure calls) }
+    ensures { Decodes (λ call. call_value (plain_call call)) cursor.old result cursor.new (arm_reading calls procedure cursor.old.bytes cursor.old.at) }
+{
+    Ok(procedures!(read_by, Call3 procedure, cursor))
 }
 
 /// Appends the arguments of a call, or nothing.

@@ -46,8 +46,7 @@ impl<'a> Wire<'a> for FileType {
     }
 
     fn put(&self, out: &mut Out) -> Result<(), NoMemory> {
-        out.number32(self.number())?;
-        Ok(())
+        self.number().put(out)
     }
 
     fn fits(&self) -> bool {

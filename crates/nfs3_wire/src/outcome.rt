@@ -39,13 +39,11 @@ impl<'a, D: Wire<'a>, R: Wire<'a>> Wire<'a> for Outcome<D, R> {
         match self {
             Outcome::Done(done) => {
                 out.number32(0)?;
-                done.put(out)?;
-                Ok(())
+                done.put(out)
             }
             Outcome::Refused(status, fields) => {
                 status.put(out)?;
-                fields.put(out)?;
-                Ok(())
+                fields.put(out)
             }
         }
     }

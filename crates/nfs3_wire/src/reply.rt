@@ -3,7 +3,7 @@
 ghost use Rattle.std.specs.Prelude.{◌≡◌, ◌↔◌, IsTrue};
 ghost use Rattle.ff_xdr.specs.Form.{Fits, arm_spelling, arm_of, has_arm};
 ghost use Rattle.ff_xdr.specs.Reading.{arm_reading, whole};
-ghost use Rattle.ff_xdr.specs.Calls.{Puts, Finds};
+ghost use Rattle.ff_xdr.specs.Calls.{Puts, Finds, Decodes};
 ghost use Rattle.nfs3_wire.specs.Replies.{nfs3_results, reply_value, plain_reply};
 
 use crate::procedures::{number_of, procedures, read_by, with_part};
@@ -14,7 +14,7 @@ use crate::{
 use ff_xdr::{Cursor, NoMemory, Out, Wire, XdrError};
 
 /// The result of a procedure that is built.
-#[derive(Clone, Copy, Debug, PartialEq, Eq)]
+#[derive(Clone, Copy, PartialEq, Eq)]
 pub enum Reply3<'a> {
     /// Nothing (RFC 1813, section 3.3.0).
     Null,
@@ -52,9 +52,17 @@ pub fn read_reply(procedure: u32, bytes: &[u8]) -> Result<Reply3<'_>, XdrError>
     ensures { Finds (λ reply. reply_value (plain_reply reply)) result (whole bytes.now (arm_reading nfs3_results procedure bytes.now 0)) }
 {
     let mut cursor = Cursor::new(bytes);
-    let reply = procedures!(read_by, Reply3 procedure, &mut cursor);
+    let reply = result_at(procedure, &mut cursor)?;
     cursor.finish()?;
     Ok(reply)
+}
+
+/// Reads the result of a procedure that is built, from the cursor's place on.
+fn result_at<'a>(procedure: u32, cursor: &mut Cursor<'a>) -> Result<Reply3<'a>, XdrError>
+    requires { IsTrue (has_arm procedure nfs3_results) }
+    ensures { Decodes (λ reply. reply_value (plain_reply reply)) cursor.old result cursor.new (arm_reading nfs3_results procedure cursor.old.bytes cursor.old.at) }
+{
+    Ok(procedures!(read_by, Reply3 procedure, cursor))
 }
 
 /// Appends a result, or nothing.
