@@ -1,8 +1,8 @@
 //! Calls to the mirrors of the layout.
 
 ghost use Rattle.std.specs.Prelude.{◌≡◌, ◌≤◌, length, IfOk, OnOk, if◌then◌else◌};
-ghost use Rattle.cluster_model.specs.DsCalls.{plain_ds_call};
-ghost use Rattle.ds_calls.specs.MadeCalls.{ds_call_bytes, data_in};
+ghost use Rattle.cluster_model.specs.DsCalls.{plain_ds_call, data_in};
+ghost use Rattle.ds_calls.specs.MadeCalls.{ds_call_bytes};
 ghost use Rattle.mirror_writer.specs.Writers.{next_sent};
 ghost use Rattle.client_calls.specs.ClientCalls.{xid_after, calls_under, calls_mirror, calls_two, calls_mirrors};
 ghost use Rattle.client_calls.specs.CallSteps.{HasSent, HasStepped};

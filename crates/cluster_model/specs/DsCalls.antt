@@ -1,6 +1,6 @@
 -- The rule of a data server on the five calls of a cluster, without handles and names of objects (RFC 1813, sections 3.3.2, 3.3.6 to
 -- 3.3.8 and 3.3.21).
-use Rattle.std.specs.Prelude.{ℕ, ◌+◌, Bool, true, not, List, ◌++◌, length, codes, decimal, Option, Some, None, ◌==◌, if◌then◌else◌, slice_get}
+use Rattle.std.specs.Prelude.{ℕ, ◌+◌, Bool, true, not, List, [], ◌++◌, length, codes, decimal, Option, Some, None, ◌==◌, if◌then◌else◌, slice_get}
 use Rattle.cluster_model.specs.declared.tick.Tick.{Tick}
 use Rattle.cluster_model.specs.declared.tick.Times.{Times}
 use Rattle.cluster_model.specs.declared.change.NewTime.TheVariants.{Keep}
@@ -39,6 +39,11 @@ plain_ds_call (declared.SetAttr fileid owner guard) = SetAttr fileid owner.0 gua
 plain_ds_call (declared.Write fileid at synced bytes) = Write fileid at synced bytes.now
 plain_ds_call (declared.Commit fileid) = Commit fileid
 plain_ds_call (declared.Read fileid at count) = Read fileid at count
+
+-- the data of a WRITE; of another call none
+abbrev pub data_in : DsCallValue → List ℕ
+data_in (Write fileid at synced bytes) = bytes
+data_in call = []
 
 abbrev pub plain_ds_reply : DsReply → DsReplyValue
 plain_ds_reply (declared_reply.Created fileid shown) = Created fileid shown

@@ -63,8 +63,3 @@ ds_rpc_call xid machine user call =
 
 abbrev pub ds_call_bytes : ℕ → List ℕ → ℕ → DsCallValue → List ℕ
 ds_call_bytes xid machine user call = call_bytes (ds_rpc_call xid machine user call)
-
--- the data of a WRITE; of another call none
-abbrev pub data_in : DsCallValue → List ℕ
-data_in (ds.Write fileid at synced bytes) = bytes
-data_in call = []

@@ -4,8 +4,8 @@ ghost use Rattle.std.specs.Prelude.{◌≡◌, ◌≤◌, ◌↔◌, IsTrue, len
 ghost use Rattle.ff_xdr.specs.Form.{arm_spelling, arm_of};
 ghost use Rattle.ff_xdr.specs.Calls.{Puts, Grows};
 ghost use Rattle.nfs3_wire.specs.Calls.{calls, call_value};
-ghost use Rattle.cluster_model.specs.DsCalls.{plain_ds_call};
-ghost use Rattle.ds_calls.specs.MadeCalls.{nfs_call_of, ds_call_bytes, data_in};
+ghost use Rattle.cluster_model.specs.DsCalls.{plain_ds_call, data_in};
+ghost use Rattle.ds_calls.specs.MadeCalls.{nfs_call_of, ds_call_bytes};
 
 use crate::commit::put_commit;
 use crate::create::put_create;

@@ -1,8 +1,8 @@
 -- What the calls of a writer do.
-use Rattle.std.specs.Prelude.{◌≡◌, ◌≤◌, ℕ, Bool, true, false, List, [], length, Option, Some, None, slice_get}
+use Rattle.std.specs.Prelude.{◌≡◌, ◌≤◌, ℕ, Bool, true, false, List, length, Option, Some, None, slice_get}
 use Rattle.cluster_model.specs.declared.ids.MirrorId.{MirrorId}
 use Rattle.cluster_model.specs.declared.ds_call.DsCall.{DsCall}
-use Rattle.cluster_model.specs.DsCalls.{DsCallValue, Write, plain_ds_call}
+use Rattle.cluster_model.specs.DsCalls.{DsCallValue, plain_ds_call, data_in}
 use Rattle.mirror_writer.specs.declared.call.NextCall.{NextCall}
 use Rattle.mirror_writer.specs.declared.step.WriteStart.{WriteStart}
 use Rattle.mirror_writer.specs.declared.step.WriteStart.TheVariants.{Taken, Overlap, NoMemory}
@@ -55,10 +55,6 @@ IsGone s next true = (id : MirrorId) → call_for s id next ≡ None
 IsGone s next false = (id : MirrorId) → (call : DsCallValue) × (call_for s id next ≡ Some call)
 
 -- the bytes of a WRITE that is lent are at most 65,536
-abbrev pub bytes_carried : DsCallValue → List ℕ
-bytes_carried (Write fileid at synced bytes) = bytes
-bytes_carried call = []
-
 abbrev pub CarriesFewBytes : {A : Type 0} → Option (A × DsCall) → Type 0
 CarriesFewBytes None = Unit {0}
-CarriesFewBytes (Some (id, call)) = length (bytes_carried (plain_ds_call call)) ≤ 65536
+CarriesFewBytes (Some (id, call)) = length (data_in (plain_ds_call call)) ≤ 65536
