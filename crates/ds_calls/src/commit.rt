@@ -10,10 +10,9 @@ ghost use Rattle.ds_calls.specs.MadeCalls.{nfs_call_of};
 ghost use Rattle.ds_calls.specs.GivenReplies.{commit_answer, in_form};
 
 use crate::handle::handle_of;
-use crate::results::whole_message;
 use crate::shown::{odd_answer, shown_where};
 use cluster_model::DsReply;
-use ff_xdr::{NoMemory, Out};
+use ff_xdr::{NoMemory, Out, Wire};
 use nfs3_wire::{Call3, CommitArgs, CommitReply, Outcome, write_call};
 
 /// Appends the arguments, or nothing.
@@ -33,7 +32,7 @@ pub fn put_commit(fileid: u64, out: &mut Out) -> Result<(), NoMemory>
 pub fn read_commit<'a>(results: &[u8]) -> DsReply<'a>
     ensures { plain_ds_reply result ≡ in_form commit_result commit_answer results.now }
 {
-    match whole_message::<CommitReply>(results) {
+    match CommitReply::from_bytes(results) {
         Ok(Outcome::Done(done)) => DsReply::Committed {
             shown: shown_where(done.wcc.after),
             verifier: done.verifier,

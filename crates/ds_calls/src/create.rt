@@ -13,10 +13,9 @@ ghost use Rattle.std.proofs.Common.{inl};
 
 use crate::handle::{ROOT, fileid_of, handle_of};
 use crate::owner::owner_set;
-use crate::results::whole_message;
 use crate::shown::{odd_answer, shown_in};
 use cluster_model::{Cred, DsReply};
-use ff_xdr::{NoMemory, Out};
+use ff_xdr::{NoMemory, Out, Wire};
 use itoa::write_digits;
 use nfs3_wire::{Call3, CreateArgs, CreateHow, CreateOk, CreateReply, Outcome, write_call};
 
@@ -70,7 +69,7 @@ fn created<'a>(done: CreateOk<'_>) -> DsReply<'a>
 pub fn read_create<'a>(results: &[u8]) -> DsReply<'a>
     ensures { plain_ds_reply result ≡ in_form create_result create_answer results.now }
 {
-    match whole_message::<CreateReply<'_>>(results) {
+    match CreateReply::from_bytes(results) {
         Ok(Outcome::Done(done)) => created(done),
         Ok(Outcome::Refused(status, _)) => DsReply::Failed {
             status: status.number(),

@@ -10,7 +10,6 @@ mod laws;
 mod owner;
 mod read;
 mod reply;
-mod results;
 mod setattr;
 mod shown;
 #[cfg(test)]

@@ -11,10 +11,9 @@ ghost use Rattle.ds_calls.specs.GivenReplies.{read_answer, in_form};
 ghost use Rattle.std.proofs.Common.{inl};
 
 use crate::handle::handle_of;
-use crate::results::whole_message;
 use crate::shown::{odd_answer, shown_where};
 use cluster_model::DsReply;
-use ff_xdr::{NoMemory, Out};
+use ff_xdr::{NoMemory, Out, Wire};
 use nfs3_wire::{Call3, Outcome, ReadArgs, ReadOk, ReadReply, write_call};
 
 /// Appends the arguments, or nothing.
@@ -49,7 +48,7 @@ fn bytes_read<'a>(asked: u32, done: ReadOk<'a>) -> DsReply<'a>
 pub fn read_read<'a>(asked: u32, results: &'a [u8]) -> DsReply<'a>
     ensures { plain_ds_reply result ≡ in_form read_result (read_answer asked) results.now }
 {
-    match whole_message::<ReadReply<'a>>(results) {
+    match ReadReply::from_bytes(results) {
         Ok(Outcome::Done(done)) => bytes_read(asked, done),
         Ok(Outcome::Refused(status, attributes)) => DsReply::Failed {
             status: status.number(),

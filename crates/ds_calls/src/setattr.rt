@@ -14,10 +14,9 @@ ghost use Rattle.std.proofs.Common.{inr};
 
 use crate::handle::handle_of;
 use crate::owner::owner_set;
-use crate::results::whole_message;
 use crate::shown::{odd_answer, shown_where};
 use cluster_model::{Cred, DsReply, Tick};
-use ff_xdr::{NoMemory, Out};
+use ff_xdr::{NoMemory, Out, Wire};
 use nfs3_wire::{Call3, Outcome, SetAttrArgs, SetAttrReply, Stat3, Time3, WccData, write_call};
 
 /// Appends the arguments, or nothing.
@@ -56,7 +55,7 @@ fn refused<'a>(status: Stat3, wcc: WccData) -> DsReply<'a>
 pub fn read_setattr<'a>(results: &[u8]) -> DsReply<'a>
     ensures { plain_ds_reply result ≡ in_form setattr_result setattr_answer results.now }
 {
-    match whole_message::<SetAttrReply>(results) {
+    match SetAttrReply::from_bytes(results) {
         Ok(Outcome::Done(wcc)) => DsReply::Set {
             shown: shown_where(wcc.after),
         },

@@ -11,10 +11,9 @@ ghost use Rattle.ds_calls.specs.GivenReplies.{write_answer, in_form};
 ghost use Rattle.std.proofs.Common.{inl};
 
 use crate::handle::handle_of;
-use crate::results::whole_message;
 use crate::shown::{odd_answer, shown_where};
 use cluster_model::DsReply;
-use ff_xdr::{NoMemory, Out};
+use ff_xdr::{NoMemory, Out, Wire};
 use nfs3_wire::{Call3, Outcome, StableHow, WriteArgs, WriteOk, WriteReply, write_call};
 
 /// Appends the arguments, or nothing.
@@ -64,7 +63,7 @@ fn written<'a>(synced: bool, size: usize, done: WriteOk) -> DsReply<'a>
 pub fn read_write<'a>(synced: bool, size: usize, results: &[u8]) -> DsReply<'a>
     ensures { plain_ds_reply result ≡ in_form write_result (write_answer synced size) results.now }
 {
-    match whole_message::<WriteReply>(results) {
+    match WriteReply::from_bytes(results) {
         Ok(Outcome::Done(done)) => written(synced, size, done),
         Ok(Outcome::Refused(status, wcc)) => DsReply::Failed {
             status: status.number(),

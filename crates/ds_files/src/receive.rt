@@ -11,7 +11,7 @@ ghost use Rattle.ds_files.specs.Receive.{Refused, received, dispatched, authenti
 ghost use Rattle.ds_files.specs.Records.{plain_received, ReceivedFits, FindsCredential};
 
 use crate::received::Received;
-use ff_xdr::{Cursor, Items, Wire, XdrError};
+use ff_xdr::{Items, Wire, XdrError};
 use nfs3_wire::{is_built, read_call};
 use rpc_record::{AUTH_NONE, AUTH_SYS, Auth, AuthSys, Call, CallFault, Reply, ReplyBody};
 
@@ -69,10 +69,7 @@ fn nobody() -> AuthSys<'static>
 fn credential(body: &[u8]) -> Result<AuthSys<'_>, XdrError>
     ensures { FindsCredential result (whole body.now (reading authsys_parms body.now 0)) }
 {
-    let mut cursor = Cursor::new(body);
-    let cred = AuthSys::read(&mut cursor)?;
-    cursor.finish()?;
-    Ok(cred)
+    AuthSys::from_bytes(body)
 }
 
 /// A call whose program, version and procedure are here, by a credential.

@@ -4,8 +4,8 @@ ghost use Rattle.std.specs.Prelude.{◌↔◌, IsTrue, refl};
 ghost use Rattle.ff_xdr.specs.Proper.{is_proper, optional_is_proper};
 ghost use Rattle.ff_xdr.specs.Form.{Form, Value, Fits, spelling, Number32, Number64, Hyper, Boolean, Optional};
 ghost use Rattle.std.specs.Option.{option_map};
-ghost use Rattle.ff_xdr.specs.Reading.{reading};
-ghost use Rattle.ff_xdr.specs.Calls.{Decodes, Grows, Puts};
+ghost use Rattle.ff_xdr.specs.Reading.{reading, whole};
+ghost use Rattle.ff_xdr.specs.Calls.{Decodes, Finds, Grows, Puts};
 
 use crate::cursor::Cursor;
 use crate::error::{NoMemory, XdrError};
@@ -39,6 +39,17 @@ pub trait Wire<'a>: Message + Drop + Sized {
     /// The message has a spelling: every length is within its form's maximum.
     fn fits(&self) -> bool
         ensures { IsTrue result ↔ Fits Self.form (Self.meaning self.now) };
+
+    /// A message that is all the bytes. What is read borrows from them. A refusal names the first
+    /// byte that no message has there.
+    final fn from_bytes(bytes: &'a [u8]) -> Result<Self, XdrError>
+        ensures { Finds Self.meaning result (whole bytes.now (reading Self.form bytes.now 0)) }
+    {
+        let mut cursor = Cursor::new(bytes);
+        let message = Self::read(&mut cursor)?;
+        cursor.finish()?;
+        Ok(message)
+    }
 
     /// Appends the message's spelling, or nothing.
     final fn write(&self, out: &mut Out) -> Result<(), NoMemory>

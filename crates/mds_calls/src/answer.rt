@@ -22,9 +22,9 @@ use crate::read::read_results;
 use crate::reclaim_complete::reclaim_complete_results;
 use crate::renew::renew_results;
 use crate::reply::{MdsAnswer, MdsReply, SlotReport};
-use crate::results::{Results, odd_results, whole_message};
+use crate::results::{Results, odd_results};
 use crate::write::write_results;
-use ff_xdr::Array;
+use ff_xdr::{Array, Wire};
 use nfs4_compound::{OpRes, Tag4};
 use nfs4_file_ops::OpResult;
 use nfs4_types::Stat4;
@@ -127,7 +127,7 @@ fn odd_reply<'a>() -> MdsReply<'a>
 fn compound_reply<'a>(ask: &MdsAsk, bytes: &'a [u8]) -> MdsReply<'a>
     ensures { plain_mds_reply result ≡ compound_reply ask.now (whole bytes.now (reading compound4_res bytes.now 0)) }
 {
-    match whole_message::<CompoundRes<'a>>(bytes) {
+    match CompoundRes::from_bytes(bytes) {
         Ok((status, _, results)) => MdsReply {
             slot: slot_told(ask, results.items),
             answer: compound_answer(ask, status, results.items),

@@ -21,9 +21,9 @@ ghost use Rattle.mds_calls.specs.MdsResults.{sequence_ok};
 use crate::ops::{FLEX_FILES, Start, put_ops, sequence_op};
 use crate::renew::put_renew;
 use crate::reply::MdsAnswer;
-use crate::results::{Few, Results, few_of, odd_results, sequence_ok, whole_message};
+use crate::results::{Few, Results, few_of, odd_results, sequence_ok};
 use device_addr::{FfDeviceAddr, NetAddr, NetText, parse_universal};
-use ff_xdr::{Items, NoMemory, Out};
+use ff_xdr::{Items, NoMemory, Out, Wire};
 use nfs4_compound::{Op, OpRes};
 use nfs4_file_ops::{GetDeviceInfoArgs, GetDeviceInfoRes};
 use nfs4_types::{Bitmap, device_of};
@@ -141,7 +141,7 @@ fn first_address(addresses: Items<'_, NetText<'_>>) -> Option<NetAddr>
 fn device_address(body: &[u8]) -> Option<NetAddr>
     ensures { result ≡ device_address (whole body.now (reading ff_device_addr4 body.now 0)) }
 {
-    match whole_message::<FfDeviceAddr<'_>>(body) {
+    match FfDeviceAddr::from_bytes(body) {
         Ok(device) => first_address(device.addresses),
         Err(_) => None,
     }

@@ -10,10 +10,10 @@ ghost use Rattle.ff_layout.specs.Layout.{ff_layout4, ff_layout4_value};
 ghost use Rattle.mds_calls.specs.MdsResults.{data_server_of, layout_grant_of, granted_to, granted_mirror_of, user_number_in, one_handle, server_in, under_one};
 
 use crate::reply::LayoutGrant;
-use crate::results::{Few, few_of, whole_message};
+use crate::results::{Few, few_of};
 use cluster_model::{Cred, Mirror, MirrorId, Mirrors, Tick};
 use ff_layout::{FfDataServer, FfLayout, FfMirror, user_number};
-use ff_xdr::Items;
+use ff_xdr::{Items, Wire};
 use nfs4_types::{DeviceId, Handle4, Stateid, device_of, file_number};
 
 /// A mirror, and the user under whom it is written.
@@ -146,7 +146,7 @@ fn layout_grant_of(stateid: Stateid, layout: &FfLayout<'_>) -> Option<LayoutGran
 pub fn grant_in(stateid: Stateid, body: &[u8]) -> Option<LayoutGrant>
     ensures { result ≡ layout_grant_of stateid (whole body.now (reading ff_layout4 body.now 0)) }
 {
-    match whole_message::<FfLayout<'_>>(body) {
+    match FfLayout::from_bytes(body) {
         Ok(layout) => layout_grant_of(stateid, &layout),
         Err(_) => None,
     }

@@ -1,16 +1,14 @@
 //! The results of a compound, and which of them are OK.
 
 ghost use Rattle.std.specs.Prelude.{◌≡◌};
-ghost use Rattle.ff_xdr.specs.Calls.{Finds};
 ghost use Rattle.ff_xdr.specs.Items.{contents};
-ghost use Rattle.ff_xdr.specs.Reading.{reading, whole};
 ghost use Rattle.nfs4_compound.specs.Results.{op_res_value};
 ghost use Rattle.mds_calls.specs.MdsLists.{AreFew};
 ghost use Rattle.mds_calls.specs.MdsResults.{sequence_ok, put_fh_ok, put_root_fh_ok};
 ghost use Rattle.mds_calls.specs.MdsReplies.{odd_results, plain_mds_answer};
 
 use crate::reply::MdsAnswer;
-use ff_xdr::{Cursor, Items, Wire, XdrError};
+use ff_xdr::{Items, Wire};
 use nfs4_compound::OpRes;
 use nfs4_file_ops::OpResult;
 use nfs4_types::Stat4;
@@ -55,16 +53,6 @@ pub fn few_of<'a, T: Wire<'a> + Copy>(list: Items<'a, T>) -> Few<T>
         None => Few::Five(a, b, c, d, e),
         Some(_) => Few::More,
     }
-}
-
-/// A message that is all the bytes. A refusal names the first byte that no message has there.
-pub fn whole_message<'a, T: Wire<'a>>(bytes: &'a [u8]) -> Result<T, XdrError>
-    ensures { Finds T.meaning result (whole bytes.now (reading T.form bytes.now 0)) }
-{
-    let mut cursor = Cursor::new(bytes);
-    let message = T::read(&mut cursor)?;
-    cursor.finish()?;
-    Ok(message)
 }
 
 /// A SEQUENCE that is OK (RFC 8881, section 18.46).
