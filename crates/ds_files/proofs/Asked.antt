@@ -17,13 +17,13 @@ use Rattle.cluster_model.specs.File.{StoredFile}
 use Rattle.cluster_model.specs.Server.{ServerState, Caller, Refusal, Acces, Inval, NotSync, max_ticks, differs, write_refusal, commit_refusal, set_refusal, tick_refusal, index_of, Effect, NoEffect}
 use Rattle.cluster_model.specs.ServerLaws.{IsPermitted}
 use Rattle.cluster_model.proofs.Permitted.{stops, not_false, tick_left, write_may, commit_may, set_may}
-use Rattle.ds_files.specs.Objects.{Object, Missing, Root, File, object_of, caller_of}
-use Rattle.ds_files.specs.Lookup.{max_name}
-use Rattle.ds_files.specs.Write.{is_synced, write_plan, write_unless}
-use Rattle.ds_files.specs.Commit.{commit_plan, commit_unless}
-use Rattle.ds_files.specs.Setattr.{changes_of, tick_of, set_plan, set_unless}
-use Rattle.ds_files.specs.Create.{CreateCase, NotMade, IsThere, Makes, has_size, creation_unless, made_by, named_by, made_how, create_case, create_in, create_plan}
-use Rattle.ds_files.specs.Steps.{plan_of}
+use Rattle.ds_procedures.specs.Objects.{Object, Missing, Root, File, object_of, caller_of}
+use Rattle.ds_procedures.specs.Lookup.{max_name}
+use Rattle.ds_procedures.specs.Write.{is_synced, write_plan, write_unless}
+use Rattle.ds_procedures.specs.Commit.{commit_plan, commit_unless}
+use Rattle.ds_procedures.specs.Setattr.{changes_of, tick_of, set_plan, set_unless}
+use Rattle.ds_procedures.specs.Create.{CreateCase, NotMade, IsThere, Makes, has_size, creation_unless, made_by, named_by, made_how, create_case, create_in, create_plan}
+use Rattle.ds_procedures.specs.Steps.{plan_of}
 use Rattle.ds_files.specs.Laws.{IsAsked, AsksNothing, AsksWrite, AsksCommit, AsksSet, AsksFile}
 use Rattle.ds_files.proofs.AtObject.{at_object}
 

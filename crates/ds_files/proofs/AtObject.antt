@@ -8,7 +8,7 @@ use Rattle.nfs3_wire.specs.declared.status.Stat3.TheVariants as stat
 use Rattle.cluster_model.specs.File.{StoredFile}
 use Rattle.cluster_model.specs.Server.{Named, named}
 use Rattle.cluster_model.proofs.Permitted.{at_fileid}
-use Rattle.ds_files.specs.Objects.{Object, Missing, Root, File, object_by, object_of}
+use Rattle.ds_procedures.specs.Objects.{Object, Missing, Root, File, object_by, object_of}
 
 module _ (files : List StoredFile) (P : Object → Type 0) (missing : (status : Stat3) → P (Missing status)) (root : P Root) (file : (index : ℕ) (f : StoredFile) → slice_get files index ≡ Some f → P (File index f)) where
   pub at_object : (handle : List ℕ) → P (object_of files handle)

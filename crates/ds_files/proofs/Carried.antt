@@ -12,10 +12,11 @@ use Rattle.cluster_model.specs.File.{StoredFile, FileOp, Writes, Commits, Sets, 
 use Rattle.cluster_model.specs.Server.{max_total, max_ticks, OnFile, on_file}
 use Rattle.cluster_model.proofs.Placing.{length-overlay}
 use Rattle.cluster_model.proofs.Files.{shown-written}
-use Rattle.ds_files.specs.declared.head.Head.{Head}
-use Rattle.ds_files.specs.Heads.{IsServer, server_of}
-use Rattle.ds_files.specs.CodePlans.{HasRoom, IsReady, IsCarriedOut, head_after, clock_by}
-use Rattle.ds_files.proofs.Places.{size_le_total}
+use Rattle.ds_procedures.specs.declared.head.Head.{Head}
+use Rattle.ds_procedures.specs.Heads.{IsServer, server_of}
+use Rattle.ds_procedures.specs.CodePlans.{HasRoom, IsReady}
+use Rattle.ds_files.specs.CarriedOut.{IsCarriedOut, head_after, clock_by}
+use Rattle.ds_procedures.proofs.Places.{size_le_total}
 
 -- one file is changed: the sizes together, and the count of ticks
 pub keeps_sizes : (h : Head) (files : List StoredFile) (index : ℕ) (f file : StoredFile) (clock : Tick) → IsServer h files → f ≡ get_or files index f → index < length files

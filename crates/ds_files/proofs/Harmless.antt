@@ -15,13 +15,13 @@ use Rattle.nfs3_wire.specs.Replies.{Nfs3Reply}
 use Rattle.ds_files.specs.declared.journal.Journal.{Journal}
 use Rattle.ds_files.specs.Posts.{Acts, IsAsBefore, entries_made, outcome_made}
 use Rattle.ds_files.proofs.Journals.{none_made}
-use Rattle.ds_files.specs.Objects.{Object, caller_of}
-use Rattle.ds_files.specs.Write.{write_plan, write_unless}
-use Rattle.ds_files.specs.Commit.{commit_plan, commit_unless}
-use Rattle.ds_files.specs.Setattr.{changes_of, tick_of, set_plan, set_unless}
-use Rattle.ds_files.specs.Create.{CreateCase, NotMade, IsThere, Makes, create_case, create_in, create_plan}
-use Rattle.ds_files.specs.Plans.{Plan, Step, carried_out}
-use Rattle.ds_files.specs.Steps.{plan_of, step_of}
+use Rattle.ds_procedures.specs.Objects.{Object, caller_of}
+use Rattle.ds_procedures.specs.Write.{write_plan, write_unless}
+use Rattle.ds_procedures.specs.Commit.{commit_plan, commit_unless}
+use Rattle.ds_procedures.specs.Setattr.{changes_of, tick_of, set_plan, set_unless}
+use Rattle.ds_procedures.specs.Create.{CreateCase, NotMade, IsThere, Makes, create_case, create_in, create_plan}
+use Rattle.ds_procedures.specs.Plans.{Plan, Step, carried_out}
+use Rattle.ds_procedures.specs.Steps.{plan_of, step_of}
 use Rattle.ds_files.specs.Receive.{Received, Silent, Refused, Asked, outcome_by, outcome_of_step}
 use Rattle.ds_files.specs.Laws.{IsRefusedReply, IsQuery, HasNoEffect, IsTurnedAway}
 use Rattle.ds_files.proofs.AtObject.{at_object}

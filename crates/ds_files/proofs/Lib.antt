@@ -1,13 +1,9 @@
 pub mod Journals
-pub mod Places
-pub mod AttributesAfter
 pub mod Carried
 pub mod CallsAgain
 pub mod AtObject
-pub mod Named
 pub mod Asked
 pub mod Harmless
 pub mod Keeping
 pub mod Restarted
 pub mod Runs
-pub mod PlanLemmas

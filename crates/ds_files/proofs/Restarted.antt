@@ -8,8 +8,8 @@ use Rattle.cluster_model.specs.Content.{Content, survived, pieces_of}
 use Rattle.cluster_model.specs.File.{StoredFile, shown}
 use Rattle.data_file.specs.Kept.{crashed}
 use Rattle.data_file.proofs.Undoing.{kept_le}
-use Rattle.ds_files.specs.declared.head.Head.{Head}
-use Rattle.ds_files.specs.Heads.{IsServer}
+use Rattle.ds_procedures.specs.declared.head.Head.{Head}
+use Rattle.ds_procedures.specs.Heads.{IsServer}
 use Rattle.cluster_model.specs.Server.{total_size}
 use Rattle.cluster_model.specs.Server.{files_restarted}
 use Rattle.ds_files.specs.Kept.{disk_of, AreBounded, AreKept, all_crashed}

@@ -17,11 +17,11 @@ use Rattle.cluster_model.specs.File.{StoredFile, Writes, Commits, Sets}
 use Rattle.cluster_model.specs.Journal.{content_of}
 use Rattle.cluster_model.specs.Server.{ServerState, differs, index_of, max_boot, mirror_of, Effect, NoEffect, OnFile, NewFile}
 use Rattle.cluster_model.specs.ServerLaws.{copy_of, Turn, Does, StartsAgain, run_after, run_entries, run_ticks}
-use Rattle.ds_files.specs.Objects.{Root, File, object_of, caller_of}
-use Rattle.ds_files.specs.Write.{is_synced}
-use Rattle.ds_files.specs.Setattr.{changes_of, tick_of}
-use Rattle.ds_files.specs.Plans.{Step}
-use Rattle.ds_files.specs.Steps.{plan_of, step_of}
+use Rattle.ds_procedures.specs.Objects.{Root, File, object_of, caller_of}
+use Rattle.ds_procedures.specs.Write.{is_synced}
+use Rattle.ds_procedures.specs.Setattr.{changes_of, tick_of}
+use Rattle.ds_procedures.specs.Plans.{Step}
+use Rattle.ds_procedures.specs.Steps.{plan_of, step_of}
 use Rattle.ds_files.specs.Receive.{Received, Silent, Refused, Asked}
 
 -- a call is refused

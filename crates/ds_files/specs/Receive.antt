@@ -12,8 +12,8 @@ use Rattle.nfs3_wire.specs.Calls.{Nfs3Call, calls, call_of}
 use Rattle.nfs3_wire.specs.Replies.{nfs3_results, reply_value}
 use Rattle.cluster_model.specs.declared.entry.Entry.{Entry}
 use Rattle.cluster_model.specs.Server.{ServerState}
-use Rattle.ds_files.specs.Plans.{Step}
-use Rattle.ds_files.specs.Steps.{step_of}
+use Rattle.ds_procedures.specs.Plans.{Step}
+use Rattle.ds_procedures.specs.Steps.{step_of}
 
 -- nothing, a refusal, or a call with its credential
 pub data Received : Type 0 where

@@ -3,14 +3,13 @@
 ghost use Rattle.std.specs.Prelude.{◌≡◌, ◌+◌, ◌-◌, ◌≤◌, ◌<◌, ◌^◌, None, OnOk, OnErr, length};
 ghost use Rattle.cluster_model.specs.File.{Writes, Commits, Sets, written};
 ghost use Rattle.cluster_model.specs.Server.{OnFile, NewFile, max_total, max_file, max_ticks, index_of};
-ghost use Rattle.ds_files.specs.Heads.{IsServer};
-ghost use Rattle.ds_files.specs.CodePlans.{HasRoom, IsReady, IsCarriedOut, plain_effect, head_after};
+ghost use Rattle.ds_procedures.specs.Heads.{IsServer};
+ghost use Rattle.ds_procedures.specs.CodePlans.{IsReady, plain_effect};
+ghost use Rattle.ds_files.specs.CarriedOut.{IsCarriedOut, head_after};
 
-use crate::create::root_after;
-use crate::head::Head;
-use crate::plan::Effect;
 use cluster_model::{Changes, Tick};
 use data_file::DataFile;
+use ds_procedures::{Effect, Head, root_after};
 use ff_xdr::NoMemory;
 use std::alloc::Global;
 

@@ -7,8 +7,8 @@ ghost use Rattle.cluster_model.specs.declared.piece.Piece.{Piece};
 ghost use Rattle.cluster_model.specs.File.{StoredFile};
 ghost use Rattle.cluster_model.specs.Server.{ServerState, new_server, restart_of};
 ghost use Rattle.cluster_model.specs.ServerLaws.{IsPermitted, IsSafe, IsTimed, AreClocked, TellsOld, TellsNew, IsRestarted};
-ghost use Rattle.ds_files.specs.Objects.{caller_of};
-ghost use Rattle.ds_files.specs.Steps.{plan_of, step_of};
+ghost use Rattle.ds_procedures.specs.Objects.{caller_of};
+ghost use Rattle.ds_procedures.specs.Steps.{plan_of, step_of};
 ghost use Rattle.ds_files.specs.Laws.{IsRefusedReply, IsQuery, HasNoEffect, IsAsked, Happening, IsTimedRun, IsToldRun};
 
 /// A caller that is neither uid 0 nor the owner of a file changes nothing of it.

@@ -7,9 +7,9 @@ ghost use Rattle.nfs3_wire.specs.Replies as nfs;
 ghost use Rattle.ds_files.specs.Receive.{replies_with};
 ghost use Rattle.ds_files.specs.Records.{sent_to};
 
-use crate::answer::Response;
 use crate::receive::replies_with;
 use cluster_model::{Entry, NodeId, Outbox};
+use ds_procedures::Response;
 use ff_xdr::{Data, NoMemory, Out};
 use nfs3_wire::write_reply;
 use rpc_record::{Reply, ReplyBody};

@@ -1,8 +1,8 @@
 //! What a restart keeps, and what the files of a server have room for.
 
 use crate::tables::{Bench, pieces_of};
-use crate::write::size_refusal;
 use crate::{DataServer, RestartFault, Tick};
+use ds_procedures::size_refusal;
 use nfs3_wire::Stat3;
 use std::alloc::Global;
 use std::process::Abort;

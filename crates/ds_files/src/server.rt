@@ -4,37 +4,23 @@ ghost use Rattle.std.specs.Prelude.{◌≡◌, ◌≤◌, ◌↔◌, IfOk, OnOk,
 ghost use Rattle.rpc_record.specs.Rpc.{plain_credential};
 ghost use Rattle.nfs3_wire.specs.Calls.{plain_call};
 ghost use Rattle.cluster_model.specs.Server.{new_server, preset_server, restart_of};
-ghost use Rattle.ds_files.specs.Objects.{caller};
-ghost use Rattle.ds_files.specs.Steps.{plan_of, step_of};
-ghost use Rattle.ds_files.specs.Answer.{answer_of};
-ghost use Rattle.ds_files.specs.Heads.{IsServer, server_of};
-ghost use Rattle.ds_files.specs.CodePlans.{plain_plan, plain_effect, IsReady};
+ghost use Rattle.ds_procedures.specs.Steps.{step_of};
+ghost use Rattle.ds_procedures.specs.Answer.{answer_of};
 ghost use Rattle.ds_files.specs.Receive.{received, outcome_of, outcome_of_step};
 ghost use Rattle.ds_files.specs.Laws.{IsRefusedReply, IsTurnedAway};
 ghost use Rattle.ds_files.specs.declared.journal.Journal.TheVariants.{Absent};
 ghost use Rattle.ds_files.specs.Posts.{Acts, IsAsBefore, outcome_made};
 
-use crate::answer::Answer3;
 use crate::carry::carry_out;
-use crate::commit::commit_plan;
-use crate::create::create_plan;
-use crate::fsinfo::fsinfo_reply;
-use crate::getattr::getattr_reply;
-use crate::head::Head;
+use crate::entered::{entries_made, entries_of};
 use crate::journal::Journal;
-use crate::lookup::lookup_reply;
-use crate::names::Names;
-use crate::plan::{Plan, entries_made, entries_of, reply_alone};
-use crate::read::read_plan;
 use crate::receive::receive;
 use crate::received::Received;
 use crate::record::{encode, post, success, take_back};
 use crate::restart::restart_server;
-use crate::setattr::set_plan;
-use crate::stored::StoredReply;
-use crate::write::write_plan;
 use cluster_model::{NodeId, Outbox, Piece, Tick, Times};
 use data_file::DataFile;
+use ds_procedures::{Answer3, Head, Names, plan_of};
 use ff_xdr::NoMemory;
 use nfs3_wire::Call3;
 use rpc_record::AuthSys;
@@ -67,31 +53,6 @@ impl From<AllocError> for RestartFault {
     }
 }
 
-/// What a call by a credential comes to. Takes no memory.
-fn plan_of<'s, 'c>(
-    alloc: Global,
-    head: &Head,
-    files: &'s [DataFile],
-    call: &Call3<'c>,
-    cred: &AuthSys<'_>,
-) -> Plan<'s, 'c>
-    requires { IsServer head.now files.now }
-    ensures plan { plain_plan result ≡ plan_of (server_of head.now files.now) (plain_call call.now) (caller cred.now) }
-    ensures ready { IsReady head.now files.now (plain_effect result.effect) }
-{
-    match call {
-        Call3::Null => reply_alone(StoredReply::Null),
-        Call3::GetAttr(args) => reply_alone(getattr_reply(head, files, args)),
-        Call3::SetAttr(args) => set_plan(head, files, args, cred),
-        Call3::Lookup(args) => reply_alone(lookup_reply(head, files, args)),
-        Call3::Read(args) => read_plan(head, files, args, cred),
-        Call3::Write(args) => write_plan(head, files, args, cred),
-        Call3::Create(args) => create_plan(alloc, head, files, args, cred),
-        Call3::FsInfo(args) => reply_alone(fsinfo_reply(head, files, args)),
-        Call3::Commit(args) => commit_plan(head, files, args, cred),
-    }
-}
-
 /// A data server of NFSv3: a root and its files.
 #[derive(Drop)]
 pub struct DataServer {
@@ -102,7 +63,7 @@ pub struct DataServer {
 
 impl Model for DataServer {
     ghost use Rattle.cluster_model.specs.Server.{ServerState};
-    ghost use Rattle.ds_files.specs.Heads.{server_of, IsServer};
+    ghost use Rattle.ds_procedures.specs.Heads.{server_of, IsServer};
 
     ghost Value = { ServerState };
 

@@ -1,6 +1,6 @@
 use Rattle.cluster_model.proofs.Servers.{tells_old, tells_new}
-use Rattle.ds_files.specs.Objects.{caller_of}
-use Rattle.ds_files.specs.Steps.{plan_of}
+use Rattle.ds_procedures.specs.Objects.{caller_of}
+use Rattle.ds_procedures.specs.Steps.{plan_of}
 use Rattle.ds_files.proofs.Asked.{permitted}
 use Rattle.ds_files.proofs.Runs.{told}
 use Rattle.ds_files.proofs.laws.entries.Goals as goal

@@ -1,6 +1,6 @@
 use Rattle.cluster_model.proofs.Servers.{timed, clocked}
-use Rattle.ds_files.specs.Objects.{caller_of}
-use Rattle.ds_files.specs.Steps.{plan_of}
+use Rattle.ds_procedures.specs.Objects.{caller_of}
+use Rattle.ds_procedures.specs.Steps.{plan_of}
 use Rattle.ds_files.proofs.Asked.{permitted}
 use Rattle.ds_files.proofs.Runs.{rising}
 use Rattle.ds_files.proofs.laws.ticks.Goals as goal

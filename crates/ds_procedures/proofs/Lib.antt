@@ -1,0 +1,4 @@
+pub mod Places
+pub mod AttributesAfter
+pub mod Named
+pub mod PlanLemmas

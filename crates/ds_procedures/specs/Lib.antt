@@ -1,0 +1,14 @@
+pub mod Objects
+pub mod Plans
+pub mod Getattr
+pub mod Setattr
+pub mod Lookup
+pub mod Read
+pub mod Write
+pub mod Create
+pub mod Fsinfo
+pub mod Commit
+pub mod Steps
+pub mod Answer
+pub mod Heads
+pub mod CodePlans
