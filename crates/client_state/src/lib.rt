@@ -24,5 +24,3 @@ pub use state::State;
 pub use tie::{OwnSession, Tie};
 pub use untold::Untold;
 
-#[cfg(test)]
-mod tests;

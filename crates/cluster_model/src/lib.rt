@@ -13,8 +13,6 @@ mod laws;
 mod layout_state;
 mod mirror_ids;
 mod mirrors;
-#[cfg(test)]
-mod mirrors_tests;
 mod outbox;
 mod phase;
 mod piece;

@@ -5,8 +5,6 @@
 mod file;
 mod keeping;
 mod overlay;
-#[cfg(test)]
-mod tests;
 mod undo;
 
 pub use file::{DataFile, MAX_FILE};

@@ -7,8 +7,6 @@ mod laws;
 mod net_addr;
 mod net_text;
 mod table;
-#[cfg(test)]
-mod tests;
 mod version;
 
 pub use device::FfDeviceAddr;

@@ -12,8 +12,6 @@ mod read;
 mod reply;
 mod setattr;
 mod shown;
-#[cfg(test)]
-mod tests;
 mod write;
 
 pub use call::{fits, put_ds_call};

@@ -16,11 +16,3 @@ pub use ds_procedures::Answer3;
 pub use laws::{effects, entries, refusals, restarts, strangers, ticks};
 pub use server::{DataServer, RestartFault};
 
-#[cfg(test)]
-mod meta_tests;
-#[cfg(test)]
-mod restart_tests;
-#[cfg(test)]
-mod tables;
-#[cfg(test)]
-mod tests;

@@ -126,14 +126,6 @@ impl DataServer {
         Ok(DataServer { alloc, head, files })
     }
 
-    /// As `preset`, with one tick left.
-    #[cfg(test)]
-    pub(crate) fn at_last_tick(alloc: Global) -> Result<DataServer, NoMemory> {
-        let mut server = DataServer::preset(alloc)?;
-        server.head.clock.count = 999_999_998;
-        Ok(server)
-    }
-
     /// Does a call by a credential, by the rule of a data server. Refusals are answers, and change
     /// nothing. At an error nothing has changed.
     pub fn apply(&mut self, call: &Call3<'_>, cred: &AuthSys<'_>) -> Result<Answer3, NoMemory>

@@ -5,8 +5,6 @@
 mod call;
 mod fence;
 mod mirror;
-#[cfg(test)]
-mod tests;
 
 pub use cluster_model::FenceStep;
 pub use fence::Fence;

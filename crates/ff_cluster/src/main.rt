@@ -2,11 +2,7 @@
 #![tactic(auto)]
 
 pub mod run;
-#[cfg(test)]
-mod run_tests;
 pub mod serve;
-#[cfg(test)]
-mod serve_tests;
 
 use ff_node::TcpLink;
 use rpc_record::{StdSink, StdSource};

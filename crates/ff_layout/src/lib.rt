@@ -11,8 +11,6 @@ mod laws;
 mod layout;
 mod mirror;
 mod return_body;
-#[cfg(test)]
-mod tests;
 mod user;
 
 pub use data_server::FfDataServer;

@@ -8,8 +8,6 @@ mod node;
 mod serve;
 mod sure_link;
 mod tcp_link;
-#[cfg(test)]
-mod tests;
 
 pub use config::{Config, ConfigFault, MAX_LINE, read_config};
 pub use link::{Arrival, Link, Opening, Role};

@@ -3,8 +3,6 @@
 
 mod player;
 mod script;
-#[cfg(test)]
-mod tests;
 mod writing;
 
 pub use script::replay;

@@ -4,8 +4,6 @@
 mod fault;
 mod journal;
 mod packets;
-#[cfg(test)]
-mod tests;
 mod world;
 
 pub use fault::WorldFault;

@@ -100,14 +100,6 @@ impl World {
         })
     }
 
-    /// As `new` of a bare script, with these entries in the journal.
-    #[cfg(test)]
-    pub(crate) fn holding(alloc: Global, entries: Vec<Entry>) -> Result<World, WorldFault> {
-        let mut world = World::new(alloc, Setup::Bare)?;
-        world.enter(0, entries)?;
-        Ok(world)
-    }
-
     /// The setup.
     pub fn setup(&self) -> Setup
         ensures { result ≡ self.now.world.setup }

@@ -12,8 +12,6 @@ mod parts;
 mod place;
 mod refusal_laws;
 mod slices;
-#[cfg(test)]
-mod tests;
 mod text;
 mod wire;
 

@@ -6,8 +6,6 @@ mod lines;
 mod lists;
 mod print;
 mod print_law;
-#[cfg(test)]
-mod print_tests;
 mod texts;
 
 pub use print::put_entry;

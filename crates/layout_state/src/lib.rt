@@ -3,8 +3,6 @@
 
 mod file_state;
 mod grant;
-#[cfg(test)]
-mod tests;
 
 pub use file_state::FileState;
 pub use grant::{Grant, GrantFault, ReturnFault};

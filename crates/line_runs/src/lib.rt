@@ -5,11 +5,7 @@
 mod end;
 mod lines;
 mod lines_law;
-#[cfg(test)]
-mod lines_tests;
 mod playback;
-#[cfg(test)]
-mod run_tests;
 mod task;
 mod writing;
 

@@ -22,8 +22,6 @@ mod record;
 mod renew;
 mod reply;
 mod results;
-#[cfg(test)]
-mod tests;
 mod write;
 
 pub use answer::mds_reply_of;

@@ -3,22 +3,10 @@
 
 mod client;
 mod events;
-#[cfg(test)]
-mod form_tests;
 mod late;
-#[cfg(test)]
-mod mirror_tests;
-#[cfg(test)]
-mod recall_tests;
 mod receive;
-#[cfg(test)]
-mod refusal_tests;
 mod replies;
 mod rogue;
-#[cfg(test)]
-mod talk;
-#[cfg(test)]
-mod tests;
 mod worked;
 
 pub use client::Client;

@@ -10,8 +10,6 @@ mod mirror;
 mod mirrors;
 mod outstanding;
 mod step;
-#[cfg(test)]
-mod tests;
 mod write_bytes;
 mod writer;
 

@@ -3,8 +3,6 @@
 
 mod attributes;
 mod call;
-#[cfg(test)]
-mod call_tests;
 mod commit;
 mod create;
 mod file_type;
@@ -17,14 +15,10 @@ mod outcome;
 mod procedures;
 mod read;
 mod reply;
-#[cfg(test)]
-mod reply_tests;
 mod sattr;
 mod setattr;
 mod stable_how;
 mod status;
-#[cfg(test)]
-mod tests;
 mod wcc;
 mod write;
 

@@ -20,8 +20,6 @@ mod sequence;
 mod session;
 mod sessions;
 mod slot;
-#[cfg(test)]
-mod tests;
 
 pub use back::BackCall;
 pub use begin::{Begin, SlotPass};

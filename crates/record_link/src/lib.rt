@@ -11,8 +11,6 @@ mod outgoing;
 mod peer;
 mod rank;
 mod stream;
-#[cfg(test)]
-mod tests;
 
 pub use connection::Connection;
 pub use connections::{Connections, MAX_CONNECTIONS};

@@ -7,8 +7,6 @@ mod memory_network;
 mod network;
 mod readiness;
 mod server;
-#[cfg(test)]
-mod tests;
 
 pub use laws::{calls_law, server_law};
 pub use memory_network::MemoryNetwork;

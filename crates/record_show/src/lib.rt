@@ -1,8 +1,6 @@
 //! What records are, a line for each.
 #![tactic(auto)]
 
-#[cfg(test)]
-mod show_tests;
 mod shower;
 
 pub use shower::show;

@@ -3,8 +3,6 @@
 
 mod network;
 mod socket;
-#[cfg(test)]
-mod tests;
 
 pub use network::TcpNetwork;
 pub use socket::Socket;

@@ -6,8 +6,6 @@ mod auth_wire;
 mod call;
 mod call_wire;
 mod frame_law;
-#[cfg(test)]
-mod frame_tests;
 mod frames;
 mod laws;
 mod memory;
@@ -15,12 +13,8 @@ mod reply;
 mod reply_arms;
 mod reply_wire;
 mod standard;
-#[cfg(test)]
-mod standard_tests;
 mod stream;
 mod sure;
-#[cfg(test)]
-mod tests;
 
 pub use auth::{AUTH_NONE, AUTH_SYS, Auth, AuthSys, MAX_BODY};
 pub use call::{Call, CallFault};
