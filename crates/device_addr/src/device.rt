@@ -7,7 +7,7 @@ use crate::{FfVersion, NetText};
 use ff_xdr::{Array, Cursor, Items, Message, NoMemory, Out, Wire, XdrError};
 
 /// Where a device is found and what it speaks, `ff_device_addr4` (RFC 8435, section 4.1).
-#[derive(Clone, Copy)]
+#[derive(Clone, Copy, Debug)]
 pub struct FfDeviceAddr<'a> {
     /// The device's addresses, each of which leads to it; at most 2^32 - 1.
     pub addresses: Items<'a, NetText<'a>>,

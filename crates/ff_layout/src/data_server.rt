@@ -7,7 +7,7 @@ use ff_xdr::{Array, Cursor, Items, Message, NoMemory, Out, Wire, XdrError};
 use nfs4_types::{DeviceId, FreeText, Handle4, Stateid};
 
 /// A data server, and the file on it, `ff_data_server4` (RFC 8435, section 5.1).
-#[derive(Clone, Copy)]
+#[derive(Clone, Copy, Debug)]
 pub struct FfDataServer<'a> {
     pub device: DeviceId,
     /// How well the server serves, against the other mirrors: any number, the higher the better.

@@ -8,7 +8,7 @@ use ff_xdr::{Array, Cursor, Items, Message, NoMemory, Out, Wire, XdrError};
 use nfs4_types::Stateid;
 
 /// The errors that a client met at a part of a file, `ff_ioerr4` (RFC 8435, section 9.1.1).
-#[derive(Clone, Copy)]
+#[derive(Clone, Copy, Debug)]
 pub struct IoErr<'a> {
     /// From which byte on.
     pub offset: u64,

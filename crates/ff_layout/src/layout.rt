@@ -7,7 +7,7 @@ use crate::FfMirror;
 use ff_xdr::{Array, Cursor, Items, Message, NoMemory, Out, Wire, XdrError};
 
 /// The body of a layout of type 4, flexible files, `ff_layout4` (RFC 8435, section 5.1).
-#[derive(Clone, Copy)]
+#[derive(Clone, Copy, Debug)]
 pub struct FfLayout<'a> {
     /// How many bytes of the file stand on one data server of a mirror before the next server's turn.
     pub stripe_unit: u64,

@@ -7,7 +7,7 @@ use crate::FfDataServer;
 use ff_xdr::{Array, Cursor, Items, Message, NoMemory, Out, Wire, XdrError};
 
 /// A mirror, `ff_mirror4` (RFC 8435, section 5.1).
-#[derive(Clone, Copy)]
+#[derive(Clone, Copy, Debug)]
 pub struct FfMirror<'a> {
     /// The servers that the mirror is striped over, in the order of its stripes; at most 2^32 - 1.
     pub servers: Items<'a, FfDataServer<'a>>,

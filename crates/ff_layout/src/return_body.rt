@@ -8,7 +8,7 @@ use ff_xdr::{Array, Cursor, Items, Message, NoMemory, Out, Wire, XdrError};
 
 /// The body of a LAYOUTRETURN, `ff_layoutreturn4` (RFC 8435, section 9.3). Where nothing is reported
 /// both lists are empty.
-#[derive(Clone, Copy)]
+#[derive(Clone, Copy, Debug)]
 pub struct LayoutReturnBody<'a> {
     /// At most 2^32 - 1.
     pub errors: Items<'a, IoErr<'a>>,

@@ -11,6 +11,7 @@ use crate::items::Items;
 use crate::out::Out;
 use crate::wire::{Message, Wire};
 use std::alloc::AllocError;
+use std::fmt;
 
 /// Opaque data of at most `MAX` bytes (RFC 4506, section 4.10).
 #[derive(Clone, Copy, Debug, PartialEq, Eq)]
@@ -88,6 +89,12 @@ impl<'a, T: Message, const MAX: u32> Clone for Array<'a, T, MAX> {
 }
 
 impl<'a, T: Message, const MAX: u32> Copy for Array<'a, T, MAX> {}
+
+impl<'a, T: Wire<'a> + Copy + fmt::Debug, const MAX: u32> fmt::Debug for Array<'a, T, MAX> {
+    fn fmt<W: fmt::Write>(&self, f: &mut fmt::Formatter<W>) -> fmt::Result {
+        self.items.fmt(f)
+    }
+}
 
 impl<'a, T: Message, const MAX: u32> Message for Array<'a, T, MAX> {
     ghost form = { forms.Array (word_max MAX) T.form };

@@ -15,6 +15,7 @@ use crate::out::Out;
 use crate::place::ItemsPlace;
 use crate::wire::{Message, Wire};
 use std::alloc::AllocError;
+use std::fmt;
 
 /// A list of values: a slice whose form was checked in reading, or values that were handed in.
 pub struct Items<'a, T: Message> {
@@ -115,6 +116,12 @@ impl<'a, T: Wire<'a> + Copy> Items<'a, T> {
             }
         }
         true
+    }
+}
+
+impl<'a, T: Wire<'a> + Copy + fmt::Debug> fmt::Debug for Items<'a, T> {
+    fn fmt<W: fmt::Write>(&self, f: &mut fmt::Formatter<W>) -> fmt::Result {
+        f.debug_list().entries(self.items()).finish()
     }
 }
 

@@ -13,7 +13,7 @@ use crate::{
 use ff_xdr::{Cursor, NoMemory, Out, Wire, XdrError};
 
 /// A call of a procedure that is built.
-#[derive(Clone, Copy, PartialEq, Eq)]
+#[derive(Clone, Copy, Debug, PartialEq, Eq)]
 pub enum Call3<'a> {
     /// Do nothing (RFC 1813, section 3.3.0).
     Null,

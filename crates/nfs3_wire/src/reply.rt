@@ -14,7 +14,7 @@ use crate::{
 use ff_xdr::{Cursor, NoMemory, Out, Wire, XdrError};
 
 /// The result of a procedure that is built.
-#[derive(Clone, Copy, PartialEq, Eq)]
+#[derive(Clone, Copy, Debug, PartialEq, Eq)]
 pub enum Reply3<'a> {
     /// Nothing (RFC 1813, section 3.3.0).
     Null,

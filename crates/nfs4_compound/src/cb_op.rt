@@ -14,7 +14,7 @@ use nfs4_session_ops::CbSequenceArgs;
 
 /// An operation of a callback compound, with its arguments, `nfs_cb_argop4` (RFC 8881, section 20.2). A
 /// number that is not built is refused as `NotEnum`.
-#[derive(Clone, Copy)]
+#[derive(Clone, Copy, Debug)]
 pub enum CbOp<'a> {
     /// RFC 8881, section 20.3.
     LayoutRecall(CbLayoutRecallArgs<'a>),

@@ -24,7 +24,7 @@ pub fn is_built_cb_op(number: u32) -> bool
 }
 
 /// The result of an operation of a callback compound, `nfs_cb_resop4` (RFC 8881, section 20.2).
-#[derive(Clone, Copy)]
+#[derive(Clone, Copy, Debug)]
 pub enum CbRes {
     /// RFC 8881, section 20.3.
     LayoutRecall(CbLayoutRecallRes),

@@ -30,7 +30,7 @@ pub fn is_built_op(number: u32) -> bool
 }
 
 /// The result of an operation, `nfs_resop4` (RFC 8881, section 16.2.3).
-#[derive(Clone, Copy)]
+#[derive(Clone, Copy, Debug)]
 pub enum OpRes<'a> {
     /// RFC 8881, section 18.2.
     Close(CloseRes),

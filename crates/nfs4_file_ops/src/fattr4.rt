@@ -8,7 +8,7 @@ use ff_xdr::{Cursor, Message, NoMemory, Out, Wire, XdrError};
 use nfs4_types::Bitmap;
 
 /// Attributes, `fattr4`.
-#[derive(Clone, Copy)]
+#[derive(Clone, Copy, Debug)]
 pub struct Fattr4<'a> {
     /// Which attributes there are.
     pub mask: Bitmap<'a>,

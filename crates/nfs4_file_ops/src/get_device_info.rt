@@ -8,7 +8,7 @@ use ff_xdr::{Cursor, Message, NoMemory, Out, Wire, XdrError};
 use nfs4_types::{Bitmap, DeviceId, Refusal4, Stat4};
 
 /// The arguments, `GETDEVICEINFO4args`.
-#[derive(Clone, Copy)]
+#[derive(Clone, Copy, Debug)]
 pub struct GetDeviceInfoArgs<'a> {
     pub device: DeviceId,
     /// 4 for flexible files (RFC 8435).
@@ -57,7 +57,7 @@ impl<'a> Wire<'a> for GetDeviceInfoArgs<'a> {
 }
 
 /// The result of a GETDEVICEINFO that was done, `GETDEVICEINFO4resok`.
-#[derive(Clone, Copy)]
+#[derive(Clone, Copy, Debug)]
 pub struct GetDeviceInfoOk<'a> {
     pub layout_type: u32,
     /// The address, in a form of the layout type's own.
@@ -93,7 +93,7 @@ impl<'a> Wire<'a> for GetDeviceInfoOk<'a> {
 }
 
 /// The result, a union by its status, `GETDEVICEINFO4res`.
-#[derive(Clone, Copy)]
+#[derive(Clone, Copy, Debug)]
 pub enum GetDeviceInfoRes<'a> {
     Done(GetDeviceInfoOk<'a>),
     /// NFS4ERR_TOOSMALL, and the maxcount that would do.

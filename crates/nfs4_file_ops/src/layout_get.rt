@@ -78,7 +78,7 @@ impl<'a> Wire<'a> for LayoutGetArgs {
 }
 
 /// The result of a LAYOUTGET that was done, `LAYOUTGET4resok`.
-#[derive(Clone, Copy)]
+#[derive(Clone, Copy, Debug)]
 pub struct LayoutGetOk<'a> {
     pub return_on_close: bool,
     pub stateid: Stateid,
@@ -113,7 +113,7 @@ impl<'a> Wire<'a> for LayoutGetOk<'a> {
 }
 
 /// The result, a union by its status, `LAYOUTGET4res`.
-#[derive(Clone, Copy)]
+#[derive(Clone, Copy, Debug)]
 pub enum LayoutGetRes<'a> {
     Done(LayoutGetOk<'a>),
     /// NFS4ERR_LAYOUTTRYLATER, and whether word will come when the layout is to be had.

@@ -8,7 +8,7 @@ use ff_xdr::{Cursor, Message, NoMemory, Out, Wire, XdrError};
 use nfs4_types::{Bitmap, Stateid};
 
 /// The arguments, `OPEN4args`.
-#[derive(Clone, Copy)]
+#[derive(Clone, Copy, Debug)]
 pub struct OpenArgs<'a> {
     /// Not used in NFSv4.1.
     pub seqid: u32,
@@ -74,7 +74,7 @@ impl<'a> Wire<'a> for OpenArgs<'a> {
 }
 
 /// The result of an OPEN that was done, `OPEN4resok`.
-#[derive(Clone, Copy)]
+#[derive(Clone, Copy, Debug)]
 pub struct OpenOk<'a> {
     pub stateid: Stateid,
     /// The two numbers are of the moments just before and after.

@@ -8,7 +8,7 @@ use ff_xdr::{Cursor, Message, NoMemory, Out, Wire, XdrError};
 
 /// How an OPEN creates its file, a union by the mode, `createhow4`. EXCLUSIVE4 and EXCLUSIVE4_1 are not
 /// built.
-#[derive(Clone, Copy)]
+#[derive(Clone, Copy, Debug)]
 pub enum CreateHow4<'a> {
     /// Whether or not there is a file of this name.
     Unchecked(Fattr4<'a>),
@@ -52,7 +52,7 @@ impl<'a> Wire<'a> for CreateHow4<'a> {
 }
 
 /// Whether an OPEN creates its file, a union by the opentype, `openflag4`.
-#[derive(Clone, Copy)]
+#[derive(Clone, Copy, Debug)]
 pub enum OpenHow<'a> {
     /// OPEN4_NOCREATE.
     NoCreate,

@@ -8,7 +8,7 @@ use rpc_record::AuthSys;
 
 /// How the server is to name itself in callbacks, a union by the flavor, `callback_sec_parms4`. GSS is not
 /// built.
-#[derive(Clone, Copy)]
+#[derive(Clone, Copy, Debug)]
 pub enum CallbackSec<'a> {
     /// AUTH_NONE.
     None,

@@ -9,7 +9,7 @@ use nfs4_file_ops::OpResult;
 use nfs4_types::SessionId;
 
 /// The arguments, `CB_SEQUENCE4args`.
-#[derive(Clone, Copy)]
+#[derive(Clone, Copy, Debug)]
 pub struct CbSequenceArgs<'a> {
     pub session: SessionId,
     /// The number of the callback on its slot, from 1.

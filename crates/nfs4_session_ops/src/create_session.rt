@@ -9,7 +9,7 @@ use nfs4_file_ops::OpResult;
 use nfs4_types::{ChannelAttrs, SessionId};
 
 /// The arguments, `CREATE_SESSION4args`.
-#[derive(Clone, Copy)]
+#[derive(Clone, Copy, Debug)]
 pub struct CreateSessionArgs<'a> {
     /// The client, from EXCHANGE_ID.
     pub clientid: u64,

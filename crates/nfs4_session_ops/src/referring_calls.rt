@@ -8,7 +8,7 @@ use ff_xdr::{Array, Cursor, Message, NoMemory, Out, Wire, XdrError};
 use nfs4_types::SessionId;
 
 /// The calls of one session that a callback refers to, `referring_call_list4`.
-#[derive(Clone, Copy)]
+#[derive(Clone, Copy, Debug)]
 pub struct ReferringCalls<'a> {
     pub session: SessionId,
     pub calls: Array<'a, ReferringCall, { u32::MAX }>,

@@ -7,7 +7,7 @@ use ff_xdr::{Array, Cursor, Items, Message, NoMemory, Out, Wire, XdrError};
 
 /// A set of numbers, `bitmap4` (RFC 8881, section 3.2): number `n` is in it where word `n / 32` has
 /// the bit of value `2 ^ (n % 32)`.
-#[derive(Clone, Copy)]
+#[derive(Clone, Copy, Debug)]
 pub struct Bitmap<'a> {
     pub words: Items<'a, u32>,
 }

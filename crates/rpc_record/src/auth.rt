@@ -20,7 +20,7 @@ pub struct Auth<'a> {
 }
 
 /// A user and its groups, `authsys_parms` (RFC 5531, appendix A).
-#[derive(Clone, Copy)]
+#[derive(Clone, Copy, Debug)]
 pub struct AuthSys<'a> {
     pub stamp: u32,
     /// The caller's machine, at most 255 bytes.
