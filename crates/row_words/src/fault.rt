@@ -1,0 +1,34 @@
+//! Why a row has no answer.
+
+use ff_xdr::NoMemory;
+use std::alloc::{AllocError, AllocFailed};
+use thiserror::Error;
+
+/// Why a line has no answer.
+#[derive(Clone, Copy, Debug, PartialEq, Eq, Error)]
+pub enum RowFault {
+    /// It is out of form, or its call may not be made now.
+    #[error("no call in its form, or none that may be made now")]
+    Outside,
+    /// Memory was wanted.
+    #[error("no memory")]
+    NoMemory,
+}
+
+impl From<AllocError> for RowFault {
+    fn from(_: AllocError) -> RowFault {
+        RowFault::NoMemory
+    }
+}
+
+impl<T: Drop> From<AllocFailed<T>> for RowFault {
+    fn from(_: AllocFailed<T>) -> RowFault {
+        RowFault::NoMemory
+    }
+}
+
+impl From<NoMemory> for RowFault {
+    fn from(_: NoMemory) -> RowFault {
+        RowFault::NoMemory
+    }
+}
