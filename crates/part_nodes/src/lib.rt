@@ -3,8 +3,11 @@
 
 mod apply;
 mod client;
+mod data_file;
 mod outbox;
+mod pieces;
 mod server;
 
 pub use client::ClientRows;
+pub use data_file::DataFileRows;
 pub use server::ServerRows;

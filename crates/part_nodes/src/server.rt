@@ -7,10 +7,11 @@
 
 use crate::apply::put_applied;
 use crate::outbox::put_outbox;
-use cluster_model::{Outbox, Piece, Tick};
+use crate::pieces::pieces;
+use cluster_model::{Outbox, Tick};
 use ds_files::{DataServer, RestartFault};
 use ds_procedures::size_refusal;
-use row_words::{Answer, Part, RowFault, Words, number32, number64};
+use row_words::{Answer, Part, RowFault, Words};
 use std::alloc::Global;
 
 /// The most ticks of a boot.
@@ -57,31 +58,6 @@ impl ServerRows {
             _ => Ok(None),
         }
     }
-}
-
-/// A piece of a pending write.
-fn piece_of(word: &str) -> Result<Piece, RowFault> {
-    let (fileid, rest) = word.split_once(":").ok_or(RowFault::Outside)?;
-    let (index, rest) = rest.split_once(":").ok_or(RowFault::Outside)?;
-    let (from, count) = rest.split_once(":").ok_or(RowFault::Outside)?;
-    Ok(Piece {
-        fileid: number64(fileid)?,
-        index: number32(index)?,
-        from: number32(from)?,
-        count: number32(count)?,
-    })
-}
-
-fn pieces(words: &mut Words<'_>) -> Result<Vec<Piece>, RowFault> {
-    let mut pieces = Vec::new(words.alloc());
-    let word = words.word()?;
-    if word == "-" {
-        return Ok(pieces);
-    }
-    for item in word.split(',') {
-        pieces.push(piece_of(item)?)?;
-    }
-    Ok(pieces)
 }
 
 fn put_restart(

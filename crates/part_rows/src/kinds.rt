@@ -1,6 +1,6 @@
 //! The kinds of parts.
 
-use part_nodes::{ClientRows, ServerRows};
+use part_nodes::{ClientRows, DataFileRows, ServerRows};
 use part_state::{
     CbSlotRows, ExtentsRows, FenceRows, FileStateRows, MirrorsRows, SessionsRows, WriterRows,
 };
@@ -12,6 +12,7 @@ use std::alloc::Global;
 pub enum AnyPart {
     CbSlot(CbSlotRows),
     Client(ClientRows),
+    DataFile(DataFileRows),
     Extents(ExtentsRows),
     Fence(FenceRows),
     FileState(FileStateRows),
@@ -27,6 +28,7 @@ impl AnyPart {
         match kind {
             "cbslot" => Some(AnyPart::CbSlot(CbSlotRows::new())),
             "client" => Some(AnyPart::Client(ClientRows::new(alloc))),
+            "datafile" => Some(AnyPart::DataFile(DataFileRows::new(alloc))),
             "extents" => Some(AnyPart::Extents(ExtentsRows::new(alloc))),
             "fence" => Some(AnyPart::Fence(FenceRows::new())),
             "filestate" => Some(AnyPart::FileState(FileStateRows::new())),
@@ -44,6 +46,7 @@ impl Part for AnyPart {
         match self {
             AnyPart::CbSlot(part) => part.call(words, answer),
             AnyPart::Client(part) => part.call(words, answer),
+            AnyPart::DataFile(part) => part.call(words, answer),
             AnyPart::Extents(part) => part.call(words, answer),
             AnyPart::Fence(part) => part.call(words, answer),
             AnyPart::FileState(part) => part.call(words, answer),

@@ -9,12 +9,14 @@
 //! A line of a conversation is an event or, behind it, what must come of it:
 //!
 //! - `< NODE WORDS`: a record comes from this node;
-//! - any other words are a call as rows have it, where `'AB` stands for the bytes of a text;
+//! - any other words are a call as rows have it;
 //! - `* LINE`: an entry of the journal, as the trace prints it; `> NODE WORDS`: a record for this node; `= ANSWER`: the
 //!   whole answer, as it stands. Where no such line follows, nothing must come.
 //!
-//! A word of a record is a name, `#7` for a number in decimal, `'AB` for a text with its length and its padding, `*8`
-//! for so many zero bytes, `:0a0b` for bytes, or else a number in hexadecimal: four bytes each.
+//! A word of a record is a name, `#7` for a number in decimal, `'AB` for a text with its length and its padding, `1.2`
+//! for a time's seconds and nanoseconds, `*8` for so many zero bytes, `:0a0b` for bytes, or else a number in
+//! hexadecimal: four bytes each. In calls, entries and answers `(WORDS)` stands for the bytes of a record's words, a
+//! word `'AB` for the bytes of a text, and `0a*3` for the same bytes three times, all in hexadecimal.
 //! An empty line and one that begins with `#` say nothing.
 #![tactic(auto)]
 

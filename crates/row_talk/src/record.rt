@@ -66,6 +66,11 @@ fn push_word(alloc: Global, word: &str, bytes: &mut Vec<u8>) -> Result<(), RowFa
     if let Some(digits) = word.strip_prefix(":") {
         return push_bytes(alloc, digits, bytes);
     }
+    if let Some((seconds, nanos)) = word.split_once(".") {
+        bytes.extend_from_slice(&number32(seconds)?.to_be_bytes())?;
+        bytes.extend_from_slice(&number32(nanos)?.to_be_bytes())?;
+        return Ok(());
+    }
     let number = match word.strip_prefix("#") {
         Some(digits) => number32(digits)?,
         None => u32::from_str_radix(word, 16).ok().ok_or(RowFault::Outside)?,
@@ -97,6 +102,17 @@ fn push_named<'x>(
     Ok(())
 }
 
+/// The bytes of a record's words, in hexadecimal.
+fn digits<'x>(alloc: Global, names: &'x [Name<'x>], words: &'x str) -> Result<String, RowFault> {
+    let mut bytes = Vec::new(alloc);
+    for word in words.split_whitespace() {
+        push_named(alloc, names, word, &mut bytes)?;
+    }
+    let mut answer = Answer::new(alloc);
+    answer.bytes(&bytes)?;
+    Ok(answer.into_text())
+}
+
 /// A node and a record's words, as `NODE HEX` behind this word.
 pub fn record_words<'x>(
     alloc: Global,
@@ -105,25 +121,54 @@ pub fn record_words<'x>(
     row: &'x str,
 ) -> Result<String, RowFault> {
     let (node, words) = row.split_once(" ").unwrap_or((row, ""));
-    let mut bytes = Vec::new(alloc);
-    for word in words.split_whitespace() {
-        push_named(alloc, names, word, &mut bytes)?;
-    }
+    let digits = digits(alloc, names, words)?;
     let mut answer = Answer::new(alloc);
     answer.word(front)?;
     answer.word(node)?;
-    answer.bytes(&bytes)?;
+    answer.word(digits.as_str())?;
     Ok(answer.into_text())
 }
 
-/// A call's words, where `'AB` stands for the bytes of a text.
-pub fn call_words(alloc: Global, line: &str) -> Result<String, RowFault> {
+/// A text whose part in parentheses, if it has one, are a record's words, which are replaced by their bytes in
+/// hexadecimal.
+fn unfolded<'x>(alloc: Global, names: &'x [Name<'x>], line: &'x str) -> Result<String, RowFault> {
+    let mut text = String::new(alloc);
+    let Some((front, rest)) = line.split_once("(") else {
+        text.push_str(line)?;
+        return Ok(text);
+    };
+    let (words, back) = rest.split_once(")").ok_or(RowFault::Outside)?;
+    text.push_str(front)?;
+    text.push_str(digits(alloc, names, words)?.as_str())?;
+    text.push_str(back)?;
+    Ok(text)
+}
+
+/// Appends a word of a call or an entry: `'AB` stands for the bytes of a text, and `0a*3` for the same bytes three times.
+fn put_word(word: &str, answer: &mut Answer) -> Result<(), RowFault> {
+    if let Some(text) = word.strip_prefix("'") {
+        return answer.bytes(text.as_bytes());
+    }
+    let Some((digits, count)) = word.split_once("*") else {
+        return answer.word(word);
+    };
+    answer.word("")?;
+    for _ in 0..number32(count)? {
+        answer.push(digits)?;
+    }
+    Ok(())
+}
+
+/// The words of a call, of an answer or of an entry, as rows have them.
+pub fn row_words<'x>(
+    alloc: Global,
+    names: &'x [Name<'x>],
+    line: &'x str,
+) -> Result<String, RowFault> {
+    let line = unfolded(alloc, names, line)?;
     let mut answer = Answer::new(alloc);
-    for word in line.split(' ') {
-        match word.strip_prefix("'") {
-            Some(text) => answer.bytes(text.as_bytes())?,
-            None => answer.word(word)?,
-        }
+    for word in line.as_str().split(' ') {
+        put_word(word, &mut answer)?;
     }
     Ok(answer.into_text())
 }

@@ -1,6 +1,6 @@
 //! The rows of a text of conversations.
 
-use crate::record::{Name, call_words, record_words};
+use crate::record::{Name, record_words, row_words};
 use row_words::RowFault;
 use std::alloc::Global;
 
@@ -154,14 +154,14 @@ impl<'a> Talk<'a> {
             return want(record.as_str(), rows);
         }
         if let Some(entry) = line.strip_prefix("* ") {
-            return want(entry, rows);
+            return want(row_words(self.alloc, &self.names, entry)?.as_str(), rows);
         }
         if let Some(answer) = line.strip_prefix("= ") {
-            return want_whole(answer, rows);
+            return want_whole(row_words(self.alloc, &self.names, answer)?.as_str(), rows);
         }
         let call = match line.strip_prefix("< ") {
             Some(row) => record_words(self.alloc, &self.names, "record", row)?,
-            None => call_words(self.alloc, line)?,
+            None => row_words(self.alloc, &self.names, line)?,
         };
         self.add(place, call.as_str(), "-", rows)
     }

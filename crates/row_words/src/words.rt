@@ -4,6 +4,21 @@ use crate::fault::RowFault;
 use crate::numbers::{number32, number64};
 use std::alloc::Global;
 
+/// The bytes that a word writes.
+fn bytes_of(alloc: Global, word: &str) -> Result<Vec<u8>, RowFault> {
+    if word == "-" {
+        return Ok(Vec::new(alloc));
+    }
+    if word.as_bytes().iter().any(|byte| byte.is_ascii_uppercase()) {
+        return Err(RowFault::Outside);
+    }
+    match hex::decode(alloc, word) {
+        Ok(bytes) => Ok(bytes),
+        Err(hex::FromHexError::OutOfMemory) => Err(RowFault::NoMemory),
+        Err(_) => Err(RowFault::Outside),
+    }
+}
+
 /// The words of a line that are still to be read, one blank between two of them.
 #[derive(Drop)]
 pub struct Words<'a> {
@@ -81,20 +96,18 @@ impl<'a> Words<'a> {
         }
     }
 
-    /// Bytes in pairs of lower case hexadecimal digits; `-` is none.
+    /// Bytes in pairs of lower case hexadecimal digits, `-` for none; `0a*3` stands for the same bytes three times.
     pub fn bytes(&mut self) -> Result<Vec<u8>, RowFault> {
         let word = self.word()?;
-        if word == "-" {
-            return Ok(Vec::new(self.alloc));
+        let Some((digits, count)) = word.split_once("*") else {
+            return bytes_of(self.alloc, word);
+        };
+        let once = bytes_of(self.alloc, digits)?;
+        let mut bytes = Vec::new(self.alloc);
+        for _ in 0..number32(count)? {
+            bytes.extend_from_slice(&once)?;
         }
-        if word.as_bytes().iter().any(|byte| byte.is_ascii_uppercase()) {
-            return Err(RowFault::Outside);
-        }
-        match hex::decode(self.alloc, word) {
-            Ok(bytes) => Ok(bytes),
-            Err(hex::FromHexError::OutOfMemory) => Err(RowFault::NoMemory),
-            Err(_) => Err(RowFault::Outside),
-        }
+        Ok(bytes)
     }
 
     /// So many bytes.

@@ -1,0 +1,6 @@
+use Rattle.data_file.specs.Kept.{IsKeptOf}
+use Rattle.part_nodes.proofs.data_file.restart.Given as goal
+
+-- what was kept is of the file
+abbrev pub invariant-loop : goal.invariant-loop
+invariant-loop l = IsKeptOf l.file.now l.kept
