@@ -1,6 +1,6 @@
 //! Conversations as texts: events of a part, and what must come of each, with names for the words of records.
 //!
-//! The first line is `kind` and the part's kind. Then come, in any order,
+//! The first line is `kind` and the part's kind. Then come names and beginnings, and behind them the conversations:
 //!
 //! - `let NAME WORDS`: a name for words of records;
 //! - `[NAME]` or `[NAME: BASE]` and lines: a beginning, which goes on from another one;
