@@ -12,7 +12,7 @@ use Rattle.ff_node.specs.declared.config.Config.{Config}
 use Rattle.ff_node.specs.declared.serve.NodeEnd.{NodeEnd}
 use Rattle.ff_node.specs.Config.{ConfigValue, Configures, max_line}
 use Rattle.ff_node.proofs.OneConfig.{one_config}
-use Rattle.ff_cluster.specs.Node.{DrawsFirst, Draws, line_of_cut, first_line, ConfiguresServer, FindsConfig, HasNoConfig, ReadsFirst, FirstFaults}
+use Rattle.ff_run.specs.Node.{DrawsFirst, Draws, line_of_cut, first_line, ConfiguresServer, FindsConfig, HasNoConfig, ReadsFirst, FirstFaults}
 
 -- ---- one line configures one node
 

@@ -1,7 +1,7 @@
 //! A data server that serves by the configuration in a source's first line.
 
 ghost use Rattle.std.specs.Prelude.{◌≡◌};
-ghost use Rattle.ff_cluster.specs.Node.{FindsConfig, ReadsFirst, Draws, FirstFaults, ServesBy, served_faults};
+ghost use Rattle.ff_run.specs.Node.{FindsConfig, ReadsFirst, Draws, FirstFaults, ServesBy, served_faults};
 
 use ff_node::{Config, ConfigFault, Link, MAX_LINE, NodeEnd, read_config, serve_ds};
 use line_runs::{Ended, LineBuffer, RunEnd};

@@ -3,8 +3,8 @@ use Rattle.rpc_record.specs.declared.stream.Failed.{Failed}
 use Rattle.line_runs.specs.declared.lines.Ended.{Ended}
 use Rattle.line_runs.specs.Lines.{ReadsLine}
 use Rattle.ff_node.specs.Config.{max_line}
-use Rattle.ff_cluster.proofs.ServeLemmas.{first_newline, first_over, reads_first, draws_newline, draws_end, draws_over, draws_fault, draws_wanted, draws_none}
-use Rattle.ff_cluster.proofs.serve.read_first.Goals as goal
+use Rattle.ff_run.proofs.ServeLemmas.{first_newline, first_over, reads_first, draws_newline, draws_end, draws_over, draws_fault, draws_wanted, draws_none}
+use Rattle.ff_run.proofs.serving.read_first.Goals as goal
 
 pub returns-in-Ok-Over-clause-told : goal.returns-in-Ok-Over-clause-told
 returns-in-Ok-Over-clause-told g c =

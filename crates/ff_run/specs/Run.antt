@@ -5,8 +5,8 @@ use Rattle.rpc_record.specs.declared.stream.Failed.{Failed}
 use Rattle.rpc_record.specs.declared.stream.Failed.TheVariants as failed
 use Rattle.rpc_record.specs.Stream.{counted}
 use Rattle.line_runs.specs.declared.end.RunEnd.TheVariants.{Done, BadLine, ReadFault, WriteFault, NoMemory, Limit}
-use Rattle.ff_cluster.specs.declared.run.ProgramEnd.{ProgramEnd}
-use Rattle.ff_cluster.specs.declared.run.ProgramEnd.TheVariants.{Usage, Ended, Served}
+use Rattle.ff_run.specs.declared.program.ProgramEnd.{ProgramEnd}
+use Rattle.ff_run.specs.declared.program.ProgramEnd.TheVariants.{Usage, Ended, Served}
 use Rattle.line_runs.specs.declared.end.RunEnd.{RunEnd}
 use Rattle.line_runs.specs.Runs.{Runs, ReadFaults, write_faults}
 use Rattle.cluster_model.specs.declared.ids.NodeId.{NodeId}
@@ -14,12 +14,12 @@ use Rattle.ff_node.specs.declared.link.Arrival.{Arrival}
 use Rattle.ff_node.specs.declared.serve.NodeEnd.{NodeEnd}
 use Rattle.ff_node.specs.declared.serve.NodeEnd.TheVariants as served
 use Rattle.ff_node.specs.Serve.{link_faults}
-use Rattle.ff_cluster.specs.Node.{ServesBy}
+use Rattle.ff_run.specs.Node.{ServesBy}
 use Rattle.line_runs.specs.Writing.{WritesText}
 use Rattle.ff_replay.specs.Script.{script_budget, script_meaning}
 use Rattle.record_show.specs.Show.{show_budget, show_meaning}
-use Rattle.ff_cluster.specs.declared.run.Command.{Command}
-use Rattle.ff_cluster.specs.declared.run.Command.TheVariants.{Replay, Show, Ds}
+use Rattle.ff_run.specs.declared.program.Command.{Command}
+use Rattle.ff_run.specs.declared.program.Command.TheVariants.{Replay, Show, Ds}
 
 -- the command with this name
 abbrev pub command_named : List ℕ → Option Command

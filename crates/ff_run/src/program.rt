@@ -3,11 +3,11 @@
 ghost use Rattle.std.specs.Prelude.{◌≡◌, ◌++◌, map, OnOk};
 ghost use Rattle.std.specs.String.{string_bytes};
 ghost use Rattle.rpc_record.specs.Stream.{counted};
-ghost use Rattle.ff_cluster.specs.declared.run.ProgramEnd.{ProgramEnd};
+ghost use Rattle.ff_run.specs.declared.program.ProgramEnd.{ProgramEnd};
 ghost use Rattle.line_runs.specs.Writing.{WritesText};
-ghost use Rattle.ff_cluster.specs.Run.{command_named, command_of, status_of, note_of, with_number, observed, end_of_serving, Performs, SourceFaultsAfter, sink_faults_after, link_faults_after, Reports};
+ghost use Rattle.ff_run.specs.Run.{command_named, command_of, status_of, note_of, with_number, observed, end_of_serving, Performs, SourceFaultsAfter, sink_faults_after, link_faults_after, Reports};
 
-use crate::serve::serve;
+use crate::serving::serve;
 use ff_node::{Link, NodeEnd};
 use ff_replay::replay;
 use ff_xdr::{NoMemory, Out};

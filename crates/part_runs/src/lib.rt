@@ -1,0 +1,16 @@
+//! Plays rows of runs: of the whole program over memory, of configurations, and of lines of scripts. It also gives what
+//! `replay` and `show` print of a text.
+#![tactic(auto)]
+
+mod arrivals;
+mod configs;
+mod lines;
+mod program;
+mod printed;
+mod runs;
+mod text;
+
+pub use configs::Configs;
+pub use lines::Lines;
+pub use printed::{replayed, shown};
+pub use runs::Runs;
