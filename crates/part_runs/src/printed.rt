@@ -1,6 +1,6 @@
 //! What the program prints of a text.
 
-use crate::program::{Ended, Failing, ended};
+use crate::program::{Ended, Failing, ran};
 use row_words::RowFault;
 use std::alloc::Global;
 
@@ -26,7 +26,7 @@ fn push_end(ended: &Ended, alloc: Global, text: &mut Vec<u8>) -> Result<(), RowF
 fn printed(alloc: Global, command: &str, text: &[u8]) -> Result<Vec<u8>, RowFault> {
     let said = vec![in alloc; String::from_str(alloc, command)?]?;
     let text = text.to_vec(alloc)?;
-    let ended = ended(alloc, &said, text, Vec::new(alloc), Failing::none(alloc));
+    let ended = ran(alloc, &said, text, Vec::new(alloc), Failing::none(alloc));
     let mut bytes = ended.sink.bytes().to_vec(alloc)?;
     push_end(&ended, alloc, &mut bytes)?;
     Ok(bytes)

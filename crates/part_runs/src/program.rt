@@ -36,7 +36,7 @@ pub struct Ended {
 }
 
 /// Runs the program with these words, over a source of these bytes and a link over which these come.
-pub fn ended(
+pub fn ran(
     alloc: Global,
     said: &[String],
     text: Vec<u8>,

@@ -1,7 +1,7 @@
 //! Rows of runs of the program.
 
 use crate::arrivals::{put_sent, read_arrivals};
-use crate::program::{Ended, Failing, ended};
+use crate::program::{Ended, Failing, ran};
 use crate::text::{put_text, read_text};
 use ff_node::SureLink;
 use ff_run::run;
@@ -70,7 +70,7 @@ fn play_run(words: &mut Words<'_>, answer: &mut Answer) -> Result<(), RowFault> 
     let failing = read_failing(words)?;
     let text = read_text(words)?;
     words.end()?;
-    let ended = ended(alloc, &said, text, Vec::new(alloc), failing);
+    let ended = ran(alloc, &said, text, Vec::new(alloc), failing);
     put_end(&ended, answer)?;
     put_text(ended.sink.bytes(), answer)
 }
@@ -83,7 +83,7 @@ fn play_ds(words: &mut Words<'_>, answer: &mut Answer) -> Result<(), RowFault> {
     let text = read_text(words)?;
     words.end()?;
     let said = vec![in alloc; String::from_str(alloc, "ds")?]?;
-    let ended = ended(alloc, &said, text, arrivals, failing);
+    let ended = ran(alloc, &said, text, arrivals, failing);
     put_end(&ended, answer)?;
     answer.number(ended.link.faults())?;
     put_sent(ended.link.sent(), answer)
