@@ -4,3 +4,4 @@ pub mod Receive
 pub mod Records
 pub mod Posts
 pub mod Laws
+pub mod Presets

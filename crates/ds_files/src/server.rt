@@ -3,7 +3,8 @@
 ghost use Rattle.std.specs.Prelude.{◌≡◌, ◌≤◌, ◌↔◌, IfOk, OnOk, OnErr, Some, None, Err};
 ghost use Rattle.rpc_record.specs.Rpc.{plain_credential};
 ghost use Rattle.nfs3_wire.specs.Calls.{plain_call};
-ghost use Rattle.cluster_model.specs.Server.{new_server, preset_server, restart_of};
+ghost use Rattle.cluster_model.specs.Server.{new_server, preset_server, restart_of, max_ticks};
+ghost use Rattle.ds_files.specs.Presets.{preset_after};
 ghost use Rattle.ds_procedures.specs.Steps.{step_of};
 ghost use Rattle.ds_procedures.specs.Answer.{answer_of};
 ghost use Rattle.ds_files.specs.Receive.{received, outcome_of, outcome_of_step};
@@ -104,6 +105,15 @@ impl DataServer {
     pub fn preset(alloc: Global) -> Result<DataServer, NoMemory>
         ensures { IfOk result (λ server. server ≡ preset_server) }
     {
+        DataServer::preset_after(alloc, 1)
+    }
+
+    /// The same, once it gave so many ticks: the first to the file, and the others to changes of which
+    /// nothing is left to see. There are 999,999,999 ticks in a boot.
+    pub fn preset_after(alloc: Global, count: u32) -> Result<DataServer, NoMemory>
+        requires { count ≤ max_ticks }
+        ensures { IfOk result (λ server. server ≡ preset_after count) }
+    {
         let start = Tick { boot: 1, count: 0 };
         let first = Tick { boot: 1, count: 1 };
         let file = DataFile::new(alloc, 65_536, 65_536, 0o640, first);
@@ -118,7 +128,7 @@ impl DataServer {
         names.add(b"m1")?;
         let head = Head {
             number: 1,
-            clock: first,
+            clock: Tick { boot: 1, count },
             root,
             names,
             total: 0,

@@ -69,6 +69,13 @@ impl FileState {
         self.state.live = self.state.live.seen_at(id, seen);
     }
 
+    /// How many mirrors it is to have.
+    pub fn wanted(&self) -> u32
+        ensures { result ≡ self.now.wanted }
+    {
+        self.state.wanted
+    }
+
     /// Its phase.
     pub fn phase(&self) -> Phase
         ensures { result ≡ phase_of self.now.phase }

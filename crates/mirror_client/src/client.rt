@@ -213,6 +213,13 @@ impl Client {
         turn(&mut self.state);
     }
 
+    /// Whether it left the protocol.
+    pub fn has_left(&self) -> bool
+        ensures { result ≡ self.now.client.has_left }
+    {
+        self.state.has_left
+    }
+
     /// The number of its next call, with which a reboot makes the new client; 0 where none is left.
     pub fn next_xid(&self) -> u32
         ensures { result ≡ self.now.client.next_xid }

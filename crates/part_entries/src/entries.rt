@@ -8,9 +8,9 @@ use std::str;
 
 /// Plays rows of entries, which are lines of the trace.
 #[derive(Drop)]
-pub struct Entries;
+pub struct EntryRows;
 
-impl Part for Entries {
+impl Part for EntryRows {
     /// The line of the entry that the words say.
     fn call(&mut self, words: &mut Words<'_>, answer: &mut Answer) -> Result<(), RowFault> {
         let entry = read_entry(words)?;

@@ -9,5 +9,5 @@ mod kinds;
 mod lists;
 mod mirrors;
 
-pub use entries::Entries;
+pub use entries::EntryRows;
 pub use kinds::read_entry;

@@ -9,7 +9,7 @@ use std::str;
 
 /// Plays rows of configurations.
 #[derive(Drop)]
-pub struct Configs;
+pub struct ConfigRows;
 
 /// Appends an address to the last word.
 fn push_address(address: &NetAddr, answer: &mut Answer) -> Result<(), RowFault> {
@@ -50,7 +50,7 @@ fn play_config(words: &mut Words<'_>, answer: &mut Answer) -> Result<(), RowFaul
     }
 }
 
-impl Part for Configs {
+impl Part for ConfigRows {
     fn call(&mut self, words: &mut Words<'_>, answer: &mut Answer) -> Result<(), RowFault> {
         match words.word()? {
             "read_config" => play_config(words, answer),

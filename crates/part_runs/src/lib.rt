@@ -10,7 +10,7 @@ mod printed;
 mod runs;
 mod text;
 
-pub use configs::Configs;
-pub use lines::Lines;
+pub use configs::ConfigRows;
+pub use lines::LineRows;
 pub use printed::{replayed, shown};
-pub use runs::Runs;
+pub use runs::RunRows;

@@ -6,7 +6,7 @@ use row_words::{Answer, Part, RowFault, Words};
 
 /// Plays rows of lines of scripts.
 #[derive(Drop)]
-pub struct Lines;
+pub struct LineRows;
 
 /// The bytes of a record are shown where there are no more than these.
 const SHORT: usize = 1_000;
@@ -87,7 +87,7 @@ fn play_pieces(words: &mut Words<'_>, answer: &mut Answer) -> Result<(), RowFaul
     }
 }
 
-impl Part for Lines {
+impl Part for LineRows {
     fn call(&mut self, words: &mut Words<'_>, answer: &mut Answer) -> Result<(), RowFault> {
         match words.word()? {
             "parse_line" => play_line(words, answer),

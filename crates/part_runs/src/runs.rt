@@ -11,7 +11,7 @@ use std::io;
 
 /// Plays rows of runs, each of which is a run of its own.
 #[derive(Drop)]
-pub struct Runs;
+pub struct RunRows;
 
 impl Failing {
     /// Another call of a stream.
@@ -103,7 +103,7 @@ fn play_status(words: &mut Words<'_>, answer: &mut Answer) -> Result<(), RowFaul
     put_text(notes.bytes(), answer)
 }
 
-impl Part for Runs {
+impl Part for RunRows {
     fn call(&mut self, words: &mut Words<'_>, answer: &mut Answer) -> Result<(), RowFault> {
         match words.word()? {
             "run" => play_run(words, answer),

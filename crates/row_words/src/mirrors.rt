@@ -80,19 +80,22 @@ impl Words<'_> {
         mirror_of(self.word()?)
     }
 
-    /// Mirrors on different servers, at most four, with commas between them; `-` is none.
-    pub fn mirrors(&mut self) -> Result<Mirrors, RowFault> {
-        let mut mirrors = Mirrors::none();
+    /// Mirrors with commas between them; `-` is none.
+    pub fn mirror_list(&mut self) -> Result<Vec<Mirror>, RowFault> {
+        let mut mirrors = Vec::new(self.alloc());
         let word = self.word()?;
         if word == "-" {
             return Ok(mirrors);
         }
         for item in word.split(',') {
-            if !mirrors.add(mirror_of(item)?) {
-                return Err(RowFault::Outside);
-            }
+            mirrors.push(mirror_of(item)?)?;
         }
         Ok(mirrors)
+    }
+
+    /// Mirrors on different servers, at most four, with commas between them; `-` is none.
+    pub fn mirrors(&mut self) -> Result<Mirrors, RowFault> {
+        Mirrors::of(&self.mirror_list()?).ok_or(RowFault::Outside)
     }
 
     /// Four digits, one for each place of the live list, `1` where it is reported.

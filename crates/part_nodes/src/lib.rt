@@ -1,0 +1,10 @@
+//! Machines of the cluster, as rows play them: a client and a data server, over the bytes of their records.
+#![tactic(auto)]
+
+mod apply;
+mod client;
+mod outbox;
+mod server;
+
+pub use client::ClientRows;
+pub use server::ServerRows;

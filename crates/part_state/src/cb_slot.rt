@@ -1,0 +1,50 @@
+//! The slot of a client's callbacks: `new SESSION`, `take N`, `kept STATUS`.
+
+use nfs4_session::{CbBegin, CbSlot};
+use nfs4_types::{SessionId, Stat4};
+use row_words::{Answer, Part, RowFault, Words};
+
+/// The slot.
+#[derive(Drop)]
+pub struct CbSlotRows {
+    slot: Option<CbSlot>,
+}
+
+impl CbSlotRows {
+    /// None yet.
+    pub fn new() -> CbSlotRows {
+        CbSlotRows { slot: None }
+    }
+}
+
+/// What a number comes to.
+fn put_begin(begin: CbBegin, answer: &mut Answer) -> Result<(), RowFault> {
+    match begin {
+        CbBegin::New => answer.word("New"),
+        CbBegin::Again(status) => {
+            answer.word("Again")?;
+            answer.number(u64::from(status.number()))
+        }
+        CbBegin::Misordered => answer.word("Misordered"),
+    }
+}
+
+impl Part for CbSlotRows {
+    fn call(&mut self, words: &mut Words<'_>, answer: &mut Answer) -> Result<(), RowFault> {
+        let name = words.word()?;
+        if name == "new" {
+            self.slot = Some(CbSlot::new(SessionId(words.sized::<16>()?)));
+            return answer.word("Ok");
+        }
+        let slot = self.slot.as_mut().ok_or(RowFault::Outside)?;
+        match name {
+            "take" => put_begin(slot.take(words.number32()?), answer),
+            "kept" => {
+                let status = Stat4::of_number(words.number32()?).ok_or(RowFault::Outside)?;
+                slot.kept(status);
+                answer.word("Ok")
+            }
+            _ => Err(RowFault::Outside),
+        }
+    }
+}

@@ -1,0 +1,19 @@
+//! The parts of a metadata server and of a client that keep states, as rows play them: files' states, fences, writers,
+//! places, sessions and the slot of callbacks.
+#![tactic(auto)]
+
+mod cb_slot;
+mod extents;
+mod fence;
+mod file_state;
+mod mirrors;
+mod sessions;
+mod writer;
+
+pub use cb_slot::CbSlotRows;
+pub use extents::ExtentsRows;
+pub use fence::FenceRows;
+pub use file_state::FileStateRows;
+pub use mirrors::MirrorsRows;
+pub use sessions::SessionsRows;
+pub use writer::WriterRows;

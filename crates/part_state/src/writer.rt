@@ -1,0 +1,182 @@
+//! A writer: `open MIRRORS CRED`, `write AT HEX`, `commit`, `next_call XID`, `on_reply XID REPLY`, `on_timeout XID`,
+//! `taken N`, `covered N ID`. Behind each answer stand its report, whether all are committed and whether the rest are, and
+//! for each mirror a digit for each write that was taken: whether it is covered there.
+
+use cluster_model::Mirrors;
+use mirror_writer::{WriteStart, Writer, WriterStep};
+use row_words::{Answer, Part, RowFault, Words};
+
+/// The last place of a file and one more.
+const MAX_PLACE: u64 = 67_108_864;
+
+/// The most bytes of a write.
+const MAX_WRITE: u64 = 65_536;
+
+/// A writer that is open, the mirrors that it was opened with, and how many writes it took.
+#[derive(Drop)]
+struct OpenWriter {
+    writer: Writer,
+    mirrors: Mirrors,
+    writes: u32,
+}
+
+/// A writer.
+#[derive(Drop)]
+pub struct WriterRows {
+    open: Option<OpenWriter>,
+}
+
+impl WriterRows {
+    /// None yet.
+    pub fn new() -> WriterRows {
+        WriterRows { open: None }
+    }
+}
+
+/// Opens a writer.
+fn opened(words: &mut Words<'_>) -> Result<OpenWriter, RowFault> {
+    let mirrors = words.mirrors()?;
+    if mirrors.len() == 0 {
+        return Err(RowFault::Outside);
+    }
+    let writer = Writer::open(words.alloc(), mirrors, words.cred()?)?;
+    Ok(OpenWriter {
+        writer,
+        mirrors,
+        writes: 0,
+    })
+}
+
+/// What an answer or a timeout came to.
+fn put_step(step: WriterStep, answer: &mut Answer) -> Result<(), RowFault> {
+    match step {
+        WriterStep::Stranger => answer.word("Stranger"),
+        WriterStep::Waiting => answer.word("Waiting"),
+        WriterStep::Failed { id, cause } => {
+            answer.word("Failed")?;
+            answer.mirror_id(id)?;
+            answer.left_cause(cause)
+        }
+        WriterStep::Fenced { id, status } => {
+            answer.word("Fenced")?;
+            answer.mirror_id(id)?;
+            answer.number(u64::from(status))
+        }
+        WriterStep::Committed => answer.word("Committed"),
+    }
+}
+
+/// The next call that goes out.
+fn put_next(writer: &mut Writer, xid: u32, answer: &mut Answer) -> Result<(), RowFault> {
+    match writer.next_call(xid) {
+        None => answer.word("None"),
+        Some((id, call)) => {
+            answer.word("Some")?;
+            answer.mirror_id(id)?;
+            answer.ds_call(&call)
+        }
+    }
+}
+
+/// The answer to a call.
+fn put_reply(
+    writer: &mut Writer,
+    words: &mut Words<'_>,
+    answer: &mut Answer,
+) -> Result<(), RowFault> {
+    let mut bytes = Vec::new(words.alloc());
+    let xid = words.number32()?;
+    let reply = words.ds_reply(&mut bytes)?;
+    put_step(writer.on_reply(xid, &reply), answer)
+}
+
+/// A write of the user, where it has some bytes and not too many, all of them of a file.
+fn put_write(
+    open: &mut OpenWriter,
+    words: &mut Words<'_>,
+    answer: &mut Answer,
+) -> Result<(), RowFault> {
+    let at = words.number64()?;
+    let bytes = words.bytes()?;
+    let count = bytes.len() as u64;
+    if count == 0 || count > MAX_WRITE || at > MAX_PLACE - count {
+        return Err(RowFault::Outside);
+    }
+    match open.writer.write(at, &bytes) {
+        WriteStart::Taken => {
+            open.writes = open.writes.saturating_add(1);
+            answer.word("Taken")
+        }
+        WriteStart::Overlap => answer.word("Overlap"),
+        WriteStart::NoMemory => Err(RowFault::NoMemory),
+    }
+}
+
+/// The write that was taken under a number.
+fn put_taken(writer: &Writer, number: u32, answer: &mut Answer) -> Result<(), RowFault> {
+    match writer.taken(number) {
+        None => answer.word("None"),
+        Some((at, bytes)) => {
+            answer.word("Some")?;
+            answer.number(at)?;
+            answer.bytes(bytes)
+        }
+    }
+}
+
+/// Makes a call on a writer.
+fn put_call(
+    open: &mut OpenWriter,
+    name: &str,
+    words: &mut Words<'_>,
+    answer: &mut Answer,
+) -> Result<(), RowFault> {
+    match name {
+        "open" => answer.word("Ok"),
+        "write" => put_write(open, words, answer),
+        "commit" => {
+            open.writer.commit();
+            answer.word("Ok")
+        }
+        "next_call" => put_next(&mut open.writer, words.number32()?, answer),
+        "on_reply" => put_reply(&mut open.writer, words, answer),
+        "on_timeout" => put_step(open.writer.on_timeout(words.number32()?), answer),
+        "taken" => put_taken(&open.writer, words.number32()?, answer),
+        "covered" => {
+            let number = words.number32()?;
+            answer.flag(open.writer.covered(number, words.mirror_id()?))
+        }
+        _ => Err(RowFault::Outside),
+    }
+}
+
+/// At which mirrors which writes are covered.
+fn put_covered(open: &OpenWriter, answer: &mut Answer) -> Result<(), RowFault> {
+    for place in 0..open.mirrors.len() {
+        let Some(mirror) = open.mirrors.get(place) else {
+            return Ok(());
+        };
+        answer.word(if open.writes == 0 { "-" } else { "" })?;
+        for number in 0..open.writes {
+            let is_covered = open.writer.covered(number, mirror.id);
+            answer.push(if is_covered { "1" } else { "0" })?;
+        }
+    }
+    Ok(())
+}
+
+impl Part for WriterRows {
+    fn call(&mut self, words: &mut Words<'_>, answer: &mut Answer) -> Result<(), RowFault> {
+        let name = words.word()?;
+        if name == "open" {
+            self.open = Some(opened(words)?);
+        }
+        let open = self.open.as_mut().ok_or(RowFault::Outside)?;
+        put_call(open, name, words, answer)?;
+        answer.state()?;
+        answer.places(&open.writer.report())?;
+        answer.flag(open.writer.all_committed())?;
+        answer.flag(open.writer.rest_committed())?;
+        put_covered(open, answer)
+    }
+}

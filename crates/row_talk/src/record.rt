@@ -1,0 +1,129 @@
+//! The bytes of records, by words and names.
+
+use row_words::{Answer, RowFault, number32};
+use std::alloc::Global;
+
+/// A name and the words that it stands for.
+#[derive(Clone, Copy)]
+pub struct Name<'a> {
+    pub name: &'a str,
+    pub words: &'a str,
+}
+
+/// The words that a word stands for, which is itself where it is no name.
+fn meaning<'a>(names: &[Name<'a>], word: &'a str) -> &'a str {
+    for entry in names {
+        if entry.name == word {
+            return entry.words;
+        }
+    }
+    word
+}
+
+/// Appends zero bytes up to a multiple of four, of a text of this length.
+fn pad(length: usize, bytes: &mut Vec<u8>) -> Result<(), RowFault> {
+    for _ in 0..(4 - length % 4) % 4 {
+        bytes.push(0)?;
+    }
+    Ok(())
+}
+
+/// Appends a text with its length and its padding.
+fn push_text(text: &str, bytes: &mut Vec<u8>) -> Result<(), RowFault> {
+    let length = u32::try_from(text.len()).ok().ok_or(RowFault::Outside)?;
+    bytes.extend_from_slice(&length.to_be_bytes())?;
+    bytes.extend_from_slice(text.as_bytes())?;
+    pad(text.len(), bytes)
+}
+
+/// Appends so many zero bytes.
+fn push_zeros(digits: &str, bytes: &mut Vec<u8>) -> Result<(), RowFault> {
+    for _ in 0..number32(digits)? {
+        bytes.push(0)?;
+    }
+    Ok(())
+}
+
+/// Appends bytes in hexadecimal.
+fn push_bytes(alloc: Global, digits: &str, bytes: &mut Vec<u8>) -> Result<(), RowFault> {
+    match hex::decode(alloc, digits) {
+        Ok(some) => {
+            bytes.extend_from_slice(&some)?;
+            Ok(())
+        }
+        Err(_) => Err(RowFault::Outside),
+    }
+}
+
+/// Appends the bytes of a word that is no name.
+fn push_word(alloc: Global, word: &str, bytes: &mut Vec<u8>) -> Result<(), RowFault> {
+    if let Some(text) = word.strip_prefix("'") {
+        return push_text(text, bytes);
+    }
+    if let Some(digits) = word.strip_prefix("*") {
+        return push_zeros(digits, bytes);
+    }
+    if let Some(digits) = word.strip_prefix(":") {
+        return push_bytes(alloc, digits, bytes);
+    }
+    let number = match word.strip_prefix("#") {
+        Some(digits) => number32(digits)?,
+        None => u32::from_str_radix(word, 16).ok().ok_or(RowFault::Outside)?,
+    };
+    bytes.extend_from_slice(&number.to_be_bytes())?;
+    Ok(())
+}
+
+/// Appends the bytes of words, none of which is a name.
+fn push_words(alloc: Global, words: &str, bytes: &mut Vec<u8>) -> Result<(), RowFault> {
+    for word in words.split_whitespace() {
+        push_word(alloc, word, bytes)?;
+    }
+    Ok(())
+}
+
+/// Appends the bytes of words. What a name stands for may have names, and these may have some that have none.
+fn push_named<'x>(
+    alloc: Global,
+    names: &'x [Name<'x>],
+    word: &'x str,
+    bytes: &mut Vec<u8>,
+) -> Result<(), RowFault> {
+    for part in meaning(names, word).split_whitespace() {
+        for piece in meaning(names, part).split_whitespace() {
+            push_words(alloc, meaning(names, piece), bytes)?;
+        }
+    }
+    Ok(())
+}
+
+/// A node and a record's words, as `NODE HEX` behind this word.
+pub fn record_words<'x>(
+    alloc: Global,
+    names: &'x [Name<'x>],
+    front: &str,
+    row: &'x str,
+) -> Result<String, RowFault> {
+    let (node, words) = row.split_once(" ").unwrap_or((row, ""));
+    let mut bytes = Vec::new(alloc);
+    for word in words.split_whitespace() {
+        push_named(alloc, names, word, &mut bytes)?;
+    }
+    let mut answer = Answer::new(alloc);
+    answer.word(front)?;
+    answer.word(node)?;
+    answer.bytes(&bytes)?;
+    Ok(answer.into_text())
+}
+
+/// A call's words, where `'AB` stands for the bytes of a text.
+pub fn call_words(alloc: Global, line: &str) -> Result<String, RowFault> {
+    let mut answer = Answer::new(alloc);
+    for word in line.split(' ') {
+        match word.strip_prefix("'") {
+            Some(text) => answer.bytes(text.as_bytes())?,
+            None => answer.word(word)?,
+        }
+    }
+    Ok(answer.into_text())
+}
