@@ -5,9 +5,7 @@ use crate::events::{
     read_delivered, read_hold, read_packet, read_pass, read_rebooted, read_restarted, read_tick,
     read_timed_out, read_turned,
 };
-use crate::files::{
-    Write, read_answered, read_ended, read_granted, read_later, read_write,
-};
+use crate::files::{Write, read_answered, read_ended, read_granted, read_later, read_write};
 use crate::mirrors::{
     read_applied, read_audit, read_committed, read_failed, read_fenced, read_free, read_left,
     read_owner, read_swapped,

@@ -5,8 +5,8 @@
 mod arrivals;
 mod configs;
 mod lines;
-mod program;
 mod printed;
+mod program;
 mod runs;
 mod text;
 

@@ -94,7 +94,11 @@ fn put_word(bytes: &[u8], answer: &mut Answer) -> Result<(), RowFault> {
     for byte in bytes {
         push_byte(*byte, &mut word)?;
     }
-    answer.word(if word.as_str() == "-" { "\\2d" } else { word.as_str() })
+    answer.word(if word.as_str() == "-" {
+        "\\2d"
+    } else {
+        word.as_str()
+    })
 }
 
 /// The last line, without its newline.

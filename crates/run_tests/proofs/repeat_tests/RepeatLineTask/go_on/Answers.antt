@@ -1,9 +1,9 @@
 use Rattle.std.proofs.Common.{ℕ, ◌<◌, sym, subst, arith}
 use Rattle.std.proofs.lemmas.Grind.{common_steps}
 use Rattle.line_runs.specs.Tasks.{EndsRun, IsAtLimit, ahead_of}
-use Rattle.line_runs.specs.Repeats.{repeat_task}
-use Rattle.line_runs.proofs.RepeatLemmas.{stops_again, goes_again}
-use Rattle.line_runs.proofs.run_tests.RepeatLineTask.go_on.Goals as goal
+use Rattle.run_tests.specs.Repeats.{repeat_task}
+use Rattle.run_tests.proofs.RepeatLemmas.{stops_again, goes_again}
+use Rattle.run_tests.proofs.repeat_tests.RepeatLineTask.go_on.Goals as goal
 
 pub returns-then-self-ge5-clause-does : goal.returns-then-self-ge5-clause-does
 returns-then-self-ge5-clause-does c =

@@ -4,7 +4,7 @@ use Rattle.std.proofs.lemmas.List.{append-nil}
 use Rattle.std.proofs.lemmas.Bool.{lt-ltb, le-ltb, cond-true, cond-false}
 use Rattle.line_runs.specs.Runs.{RunEffect, after_text}
 use Rattle.line_runs.specs.Tasks.{ahead_of, Goes, EndsRun, IsAtLimit}
-use Rattle.line_runs.specs.Repeats.{repeats, at_limit, prints_from, counts_from, repeat_task}
+use Rattle.run_tests.specs.Repeats.{repeats, at_limit, prints_from, counts_from, repeat_task}
 
 -- one more byte, below the limit
 one_more : {A : Type 0} (stop : ℕ → A) (add : A → A) (left printed : ℕ) (rest : ℕ → A) → 0 < left → printed < 5 → repeats stop add left printed rest ≡ add (repeats stop add (left - 1) (printed + 1) rest)
