@@ -1,12 +1,9 @@
 //! A pNFS cluster with flexible-file layouts, replayed from a script.
 #![tactic(auto)]
 
-pub mod run;
-pub mod serve;
-
 use ff_node::TcpLink;
+use ff_run::run;
 use rpc_record::{StdSink, StdSource};
-use run::run;
 use std::process::ExitCode;
 use std::{env, io};
 

@@ -3,4 +3,3 @@ pub mod OweLemmas
 pub mod StepLemmas
 pub mod RunLemmas
 pub mod EndLemmas
-pub mod RepeatLemmas

@@ -3,4 +3,3 @@ pub mod Writing
 pub mod Runs
 pub mod Tasks
 pub mod Playback
-pub mod Repeats

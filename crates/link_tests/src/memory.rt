@@ -1,0 +1,21 @@
+//! Streams over memory, and what goes over them.
+
+use record_link::MemoryStream;
+use std::alloc::Global;
+use std::test::Fail;
+
+/// A stream of these bytes, which moves so many at a time; at 0 it would block.
+pub fn stream(alloc: Global, bytes: &[u8], sizes: &[usize]) -> Result<MemoryStream, Fail> {
+    Ok(MemoryStream::new(alloc, bytes.to_vec(alloc)?, sizes.to_vec(alloc)?))
+}
+
+/// The record `one` as one fragment (RFC 5531, section 11).
+pub const ONE: [u8; 7] = [0x80, 0, 0, 3, b'o', b'n', b'e'];
+
+/// The records `one` and `four`.
+pub const ONE_FOUR: [u8; 15] = [
+    0x80, 0, 0, 3, b'o', b'n', b'e', 0x80, 0, 0, 4, b'f', b'o', b'u', b'r',
+];
+
+/// The header of a record that is too long.
+pub const TOO_LONG: [u8; 4] = [0xff; 4];

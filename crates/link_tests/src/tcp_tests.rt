@@ -1,0 +1,60 @@
+//! Three connections at once, over loopback.
+
+use record_server::RecordServer;
+use record_tcp::TcpNetwork;
+use std::io::{Read, Write};
+use std::net::{IpAddr, Ipv4Addr, Shutdown, SocketAddr, TcpStream};
+use std::test::Fail;
+
+/// What three peers send, in parts of which each comes between those of the others: records as one
+/// fragment or two, the last of each peer behind the others (RFC 5531, section 11).
+const PARTS: [(usize, &[u8]); 8] = [
+    (0, &[0x80, 0, 0]),
+    (1, &[0, 0, 0, 2, b'b', b'e', 0x80, 0]),
+    (2, &[0x80, 0, 0, 1, b'c', 0x80]),
+    (0, &[4, b'a', b'l']),
+    (1, &[0, 2, b't', b'a']),
+    (2, &[0, 0, 0]),
+    (0, &[b'f', b'a', 0x80, 0, 0, 1, b'z']),
+    (1, &[0x80, 0, 0, 3, b'b', b'i', b's']),
+];
+
+/// What each of them reads: its records, answered with themselves.
+const ANSWERS: [&[u8]; 3] = [
+    &[0x80, 0, 0, 4, b'a', b'l', b'f', b'a', 0x80, 0, 0, 1, b'z'],
+    &[
+        0x80, 0, 0, 4, b'b', b'e', b't', b'a', 0x80, 0, 0, 3, b'b', b'i', b's',
+    ],
+    &[0x80, 0, 0, 1, b'c', 0x80, 0, 0, 0],
+];
+
+#[test]
+fn three_connections(rt: HostRuntime) -> Result<(), Fail> {
+    let any = SocketAddr::new(IpAddr::V4(Ipv4Addr::LOCALHOST), 0);
+    let network = TcpNetwork::bind(&rt, rt.alloc(), any)?;
+    let address = network.address()?;
+    let mut server = RecordServer::new(rt.alloc(), network);
+    let mut peers = Vec::new(rt.alloc());
+    for _ in 0..3 {
+        peers.push(TcpStream::connect(&rt, address)?)?;
+    }
+    for (number, part) in PARTS {
+        if let Some(peer) = peers.get_mut(number) {
+            peer.write_all(part)?;
+        }
+    }
+    for peer in &peers {
+        peer.shutdown(Shutdown::Write)?;
+    }
+    for _ in 0..6 {
+        if let Ok(Some((connection, message))) = server.next() {
+            server.send(connection, message.bytes())?;
+        }
+    }
+    for (peer, want) in peers.iter_mut().zip(ANSWERS) {
+        let mut found = vec![in rt.alloc(); 0; want.len()]?;
+        peer.read_exact(&mut found)?;
+        assert_eq!(rt; found.as_slice(), want);
+    }
+    Ok(())
+}

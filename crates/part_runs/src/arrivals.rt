@@ -1,0 +1,49 @@
+//! What comes over a link, and what was sent over it.
+
+use cluster_model::NodeId;
+use ff_node::Arrival;
+use ff_xdr::Data;
+use row_words::{Answer, RowFault, Words};
+use std::alloc::Global;
+
+/// `closed`, `timeout:` and a machine, or a machine, `:` and the bytes of its record.
+fn arrival_of(alloc: Global, item: &str) -> Result<Arrival, RowFault> {
+    if item == "closed" {
+        return Ok(Arrival::Closed);
+    }
+    let (first, second) = item.split_once(":").ok_or(RowFault::Outside)?;
+    if first == "timeout" {
+        return Ok(Arrival::TimedOut(Words::of(alloc, second).node()?));
+    }
+    Ok(Arrival::Record {
+        from: Words::of(alloc, first).node()?,
+        bytes: Data::from_vec(Words::of(alloc, second).bytes()?),
+    })
+}
+
+/// Arrivals, with commas between them; `-` is none.
+pub fn read_arrivals(words: &mut Words<'_>) -> Result<Vec<Arrival>, RowFault> {
+    let alloc = words.alloc();
+    let mut arrivals = Vec::new(alloc);
+    let word = words.word()?;
+    if word == "-" {
+        return Ok(arrivals);
+    }
+    for item in word.split(',') {
+        arrivals.push(arrival_of(alloc, item)?)?;
+    }
+    Ok(arrivals)
+}
+
+/// Each record that was sent as `send`, the machine that it went to and its bytes, with ` / ` between them; `-` is none.
+pub fn put_sent(sent: &[(NodeId, Data)], answer: &mut Answer) -> Result<(), RowFault> {
+    if sent.is_empty() {
+        return answer.word("-");
+    }
+    for (place, (to, bytes)) in sent.iter().enumerate() {
+        answer.word(if place == 0 { "send" } else { "/ send" })?;
+        answer.node(*to)?;
+        answer.bytes(bytes.bytes())?;
+    }
+    Ok(())
+}

@@ -1,0 +1,57 @@
+//! A run of the program over memory.
+
+use ff_node::{Arrival, MemoryLink};
+use ff_run::run;
+use rpc_record::{MemorySink, MemorySource};
+use std::alloc::Global;
+
+/// The calls that fail, by their numbers from 1.
+#[derive(Drop)]
+pub struct Failing {
+    pub source: Vec<u64>,
+    pub sink: Vec<u64>,
+    pub notes: Vec<u64>,
+    pub link: Vec<u64>,
+}
+
+impl Failing {
+    /// None; takes no memory.
+    pub fn none(alloc: Global) -> Failing {
+        Failing {
+            source: Vec::new(alloc),
+            sink: Vec::new(alloc),
+            notes: Vec::new(alloc),
+            link: Vec::new(alloc),
+        }
+    }
+}
+
+/// What a run came to.
+#[derive(Drop)]
+pub struct Ended {
+    pub status: u8,
+    pub sink: MemorySink,
+    pub notes: MemorySink,
+    pub link: MemoryLink,
+}
+
+/// Runs the program with these words, over a source of these bytes and a link over which these come.
+pub fn ran(
+    alloc: Global,
+    said: &[String],
+    text: Vec<u8>,
+    arrivals: Vec<Arrival>,
+    failing: Failing,
+) -> Ended {
+    let mut source = MemorySource::new(text, failing.source);
+    let mut sink = MemorySink::new(alloc, failing.sink);
+    let mut notes = MemorySink::new(alloc, failing.notes);
+    let mut link = MemoryLink::new(alloc, arrivals, failing.link);
+    let status = run(alloc, said, &mut source, &mut sink, &mut notes, &mut link);
+    Ended {
+        status,
+        sink,
+        notes,
+        link,
+    }
+}

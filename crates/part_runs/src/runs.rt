@@ -1,0 +1,115 @@
+//! Rows of runs of the program.
+
+use crate::arrivals::{put_sent, read_arrivals};
+use crate::program::{Ended, Failing, ran};
+use crate::text::{put_text, read_text};
+use ff_node::SureLink;
+use ff_run::run;
+use row_words::{Answer, Part, RowFault, Words, number64};
+use rpc_record::{StdSink, SureSink, SureSource};
+use std::io;
+
+/// Plays rows of runs, each of which is a run of its own.
+#[derive(Drop)]
+pub struct RunRows;
+
+impl Failing {
+    /// Another call of a stream.
+    fn add(&mut self, stream: &str, number: u64) -> Result<(), RowFault> {
+        let calls = match stream {
+            "source" => &mut self.source,
+            "sink" => &mut self.sink,
+            "notes" => &mut self.notes,
+            "link" => &mut self.link,
+            _ => return Err(RowFault::Outside),
+        };
+        calls.push(number)?;
+        Ok(())
+    }
+}
+
+/// The calls that fail, as `source:2,notes:1`; `-` is none.
+fn read_failing(words: &mut Words<'_>) -> Result<Failing, RowFault> {
+    let mut failing = Failing::none(words.alloc());
+    let word = words.word()?;
+    if word == "-" {
+        return Ok(failing);
+    }
+    for item in word.split(',') {
+        let (stream, number) = item.split_once(":").ok_or(RowFault::Outside)?;
+        failing.add(stream, number64(number)?)?;
+    }
+    Ok(failing)
+}
+
+/// The words behind the program's name, with commas between them; `''` is a word of no letters, and `-` no words.
+fn read_said(words: &mut Words<'_>) -> Result<Vec<String>, RowFault> {
+    let alloc = words.alloc();
+    let mut said = Vec::new(alloc);
+    let word = words.word()?;
+    if word == "-" {
+        return Ok(said);
+    }
+    for item in word.split(',') {
+        let text = if item == "''" { "" } else { item };
+        said.push(String::from_str(alloc, text)?)?;
+    }
+    Ok(said)
+}
+
+/// The status and the note.
+fn put_end(ended: &Ended, answer: &mut Answer) -> Result<(), RowFault> {
+    answer.number(u64::from(ended.status))?;
+    put_text(ended.notes.bytes(), answer)
+}
+
+/// `run WORDS FAILING TEXT`: the status, the note and what was printed.
+fn play_run(words: &mut Words<'_>, answer: &mut Answer) -> Result<(), RowFault> {
+    let alloc = words.alloc();
+    let said = read_said(words)?;
+    let failing = read_failing(words)?;
+    let text = read_text(words)?;
+    words.end()?;
+    let ended = ran(alloc, &said, text, Vec::new(alloc), failing);
+    put_end(&ended, answer)?;
+    put_text(ended.sink.bytes(), answer)
+}
+
+/// `ds FAILING ARRIVALS TEXT`: the status, the note, how many calls of the link failed, and what was sent.
+fn play_ds(words: &mut Words<'_>, answer: &mut Answer) -> Result<(), RowFault> {
+    let alloc = words.alloc();
+    let failing = read_failing(words)?;
+    let arrivals = read_arrivals(words)?;
+    let text = read_text(words)?;
+    words.end()?;
+    let said = vec![in alloc; String::from_str(alloc, "ds")?]?;
+    let ended = ran(alloc, &said, text, arrivals, failing);
+    put_end(&ended, answer)?;
+    answer.number(ended.link.faults())?;
+    put_sent(ended.link.sent(), answer)
+}
+
+/// `status WORDS TEXT`: the status and the note of a run whose text nobody keeps.
+fn play_status(words: &mut Words<'_>, answer: &mut Answer) -> Result<(), RowFault> {
+    let alloc = words.alloc();
+    let said = read_said(words)?;
+    let mut source = SureSource::new(read_text(words)?);
+    words.end()?;
+    let mut sink = StdSink::new(io::sink());
+    let mut notes = SureSink::new(alloc);
+    let mut link = SureLink::new(alloc, Vec::new(alloc));
+    let status = run(alloc, &said, &mut source, &mut sink, &mut notes, &mut link);
+    answer.number(u64::from(status))?;
+    put_text(notes.bytes(), answer)
+}
+
+impl Part for RunRows {
+    fn call(&mut self, words: &mut Words<'_>, answer: &mut Answer) -> Result<(), RowFault> {
+        match words.word()? {
+            "run" => play_run(words, answer),
+            "ds" => play_ds(words, answer),
+            "status" => play_status(words, answer),
+            _ => Err(RowFault::Outside),
+        }
+    }
+}
