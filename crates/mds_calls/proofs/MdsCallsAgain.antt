@@ -11,7 +11,8 @@ use Rattle.rpc_record.specs.Calls.{RpcCall, call_at}
 use Rattle.rpc_record.specs.Laws.{IsCallReadAgain}
 use Rattle.nfs4_compound.specs.Args.{argop4}
 use Rattle.nfs4_compound.specs.Compounds.{compound4_args}
-use Rattle.mds_calls.specs.MdsCompounds.{compound_args, mds_ops}
+use Rattle.mds_parts.specs.MdsArguments.{compound_args}
+use Rattle.mds_calls.specs.MdsCompounds.{mds_ops}
 use Rattle.mds_calls.specs.MdsCallLaws.{MdsMessage, HasCompoundRecord, compound_message_call, IsCompoundUnderstood, AreCompoundsApart}
 
 -- ---- a value that is all the bytes
