@@ -1,6 +1,5 @@
 -- What the results of a client's calls on files and layouts say (RFC 8881, section 18): those of the call's operations, in order, each OK.
 use Rattle.std.specs.Prelude.{ℕ, ◌+◌, ◌^◌, Bool, false, ◌&&◌, ◌==◌, nat_le, nat_lt, List, [], ◌∷◌, length, Option, Some, None, if◌then◌else◌}
-use Rattle.std.specs.Option.{option_map}
 use Rattle.ff_xdr.specs.Form.{Value}
 use Rattle.ff_xdr.specs.Reading.{reading, whole}
 use Rattle.nfs4_types.specs.declared.stateid.Stateid.{Stateid}
