@@ -8,7 +8,6 @@ use Rattle.ff_xdr.proofs.CutShort.{length-long}
 use Rattle.ff_xdr.proofs.StoppedText.{length-padded}
 use Rattle.ff_layout.specs.IoError.{ff_ioerr4}
 use Rattle.nfs4_types.specs.declared.stateid.Stateid.{Stateid}
-use Rattle.nfs4_types.specs.Ids.{device_id_of}
 use Rattle.mds_file_calls.specs.declared.layout_return.FailedMirror.{FailedMirror}
 use Rattle.mds_file_calls.specs.FileOps.{io_error_of, return_body}
 

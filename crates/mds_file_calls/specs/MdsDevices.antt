@@ -1,5 +1,5 @@
 -- What a GETDEVICEINFO says of where a data server is (RFC 8881, section 18.40; RFC 8435, section 4.1; RFC 5665, section 5.2.3.3).
-use Rattle.std.specs.Prelude.{◌≡◌, ℕ, ◌/◌, ◌%◌, ◌+◌, ◌*◌, ◌==◌, Bool, true, false, ◌&&◌, List, [], ◌∷◌, bytes_eq, codes, Option, Some, None, Result, Ok, Err, if◌then◌else◌, nat_lt}
+use Rattle.std.specs.Prelude.{ℕ, ◌+◌, ◌*◌, ◌==◌, Bool, true, ◌&&◌, List, [], ◌∷◌, bytes_eq, codes, Option, Some, None, Result, Ok, Err, if◌then◌else◌, nat_lt}
 use Rattle.std.specs.Str.Parse.{digits_value}
 use Rattle.ff_xdr.specs.declared.error.XdrError.{XdrError}
 use Rattle.ff_xdr.specs.Form.{Value}
@@ -8,7 +8,7 @@ use Rattle.nfs4_types.specs.Texts.{netaddr4}
 use Rattle.nfs4_compound.specs.Results.{resop4}
 use Rattle.device_addr.specs.declared.net_addr.NetAddr.{NetAddr}
 use Rattle.device_addr.specs.Device.{ff_device_addr4}
-use Rattle.device_addr.specs.Universal.{AddressValue, address_text}
+use Rattle.device_addr.specs.Universal.{address_text}
 use Rattle.mds_parts.specs.MdsResults.{in_arm, done_as}
 
 -- ---- the address that a text is

@@ -1,4 +1,4 @@
-use Rattle.std.proofs.Common.{◌++◌, [], ◌∷◌, ap, ◌∙◌}
+use Rattle.std.proofs.Common.{◌++◌, [], ◌∷◌, ◌∙◌}
 use Rattle.ff_xdr.specs.Arms.{arm}
 use Rattle.nfs4_compound.specs.Args.{argop4}
 use Rattle.mds_parts.specs.MdsArguments.{compound_args}

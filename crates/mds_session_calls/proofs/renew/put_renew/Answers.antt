@@ -1,6 +1,4 @@
-use Rattle.std.proofs.Common.{◌++◌, [], ◌∷◌, ap, ◌∙◌}
-use Rattle.ff_xdr.specs.Arms.{arm}
-use Rattle.nfs4_compound.specs.Args.{argop4}
+use Rattle.std.proofs.Common.{◌++◌, [], ◌∷◌, ◌∙◌}
 use Rattle.mds_parts.specs.MdsArguments.{compound_args}
 use Rattle.mds_session_calls.proofs.renew.put_renew.Goals as goal
 
