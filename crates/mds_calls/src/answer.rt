@@ -42,9 +42,12 @@ fn odd_results<'a>() -> MdsAnswer<'a>
 
 /// This answer, where the results are OK.
 fn answer_if<'a>(ok: bool, answer: MdsAnswer<'a>) -> MdsAnswer<'a>
-    ensures { plain_mds_answer result ≡ answer_if ok (plain_mds_answer answer) }
+    ensures { plain_mds_answer result ≡ answer_if ok (plain_mds_answer answer.entry) }
 {
-    if ok { answer } else { odd_results() }
+    if !ok {
+        return odd_results();
+    }
+    answer
 }
 
 /// The answer to an EXCHANGE_ID.
@@ -102,7 +105,7 @@ fn devices_answer<'a>(addresses: Option<[Option<NetAddr>; 4]>) -> MdsAnswer<'a>
 
 /// The answer to a READ.
 fn read_answer<'a>(read: Option<BytesRead<'a>>) -> MdsAnswer<'a>
-    ensures { plain_mds_answer result ≡ answer_where (λ b. Bytes b.eof b.bytes) (option_map plain_bytes_read read) }
+    ensures { plain_mds_answer result ≡ answer_where (λ b. Bytes b.eof b.bytes) (option_map plain_bytes_read read.entry) }
 {
     match read {
         Some(read) => MdsAnswer::Bytes {
