@@ -10,7 +10,7 @@ ghost use Rattle.nfs4_types.specs.Status.{stat4_number};
 ghost use Rattle.nfs4_compound.specs.Compounds.{compound4_res};
 ghost use Rattle.nfs4_compound.specs.Results.{resop4, op_res_value};
 ghost use Rattle.mds_file_calls.specs.FileResults.{plain_bytes_read};
-ghost use Rattle.mds_calls.specs.MdsReplies.{Bytes, Client, Devices, Granted, Opened, Session, answer_if, answer_where, compound_answer, compound_reply, odd_mds_reply, odd_results, plain_mds_answer, plain_mds_reply, reply_of_ask, results_of_ask};
+ghost use Rattle.mds_calls.specs.MdsReplies.{Bytes, Client, Complete, Devices, Granted, Opened, Renewed, Returned, Session, Written, answer_if, answer_where, compound_answer, compound_reply, odd_mds_reply, odd_results, plain_mds_answer, plain_mds_reply, reply_of_ask, results_of_ask};
 
 use crate::ask::MdsAsk;
 use crate::reply::{MdsAnswer, MdsReply, SlotReport};
@@ -40,16 +40,6 @@ fn odd_results<'a>() -> MdsAnswer<'a>
     MdsAnswer::Refused(Stat4::ServerFault)
 }
 
-/// This answer, where the results are OK.
-fn answer_if<'a>(ok: bool, answer: MdsAnswer<'a>) -> MdsAnswer<'a>
-    ensures { plain_mds_answer result ≡ answer_if ok (plain_mds_answer answer.entry) }
-{
-    if !ok {
-        return odd_results();
-    }
-    answer
-}
-
 /// The answer to an EXCHANGE_ID.
 fn client_answer<'a>(given: Option<ClientGiven>) -> MdsAnswer<'a>
     ensures { plain_mds_answer result ≡ answer_where (λ c. Client c.clientid c.sequence) given }
@@ -70,6 +60,17 @@ fn session_answer<'a>(session: Option<SessionId>) -> MdsAnswer<'a>
     match session {
         Some(session) => MdsAnswer::Session(session),
         None => odd_results(),
+    }
+}
+
+/// The answer to a RECLAIM_COMPLETE.
+fn complete_answer<'a>(is_ok: bool) -> MdsAnswer<'a>
+    ensures { plain_mds_answer result ≡ answer_if is_ok Complete }
+{
+    if is_ok {
+        MdsAnswer::Complete
+    } else {
+        odd_results()
     }
 }
 
@@ -103,6 +104,17 @@ fn devices_answer<'a>(addresses: Option<[Option<NetAddr>; 4]>) -> MdsAnswer<'a>
     }
 }
 
+/// The answer to a WRITE.
+fn write_answer<'a>(is_ok: bool) -> MdsAnswer<'a>
+    ensures { plain_mds_answer result ≡ answer_if is_ok Written }
+{
+    if is_ok {
+        MdsAnswer::Written
+    } else {
+        odd_results()
+    }
+}
+
 /// The answer to a READ.
 fn read_answer<'a>(read: Option<BytesRead<'a>>) -> MdsAnswer<'a>
     ensures { plain_mds_answer result ≡ answer_where (λ b. Bytes b.eof b.bytes) (option_map plain_bytes_read read.entry) }
@@ -116,6 +128,28 @@ fn read_answer<'a>(read: Option<BytesRead<'a>>) -> MdsAnswer<'a>
     }
 }
 
+/// The answer to a LAYOUTRETURN.
+fn return_answer<'a>(is_ok: bool) -> MdsAnswer<'a>
+    ensures { plain_mds_answer result ≡ answer_if is_ok Returned }
+{
+    if is_ok {
+        MdsAnswer::Returned
+    } else {
+        odd_results()
+    }
+}
+
+/// The answer to a SEQUENCE alone.
+fn renew_answer<'a>(is_ok: bool) -> MdsAnswer<'a>
+    ensures { plain_mds_answer result ≡ answer_if is_ok Renewed }
+{
+    if is_ok {
+        MdsAnswer::Renewed
+    } else {
+        odd_results()
+    }
+}
+
 /// What the results of a compound that is OK say.
 fn results_of<'a>(ask: &MdsAsk, results: Results<'a>) -> MdsAnswer<'a>
     ensures { plain_mds_answer result ≡ results_of_ask ask.now (contents resop4 op_res_value results.entry.place) }
@@ -123,16 +157,14 @@ fn results_of<'a>(ask: &MdsAsk, results: Results<'a>) -> MdsAnswer<'a>
     match ask {
         MdsAsk::ExchangeId => client_answer(exchange_id_results(results)),
         MdsAsk::CreateSession => session_answer(create_session_results(results)),
-        MdsAsk::ReclaimComplete => {
-            answer_if(reclaim_complete_results(results), MdsAnswer::Complete)
-        }
+        MdsAsk::ReclaimComplete => complete_answer(reclaim_complete_results(results)),
         MdsAsk::Open => open_answer(open_results(results)),
         MdsAsk::LayoutGet => layout_answer(layout_get_results(results)),
         MdsAsk::DeviceInfo { count } => devices_answer(device_info_results(*count, results)),
-        MdsAsk::Write => answer_if(write_results(results), MdsAnswer::Written),
+        MdsAsk::Write => write_answer(write_results(results)),
         MdsAsk::Read { at, count } => read_answer(read_results(*at, *count, results)),
-        MdsAsk::LayoutReturn => answer_if(layout_return_results(results), MdsAnswer::Returned),
-        MdsAsk::Renew => answer_if(renew_results(results), MdsAnswer::Renewed),
+        MdsAsk::LayoutReturn => return_answer(layout_return_results(results)),
+        MdsAsk::Renew => renew_answer(renew_results(results)),
     }
 }
 
