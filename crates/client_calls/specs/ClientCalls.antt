@@ -8,8 +8,8 @@ use Rattle.cluster_model.specs.declared.ids.Mirror.{Mirror}
 use Rattle.cluster_model.specs.declared.entry.Entry.{Entry}
 use Rattle.mirror_writer.specs.Writers.{WriterValue, WriterSends, next_sent, rest_committed}
 use Rattle.ds_calls.specs.MadeCalls.{ds_call_bytes}
-use Rattle.mds_calls.specs.declared.call.OpenFile.{OpenFile}
-use Rattle.mds_calls.specs.declared.call.FailedMirror.{FailedMirror}
+use Rattle.mds_file_calls.specs.declared.open.OpenFile.{OpenFile}
+use Rattle.mds_file_calls.specs.declared.layout_return.FailedMirror.{FailedMirror}
 use Rattle.mds_calls.specs.declared.ask.MdsAsk.{MdsAsk}
 use Rattle.mds_calls.specs.declared.ask.MdsAsk.TheVariants as ask
 use Rattle.mds_calls.specs.MdsCalls.{SlotCallValue, ReclaimComplete, LayoutGet, DeviceInfo, LayoutReturn, Renew, MdsCallValue, ExchangeId, CreateSession, OnSlot}

@@ -2,7 +2,7 @@
 use Rattle.std.proofs.Common.{◌≡◌, ℕ, Bool, true, false, List, [], ◌∷◌, ◌++◌, Option, Some, None, refl, sym, ap, ◌∙◌, subst, ◌<◌, length, drop, arith, append_assoc, append-nil}
 use Rattle.std.specs.Prelude.{if◌then◌else◌}
 use Rattle.cluster_model.specs.declared.outbox.Outbox.{Outbox}
-use Rattle.mds_calls.specs.declared.call.OpenFile.{OpenFile}
+use Rattle.mds_file_calls.specs.declared.open.OpenFile.{OpenFile}
 use Rattle.client_state.specs.declared.request.UserRequest.{UserRequest}
 use Rattle.client_state.specs.declared.request.UserRequest.TheVariants.{Open, Write, Through, Commit, Read, Return}
 use Rattle.client_state.specs.declared.layout.Layout.{Layout}

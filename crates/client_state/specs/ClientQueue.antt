@@ -11,7 +11,7 @@ use Rattle.cluster_model.specs.declared.answer.FailCause.{FailCause}
 use Rattle.cluster_model.specs.declared.answer.FailCause.TheVariants as failing
 use Rattle.cluster_model.specs.declared.entry.Entry.TheVariants.{Sent, Answer}
 use Rattle.mirror_writer.specs.Writers.{WriterValue, overlaps_taken, with_write, commit_wanted}
-use Rattle.mds_calls.specs.declared.call.OpenFile.{OpenFile}
+use Rattle.mds_file_calls.specs.declared.open.OpenFile.{OpenFile}
 use Rattle.client_state.specs.declared.stage.LayoutStage.{LayoutStage}
 use Rattle.client_state.specs.declared.stage.LayoutStage.TheVariants.{Writing, Ending, Deferred, Returning}
 use Rattle.client_state.specs.declared.request.UserRequest.{UserRequest}

@@ -1,6 +1,1 @@
-pub mod Numbers
-pub mod Addresses
-pub mod ManyLemmas
-pub mod Reports
-pub mod Sliced
 pub mod MdsCallsAgain

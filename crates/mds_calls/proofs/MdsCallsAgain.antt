@@ -1,5 +1,5 @@
 -- The records of calls are read again, and told apart.
-use Rattle.std.proofs.Common.{◌≡◌, ℕ, ◌+◌, ◌^◌, ◌<◌, ◌≤◌, Bool, true, false, ltb, List, [], ◌∷◌, length, Result, Ok, refl, sym, ap, subst, ◌∙◌, arith, append-nil}
+use Rattle.std.proofs.Common.{◌≡◌, ℕ, ◌+◌, false, ltb, List, [], length, Result, Ok, refl, sym, ap, subst, ◌∙◌, arith, append-nil}
 use Rattle.std.specs.Prelude.{IsTrue}
 use Rattle.std.proofs.lemmas.Bool.{le-ltb}
 use Rattle.ff_xdr.specs.declared.error.XdrError.{XdrError}
@@ -11,8 +11,9 @@ use Rattle.rpc_record.specs.Calls.{RpcCall, call_at}
 use Rattle.rpc_record.specs.Laws.{IsCallReadAgain}
 use Rattle.nfs4_compound.specs.Args.{argop4}
 use Rattle.nfs4_compound.specs.Compounds.{compound4_args}
-use Rattle.mds_calls.specs.MdsCompounds.{compound_args, mds_ops}
-use Rattle.mds_calls.specs.MdsCallLaws.{MdsMessage, HasCompoundRecord, compound_message_call, IsCompoundUnderstood, AreCompoundsApart}
+use Rattle.mds_parts.specs.MdsArguments.{compound_args}
+use Rattle.mds_calls.specs.MdsCompounds.{mds_ops}
+use Rattle.mds_calls.specs.MdsCallLaws.{MdsMessage, compound_message_call, IsCompoundUnderstood, AreCompoundsApart}
 
 -- ---- a value that is all the bytes
 

@@ -3,10 +3,10 @@ use Rattle.std.specs.Prelude.{ℕ, Bool, true, false, List, length}
 use Rattle.nfs4_types.specs.declared.ids.SessionId.{SessionId}
 use Rattle.nfs4_types.specs.declared.stateid.Stateid.{Stateid}
 use Rattle.cluster_model.specs.declared.ids.FileId.{FileId}
+use Rattle.mds_file_calls.specs.declared.open.OpenFile.{OpenFile}
+use Rattle.mds_file_calls.specs.declared.layout_return.FailedMirror.{FailedMirror}
 use Rattle.mds_calls.specs.declared.ask.MdsAsk.{MdsAsk}
 use Rattle.mds_calls.specs.declared.ask.MdsAsk.TheVariants as ask
-use Rattle.mds_calls.specs.declared.call.OpenFile.{OpenFile}
-use Rattle.mds_calls.specs.declared.call.FailedMirror.{FailedMirror}
 use Rattle.mds_calls.specs.declared.call.MdsCall.{MdsCall}
 use Rattle.mds_calls.specs.declared.call.MdsCall.TheVariants as declared
 use Rattle.mds_calls.specs.declared.call.SlotCall.{SlotCall}

@@ -1,86 +1,152 @@
 //! What the reply to a call comes to.
 
 ghost use Rattle.std.specs.Prelude.{◌≡◌};
+ghost use Rattle.std.specs.List.{flat_map};
+ghost use Rattle.std.specs.Option.{option_map, option_to_list};
 ghost use Rattle.ff_xdr.specs.Items.{contents};
 ghost use Rattle.ff_xdr.specs.Reading.{reading, whole};
 ghost use Rattle.rpc_record.specs.Replies.{rpc_reply};
 ghost use Rattle.nfs4_types.specs.Status.{stat4_number};
 ghost use Rattle.nfs4_compound.specs.Compounds.{compound4_res};
 ghost use Rattle.nfs4_compound.specs.Results.{resop4, op_res_value};
-ghost use Rattle.mds_calls.specs.MdsCalls.{takes_slot};
-ghost use Rattle.mds_calls.specs.MdsResults.{in_arm, slot_answer_of, slot_result, slot_status};
-ghost use Rattle.mds_calls.specs.MdsReplies.{compound_answer, compound_reply, odd_mds_reply, plain_mds_reply, plain_mds_answer, reply_of_ask, results_of_ask, slot_told};
+ghost use Rattle.mds_file_calls.specs.FileResults.{plain_bytes_read};
+ghost use Rattle.mds_calls.specs.MdsReplies.{Bytes, Client, Complete, Devices, Granted, Opened, Renewed, Returned, Session, Written, answer_if, answer_where, compound_answer, compound_reply, odd_mds_reply, odd_results, plain_mds_answer, plain_mds_reply, reply_of_ask, results_of_ask};
 
 use crate::ask::MdsAsk;
-use crate::create_session::create_session_results;
-use crate::device_info::device_info_results;
-use crate::exchange_id::exchange_id_results;
-use crate::layout_get::layout_get_results;
-use crate::layout_return::layout_return_results;
-use crate::open::open_results;
-use crate::read::read_results;
-use crate::reclaim_complete::reclaim_complete_results;
-use crate::renew::renew_results;
 use crate::reply::{MdsAnswer, MdsReply, SlotReport};
-use crate::results::{Results, odd_results};
-use crate::write::write_results;
+use crate::slot::slot_told;
+use device_addr::NetAddr;
 use ff_xdr::{Array, Wire};
+use mds_file_calls::{
+    BytesRead, LayoutGrant, OpenFile, device_info_results, layout_get_results,
+    layout_return_results, open_results, read_results, write_results,
+};
+use mds_parts::Results;
+use mds_session_calls::{
+    ClientGiven, create_session_results, exchange_id_results, reclaim_complete_results,
+    renew_results,
+};
 use nfs4_compound::{OpRes, Tag4};
-use nfs4_file_ops::OpResult;
-use nfs4_types::Stat4;
+use nfs4_types::{SessionId, Stat4};
 use rpc_record::{Reply, ReplyBody};
 
 /// The result of a compound, `COMPOUND4res`.
 type CompoundRes<'a> = (Stat4, Tag4<'a>, Array<'a, OpRes<'a>, { u32::MAX }>);
 
-/// What a refused SEQUENCE says of the slot (RFC 8881, section 18.46.3).
-fn slot_status(status: Stat4) -> SlotReport
-    ensures { result ≡ slot_status (stat4_number status) }
+/// A reply that no server gives by the standard: SERVERFAULT (RFC 8881, section 15.1.1.9).
+fn odd_results<'a>() -> MdsAnswer<'a>
+    ensures { plain_mds_answer result ≡ odd_results }
 {
-    match status.number() {
-        10068 => SlotReport::Uncached,
-        10008 => SlotReport::Delayed,
-        _ => SlotReport::Unknown,
+    MdsAnswer::Refused(Stat4::ServerFault)
+}
+
+/// The answer to an EXCHANGE_ID.
+fn client_answer<'a>(given: Option<ClientGiven>) -> MdsAnswer<'a>
+    ensures { plain_mds_answer result ≡ answer_where (λ c. Client c.clientid c.sequence) given }
+{
+    match given {
+        Some(given) => MdsAnswer::Client {
+            clientid: given.clientid,
+            sequence: given.sequence,
+        },
+        None => odd_results(),
     }
 }
 
-/// What a result says of the slot, where it is a SEQUENCE's.
-fn slot_of(first: &OpRes<'_>) -> SlotReport
-    ensures { result ≡ in_arm 53 resop4 slot_result SlotReport.Unknown (op_res_value first.now) }
+/// The answer to a CREATE_SESSION.
+fn session_answer<'a>(session: Option<SessionId>) -> MdsAnswer<'a>
+    ensures { plain_mds_answer result ≡ answer_where Session session }
 {
-    match first {
-        OpRes::Sequence(OpResult::Done(_)) => SlotReport::Taken,
-        OpRes::Sequence(OpResult::Refused(status)) => slot_status(*status),
-        _ => SlotReport::Unknown,
+    match session {
+        Some(session) => MdsAnswer::Session(session),
+        None => odd_results(),
     }
 }
 
-/// What the first result says of the slot.
-fn slot_answer_of(results: Results<'_>) -> SlotReport
-    ensures { result ≡ slot_answer_of (contents resop4 op_res_value results.entry.place) }
+/// The answer to a RECLAIM_COMPLETE.
+fn complete_answer<'a>(is_ok: bool) -> MdsAnswer<'a>
+    ensures { plain_mds_answer result ≡ answer_if is_ok Complete }
 {
-    let mut results = results.items();
-    match results.next() {
-        None => SlotReport::Unknown,
-        Some(first) => slot_of(&first),
-    }
-}
-
-/// The call is a request on a slot.
-fn takes_slot(ask: &MdsAsk) -> bool
-    ensures { result ≡ takes_slot ask.now }
-{
-    !matches!(ask, MdsAsk::ExchangeId | MdsAsk::CreateSession)
-}
-
-/// What the slot is told: nothing by a call that takes none.
-fn slot_told(ask: &MdsAsk, results: Results<'_>) -> SlotReport
-    ensures { result ≡ slot_told ask.now (contents resop4 op_res_value results.entry.place) }
-{
-    if takes_slot(ask) {
-        slot_answer_of(results)
+    if is_ok {
+        MdsAnswer::Complete
     } else {
-        SlotReport::Unknown
+        odd_results()
+    }
+}
+
+/// The answer to an OPEN.
+fn open_answer<'a>(file: Option<OpenFile>) -> MdsAnswer<'a>
+    ensures { plain_mds_answer result ≡ answer_where Opened file }
+{
+    match file {
+        Some(file) => MdsAnswer::Opened(file),
+        None => odd_results(),
+    }
+}
+
+/// The answer to a LAYOUTGET.
+fn layout_answer<'a>(grant: Option<LayoutGrant>) -> MdsAnswer<'a>
+    ensures { plain_mds_answer result ≡ answer_where Granted grant }
+{
+    match grant {
+        Some(grant) => MdsAnswer::Granted(grant),
+        None => odd_results(),
+    }
+}
+
+/// The answer to a GETDEVICEINFO.
+fn devices_answer<'a>(addresses: Option<[Option<NetAddr>; 4]>) -> MdsAnswer<'a>
+    ensures { plain_mds_answer result ≡ answer_where Devices (option_map (flat_map option_to_list) addresses) }
+{
+    match addresses {
+        Some(addresses) => MdsAnswer::Devices(addresses),
+        None => odd_results(),
+    }
+}
+
+/// The answer to a WRITE.
+fn write_answer<'a>(is_ok: bool) -> MdsAnswer<'a>
+    ensures { plain_mds_answer result ≡ answer_if is_ok Written }
+{
+    if is_ok {
+        MdsAnswer::Written
+    } else {
+        odd_results()
+    }
+}
+
+/// The answer to a READ.
+fn read_answer<'a>(read: Option<BytesRead<'a>>) -> MdsAnswer<'a>
+    ensures { plain_mds_answer result ≡ answer_where (λ b. Bytes b.eof b.bytes) (option_map plain_bytes_read read.entry) }
+{
+    match read {
+        Some(read) => MdsAnswer::Bytes {
+            eof: read.eof,
+            bytes: read.bytes,
+        },
+        None => odd_results(),
+    }
+}
+
+/// The answer to a LAYOUTRETURN.
+fn return_answer<'a>(is_ok: bool) -> MdsAnswer<'a>
+    ensures { plain_mds_answer result ≡ answer_if is_ok Returned }
+{
+    if is_ok {
+        MdsAnswer::Returned
+    } else {
+        odd_results()
+    }
+}
+
+/// The answer to a SEQUENCE alone.
+fn renew_answer<'a>(is_ok: bool) -> MdsAnswer<'a>
+    ensures { plain_mds_answer result ≡ answer_if is_ok Renewed }
+{
+    if is_ok {
+        MdsAnswer::Renewed
+    } else {
+        odd_results()
     }
 }
 
@@ -89,16 +155,16 @@ fn results_of<'a>(ask: &MdsAsk, results: Results<'a>) -> MdsAnswer<'a>
     ensures { plain_mds_answer result ≡ results_of_ask ask.now (contents resop4 op_res_value results.entry.place) }
 {
     match ask {
-        MdsAsk::ExchangeId => exchange_id_results(results),
-        MdsAsk::CreateSession => create_session_results(results),
-        MdsAsk::ReclaimComplete => reclaim_complete_results(results),
-        MdsAsk::Open => open_results(results),
-        MdsAsk::LayoutGet => layout_get_results(results),
-        MdsAsk::DeviceInfo { count } => device_info_results(*count, results),
-        MdsAsk::Write => write_results(results),
-        MdsAsk::Read { at, count } => read_results(*at, *count, results),
-        MdsAsk::LayoutReturn => layout_return_results(results),
-        MdsAsk::Renew => renew_results(results),
+        MdsAsk::ExchangeId => client_answer(exchange_id_results(results)),
+        MdsAsk::CreateSession => session_answer(create_session_results(results)),
+        MdsAsk::ReclaimComplete => complete_answer(reclaim_complete_results(results)),
+        MdsAsk::Open => open_answer(open_results(results)),
+        MdsAsk::LayoutGet => layout_answer(layout_get_results(results)),
+        MdsAsk::DeviceInfo { count } => devices_answer(device_info_results(*count, results)),
+        MdsAsk::Write => write_answer(write_results(results)),
+        MdsAsk::Read { at, count } => read_answer(read_results(*at, *count, results)),
+        MdsAsk::LayoutReturn => return_answer(layout_return_results(results)),
+        MdsAsk::Renew => renew_answer(renew_results(results)),
     }
 }
 

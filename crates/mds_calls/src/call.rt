@@ -1,21 +1,8 @@
 //! What a client asks of its metadata server, without how it is spelled (RFC 8881, section 18).
 
 use cluster_model::FileId;
+use mds_file_calls::{FailedMirror, OpenFile};
 use nfs4_types::{SessionId, Stateid};
-
-/// A file that is open: its number, which its handle says, and the stateid of the open.
-#[derive(Clone, Copy, Debug, PartialEq, Eq)]
-pub struct OpenFile {
-    pub file: FileId,
-    pub stateid: Stateid,
-}
-
-/// A mirror that failed, by its data server, and why: a status of NFS.
-#[derive(Clone, Copy, Debug, PartialEq, Eq)]
-pub struct FailedMirror {
-    pub server: u32,
-    pub status: u32,
-}
 
 /// A compound of a client.
 #[derive(Clone, Copy, Debug, PartialEq, Eq)]

@@ -2,23 +2,17 @@
 
 ghost use Rattle.std.specs.Prelude.{◌≤◌, ◌↔◌, IsTrue, length};
 ghost use Rattle.ff_xdr.specs.Calls.{Puts, Grows};
+ghost use Rattle.mds_parts.specs.MdsArguments.{compound_args};
 ghost use Rattle.mds_calls.specs.MdsCalls.{OnSlot, plain_mds_call, plain_slot_call};
-ghost use Rattle.mds_calls.specs.MdsCompounds.{FitsCompound, compound_args, mds_call_bytes, mds_ops};
+ghost use Rattle.mds_calls.specs.MdsCompounds.{FitsCompound, mds_call_bytes, mds_ops};
 
 use crate::call::{MdsCall, SlotCall};
-use crate::create_session::put_create_session;
-use crate::device_info::put_device_info;
-use crate::exchange_id::put_exchange_id;
-use crate::header::{put_body, put_start};
-use crate::layout_get::put_layout_get;
-use crate::layout_return::put_layout_return;
-use crate::open::put_open;
-use crate::ops::Start;
-use crate::read::put_read;
-use crate::reclaim_complete::put_reclaim_complete;
-use crate::renew::put_renew;
-use crate::write::put_write;
 use ff_xdr::{NoMemory, Out};
+use mds_file_calls::{
+    put_device_info, put_layout_get, put_layout_return, put_open, put_read, put_write,
+};
+use mds_parts::{Start, put_body, put_start};
+use mds_session_calls::{put_create_session, put_exchange_id, put_reclaim_complete, put_renew};
 use nfs4_file_ops::MAX_OPAQUE4;
 use std::alloc::Global;
 

@@ -1,9 +1,8 @@
 //! What a metadata server's reply comes to for its client, without how it is spelled.
 
-use crate::call::OpenFile;
-use cluster_model::{Cred, Mirrors};
 use device_addr::NetAddr;
-use nfs4_types::{SessionId, Stat4, Stateid};
+use mds_file_calls::{LayoutGrant, OpenFile};
+use nfs4_types::{SessionId, Stat4};
 
 /// What the SEQUENCE of a request came to (RFC 8881, section 18.46.3).
 #[derive(Clone, Copy, Debug, PartialEq, Eq)]
@@ -16,15 +15,6 @@ pub enum SlotReport {
     Delayed,
     /// Another status, or no result of a SEQUENCE.
     Unknown,
-}
-
-/// A layout that was granted: its stateid, the uid that its writes carry, and the mirrors of the file, at
-/// which nothing was seen yet.
-#[derive(Clone, Copy, Debug, PartialEq, Eq)]
-pub struct LayoutGrant {
-    pub stateid: Stateid,
-    pub uid: Cred,
-    pub mirrors: Mirrors,
 }
 
 /// What a request came to.

@@ -12,7 +12,7 @@ use Rattle.cluster_model.specs.DsCalls as ds
 use Rattle.mirror_writer.specs.Outstanding.{OutCall}
 use Rattle.ds_calls.specs.MadeCalls.{ds_call_bytes}
 use Rattle.ds_calls.specs.GivenReplies.{reply_of_call}
-use Rattle.mds_calls.specs.declared.call.OpenFile.{OpenFile}
+use Rattle.mds_file_calls.specs.declared.open.OpenFile.{OpenFile}
 use Rattle.mds_calls.specs.declared.ask.MdsAsk.{MdsAsk}
 use Rattle.mds_calls.specs.declared.ask.MdsAsk.TheVariants as ask
 use Rattle.mds_calls.specs.MdsReplies.{MdsReplyValue, reply_of_ask}

@@ -12,9 +12,9 @@ use Rattle.cluster_model.specs.declared.answer.FailCause.TheVariants as failing
 use Rattle.cluster_model.specs.declared.entry.Entry.{Entry}
 use Rattle.cluster_model.specs.declared.entry.Entry.TheVariants.{Sent, Told, TimedOut, Answer}
 use Rattle.cluster_model.specs.DsCalls as ds
-use Rattle.mds_calls.specs.declared.call.OpenFile.{OpenFile}
+use Rattle.mds_file_calls.specs.declared.open.OpenFile.{OpenFile}
 use Rattle.mds_calls.specs.declared.ask.MdsAsk.TheVariants as ask
-use Rattle.mds_calls.specs.declared.reply.LayoutGrant.{LayoutGrant}
+use Rattle.mds_file_calls.specs.declared.grant.LayoutGrant.{LayoutGrant}
 use Rattle.mds_calls.specs.declared.reply.SlotReport.TheVariants.{Taken, Uncached, Delayed, Unknown}
 use Rattle.mds_calls.specs.MdsReplies as says
 use Rattle.client_state.specs.declared.request.UserRequest.TheVariants.{Open, Write, Commit, Read}

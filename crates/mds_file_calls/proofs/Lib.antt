@@ -1,0 +1,5 @@
+pub mod Numbers
+pub mod Addresses
+pub mod ManyLemmas
+pub mod Reports
+pub mod Sliced

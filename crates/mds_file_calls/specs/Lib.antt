@@ -1,0 +1,4 @@
+pub mod FileOps
+pub mod FileResults
+pub mod LayoutGrants
+pub mod MdsDevices

@@ -1,0 +1,7 @@
+//! Numbers of flexible-file layouts.
+
+/// LAYOUT4_FLEX_FILES (RFC 8435, section 4).
+pub const FLEX_FILES: u32 = 4;
+
+/// LAYOUTIOMODE4_RW (RFC 8881, section 3.3.20).
+pub const READS_AND_WRITES: u32 = 2;

@@ -1,0 +1,3 @@
+pub mod MdsArguments
+pub mod MdsLists
+pub mod MdsResults

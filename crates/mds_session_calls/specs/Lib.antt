@@ -1,0 +1,2 @@
+pub mod SessionOps
+pub mod SessionResults
