@@ -1,6 +1,8 @@
 //! The kinds of parts.
 
+use part_entries::EntryRows;
 use part_nodes::{ClientRows, DataFileRows, ServerRows};
+use part_runs::{ConfigRows, LineRows, RunRows};
 use part_state::{
     CbSlotRows, ExtentsRows, FenceRows, FileStateRows, MirrorsRows, SessionsRows, WriterRows,
 };
@@ -13,6 +15,10 @@ pub enum AnyPart {
     CbSlot(CbSlotRows),
     Client(ClientRows),
     DataFile(DataFileRows),
+    Run(RunRows),
+    Line(LineRows),
+    Entry(EntryRows),
+    Config(ConfigRows),
     Extents(ExtentsRows),
     Fence(FenceRows),
     FileState(FileStateRows),
@@ -28,6 +34,10 @@ impl AnyPart {
         match kind {
             "cbslot" => Some(AnyPart::CbSlot(CbSlotRows::new())),
             "client" => Some(AnyPart::Client(ClientRows::new(alloc))),
+            "config" => Some(AnyPart::Config(ConfigRows)),
+            "entry" => Some(AnyPart::Entry(EntryRows)),
+            "line" => Some(AnyPart::Line(LineRows)),
+            "run" => Some(AnyPart::Run(RunRows)),
             "datafile" => Some(AnyPart::DataFile(DataFileRows::new(alloc))),
             "extents" => Some(AnyPart::Extents(ExtentsRows::new(alloc))),
             "fence" => Some(AnyPart::Fence(FenceRows::new())),
@@ -46,6 +56,10 @@ impl Part for AnyPart {
         match self {
             AnyPart::CbSlot(part) => part.call(words, answer),
             AnyPart::Client(part) => part.call(words, answer),
+            AnyPart::Config(part) => part.call(words, answer),
+            AnyPart::Entry(part) => part.call(words, answer),
+            AnyPart::Line(part) => part.call(words, answer),
+            AnyPart::Run(part) => part.call(words, answer),
             AnyPart::DataFile(part) => part.call(words, answer),
             AnyPart::Extents(part) => part.call(words, answer),
             AnyPart::Fence(part) => part.call(words, answer),

@@ -2,10 +2,12 @@
 
 use crate::kinds::AnyPart;
 use crate::outcome::Outcome;
+use part_runs::{replayed, shown};
 use row_talk::Talk;
 use row_words::{RowFault, put_answer};
 use std::alloc::Global;
 use std::io::{self, BufRead, Read};
+use std::str;
 
 /// The row of a line: its call, and the answer that is wanted. A line that says nothing is none.
 fn row_of(line: &str) -> Option<(&str, &str)> {
@@ -65,10 +67,27 @@ fn play_input_talk(rt: &HostRuntime) -> io::Result<bool> {
     Ok(true)
 }
 
-/// Plays the standard input on a part of a kind, and prints an answer a line.
+/// Prints what a command prints of the standard input.
+fn play_input_text(rt: &HostRuntime, is_script: bool) -> io::Result<bool> {
+    let text = io::read_to_string(rt.alloc(), rt.stdin())?;
+    let bytes = if is_script {
+        replayed(rt.alloc(), text.as_bytes()).map_err(io_fault)?
+    } else {
+        shown(rt.alloc(), text.as_bytes()).map_err(io_fault)?
+    };
+    let came = str::from_utf8(&bytes).unwrap_or("?");
+    print!(rt; "{came}")?;
+    Ok(true)
+}
+
+/// Plays the standard input on a part of a kind, and prints an answer a line. Of a script and of records it prints what
+/// `replay` and `show` print.
 pub fn play_input(rt: &HostRuntime, kind: &str) -> io::Result<bool> {
-    if kind == "talk" {
-        return play_input_talk(rt);
+    match kind {
+        "talk" => return play_input_talk(rt),
+        "replay" => return play_input_text(rt, true),
+        "show" => return play_input_text(rt, false),
+        _ => {}
     }
     let Some(mut part) = AnyPart::named(rt.alloc(), kind) else {
         return Ok(false);
