@@ -1,0 +1,84 @@
+//! What a metadata server's reply comes to as words.
+
+use crate::addresses::put_place;
+use device_addr::NetAddr;
+use mds_calls::{LayoutGrant, MdsAnswer, MdsReply, OpenFile, SlotReport};
+use nfs4_types::Stateid;
+use row_words::{Answer, RowFault};
+
+/// What the SEQUENCE of a request came to.
+fn put_slot(slot: SlotReport, answer: &mut Answer) -> Result<(), RowFault> {
+    answer.word(match slot {
+        SlotReport::Taken => "Taken",
+        SlotReport::Uncached => "Uncached",
+        SlotReport::Delayed => "Delayed",
+        SlotReport::Unknown => "Unknown",
+    })
+}
+
+/// A stateid: how often it changed, and which state it is.
+fn put_stateid(stateid: &Stateid, answer: &mut Answer) -> Result<(), RowFault> {
+    answer.number(u64::from(stateid.seqid))?;
+    answer.bytes(&stateid.other)
+}
+
+/// A file that was opened: its number and the stateid.
+fn put_opened(opened: &OpenFile, answer: &mut Answer) -> Result<(), RowFault> {
+    answer.word("Opened")?;
+    answer.number(u64::from(opened.file.0))?;
+    put_stateid(&opened.stateid, answer)
+}
+
+/// A layout that was granted: the stateid, the user and the mirrors.
+fn put_granted(grant: &LayoutGrant, answer: &mut Answer) -> Result<(), RowFault> {
+    answer.word("Granted")?;
+    put_stateid(&grant.stateid, answer)?;
+    answer.cred(grant.uid)?;
+    answer.mirrors(grant.mirrors)
+}
+
+/// The addresses of devices, in four places.
+fn put_devices(places: &[Option<NetAddr>; 4], answer: &mut Answer) -> Result<(), RowFault> {
+    answer.word("Devices")?;
+    for place in places {
+        put_place(place, answer)?;
+    }
+    Ok(())
+}
+
+/// What a request came to.
+fn put_mds_answer(told: &MdsAnswer<'_>, answer: &mut Answer) -> Result<(), RowFault> {
+    match told {
+        MdsAnswer::Client { clientid, sequence } => {
+            answer.word("Client")?;
+            answer.number(*clientid)?;
+            answer.number(u64::from(*sequence))
+        }
+        MdsAnswer::Session(session) => {
+            answer.word("Session")?;
+            answer.bytes(&session.0)
+        }
+        MdsAnswer::Complete => answer.word("Complete"),
+        MdsAnswer::Opened(opened) => put_opened(opened, answer),
+        MdsAnswer::Granted(grant) => put_granted(grant, answer),
+        MdsAnswer::Devices(places) => put_devices(places, answer),
+        MdsAnswer::Written => answer.word("Written"),
+        MdsAnswer::Bytes { eof, bytes } => {
+            answer.word("Bytes")?;
+            answer.flag(*eof)?;
+            answer.bytes(bytes)
+        }
+        MdsAnswer::Returned => answer.word("Returned"),
+        MdsAnswer::Renewed => answer.word("Renewed"),
+        MdsAnswer::Refused(status) => {
+            answer.word("Refused")?;
+            answer.number(u64::from(status.number()))
+        }
+    }
+}
+
+/// What a reply says of the slot, and what the request came to.
+pub fn put_mds_reply(reply: &MdsReply<'_>, answer: &mut Answer) -> Result<(), RowFault> {
+    put_slot(reply.slot, answer)?;
+    put_mds_answer(&reply.answer, answer)
+}
