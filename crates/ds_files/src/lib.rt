@@ -15,4 +15,3 @@ pub use cluster_model::{Cred, Entry, MirrorId, NodeId, Outbox, Piece, Tick, Time
 pub use ds_procedures::Answer3;
 pub use laws::{effects, entries, refusals, restarts, strangers, ticks};
 pub use server::{DataServer, RestartFault};
-
