@@ -3,11 +3,11 @@
 
 mod apply;
 mod client;
-mod data_file;
 mod outbox;
 mod pieces;
 mod server;
+mod stored_file;
 
 pub use client::ClientRows;
-pub use data_file::DataFileRows;
 pub use server::ServerRows;
+pub use stored_file::DataFileRows;

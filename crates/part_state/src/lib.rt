@@ -4,7 +4,7 @@
 
 mod cb_slot;
 mod extents;
-mod fence;
+mod fences;
 mod file_state;
 mod mirrors;
 mod sessions;
@@ -12,7 +12,7 @@ mod writer;
 
 pub use cb_slot::CbSlotRows;
 pub use extents::ExtentsRows;
-pub use fence::FenceRows;
+pub use fences::FenceRows;
 pub use file_state::FileStateRows;
 pub use mirrors::MirrorsRows;
 pub use sessions::SessionsRows;

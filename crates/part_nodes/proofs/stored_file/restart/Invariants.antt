@@ -1,5 +1,5 @@
 use Rattle.data_file.specs.Kept.{IsKeptOf}
-use Rattle.part_nodes.proofs.data_file.restart.Given as goal
+use Rattle.part_nodes.proofs.stored_file.restart.Given as goal
 
 -- what was kept is of the file
 abbrev pub invariant-loop : goal.invariant-loop
