@@ -23,4 +23,3 @@ pub use stage::LayoutStage;
 pub use state::State;
 pub use tie::{OwnSession, Tie};
 pub use untold::Untold;
-
