@@ -2,7 +2,7 @@
 
 use md5::{Digest, Md5};
 use row_words::{Answer, RowFault, Words, number32};
-use std::str;
+use std::alloc::Global;
 
 /// Bytes are shown as a word where there are no more than these.
 const SHORT: usize = 1_000;
@@ -32,25 +32,24 @@ fn push_escaped(escaped: &str, bytes: &mut Vec<u8>) -> Result<(), RowFault> {
 
 /// Appends the bytes of a text in which nothing is repeated.
 fn push_plain(plain: &str, bytes: &mut Vec<u8>) -> Result<(), RowFault> {
-    for (place, part) in plain.split('\\').enumerate() {
-        if place == 0 {
-            push_letters(part, bytes)?;
-        } else {
-            push_escaped(part, bytes)?;
-        }
+    let Some((letters, rest)) = plain.split_once("\\") else {
+        return push_letters(plain, bytes);
+    };
+    push_letters(letters, bytes)?;
+    for escaped in rest.split('\\') {
+        push_escaped(escaped, bytes)?;
     }
     Ok(())
 }
 
 /// Appends the bytes of `N(PLAIN)PLAIN`: those of the first so many times, and of the second.
-fn push_repeated(repeated: &str, bytes: &mut Vec<u8>) -> Result<(), RowFault> {
+fn push_repeated(alloc: Global, repeated: &str, bytes: &mut Vec<u8>) -> Result<(), RowFault> {
     let (count, rest) = repeated.split_once("(").ok_or(RowFault::Outside)?;
     let (once, behind) = rest.split_once(")").ok_or(RowFault::Outside)?;
-    let start = bytes.len();
-    push_plain(once, bytes)?;
-    let once = bytes.split_off(start)?;
+    let mut piece = Vec::new(alloc);
+    push_plain(once, &mut piece)?;
     for _ in 0..number32(count)? {
-        bytes.extend_from_slice(&once)?;
+        bytes.extend_from_slice(&piece)?;
     }
     push_plain(behind, bytes)
 }
@@ -58,17 +57,19 @@ fn push_repeated(repeated: &str, bytes: &mut Vec<u8>) -> Result<(), RowFault> {
 /// The bytes of a word: printable characters stand for themselves, `_` for a blank and `;` for a newline, `\` and two
 /// hexadecimal digits for any byte, and `*N(..)` for what stands in the brackets, N times. `-` is no bytes.
 pub fn read_text(words: &mut Words<'_>) -> Result<Vec<u8>, RowFault> {
+    let alloc = words.alloc();
     let word = words.word()?;
-    let mut bytes = Vec::new(words.alloc());
+    let mut bytes = Vec::new(alloc);
     if word == "-" {
         return Ok(bytes);
     }
-    for (place, part) in word.split('*').enumerate() {
-        if place == 0 {
-            push_plain(part, &mut bytes)?;
-        } else {
-            push_repeated(part, &mut bytes)?;
-        }
+    let Some((plain, rest)) = word.split_once("*") else {
+        push_plain(word, &mut bytes)?;
+        return Ok(bytes);
+    };
+    push_plain(plain, &mut bytes)?;
+    for repeated in rest.split('*') {
+        push_repeated(alloc, repeated, &mut bytes)?;
     }
     Ok(bytes)
 }
@@ -105,7 +106,7 @@ fn put_word(bytes: &[u8], answer: &mut Answer) -> Result<(), RowFault> {
 fn last_line(bytes: &[u8]) -> &[u8] {
     let lines = bytes.strip_suffix(b"\n").unwrap_or(bytes);
     match lines.iter().rposition(|byte| *byte == b'\n') {
-        Some(at) => lines.get(at + 1..).unwrap_or(lines),
+        Some(at) => lines.get(at.saturating_add(1)..).unwrap_or(lines),
         None => lines,
     }
 }
