@@ -52,13 +52,19 @@ pub fn io_fault(_: RowFault) -> io::Error {
     io::Error::from(io::ErrorKind::OutOfMemory)
 }
 
+/// Says that there is no such kind.
+fn no_kind(rt: &HostRuntime, kind: &str) -> io::Result<bool> {
+    eprintln!(rt; "part_rows: there is no kind '{kind}'")?;
+    Ok(false)
+}
+
 /// Plays the conversations of the standard input, and prints what comes of each event.
 fn play_input_talk(rt: &HostRuntime) -> io::Result<bool> {
     let alloc = rt.alloc();
     let text = io::read_to_string(alloc, rt.stdin())?;
     let talk = Talk::read(alloc, text.as_str()).map_err(io_fault)?;
     let Some(mut part) = AnyPart::named(alloc, talk.kind()) else {
-        return Ok(false);
+        return no_kind(rt, talk.kind());
     };
     for row in &talk.rows().map_err(io_fault)? {
         let came = put_answer(alloc, &mut part, row.call.as_str()).map_err(io_fault)?;
@@ -90,7 +96,7 @@ pub fn play_input(rt: &HostRuntime, kind: &str) -> io::Result<bool> {
         _ => {}
     }
     let Some(mut part) = AnyPart::named(rt.alloc(), kind) else {
-        return Ok(false);
+        return no_kind(rt, kind);
     };
     for line in rt.stdin().lines(rt.alloc()) {
         let line = line?;
