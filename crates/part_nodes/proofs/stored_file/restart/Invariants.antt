@@ -2,5 +2,5 @@ use Rattle.data_file.specs.Kept.{IsKeptOf}
 use Rattle.part_nodes.proofs.stored_file.restart.Given as goal
 
 -- what was kept is of the file
-abbrev pub invariant-loop : goal.invariant-loop
-invariant-loop l = IsKeptOf l.file.now l.kept
+abbrev pub invariant-loop-piece : goal.invariant-loop-piece
+invariant-loop-piece l = IsKeptOf l.file l.kept
