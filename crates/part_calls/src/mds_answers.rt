@@ -2,9 +2,10 @@
 
 use crate::addresses::put_place;
 use device_addr::NetAddr;
-use mds_calls::{LayoutGrant, MdsAnswer, MdsReply, OpenFile, SlotReport};
+use mds_calls::{LayoutGrant, MdsAnswer, MdsAsk, MdsReply, OpenFile, SlotReport, mds_reply_of};
 use nfs4_types::Stateid;
 use row_words::{Answer, RowFault};
+use rpc_record::Reply;
 
 /// What the SEQUENCE of a request came to.
 fn put_slot(slot: SlotReport, answer: &mut Answer) -> Result<(), RowFault> {
@@ -77,8 +78,9 @@ fn put_mds_answer(told: &MdsAnswer<'_>, answer: &mut Answer) -> Result<(), RowFa
     }
 }
 
-/// What a reply says of the slot, and what the request came to.
-pub fn put_mds_reply(reply: &MdsReply<'_>, answer: &mut Answer) -> Result<(), RowFault> {
-    put_slot(reply.slot, answer)?;
-    put_mds_answer(&reply.answer, answer)
+/// What a reply to what was asked says of the slot, and what the request came to.
+pub fn put_mds_reply(ask: &MdsAsk, reply: &Reply<'_>, answer: &mut Answer) -> Result<(), RowFault> {
+    let MdsReply { slot, answer: told } = mds_reply_of(ask, reply);
+    put_slot(slot, answer)?;
+    put_mds_answer(&told, answer)
 }

@@ -4,7 +4,7 @@ use crate::mds_answers::put_mds_reply;
 use crate::mds_asks::mds_ask;
 use crate::mds_words::{Lent, mds_call};
 use ff_xdr::Out;
-use mds_calls::{fits, mds_reply_of, put_mds_call};
+use mds_calls::{fits, put_mds_call};
 use row_words::{Answer, Part, RowFault, Words};
 use rpc_record::Reply;
 
@@ -45,7 +45,7 @@ fn put_reply(words: &mut Words<'_>, answer: &mut Answer) -> Result<(), RowFault>
     let reply = Reply::read(record.as_slice())
         .ok()
         .ok_or(RowFault::Outside)?;
-    put_mds_reply(&mds_reply_of(&ask, &reply), answer)
+    put_mds_reply(&ask, &reply, answer)
 }
 
 impl Part for MdsCallsRows {

@@ -8,7 +8,12 @@ use std::alloc::Global;
 
 /// The call spells these bytes.
 fn is_call_spelled(call: &Call<'_>, bytes: &[u8], alloc: Global) -> Result<bool, RowFault> {
-    if !call.cred.fits() || !call.verf.fits() {
+    // read, so that the check knows that each fits a word
+    let _words = (call.program, call.version, call.procedure);
+    if !call.cred.fits() {
+        return Ok(false);
+    }
+    if !call.verf.fits() {
         return Ok(false);
     }
     let mut out = Out::new(alloc);
