@@ -1,6 +1,6 @@
 //! Values that no bytes need spell, and whether they have a spelling.
 
-use ff_xdr::{Items, Wire};
+use ff_xdr::{Items, Out, Wire};
 use nfs4_compound::OpRes;
 use nfs4_file_ops::{GetDeviceInfoRes, LayoutGetRes, OpResult};
 use nfs4_types::Stat4;
@@ -11,18 +11,13 @@ fn status(words: &mut Words<'_>) -> Result<Stat4, RowFault> {
     Stat4::of_number(words.number32()?).ok_or(RowFault::Outside)
 }
 
-/// A list of at most `max` numbers.
-fn list_fits(words: &mut Words<'_>) -> Result<bool, RowFault> {
-    let max = words.number32()?;
+/// Numbers with commas between them.
+fn numbers(words: &mut Words<'_>) -> Result<Vec<u32>, RowFault> {
     let mut numbers = Vec::new(words.alloc());
     for digits in words.word()?.split(',') {
         numbers.push(number32(digits)?)?;
     }
-    let numbers = numbers.as_slice();
-    if numbers.len() > u32::MAX as usize {
-        return Err(RowFault::Outside);
-    }
-    Ok(Items::made(numbers).fits(max))
+    Ok(numbers)
 }
 
 /// A result that was refused by the status that is named.
@@ -36,11 +31,22 @@ fn refused(words: &mut Words<'_>) -> Result<OpRes<'static>, RowFault> {
     }
 }
 
-/// `list_fits MAX NUMBERS`: whether a list of these numbers has a spelling.
-pub fn put_list_fits(words: &mut Words<'_>, answer: &mut Answer) -> Result<(), RowFault> {
-    let fits = list_fits(words)?;
+/// `list MAX NUMBERS`: what a list of these numbers spells, where it has a spelling with at most so many.
+pub fn put_list(words: &mut Words<'_>, answer: &mut Answer) -> Result<(), RowFault> {
+    let max = words.number32()?;
+    let numbers = numbers(words)?;
     words.end()?;
-    answer.flag(fits)
+    if numbers.len() > u32::MAX as usize {
+        return Err(RowFault::Outside);
+    }
+    let list = Items::made(numbers.as_slice());
+    if !list.fits(max) {
+        return answer.word("None");
+    }
+    let mut out = Out::new(answer.alloc());
+    list.put(&mut out)?;
+    answer.word("Some")?;
+    answer.bytes(out.bytes())
 }
 
 /// `result_fits OPERATION STATUS`: whether a result that was refused so has a spelling.

@@ -2,7 +2,7 @@
 
 use crate::asked::{Ask, longer_bytes};
 use crate::compounds::{put_cb_compound_row, put_compound_row};
-use crate::fits::{put_list_fits, put_result_fits};
+use crate::fits::{put_list, put_result_fits};
 use crate::forms::put_form;
 use crate::identifiers::put_identifier;
 use crate::items::{put_data, put_items, put_raw};
@@ -53,7 +53,7 @@ impl Part for MessageRows {
             "items" => put_items(words, answer),
             "raw" => put_raw(words, answer),
             "data" => put_data(words, answer),
-            "list_fits" => put_list_fits(words, answer),
+            "list" => put_list(words, answer),
             "result_fits" => put_result_fits(words, answer),
             "call" | "reply" | "compound" | "cb_compound" | "results" | "cb_results" => {
                 let bytes = words.bytes()?;
