@@ -5,61 +5,108 @@ use record_link::{Connections, Halt, MAX_CONNECTIONS, MemoryStream};
 use std::process::Abort;
 use std::test::Fail;
 
-/// The bytes that went on the connection of this number are these.
-fn has_gone(connections: &Connections<MemoryStream>, number: u32, want: &[u8]) -> bool {
+/// Three connections by their numbers, the bytes of their streams, and how many move at a time.
+const STREAMS: [(u32, &[u8], &[usize]); 3] = [
+    (1, &ONE_FOUR, &[5, 0, 64, 3, 0]),
+    (2, &ONE, &[]),
+    (3, &TOO_LONG, &[]),
+];
+
+/// Which connection is filled, and what is answered.
+const FILLS: [(u32, Result<(), Halt>); 6] = [
+    (1, Ok(())),
+    (1, Err(Halt::WouldBlock)),
+    (2, Ok(())),
+    (1, Ok(())),
+    (3, Ok(())),
+    (9, Err(Halt::Lost)),
+];
+
+/// The records that come then, in their order.
+const RECORDS: [(u32, &[u8]); 3] = [(2, b"one"), (1, b"one"), (1, b"four")];
+
+/// Answers, of which the last is for a connection that there is not.
+const ANSWERS: [(u32, &[u8]); 3] = [(1, b"one"), (1, b"four"), (9, b"lost")];
+
+/// Which connection is drained, what is answered, and what has gone on it then.
+const DRAINS: [(u32, Result<(), Halt>, &[u8]); 3] = [
+    (2, Ok(()), &[]),
+    (1, Err(Halt::WouldBlock), &[0x80, 0, 0]),
+    (1, Ok(()), &ONE_FOUR),
+];
+
+/// What has gone on the connection of this number.
+fn gone(connections: &Connections<MemoryStream>, number: u32) -> &[u8] {
     match connections.stream(number) {
-        Some(stream) => stream.gone() == want,
-        None => false,
+        Some(stream) => stream.gone(),
+        None => b"no stream",
     }
 }
 
-#[test]
-fn records_of_three_connections(rt: HostRuntime) -> Result<(), Fail> {
-    let alloc = rt.alloc();
-    let mut connections = Connections::new(alloc);
-    let first = stream(alloc, &ONE_FOUR, &[5, 0, 64, 3, 0])?;
-    let second = stream(alloc, &ONE, &[])?;
-    let third = stream(alloc, &TOO_LONG, &[])?;
-    assert_eq!(rt; connections.open(first)?, Some(1));
-    assert_eq!(rt; connections.open(second)?, Some(2));
-    assert_eq!(rt; connections.open(third)?, Some(3));
-    assert_eq!(rt; connections.fill(1), Ok(()));
-    assert_eq!(rt; connections.fill(1), Err(Halt::WouldBlock));
-    assert_eq!(rt; connections.fill(2), Ok(()));
-    assert_eq!(rt; connections.fill(1), Ok(()));
-    assert_eq!(rt; connections.fill(3), Ok(()));
-    assert_eq!(rt; connections.fill(9), Err(Halt::Lost));
-    let want: [(u32, &[u8]); 3] = [(2, b"one"), (1, b"one"), (1, b"four")];
-    for (number, message) in want {
-        match connections.next_record()? {
-            Some((from, found)) => {
-                assert_eq!(rt; from, number);
-                assert_eq!(rt; found.bytes(), message);
-            }
-            None => panic!(rt; "no record"),
-        }
-    }
-    assert!(rt; connections.next_record()?.is_none());
-    assert!(rt; !connections.wants_bytes(3));
-    assert_eq!(rt; connections.over(), Some(3));
-    assert!(rt; connections.close(3));
-    assert_eq!(rt; connections.over(), None);
-    answers(&rt, &mut connections)
+/// The next record is this one, of this connection.
+fn gives(
+    rt: &impl Abort,
+    connections: &mut Connections<MemoryStream>,
+    number: u32,
+    message: &[u8],
+) -> Result<(), Fail> {
+    let Some((from, found)) = connections.next_record()? else {
+        panic!(rt; "no record");
+    };
+    assert!(rt; from == number && found.bytes() == message);
+    Ok(())
 }
 
 /// Answers go on the connection that they answer, in the pieces that it takes.
 fn answers(rt: &impl Abort, connections: &mut Connections<MemoryStream>) -> Result<(), Fail> {
-    connections.answer(1, b"one")?;
-    connections.answer(1, b"four")?;
-    connections.answer(9, b"lost")?;
-    assert_eq!(rt; connections.drain(2), Ok(()));
-    assert!(rt; has_gone(connections, 2, &[]));
-    assert_eq!(rt; connections.drain(1), Err(Halt::WouldBlock));
-    assert_eq!(rt; connections.drain(1), Ok(()));
-    assert!(rt; has_gone(connections, 1, &ONE_FOUR));
-    assert_eq!(rt; connections.fill(1), Err(Halt::Ended));
-    assert_eq!(rt; connections.over(), Some(1));
+    for (number, message) in ANSWERS {
+        connections.answer(number, message)?;
+    }
+    for (number, want, bytes) in DRAINS {
+        let drained = connections.drain(number);
+        assert!(rt; drained == want && gone(connections, number) == bytes);
+    }
+    let ended = connections.fill(1);
+    assert!(rt; ended == Err(Halt::Ended) && connections.over() == Some(1));
     Ok(())
+}
+
+#[test]
+fn records_of_three_connections(rt: HostRuntime) -> Result<(), Fail> {
+    let mut connections = Connections::new(rt.alloc());
+    for (number, bytes, sizes) in STREAMS {
+        let opened = connections.open(stream(rt.alloc(), bytes, sizes)?)?;
+        assert_eq!(rt; opened, Some(number));
+    }
+    for (number, want) in FILLS {
+        assert_eq!(rt; connections.fill(number), want);
+    }
+    for (number, message) in RECORDS {
+        gives(&rt, &mut connections, number, message)?;
+    }
+    let is_over = connections.next_record()?.is_none() && !connections.wants_bytes(3);
+    assert!(rt; is_over && connections.over() == Some(3));
+    let is_closed = connections.close(3);
+    assert!(rt; is_closed && connections.over().is_none());
+    answers(&rt, &mut connections)
+}
+
+/// A time, and which connection is over then: the second was silent for more than a minute.
+const SILENT: [(u64, Option<u32>); 2] = [(60_000, None), (60_001, Some(2))];
+
+/// The same where an answer was not taken within two seconds.
+const UNREAD: [(u64, Option<u32>); 2] = [(2_999, None), (3_000, Some(1))];
+
+/// One connection is over at each of these times, or none.
+fn are_over(
+    rt: &impl Abort,
+    connections: &mut Connections<MemoryStream>,
+    times: &[(u64, Option<u32>)],
+) {
+    for (time, want) in times {
+        connections.set_time(*time);
+        assert_eq!(rt; connections.over(), *want);
+    }
 }
 
 #[test]
@@ -68,24 +115,20 @@ fn limits(rt: HostRuntime) -> Result<(), Fail> {
     let mut connections = Connections::new(alloc);
     for time in 0..MAX_CONNECTIONS {
         connections.set_time(time as u64);
-        assert_eq!(rt; connections.crowded(), None);
-        assert!(rt; connections.open(stream(alloc, &[0], &[])?)?.is_some());
+        let has_room = connections.crowded().is_none();
+        let opened = connections.open(stream(alloc, &[0], &[])?)?;
+        assert!(rt; has_room && opened.is_some());
     }
-    assert_eq!(rt; connections.open(stream(alloc, &[0], &[])?)?, None);
-    assert_eq!(rt; connections.crowded(), Some(1));
-    assert_eq!(rt; connections.fill(1), Ok(()));
-    assert_eq!(rt; connections.crowded(), Some(2));
-    connections.set_time(60_000);
-    assert_eq!(rt; connections.over(), None);
-    connections.set_time(60_001);
-    assert_eq!(rt; connections.over(), Some(2));
+    let opened = connections.open(stream(alloc, &[0], &[])?)?;
+    assert!(rt; opened.is_none() && connections.crowded() == Some(1));
+    let filled = connections.fill(1);
+    assert!(rt; filled.is_ok() && connections.crowded() == Some(2));
+    are_over(&rt, &mut connections, &SILENT);
     let mut other = Connections::new(alloc);
-    assert_eq!(rt; other.open(stream(alloc, &[], &[])?)?, Some(1));
+    let opened = other.open(stream(alloc, &[], &[])?)?;
+    assert_eq!(rt; opened, Some(1));
     other.set_time(1_000);
     other.answer(1, b"never read")?;
-    other.set_time(2_999);
-    assert_eq!(rt; other.over(), None);
-    other.set_time(3_000);
-    assert_eq!(rt; other.over(), Some(1));
+    are_over(&rt, &mut other, &UNREAD);
     Ok(())
 }
