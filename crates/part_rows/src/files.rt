@@ -39,37 +39,47 @@ fn kind_of(front: &str) -> &str {
     }
 }
 
-/// Holds what came against what is wanted, line by line.
-fn compare_lines(came: &[u8], wanted: &str, outcome: &mut Outcome<'_>) -> Result<(), RowFault> {
+/// Holds what came of a file against what is wanted, line by line.
+fn compare_lines<'a>(
+    alloc: Global,
+    file: &'a str,
+    came: &[u8],
+    wanted: &str,
+) -> Result<Outcome<'a>, RowFault> {
+    let mut outcome = Outcome::new(alloc, file);
     let came = str::from_utf8(came).ok().ok_or(RowFault::Outside)?;
     let mut wanted = wanted.lines();
     let mut last = 0_usize;
     for (place, line) in came.lines().enumerate() {
         last = place.saturating_add(1);
-        outcome.compare(last, "a line", wanted.next().unwrap_or(""), line)?;
+        let next = wanted.next();
+        let want = next.unwrap_or("");
+        outcome.compare(last, "a line", want, line)?;
     }
     for line in wanted {
         last = last.saturating_add(1);
         outcome.compare(last, "a line", line, "")?;
     }
-    Ok(())
+    Ok(outcome)
 }
 
-/// Plays a file, with the text of the one beside it where it has one.
-fn play_file(
+/// Plays what stands in a file, with the text of the one beside it where it has one.
+fn play_file<'a>(
     alloc: Global,
-    front: &str,
-    sort: Sort,
-    text: &str,
+    file: &'a str,
+    text: &'a str,
     beside: &str,
-    outcome: &mut Outcome<'_>,
-) -> Result<(), RowFault> {
-    match sort {
-        Sort::Rows => play_rows(alloc, kind_of(front), text, outcome),
-        Sort::Talk => play_talk(alloc, text, outcome),
-        Sort::Script => compare_lines(&replayed(alloc, text.as_bytes())?, beside, outcome),
-        Sort::Records => compare_lines(&shown(alloc, text.as_bytes())?, beside, outcome),
-    }
+) -> Result<Option<Outcome<'a>>, RowFault> {
+    let Some((front, sort)) = sort_of(file) else {
+        return Ok(None);
+    };
+    let outcome = match sort {
+        Sort::Rows => play_rows(alloc, file, kind_of(front), text)?,
+        Sort::Talk => play_talk(alloc, file, text)?,
+        Sort::Script => { compare_lines(alloc, file, &replayed(alloc, text.as_bytes())?, beside)? }
+        Sort::Records => compare_lines(alloc, file, &shown(alloc, text.as_bytes())?, beside)?,
+    };
+    Ok(Some(outcome))
 }
 
 /// The names of the files in the folder, in order.
@@ -84,38 +94,37 @@ fn names(rt: &HostRuntime) -> io::Result<Vec<String>> {
 }
 
 /// The text of the file beside a script or records.
-fn beside(rt: &HostRuntime, front: &str, sort: Sort) -> io::Result<String> {
-    let end = match sort {
-        Sort::Rows | Sort::Talk => return Ok(String::new(rt.alloc())),
-        Sort::Script => "trace",
-        Sort::Records => "lines",
+fn beside(rt: &HostRuntime, name: &str) -> io::Result<String> {
+    let (front, end) = match sort_of(name) {
+        Some((front, Sort::Script)) => (front, "trace"),
+        Some((front, Sort::Records)) => (front, "lines"),
+        _ => return Ok(String::new(rt.alloc())),
     };
     let name = format!(in rt.alloc(); "{front}.{end}")?;
     fs::read_to_string(rt, name.as_str())
+}
+
+/// Plays a file of the folder, and prints how its rows came out; answers whether all came as they are wanted.
+fn play_named(rt: &HostRuntime, name: &str) -> io::Result<bool> {
+    let text = fs::read_to_string(rt, name)?;
+    let beside = beside(rt, name)?;
+    let played = play_file(rt.alloc(), name, text.as_str(), beside.as_str()).map_err(io_fault)?;
+    let Some(outcome) = played else {
+        return Ok(true);
+    };
+    let is_good = outcome.is_good();
+    let report = outcome.report().map_err(io_fault)?;
+    println!(rt; "{report}")?;
+    Ok(is_good)
 }
 
 /// Plays every file of rows in the folder; answers whether all rows came as they are wanted.
 pub fn play_folder(rt: &HostRuntime) -> io::Result<bool> {
     let mut are_good = true;
     for name in &names(rt)? {
-        let Some((front, sort)) = sort_of(name.as_str()) else {
-            continue;
-        };
-        let text = fs::read_to_string(rt, name.as_str())?;
-        let beside = beside(rt, front, sort)?;
-        let mut outcome = Outcome::new(rt.alloc(), name.as_str());
-        play_file(
-            rt.alloc(),
-            front,
-            sort,
-            text.as_str(),
-            beside.as_str(),
-            &mut outcome,
-        )
-        .map_err(io_fault)?;
-        are_good = are_good && outcome.is_good();
-        let report = outcome.report().map_err(io_fault)?;
-        println!(rt; "{report}")?;
+        if sort_of(name.as_str()).is_some() {
+            are_good = play_named(rt, name.as_str())? && are_good;
+        }
     }
     Ok(are_good)
 }

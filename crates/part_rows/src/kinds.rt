@@ -1,38 +1,79 @@
 //! The kinds of parts.
 
-use crate::message_kinds::MessagePart;
-use crate::node_kinds::NodePart;
-use crate::state_kinds::StatePart;
-use row_words::{Answer, Part, RowFault, Words};
+use part_calls::{DevicesRows, DsCallsRows, FramesRows, MdsCallsRows};
+use part_entries::EntryRows;
+use part_messages::MessageRows;
+use part_nodes::{ClientRows, DataFileRows, ServerRows};
+use part_runs::{ConfigRows, LineRows, RunRows};
+use part_state::{
+    CbSlotRows, ExtentsRows, FenceRows, FileStateRows, MirrorsRows, SessionsRows, WriterRows,
+};
+use row_words::{Part, RowFault};
 use std::alloc::Global;
 
-/// A part of some kind.
-#[derive(Drop)]
-pub enum AnyPart {
-    State(StatePart),
-    Node(NodePart),
-    Message(MessagePart),
+/// Who plays rows on a part of whatever kind.
+pub trait Player {
+    /// Plays them on a part on which no call was made.
+    fn play<P: Part>(&mut self, part: &mut P) -> Result<(), RowFault>;
 }
 
-impl AnyPart {
-    /// The part of a kind, on which no call was made.
-    pub fn named(alloc: Global, kind: &str) -> Option<AnyPart> {
-        if let Some(part) = StatePart::named(alloc, kind) {
-            return Some(AnyPart::State(part));
-        }
-        if let Some(part) = NodePart::named(alloc, kind) {
-            return Some(AnyPart::Node(part));
-        }
-        MessagePart::named(alloc, kind).map(AnyPart::Message)
+/// What came of playing; `None` where there is no such kind.
+type Played = Option<Result<(), RowFault>>;
+
+/// Has the rows played on this part.
+fn on<P: Part + Drop, V: Player>(player: &mut V, part: P) -> Played {
+    let mut part = part;
+    let played = player.play(&mut part);
+    Some(played)
+}
+
+/// Parts that keep states.
+fn on_state<V: Player>(alloc: Global, kind: &str, player: &mut V) -> Played {
+    match kind {
+        "cbslot" => on(player, CbSlotRows::new()),
+        "extents" => on(player, ExtentsRows::new(alloc)),
+        "fence" => on(player, FenceRows::new()),
+        "filestate" => on(player, FileStateRows::new()),
+        "mirrors" => on(player, MirrorsRows::new()),
+        "sessions" => on(player, SessionsRows::new(alloc)),
+        "writer" => on(player, WriterRows::new()),
+        _ => None,
     }
 }
 
-impl Part for AnyPart {
-    fn call(&mut self, words: &mut Words<'_>, answer: &mut Answer) -> Result<(), RowFault> {
-        match self {
-            AnyPart::State(part) => part.call(words, answer),
-            AnyPart::Node(part) => part.call(words, answer),
-            AnyPart::Message(part) => part.call(words, answer),
-        }
+/// Machines, runs of the program, and the lines that it reads.
+fn on_nodes<V: Player>(alloc: Global, kind: &str, player: &mut V) -> Played {
+    match kind {
+        "client" => on(player, ClientRows::new(alloc)),
+        "config" => on(player, ConfigRows),
+        "datafile" => on(player, DataFileRows::new(alloc)),
+        "line" => on(player, LineRows),
+        "run" => on(player, RunRows),
+        "server" => on(player, ServerRows::new(alloc)),
+        _ => None,
     }
+}
+
+/// Messages, calls, streams and entries.
+fn on_messages<V: Player>(alloc: Global, kind: &str, player: &mut V) -> Played {
+    match kind {
+        "devices" => on(player, DevicesRows::new(alloc)),
+        "dscalls" => on(player, DsCallsRows),
+        "entry" => on(player, EntryRows),
+        "frames" => on(player, FramesRows::new(alloc)),
+        "mdscalls" => on(player, MdsCallsRows),
+        "message" => on(player, MessageRows),
+        _ => None,
+    }
+}
+
+/// Has rows played on a new part of a kind.
+pub fn on_kind<V: Player>(alloc: Global, kind: &str, player: &mut V) -> Played {
+    if let Some(played) = on_state(alloc, kind, player) {
+        return Some(played);
+    }
+    if let Some(played) = on_nodes(alloc, kind, player) {
+        return Some(played);
+    }
+    on_messages(alloc, kind, player)
 }

@@ -5,11 +5,8 @@
 
 mod files;
 mod kinds;
-mod message_kinds;
-mod node_kinds;
 mod outcome;
 mod play;
-mod state_kinds;
 
 use crate::files::play_folder;
 use crate::play::play_input;
