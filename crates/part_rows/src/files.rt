@@ -39,8 +39,23 @@ fn kind_of(front: &str) -> &str {
     }
 }
 
-/// Holds what came of a file against what is wanted, line by line.
-fn compare_lines<'a>(
+/// Holds the lines that came of a file against those that are wanted, and how many there are.
+fn compare_lines<'x>(
+    came: &'x str,
+    wanted: &'x str,
+    outcome: &mut Outcome<'_>,
+) -> Result<(), RowFault> {
+    for (place, (line, want)) in came.lines().zip(wanted.lines()).enumerate() {
+        outcome.compare(place.saturating_add(1), "a line", want, line)?;
+    }
+    if came.lines().count() == wanted.lines().count() {
+        return Ok(());
+    }
+    outcome.compare(0, "as many lines", "as are wanted", "others")
+}
+
+/// How the lines that came of a file compare with those that are wanted.
+fn compared<'a>(
     alloc: Global,
     file: &'a str,
     came: &[u8],
@@ -48,18 +63,7 @@ fn compare_lines<'a>(
 ) -> Result<Outcome<'a>, RowFault> {
     let mut outcome = Outcome::new(alloc, file);
     let came = str::from_utf8(came).ok().ok_or(RowFault::Outside)?;
-    let mut wanted = wanted.lines();
-    let mut last = 0_usize;
-    for (place, line) in came.lines().enumerate() {
-        last = place.saturating_add(1);
-        let next = wanted.next();
-        let want = next.unwrap_or("");
-        outcome.compare(last, "a line", want, line)?;
-    }
-    for line in wanted {
-        last = last.saturating_add(1);
-        outcome.compare(last, "a line", line, "")?;
-    }
+    compare_lines(came, wanted, &mut outcome)?;
     Ok(outcome)
 }
 
@@ -76,8 +80,8 @@ fn play_file<'a>(
     let outcome = match sort {
         Sort::Rows => play_rows(alloc, file, kind_of(front), text)?,
         Sort::Talk => play_talk(alloc, file, text)?,
-        Sort::Script => { compare_lines(alloc, file, &replayed(alloc, text.as_bytes())?, beside)? }
-        Sort::Records => compare_lines(alloc, file, &shown(alloc, text.as_bytes())?, beside)?,
+        Sort::Script => compared(alloc, file, &replayed(alloc, text.as_bytes())?, beside)?,
+        Sort::Records => compared(alloc, file, &shown(alloc, text.as_bytes())?, beside)?,
     };
     Ok(Some(outcome))
 }
