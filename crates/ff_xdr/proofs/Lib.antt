@@ -13,6 +13,7 @@ pub mod ArmRefusals
 pub mod Begun
 pub mod FirstFault
 pub mod NotRest
+pub mod WholeForms
 pub mod WholeArms
 pub mod Stopped
 pub mod StoppedText

@@ -110,5 +110,8 @@ any_arm (Arm number_is body others) n bytes at =
     arm (eqb n number_is) (reading body bytes at) (arm_reading others n bytes at) (any body bytes at) (any_arm others n bytes at)
 any_arm form n bytes at = any form bytes at
 
+pub never_rest_at : (form : Form) (bytes : List ℕ) (at : ℕ) (e : XdrError) → reading form bytes at ≡ Err e → ¬ (e.why ≡ Rest)
+never_rest_at form bytes at e is = subst (λ (r : Read _). NotRest r) is (any form bytes at)
+
 pub never_rest : (form : Form) (n : ℕ) (bytes : List ℕ) (at : ℕ) (e : XdrError) → arm_reading form n bytes at ≡ Err e → ¬ (e.why ≡ Rest)
 never_rest form n bytes at e is = subst (λ (r : Read _). NotRest r) is (any_arm form n bytes at)

@@ -168,12 +168,12 @@ whole_short_at_end form sound = λ at bytes e is short. elim (whole_cases bytes 
       absurd cc
 ]
 
-whole_rest : {M : Type 0} (bytes : List ℕ) (x : M × ℕ) (r : Read M) → r ≡ Ok x → x.1 < length bytes → whole bytes r ≡ Err (record { place = x.1; why = Rest })
+pub whole_rest : {M : Type 0} (bytes : List ℕ) (x : M × ℕ) (r : Read M) → r ≡ Ok x → x.1 < length bytes → whole bytes r ≡ Err (record { place = x.1; why = Rest })
 whole_rest bytes x r is lt =
     let left : ltb x.1 (length bytes) ≡ true = lt-ltb _ _ lt in
     rw is (rw left refl)
 
-whole_all : {M : Type 0} (bytes : List ℕ) (x : M × ℕ) (r : Read M) → r ≡ Ok x → x.1 ≡ length bytes → whole bytes r ≡ Ok x.0
+pub whole_all : {M : Type 0} (bytes : List ℕ) (x : M × ℕ) (r : Read M) → r ≡ Ok x → x.1 ≡ length bytes → whole bytes r ≡ Ok x.0
 whole_all bytes x r is end =
     let left : ltb x.1 (length bytes) ≡ false = le-ltb _ _ (omega (arith, end)) in
     rw is (rw left refl)

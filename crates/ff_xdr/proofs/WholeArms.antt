@@ -9,7 +9,7 @@ use Rattle.ff_xdr.specs.Form.{Form, Value, is_sound, arm_spelling, arm_of}
 use Rattle.ff_xdr.specs.Laws.{is_union, behind, EndsShort, StopsThere, IsArmReadAgain, IsArmSpelledSo, IsArmShortAtEnd, IsArmRefusedThere, IsFirstArmFault}
 use Rattle.ff_xdr.specs.Reading.{Read, ◌>>=◌, arm_reading, whole}
 use Rattle.ff_xdr.proofs.Places.{done, ok_is}
-use Rattle.ff_xdr.proofs.Refusals.{whole_cases, not_both}
+use Rattle.ff_xdr.proofs.Refusals.{whole_cases, whole_all, whole_rest, not_both}
 use Rattle.ff_xdr.proofs.ArmRefusals.{arm_seen}
 use Rattle.ff_xdr.proofs.Seen.{Seen, Took, end_of, same_byte}
 use Rattle.ff_xdr.proofs.Sequences.{take_less}
@@ -17,16 +17,6 @@ use Rattle.ff_xdr.proofs.NotRest.{never_rest}
 use Rattle.ff_xdr.specs.WholeArms.{whole_arm, IsWholeArmReadAgain, IsWholeArmSpelledSo, HasArmRestJustWhere, HasNoWholeArmThere, HasNoWholeArm, IsFirstWholeArmFault}
 
 -- ---- a value and nothing behind it
-
-whole_all : {M : Type 0} (bytes : List ℕ) (x : M × ℕ) (r : Read M) → r ≡ Ok x → x.1 ≡ length bytes → whole bytes r ≡ Ok x.0
-whole_all bytes x r is end =
-    let left : ltb x.1 (length bytes) ≡ false = le-ltb _ _ (omega (arith, end)) in
-    rw is (rw left refl)
-
-whole_rest : {M : Type 0} (bytes : List ℕ) (x : M × ℕ) (r : Read M) → r ≡ Ok x → x.1 < length bytes → whole bytes r ≡ Err (record { place = x.1; why = Rest })
-whole_rest bytes x r is lt =
-    let left : ltb x.1 (length bytes) ≡ true = lt-ltb _ _ lt in
-    rw is (rw left refl)
 
 abbrev rest_by : Bool → ℕ → Result (Unit {0}) XdrError
 rest_by t at = cond t (Err (record { place = at; why = Rest })) (Ok tt)

@@ -1,6 +1,6 @@
 -- The laws of every form: what was spelled is read again, what is read is spelled so, and what is refused
 -- has no value.
-use Rattle.std.specs.Prelude.{◌≡◌, ℕ, ◌+◌, ◌-◌, ◌^◌, ◌<◌, ◌≤◌, nat_lt, Bool, true, false, ◌&&◌, ◌||◌, List, [], ◌++◌, length, take, drop, slice_index, Result, Ok, Err, IsTrue}
+use Rattle.std.specs.Prelude.{◌≡◌, ◌↔◌, ℕ, ◌+◌, ◌-◌, ◌^◌, ◌<◌, ◌≤◌, nat_lt, Bool, true, false, ◌&&◌, ◌||◌, List, [], ◌++◌, length, take, drop, slice_index, Result, Ok, Err, IsTrue}
 use Rattle.std.specs.List.{list_all}
 use Rattle.ff_xdr.specs.declared.error.XdrError.{XdrError}
 use Rattle.ff_xdr.specs.declared.error.XdrWhy.{XdrWhy}
@@ -123,6 +123,17 @@ IsWholeRefusedThere form = (at : ℕ) → StopsThere (λ bytes. whole bytes (rea
 abbrev pub HasNoWholeThere : Form → Type 0
 HasNoWholeThere form = (bytes : List ℕ) (at : ℕ) (e : XdrError) → at ≤ length bytes → whole bytes (reading form bytes at) ≡ Err e → ¬ (e.why ≡ Short)
     → (v : Value form) → Fits form v → ¬ (take (behind e) (take at bytes ++ spelling form v) ≡ take (behind e) bytes)
+
+-- Bytes are refused for what is left over just where a value stands and more bytes follow. The place is that of the first of them.
+abbrev pub HasRestJustWhere : Form → Type 0
+HasRestJustWhere form = (bytes : List ℕ) (at place : ℕ)
+    → whole bytes (reading form bytes at) ≡ Err (record { place = place; why = Rest })
+    ↔ ((v : Value form) × (reading form bytes at ≡ Ok (v, place)) × (place < length bytes))
+
+-- Where bytes are refused, as short too, no value stands there up to the end of the bytes.
+abbrev pub HasNoWhole : Form → Type 0
+HasNoWhole form = (bytes : List ℕ) (at : ℕ) (e : XdrError) → whole bytes (reading form bytes at) ≡ Err e
+    → (v : Value form) → Fits form v → ¬ (Stands bytes at (spelling form v) (length bytes))
 
 abbrev pub IsFirstWholeFault : Form → Type 0
 IsFirstWholeFault form = (bytes : List ℕ) (at : ℕ) (e : XdrError) → IsBytes bytes → at ≤ length bytes → whole bytes (reading form bytes at) ≡ Err e → ¬ (e.why ≡ Short)
