@@ -13,7 +13,7 @@ use mds_file_calls::{
 };
 use mds_parts::{Start, put_body, put_start};
 use mds_session_calls::{put_create_session, put_exchange_id, put_reclaim_complete, put_renew};
-use nfs4_file_ops::MAX_OPAQUE4;
+use nfs4_types::MAX_OPAQUE4;
 use std::alloc::Global;
 
 /// The most data servers of a GETDEVICEINFO, and the most mirrors of a report.

@@ -12,8 +12,7 @@ use crate::ask::MdsAsk;
 use crate::reply::SlotReport;
 use mds_parts::Results;
 use nfs4_compound::OpRes;
-use nfs4_file_ops::OpResult;
-use nfs4_types::Stat4;
+use nfs4_types::{OpResult, Stat4};
 
 /// What a refused SEQUENCE says of the slot (RFC 8881, section 18.46.3).
 fn slot_status(status: Stat4) -> SlotReport

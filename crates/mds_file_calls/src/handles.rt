@@ -7,8 +7,7 @@ ghost use Rattle.mds_file_calls.specs.FileResults.{put_fh_ok};
 
 use cluster_model::FileId;
 use nfs4_compound::OpRes;
-use nfs4_file_ops::OpResult;
-use nfs4_types::file_handle;
+use nfs4_types::{OpResult, file_handle};
 
 /// The handle of a file (RFC 8881, section 3.2).
 pub fn handle_of(file: FileId) -> [u8; 8]

@@ -20,8 +20,8 @@ use ff_layout::{DeviceError, IoErr};
 use ff_xdr::{Items, NoMemory, Out, Wire};
 use mds_parts::{Few, Results, Start, few_of, put_ops, sequence_ok, sequence_op};
 use nfs4_compound::{Op, OpRes};
-use nfs4_file_ops::{LayoutReturn, LayoutReturnArgs, LayoutReturnFile, OpResult, OpaqueBody};
-use nfs4_types::{Handle4, Stateid, device_of};
+use nfs4_file_ops::{LayoutReturn, LayoutReturnArgs, LayoutReturnFile};
+use nfs4_types::{Handle4, OpResult, OpaqueBody, Stateid, device_of};
 use std::alloc::Global;
 
 /// A mirror that failed, by its data server, and why: a status of NFS.

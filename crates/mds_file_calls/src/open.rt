@@ -15,10 +15,8 @@ use cluster_model::FileId;
 use ff_xdr::{Items, NoMemory, Out};
 use mds_parts::{Few, Results, Start, few_of, put_ops, sequence_ok, sequence_op};
 use nfs4_compound::{Op, OpRes};
-use nfs4_file_ops::{
-    ArmZero, Component4, CreateHow4, Fattr4, OpResult, OpaqueBody, OpenArgs, OpenHow, Owner4,
-};
-use nfs4_types::{Bitmap, Stateid, file_number};
+use nfs4_file_ops::{CreateHow4, Fattr4, OpenArgs, OpenHow};
+use nfs4_types::{ArmZero, Bitmap, Component4, OpResult, OpaqueBody, Owner4, Stateid, file_number};
 
 /// A file that is open: its number, which its handle says, and the stateid of the open.
 #[derive(Clone, Copy, Debug, PartialEq, Eq)]
@@ -51,7 +49,9 @@ fn open_op<'a>(owner: &'a [u8], name: &'a str) -> Op<'a>
         owner: Owner4 { bytes: owner },
         how: OpenHow::Create(CreateHow4::Unchecked(none)),
         claim: ArmZero {
-            body: Component4 { text: name },
+            body: Component4 {
+                bytes: name.as_bytes(),
+            },
         },
     })
 }

@@ -16,8 +16,8 @@ use crate::open::OpenFile;
 use ff_xdr::{NoMemory, Out};
 use mds_parts::{Few, Results, Start, few_of, put_ops, sequence_ok, sequence_op};
 use nfs4_compound::{Op, OpRes};
-use nfs4_file_ops::{OpResult, Read4Args};
-use nfs4_types::{Handle4, Stateid};
+use nfs4_file_ops::Read4Args;
+use nfs4_types::{Handle4, OpResult, Stateid};
 
 /// The bytes that were read, and whether the file ends behind them.
 #[derive(Clone, Copy, Debug, PartialEq, Eq)]

@@ -15,8 +15,8 @@ use crate::open::OpenFile;
 use ff_xdr::{NoMemory, Out};
 use mds_parts::{Few, Results, Start, few_of, put_ops, sequence_ok, sequence_op};
 use nfs4_compound::{Op, OpRes};
-use nfs4_file_ops::{OpResult, OpaqueBody, StableHow4, Write4Args};
-use nfs4_types::{Handle4, Stateid};
+use nfs4_file_ops::{StableHow4, Write4Args};
+use nfs4_types::{Handle4, OpResult, OpaqueBody, Stateid};
 
 /// WRITE, FILE_SYNC.
 fn write_op<'a>(stateid: Stateid, at: u64, bytes: &'a [u8]) -> Op<'a>

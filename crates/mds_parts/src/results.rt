@@ -8,7 +8,7 @@ ghost use Rattle.mds_parts.specs.MdsResults.{sequence_ok};
 
 use ff_xdr::{Items, Wire};
 use nfs4_compound::OpRes;
-use nfs4_file_ops::OpResult;
+use nfs4_types::OpResult;
 
 /// The results of a compound.
 pub type Results<'a> = Items<'a, OpRes<'a>>;

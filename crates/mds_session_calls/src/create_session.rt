@@ -12,9 +12,8 @@ ghost use Rattle.mds_session_calls.specs.SessionResults.{create_session_results}
 use ff_xdr::{Array, Items, NoMemory, Out};
 use mds_parts::{Few, Results, few_of, put_ops};
 use nfs4_compound::{Op, OpRes};
-use nfs4_file_ops::OpResult;
 use nfs4_session_ops::{CallbackSec, CreateSessionArgs};
-use nfs4_types::{ChannelAttrs, SessionId};
+use nfs4_types::{ChannelAttrs, OpResult, SessionId};
 
 /// The session has a back channel, CREATE_SESSION4_FLAG_CONN_BACK_CHAN.
 const WITH_BACK_CHANNEL: u32 = 2;

@@ -11,9 +11,8 @@ ghost use Rattle.mds_session_calls.specs.SessionResults.{exchange_id_results};
 use ff_xdr::{NoMemory, Out};
 use mds_parts::{Few, Results, few_of, put_ops};
 use nfs4_compound::{Op, OpRes};
-use nfs4_file_ops::{ArmZero, OpResult, Owner4};
 use nfs4_session_ops::ExchangeIdArgs;
-use nfs4_types::AtMostOne;
+use nfs4_types::{ArmZero, AtMostOne, OpResult, Owner4};
 
 /// The client's number, and that of its next CREATE_SESSION.
 #[derive(Clone, Copy, Debug, PartialEq, Eq)]

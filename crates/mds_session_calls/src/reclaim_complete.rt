@@ -11,7 +11,7 @@ ghost use Rattle.mds_session_calls.specs.SessionResults.{reclaim_complete_ok, re
 use ff_xdr::{NoMemory, Out};
 use mds_parts::{Few, Results, Start, few_of, put_ops, sequence_ok, sequence_op};
 use nfs4_compound::{Op, OpRes};
-use nfs4_file_ops::OpResult;
+use nfs4_types::OpResult;
 
 /// Appends the arguments of the compound, or nothing.
 pub fn put_reclaim_complete(start: Start, out: &mut Out) -> Result<(), NoMemory>

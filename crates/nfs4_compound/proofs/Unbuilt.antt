@@ -11,6 +11,7 @@ use Rattle.ff_xdr.specs.Unbuilt.{at_value, one_unbuilt, is_unbuilt, has_enum, Is
 use Rattle.ff_xdr.proofs.Places.{err_is}
 use Rattle.ff_xdr.proofs.NotBuilt.{unbuilt_right}
 use Rattle.nfs4_compound.specs.declared.stop.Stop.TheVariants as stop
+use Rattle.nfs4_compound.specs.Laws.{TellsUnbuilt}
 use Rattle.nfs4_compound.specs.Operations.{number_of_read, stop_at, stop_by, IsRefusedNumber, arm_has_enum, with_arm, enum_arms, has_union, is_split}
 
 -- ---- tests
@@ -168,3 +169,15 @@ one_of_numbers P n (k ∷ numbers) all some =
       | inl same ↦ subst P (sym (eqb-true n k same)) all.0
       | inr rest ↦ one_of_numbers P n numbers all.1 rest
     ]
+
+-- ---- all refusals
+
+pub tells_unbuilt : (form : Form) (with_enums : List ℕ) → is_split form ≡ true → enum_arms form ≡ with_enums
+    → AllByRecursion (λ n. arm_has_enum n form ≡ true) with_enums → TellsUnbuilt form with_enums
+tells_unbuilt form with_enums split same enums = record {
+  unread = λ bytes at n to e refused why read none.
+      stop_unread form bytes at n e split refused (why, (to, read)) (no_enum form n (ap (λ (l : List ℕ). list_any (eqb n) l) same ∙ none));
+  bad = λ bytes at n to e refused why read some.
+      stop_bad form bytes at n e split refused (why, (to, read)) (one_of_numbers (λ k. arm_has_enum k form ≡ true) n with_enums enums some);
+  other = λ bytes at e refused other. stop_none form bytes at e split refused (λ why n is. other why);
+}

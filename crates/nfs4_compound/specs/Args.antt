@@ -11,7 +11,7 @@ use Rattle.nfs4_file_ops.specs.GetDeviceInfo.{getdeviceinfo4_args, getdeviceinfo
 use Rattle.nfs4_file_ops.specs.LayoutCommit.{layoutcommit4_args, layoutcommit4_args_value}
 use Rattle.nfs4_file_ops.specs.LayoutGet.{layoutget4_args, layoutget4_args_value}
 use Rattle.nfs4_file_ops.specs.LayoutReturn.{layoutreturn4_args, layoutreturn4_args_value}
-use Rattle.nfs4_file_ops.specs.Objects.{component4}
+use Rattle.nfs4_types.specs.Objects.{component4}
 use Rattle.nfs4_file_ops.specs.Open.{open4_args, open4_args_value}
 use Rattle.nfs4_file_ops.specs.Read.{read4_args, read4_args_value}
 use Rattle.nfs4_file_ops.specs.Write.{write4_args, write4_args_value}
@@ -52,7 +52,7 @@ op_value (op.Close a) = arm 4 argop4 (close4_args_value a)
 op_value (op.Commit a) = arm 5 argop4 (commit4_args_value a)
 op_value (op.GetAttr a) = arm 9 argop4 (bitmap4_value a)
 op_value op.GetFh = arm 10 argop4 tt
-op_value (op.Lookup a) = arm 15 argop4 a.text.now
+op_value (op.Lookup a) = arm 15 argop4 a.bytes.now
 op_value (op.Open a) = arm 18 argop4 (open4_args_value a)
 op_value (op.PutFh a) = arm 22 argop4 a.bytes.now
 op_value op.PutRootFh = arm 24 argop4 tt

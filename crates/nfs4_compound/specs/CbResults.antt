@@ -3,7 +3,7 @@ use Rattle.std.specs.Prelude.{ℕ, List, [], ◌∷◌}
 use Rattle.ff_xdr.specs.Form.{Form, Void, Pair, Arm, Default, Value}
 use Rattle.ff_xdr.specs.Arms.{arm}
 use Rattle.nfs4_types.specs.Status.{refusal4, stat4_number}
-use Rattle.nfs4_file_ops.specs.OpResults.{result4, result4_value}
+use Rattle.nfs4_types.specs.OpResults.{result4, result4_value}
 use Rattle.nfs4_session_ops.specs.CbSequence.{cb_sequence4_ok, cb_sequence4_ok_value}
 use Rattle.nfs4_compound.specs.Behind.{behind_arms}
 use Rattle.nfs4_compound.specs.declared.cb_res.CbRes.{CbRes}

@@ -1,9 +1,11 @@
 -- What the list of a compound's operations says of its bytes.
-use Rattle.std.specs.Prelude.{◌≡◌, ℕ, zero, suc, ◌+◌, ◌≤◌, List, ◌++◌, length, Ok, Err}
-use Rattle.std.specs.List.{AllByRecursion, flat_map}
+use Rattle.std.specs.Prelude.{◌≡◌, ℕ, zero, suc, ◌+◌, ◌≤◌, true, false, List, ◌++◌, length, Ok, Err, nat_eq}
+use Rattle.std.specs.Int.{w32}
+use Rattle.std.specs.List.{AllByRecursion, flat_map, list_any}
 use Rattle.ff_xdr.specs.declared.error.XdrError.{XdrError}
+use Rattle.ff_xdr.specs.declared.error.XdrWhy.TheVariants.{NotEnum}
 use Rattle.ff_xdr.specs.Form.{Form, Value, Fits, spelling}
-use Rattle.ff_xdr.specs.Reading.{reading, many_at}
+use Rattle.ff_xdr.specs.Reading.{number_at, reading, many_at}
 use Rattle.ff_xdr.specs.Laws.{IsBytes, Stands}
 use Rattle.nfs4_compound.specs.declared.stop.Stop.{Stop}
 use Rattle.nfs4_compound.specs.declared.stop.Stop.TheVariants as stop
@@ -37,3 +39,12 @@ AreReadAgain form = (values : List (Value form)) (left : ℕ) (front rest : List
 abbrev pub AreGivenWhole : Form → Type 0
 AreGivenWhole form = (count : ℕ) (bytes : List ℕ) (at : ℕ) (values : List (Value form)) (to : ℕ)
     → many_at (λ place. reading form bytes place) count at ≡ Ok (values, to) → operations form count bytes at ≡ record { values = values; stop = stop.End (left_at bytes to) }
+
+-- Where a number is refused of an operation, the operation or an arm of a union in it is not built, but for the operations of these
+-- numbers: there it is an enum's, and out of form. Any other refusal is one of form.
+pub record TellsUnbuilt (form : Form) (with_enums : List ℕ) : Type 0 where
+  pub unread : (bytes : List ℕ) (at n to : ℕ) (e : XdrError) → reading form bytes at ≡ Err e → e.why ≡ NotEnum → number_at w32 bytes at ≡ Ok (n, to)
+      → list_any (nat_eq n) with_enums ≡ false → stop_at form bytes at e ≡ stop.Unread n
+  pub bad : (bytes : List ℕ) (at n to : ℕ) (e : XdrError) → reading form bytes at ≡ Err e → e.why ≡ NotEnum → number_at w32 bytes at ≡ Ok (n, to)
+      → list_any (nat_eq n) with_enums ≡ true → stop_at form bytes at e ≡ stop.Bad e
+  pub other : (bytes : List ℕ) (at : ℕ) (e : XdrError) → reading form bytes at ≡ Err e → ¬ (e.why ≡ NotEnum) → stop_at form bytes at e ≡ stop.Bad e

@@ -9,7 +9,7 @@ use Rattle.nfs4_types.specs.Status.{refusal4, stat4_number}
 use Rattle.nfs4_file_ops.specs.Fattr4.{fattr4, fattr4_value}
 use Rattle.nfs4_file_ops.specs.GetDeviceInfo.{getdeviceinfo4_res, getdeviceinfo4_res_value}
 use Rattle.nfs4_file_ops.specs.LayoutGet.{layoutget4_res, layoutget4_res_value}
-use Rattle.nfs4_file_ops.specs.OpResults.{result4, result4_value}
+use Rattle.nfs4_types.specs.OpResults.{result4, result4_value}
 use Rattle.nfs4_file_ops.specs.Open.{open4_ok, open4_ok_value}
 use Rattle.nfs4_file_ops.specs.Read.{read4_ok, read4_ok_value}
 use Rattle.nfs4_file_ops.specs.Write.{write4_ok, write4_ok_value}

@@ -1,12 +1,13 @@
 //! The laws of compounds and of their operations.
 
+ghost use Rattle.std.specs.Prelude.{◌∷◌, []};
 ghost use Rattle.ff_xdr.specs.Exact.{IsExact};
 ghost use Rattle.nfs4_compound.specs.Args.{argop4};
 ghost use Rattle.nfs4_compound.specs.CbArgs.{cb_argop4};
 ghost use Rattle.nfs4_compound.specs.Results.{resop4};
 ghost use Rattle.nfs4_compound.specs.CbResults.{cb_resop4};
 ghost use Rattle.nfs4_compound.specs.Compounds.{compound4_args, compound4_res, cb_compound4_args, cb_compound4_res};
-ghost use Rattle.nfs4_compound.specs.Laws.{AreSpelledSo, AreReadAgain, AreGivenWhole};
+ghost use Rattle.nfs4_compound.specs.Laws.{AreSpelledSo, AreReadAgain, AreGivenWhole, TellsUnbuilt};
 
 use ff_xdr::every_form;
 
@@ -39,3 +40,11 @@ pub fn every_listing()
 {
     every_form();
 }
+
+/// Which refused operations are not built. A refused number is one of an arm that is not built, of the operations or of a
+/// union in one, but for WRITE (38) and BIND_CONN_TO_SESSION (41), which have an enum and no union; of callbacks none has
+/// an enum. Any other refusal is one of form (RFC 8881, sections 15.1.1 and 15.2).
+pub fn every_refused_number()
+    ensures ops { TellsUnbuilt argop4 (38 ∷ 41 ∷ []) }
+    ensures callbacks { TellsUnbuilt cb_argop4 [] }
+{}

@@ -18,7 +18,7 @@ pub use cb_compound::{CbCompound, CbOps, judge_cb_compound};
 pub use cb_op::CbOp;
 pub use cb_res::{CbRes, is_built_cb_op};
 pub use compound::{Compound, Ops, judge_compound};
-pub use laws::{every_listing, every_operation};
+pub use laws::{every_listing, every_operation, every_refused_number};
 pub use nfs4_file_ops;
 pub use nfs4_session_ops;
 pub use op::Op;

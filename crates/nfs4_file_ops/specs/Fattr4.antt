@@ -2,7 +2,7 @@
 use Rattle.ff_xdr.specs.Form.{Form, Pair, Value}
 use Rattle.nfs4_types.specs.Bitmaps.{bitmap4, bitmap4_value}
 use Rattle.nfs4_file_ops.specs.declared.fattr4.Fattr4.{Fattr4}
-use Rattle.nfs4_file_ops.specs.Objects.{opaque_body}
+use Rattle.nfs4_types.specs.Objects.{opaque_body}
 
 -- fattr4: attrmask, attr_vals
 abbrev pub fattr4 : Form

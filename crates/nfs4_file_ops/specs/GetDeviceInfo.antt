@@ -4,12 +4,12 @@ use Rattle.ff_xdr.specs.Form.{Form, Arm, Enum, Number32, Pair, Value}
 use Rattle.nfs4_types.specs.Ids.{deviceid4}
 use Rattle.nfs4_types.specs.Bitmaps.{bitmap4, bitmap4_value}
 use Rattle.nfs4_types.specs.Status.{refusals4, stat4_number}
-use Rattle.nfs4_file_ops.specs.OpResults.{but}
+use Rattle.nfs4_types.specs.OpResults.{but}
 use Rattle.nfs4_file_ops.specs.declared.get_device_info.GetDeviceInfoRes.{GetDeviceInfoRes}
 use Rattle.nfs4_file_ops.specs.declared.get_device_info.GetDeviceInfoRes.TheVariants.{Done, TooSmall, Refused}
 use Rattle.nfs4_file_ops.specs.declared.get_device_info.GetDeviceInfoArgs.{GetDeviceInfoArgs}
 use Rattle.nfs4_file_ops.specs.declared.get_device_info.GetDeviceInfoOk.{GetDeviceInfoOk}
-use Rattle.nfs4_file_ops.specs.Objects.{opaque_body}
+use Rattle.nfs4_types.specs.Objects.{opaque_body}
 
 -- GETDEVICEINFO4args: device_id, layout_type, maxcount, notify_types
 abbrev pub getdeviceinfo4_args : Form

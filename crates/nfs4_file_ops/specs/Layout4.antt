@@ -1,7 +1,7 @@
 -- A layout (RFC 8881, section 3.3.17).
 use Rattle.ff_xdr.specs.Form.{Form, Number32, Number64, Pair, Value}
 use Rattle.nfs4_file_ops.specs.declared.layout4.Layout4.{Layout4}
-use Rattle.nfs4_file_ops.specs.Objects.{opaque_body}
+use Rattle.nfs4_types.specs.Objects.{opaque_body}
 
 -- layout4: offset, length, iomode, and content: the layout type and its body
 abbrev pub layout4 : Form

@@ -4,7 +4,7 @@ use Rattle.ff_xdr.specs.Form.{Form, Boolean, Number32, Number64, Optional, Pair,
 use Rattle.nfs4_types.specs.Stateids.{stateid4, stateid4_value}
 use Rattle.nfs4_types.specs.Times.{nfstime4, nfstime4_value}
 use Rattle.nfs4_file_ops.specs.declared.layout_commit.LayoutCommitArgs.{LayoutCommitArgs}
-use Rattle.nfs4_file_ops.specs.Objects.{opaque_body}
+use Rattle.nfs4_types.specs.Objects.{opaque_body}
 
 -- LAYOUTCOMMIT4args: offset, length, reclaim, stateid, last_write_offset, time_modify, layoutupdate (type, body)
 abbrev pub layoutcommit4_args : Form

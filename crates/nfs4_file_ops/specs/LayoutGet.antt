@@ -4,7 +4,7 @@ use Rattle.ff_xdr.specs.Items.{contents}
 use Rattle.ff_xdr.specs.Form.{Form, Arm, Array, Boolean, Enum, Number32, Number64, Pair, Value}
 use Rattle.nfs4_types.specs.Stateids.{stateid4, stateid4_value}
 use Rattle.nfs4_types.specs.Status.{refusals4, stat4_number}
-use Rattle.nfs4_file_ops.specs.OpResults.{but}
+use Rattle.nfs4_types.specs.OpResults.{but}
 use Rattle.nfs4_file_ops.specs.declared.layout_get.LayoutGetRes.{LayoutGetRes}
 use Rattle.nfs4_file_ops.specs.declared.layout_get.LayoutGetRes.TheVariants.{Done, TryLater, Refused}
 use Rattle.nfs4_file_ops.specs.declared.layout_get.LayoutGetArgs.{LayoutGetArgs}

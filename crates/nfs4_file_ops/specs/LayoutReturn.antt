@@ -6,7 +6,7 @@ use Rattle.nfs4_file_ops.specs.declared.layout_return.LayoutReturnArgs.{LayoutRe
 use Rattle.nfs4_file_ops.specs.declared.layout_return.LayoutReturn.{LayoutReturn}
 use Rattle.nfs4_file_ops.specs.declared.layout_return.LayoutReturn.TheVariants.{File, Fsid, All}
 use Rattle.nfs4_file_ops.specs.declared.layout_return.LayoutReturnFile.{LayoutReturnFile}
-use Rattle.nfs4_file_ops.specs.Objects.{opaque_body}
+use Rattle.nfs4_types.specs.Objects.{opaque_body}
 
 -- layoutreturn_file4: offset, length, stateid, body
 abbrev pub layoutreturn_file4 : Form

@@ -1,7 +1,4 @@
-pub mod Objects
 pub mod Stability
-pub mod OpResults
-pub mod ArmZero
 pub mod Fattr4
 pub mod Layout4
 pub mod OpenHow

@@ -3,7 +3,7 @@ use Rattle.ff_xdr.specs.Form.{Form, Boolean, Number32, Number64, Pair, Value}
 use Rattle.nfs4_types.specs.Stateids.{stateid4, stateid4_value}
 use Rattle.nfs4_file_ops.specs.declared.read.Read4Args.{Read4Args}
 use Rattle.nfs4_file_ops.specs.declared.read.Read4Ok.{Read4Ok}
-use Rattle.nfs4_file_ops.specs.Objects.{opaque_body}
+use Rattle.nfs4_types.specs.Objects.{opaque_body}
 
 -- READ4args: stateid, offset, count
 abbrev pub read4_args : Form

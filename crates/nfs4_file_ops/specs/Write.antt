@@ -4,7 +4,7 @@ use Rattle.nfs4_types.specs.Stateids.{stateid4, stateid4_value}
 use Rattle.nfs4_file_ops.specs.declared.write.Write4Args.{Write4Args}
 use Rattle.nfs4_file_ops.specs.declared.write.Write4Ok.{Write4Ok}
 use Rattle.nfs4_file_ops.specs.Stability.{stable_how4, stable_how4_number}
-use Rattle.nfs4_file_ops.specs.Objects.{opaque_body}
+use Rattle.nfs4_types.specs.Objects.{opaque_body}
 
 -- WRITE4args: stateid, offset, stable, data
 abbrev pub write4_args : Form

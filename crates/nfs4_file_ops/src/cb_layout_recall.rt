@@ -3,9 +3,8 @@
 ghost use Rattle.std.specs.Prelude.{refl};
 ghost use Rattle.nfs4_file_ops.specs.CbLayoutRecall.{layoutrecall4, layoutrecall4_value, layoutrecall_file4, layoutrecall_file4_value, fsid4, fsid4_value, cb_layoutrecall4_args, cb_layoutrecall4_args_value};
 
-use crate::OpResult;
 use ff_xdr::{Cursor, Message, NoMemory, Out, Wire, XdrError};
-use nfs4_types::{Handle4, Stateid};
+use nfs4_types::{Handle4, OpResult, Stateid};
 
 /// The layout of a file that is asked back, `layoutrecall_file4`.
 #[derive(Clone, Copy, Debug, PartialEq, Eq)]

@@ -3,9 +3,8 @@
 ghost use Rattle.std.specs.Prelude.{refl};
 ghost use Rattle.nfs4_file_ops.specs.Close.{close4_args, close4_args_value};
 
-use crate::OpResult;
 use ff_xdr::{Cursor, Message, NoMemory, Out, Wire, XdrError};
-use nfs4_types::Stateid;
+use nfs4_types::{OpResult, Stateid};
 
 /// The arguments, `CLOSE4args`.
 #[derive(Clone, Copy, Debug, PartialEq, Eq)]

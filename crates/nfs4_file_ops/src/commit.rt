@@ -3,8 +3,8 @@
 ghost use Rattle.std.specs.Prelude.{refl};
 ghost use Rattle.nfs4_file_ops.specs.Commit.{commit4_args, commit4_args_value};
 
-use crate::OpResult;
 use ff_xdr::{Cursor, Message, NoMemory, Out, Wire, XdrError};
+use nfs4_types::OpResult;
 
 /// The arguments, `COMMIT4args`.
 #[derive(Clone, Copy, Debug, PartialEq, Eq)]

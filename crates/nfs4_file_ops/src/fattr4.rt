@@ -3,9 +3,8 @@
 ghost use Rattle.std.specs.Prelude.{refl};
 ghost use Rattle.nfs4_file_ops.specs.Fattr4.{fattr4, fattr4_value};
 
-use crate::OpaqueBody;
 use ff_xdr::{Cursor, Message, NoMemory, Out, Wire, XdrError};
-use nfs4_types::Bitmap;
+use nfs4_types::{Bitmap, OpaqueBody};
 
 /// Attributes, `fattr4`.
 #[derive(Clone, Copy, Debug)]

@@ -3,9 +3,8 @@
 ghost use Rattle.std.specs.Prelude.{refl};
 ghost use Rattle.nfs4_file_ops.specs.GetDeviceInfo.{getdeviceinfo4_res, getdeviceinfo4_res_value, getdeviceinfo4_args, getdeviceinfo4_args_value, getdeviceinfo4_ok, getdeviceinfo4_ok_value};
 
-use crate::OpaqueBody;
 use ff_xdr::{Cursor, Message, NoMemory, Out, Wire, XdrError};
-use nfs4_types::{Bitmap, DeviceId, Refusal4, Stat4};
+use nfs4_types::{Bitmap, DeviceId, OpaqueBody, Refusal4, Stat4};
 
 /// The arguments, `GETDEVICEINFO4args`.
 #[derive(Clone, Copy, Debug)]

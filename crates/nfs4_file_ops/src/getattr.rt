@@ -1,7 +1,7 @@
 //! GETATTR: get attributes (RFC 8881, section 18.7).
 
-use crate::{Fattr4, OpResult};
-use nfs4_types::Bitmap;
+use crate::Fattr4;
+use nfs4_types::{Bitmap, OpResult};
 
 /// The arguments, `GETATTR4args`: which attributes are wanted.
 pub type GetAttr4Args<'a> = Bitmap<'a>;

@@ -3,8 +3,8 @@
 ghost use Rattle.std.specs.Prelude.{refl};
 ghost use Rattle.nfs4_file_ops.specs.Layout4.{layout4, layout4_value};
 
-use crate::OpaqueBody;
 use ff_xdr::{Cursor, Message, NoMemory, Out, Wire, XdrError};
+use nfs4_types::OpaqueBody;
 
 /// A layout, `layout4`.
 #[derive(Clone, Copy, Debug, PartialEq, Eq)]

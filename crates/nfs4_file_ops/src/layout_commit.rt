@@ -3,9 +3,8 @@
 ghost use Rattle.std.specs.Prelude.{refl};
 ghost use Rattle.nfs4_file_ops.specs.LayoutCommit.{layoutcommit4_args, layoutcommit4_args_value};
 
-use crate::{OpResult, OpaqueBody};
 use ff_xdr::{Cursor, Message, NoMemory, Out, Wire, XdrError};
-use nfs4_types::{Stateid, Time4};
+use nfs4_types::{OpResult, OpaqueBody, Stateid, Time4};
 
 /// The arguments, `LAYOUTCOMMIT4args`.
 #[derive(Clone, Copy, Debug, PartialEq, Eq)]

@@ -3,9 +3,8 @@
 ghost use Rattle.std.specs.Prelude.{refl};
 ghost use Rattle.nfs4_file_ops.specs.LayoutReturn.{layoutreturn4, layoutreturn4_value, layoutreturn_file4, layoutreturn_file4_value, layoutreturn4_args, layoutreturn4_args_value};
 
-use crate::{OpResult, OpaqueBody};
 use ff_xdr::{Cursor, Message, NoMemory, Out, Wire, XdrError};
-use nfs4_types::Stateid;
+use nfs4_types::{OpResult, OpaqueBody, Stateid};
 
 /// The layout of a file that is given back, `layoutreturn_file4`.
 #[derive(Clone, Copy, Debug, PartialEq, Eq)]

@@ -1,7 +1,6 @@
 //! NFSv4.1 (RFC 8881): the arguments and results of the operations on files and layouts, exactly.
 #![tactic(auto)]
 
-mod arm_zero;
 mod cb_layout_recall;
 mod close;
 mod commit;
@@ -14,8 +13,6 @@ mod layout_commit;
 mod layout_get;
 mod layout_return;
 mod lookup;
-mod objects;
-mod op_result;
 mod open;
 mod open_how;
 mod putfh;
@@ -24,7 +21,6 @@ mod read;
 mod stable_how4;
 mod write;
 
-pub use arm_zero::ArmZero;
 pub use cb_layout_recall::{
     CbLayoutRecallArgs, CbLayoutRecallRes, Fsid4, LayoutRecall, LayoutRecallFile,
 };
@@ -39,8 +35,6 @@ pub use layout_get::{LayoutGetArgs, LayoutGetOk, LayoutGetRes};
 pub use layout_return::{LayoutReturn, LayoutReturnArgs, LayoutReturnFile, LayoutReturnRes};
 pub use layout4::Layout4;
 pub use lookup::{Lookup4Args, Lookup4Res};
-pub use objects::{Component4, MAX_OPAQUE4, OpaqueBody, Owner4};
-pub use op_result::OpResult;
 pub use open::{OpenArgs, OpenOk, OpenRes};
 pub use open_how::{CreateHow4, OpenHow};
 pub use putfh::{PutFhArgs, PutFhRes};

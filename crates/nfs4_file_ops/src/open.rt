@@ -3,9 +3,9 @@
 ghost use Rattle.std.specs.Prelude.{refl};
 ghost use Rattle.nfs4_file_ops.specs.Open.{open4_args, open4_args_value, open4_ok, open4_ok_value};
 
-use crate::{ArmZero, Component4, OpResult, OpenHow, Owner4};
+use crate::OpenHow;
 use ff_xdr::{Cursor, Message, NoMemory, Out, Wire, XdrError};
-use nfs4_types::{Bitmap, Stateid};
+use nfs4_types::{ArmZero, Bitmap, Component4, OpResult, Owner4, Stateid};
 
 /// The arguments, `OPEN4args`.
 #[derive(Clone, Copy, Debug)]
@@ -18,7 +18,7 @@ pub struct OpenArgs<'a> {
     pub clientid: u64,
     pub owner: Owner4<'a>,
     pub how: OpenHow<'a>,
-    /// The name of the file in the current directory, `CLAIM_NULL`.
+    /// The name of the file in the current directory, `CLAIM_NULL`. It may be any bytes.
     pub claim: ArmZero<Component4<'a>>,
 }
 

@@ -3,9 +3,8 @@
 ghost use Rattle.std.specs.Prelude.{refl};
 ghost use Rattle.nfs4_file_ops.specs.Read.{read4_args, read4_args_value, read4_ok, read4_ok_value};
 
-use crate::{OpResult, OpaqueBody};
 use ff_xdr::{Cursor, Message, NoMemory, Out, Wire, XdrError};
-use nfs4_types::Stateid;
+use nfs4_types::{OpResult, OpaqueBody, Stateid};
 
 /// The arguments, `READ4args`.
 #[derive(Clone, Copy, Debug, PartialEq, Eq)]

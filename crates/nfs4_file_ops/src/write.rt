@@ -3,9 +3,9 @@
 ghost use Rattle.std.specs.Prelude.{refl};
 ghost use Rattle.nfs4_file_ops.specs.Write.{write4_args, write4_args_value, write4_ok, write4_ok_value};
 
-use crate::{OpResult, OpaqueBody, StableHow4};
+use crate::StableHow4;
 use ff_xdr::{Cursor, Message, NoMemory, Out, Wire, XdrError};
-use nfs4_types::Stateid;
+use nfs4_types::{OpResult, OpaqueBody, Stateid};
 
 /// The arguments, `WRITE4args`.
 #[derive(Clone, Copy, Debug, PartialEq, Eq)]

@@ -5,8 +5,8 @@ use Rattle.ff_xdr.specs.Form.{Form, Array, Number32, Number64, Pair, Void, Value
 use Rattle.nfs4_types.specs.AtMostOne.{listed_one}
 use Rattle.nfs4_session_ops.specs.declared.exchange_id.ExchangeIdArgs.{ExchangeIdArgs}
 use Rattle.nfs4_session_ops.specs.declared.exchange_id.ExchangeIdOk.{ExchangeIdOk}
-use Rattle.nfs4_file_ops.specs.Objects.{owner4}
-use Rattle.nfs4_file_ops.specs.ArmZero.{arm_zero}
+use Rattle.nfs4_types.specs.Objects.{owner4}
+use Rattle.nfs4_types.specs.ArmZero.{arm_zero}
 use Rattle.nfs4_session_ops.specs.ImplId.{impl_id4, impl_id4_value}
 
 -- EXCHANGE_ID4args: clientowner (verifier, ownerid), flags, state_protect, of which SP4_NONE 0 is built, client_impl_id<1>

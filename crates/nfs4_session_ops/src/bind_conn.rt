@@ -4,8 +4,7 @@ ghost use Rattle.nfs4_session_ops.specs.BindConn.{bind_conn4, bind_conn4_value, 
 
 use crate::{FromClient, FromServer};
 use ff_xdr::{Cursor, Message, NoMemory, Out, Wire, XdrError};
-use nfs4_file_ops::OpResult;
-use nfs4_types::SessionId;
+use nfs4_types::{OpResult, SessionId};
 
 /// A connection and a session: as a client asks for it, or as a server grants it. The two differ in the
 /// directions that there are.

@@ -5,8 +5,7 @@ ghost use Rattle.nfs4_session_ops.specs.CbSequence.{cb_sequence4_args, cb_sequen
 
 use crate::ReferringCalls;
 use ff_xdr::{Array, Cursor, Message, NoMemory, Out, Wire, XdrError};
-use nfs4_file_ops::OpResult;
-use nfs4_types::SessionId;
+use nfs4_types::{OpResult, SessionId};
 
 /// The arguments, `CB_SEQUENCE4args`.
 #[derive(Clone, Copy, Debug)]

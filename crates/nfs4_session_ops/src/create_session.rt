@@ -5,8 +5,7 @@ ghost use Rattle.nfs4_session_ops.specs.CreateSession.{create_session4_args, cre
 
 use crate::CallbackSec;
 use ff_xdr::{Array, Cursor, Message, NoMemory, Out, Wire, XdrError};
-use nfs4_file_ops::OpResult;
-use nfs4_types::{ChannelAttrs, SessionId};
+use nfs4_types::{ChannelAttrs, OpResult, SessionId};
 
 /// The arguments, `CREATE_SESSION4args`.
 #[derive(Clone, Copy, Debug)]

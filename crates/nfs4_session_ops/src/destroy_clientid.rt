@@ -1,6 +1,6 @@
 //! DESTROY_CLIENTID: a client is no more (RFC 8881, section 18.50).
 
-use nfs4_file_ops::OpResult;
+use nfs4_types::OpResult;
 
 /// The arguments, `DESTROY_CLIENTID4args`: the client.
 pub type DestroyClientIdArgs = u64;

@@ -1,7 +1,6 @@
 //! DESTROY_SESSION: end a session (RFC 8881, section 18.37).
 
-use nfs4_file_ops::OpResult;
-use nfs4_types::SessionId;
+use nfs4_types::{OpResult, SessionId};
 
 /// The arguments, `DESTROY_SESSION4args`.
 pub type DestroySessionArgs = SessionId;

@@ -5,8 +5,7 @@ ghost use Rattle.nfs4_session_ops.specs.ExchangeId.{exchange_id4_args, exchange_
 
 use crate::ImplId;
 use ff_xdr::{Cursor, Message, NoMemory, Out, Wire, XdrError};
-use nfs4_file_ops::{ArmZero, OpResult, Owner4};
-use nfs4_types::AtMostOne;
+use nfs4_types::{ArmZero, AtMostOne, OpResult, Owner4};
 
 /// The arguments, `EXCHANGE_ID4args`.
 #[derive(Clone, Copy, Debug, PartialEq, Eq)]

@@ -4,16 +4,15 @@ ghost use Rattle.std.specs.Prelude.{refl};
 ghost use Rattle.nfs4_session_ops.specs.ImplId.{impl_id4, impl_id4_value};
 
 use ff_xdr::{Cursor, Message, NoMemory, Out, Wire, XdrError};
-use nfs4_file_ops::Component4;
-use nfs4_types::Time4;
+use nfs4_types::{FreeText, Time4};
 
 /// Who made a client or a server, `nfs_impl_id4`.
 #[derive(Clone, Copy, Debug, PartialEq, Eq)]
 pub struct ImplId<'a> {
     /// The maker's domain.
-    pub domain: Component4<'a>,
+    pub domain: FreeText<'a>,
     /// The product.
-    pub name: Component4<'a>,
+    pub name: FreeText<'a>,
     /// When it was built.
     pub date: Time4,
 }

@@ -4,8 +4,7 @@ ghost use Rattle.std.specs.Prelude.{refl};
 ghost use Rattle.nfs4_session_ops.specs.SequenceRes.{sequence4_ok, sequence4_ok_value};
 
 use ff_xdr::{Cursor, Message, NoMemory, Out, Wire, XdrError};
-use nfs4_file_ops::OpResult;
-use nfs4_types::SessionId;
+use nfs4_types::{OpResult, SessionId};
 
 /// The result of a SEQUENCE that was done, `SEQUENCE4resok`.
 #[derive(Clone, Copy, Debug, PartialEq, Eq)]

@@ -1,5 +1,8 @@
 pub mod Status
 pub mod AtMostOne
+pub mod ArmZero
+pub mod Objects
+pub mod OpResults
 pub mod Bitmaps
 pub mod Channels
 pub mod Handles

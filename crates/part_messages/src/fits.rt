@@ -2,8 +2,8 @@
 
 use ff_xdr::{Items, Out, Wire};
 use nfs4_compound::OpRes;
-use nfs4_file_ops::{GetDeviceInfoRes, LayoutGetRes, OpResult};
-use nfs4_types::Stat4;
+use nfs4_file_ops::{GetDeviceInfoRes, LayoutGetRes};
+use nfs4_types::{OpResult, Stat4};
 use row_words::{Answer, RowFault, Words, number32};
 
 /// A status by its number.

@@ -1,9 +1,9 @@
 //! What an operation came to.
 
-ghost use Rattle.nfs4_file_ops.specs.OpResults.{result4, result4_value, result4_is_proper};
+ghost use Rattle.nfs4_types.specs.OpResults.{result4, result4_value, result4_is_proper};
 
+use crate::{Refusal4, Stat4};
 use ff_xdr::{Cursor, Message, NoMemory, Out, Wire, XdrError};
-use nfs4_types::{Refusal4, Stat4};
 
 /// What an operation came to, a union by its status (RFC 8881, section 16.2.3): it was done, with what it
 /// gave; or it was not, by a status other than OK and nothing more.

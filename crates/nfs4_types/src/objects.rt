@@ -1,13 +1,13 @@
 //! Names, owners and bodies, and their limits.
 
-use ff_xdr::{Opaque, Text};
+use ff_xdr::Opaque;
 
 /// The longest owner, server scope or major id, in bytes (RFC 8881, section 3.1, `NFS4_OPAQUE_LIMIT`).
 pub const MAX_OPAQUE4: u32 = 1_024;
 
-/// A name, a domain or a product's name: a text, which is UTF-8 and has no maximum but that of its
-/// length's word (RFC 8881, section 3.2, `component4`, `utf8str_cs`, `utf8str_cis`).
-pub type Component4<'a> = Text<'a, { u32::MAX }>;
+/// The name of a file in a directory (RFC 8881, section 3.2, `component4`). It is bytes with no maximum but that of their
+/// length's word. That a name is empty or no UTF-8 is for the operation to refuse (section 14.5), and no matter of form.
+pub type Component4<'a> = Opaque<'a, { u32::MAX }>;
 
 /// An owner of a client or of an open, a server's scope or major id: at most 1,024 bytes (RFC 8881,
 /// sections 3.3.10, 18.35).

@@ -1,6 +1,6 @@
 //! Unions of which one arm is built.
 
-ghost use Rattle.nfs4_file_ops.specs.ArmZero.{arm_zero, arm_zero_is_proper};
+ghost use Rattle.nfs4_types.specs.ArmZero.{arm_zero, arm_zero_is_proper};
 ghost use Rattle.std.proofs.Common.{inl};
 
 use ff_xdr::{Cursor, Message, NoMemory, Out, Wire, XdrError};

@@ -5,8 +5,8 @@ use Rattle.ff_xdr.specs.Form.{Form, Value, Arm, is_sound, avoids}
 use Rattle.ff_xdr.specs.Laws.{is_filled}
 use Rattle.ff_xdr.specs.Proper.{is_proper, both, proper_parts}
 use Rattle.nfs4_types.specs.Status.{refusal4, stat4_number}
-use Rattle.nfs4_file_ops.specs.declared.op_result.OpResult.{OpResult}
-use Rattle.nfs4_file_ops.specs.declared.op_result.OpResult.TheVariants.{Done, Refused}
+use Rattle.nfs4_types.specs.declared.op_result.OpResult.{OpResult}
+use Rattle.nfs4_types.specs.declared.op_result.OpResult.TheVariants.{Done, Refused}
 
 -- NFS4_OK with its fields; any other status has none
 abbrev pub result4 : Form → Form
