@@ -10,7 +10,7 @@ pub record CbSlotState : Type 0 where
   pub session : SessionId
   -- the number of the last callback that took effect, and 0 before any
   pub last : ℕ
-  -- the status that it was answered with
+  -- the status that its recall was answered with
   pub kept : Option Stat4
 
 abbrev pub new_cb_slot : SessionId → CbSlotState

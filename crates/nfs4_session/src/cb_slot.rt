@@ -12,7 +12,7 @@ use std::marker::Model;
 pub enum CbBegin {
     /// The callback takes effect.
     New,
-    /// It came before, and was answered with this status.
+    /// It came before, and its recall was answered with this status.
     Again(Stat4),
     /// Its number is neither the next nor, where a status is kept, the last.
     Misordered,
@@ -74,7 +74,7 @@ impl CbSlot {
         CbBegin::New
     }
 
-    /// The last callback was answered with this status. A second one takes the place of the first.
+    /// The recall of the last callback was answered with this status. A second one takes the place of the first.
     pub fn kept(&mut self, status: Stat4)
         ensures { self.new ≡ with_cb_status self.old status }
     {

@@ -23,7 +23,7 @@ impl Sessions {
     /// It is refused, and nothing changes, with BADSESSION, BADSLOT, SEQ_MISORDERED, DELAY where it is still in
     /// progress, and RETRY_UNCACHED_REP where its reply was too long to be kept.
     pub fn begin(&mut self, sequence: &Sequence, now: u64) -> Begin<'_>
-        ensures* { sem 𝓛 (follows_so the_row the_row self.entry.ghost_name none (λ _ _. ⊤) (λ new. BeginsRequest self.old sequence.now now result new)) }
+        ensures* begins { sem 𝓛 (follows_so the_row the_row self.entry.ghost_name none (λ _ _. ⊤) (λ new. BeginsRequest self.old sequence.now now result new)) }
     {
         let turn = self.take_turn(sequence, now);
         self.answer(sequence, turn)
