@@ -24,15 +24,12 @@ use Rattle.client_state.specs.declared.tie.OwnSession.{OwnSession}
 use Rattle.client_state.specs.declared.tie.Tie.{Tie}
 use Rattle.client_state.specs.declared.tie.Tie.TheVariants.{NoClient, HasClient, HasSession}
 use Rattle.client_state.specs.ClientStates.{ClientValue}
-use Rattle.client_callbacks.specs.Callbacks.{CbGiven, CbJudged, Recall, is_ok, cb_recall_result, behind_given, behind_result, refused_result, leaves, recalls, recall_step, repeat_step, stopped, cb_behind, cb_repeated, sequence_refused, cb_begun, cb_in_session, cb_first}
+use Rattle.client_callbacks.specs.Callbacks.{CbJudged, Recall, is_ok, cb_recall_result, behind_result, refused_result, leaves, recalls, recall_step, stopped, cb_behind, cb_repeated, sequence_refused, cb_begun, cb_in_session, cb_first}
 use Rattle.client_callbacks.specs.CallbackSteps.{CbResultList, HasJudgedCb}
 
 -- ---- what is still to come
 
 -- behind what there is, and behind what there was, it comes to the same
-abbrev pub GoesOnGiven : CbResultList → CbGiven → CbResultList → CbGiven → Type 0
-GoesOnGiven now g before all = (now ++ g.results ≡ before ++ all.results) × (g.status ≡ all.status)
-
 abbrev pub GoesOnJudged : CbResultList → CbJudged → CbResultList → CbJudged → Type 0
 GoesOnJudged now j before all = (now ++ j.results ≡ before ++ all.results) × (j.status ≡ all.status) × (j.client ≡ all.client)
 
@@ -108,14 +105,9 @@ behind_within (inl recall ∷ ops) s c = recall_within (recalls recall c) (λ d.
 behind_within (inr (inl sequence) ∷ ops) s c = omega arith
 behind_within (inr (inr none) ∷ ops) s c = absurd none
 
-repeat_within : (status : Stat4) (next : CbGiven) (n : ℕ) → length next.results ≤ n → length (repeat_step status next).results ≤ suc n
-repeat_within status next n h =
-    cond_both (is_ok status) (behind_given (cb_recall_result status) next) (refused_result status (cb_recall_result status))
-    (λ (g : CbGiven). length g.results ≤ suc n) (λ ok. omega (arith, h)) (λ not_ok. omega arith)
-
 repeated_within : (status : Stat4) (ops : List (Value cb_argop4)) (s : Stop) → length (cb_repeated status ops s).results ≤ suc (length ops)
 repeated_within status [] s = stop_within s zero
-repeated_within status (inl recall ∷ ops) s = repeat_within status (cb_repeated status ops s) (suc (length ops)) (repeated_within status ops s)
+repeated_within status (inl recall ∷ ops) s = omega arith
 repeated_within status (inr (inl sequence) ∷ ops) s = omega arith
 repeated_within status (inr (inr none) ∷ ops) s = absurd none
 

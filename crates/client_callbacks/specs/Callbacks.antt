@@ -141,13 +141,11 @@ abbrev pub cb_behind : List (Value cb_argop4) → Stop → ClientValue → CbJud
 cb_behind [] s c = leaves (stopped s) c
 cb_behind (op ∷ ops) s c = by_arm cb_argop4 ((λ recall. recall_step (recalls recall c) (λ d. cb_behind ops s d)), ((λ sequence. leaves misplaced c), tt)) op
 
--- the same of a callback that came before: its status is answered again, and nothing else is done
-abbrev pub repeat_step : Stat4 → CbGiven → CbGiven
-repeat_step status next = if is_ok status then behind_given (cb_recall_result status) next else refused_result status (cb_recall_result status)
-
+-- The same of a callback that came before: the kept status of its recall is answered again, and nothing else is done. What stands behind
+-- the recall is not looked at.
 abbrev pub cb_repeated : Stat4 → List (Value cb_argop4) → Stop → CbGiven
 cb_repeated status [] s = stopped s
-cb_repeated status (op ∷ ops) s = by_arm cb_argop4 ((λ recall. repeat_step status (cb_repeated status ops s)), ((λ sequence. misplaced), tt)) op
+cb_repeated status (op ∷ ops) s = by_arm cb_argop4 ((λ recall. given status (cb_recall_result status ∷ [])), ((λ sequence. misplaced), tt)) op
 
 -- ---- CB_SEQUENCE
 
@@ -157,12 +155,22 @@ with_callbacks s slot c = record c { tie = HasSession (record s { callbacks = sl
 abbrev pub sequence_refused : Stat4 → CbGiven
 sequence_refused status = refused_result status (arm 11 cb_resop4 (inr (stat4_number status)))
 
--- the status of a callback is kept with its number
-abbrev pub keeps_status : OwnSession → CbSlotState → CbJudged → CbJudged
-keeps_status s slot j = record { status = j.status; results = j.results; client = with_callbacks s (with_cb_status slot j.status) j.client }
+-- the status of the recall, of the first where there are more: any other operation ends the callback
+abbrev pub recall_status : List (Value cb_argop4) → ClientValue → Option Stat4
+recall_status [] c = None
+recall_status (op ∷ ops) c = by_arm cb_argop4 ((λ recall. Some (recalls recall c).status), ((λ sequence. None), tt)) op
+
+-- It is kept with the callback's number. A callback without a recall keeps none, so its number again is SEQ_MISORDERED.
+abbrev pub kept_of_recall : Option Stat4 → CbSlotState → CbSlotState
+kept_of_recall None slot = slot
+kept_of_recall (Some status) slot = with_cb_status slot status
+
+abbrev pub with_cb_slot : OwnSession → CbSlotState → CbJudged → CbJudged
+with_cb_slot s slot j = record { status = j.status; results = j.results; client = with_callbacks s slot j.client }
 
 abbrev pub cb_begun : OwnSession → ℕ → CbBegin → List (Value cb_argop4) → Stop → ClientValue → CbJudged
-cb_begun s number New ops st c = behind_result (cb_sequence_result s.id number) (keeps_status s (after_cb_begin s.callbacks number New) (cb_behind ops st c))
+cb_begun s number New ops st c =
+    behind_result (cb_sequence_result s.id number) (with_cb_slot s (kept_of_recall (recall_status ops c) (after_cb_begin s.callbacks number New)) (cb_behind ops st c))
 cb_begun s number (Again status) ops st c = leaves (behind_given (cb_sequence_result s.id number) (cb_repeated status ops st)) c
 cb_begun s number Misordered ops st c = leaves (sequence_refused stat.SeqMisordered) c
 

@@ -10,17 +10,16 @@ ghost use Rattle.nfs4_session_ops.specs.CbSequence.{cb_sequence4_args_value};
 ghost use Rattle.nfs4_compound.specs.declared.stop.Stop.TheVariants as stop;
 ghost use Rattle.nfs4_compound.specs.CbResults.{cb_resop4, cb_res_value};
 ghost use Rattle.nfs4_compound.specs.Compounds.{cb_compound4_res};
-ghost use Rattle.client_callbacks.specs.Callbacks.{cb_refusal, cb_recall_result, cb_sequence_result, refused_result, stopped, cb_behind, cb_repeated, keeps_status, cb_begun, cb_in_session, cb_first};
+ghost use Rattle.client_callbacks.specs.Callbacks.{cb_refusal, cb_recall_result, cb_sequence_result, refused_result, stopped, cb_behind, cb_repeated, recall_status, kept_of_recall, with_cb_slot, cb_begun, cb_in_session, cb_first};
 ghost use Rattle.client_callbacks.specs.CallbackSteps.{HasGivenResults, HasJudgedCb};
 
 use crate::recall::recall;
 use client_state::{OwnSession, State, Tie};
 use ff_xdr::{NoMemory, Out};
 use nfs4_compound::{CbOp, CbOps, CbRes, NextOp, put_cb_results};
-use nfs4_file_ops::OpResult;
-use nfs4_session::CbBegin;
+use nfs4_session::{CbBegin, CbSlot};
 use nfs4_session_ops::{CbSequenceArgs, CbSequenceOk};
-use nfs4_types::{SessionId, Stat4};
+use nfs4_types::{OpResult, SessionId, Stat4};
 use std::alloc::Global;
 use std::marker::Model;
 
@@ -118,25 +117,20 @@ impl CbResults {
         self.refuse(number, Stat4::NotSupp)
     }
 
-    /// The operations of a callback that came before: its status is answered again, and nothing else is done.
+    /// The operations of a callback that came before: the kept status of its recall is answered again, and nothing else
+    /// is done.
     fn repeat(&mut self, status: Stat4, ops: &mut CbOps<'_>) -> Result<Stat4, NoMemory>
         ensures { IfOk result (λ end. HasGivenResults (cb_repeated status ops.old.values ops.old.stop) self.old self.new end) }
     {
-        loop {
-            match ops.next() {
-                NextOp::Op(CbOp::LayoutRecall(_)) => {
-                    self.recalled(status)?;
-                    if status != Stat4::Ok {
-                        return Ok(status);
-                    }
-                }
-                NextOp::Op(CbOp::Sequence(_)) => {
-                    return self.refuse(SEQUENCE, Stat4::SequencePos);
-                }
-                NextOp::Unread(number) => return self.unread(number),
-                NextOp::Bad(_) => return self.refuse(ILLEGAL, Stat4::BadXdr),
-                NextOp::End => return Ok(Stat4::Ok),
+        match ops.next() {
+            NextOp::Op(CbOp::LayoutRecall(_)) => {
+                self.recalled(status)?;
+                Ok(status)
             }
+            NextOp::Op(CbOp::Sequence(_)) => self.refuse(SEQUENCE, Stat4::SequencePos),
+            NextOp::Unread(number) => self.unread(number),
+            NextOp::Bad(_) => self.refuse(ILLEGAL, Stat4::BadXdr),
+            NextOp::End => Ok(Stat4::Ok),
         }
     }
 
@@ -177,17 +171,43 @@ fn do_behind(
     }
 }
 
-/// A new callback takes effect, and its status is kept with its number (RFC 8881, section 2.10.6).
+/// The same, and the status of the recall that stands first there is kept.
+fn do_kept(
+    client: &mut State,
+    slot: &mut CbSlot,
+    ops: &mut CbOps<'_>,
+    results: &mut CbResults,
+) -> Result<Stat4, NoMemory>
+    ensures judged { IfOk result (λ end. HasJudgedCb (cb_behind ops.old.values ops.old.stop client.old) results.old results.new end client.new) }
+    ensures kept { OnOk result (slot.new ≡ kept_of_recall (recall_status ops.old.values client.old) slot.old) }
+{
+    match ops.next() {
+        NextOp::Op(CbOp::LayoutRecall(args)) => {
+            let status = recall(client, &args);
+            slot.kept(status);
+            results.recalled(status)?;
+            if status != Stat4::Ok {
+                return Ok(status);
+            }
+            do_behind(client, ops, results)
+        }
+        NextOp::Op(CbOp::Sequence(_)) => results.refuse(SEQUENCE, Stat4::SequencePos),
+        NextOp::Unread(number) => results.unread(number),
+        NextOp::Bad(_) => results.refuse(ILLEGAL, Stat4::BadXdr),
+        NextOp::End => Ok(Stat4::Ok),
+    }
+}
+
+/// A new callback takes effect. The status of its recall is kept with its number (RFC 8881, section 2.10.6).
 fn do_new(
     client: &mut State,
     mut session: OwnSession,
     ops: &mut CbOps<'_>,
     results: &mut CbResults,
 ) -> Result<Stat4, NoMemory>
-    ensures { IfOk result (λ end. HasJudgedCb (keeps_status session session.callbacks (cb_behind ops.old.values ops.old.stop client.old)) results.old results.new end client.new) }
+    ensures { IfOk result (λ end. HasJudgedCb (with_cb_slot session (kept_of_recall (recall_status ops.old.values client.old) session.callbacks) (cb_behind ops.old.values ops.old.stop client.old)) results.old results.new end client.new) }
 {
-    let status = do_behind(client, ops, results)?;
-    session.callbacks.kept(status);
+    let status = do_kept(client, &mut session.callbacks, ops, results)?;
     client.tie = Tie::HasSession(session);
     Ok(status)
 }
