@@ -1,12 +1,13 @@
 -- In every run a taken write counts as covered just where the notes say so.
 use Rattle.std.proofs.Common.{◌≡◌, ℕ, suc, zero, ◌<◌, ◌≤◌, Bool, true, false, List, [], ◌∷◌, ◌++◌, length, get_or, Option, Some, None, refl, sym, ap, subst, ◌∙◌, arith, inl, inr, ◌⊎◌}
 use Rattle.std.specs.Prelude.{slice_get, option_map, not}
-use Rattle.std.specs.List.{All}
+use Rattle.std.specs.List.{All, list_all}
+use Rattle.std.proofs.lemmas.Bool.{and_parts}
 use Rattle.std.proofs.lemmas.List.Elements.{All-append}
 use Rattle.std.proofs.lemmas.Option.{slice_get_within, slice_get_cases, slice_get-map, same_Some, none-some}
 use Rattle.cluster_model.specs.declared.ids.Mirror.{Mirror}
-use Rattle.mirror_writer.specs.Writers.{WriterMirror, WriterValue, new_mirror, new_writer}
-use Rattle.mirror_writer.specs.WriterLaws.{WriterMove, WriterNote, CommitSent, WriterRun, writer_run, writer_moved, covered_of, IsCoveredBy, CoversJustWhere}
+use Rattle.mirror_writer.specs.Writers.{WriterMirror, WriterValue, new_mirror, new_writer, is_covered, covered_flag}
+use Rattle.mirror_writer.specs.WriterLaws.{WriterMove, WriterNote, CommitSent, WriterRun, writer_run, writer_moved, covered_of, IsCoveredBy, CoversJustWhere, IsCommittedJustWhere}
 use Rattle.mirror_writer.proofs.Moved.{MoveAt, moves, note_place}
 use Rattle.mirror_writer.proofs.Noted.{middle, none_some_list}
 use Rattle.mirror_writer.proofs.Kept.{Kept, kept}
@@ -80,6 +81,29 @@ move_of_mirrors run move all =
         → (added ≡ []) ⊎ ((note : WriterNote) × (added ≡ note ∷ []) × (note_place note < length run.writer.mirrors)) → All (λ note. note_place note < length (writer_moved run move).writer.mirrors) added
     by_added size added (inl none) = subst (λ l. All (λ note. note_place note < length (writer_moved run move).writer.mirrors) l) (sym none) (λ i d within. absurd (omega (arith, within)))
     by_added size added (inr (note, one, below)) = subst (λ l. All (λ note. note_place note < length (writer_moved run move).writer.mirrors) l) (sym one) (only note (omega (arith, size, below)))
+
+-- ---- which mirrors are committed
+
+every_flag : (flags : List Bool) → list_all is_covered flags ≡ true → (k : ℕ) → k < length flags → covered_flag (slice_get flags k) ≡ true
+every_flag [] all k within = absurd (omega (arith, within))
+every_flag (f ∷ flags) all zero within = (and_parts f (list_all is_covered flags) all).0
+every_flag (f ∷ flags) all (suc k) within = every_flag flags (and_parts f (list_all is_covered flags) all).1 k (omega (arith, within))
+
+all_flags : (flags : List Bool) → ((k : ℕ) → k < length flags → covered_flag (slice_get flags k) ≡ true) → list_all is_covered flags ≡ true
+all_flags [] each = refl
+all_flags (f ∷ flags) each =
+    let first : f ≡ true = each zero (omega arith) in
+    let others : list_all is_covered flags ≡ true = all_flags flags (λ k within. each (suc k) (omega (arith, within))) in
+    rw (first, others) refl
+
+pub commits : (mirrors : List Mirror) (cred : ℕ) (moves' : List WriterMove) (place : ℕ) (m : WriterMirror)
+    → slice_get (writer_run mirrors cred moves').writer.mirrors place ≡ Some m → IsCommittedJustWhere (writer_run mirrors cred moves').writer.taken m
+commits mirrors cred moves' place m there =
+    let all : AllHold (writer_run mirrors cred moves') = run_keeps AllHold move_holds moves' (record { writer = new_writer mirrors cred; notes = [] }) (start_holds mirrors cred) in
+    let size : length m.covered ≡ length (writer_run mirrors cred moves').writer.taken = (all place m there).size in record {
+      only = λ so write within. every_flag m.covered so write (omega (arith, size, within));
+      where_so = λ each. all_flags m.covered (λ k within. each k (omega (arith, size, within)));
+    }
 
 -- ---- the law
 

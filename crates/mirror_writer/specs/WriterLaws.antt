@@ -1,5 +1,5 @@
 -- What holds of a writer in every run of it, told by what was sent and answered (RFC 8435, section 8; RFC 1813, sections 3.3.7 and 3.3.21).
-use Rattle.std.specs.Prelude.{◌≡◌, ℕ, Bool, true, false, ◌==◌, ◌&&◌, List, [], ◌∷◌, ◌++◌, length, Option, Some, None, fold, slice_get, if◌then◌else◌}
+use Rattle.std.specs.Prelude.{◌≡◌, ℕ, Bool, true, false, ◌<◌, ◌==◌, ◌&&◌, List, [], ◌∷◌, ◌++◌, length, Option, Some, None, fold, slice_get, if◌then◌else◌}
 use Rattle.std.specs.List.{All, AllPairs, Contains}
 use Rattle.cluster_model.specs.declared.ids.Mirror.{Mirror}
 use Rattle.cluster_model.specs.declared.ids.MirrorId.{MirrorId}
@@ -10,7 +10,7 @@ use Rattle.mirror_writer.specs.declared.call.WriterCall.{WriterCall}
 use Rattle.mirror_writer.specs.declared.call.WriterCall.TheVariants.{NoCall, OutWrite, OutCommit}
 use Rattle.mirror_writer.specs.declared.call.NextCall.{NextCall}
 use Rattle.mirror_writer.specs.declared.call.NextCall.TheVariants.{SendsWrite, SendsCommit}
-use Rattle.mirror_writer.specs.Writers.{WriterMirror, WriterValue, new_writer, touches, overlaps_taken, with_write, commit_wanted, open_committed, next_at, next_place, WriterSends, next_sent, mirror_of_call, after_reply, after_timeout, covered_flag}
+use Rattle.mirror_writer.specs.Writers.{WriterMirror, WriterValue, new_writer, touches, overlaps_taken, with_write, commit_wanted, is_committed, open_committed, next_at, next_place, WriterSends, next_sent, mirror_of_call, after_reply, after_timeout, covered_flag}
 
 -- ---- runs
 
@@ -146,6 +146,11 @@ StaysCovered mirrors cred moves move =
     (place write : ℕ) → covered_of write (slice_get (writer_run mirrors cred moves).writer.mirrors place) ≡ true
     → covered_of write (slice_get (writer_moved (writer_run mirrors cred moves) move).writer.mirrors place) ≡ true
 
+-- a mirror counts as committed just where each taken write is covered there, so also where none is taken
+pub record IsCommittedJustWhere (taken : List TakenWrite) (m : WriterMirror) : Type 0 where
+  pub only : is_committed m ≡ true → (write : ℕ) → write < length taken → covered_flag (slice_get m.covered write) ≡ true
+  pub where_so : ((write : ℕ) → write < length taken → covered_flag (slice_get m.covered write) ≡ true) → is_committed m ≡ true
+
 -- an OK answer to an outstanding COMMIT
 abbrev pub is_ok_commit : DsReplyValue → WriterCall → Bool
 is_ok_commit (Committed shown verifier) (OutCommit xid timeouts) = true
@@ -187,5 +192,7 @@ pub record WriterLaw : Type 0 where
   pub disjoint : (mirrors : List Mirror) (cred : ℕ) (moves : List WriterMove) → AreDisjointWrites (writer_run mirrors cred moves).writer.taken
   pub covers : (mirrors : List Mirror) (cred : ℕ) (moves : List WriterMove) (place write : ℕ) → CoversJustWhere (writer_run mirrors cred moves) place write
   pub stays : (mirrors : List Mirror) (cred : ℕ) (moves : List WriterMove) (move : WriterMove) → StaysCovered mirrors cred moves move
+  pub commits : (mirrors : List Mirror) (cred : ℕ) (moves : List WriterMove) (place : ℕ) (m : WriterMirror)
+      → slice_get (writer_run mirrors cred moves).writer.mirrors place ≡ Some m → IsCommittedJustWhere (writer_run mirrors cred moves).writer.taken m
   pub committed : (s : WriterValue) (xid : ℕ) (reply : DsReplyValue) → CommittedJustWhere s xid reply
   pub sends : (s : WriterValue) (xid : ℕ) (sends : WriterSends) → next_sent s xid ≡ Some sends → SendsTaken s xid sends

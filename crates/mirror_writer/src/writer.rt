@@ -111,7 +111,8 @@ impl Writer {
         Ok(())
     }
 
-    /// From now on COMMIT goes to each mirror whose WRITEs are answered, until each that has not failed is committed.
+    /// From now on COMMIT goes to each mirror whose WRITEs are answered. This ends with the answer by which each mirror
+    /// that has not failed is committed, and does not begin where every mirror is; one that failed is not.
     pub fn commit(&mut self)
         ensures { self.new ≡ commit_wanted self.old }
     {
