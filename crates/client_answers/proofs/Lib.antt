@@ -1,1 +1,2 @@
 pub mod OverAnswers
+pub mod LateLemmas

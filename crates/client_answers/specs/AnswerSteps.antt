@@ -10,6 +10,7 @@ use Rattle.client_state.specs.declared.request.UserRequest.{UserRequest}
 use Rattle.client_answers.specs.declared.mirrors.Heard.{Heard}
 use Rattle.cluster_model.specs.declared.outbox.Outbox.{Outbox}
 use Rattle.mirror_writer.specs.Writers.{after_reply}
+use Rattle.client_state.specs.declared.asked.Asked.{Asked}
 use Rattle.client_state.specs.declared.tie.Tie.{Tie}
 use Rattle.client_state.specs.declared.layout.Layout.{Layout}
 use Rattle.client_state.specs.ClientStates.{ClientValue}
@@ -40,6 +41,9 @@ with_queue c queue = record c { queue = queue }
 abbrev pub layout_after_failure : Bool → Layout → Layout
 layout_after_failure false l = ending l
 layout_after_failure true l = record (ending l) { untold = [] }
+
+abbrev pub with_asked_as : ClientValue → Option Asked → ClientValue
+with_asked_as c asked = record c { asked = asked }
 
 abbrev pub with_tie : ClientValue → Tie → ClientValue
 with_tie c tie = record c { tie = tie }

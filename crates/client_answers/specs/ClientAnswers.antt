@@ -145,20 +145,18 @@ by_answer kind Renewed c = unmoved c
 abbrev pub without_asked : ClientValue → ClientValue
 without_asked c = record c { asked = None }
 
--- By what became of the slot: the answer counts; the same goes out anew, under another number; or the same record at the next tick.
-abbrev pub mds_answered : Asked → MdsReplyValue → ℕ → ClientValue → ClientRun
-mds_answered asked reply now c = by_slot reply.slot
+-- the same record goes out again at the next tick
+abbrev pub delayed : Option Asked → Option Asked
+delayed None = None
+delayed (Some asked) = Some (record asked { is_late = true })
+
+-- What the reply to the outstanding compound, which asked this, comes to by what became of the slot: what was asked is done or refused;
+-- the same goes out anew, under another number; or the same record at the next tick.
+abbrev pub mds_answered : MdsAsk → MdsReplyValue → ℕ → ClientValue → ClientRun
+mds_answered kind reply now c = by_slot reply.slot
   where
     by_slot : SlotReport → ClientRun
-    by_slot Taken = by_answer asked.ask reply.answer (without_asked (next_on_slot now c))
-    by_slot Unknown = by_answer asked.ask reply.answer (without_asked c)
-    by_slot Uncached = unmoved (record (without_asked (next_on_slot now c)) { again = Some asked.ask })
-    by_slot Delayed = unmoved (record c { asked = Some (record asked { is_late = true }) })
-
-abbrev pub mds_heard : Option Asked → (MdsAsk → MdsReplyValue) → ℕ → ClientValue → ClientRun
-mds_heard None reply now c = unmoved c
-mds_heard (Some asked) reply now c = mds_answered asked (reply asked.ask) now c
-
-abbrev pub answered_as : Option Asked → MdsReplyValue → ℕ → ClientValue → ClientRun
-answered_as None reply now c = unmoved c
-answered_as (Some asked) reply now c = mds_answered asked reply now c
+    by_slot Taken = by_answer kind reply.answer (without_asked (next_on_slot now c))
+    by_slot Unknown = by_answer kind reply.answer (without_asked c)
+    by_slot Uncached = unmoved (record (without_asked (next_on_slot now c)) { again = Some kind })
+    by_slot Delayed = unmoved (record c { asked = delayed c.asked })

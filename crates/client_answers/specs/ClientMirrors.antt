@@ -17,8 +17,9 @@ use Rattle.mirror_writer.specs.Writers.{WriterValue, WriterAfter, after_reply, a
 use Rattle.mirror_writer.specs.Outstanding.{OutCall, out_at, is_covered_everywhere, has_no_mirror}
 use Rattle.mds_file_calls.specs.declared.open.OpenFile.{OpenFile}
 use Rattle.client_state.specs.declared.layout.Layout.{Layout}
-use Rattle.client_state.specs.ClientStates.{ClientValue, ClientRun, unmoved, followed_by}
+use Rattle.client_state.specs.ClientStates.{ClientValue, ClientRun, unmoved}
 use Rattle.client_state.specs.ClientQueue.{with_layout, with_writer, ending, revoked_layout, lost_mirrors}
+use Rattle.client_state.specs.ClientSends.{ClientSend, RepeatsToServer, ClientStep, sends_none}
 
 -- ---- writes that are told
 
@@ -99,25 +100,26 @@ ds_answered_by file layout server xid reply c = unmoved c
 abbrev pub ds_answered : ℕ → ℕ → (DsCallValue → DsReplyValue) → ClientValue → ClientRun
 ds_answered server xid reply c = ds_answered_by c.file c.layout server xid reply c
 
--- A timeout is entered. The same record goes out again where the mirror has not failed by it.
-pub record TimeoutRun : Type 0 where
-  pub run : ClientRun
-  pub resends : Option OutCall
+-- the same record goes out again where the mirror has not failed by the timeout
+abbrev pub goes_again : ClientSend → WriterStep → List ClientSend
+goes_again send step.Waiting = send ∷ []
+goes_again send came = []
 
-abbrev pub goes_again : OutCall → WriterStep → Option OutCall
-goes_again out step.Waiting = Some out
-goes_again out s = None
+-- a timeout of a call that is outstanding is entered
+abbrev pub late_out : OpenFile → Layout → ℕ → Option OutCall → ClientValue → ClientStep
+late_out file l server None c = sends_none c
+late_out file l server (Some out) c =
+    let after = after_timeout l.writer out.xid in
+    let r = after_step (is_commit out.call) file after.step (has_writer c l after) in record {
+      client = r.client;
+      entries = TimedOut (Client c.number) out.xid ∷ r.entries;
+      sends = goes_again (RepeatsToServer server out.xid c.name l.writer.cred out.call) after.step;
+    }
 
-abbrev pub late_out : OpenFile → Layout → Option OutCall → ClientValue → TimeoutRun
-late_out file l None c = record { run = unmoved c; resends = None }
-late_out file l (Some out) c = let after = after_timeout l.writer out.xid in record {
-  run = followed_by (record { client = has_writer c l after; entries = TimedOut (Client c.number) out.xid ∷ [] }) (after_step (is_commit out.call) file after.step);
-  resends = goes_again out after.step;
-}
+abbrev pub ds_timed_out_by : Option OpenFile → Option Layout → ℕ → ClientValue → ClientStep
+ds_timed_out_by (Some file) (Some l) server c = late_out file l server (out_at l.writer server) c
+ds_timed_out_by file layout server c = sends_none c
 
-abbrev pub ds_timed_out_by : Option OpenFile → Option Layout → ℕ → ClientValue → TimeoutRun
-ds_timed_out_by (Some file) (Some l) server c = late_out file l (out_at l.writer server) c
-ds_timed_out_by file layout server c = record { run = unmoved c; resends = None }
-
-abbrev pub ds_timed_out : ℕ → ClientValue → TimeoutRun
+-- the call that is outstanding at this data server timed out
+abbrev pub ds_timed_out : ℕ → ClientValue → ClientStep
 ds_timed_out server c = ds_timed_out_by c.file c.layout server c

@@ -1,3 +1,4 @@
 pub mod ClientMirrors
 pub mod ClientAnswers
 pub mod AnswerSteps
+pub mod LateSteps

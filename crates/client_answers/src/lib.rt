@@ -2,11 +2,13 @@
 #![tactic(auto)]
 
 mod answers;
+mod late;
 mod learn;
 mod lost;
 mod mirrors;
 mod replies;
 mod told;
 
-pub use mirrors::{Heard, after_step, ds_answered, is_commit};
-pub use replies::hear_mds;
+pub use late::ds_timed_out;
+pub use mirrors::ds_answered;
+pub use replies::mds_answered;

@@ -3,31 +3,38 @@
 ghost use Rattle.std.specs.Prelude.{◌≡◌, OnOk};
 ghost use Rattle.rpc_record.specs.Replies.{rpc_reply};
 ghost use Rattle.mds_calls.specs.MdsReplies.{plain_mds_answer, reply_of_ask};
-ghost use Rattle.client_answers.specs.ClientAnswers.{answered_as, mds_heard};
 ghost use Rattle.client_state.specs.QueueSteps.{HasRun};
+ghost use Rattle.client_answers.specs.ClientAnswers.{delayed, mds_answered};
+ghost use Rattle.client_answers.specs.AnswerSteps.{with_asked_as};
 
 use crate::answers::{next_on_slot, take_answer};
 use client_state::State;
 use cluster_model::Outbox;
 use ff_xdr::NoMemory;
-use mds_calls::{MdsAnswer, MdsReply, SlotReport, mds_reply_of};
+use mds_calls::{MdsAnswer, MdsAsk, MdsReply, SlotReport, mds_reply_of};
 use rpc_record::Reply;
 
-/// The reply to the compound that is outstanding: the answer counts, or the same goes out anew under another
-/// number, or the same record at the next tick, by what became of the slot.
-fn mds_answered(
+/// The same record goes out again at the next tick.
+fn delay(client: &mut State)
+    ensures { client.new ≡ with_asked_as client.old (delayed client.old.asked) }
+{
+    if let Some(asked) = &mut client.asked {
+        asked.is_late = true;
+    }
+}
+
+/// What a reply comes to by what became of the slot: the answer counts, or the same goes out anew under another
+/// number, or the same record at the next tick.
+fn by_slot(
     client: &mut State,
+    ask: MdsAsk,
     slot: SlotReport,
     answer: &MdsAnswer<'_>,
     now: u64,
     out: &mut Outbox,
 ) -> Result<(), NoMemory>
-    ensures { OnOk result (HasRun (answered_as client.old.asked (record { slot = slot; answer = plain_mds_answer answer.now }) now client.old) out.old client.new out.new) }
+    ensures { OnOk result (HasRun (mds_answered ask (record { slot = slot; answer = plain_mds_answer answer.now }) now client.old) out.old client.new out.new) }
 {
-    let Some(asked) = &mut client.asked else {
-        return Ok(());
-    };
-    let ask = asked.ask;
     match slot {
         SlotReport::Taken => {
             next_on_slot(client, now);
@@ -41,7 +48,7 @@ fn mds_answered(
             Ok(())
         }
         SlotReport::Delayed => {
-            asked.is_late = true;
+            delay(client);
             Ok(())
         }
         SlotReport::Unknown => {
@@ -51,18 +58,18 @@ fn mds_answered(
     }
 }
 
-/// The reply to the compound that is outstanding; what it says goes by what was asked.
-pub fn hear_mds(
+/// The reply to the outstanding compound, which asked this, came at `now`, in seconds. By what became of the slot
+/// (RFC 8881, section 2.10.6) what was asked is done or refused, or the same goes out anew under another number, or
+/// the same record at the next tick. After `NoMemory` nothing is said.
+pub fn mds_answered(
     client: &mut State,
+    ask: MdsAsk,
     reply: &Reply<'_>,
     now: u64,
     out: &mut Outbox,
 ) -> Result<(), NoMemory>
-    ensures { OnOk result (HasRun (mds_heard client.old.asked (λ kind. reply_of_ask kind (rpc_reply reply.now)) now client.old) out.old client.new out.new) }
+    ensures { OnOk result (HasRun (mds_answered ask (reply_of_ask ask (rpc_reply reply.now)) now client.old) out.old client.new out.new) }
 {
-    let Some(asked) = &client.asked else {
-        return Ok(());
-    };
-    let MdsReply { slot, answer } = mds_reply_of(&asked.ask, reply);
-    mds_answered(client, slot, &answer, now, out)
+    let MdsReply { slot, answer } = mds_reply_of(&ask, reply);
+    by_slot(client, ask, slot, &answer, now, out)
 }

@@ -34,7 +34,7 @@ fn split_covered(
     Ok((covered, rest))
 }
 
-/// PutsEntries that the taken write of this number is told.
+/// Enters that the taken write of this number is told.
 fn tell(
     alloc: Global,
     file: OpenFile,
@@ -57,7 +57,7 @@ fn tell(
     Ok(())
 }
 
-/// PutsEntries that these are told, in order.
+/// Enters that these are told, in order.
 fn tell_all(
     alloc: Global,
     file: OpenFile,

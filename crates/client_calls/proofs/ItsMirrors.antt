@@ -11,9 +11,11 @@ use Rattle.mirror_writer.specs.declared.call.NextCall.{NextCall}
 use Rattle.mirror_writer.specs.declared.call.NextCall.TheVariants.{SendsWrite, SendsCommit}
 use Rattle.mirror_writer.specs.Writers.{WriterValue, WriterMirror, WriterSends, next_sent, next_place, next_at, call_for, sends_at, sends_to, sends_next, sends_as, with_out, with_writer_mirrors}
 use Rattle.mds_calls.specs.declared.ask.MdsAsk.{MdsAsk}
+use Rattle.mds_calls.specs.MdsCalls.{MdsCallValue}
 use Rattle.client_state.specs.declared.layout.Layout.{Layout}
 use Rattle.client_state.specs.ClientStates.{ClientValue}
-use Rattle.client_calls.specs.ClientCalls.{SendValue, ClientStep, and_then, calls_next, calls_under, calls_mirror, calls_two, calls_mirrors, may_ask, asks, asks_as, sends_none, due_ask, compound_message, calls_mds}
+use Rattle.client_state.specs.ClientSends.{ClientSend, ClientStep, sends_none, and_then}
+use Rattle.client_calls.specs.ClientCalls.{calls_next, calls_under, calls_mirror, calls_two, calls_mirrors, may_ask, asks, asks_as, due_ask, call_by_ask, calls_mds}
 use Rattle.client_calls.specs.ClientLaws.{writer_servers, layout_servers, goes_to, CallsItsMirrors}
 
 server_of : WriterMirror → ℕ
@@ -88,22 +90,22 @@ mirror_home c = by_test (c.next_xid == 0)
     by_test true = record { home = refl; same = refl }
     by_test false = under_home c c.layout refl
 
-asked_home : (servers : List ℕ) (c : ClientValue) (kind : MdsAsk) (message : Option (List ℕ)) → list_all (goes_to servers) (asks_as c kind message).sends ≡ true
+asked_home : (servers : List ℕ) (c : ClientValue) (kind : MdsAsk) (call : Option MdsCallValue) → list_all (goes_to servers) (asks_as c kind call).sends ≡ true
 asked_home servers c kind None = refl
-asked_home servers c kind (Some message) = refl
+asked_home servers c kind (Some call) = refl
 
 due_home : (servers : List ℕ) (c : ClientValue) (kind : Option MdsAsk) → list_all (goes_to servers) (asks c kind).sends ≡ true
 due_home servers c None = refl
-due_home servers c (Some kind) = asked_home servers c kind (compound_message c kind)
+due_home servers c (Some kind) = asked_home servers c kind (call_by_ask c kind)
 
-mds_home : (servers : List ℕ) (c : ClientValue) → list_all (goes_to servers) (calls_mds c).sends ≡ true
-mds_home servers c = by_test (may_ask c c.asked)
+mds_home : (servers : List ℕ) (wants : Option MdsAsk) (c : ClientValue) → list_all (goes_to servers) (calls_mds wants c).sends ≡ true
+mds_home servers wants c = by_test (may_ask c c.asked)
   where
-    by_test : (t : Bool) → list_all (goes_to servers) (if t then asks c (due_ask c) else sends_none c).sends ≡ true
-    by_test true = due_home servers c (due_ask c)
+    by_test : (t : Bool) → list_all (goes_to servers) (if t then asks c (due_ask wants c) else sends_none c).sends ≡ true
+    by_test true = due_home servers c (due_ask wants c)
     by_test false = refl
 
-all_append : (servers : List ℕ) (s t : List SendValue) → list_all (goes_to servers) s ≡ true → list_all (goes_to servers) t ≡ true → list_all (goes_to servers) (s ++ t) ≡ true
+all_append : (servers : List ℕ) (s t : List ClientSend) → list_all (goes_to servers) s ≡ true → list_all (goes_to servers) t ≡ true → list_all (goes_to servers) (s ++ t) ≡ true
 all_append servers [] t first second = second
 all_append servers (x ∷ s) t first second = by_test (goes_to servers x) (list_all (goes_to servers) s) (list_all (goes_to servers) (s ++ t)) first (λ e. all_append servers s t e second)
   where
@@ -125,7 +127,7 @@ two_home c = then_home c (calls_mirror c) calls_mirror (mirror_home c) mirror_ho
 mirrors_home : (c : ClientValue) → StaysHome c (calls_mirrors c)
 mirrors_home c = then_home c (calls_two c) calls_two (two_home c) two_home
 
-pub all_home : (c : ClientValue) → CallsItsMirrors c
-all_home c =
-    all_append (layout_servers c.layout) (calls_mirrors c).sends (calls_mds (calls_mirrors c).client).sends
-    (mirrors_home c).home (mds_home (layout_servers c.layout) (calls_mirrors c).client)
+pub all_home : (c : ClientValue) (wants : Option MdsAsk) → CallsItsMirrors c wants
+all_home c wants =
+    all_append (layout_servers c.layout) (calls_mirrors c).sends (calls_mds wants (calls_mirrors c).client).sends
+    (mirrors_home c).home (mds_home (layout_servers c.layout) wants (calls_mirrors c).client)

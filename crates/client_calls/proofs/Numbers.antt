@@ -4,7 +4,6 @@ use Rattle.std.specs.Prelude.{not, ◌==◌, if◌then◌else◌}
 use Rattle.std.proofs.lemmas.List.{append_assoc}
 use Rattle.ff_xdr.specs.Form.{word, spelling}
 use Rattle.rpc_record.specs.Calls.{RpcCall, call_bytes, call_body, body_value}
-use Rattle.cluster_model.specs.declared.ids.NodeId.{NodeId}
 use Rattle.mirror_writer.specs.Writers.{WriterSends, next_sent}
 use Rattle.ds_calls.specs.MadeCalls.{ds_rpc_call}
 use Rattle.mds_calls.specs.declared.ask.MdsAsk.{MdsAsk}
@@ -13,20 +12,28 @@ use Rattle.mds_calls.specs.MdsCompounds.{mds_rpc_call}
 use Rattle.client_state.specs.declared.layout.Layout.{Layout}
 use Rattle.client_state.specs.declared.asked.Asked.{Asked}
 use Rattle.client_state.specs.ClientStates.{ClientValue}
-use Rattle.client_calls.specs.ClientCalls.{SendValue, ClientStep, xid_after, and_then, calls_next, calls_under, calls_mirror, calls_two, calls_mirrors, may_ask, asks, asks_as, spelled, sends_none, due_ask, call_by_ask, calls_mds}
-use Rattle.client_calls.specs.ClientLaws.{BearsNumber, CarryNumbers, SendsNumbered, NumbersCalls}
+use Rattle.client_state.specs.ClientSends.{ClientSend, CallsServer, CallsMds, RepeatsToServer, RepeatsToMds, RepliesToMds, ClientStep, sends_none, and_then}
+use Rattle.client_calls.specs.ClientCalls.{xid_after, calls_next, calls_under, calls_mirror, calls_two, calls_mirrors, may_ask, asks, asks_as, due_ask, call_by_ask, calls_mds}
+use Rattle.client_calls.specs.ClientLaws.{BeginsWith, CarryNumbers, SpellsNumber, SendsNumbered, NumbersCalls}
 
 not_both : false ≡ true → ⊥
 not_both e = absurd cc
 
 -- a call begins with its number
-call_bears : (call : RpcCall) (to : NodeId) → BearsNumber call.xid (to, call_bytes call)
-call_bears call to = record {
+call_begins : (call : RpcCall) → BeginsWith call.xid (call_bytes call)
+call_begins call = record {
   rest = (word 0 ++ word 2) ++ (spelling call_body (body_value call) ++ call.args);
-  bytes = append_assoc (word call.xid) (word 0 ++ word 2) (spelling call_body (body_value call) ++ call.args);
+  is = append_assoc (word call.xid) (word 0 ++ word 2) (spelling call_body (body_value call) ++ call.args);
 }
 
-numbered_append : (xid mid next : ℕ) (s t : List SendValue) → CarryNumbers xid s mid → CarryNumbers mid t next → CarryNumbers xid (s ++ t) next
+pub all_spelled : (s : ClientSend) → SpellsNumber s
+all_spelled (CallsServer server xid name uid call) = call_begins (ds_rpc_call xid name uid call)
+all_spelled (CallsMds xid name call) = call_begins (mds_rpc_call xid name call)
+all_spelled (RepeatsToServer server xid name uid call) = tt
+all_spelled (RepeatsToMds xid message) = tt
+all_spelled (RepliesToMds reply) = tt
+
+numbered_append : (xid mid next : ℕ) (s t : List ClientSend) → CarryNumbers xid s mid → CarryNumbers mid t next → CarryNumbers xid (s ++ t) next
 numbered_append xid mid next [] t first second = subst (λ x. CarryNumbers x t next) first second
 numbered_append xid mid next (x ∷ s) t first second = (first.0, (first.1.0, numbered_append (xid_after xid) mid next s t first.1.1 second))
 
@@ -35,7 +42,7 @@ nonzero xid is e = not_both (sym is ∙ ap (λ x. x == 0) e)
 
 next_numbered : (c : ClientValue) (l : Layout) (s : Option WriterSends) → c.next_xid ≢ 0 → SendsNumbered c (calls_next c l s)
 next_numbered c l None some = refl
-next_numbered c l (Some s) some = (some, (call_bears (ds_rpc_call c.next_xid c.name l.writer.cred s.call) _, refl))
+next_numbered c l (Some s) some = (some, (refl, refl))
 
 under_numbered : (c : ClientValue) (layout : Option Layout) → c.next_xid ≢ 0 → SendsNumbered c (calls_under c layout)
 under_numbered c None some = refl
@@ -58,9 +65,9 @@ two_numbered c = then_numbered c (calls_mirror c) calls_mirror (mirror_numbered 
 mirrors_numbered : (c : ClientValue) → SendsNumbered c (calls_mirrors c)
 mirrors_numbered c = then_numbered c (calls_two c) calls_two (two_numbered c) two_numbered
 
-asked_numbered : (c : ClientValue) (kind : MdsAsk) (call : Option MdsCallValue) → c.next_xid ≢ 0 → SendsNumbered c (asks_as c kind (spelled c call))
+asked_numbered : (c : ClientValue) (kind : MdsAsk) (call : Option MdsCallValue) → c.next_xid ≢ 0 → SendsNumbered c (asks_as c kind call)
 asked_numbered c kind None some = refl
-asked_numbered c kind (Some call) some = (some, (call_bears (mds_rpc_call c.next_xid c.name call) _, refl))
+asked_numbered c kind (Some call) some = (some, (refl, refl))
 
 due_numbered : (c : ClientValue) (kind : Option MdsAsk) → c.next_xid ≢ 0 → SendsNumbered c (asks c kind)
 due_numbered c None some = refl
@@ -70,12 +77,12 @@ may_nonzero : (c : ClientValue) (asked : Option Asked) → may_ask c asked ≡ t
 may_nonzero c None may e = not_both (sym (sym may ∙ ap (λ x. not (x == 0)) e))
 may_nonzero c (Some asked) may e = not_both may
 
-mds_numbered : (c : ClientValue) → SendsNumbered c (calls_mds c)
-mds_numbered c = by_test (may_ask c c.asked) refl
+mds_numbered : (wants : Option MdsAsk) (c : ClientValue) → SendsNumbered c (calls_mds wants c)
+mds_numbered wants c = by_test (may_ask c c.asked) refl
   where
-    by_test : (t : Bool) → may_ask c c.asked ≡ t → SendsNumbered c (if t then asks c (due_ask c) else sends_none c)
-    by_test true may = due_numbered c (due_ask c) (may_nonzero c c.asked may)
+    by_test : (t : Bool) → may_ask c c.asked ≡ t → SendsNumbered c (if t then asks c (due_ask wants c) else sends_none c)
+    by_test true may = due_numbered c (due_ask wants c) (may_nonzero c c.asked may)
     by_test false may = refl
 
-pub all_numbered : (c : ClientValue) → NumbersCalls c
-all_numbered c = then_numbered c (calls_mirrors c) calls_mds (mirrors_numbered c) mds_numbered
+pub all_numbered : (c : ClientValue) (wants : Option MdsAsk) → NumbersCalls c wants
+all_numbered c wants = then_numbered c (calls_mirrors c) (calls_mds wants) (mirrors_numbered c) (mds_numbered wants)

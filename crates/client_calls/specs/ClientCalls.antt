@@ -1,13 +1,9 @@
 -- What a client sends at the end of an event: first the calls to data servers, by the place of the mirror in the layout, then a
 -- compound to the metadata server.
-use Rattle.std.specs.Prelude.{ℕ, ◌+◌, Bool, true, false, ◌&&◌, ◌||◌, not, ◌==◌, List, [], ◌∷◌, ◌++◌, length, Option, Some, None, if◌then◌else◌}
+use Rattle.std.specs.Prelude.{ℕ, ◌+◌, Bool, true, false, ◌&&◌, ◌||◌, not, ◌==◌, List, [], ◌∷◌, ◌++◌, Option, Some, None, if◌then◌else◌}
 use Rattle.std.specs.Option.{option_or}
-use Rattle.cluster_model.specs.declared.ids.NodeId.{NodeId}
-use Rattle.cluster_model.specs.declared.ids.NodeId.TheVariants.{Mds, Server}
 use Rattle.cluster_model.specs.declared.ids.Mirror.{Mirror}
-use Rattle.cluster_model.specs.declared.entry.Entry.{Entry}
 use Rattle.mirror_writer.specs.Writers.{WriterValue, WriterSends, next_sent, rest_committed}
-use Rattle.ds_calls.specs.MadeCalls.{ds_call_bytes}
 use Rattle.mds_file_calls.specs.declared.open.OpenFile.{OpenFile}
 use Rattle.mds_file_calls.specs.declared.layout_return.FailedMirror.{FailedMirror}
 use Rattle.mds_calls.specs.declared.ask.MdsAsk.{MdsAsk}
@@ -21,28 +17,12 @@ use Rattle.client_state.specs.declared.request.UserRequest.{UserRequest}
 use Rattle.client_state.specs.declared.tie.Tie.{Tie}
 use Rattle.client_state.specs.declared.layout.Layout.{Layout}
 use Rattle.client_state.specs.declared.asked.Asked.{Asked}
-use Rattle.client_state.specs.declared.request.UserRequest.TheVariants.{Open, Write, Through, Read}
-use Rattle.client_state.specs.declared.tie.Tie.TheVariants.{NoClient, HasClient, HasSession}
-use Rattle.client_state.specs.ClientStates.{ClientValue, ClientRun}
-use Rattle.client_state.specs.ClientQueue.{is_writing, unknown_servers, run_queue}
+use Rattle.client_state.specs.declared.request.UserRequest.TheVariants.{Open, Through}
+use Rattle.client_state.specs.declared.tie.Tie.TheVariants.{HasClient, HasSession}
+use Rattle.client_state.specs.ClientStates.{ClientValue}
+use Rattle.client_state.specs.ClientQueue.{unknown_servers, run_queue}
+use Rattle.client_state.specs.ClientSends.{CallsServer, CallsMds, ClientStep, sends_none, and_then, run_then}
 use Rattle.mirror_writer.specs.Outstanding.{has_no_mirror}
-
--- a record for a node
-abbrev pub SendValue : Type 0
-SendValue = NodeId × List ℕ
-
--- a client after an event, the entries of the journal that it made, and the records that it sends
-pub record ClientStep : Type 0 where
-  pub client : ClientValue
-  pub entries : List Entry
-  pub sends : List SendValue
-
-abbrev pub sends_none : ClientValue → ClientStep
-sends_none c = record { client = c; entries = []; sends = [] }
-
--- one step, and then another
-abbrev pub and_then : ClientStep → (ClientValue → ClientStep) → ClientStep
-and_then s next = record { client = (next s.client).client; entries = s.entries ++ (next s.client).entries; sends = s.sends ++ (next s.client).sends }
 
 -- the number behind a call's; 0 behind the last, so that none is left
 abbrev pub xid_after : ℕ → ℕ
@@ -50,15 +30,12 @@ xid_after xid = if xid == 4294967295 then 0 else xid + 1
 
 -- ---- calls to data servers
 
-abbrev pub send_of : List ℕ → ℕ → ℕ → WriterSends → SendValue
-send_of name cred xid s = (Server s.id.server, ds_call_bytes xid name cred s.call)
-
 abbrev pub calls_next : ClientValue → Layout → Option WriterSends → ClientStep
 calls_next c l None = sends_none c
 calls_next c l (Some s) = record {
   client = record c { layout = Some (record l { writer = s.writer }); next_xid = xid_after c.next_xid };
   entries = [];
-  sends = send_of c.name l.writer.cred c.next_xid s ∷ [];
+  sends = CallsServer s.id.server c.next_xid c.name l.writer.cred s.call ∷ [];
 }
 
 abbrev pub calls_under : ClientValue → Option Layout → ClientStep
@@ -78,38 +55,6 @@ calls_mirrors c = and_then (calls_two c) calls_two
 
 -- ---- which compound goes out
 
--- how far the client is with its metadata server
-abbrev pub tie_ask : Tie → MdsAsk
-tie_ask NoClient = ask.ExchangeId
-tie_ask (HasClient clientid sequence) = ask.CreateSession
-tie_ask (HasSession s) = if s.is_complete then ask.Open else ask.ReclaimComplete
-
--- the addresses of so many devices are asked for
-abbrev pub devices_ask : ℕ → Option MdsAsk
-devices_ask count = if count == 0 then None else Some (ask.DeviceInfo count)
-
--- a write wants a layout, and then the addresses of its devices
-abbrev pub write_ask : ClientValue → Option Layout → Option MdsAsk
-write_ask c None = Some ask.LayoutGet
-write_ask c (Some l) = if is_writing l.stage then devices_ask (length (unknown_servers c l)) else None
-
-abbrev pub through_ask : Option Layout → Option MdsAsk
-through_ask None = Some ask.Write
-through_ask (Some l) = None
-
--- what is asked for the request at the head
-abbrev pub request_ask : ClientValue → Option OpenFile → UserRequest → Option MdsAsk
-request_ask c None (Open name) = Some (tie_ask c.tie)
-request_ask c None request = None
-request_ask c (Some file) (Write at bytes) = write_ask c c.layout
-request_ask c (Some file) (Through at bytes) = through_ask c.layout
-request_ask c (Some file) (Read at count) = Some (ask.Read at count)
-request_ask c (Some file) request = None
-
-abbrev pub head_ask : ClientValue → List UserRequest → Option MdsAsk
-head_ask c [] = None
-head_ask c (request ∷ rest) = if c.waits then None else request_ask c c.file request
-
 -- LAYOUTRETURN is due once each mirror that has not failed is committed, or every mirror failed
 abbrev pub is_ending : LayoutStage → Bool
 is_ending Writing = false
@@ -124,9 +69,9 @@ abbrev pub return_ask : Option Layout → Option MdsAsk
 return_ask None = None
 return_ask (Some l) = if is_ending l.stage && is_settled l.writer then Some ask.LayoutReturn else None
 
--- what goes out anew comes first, then the layout's return, then what is asked for the head
-abbrev pub due_ask : ClientValue → Option MdsAsk
-due_ask c = option_or c.again (option_or (return_ask c.layout) (head_ask c c.queue))
+-- what goes out anew comes first, then the layout's return, then what the head wants, which is nothing while the client waits for a tick
+abbrev pub due_ask : Option MdsAsk → ClientValue → Option MdsAsk
+due_ask wants c = option_or c.again (option_or (return_ask c.layout) (if c.waits then None else wants))
 
 -- ---- the compound
 
@@ -193,48 +138,40 @@ abbrev pub layout_asked : MdsAsk → Option Layout → Option Layout
 layout_asked ask.LayoutReturn layout = returning layout
 layout_asked kind layout = layout
 
--- its record, under the next number
-abbrev pub spelled : ClientValue → Option MdsCallValue → Option (List ℕ)
-spelled c None = None
-spelled c (Some call) = Some (mds_call_bytes c.next_xid c.name call)
+-- it is outstanding from now on, under the next number, with its record
+abbrev pub asked_by : ClientValue → MdsAsk → List ℕ → ClientValue
+asked_by c kind message = record c {
+  next_xid = xid_after c.next_xid;
+  asked = Some (record { xid = c.next_xid; ask = kind; message = message; is_late = false });
+  again = None;
+  layout = layout_asked kind c.layout;
+}
 
-abbrev pub compound_message : ClientValue → MdsAsk → Option (List ℕ)
-compound_message c kind = spelled c (call_by_ask c kind)
-
-abbrev pub asks_as : ClientValue → MdsAsk → Option (List ℕ) → ClientStep
+abbrev pub asks_as : ClientValue → MdsAsk → Option MdsCallValue → ClientStep
 asks_as c kind None = sends_none c
-asks_as c kind (Some message) = record {
-  client = record c {
-    next_xid = xid_after c.next_xid;
-    asked = Some (record { xid = c.next_xid; ask = kind; message = message; is_late = false });
-    again = None;
-    layout = layout_asked kind c.layout;
-  };
+asks_as c kind (Some call) = record {
+  client = asked_by c kind (mds_call_bytes c.next_xid c.name call);
   entries = [];
-  sends = (Mds, message) ∷ [];
+  sends = CallsMds c.next_xid c.name call ∷ [];
 }
 
 abbrev pub asks : ClientValue → Option MdsAsk → ClientStep
 asks c None = sends_none c
-asks c (Some kind) = asks_as c kind (compound_message c kind)
+asks c (Some kind) = asks_as c kind (call_by_ask c kind)
 
 -- one compound is outstanding at a time, and none goes out without a number
 abbrev pub may_ask : ClientValue → Option Asked → Bool
 may_ask c None = not (c.next_xid == 0)
 may_ask c (Some asked) = false
 
-abbrev pub calls_mds : ClientValue → ClientStep
-calls_mds c = if may_ask c c.asked then asks c (due_ask c) else sends_none c
+abbrev pub calls_mds : Option MdsAsk → ClientValue → ClientStep
+calls_mds wants c = if may_ask c c.asked then asks c (due_ask wants c) else sends_none c
 
 -- ---- the end of an event
 
-abbrev pub calls_all : ClientValue → ClientStep
-calls_all c = and_then (calls_mirrors c) calls_mds
-
--- what was entered, and then what follows
-abbrev pub run_then : ClientRun → (ClientValue → ClientStep) → ClientStep
-run_then r next = record { client = (next r.client).client; entries = r.entries ++ (next r.client).entries; sends = (next r.client).sends }
+abbrev pub calls_all : Option MdsAsk → ClientValue → ClientStep
+calls_all wants c = and_then (calls_mirrors c) (calls_mds wants)
 
 -- The queue is run, and then the calls go out.
 abbrev pub ends_event : ClientValue → ClientStep
-ends_event c = run_then (run_queue c) calls_all
+ends_event c = let q = run_queue c in run_then q.run (calls_all q.wants)

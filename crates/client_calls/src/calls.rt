@@ -1,16 +1,15 @@
 //! Calls to the mirrors of the layout.
 
 ghost use Rattle.std.specs.Prelude.{◌≡◌, ◌≤◌, length, IfOk, OnOk, if◌then◌else◌};
-ghost use Rattle.cluster_model.specs.DsCalls.{plain_ds_call, data_in};
-ghost use Rattle.ds_calls.specs.MadeCalls.{ds_call_bytes};
 ghost use Rattle.mirror_writer.specs.Writers.{next_sent};
 ghost use Rattle.client_calls.specs.ClientCalls.{xid_after, calls_under, calls_mirror, calls_two, calls_mirrors};
-ghost use Rattle.client_calls.specs.CallSteps.{HasSent, HasStepped};
+ghost use Rattle.client_state.specs.QueueSteps.{HasStepped};
+ghost use Rattle.client_calls.specs.CallSteps.{HasSent};
 
 use client_state::{Layout, State};
-use cluster_model::{Cred, DsCall, NodeId, Outbox};
-use ds_calls::put_ds_call;
-use ff_xdr::{Data, NoMemory, Out};
+use cluster_model::{NodeId, Outbox};
+use ds_calls::ds_record;
+use ff_xdr::NoMemory;
 use std::alloc::Global;
 
 /// The number behind a call's; 0 behind the last, so that none is left.
@@ -21,23 +20,6 @@ pub fn xid_after(xid: u32) -> u32
         return 0;
     }
     xid + 1
-}
-
-/// The record of a call to a data server.
-pub fn ds_record(
-    alloc: Global,
-    xid: u32,
-    name: &[u8],
-    cred: Cred,
-    call: &DsCall<'_>,
-) -> Result<Data, NoMemory>
-    requires name { length name.now ≤ 255 }
-    requires few { length (data_in (plain_ds_call call.now)) ≤ 65536 }
-    ensures { IfOk result (λ message. message ≡ ds_call_bytes xid name.now cred.0 (plain_ds_call call.now)) }
-{
-    let mut out = Out::new(alloc);
-    put_ds_call(xid, name, cred, call, &mut out)?;
-    Ok(Data::from_vec(out.into_bytes()))
 }
 
 /// The number behind a call's, if it was sent.

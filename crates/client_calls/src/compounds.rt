@@ -6,9 +6,9 @@ ghost use Rattle.mds_calls.specs.MdsCalls as slot;
 ghost use Rattle.mds_calls.specs.MdsCompounds.{FitsCompound};
 ghost use Rattle.client_state.specs.declared.tie.Tie.TheVariants.{HasSession};
 ghost use Rattle.client_state.specs.ClientQueue.{unknown_servers};
-ghost use Rattle.client_calls.specs.ClientCalls.{failed_mirrors, spelled, open_call, through_call, devices_call, return_call, file_call, slot_call, on_slot, compound_message, returning, asks, calls_mds};
-ghost use Rattle.client_calls.specs.CallSteps.{HasStepped};
-ghost use Rattle.client_state.specs.QueueSteps.{with_layout_at};
+ghost use Rattle.client_calls.specs.ClientCalls.{failed_mirrors, open_call, through_call, devices_call, return_call, file_call, slot_call, on_slot, returning, asked_by, asks, calls_mds};
+ghost use Rattle.client_calls.specs.CallSteps.{spelled, compound_message};
+ghost use Rattle.client_state.specs.QueueSteps.{HasStepped, with_layout_at};
 
 use crate::asks::{due_ask, may_ask};
 use crate::calls::xid_after;
@@ -253,13 +253,10 @@ fn begin_return(client: &mut State)
     }
 }
 
-/// This is asked under the next number, where there is something to ask it of.
-pub fn ask_mds(client: &mut State, ask: MdsAsk, out: &mut Outbox) -> Result<(), NoMemory>
-    ensures { OnOk result (HasStepped (asks client.old (Some ask)) out.old client.new out.new) }
+/// This is outstanding from now on, under the next number, with this record.
+fn begin_ask(client: &mut State, ask: MdsAsk, message: &Data) -> Result<(), NoMemory>
+    ensures { OnOk result (client.new ≡ asked_by client.old ask message.now) }
 {
-    let Some(message) = compound_message(client, ask)? else {
-        return Ok(());
-    };
     client.asked = Some(Asked {
         xid: client.next_xid,
         ask,
@@ -271,18 +268,29 @@ pub fn ask_mds(client: &mut State, ask: MdsAsk, out: &mut Outbox) -> Result<(), 
     if is_layout_return(ask) {
         begin_return(client);
     }
+    Ok(())
+}
+
+/// This is asked under the next number, where there is something to ask it of.
+pub fn ask_mds(client: &mut State, ask: MdsAsk, out: &mut Outbox) -> Result<(), NoMemory>
+    ensures { OnOk result (HasStepped (asks client.old (Some ask)) out.old client.new out.new) }
+{
+    let Some(message) = compound_message(client, ask)? else {
+        return Ok(());
+    };
+    begin_ask(client, ask, &message)?;
     out.sends.push((NodeId::Mds, message))?;
     Ok(())
 }
 
-/// The compound that is due goes out, where none is outstanding.
-pub fn call_mds(client: &mut State, out: &mut Outbox) -> Result<(), NoMemory>
-    ensures { OnOk result (HasStepped (calls_mds client.old) out.old client.new out.new) }
+/// The compound that is due goes out, where none is outstanding and the head of the queue wants this.
+pub fn call_mds(client: &mut State, wants: Option<MdsAsk>, out: &mut Outbox) -> Result<(), NoMemory>
+    ensures { OnOk result (HasStepped (calls_mds wants client.old) out.old client.new out.new) }
 {
     if !may_ask(client) {
         return Ok(());
     }
-    let Some(ask) = due_ask(client) else {
+    let Some(ask) = due_ask(client, wants) else {
         return Ok(());
     };
     ask_mds(client, ask, out)

@@ -10,6 +10,6 @@ mod laws;
 
 pub use all::end_event;
 pub use asks::may_ask;
-pub use calls::{ds_record, xid_after};
+pub use calls::xid_after;
 pub use compounds::ask_mds;
 pub use laws::client_law;

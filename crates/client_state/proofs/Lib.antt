@@ -1,2 +1,3 @@
 pub mod QueueLemmas
+pub mod HeadWaits
 pub mod Names

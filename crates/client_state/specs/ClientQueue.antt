@@ -1,5 +1,5 @@
 -- What a client does for its user's requests, in order, as far as it can by itself.
-use Rattle.std.specs.Prelude.{ℕ, ◌+◌, Bool, true, false, ◌||◌, not, ◌==◌, nat_lt, List, [], ◌∷◌, ◌++◌, length, Option, Some, None, is_some, if◌then◌else◌}
+use Rattle.std.specs.Prelude.{ℕ, ◌+◌, Bool, true, false, ◌==◌, nat_lt, List, [], ◌∷◌, ◌++◌, length, Option, Some, None, is_some, if◌then◌else◌}
 use Rattle.nfs4_types.specs.declared.ids.DeviceId.{DeviceId}
 use Rattle.nfs4_types.specs.Ids.{device_id_of}
 use Rattle.device_addr.specs.declared.net_addr.NetAddr.{NetAddr}
@@ -12,10 +12,14 @@ use Rattle.cluster_model.specs.declared.answer.FailCause.TheVariants as failing
 use Rattle.cluster_model.specs.declared.entry.Entry.TheVariants.{Sent, Answer}
 use Rattle.mirror_writer.specs.Writers.{WriterValue, overlaps_taken, with_write, commit_wanted}
 use Rattle.mds_file_calls.specs.declared.open.OpenFile.{OpenFile}
+use Rattle.mds_calls.specs.declared.ask.MdsAsk.{MdsAsk}
+use Rattle.mds_calls.specs.declared.ask.MdsAsk.TheVariants as ask
 use Rattle.client_state.specs.declared.stage.LayoutStage.{LayoutStage}
 use Rattle.client_state.specs.declared.stage.LayoutStage.TheVariants.{Writing, Ending, Deferred, Returning}
 use Rattle.client_state.specs.declared.request.UserRequest.{UserRequest}
 use Rattle.client_state.specs.declared.layout.Layout.{Layout}
+use Rattle.client_state.specs.declared.tie.Tie.{Tie}
+use Rattle.client_state.specs.declared.tie.Tie.TheVariants.{NoClient, HasClient, HasSession}
 use Rattle.client_state.specs.declared.request.UserRequest.TheVariants.{Open, Write, Through, Commit, Read, Return}
 use Rattle.client_state.specs.ClientStates.{ClientValue, ClientRun, unmoved, followed_by}
 
@@ -68,12 +72,18 @@ unknown_in devices (m ∷ mirrors) = if knows devices m.id.server then unknown_i
 abbrev pub unknown_servers : ClientValue → Layout → List ℕ
 unknown_servers c l = unknown_in c.devices l.mirrors
 
+-- the layout is to be given back, if there is one
+abbrev pub layout_ending : ClientValue → Option Layout → ClientValue
+layout_ending c None = c
+layout_ending c (Some l) = with_layout c (ending l)
+
 -- ---- the request at the head
 
--- It is done; or it waits for what is sent for it.
+-- It is done; it waits for what is under way, and the client is this; or it waits for what is asked of the metadata server.
 pub data HeadStep : Type 0 where
   IsDone : (r : ClientRun) → HeadStep
-  IsKept : (r : ClientRun) → HeadStep
+  IsKept : (c : ClientValue) → HeadStep
+  Asks : (kind : MdsAsk) → HeadStep
 
 -- the end of a file, at most (RFC 1813, section 3.3.7, NFS3ERR_FBIG)
 abbrev pub is_past : ℕ → List ℕ → Bool
@@ -86,29 +96,23 @@ taken_write c file l at bytes = record {
   entries = Sent file.file (record { 0 = l.writer.cred }) at bytes ∷ [];
 }
 
--- a write waits without a layout, where the layout is given back, and where a device is not known
-abbrev pub must_wait : ClientValue → Option Layout → Bool
-must_wait c None = true
-must_wait c (Some l) = not (is_writing l.stage) || not (length (unknown_servers c l) == 0)
+-- where a taken write has one of its places, the layout is given back first
+abbrev pub write_under : ClientValue → OpenFile → Layout → ℕ → List ℕ → HeadStep
+write_under c file l at bytes = if overlaps_taken l.writer at (length bytes) then IsKept (with_layout c (ending l)) else IsDone (taken_write c file l at bytes)
 
--- a write under a layout: where a taken write has one of its places, the layout is given back first
-abbrev pub write_under : ClientValue → OpenFile → Option Layout → ℕ → List ℕ → HeadStep
-write_under c file None at bytes = IsKept (unmoved c)
-write_under c file (Some l) at bytes =
-    if overlaps_taken l.writer at (length bytes) then IsKept (unmoved (with_layout c (ending l)))
-    else IsDone (taken_write c file l at bytes)
+-- the addresses of the devices that are not known are asked for first; so many are not
+abbrev pub write_to : ClientValue → OpenFile → Layout → ℕ → List ℕ → ℕ → HeadStep
+write_to c file l at bytes unknown = if unknown == 0 then write_under c file l at bytes else Asks (ask.DeviceInfo unknown)
 
-abbrev pub write_by : ClientValue → OpenFile → ℕ → List ℕ → HeadStep
-write_by c file at bytes = if must_wait c c.layout then IsKept (unmoved c) else write_under c file c.layout at bytes
+-- a write wants a layout; where one is given back it waits for that
+abbrev pub write_by : ClientValue → OpenFile → Option Layout → ℕ → List ℕ → HeadStep
+write_by c file None at bytes = Asks ask.LayoutGet
+write_by c file (Some l) at bytes = if is_writing l.stage then write_to c file l at bytes (length (unknown_servers c l)) else IsKept c
 
--- the layout is to be given back, if there is one
-abbrev pub layout_ending : ClientValue → Option Layout → ClientValue
-layout_ending c None = c
-layout_ending c (Some l) = with_layout c (ending l)
-
--- what goes to the metadata server waits until the layout is given back
-abbrev pub without_layout : ClientValue → HeadStep
-without_layout c = IsKept (unmoved (layout_ending c c.layout))
+-- what comes once the layout is given back
+abbrev pub behind_return : HeadStep → ClientValue → Option Layout → HeadStep
+behind_return step c None = step
+behind_return step c (Some l) = IsKept (with_layout c (ending l))
 
 -- each taken write is told
 abbrev pub is_all_told : Option Layout → Bool
@@ -121,47 +125,58 @@ layout_committing c (Some l) = with_layout c (with_writer l (commit_wanted l.wri
 
 -- a commit is done where each taken write is told
 abbrev pub commit_by : ClientValue → HeadStep
-commit_by c = if is_all_told c.layout then IsDone (answers_committed c) else IsKept (unmoved (layout_committing c c.layout))
+commit_by c = if is_all_told c.layout then IsDone (answers_committed c) else IsKept (layout_committing c c.layout)
 
-abbrev pub return_by : ClientValue → Option Layout → HeadStep
-return_by c None = IsDone (answers_user answer.Returned c)
-return_by c (Some l) = without_layout c
-
--- a request for an open file
+-- a request for an open file; what goes to the metadata server waits until the layout is given back
 abbrev pub on_open_file : ClientValue → OpenFile → UserRequest → HeadStep
 on_open_file c file (Open name) = IsDone (refuses_request 22 c)
-on_open_file c file (Write at bytes) = if is_past at bytes then IsDone (refuses_request 27 c) else write_by c file at bytes
-on_open_file c file (Through at bytes) = if is_past at bytes then IsDone (refuses_request 27 c) else without_layout c
+on_open_file c file (Write at bytes) = if is_past at bytes then IsDone (refuses_request 27 c) else write_by c file c.layout at bytes
+on_open_file c file (Through at bytes) = if is_past at bytes then IsDone (refuses_request 27 c) else behind_return (Asks ask.Write) c c.layout
 on_open_file c file Commit = commit_by c
-on_open_file c file (Read at count) = IsKept (unmoved c)
-on_open_file c file Return = return_by c c.layout
+on_open_file c file (Read at count) = Asks (ask.Read at count)
+on_open_file c file Return = behind_return (IsDone (answers_user answer.Returned c)) c c.layout
+
+-- what brings the client on to an open file, by how far it is with its metadata server
+abbrev pub opens_by : Tie → MdsAsk
+opens_by NoClient = ask.ExchangeId
+opens_by (HasClient clientid sequence) = ask.CreateSession
+opens_by (HasSession s) = if s.is_complete then ask.Open else ask.ReclaimComplete
 
 -- before a file is open: INVAL 22, FBIG 27 and NOFILEHANDLE 10020 are the statuses of RFC 8881, section 15.1
 abbrev pub head_step : ClientValue → Option OpenFile → UserRequest → HeadStep
-head_step c None (Open name) = IsKept (unmoved c)
+head_step c None (Open name) = Asks (opens_by c.tie)
 head_step c None request = IsDone (refuses_request 10020 c)
 head_step c (Some file) request = on_open_file c file request
 
 -- ---- the queue
 
+-- what the queue came to, and what its head wants asked of the metadata server
+pub record QueueRun : Type 0 where
+  pub run : ClientRun
+  pub wants : Option MdsAsk
+
 -- the request stays at the head
-abbrev pub keeps_head : UserRequest → ClientRun → ClientRun
-keeps_head request r = record r { client = record r.client { queue = request ∷ r.client.queue } }
+abbrev pub keeps_head : UserRequest → ClientValue → ClientValue
+keeps_head request c = record c { queue = request ∷ c.queue }
 
 -- the next one does not wait for a tick
 abbrev pub awake : ClientRun → ClientRun
 awake r = record r { client = record r.client { waits = false } }
 
-abbrev pub after_head : UserRequest → HeadStep → (ClientValue → ClientRun) → ClientRun
-after_head request (IsKept r) next = keeps_head request r
-after_head request (IsDone r) next = followed_by (awake r) next
+abbrev pub after_head : UserRequest → ClientValue → HeadStep → (ClientValue → QueueRun) → QueueRun
+after_head request c (IsDone r) next = record { run = followed_by (awake r) (λ d. (next d).run); wants = (next (awake r).client).wants }
+after_head request c (IsKept d) next = record { run = unmoved (keeps_head request d); wants = None }
+after_head request c (Asks kind) next = record { run = unmoved (keeps_head request c); wants = Some kind }
+
+abbrev pub with_rest : ClientValue → List UserRequest → ClientValue
+with_rest c rest = record c { queue = rest }
 
 -- The requests are done in order, up to the first that waits.
-abbrev pub run_requests : List UserRequest → ClientValue → ClientRun
-run_requests [] c = unmoved c
-run_requests (request ∷ rest) c = after_head request (head_step (record c { queue = rest }) c.file request) (run_requests rest)
+abbrev pub run_requests : List UserRequest → ClientValue → QueueRun
+run_requests [] c = record { run = unmoved c; wants = None }
+run_requests (request ∷ rest) c = after_head request (with_rest c rest) (head_step (with_rest c rest) c.file request) (run_requests rest)
 
-abbrev pub run_queue : ClientValue → ClientRun
+abbrev pub run_queue : ClientValue → QueueRun
 run_queue c = run_requests c.queue c
 
 -- ---- the layout is lost

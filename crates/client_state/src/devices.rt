@@ -1,6 +1,6 @@
 //! Which devices of a layout are known.
 
-ghost use Rattle.std.specs.Prelude.{◌≡◌, ◌≤◌, ◌==◌, length, IfOk};
+ghost use Rattle.std.specs.Prelude.{◌≡◌, ◌≤◌, length, IfOk};
 ghost use Rattle.client_state.specs.ClientQueue.{knows, unknown_in};
 
 use cluster_model::Mirrors;
@@ -30,13 +30,6 @@ pub fn count_unknown(devices: &DeviceTable, mirrors: &Mirrors) -> u32
         }
     }
     count
-}
-
-/// The addresses of all mirrors' devices are known.
-pub fn knows_all(devices: &DeviceTable, mirrors: &Mirrors) -> bool
-    ensures { result ≡ (length (unknown_in devices.now mirrors.now) == 0) }
-{
-    count_unknown(devices, mirrors) == 0
 }
 
 /// The data servers of these mirrors whose addresses are not known, in their order; at most four.

@@ -1,16 +1,18 @@
 //! The request at the head of the queue.
 
-ghost use Rattle.std.specs.Prelude.{◌≡◌, ◌≤◌, ◌+◌, length, IfOk};
+ghost use Rattle.std.specs.Prelude.{◌≡◌, ◌≤◌, ◌+◌, length, IfOk, OnOk};
 ghost use Rattle.std.specs.Bool.{OnFalse};
-ghost use Rattle.client_state.specs.ClientQueue.{IsDone, answers_committed, refuses_request, is_past, must_wait, write_under, write_by, layout_ending, is_all_told, layout_committing, commit_by, return_by, on_open_file, head_step};
-ghost use Rattle.client_state.specs.QueueSteps.{HasRun, HasJudged};
+ghost use Rattle.client_state.specs.ClientQueue.{IsDone, answers_user, answers_committed, refuses_request, is_past, write_by, layout_ending, behind_return, is_all_told, layout_committing, commit_by, on_open_file, opens_by, head_step, keeps_head};
+ghost use Rattle.cluster_model.specs.declared.answer.UserAnswer.TheVariants.{Returned};
+ghost use Rattle.client_state.specs.QueueSteps.{HasJudged, writes_under};
 
-use crate::devices::knows_all;
+use crate::devices::count_unknown;
 use crate::request::UserRequest;
 use crate::state::State;
+use crate::tie::Tie;
 use cluster_model::{Entry, Outbox, UserAnswer};
 use ff_xdr::{Data, NoMemory};
-use mds_calls::OpenFile;
+use mds_calls::{MdsAsk, OpenFile};
 use mirror_writer::{WriteBytes, WriteStart};
 
 /// The end of a file, at most (RFC 1813, section 3.3.7, NFS3ERR_FBIG).
@@ -25,6 +27,17 @@ const FBIG: u32 = 27;
 /// NFS4ERR_NOFILEHANDLE: no file is open.
 const NOFILEHANDLE: u32 = 10020;
 
+/// What the request at the head came to.
+#[derive(Clone, Copy, Debug, PartialEq, Eq)]
+pub enum JudgedHead {
+    /// It is done.
+    Done,
+    /// It waits for what is under way.
+    Kept,
+    /// It waits for what is asked of the metadata server.
+    Asks(MdsAsk),
+}
+
 /// The write would end past the end of a file.
 fn is_past(at: u64, bytes: &WriteBytes) -> bool
     ensures past { result ≡ is_past at bytes.now }
@@ -34,16 +47,6 @@ fn is_past(at: u64, bytes: &WriteBytes) -> bool
 }
 
 impl State {
-    /// A write waits: without a layout, where the layout is given back, and where a device is not known.
-    fn must_wait(&self) -> bool
-        ensures { result ≡ must_wait self.now self.now.layout }
-    {
-        let Some(layout) = &self.layout else {
-            return true;
-        };
-        !layout.stage.is_writing() || !knows_all(&self.devices, &layout.mirrors)
-    }
-
     /// The write is taken under the layout, unless a taken write has one of its places: the layout is given back
     /// first then.
     fn write_under(
@@ -52,18 +55,18 @@ impl State {
         at: u64,
         bytes: &WriteBytes,
         out: &mut Outbox,
-    ) -> Result<bool, NoMemory>
+    ) -> Result<JudgedHead, NoMemory>
         requires { at + length bytes.now ≤ 67108864 }
-        ensures { IfOk result (λ done. HasJudged (write_under self.old file self.old.layout at bytes.now) out.old done self.new out.new) }
+        ensures { IfOk result (λ judged. HasJudged (writes_under self.old file self.old.layout at bytes.now) self.old out.old judged self.new out.new) }
     {
         let Some(layout) = &mut self.layout else {
-            return Ok(false);
+            return Ok(JudgedHead::Kept);
         };
         match layout.take(at, bytes.bytes()) {
             WriteStart::Taken => {}
             WriteStart::Overlap => {
                 layout.end();
-                return Ok(false);
+                return Ok(JudgedHead::Kept);
             }
             WriteStart::NoMemory => return Err(NoMemory),
         }
@@ -75,22 +78,29 @@ impl State {
             at,
             bytes,
         })?;
-        Ok(true)
+        Ok(JudgedHead::Done)
     }
 
-    /// A write to the mirrors is taken, or waits.
+    /// A write to the mirrors wants a layout in which writes are taken, and the addresses of its devices.
     fn write_by(
         &mut self,
         file: OpenFile,
         at: u64,
         bytes: &WriteBytes,
         out: &mut Outbox,
-    ) -> Result<bool, NoMemory>
+    ) -> Result<JudgedHead, NoMemory>
         requires { at + length bytes.now ≤ 67108864 }
-        ensures { IfOk result (λ done. HasJudged (write_by self.old file at bytes.now) out.old done self.new out.new) }
+        ensures { IfOk result (λ judged. HasJudged (write_by self.old file self.old.layout at bytes.now) self.old out.old judged self.new out.new) }
     {
-        if self.must_wait() {
-            return Ok(false);
+        let Some(layout) = &self.layout else {
+            return Ok(JudgedHead::Asks(MdsAsk::LayoutGet));
+        };
+        if !layout.stage.is_writing() {
+            return Ok(JudgedHead::Kept);
+        }
+        let count = count_unknown(&self.devices, &layout.mirrors);
+        if count != 0 {
+            return Ok(JudgedHead::Asks(MdsAsk::DeviceInfo { count }));
         }
         self.write_under(file, at, bytes, out)
     }
@@ -124,52 +134,52 @@ impl State {
     }
 
     /// The commit at the head is done.
-    fn end_commit(&mut self, out: &mut Outbox) -> Result<bool, NoMemory>
-        ensures { IfOk result (λ done. HasJudged (IsDone (answers_committed self.old)) out.old done self.new out.new) }
+    fn end_commit(&mut self, out: &mut Outbox) -> Result<JudgedHead, NoMemory>
+        ensures { IfOk result (λ judged. HasJudged (IsDone (answers_committed self.old)) self.old out.old judged self.new out.new) }
     {
         self.answer_committed(out)?;
-        Ok(true)
+        Ok(JudgedHead::Done)
     }
 
     /// A commit is done where each taken write is told.
-    fn commit_by(&mut self, out: &mut Outbox) -> Result<bool, NoMemory>
-        ensures { IfOk result (λ done. HasJudged (commit_by self.old) out.old done self.new out.new) }
+    fn commit_by(&mut self, out: &mut Outbox) -> Result<JudgedHead, NoMemory>
+        ensures { IfOk result (λ judged. HasJudged (commit_by self.old) self.old out.old judged self.new out.new) }
     {
         if self.is_all_told() {
             return self.end_commit(out);
         }
         self.commit_layout();
-        Ok(false)
+        Ok(JudgedHead::Kept)
     }
 
     /// A return is done where there is no layout.
-    fn return_by(&mut self, out: &mut Outbox) -> Result<bool, NoMemory>
-        ensures { IfOk result (λ done. HasJudged (return_by self.old self.old.layout) out.old done self.new out.new) }
+    fn return_by(&mut self, out: &mut Outbox) -> Result<JudgedHead, NoMemory>
+        ensures { IfOk result (λ judged. HasJudged (behind_return (IsDone (answers_user Returned self.old)) self.old self.old.layout) self.old out.old judged self.new out.new) }
     {
         if self.layout.is_some() {
             self.end_layout();
-            return Ok(false);
+            return Ok(JudgedHead::Kept);
         }
         self.answer(UserAnswer::Returned, out)?;
-        Ok(true)
+        Ok(JudgedHead::Done)
     }
 
     /// The request at the head is refused by this status.
-    fn refuse_head(&mut self, status: u32, out: &mut Outbox) -> Result<bool, NoMemory>
-        ensures { IfOk result (λ done. HasJudged (IsDone (refuses_request status self.old)) out.old done self.new out.new) }
+    fn refuse_head(&mut self, status: u32, out: &mut Outbox) -> Result<JudgedHead, NoMemory>
+        ensures { IfOk result (λ judged. HasJudged (IsDone (refuses_request status self.old)) self.old out.old judged self.new out.new) }
     {
         self.refuse(status, out)?;
-        Ok(true)
+        Ok(JudgedHead::Done)
     }
 
-    /// A request for an open file: whether it is done.
+    /// A request for an open file. What goes to the metadata server waits until the layout is given back.
     fn on_open_file(
         &mut self,
         file: OpenFile,
         request: &UserRequest,
         out: &mut Outbox,
-    ) -> Result<bool, NoMemory>
-        ensures { IfOk result (λ done. HasJudged (on_open_file self.old file request.now) out.old done self.new out.new) }
+    ) -> Result<JudgedHead, NoMemory>
+        ensures { IfOk result (λ judged. HasJudged (on_open_file self.old file request.now) self.old out.old judged self.new out.new) }
     {
         match request {
             UserRequest::Open(_) => self.refuse_head(INVAL, out),
@@ -183,23 +193,57 @@ impl State {
                 if is_past(*at, bytes) {
                     return self.refuse_head(FBIG, out);
                 }
-                self.end_layout();
-                Ok(false)
+                if self.layout.is_some() {
+                    self.end_layout();
+                    return Ok(JudgedHead::Kept);
+                }
+                Ok(JudgedHead::Asks(MdsAsk::Write))
             }
             UserRequest::Commit => self.commit_by(out),
-            UserRequest::Read { .. } => Ok(false),
+            UserRequest::Read { at, count } => Ok(JudgedHead::Asks(MdsAsk::Read {
+                at: *at,
+                count: *count,
+            })),
             UserRequest::Return => self.return_by(out),
         }
     }
 
-    /// The request at the head: whether it is done, or waits for what is sent for it.
-    pub fn judge_head(&mut self, request: &UserRequest, out: &mut Outbox) -> Result<bool, NoMemory>
-        ensures { IfOk result (λ done. HasJudged (head_step self.old self.old.file request.now) out.old done self.new out.new) }
+    /// What brings the client on to an open file.
+    fn opens_by(&self) -> MdsAsk
+        ensures { result ≡ opens_by self.now.tie }
+    {
+        match self.tie {
+            Tie::NoClient => MdsAsk::ExchangeId,
+            Tie::HasClient { .. } => MdsAsk::CreateSession,
+            Tie::HasSession(session) => {
+                if session.is_complete {
+                    return MdsAsk::Open;
+                }
+                MdsAsk::ReclaimComplete
+            }
+        }
+    }
+
+    /// The request at the head: whether it is done, and what it waits for.
+    pub fn judge_head(
+        &mut self,
+        request: &UserRequest,
+        out: &mut Outbox,
+    ) -> Result<JudgedHead, NoMemory>
+        ensures { IfOk result (λ judged. HasJudged (head_step self.old self.old.file request.now) self.old out.old judged self.new out.new) }
     {
         match (self.file, request) {
             (Some(file), request) => self.on_open_file(file, request, out),
-            (None, UserRequest::Open(_)) => Ok(false),
+            (None, UserRequest::Open(_)) => Ok(JudgedHead::Asks(self.opens_by())),
             (None, _) => self.refuse_head(NOFILEHANDLE, out),
         }
+    }
+
+    /// The request stays at the head.
+    pub fn keep_head(&mut self, request: UserRequest) -> Result<(), NoMemory>
+        ensures { OnOk result (self.new ≡ keeps_head request self.old) }
+    {
+        self.queue.push_front(request)?;
+        Ok(())
     }
 }

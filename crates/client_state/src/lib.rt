@@ -4,6 +4,7 @@
 mod asked;
 mod devices;
 mod head;
+mod laws;
 mod layout;
 mod name;
 mod queue;
@@ -15,7 +16,8 @@ mod untold;
 mod user;
 
 pub use asked::{Asked, is_layout_return};
-pub use devices::{count_unknown, knows, unknown_in};
+pub use devices::{knows, unknown_in};
+pub use laws::queue_law;
 pub use layout::Layout;
 pub use name::ClientName;
 pub use request::{FileName, UserRequest};

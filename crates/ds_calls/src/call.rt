@@ -1,6 +1,6 @@
 //! Calls as records.
 
-ghost use Rattle.std.specs.Prelude.{◌≡◌, ◌≤◌, ◌↔◌, IsTrue, length};
+ghost use Rattle.std.specs.Prelude.{◌≡◌, ◌≤◌, ◌↔◌, IsTrue, length, IfOk};
 ghost use Rattle.ff_xdr.specs.Form.{arm_spelling, arm_of};
 ghost use Rattle.ff_xdr.specs.Calls.{Puts, Grows};
 ghost use Rattle.nfs3_wire.specs.Calls.{calls, call_value};
@@ -14,8 +14,9 @@ use crate::read::put_read;
 use crate::setattr::put_setattr;
 use crate::write::put_write;
 use cluster_model::{Cred, DsCall};
-use ff_xdr::{NoMemory, Out};
+use ff_xdr::{Data, NoMemory, Out};
 use nfs3_wire::MAX_DATA;
+use std::alloc::Global;
 
 /// The longest name of a machine, in bytes (RFC 5531, appendix A).
 const MAX_MACHINE: usize = 255;
@@ -108,4 +109,21 @@ pub fn put_ds_call(
             Err(e)
         }
     }
+}
+
+/// The record of a call, as `put_ds_call` appends it.
+pub fn ds_record(
+    alloc: Global,
+    xid: u32,
+    machine: &[u8],
+    user: Cred,
+    call: &DsCall<'_>,
+) -> Result<Data, NoMemory>
+    requires machine { length machine.now ≤ 255 }
+    requires data { length (data_in (plain_ds_call call.now)) ≤ 1048576 }
+    ensures { IfOk result (λ message. message ≡ ds_call_bytes xid machine.now user.0 (plain_ds_call call.now)) }
+{
+    let mut out = Out::new(alloc);
+    put_ds_call(xid, machine, user, call, &mut out)?;
+    Ok(Data::from_vec(out.into_bytes()))
 }

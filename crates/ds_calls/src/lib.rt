@@ -14,6 +14,6 @@ mod setattr;
 mod shown;
 mod write;
 
-pub use call::{fits, put_ds_call};
+pub use call::{ds_record, fits, put_ds_call};
 pub use laws::every_ds_call;
 pub use reply::ds_reply_of;

@@ -2,15 +2,13 @@
 use Rattle.std.specs.Prelude.{ℕ, ◌+◌, ◌-◌, Bool, true, false, ◌&&◌, ◌||◌, ◌==◌, nat_le, List, [], ◌∷◌, ◌++◌, Option, Some, None, Result, Ok, Err, if◌then◌else◌, slice_get}
 use Rattle.ff_xdr.specs.declared.error.XdrError.{XdrError}
 use Rattle.rpc_record.specs.Calls.{call_at}
-use Rattle.rpc_record.specs.Replies.{RpcReply, reply_at, reply_bytes}
+use Rattle.rpc_record.specs.Replies.{RpcReply, reply_at}
 use Rattle.cluster_model.specs.declared.ids.NodeId.{NodeId}
 use Rattle.cluster_model.specs.declared.ids.NodeId.TheVariants.{Mds, Server, Client}
 use Rattle.cluster_model.specs.declared.entry.Entry.TheVariants.{TimedOut, Rogue}
 use Rattle.cluster_model.specs.declared.ids.Mirror.{Mirror}
 use Rattle.cluster_model.specs.DsCalls.{DsCallValue, DsReplyValue}
 use Rattle.cluster_model.specs.DsCalls as ds
-use Rattle.mirror_writer.specs.Outstanding.{OutCall}
-use Rattle.ds_calls.specs.MadeCalls.{ds_call_bytes}
 use Rattle.ds_calls.specs.GivenReplies.{reply_of_call}
 use Rattle.mds_file_calls.specs.declared.open.OpenFile.{OpenFile}
 use Rattle.mds_calls.specs.declared.ask.MdsAsk.{MdsAsk}
@@ -24,8 +22,9 @@ use Rattle.client_state.specs.declared.layout.Layout.{Layout}
 use Rattle.client_state.specs.declared.asked.Asked.{Asked}
 use Rattle.client_state.specs.declared.tie.Tie.TheVariants.{HasSession}
 use Rattle.client_state.specs.ClientStates.{ClientValue}
-use Rattle.client_answers.specs.ClientMirrors.{TimeoutRun, ds_answered, ds_timed_out}
-use Rattle.client_calls.specs.ClientCalls.{SendValue, ClientStep, sends_none, and_then, run_then, asks, may_ask, ends_event, xid_after}
+use Rattle.client_answers.specs.ClientMirrors.{ds_answered, ds_timed_out}
+use Rattle.client_state.specs.ClientSends.{CallsServer, RepeatsToMds, RepliesToMds, ClientStep, sends_none, and_then, run_then}
+use Rattle.client_calls.specs.ClientCalls.{asks, may_ask, ends_event, xid_after}
 use Rattle.client_answers.specs.ClientAnswers.{mds_answered}
 use Rattle.client_callbacks.specs.Callbacks.{CbReply, callback_of}
 
@@ -43,12 +42,11 @@ client_requested request c = unless_left c (ends_event (with_request request c))
 
 -- ---- a reply
 
--- to the compound that is outstanding
--- (what it says goes by what was asked)
+-- to the compound that is outstanding; what it says goes by what was asked
 abbrev pub mds_replied : Option Asked → ℕ → (MdsAsk → MdsReplyValue) → ℕ → ClientValue → ClientStep
 mds_replied None xid reply now c = sends_none c
 mds_replied (Some asked) xid reply now c =
-    if asked.xid == xid then run_then (mds_answered asked (reply asked.ask) now c) ends_event else sends_none c
+    if asked.xid == xid then run_then (mds_answered asked.ask (reply asked.ask) now c) ends_event else sends_none c
 
 -- to a call that is outstanding at this data server
 abbrev pub ds_replied : ℕ → ℕ → (DsCallValue → DsReplyValue) → ClientValue → ClientStep
@@ -65,23 +63,11 @@ replied (Client number) reply now c = sends_none c
 -- the same record goes to the metadata server again
 abbrev pub mds_timed_out : Option Asked → ClientValue → ClientStep
 mds_timed_out None c = sends_none c
-mds_timed_out (Some asked) c = record { client = c; entries = TimedOut (Client c.number) asked.xid ∷ []; sends = (Mds, asked.message) ∷ [] }
-
-abbrev pub resent : ℕ → ℕ → ClientValue → Option OutCall → List SendValue
-resent server cred c None = []
-resent server cred c (Some out) = (Server server, ds_call_bytes out.xid c.name cred out.call) ∷ []
-
-abbrev pub cred_of : Option Layout → ℕ
-cred_of None = 0
-cred_of (Some l) = l.writer.cred
-
--- the same record goes to the data server again, before what goes out else
-abbrev pub ds_late : ℕ → ClientValue → TimeoutRun → ClientStep
-ds_late server c r = record { client = r.run.client; entries = r.run.entries; sends = resent server (cred_of c.layout) c r.resends }
+mds_timed_out (Some asked) c = record { client = c; entries = TimedOut (Client c.number) asked.xid ∷ []; sends = RepeatsToMds asked.xid asked.message ∷ [] }
 
 abbrev pub timed_out_to : NodeId → ClientValue → ClientStep
 timed_out_to Mds c = mds_timed_out c.asked c
-timed_out_to (Server server) c = and_then (ds_late server c (ds_timed_out server c)) ends_event
+timed_out_to (Server server) c = and_then (ds_timed_out server c) ends_event
 timed_out_to (Client number) c = sends_none c
 
 abbrev pub client_timed_out : NodeId → ClientValue → ClientStep
@@ -105,7 +91,7 @@ client_at_tick c = record c { waits = false; layout = layout_at_tick c.layout }
 abbrev pub resends_late : ClientValue → Option Asked → ClientStep
 resends_late c None = sends_none c
 resends_late c (Some asked) =
-    if asked.is_late then record { client = record c { asked = Some (record asked { is_late = false }) }; entries = []; sends = (Mds, asked.message) ∷ [] }
+    if asked.is_late then record { client = record c { asked = Some (record asked { is_late = false }) }; entries = []; sends = RepeatsToMds asked.xid asked.message ∷ [] }
     else sends_none c
 
 -- a SEQUENCE alone, 30 s after the last that was answered, where nothing else is outstanding
@@ -136,7 +122,7 @@ rogue_write c file l at bytes None = sends_none c
 rogue_write c file l at bytes (Some m) = record {
   client = record c { next_xid = xid_after c.next_xid };
   entries = Rogue file.file (record { 0 = l.writer.cred }) at bytes ∷ [];
-  sends = (Server m.id.server, ds_call_bytes c.next_xid c.name l.writer.cred (ds.Write m.id.fileid at false bytes)) ∷ [];
+  sends = CallsServer m.id.server c.next_xid c.name l.writer.cred (ds.Write m.id.fileid at false bytes) ∷ [];
 }
 
 abbrev pub mirror_of_place : List Mirror → ℕ → Option Mirror
@@ -153,7 +139,7 @@ strays file layout place at bytes c = sends_none c
 -- a callback is answered before the calls that it brings
 abbrev pub answers_callback : CbReply → ClientStep
 answers_callback k = let rest = ends_event k.client in
-    record { client = rest.client; entries = rest.entries; sends = (Mds, reply_bytes k.reply) ∷ rest.sends }
+    record { client = rest.client; entries = rest.entries; sends = RepliesToMds k.reply ∷ rest.sends }
 
 -- what is no reply in its form is passed over
 abbrev pub found_reply : NodeId → Result RpcReply XdrError → ℕ → ClientValue → ClientStep

@@ -1,5 +1,5 @@
 -- Runs of a client: events, one after the other, and all that comes of them.
-use Rattle.std.specs.Prelude.{ℕ, List, [], ◌∷◌, map, Option, None}
+use Rattle.std.specs.Prelude.{ℕ, List, [], ◌∷◌, Option, None}
 use Rattle.std.specs.Option.{option_map}
 use Rattle.ff_xdr.specs.Form.{Value}
 use Rattle.nfs4_compound.specs.declared.stop.Stop.TheVariants.{End}
@@ -12,7 +12,7 @@ use Rattle.mds_calls.specs.MdsReplies.{MdsReplyValue}
 use Rattle.client_state.specs.declared.request.UserRequest.{UserRequest}
 use Rattle.client_state.specs.declared.asked.Asked.{Asked}
 use Rattle.client_state.specs.ClientStates.{ClientValue}
-use Rattle.client_calls.specs.ClientCalls.{SendValue, ClientStep, sends_none, and_then}
+use Rattle.client_state.specs.ClientSends.{ClientSend, ClientStep, sends_none, and_then}
 use Rattle.client_callbacks.specs.Callbacks.{cb_reply, cb_results, cb_first}
 use Rattle.mirror_client.specs.ClientRule.{unless_left, client_requested, mds_replied, ds_replied, client_timed_out, client_ticked, answers_callback, turned, strays}
 
@@ -20,7 +20,7 @@ use Rattle.mirror_client.specs.ClientRule.{unless_left, client_requested, mds_re
 -- server, by its number; a callback under a number; a timeout of its call to a node; a tick at a moment; it leaves the protocol, and
 -- then sends a write to a mirror by its place.
 pub data ClientEvent : Type 0 where
-  Asks : (request : UserRequest) → ClientEvent
+  UserAsks : (request : UserRequest) → ClientEvent
   MdsSays : (xid : ℕ) (reply : MdsReplyValue) (now : ℕ) → ClientEvent
   DsSays : (server xid : ℕ) (reply : DsReplyValue) → ClientEvent
   CallsBack : (xid : ℕ) (ops : List (Value cb_argop4)) → ClientEvent
@@ -30,7 +30,7 @@ pub data ClientEvent : Type 0 where
   Strays : (place at : ℕ) (bytes : List ℕ) → ClientEvent
 
 abbrev pub client_step : ClientEvent → ClientValue → ClientStep
-client_step (Asks request) c = client_requested request c
+client_step (UserAsks request) c = client_requested request c
 client_step (MdsSays xid reply now) c = unless_left c (mds_replied c.asked xid (λ kind. reply) now c)
 client_step (DsSays server xid reply) c = unless_left c (ds_replied server xid (λ call. reply) c)
 client_step (CallsBack xid ops) c = unless_left c (answers_callback (cb_reply xid (cb_results [] (cb_first ops (End None) c))))
@@ -44,17 +44,14 @@ abbrev pub client_run : ClientValue → List ClientEvent → ClientStep
 client_run c [] = sends_none c
 client_run c (event ∷ events) = and_then (client_step event c) (λ d. client_run d events)
 
--- What is seen of a run: the journal, to whom records went, and what is outstanding at the metadata server.
+-- What is seen of a run: the journal, what went out, and what is outstanding at the metadata server.
 pub record ClientSeen : Type 0 where
   pub entries : List Entry
-  pub sent_to : List NodeId
+  pub sends : List ClientSend
   pub asked : Option MdsAsk
 
-abbrev pub receiver : SendValue → NodeId
-receiver s = s.0
-
 abbrev pub seen_of : ClientStep → ClientSeen
-seen_of s = record { entries = s.entries; sent_to = map receiver s.sends; asked = option_map (λ (a : Asked). a.ask) s.client.asked }
+seen_of s = record { entries = s.entries; sends = s.sends; asked = option_map (λ (a : Asked). a.ask) s.client.asked }
 
 abbrev pub seen_in : ClientValue → List ClientEvent → ClientSeen
 seen_in c events = seen_of (client_run c events)

@@ -4,8 +4,8 @@ use Rattle.std.specs.Int.{w64, from_be_bytes}
 use Rattle.ff_xdr.specs.declared.error.NoMemory.{NoMemory}
 use Rattle.cluster_model.specs.declared.outbox.Outbox.{Outbox}
 use Rattle.client_state.specs.ClientStates.{ClientValue, fresh_client}
-use Rattle.client_calls.specs.ClientCalls.{ClientStep}
-use Rattle.client_calls.specs.CallSteps.{HasStepped}
+use Rattle.client_state.specs.ClientSends.{ClientStep}
+use Rattle.client_state.specs.QueueSteps.{HasStepped}
 use Rattle.mirror_client.specs.ClientRule.{turned}
 
 -- what it has, and whether it is spent: memory was wanted in a step

@@ -2,5 +2,4 @@ pub mod ClientRule
 pub mod ClientRuns
 pub mod WorkedClient
 pub mod WorkedWays
-pub mod LateSteps
 pub mod ClientSteps

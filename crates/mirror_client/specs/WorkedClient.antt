@@ -1,9 +1,9 @@
 -- Runs of a client that are worked out by hand: a file's whole conversation, and each way in which a layout is lost.
-use Rattle.std.specs.Prelude.{ℕ, ◌+◌, true, List, [], ◌∷◌, ◌++◌, replicate, Some, None}
+use Rattle.std.specs.Prelude.{ℕ, ◌+◌, true, false, List, [], ◌∷◌, ◌++◌, replicate, Some, None}
 use Rattle.nfs4_types.specs.declared.ids.SessionId.{SessionId}
 use Rattle.nfs4_types.specs.Stateids.{layout_stateid_of, open_stateid_of}
 use Rattle.device_addr.specs.declared.net_addr.NetAddr.{NetAddr}
-use Rattle.cluster_model.specs.declared.ids.NodeId.TheVariants.{Mds, Server, Client}
+use Rattle.cluster_model.specs.declared.ids.NodeId.TheVariants.{Server, Client}
 use Rattle.cluster_model.specs.declared.ids.FileId.{FileId}
 use Rattle.cluster_model.specs.declared.ids.Mirror.{Mirror}
 use Rattle.cluster_model.specs.declared.answer.UserAnswer.{UserAnswer}
@@ -13,13 +13,18 @@ use Rattle.cluster_model.specs.declared.entry.Entry.{Entry}
 use Rattle.cluster_model.specs.declared.entry.Entry.TheVariants.{Sent, Told, TimedOut, Answer}
 use Rattle.cluster_model.specs.DsCalls as ds
 use Rattle.mds_file_calls.specs.declared.open.OpenFile.{OpenFile}
+use Rattle.mds_file_calls.specs.declared.layout_return.FailedMirror.{FailedMirror}
 use Rattle.mds_calls.specs.declared.ask.MdsAsk.TheVariants as ask
 use Rattle.mds_file_calls.specs.declared.grant.LayoutGrant.{LayoutGrant}
 use Rattle.mds_calls.specs.declared.reply.SlotReport.TheVariants.{Taken, Uncached, Delayed, Unknown}
+use Rattle.mds_calls.specs.MdsCalls.{SlotCallValue, MdsCallValue, ExchangeId, CreateSession, OnSlot}
+use Rattle.mds_calls.specs.MdsCalls as slot
+use Rattle.mds_calls.specs.MdsCompounds.{mds_call_bytes}
 use Rattle.mds_calls.specs.MdsReplies as says
 use Rattle.client_state.specs.declared.request.UserRequest.TheVariants.{Open, Write, Commit, Read}
 use Rattle.client_state.specs.ClientStates.{ClientValue, fresh_client}
-use Rattle.mirror_client.specs.ClientRuns.{ClientEvent, Asks, MdsSays, DsSays, TimesOut, Ticks, ClientSeen}
+use Rattle.client_state.specs.ClientSends.{ClientSend, CallsServer, CallsMds, RepeatsToServer, RepeatsToMds}
+use Rattle.mirror_client.specs.ClientRuns.{ClientEvent, UserAsks, MdsSays, DsSays, TimesOut, Ticks, ClientSeen}
 
 -- ---- who takes part
 
@@ -63,33 +68,72 @@ sent_write uid at bytes = Sent the_file (record { 0 = uid }) at bytes
 abbrev pub told_write : ℕ → ℕ → List ℕ → Entry
 told_write uid at bytes = Told the_file (record { 0 = uid }) at bytes
 
+-- what this client sends: a compound; a request on slot 0 of its session, with its number there; the same again
+abbrev pub calls_mds : ℕ → MdsCallValue → ClientSend
+calls_mds xid call = CallsMds xid client.name call
+
+abbrev pub on_session : ℕ → ℕ → SlotCallValue → ClientSend
+on_session xid sequence call = calls_mds xid (OnSlot session sequence call)
+
+abbrev pub again_on_session : ℕ → ℕ → SlotCallValue → ClientSend
+again_on_session xid sequence call = RepeatsToMds xid (mds_call_bytes xid client.name (OnSlot session sequence call))
+
+-- a call to a data server under a uid; the same again
+abbrev pub calls_server : ℕ → ℕ → ℕ → ds.DsCallValue → ClientSend
+calls_server server xid uid call = CallsServer server xid client.name uid call
+
+abbrev pub again_to_server : ℕ → ℕ → ℕ → ds.DsCallValue → ClientSend
+again_to_server server xid uid call = RepeatsToServer server xid client.name uid call
+
+-- a WRITE to a mirror is UNSTABLE
+abbrev pub write_call : ℕ → List ℕ → ds.DsCallValue
+write_call at bytes = ds.Write 2 at false bytes
+
+abbrev pub commit_call : ds.DsCallValue
+commit_call = ds.Commit 2
+
+-- the layout under a uid is given back, with a report of these mirrors
+abbrev pub gives_back : ℕ → List FailedMirror → SlotCallValue
+gives_back uid failed = slot.LayoutReturn the_file (layout_stateid_of 1 uid 1) failed
+
+abbrev pub failed_on : ℕ → ℕ → FailedMirror
+failed_on server status = record { server = server; status = status }
+
 -- ---- before a file is open
 
 abbrev pub unopened : List ClientEvent
-unopened = Asks (Write 0 (65 ∷ [])) ∷ []
+unopened = UserAsks (Write 0 (65 ∷ [])) ∷ []
 
 abbrev pub unopened_seen : ClientSeen
-unopened_seen = record { entries = answer_entry (answer.Failed (failing.Refused 10020)) ∷ []; sent_to = []; asked = None }
+unopened_seen = record { entries = answer_entry (answer.Failed (failing.Refused 10020)) ∷ []; sends = []; asked = None }
 
 -- ---- a file is opened: EXCHANGE_ID 1, CREATE_SESSION 2, RECLAIM_COMPLETE 3, OPEN 4
 
 abbrev pub opening : List ClientEvent
 opening =
-    Asks (Open (97 ∷ [])) ∷ says_plain 1 (says.Client 4294967297 1) ∷ says_plain 2 (says.Session session) ∷ says_ok 3 says.Complete
+    UserAsks (Open (97 ∷ [])) ∷ says_plain 1 (says.Client 4294967297 1) ∷ says_plain 2 (says.Session session) ∷ says_ok 3 says.Complete
     ∷ says_ok 4 (says.Opened opened) ∷ []
 
 abbrev pub opening_seen : ClientSeen
-opening_seen = record { entries = answer_entry (answer.Opened the_file) ∷ []; sent_to = replicate 4 Mds; asked = None }
+opening_seen = record {
+  entries = answer_entry (answer.Opened the_file) ∷ [];
+  sends =
+      calls_mds 1 (ExchangeId 1) ∷ calls_mds 2 (CreateSession 4294967297 1) ∷ on_session 3 1 slot.ReclaimComplete
+      ∷ on_session 4 2 (slot.Open (97 ∷ [])) ∷ [];
+  asked = None;
+}
 
 -- ---- a write goes to both mirrors: LAYOUTGET 5, GETDEVICEINFO 6, WRITE 7 and 8
 
 abbrev pub writing : List ClientEvent
-writing = opening ++ Asks (Write 0 (65 ∷ 66 ∷ [])) ∷ says_ok 5 (says.Granted (grant 65536)) ∷ says_ok 6 (says.Devices (address 1 ∷ address 2 ∷ [])) ∷ []
+writing = opening ++ UserAsks (Write 0 (65 ∷ 66 ∷ [])) ∷ says_ok 5 (says.Granted (grant 65536)) ∷ says_ok 6 (says.Devices (address 1 ∷ address 2 ∷ [])) ∷ []
 
 abbrev pub writing_seen : ClientSeen
 writing_seen = record {
   entries = answer_entry (answer.Opened the_file) ∷ sent_write 65536 0 (65 ∷ 66 ∷ []) ∷ [];
-  sent_to = replicate 6 Mds ++ Server 1 ∷ Server 2 ∷ [];
+  sends =
+      opening_seen.sends ++ on_session 5 3 (slot.LayoutGet opened) ∷ on_session 6 4 (slot.DeviceInfo (1 ∷ 2 ∷ []))
+      ∷ calls_server 1 7 65536 (write_call 0 (65 ∷ 66 ∷ [])) ∷ calls_server 2 8 65536 (write_call 0 (65 ∷ 66 ∷ [])) ∷ [];
   asked = None;
 }
 
@@ -97,13 +141,13 @@ writing_seen = record {
 
 abbrev pub committing : List ClientEvent
 committing =
-    writing ++ DsSays 1 7 (ds.Written None 1) ∷ DsSays 2 8 (ds.Written None 1) ∷ Asks Commit ∷ DsSays 1 9 (ds.Committed None 1)
+    writing ++ DsSays 1 7 (ds.Written None 1) ∷ DsSays 2 8 (ds.Written None 1) ∷ UserAsks Commit ∷ DsSays 1 9 (ds.Committed None 1)
     ∷ DsSays 2 10 (ds.Committed None 1) ∷ []
 
 abbrev pub committing_seen : ClientSeen
 committing_seen = record {
   entries = answer_entry (answer.Opened the_file) ∷ sent_write 65536 0 (65 ∷ 66 ∷ []) ∷ told_write 65536 0 (65 ∷ 66 ∷ []) ∷ answer_entry (answer.Committed 1) ∷ [];
-  sent_to = replicate 6 Mds ++ Server 1 ∷ Server 2 ∷ Server 1 ∷ Server 2 ∷ [];
+  sends = writing_seen.sends ++ calls_server 1 9 65536 commit_call ∷ calls_server 2 10 65536 commit_call ∷ [];
   asked = None;
 }
 
@@ -111,13 +155,15 @@ committing_seen = record {
 
 abbrev pub overlapping : List ClientEvent
 overlapping =
-    committing ++ Asks (Write 0 (67 ∷ [])) ∷ says_ok 11 says.Returned ∷ says_ok 12 (says.Refused 10058) ∷ Ticks 1
+    committing ++ UserAsks (Write 0 (67 ∷ [])) ∷ says_ok 11 says.Returned ∷ says_ok 12 (says.Refused 10058) ∷ Ticks 1
     ∷ says_ok 13 (says.Granted (grant 65537)) ∷ []
 
 abbrev pub overlapping_seen : ClientSeen
 overlapping_seen = record {
   entries = committing_seen.entries ++ sent_write 65537 0 (67 ∷ []) ∷ [];
-  sent_to = committing_seen.sent_to ++ Mds ∷ Mds ∷ Mds ∷ Server 1 ∷ Server 2 ∷ [];
+  sends =
+      committing_seen.sends ++ on_session 11 5 (gives_back 65536 []) ∷ on_session 12 6 (slot.LayoutGet opened) ∷ on_session 13 7 (slot.LayoutGet opened)
+      ∷ calls_server 1 14 65537 (write_call 0 (67 ∷ [])) ∷ calls_server 2 15 65537 (write_call 0 (67 ∷ [])) ∷ [];
   asked = None;
 }
 
@@ -134,27 +180,29 @@ late_entry = TimedOut (Client 1) 8
 abbrev pub reporting_seen : ClientSeen
 reporting_seen = record {
   entries = writing_seen.entries ++ replicate 3 late_entry;
-  sent_to = writing_seen.sent_to ++ Server 2 ∷ Server 2 ∷ Server 1 ∷ Mds ∷ [];
+  sends =
+      writing_seen.sends ++ again_to_server 2 8 65536 (write_call 0 (65 ∷ 66 ∷ [])) ∷ again_to_server 2 8 65536 (write_call 0 (65 ∷ 66 ∷ []))
+      ∷ calls_server 1 9 65536 commit_call ∷ on_session 10 5 (gives_back 65536 (failed_on 2 10008 ∷ [])) ∷ [];
   asked = Some ask.LayoutReturn;
 }
 
 abbrev pub reported : List ClientEvent
-reported = reporting ++ says_ok 10 says.Returned ∷ Asks Commit ∷ []
+reported = reporting ++ says_ok 10 says.Returned ∷ UserAsks Commit ∷ []
 
 abbrev pub reported_seen : ClientSeen
 reported_seen = record {
   entries = reporting_seen.entries ++ told_write 65536 0 (65 ∷ 66 ∷ []) ∷ answer_entry (answer.Committed 1) ∷ [];
-  sent_to = reporting_seen.sent_to;
+  sends = reporting_seen.sends;
   asked = None;
 }
 
 -- ---- ACCES 13 from a mirror: the layout is lost, with a commit that waits; the other mirror's answer is passed over
 
 abbrev pub taken_away : List ClientEvent
-taken_away = writing ++ Asks Commit ∷ DsSays 2 8 (ds.Failed 13 None) ∷ DsSays 1 7 (ds.Written None 1) ∷ []
+taken_away = writing ++ UserAsks Commit ∷ DsSays 2 8 (ds.Failed 13 None) ∷ DsSays 1 7 (ds.Written None 1) ∷ []
 
 abbrev pub taken_away_seen : ClientSeen
-taken_away_seen = record { entries = writing_seen.entries ++ answer_entry (answer.Failed failing.Revoked) ∷ []; sent_to = writing_seen.sent_to; asked = None }
+taken_away_seen = record { entries = writing_seen.entries ++ answer_entry (answer.Failed failing.Revoked) ∷ []; sends = writing_seen.sends; asked = None }
 
 -- ---- each mirror fails, IO 5: the user is told at once, and LAYOUTRETURN 9 reports both; refused as BAD_STATEID 10025 it is told again
 
@@ -164,21 +212,21 @@ all_failed = writing ++ DsSays 1 7 (ds.Failed 5 None) ∷ DsSays 2 8 (ds.Failed 
 abbrev pub all_failed_seen : ClientSeen
 all_failed_seen = record {
   entries = writing_seen.entries ++ answer_entry (answer.Failed failing.AllMirrors) ∷ answer_entry (answer.Failed failing.Revoked) ∷ [];
-  sent_to = writing_seen.sent_to ++ Mds ∷ [];
+  sends = writing_seen.sends ++ on_session 9 5 (gives_back 65536 (failed_on 1 5 ∷ failed_on 2 5 ∷ [])) ∷ [];
   asked = None;
 }
 
--- ---- BADSESSION 10052 under a layout, with a read, a commit and an open waiting: the first two run without a file
+-- ---- BADSESSION 10052 at READ 9 under a layout, with a commit and an open waiting: the first two run without a file, EXCHANGE_ID 10 goes out
 
 abbrev pub session_gone : List ClientEvent
-session_gone = writing ++ Asks (Read 0 1) ∷ Asks Commit ∷ Asks (Open (98 ∷ [])) ∷ says_plain 9 (says.Refused 10052) ∷ []
+session_gone = writing ++ UserAsks (Read 0 1) ∷ UserAsks Commit ∷ UserAsks (Open (98 ∷ [])) ∷ says_plain 9 (says.Refused 10052) ∷ []
 
 abbrev pub session_gone_seen : ClientSeen
 session_gone_seen = record {
   entries =
       writing_seen.entries ++ answer_entry (answer.Failed failing.Revoked) ∷ answer_entry (answer.Failed (failing.Refused 10020))
       ∷ answer_entry (answer.Failed (failing.Refused 10020)) ∷ [];
-  sent_to = writing_seen.sent_to ++ Mds ∷ Mds ∷ [];
+  sends = writing_seen.sends ++ on_session 9 5 (slot.Read opened 0 1) ∷ calls_mds 10 (ExchangeId 1) ∷ [];
   asked = Some ask.ExchangeId;
 }
 
@@ -186,20 +234,21 @@ session_gone_seen = record {
 
 abbrev pub retried : List ClientEvent
 retried =
-    opening ++ Asks (Read 0 2) ∷ MdsSays 5 (record { slot = Delayed; answer = says.Refused 10008 }) 0 ∷ Ticks 1
+    opening ++ UserAsks (Read 0 2) ∷ MdsSays 5 (record { slot = Delayed; answer = says.Refused 10008 }) 0 ∷ Ticks 1
     ∷ MdsSays 5 (record { slot = Uncached; answer = says.Refused 10068 }) 1 ∷ says_at 6 (says.Bytes true (65 ∷ [])) 2 ∷ []
 
 abbrev pub retried_seen : ClientSeen
 retried_seen = record {
   entries = answer_entry (answer.Opened the_file) ∷ answer_entry (answer.Bytes true (65 ∷ [])) ∷ [];
-  sent_to = replicate 7 Mds;
+  sends =
+      opening_seen.sends ++ on_session 5 3 (slot.Read opened 0 2) ∷ again_on_session 5 3 (slot.Read opened 0 2) ∷ on_session 6 4 (slot.Read opened 0 2) ∷ [];
   asked = None;
 }
 
--- ---- the lease: a SEQUENCE alone, 30 s after the last that was answered, at 2
+-- ---- the lease: a SEQUENCE alone, 7, goes out 30 s after the last that was answered, at 2
 
 abbrev pub renewing : List ClientEvent
 renewing = retried ++ Ticks 31 ∷ Ticks 32 ∷ []
 
 abbrev pub renewing_seen : ClientSeen
-renewing_seen = record { entries = retried_seen.entries; sent_to = replicate 8 Mds; asked = Some ask.Renew }
+renewing_seen = record { entries = retried_seen.entries; sends = retried_seen.sends ++ on_session 7 5 slot.Renew ∷ []; asked = Some ask.Renew }

@@ -2,14 +2,14 @@
 
 ghost use Rattle.std.specs.Prelude.{◌≡◌, OnOk};
 ghost use Rattle.rpc_record.specs.Replies.{rpc_reply};
-ghost use Rattle.client_calls.specs.ClientCalls.{and_then, calls_all, ends_event};
+ghost use Rattle.client_state.specs.ClientSends.{and_then};
+ghost use Rattle.client_calls.specs.ClientCalls.{calls_all, ends_event};
 ghost use Rattle.mirror_client.specs.ClientRule.{with_request, client_requested, ticks_on, replied, mds_timed_out, timed_out_to, client_timed_out, stage_after_tick, client_at_tick, resends_late, is_stale_tie, renews, client_ticked};
-ghost use Rattle.client_calls.specs.CallSteps.{HasStepped};
+ghost use Rattle.client_state.specs.QueueSteps.{HasStepped};
 
 use crate::client::Client;
-use crate::late::ds_timed_out;
 use crate::replies::mds_replied;
-use client_answers::ds_answered;
+use client_answers::{ds_answered, ds_timed_out};
 use client_calls::{ask_mds, end_event, may_ask};
 use client_state::{LayoutStage, State, Tie, UserRequest};
 use cluster_model::{Entry, NodeId, Outbox};

@@ -3,7 +3,6 @@
 
 mod client;
 mod events;
-mod late;
 mod receive;
 mod replies;
 mod rogue;

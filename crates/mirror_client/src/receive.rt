@@ -5,7 +5,7 @@ ghost use Rattle.rpc_record.specs.Calls.{call_at};
 ghost use Rattle.rpc_record.specs.Replies.{reply_at};
 ghost use Rattle.client_callbacks.specs.Callbacks.{callback_of};
 ghost use Rattle.mirror_client.specs.ClientRule.{found_reply, found_call, record_from, client_recorded};
-ghost use Rattle.client_calls.specs.CallSteps.{HasStepped};
+ghost use Rattle.client_state.specs.QueueSteps.{HasStepped};
 
 use crate::client::Client;
 use crate::events::replied;

@@ -4,9 +4,9 @@ ghost use Rattle.std.specs.Prelude.{◌≡◌, OnOk};
 ghost use Rattle.rpc_record.specs.Replies.{rpc_reply};
 ghost use Rattle.mds_calls.specs.MdsReplies.{reply_of_ask};
 ghost use Rattle.mirror_client.specs.ClientRule.{mds_replied};
-ghost use Rattle.client_calls.specs.CallSteps.{HasStepped};
+ghost use Rattle.client_state.specs.QueueSteps.{HasStepped};
 
-use client_answers::hear_mds;
+use client_answers::mds_answered;
 use client_calls::end_event;
 use client_state::State;
 use cluster_model::Outbox;
@@ -28,6 +28,7 @@ pub fn mds_replied(
     if asked.xid != reply.xid {
         return Ok(());
     }
-    hear_mds(client, reply, now, out)?;
+    let ask = asked.ask;
+    mds_answered(client, ask, reply, now, out)?;
     end_event(client, out)
 }

@@ -2,11 +2,12 @@
 
 ghost use Rattle.std.specs.Prelude.{◌≡◌, ◌≤◌, true, length, OnOk};
 ghost use Rattle.mirror_client.specs.ClientRule.{turned, mirror_of_place, strays};
-ghost use Rattle.client_calls.specs.CallSteps.{HasStepped};
+ghost use Rattle.client_state.specs.QueueSteps.{HasStepped};
 
-use client_calls::{ds_record, xid_after};
+use client_calls::xid_after;
 use client_state::State;
 use cluster_model::{DsCall, Entry, Mirror, Mirrors, NodeId, Outbox};
+use ds_calls::ds_record;
 use ff_xdr::{Data, NoMemory};
 
 /// The mirror at this place of a layout, from 1.

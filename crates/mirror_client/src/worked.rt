@@ -6,7 +6,7 @@ ghost use Rattle.nfs4_types.specs.declared.status.Stat4.TheVariants as stat;
 ghost use Rattle.mirror_client.specs.WorkedWays.{recall_status, own_recall, own_recall_seen, other_recall, other_recall_seen, through, through_seen, giving_back, giving_back_seen, deferring, deferring_seen, refusing, refusing_seen, unknown, unknown_seen, written_again, written_again_seen, last_number, numberless, numberless_seen, leaving, leaving_seen};
 ghost use Rattle.mirror_client.specs.WorkedClient.{client, unopened, unopened_seen, opening, opening_seen, writing, writing_seen, committing, committing_seen, overlapping, overlapping_seen, reporting, reporting_seen, reported, reported_seen, taken_away, taken_away_seen, all_failed, all_failed_seen, session_gone, session_gone_seen, retried, retried_seen, renewing, renewing_seen};
 
-/// What the rule of a client makes of runs that are worked out by hand: the journal, to whom records go, and
+/// What the rule of a client makes of runs that are worked out by hand: the journal, all that goes out, and
 /// what is outstanding at the end. A request before a file is open; the conversation of one file; a write over
 /// another; a mirror that times out, and what is told once it is reported; a layout that is taken away, and
 /// one whose mirrors all failed; a session that is gone; a request that is sent again; a lease that is renewed.

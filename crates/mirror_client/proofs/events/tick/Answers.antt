@@ -1,8 +1,8 @@
 use Rattle.std.proofs.Common.{◌≡◌, false, OnOk, sym, ap, ◌∙◌, subst}
 use Rattle.client_state.specs.ClientStates.{ClientValue}
-use Rattle.client_calls.specs.ClientCalls.{ClientStep}
+use Rattle.client_state.specs.ClientSends.{ClientStep}
 use Rattle.mirror_client.specs.ClientRule.{client_at_tick, ticks_on}
-use Rattle.client_calls.specs.CallSteps.{HasStepped}
+use Rattle.client_state.specs.QueueSteps.{HasStepped}
 use Rattle.mirror_client.proofs.StepLemmas.{still_here}
 use Rattle.mirror_client.proofs.events.tick.Goals as goal
 

@@ -11,6 +11,6 @@ returns c =
     let v = c.args.client.now in
     let is : v.asked ≡ Some c.in-Some.asked = ap (λ (x : ClientValue). x.asked) (sym c.client.view_is) ∙ c.in-Some.is in
     on_ok_weaker c.end_event.result
-    (λ stepped. replied_to v c.in-Some.asked c.args.reply.now.xid (λ kind. reply_of_ask kind (rpc_reply c.args.reply.now)) c.args.now c.args.out.now c.hear_mds.new.out c.end_event.new.out
-    c.hear_mds.new.client c.end_event.new.client is c.if-asked-reply.false c.in_ok-hear_mds.ensures stepped)
+    (λ stepped. replied_to v c.in-Some.asked c.args.reply.now.xid (λ kind. reply_of_ask kind (rpc_reply c.args.reply.now)) c.args.now c.args.out.now c.mds_answered.new.out c.end_event.new.out
+    c.mds_answered.new.client c.end_event.new.client is c.if-asked-reply.false c.in_ok-mds_answered.ensures stepped)
     c.end_event.ensures

@@ -2,16 +2,14 @@
 
 ghost use Rattle.std.specs.Prelude.{◌≡◌, ◌≤◌, length, IfOk, OnOk};
 ghost use Rattle.cluster_model.specs.declared.ids.NodeId.TheVariants.{Server};
+ghost use Rattle.client_state.specs.QueueSteps.{HasStepped};
 ghost use Rattle.client_answers.specs.ClientMirrors.{ds_timed_out};
-ghost use Rattle.mirror_client.specs.ClientRule.{ds_late};
-ghost use Rattle.client_calls.specs.CallSteps.{HasStepped};
-ghost use Rattle.mirror_client.specs.LateSteps.{out_under, IsLate, TimesOut, SendsAgain};
+ghost use Rattle.client_answers.specs.LateSteps.{out_under, IsLate, TimesOut, SendsAgain};
 
-use crate::client::Client;
-use client_answers::{Heard, after_step, is_commit};
-use client_calls::ds_record;
+use crate::mirrors::{Heard, after_step, is_commit};
 use client_state::{Layout, State};
 use cluster_model::{Entry, NodeId, Outbox};
+use ds_calls::ds_record;
 use ff_xdr::{Data, NoMemory};
 use mirror_writer::WriterStep;
 
@@ -76,7 +74,7 @@ fn late_call(client: &State, server: u32) -> Result<Option<Late>, NoMemory>
 
 /// A call to a data server timed out: the same record goes out again, unless the mirror has failed by it.
 pub fn ds_timed_out(client: &mut State, server: u32, out: &mut Outbox) -> Result<(), NoMemory>
-    ensures { OnOk result (HasStepped (ds_late server client.old (ds_timed_out server client.old)) out.old client.new out.new) }
+    ensures { OnOk result (HasStepped (ds_timed_out server client.old) out.old client.new out.new) }
 {
     let Some(file) = client.file else {
         return Ok(());

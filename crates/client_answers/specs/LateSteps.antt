@@ -2,7 +2,7 @@
 use Rattle.std.specs.Prelude.{◌≡◌, ℕ, [], ◌∷◌, ◌++◌, Option, Some, None}
 use Rattle.ds_calls.specs.MadeCalls.{ds_call_bytes}
 use Rattle.mirror_writer.specs.Outstanding.{OutCall, out_at}
-use Rattle.mirror_client.specs.declared.late.Late.{Late}
+use Rattle.client_answers.specs.declared.late.Late.{Late}
 use Rattle.cluster_model.specs.declared.outbox.Outbox.{Outbox}
 use Rattle.mirror_writer.specs.declared.step.WriterStep.{WriterStep}
 use Rattle.mirror_writer.specs.declared.step.WriterStep.TheVariants as step
@@ -11,13 +11,17 @@ use Rattle.client_state.specs.declared.layout.Layout.{Layout}
 use Rattle.client_state.specs.ClientStates.{ClientValue}
 use Rattle.client_state.specs.ClientQueue.{with_writer}
 use Rattle.client_answers.specs.ClientMirrors.{is_commit}
-use Rattle.client_calls.specs.ClientCalls.{SendValue}
-use Rattle.mirror_client.specs.ClientRule.{cred_of}
+use Rattle.client_state.specs.ClientSends.{SendValue}
 
 -- the call that is outstanding at a data server
 abbrev pub out_under : Option Layout → ℕ → Option OutCall
 out_under None server = None
 out_under (Some l) server = out_at l.writer server
+
+-- the uid of the calls under a layout
+abbrev pub cred_of : Option Layout → ℕ
+cred_of None = 0
+cred_of (Some l) = l.writer.cred
 
 -- its number, and its record
 abbrev pub IsLate : ClientValue → Option OutCall → Option Late → Type 0

@@ -3,14 +3,14 @@ use Rattle.std.proofs.lemmas.Result.{on_ok_weaker}
 use Rattle.cluster_model.specs.declared.ids.NodeId.TheVariants.{Client}
 use Rattle.cluster_model.specs.declared.entry.Entry.TheVariants.{TimedOut}
 use Rattle.cluster_model.specs.declared.outbox.Outbox.{Outbox}
-use Rattle.mirror_client.specs.declared.late.Late.{Late}
+use Rattle.client_answers.specs.declared.late.Late.{Late}
 use Rattle.client_state.specs.ClientStates.{ClientValue}
 use Rattle.client_state.specs.ClientQueue.{with_layout}
 use Rattle.client_answers.specs.ClientMirrors.{after_step}
 use Rattle.client_state.specs.QueueSteps.{HasRun}
-use Rattle.mirror_client.specs.LateSteps.{out_under, IsLate}
-use Rattle.mirror_client.proofs.LateLemmas.{late_done}
-use Rattle.mirror_client.proofs.late.ds_timed_out.Goals as goal
+use Rattle.client_answers.specs.LateSteps.{out_under, IsLate}
+use Rattle.client_answers.proofs.LateLemmas.{late_done}
+use Rattle.client_answers.proofs.late.ds_timed_out.Goals as goal
 
 pub returns : goal.returns
 returns c =
