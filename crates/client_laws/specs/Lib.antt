@@ -1,0 +1,3 @@
+pub mod ClientHistory
+pub mod ClientRunLaws
+pub mod RecallLaws
