@@ -4,7 +4,7 @@ use Rattle.std.proofs.lemmas.Option.{slice_get_within}
 use Rattle.cluster_model.specs.declared.entry.Entry.{Entry}
 use Rattle.cluster_model.specs.Server.{ServerState}
 use Rattle.cluster_model.specs.DsCalls.{mirror_name}
-use Rattle.cluster_model.specs.Machine.{Machine}
+use Rattle.cluster_laws.specs.Machine.{Machine}
 use Rattle.cluster_laws.proofs.Lists.{at_place}
 use Rattle.cluster_laws.proofs.Invariant.{Drawn, net_of, Holds}
 use Rattle.cluster_laws.proofs.CallsOut.{AreBounded}

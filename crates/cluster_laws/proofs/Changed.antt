@@ -11,8 +11,8 @@ use Rattle.cluster_model.specs.Journal.{Copy, is_mirror, copy_after, content_of}
 use Rattle.cluster_model.specs.Server.{ServerState, mirror_of}
 use Rattle.cluster_model.specs.DsCalls.{DsCallValue}
 use Rattle.cluster_model.specs.GuardLaws.{IsInOrder, Follows, IsOfServer}
-use Rattle.cluster_model.specs.Machine.{PacketValue, Machine, numbered_at, with_server, file_id}
-use Rattle.cluster_model.specs.FenceLaw.{live_after}
+use Rattle.cluster_laws.specs.Machine.{PacketValue, Machine, numbered_at, with_server, file_id}
+use Rattle.cluster_laws.specs.FenceLaw.{live_after}
 use Rattle.cluster_laws.proofs.Facts.{AllFollow}
 use Rattle.cluster_laws.proofs.Lists.{all_append, all_more, put_same, put_other, same_numbered}
 use Rattle.cluster_laws.proofs.Invariant.{Drawn, AreThisCall, IsPacket, FenceNote, fence_in, freed_in, If, IsFenceNote, IsEntry, IsServer, AreRight, net_of, Holds}

@@ -15,9 +15,9 @@ use Rattle.cluster_model.specs.declared.layout_state.LayoutPhase.TheVariants.{Fr
 use Rattle.cluster_model.specs.declared.layout_state.CopyKind.{CopyKind}
 use Rattle.cluster_model.specs.Journal.{is_mirror}
 use Rattle.cluster_model.specs.Phases.{ids_of, but_for, is_last_live, is_source, phase_without, with_phase, after_loss}
-use Rattle.cluster_model.specs.MdsFiles.{Activity, Idle, Settles, FileStep, stays, source_left, settling_timed_out}
-use Rattle.cluster_model.specs.Machine.{file_id}
-use Rattle.cluster_model.specs.FenceLaw.{live_by, changed_live, first_free}
+use Rattle.cluster_laws.specs.MdsFiles.{Activity, Idle, Settles, FileStep, stays, source_left, settling_timed_out}
+use Rattle.cluster_laws.specs.Machine.{file_id}
+use Rattle.cluster_laws.specs.FenceLaw.{live_by, changed_live, first_free}
 use Rattle.cluster_laws.proofs.Lists.{all_append, all_more}
 use Rattle.cluster_laws.proofs.Invariant.{Net, KeepsOwner, IsMirrorOf, IsBusyWith, live_of, IsFile}
 use Rattle.cluster_laws.proofs.Journals.{live_append}
@@ -85,7 +85,7 @@ module _ (net : Net) (n next_uid : ℕ) (journal : List Entry) (s : LayoutState)
   live_settling : (copies : CopyKind) → s.phase ≡ Settling copies → live_of s.phase (ids_of s.live) ≡ Some (ids_of s.live)
   live_settling copies is = ap (λ p. live_of p (ids_of s.live)) is
 
-  pub source_ok : (live : List Mirror) (cause : LeftCause) (kept : CallStage) → RowOk net journal n next_uid (source_left (file_id n) s live cause kept).file (source_left (file_id n) s live cause kept).entries
+  pub source_ok : (live : List Mirror) (cause : LeftCause) (kept : CallStage) → RowOk net journal n next_uid (source_left (file_id n) s live cause (Settles kept)).file (source_left (file_id n) s live cause (Settles kept)).entries
   source_ok [] cause kept = nothing_new net journal n next_uid _ (staged_settling kept)
   source_ok (m ∷ live) cause kept =
       let e : Entry = entry.Left (file_id n) m.id cause in
@@ -101,7 +101,7 @@ module _ (net : Net) (n next_uid : ℕ) (journal : List Entry) (s : LayoutState)
       by_stage : (x : CallStage) → RowOk net journal n next_uid (settling_timed_out (file_id n) s x).file (settling_timed_out (file_id n) s x).entries
       by_stage Waits = nothing_new net journal n next_uid _ (staged_settling Waits)
       by_stage (Out xid timeouts) =
-          cond_both (ltb (timeouts + 1) 3) (stays s (Settles (Out xid (timeouts + 1)))) (source_left (file_id n) s s.live Timeouts (KeptOut xid)) (λ (x : FileStep). RowOk net journal n next_uid x.file x.entries)
+          cond_both (ltb (timeouts + 1) 3) (stays s (Settles (Out xid (timeouts + 1)))) (source_left (file_id n) s s.live Timeouts (Settles (KeptOut xid))) (λ (x : FileStep). RowOk net journal n next_uid x.file x.entries)
           (λ e. nothing_new net journal n next_uid _ (staged_settling (Out xid (timeouts + 1)))) (λ e. source_ok s.live Timeouts (KeptOut xid))
       by_stage (KeptOut xid) = nothing_new net journal n next_uid _ (staged_settling (KeptOut xid))
       by_stage KeptBack = nothing_new net journal n next_uid _ (staged_settling KeptBack)

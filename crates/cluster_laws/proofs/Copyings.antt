@@ -15,36 +15,36 @@ use Rattle.cluster_model.specs.declared.layout_state.CopyKind.{CopyKind}
 use Rattle.cluster_model.specs.declared.layout_state.CopyKind.TheVariants.{Replacing, Adding}
 use Rattle.cluster_model.specs.Mirrors.{has_server, are_on_different_servers}
 use Rattle.cluster_model.specs.DsCalls.{DsReplyValue, Created, Set, Written, Committed, Bytes, NotSync, Failed}
-use Rattle.cluster_model.specs.Fences.{is_out, odd_status}
+use Rattle.cluster_model.specs.Fences.{odd_status}
 use Rattle.cluster_model.specs.Phases.{ids_of, is_last_live, with_phase, after_loss, freed, has_targets}
-use Rattle.cluster_model.specs.MdsFiles.{Creation, Idle, Settles, Copies, Fresh, stays, a_uid, goes_idle, servers_without, replacing, adding, targets_of, copying, settled, source_left, settling_answered}
-use Rattle.cluster_model.specs.Machine.{file_id}
-use Rattle.cluster_model.specs.FenceLaw.{live_in}
+use Rattle.copy_rule.specs.Copies.{Target, to_make, copy_of}
+use Rattle.cluster_laws.specs.MdsFiles.{Idle, Settles, Copies, Fresh, stays, a_uid, goes_idle, servers_without, replacing, adding, plan_of, source_of, copying, settled, source_left, settling_answered}
+use Rattle.cluster_laws.specs.Machine.{file_id}
+use Rattle.cluster_laws.specs.FenceLaw.{live_in}
 use Rattle.cluster_laws.proofs.Facts.{AllFollow}
 use Rattle.cluster_laws.proofs.Lists.{all_more}
-use Rattle.cluster_laws.proofs.Invariant.{Net, FenceNote, fence_in, If, IsFenceNote, IsEntry, IsFencedTo, IsMirrorOf, IsCreationOf, IsNotSource, live_of, IsFile}
+use Rattle.cluster_laws.proofs.Invariant.{Net, FenceNote, fence_in, If, IsFenceNote, IsEntry, IsFencedTo, IsMirrorOf, IsTargetOf, IsNotSource, live_of, IsFile}
 use Rattle.cluster_laws.proofs.Onward.{mirror_on}
+use Rattle.cluster_laws.proofs.Plans.{plan_ok}
 use Rattle.cluster_laws.proofs.Rows.{RowOk}
-use Rattle.cluster_laws.proofs.Lives.{other_server, not_true}
+use Rattle.cluster_laws.proofs.Lives.{other_server, not_true, all_map}
 use Rattle.cluster_laws.proofs.CopySteps.{frees, source_ok, StepOk, Plain, Draws}
 use Rattle.std.specs.Prelude.{◌||◌}
 use Rattle.cluster_laws.proofs.Draws.{drawn_net, later_drawn, top_here, new_home, new_low}
 
 -- ---- the plan of a copy
 
-pub record IsTarget (first count : ℕ) (c : Creation) : Type 0 where
-  pub from : first ≤ c.name
-  pub to : c.name < first + count
-  pub waits : c.stage ≡ Waits
-  pub none : c.made ≡ None
+pub record IsPlanned (first count : ℕ) (t : Target) : Type 0 where
+  pub from : first ≤ t.name
+  pub to : t.name < first + count
 
-replacing_ok : (first count k : ℕ) (live : List Mirror) → first ≤ k → k + length live ≤ first + count → AllByRecursion (IsTarget first count) (replacing k live)
+replacing_ok : (first count k : ℕ) (live : List Mirror) → first ≤ k → k + length live ≤ first + count → AllByRecursion (IsPlanned first count) (replacing k live)
 replacing_ok first count k [] le up = tt
-replacing_ok first count k (m ∷ live) le up = (record { from = le; to = omega (arith, up); waits = refl; none = refl }, replacing_ok first count (k + 1) live (omega (arith, le)) (omega (arith, up)))
+replacing_ok first count k (m ∷ live) le up = (record { from = le; to = omega (arith, up) }, replacing_ok first count (k + 1) live (omega (arith, le)) (omega (arith, up)))
 
-adding_ok : (first count k : ℕ) (servers : List ℕ) → first ≤ k → k + length servers ≤ first + count → AllByRecursion (IsTarget first count) (adding k servers)
+adding_ok : (first count k : ℕ) (servers : List ℕ) → first ≤ k → k + length servers ≤ first + count → AllByRecursion (IsPlanned first count) (adding k servers)
 adding_ok first count k [] le up = tt
-adding_ok first count k (x ∷ servers) le up = (record { from = le; to = omega (arith, up); waits = refl; none = refl }, adding_ok first count (k + 1) servers (omega (arith, le)) (omega (arith, up)))
+adding_ok first count k (x ∷ servers) le up = (record { from = le; to = omega (arith, up) }, adding_ok first count (k + 1) servers (omega (arith, le)) (omega (arith, up)))
 
 replacing_size : (k : ℕ) (live : List Mirror) → length (replacing k live) ≡ length live
 replacing_size k [] = refl
@@ -54,11 +54,11 @@ adding_size : (k : ℕ) (servers : List ℕ) → length (adding k servers) ≡ l
 adding_size k [] = refl
 adding_size k (x ∷ servers) = ap suc (adding_size (k + 1) servers)
 
-targets_ok : (copies : CopyKind) (layout : LayoutState) (fresh : Fresh) → AllByRecursion (IsTarget fresh.name (length (targets_of copies layout fresh))) (targets_of copies layout fresh)
-targets_ok Replacing layout fresh =
+planned_ok : (copies : CopyKind) (layout : LayoutState) (fresh : Fresh) → AllByRecursion (IsPlanned fresh.name (length (plan_of copies layout fresh))) (plan_of copies layout fresh)
+planned_ok Replacing layout fresh =
     let size = replacing_size fresh.name (drop 1 layout.live) in
     replacing_ok fresh.name _ fresh.name (drop 1 layout.live) (omega arith) (omega (arith, size))
-targets_ok Adding layout fresh =
+planned_ok Adding layout fresh =
     let servers : List ℕ = take (layout.wanted - length layout.live) (servers_without fresh.servers layout.live) in
     let size = adding_size fresh.name servers in
     adding_ok fresh.name _ fresh.name servers (omega arith) (omega (arith, size))
@@ -81,7 +81,7 @@ none_replaced : (k : ℕ) (servers : List ℕ) (live : List Mirror) → AllByRec
 none_replaced k [] live = tt
 none_replaced k (x ∷ servers) live = (tt, none_replaced (k + 1) servers live)
 
-sources_ok : (copies : CopyKind) (layout : LayoutState) (fresh : Fresh) → are_on_different_servers layout.live ≡ true → AllByRecursion (λ c. IsNotSource layout.live c.replaced) (targets_of copies layout fresh)
+sources_ok : (copies : CopyKind) (layout : LayoutState) (fresh : Fresh) → are_on_different_servers layout.live ≡ true → AllByRecursion (λ c. IsNotSource layout.live c.replaced) (plan_of copies layout fresh)
 sources_ok Replacing layout fresh apart = by_live layout.live apart
   where
     by_live : (live : List Mirror) → are_on_different_servers live ≡ true → AllByRecursion (λ c. IsNotSource live c.replaced) (replacing fresh.name (drop 1 live))
@@ -103,18 +103,18 @@ module _ (net : Net) (n next_uid files : ℕ) (journal : List Entry) (same : All
   abbrev fresh : Fresh
   fresh = record { uid = next_uid; name = net.next_name; servers = servers }
 
-  made_target : (names : ℕ) (c : Creation) → IsTarget net.next_name names c → IsCreationOf (drawn_net net n next_uid names) n next_uid c
-  made_target names c t = record {
-    drawn = t.to;
-    home = new_home net.drawn net.next_name n next_uid c.name t.from;
-    low = new_low net.drawn net.next_name n next_uid c.name t.from;
-    out = λ xid is. let wrong : false ≡ true = ap (is_out xid) (sym t.waits) ∙ is in absurd cc;
-    made = λ m is. let wrong : None ≡ Some m = sym t.none ∙ is in absurd cc;
+  new_target : (names : ℕ) (t : Target) → IsPlanned net.next_name names t → IsTargetOf (drawn_net net n next_uid names) n next_uid 0 [] (to_make t)
+  new_target names t k = record {
+    drawn = k.to;
+    home = new_home net.drawn net.next_name n next_uid t.name k.from;
+    low = new_low net.drawn net.next_name n next_uid t.name k.from;
+    out = λ xid is. absurd cc;
+    made = λ m is. absurd cc;
   }
 
-  begins_copying : (copies : CopyKind) → RowOk (drawn_net net n next_uid (length (targets_of copies s fresh))) journal n (next_uid + 1) (record { layout = with_phase s (Copying (a_uid next_uid) copies); activity = Copies (record { owner = next_uid; items = targets_of copies s fresh }) }) []
+  begins_copying : (copies : CopyKind) → RowOk (drawn_net net n next_uid (length (plan_of copies s fresh))) journal n (next_uid + 1) (record { layout = with_phase s (Copying (a_uid next_uid) copies); activity = Copies (copy_of (source_of s.live) (plan_of copies s fresh) next_uid) }) []
   begins_copying copies =
-      let names = length (targets_of copies s fresh) in
+      let names = length (plan_of copies s fresh) in
       let new = drawn_net net n next_uid names in
       let later = later_drawn net n next_uid names same tops in
       let less = tops n in
@@ -133,11 +133,12 @@ module _ (net : Net) (n next_uid files : ℕ) (journal : List Entry) (same : All
             copier = a_uid next_uid;
             copies = copies;
             phase = refl;
-            items = all_more (IsTarget net.next_name names) (IsCreationOf new n next_uid) (targets_of copies s fresh) (made_target names) (targets_ok copies s fresh);
+            targets = all_map (IsPlanned net.next_name names) (IsTargetOf new n next_uid 0 []) to_make (plan_of copies s fresh) (new_target names) (planned_ok copies s fresh);
             later = omega (arith, cred, less);
             top = omega (arith, top);
             fences = subst (λ (j : List Entry). AllByRecursion (IsFencedTo n next_uid) j) (sym (append-nil journal)) (below n next_uid files journal entries_ok);
-            sources = sources_ok copies s fresh h.apart;
+            sources = all_map (λ t. IsNotSource s.live t.replaced) (λ t. IsNotSource s.live t.replaced) to_make (plan_of copies s fresh) (λ t k. k) (sources_ok copies s fresh h.apart);
+            plan = plan_ok copies s fresh h.apart;
           };
         };
       }
@@ -149,14 +150,14 @@ module _ (net : Net) (n next_uid files : ℕ) (journal : List Entry) (same : All
   settled_ok copies = by_targets (has_targets copies (length s.live) s.wanted) refl
     where
       by_targets : (b : Bool) → has_targets copies (length s.live) s.wanted ≡ b
-          → StepOk net journal n next_uid (cond b (copying (cond b (record { file = with_phase s (Copying (a_uid next_uid) copies); entries = [] }) (freed (file_id n) s)).file fresh (targets_of copies s fresh)) (goes_idle (cond b (record { file = with_phase s (Copying (a_uid next_uid) copies); entries = [] }) (freed (file_id n) s)) 0))
+          → StepOk net journal n next_uid (cond b (copying (cond b (record { file = with_phase s (Copying (a_uid next_uid) copies); entries = [] }) (freed (file_id n) s)).file fresh (plan_of copies s fresh)) (goes_idle (cond b (record { file = with_phase s (Copying (a_uid next_uid) copies); entries = [] }) (freed (file_id n) s)) 0))
       by_targets true e = Draws refl (begins_copying copies)
       by_targets false e = Plain refl refl freed_settling
 
-  plain_source : (cause : LeftCause) (kept : CallStage) → StepOk net journal n next_uid (source_left (file_id n) s s.live cause kept)
+  plain_source : (cause : LeftCause) (kept : CallStage) → StepOk net journal n next_uid (source_left (file_id n) s s.live cause (Settles kept))
   plain_source cause kept = by_live s.live (source_ok net n next_uid journal s stage h s.live cause kept)
     where
-      by_live : (live : List Mirror) → RowOk net journal n next_uid (source_left (file_id n) s live cause kept).file (source_left (file_id n) s live cause kept).entries → StepOk net journal n next_uid (source_left (file_id n) s live cause kept)
+      by_live : (live : List Mirror) → RowOk net journal n next_uid (source_left (file_id n) s live cause (Settles kept)).file (source_left (file_id n) s live cause (Settles kept)).entries → StepOk net journal n next_uid (source_left (file_id n) s live cause (Settles kept))
       by_live [] ok = Plain refl refl ok
       by_live (m ∷ live) ok = Plain (draws_none (is_last_live s.live)) (names_none (is_last_live s.live)) ok
         where

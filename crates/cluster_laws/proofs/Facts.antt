@@ -8,7 +8,7 @@ use Rattle.cluster_model.specs.File.{StoredFile}
 use Rattle.cluster_model.specs.Server.{ServerState}
 use Rattle.cluster_model.specs.DsCalls.{mirror_name}
 use Rattle.cluster_model.specs.GuardLaws.{WasAsked, Follows}
-use Rattle.cluster_model.specs.Machine.{numbered_at}
+use Rattle.cluster_laws.specs.Machine.{numbered_at}
 
 pub up_to_up_to : (a b c : Tick) → IsUpTo a b → IsUpTo b c → IsUpTo a c
 up_to_up_to a b c (inl h) (inl k) = inl (omega (arith, h, k))

@@ -18,9 +18,10 @@ use Rattle.cluster_model.specs.declared.layout_state.CopyKind.TheVariants.{Repla
 use Rattle.cluster_model.specs.Journal.{Copy, copy_after, content_of}
 use Rattle.cluster_model.specs.Fences.{FenceState, is_over, is_done}
 use Rattle.cluster_model.specs.Phases.{ids_of, fenced_to, fence_entries}
-use Rattle.cluster_model.specs.MdsFiles.{Idle, Fences, is_given_up, begun_by}
-use Rattle.cluster_model.specs.Machine.{file_id}
-use Rattle.cluster_model.specs.FenceLaw.{live_in, live_by, first_free}
+use Rattle.copy_rule.specs.Copies.{is_given_up}
+use Rattle.cluster_laws.specs.MdsFiles.{Idle, Fences, begun_by}
+use Rattle.cluster_laws.specs.Machine.{file_id}
+use Rattle.cluster_laws.specs.FenceLaw.{live_in, live_by, first_free}
 use Rattle.cluster_laws.proofs.Facts.{Bears, OwnedFrom}
 use Rattle.cluster_laws.proofs.Lists.{all_append, all_more}
 use Rattle.cluster_laws.proofs.Invariant.{Net, FenceNote, fence_in, If, KeepsOwner, IsMirrorOf, IsInFence, is_answered, kept_ids, IsFencing, live_of, IsFile}
@@ -37,6 +38,10 @@ IsExact net journal = (id : MirrorId) (name uid : ℕ) → Bears net.servers id 
 pub exact_by : (net : Net) (journal : List Entry) → ((id : MirrorId) (name uid : ℕ) → Bears net.servers id name → name < net.next_name → OwnedFrom net.servers id uid → net.drawn.top (net.drawn.home name) ≤ uid → (content_of journal id).owner ≡ uid) → IsExact net journal
 unfolding IsExact
 exact_by net journal h = h
+
+pub exact_at : (net : Net) (journal : List Entry) → IsExact net journal → (id : MirrorId) (name uid : ℕ) → Bears net.servers id name → name < net.next_name → OwnedFrom net.servers id uid → net.drawn.top (net.drawn.home name) ≤ uid → (content_of journal id).owner ≡ uid
+unfolding IsExact
+exact_at net journal h = h
 
 pub exact_on : (net : Net) (journal entries : List Entry) → AllByRecursion (λ e. (id : MirrorId) (c : Copy) → copy_after id c e ≡ c) entries → IsExact net journal → IsExact net (journal ++ entries)
 unfolding IsExact

@@ -22,15 +22,16 @@ use Rattle.cluster_model.specs.declared.layout_state.FenceEnd.{FenceEnd}
 use Rattle.cluster_model.specs.declared.layout_state.CopyKind.{CopyKind}
 use Rattle.cluster_model.specs.File.{StoredFile}
 use Rattle.cluster_model.specs.Journal.{content_of}
-use Rattle.cluster_model.specs.Mirrors.{are_on_different_servers}
+use Rattle.cluster_model.specs.Mirrors.{has_server, are_on_different_servers}
 use Rattle.cluster_model.specs.Server.{ServerState}
 use Rattle.cluster_model.specs.DsCalls.{DsCallValue, Create, SetAttr, Write, Commit, Read, DsReplyValue, Created, Set, Written, Committed, Bytes, NotSync, Failed, mirror_name}
 use Rattle.cluster_model.specs.GuardLaws.{IsInOrder, target, IsTold}
 use Rattle.cluster_model.specs.Fences.{FenceState, is_out}
 use Rattle.cluster_model.specs.Phases.{ids_of, is_source}
-use Rattle.cluster_model.specs.MdsFiles.{Creation, Creations, Activity, Idle, Makes, Fences, Settles, Copies, MdsFile, is_given_up}
-use Rattle.cluster_model.specs.Machine.{PacketValue, Call, Reply, Machine, numbered_at, file_id}
-use Rattle.cluster_model.specs.FenceLaw.{live_in, is_among}
+use Rattle.copy_rule.specs.Copies.{CopyTarget, CopyState, is_given_up, target_call}
+use Rattle.cluster_laws.specs.MdsFiles.{Creation, Creations, Activity, Idle, Makes, Fences, Settles, Copies, MdsFile}
+use Rattle.cluster_laws.specs.Machine.{PacketValue, Call, Reply, Machine, numbered_at, file_id}
+use Rattle.cluster_laws.specs.FenceLaw.{live_in, is_among}
 use Rattle.cluster_laws.proofs.Facts.{Bears, OwnedFrom, HasGiven, AskedAt}
 
 -- ---- what was drawn: the file that each name number and its uid were drawn for, and the highest uid that was drawn for each file
@@ -44,10 +45,10 @@ pub record Drawn : Type 0 where
 
 -- each call of the metadata server of this number is this one
 abbrev pub IsThisCall : ℕ → ℕ → DsCallValue → PacketValue → Type 0
-IsThisCall xid server call (Call Mds to number uid asked) = number ≡ xid → (to ≡ server) × (asked ≡ call)
-IsThisCall xid server call (Call (Server n) to number uid asked) = Unit {0}
-IsThisCall xid server call (Call (Client n) to number uid asked) = Unit {0}
-IsThisCall xid server call (Reply from to number reply) = Unit {0}
+IsThisCall xid server call (Call Mds to number uid gid asked) = number ≡ xid → (to ≡ server) × (asked ≡ call)
+IsThisCall xid server call (Call (Server n) to number uid gid asked) = Unit {0}
+IsThisCall xid server call (Call (Client n) to number uid gid asked) = Unit {0}
+IsThisCall xid server call (Reply place from to number reply) = Unit {0}
 
 abbrev pub AreThisCall : List PacketValue → ℕ → ℕ → DsCallValue → Type 0
 AreThisCall packets xid server call = AllByRecursion (IsThisCall xid server call) packets
@@ -107,12 +108,18 @@ IsUsed last_xid (Client n) xid = Unit {0}
 pub record HasCall (packets : List PacketValue) (from : NodeId) (server xid : ℕ) (call : DsCallValue) : Type 0 where
   pub place : ℕ
   pub uid : ℕ
-  pub there : slice_get packets place ≡ Some (Call from server xid uid call)
+  pub gid : ℕ
+  pub there : slice_get packets place ≡ Some (Call from server xid uid gid call)
 
 pub record IsAnswer (packets : List PacketValue) (servers : List ServerState) (n : ℕ) (to : NodeId) (xid : ℕ) (reply : DsReplyValue) : Type 0 where
   pub call : DsCallValue
   pub sent : HasCall packets to n xid call
   pub shows : IsReplyTo servers n call reply
+
+-- to the call at this place
+pub record IsReplyPacket (packets : List PacketValue) (servers : List ServerState) (place n : ℕ) (to : NodeId) (xid : ℕ) (reply : DsReplyValue) : Type 0 where
+  pub answer : IsAnswer packets servers n to xid reply
+  pub at : answer.sent.place ≡ place
 
 -- the network: the data servers, the packets, and what was drawn and numbered
 pub record Net : Type 0 where
@@ -123,8 +130,8 @@ pub record Net : Type 0 where
   pub drawn : Drawn
 
 abbrev pub IsPacket : Net → PacketValue → Type 0
-IsPacket net (Call from server xid uid call) = IsUsed net.last_xid from xid × IsCallOf net.drawn net.servers net.next_name server call
-IsPacket net (Reply server to xid reply) = IsAnswer net.packets net.servers server to xid reply
+IsPacket net (Call from server xid uid gid call) = IsUsed net.last_xid from xid × IsCallOf net.drawn net.servers net.next_name server call
+IsPacket net (Reply place server to xid reply) = IsReplyPacket net.packets net.servers place server to xid reply
 
 -- ---- entries
 
@@ -184,6 +191,14 @@ pub record IsCreationOf (net : Net) (n owner : ℕ) (c : Creation) : Type 0 wher
   pub out : (xid : ℕ) → is_out xid c.stage ≡ true → (xid ≤ net.last_xid) × AreThisCall net.packets xid c.server (Create c.name owner)
   pub made : (m : Mirror) → c.made ≡ Some m → (m.id.server ≡ c.server) × Bears net.servers m.id c.name × HasGiven net.servers m.id.server m.seen
 
+-- a target of a copy under this uid, which has this piece in hand
+pub record IsTargetOf (net : Net) (n copier at : ℕ) (piece : List ℕ) (t : CopyTarget) : Type 0 where
+  pub drawn : t.name < net.next_name
+  pub home : net.drawn.home t.name ≡ n
+  pub low : net.drawn.low t.name ≡ copier
+  pub out : (xid : ℕ) → is_out xid t.stage ≡ true → (xid ≤ net.last_xid) × AreThisCall net.packets xid t.server (target_call copier at piece t.name t.made)
+  pub made : (m : Mirror) → t.made ≡ Some m → (m.id.server ≡ t.server) × Bears net.servers m.id t.name × HasGiven net.servers m.id.server m.seen
+
 -- the call to a mirror that is outstanding
 pub record IsFenceCall (net : Net) (fresh xid : ℕ) (id : MirrorId) : Type 0 where
   pub used : xid ≤ net.last_xid
@@ -214,12 +229,34 @@ abbrev pub are_apart : List ℕ → Bool
 are_apart [] = true
 are_apart (n ∷ servers) = not (list_any (λ k. k == n) servers) && are_apart servers
 
+-- where a target of a copy is to be, and which mirror it is to replace
+pub record Site : Type 0 where
+  pub server : ℕ
+  pub replaced : Option MirrorId
+
+abbrev pub site_of : CopyTarget → Site
+site_of t = record { server = t.server; replaced = t.replaced }
+
+-- in the place of a mirror of its server, or on a server without a live mirror
+abbrev pub FitsIn : List Mirror → ℕ → Option MirrorId → Type 0
+FitsIn live server None = has_server live server ≡ false
+FitsIn live server (Some id) = id.server ≡ server
+
+abbrev pub site_servers : List Site → List ℕ
+site_servers sites = map (λ x. x.server) sites
+
+pub record IsPlan (live : List Mirror) (sites : List Site) : Type 0 where
+  pub fits : AllByRecursion (λ x. FitsIn live x.server x.replaced) sites
+  pub apart : are_apart (site_servers sites) ≡ true
+
 -- the mirrors that a fence has not given up
 abbrev pub kept_ids : List FenceMirror → List MirrorId
 kept_ids mirrors = map (λ m. m.id) (filter (λ m. not (is_given_up m.stage)) mirrors)
 
 pub record IsMaking (net : Net) (journal : List Entry) (n : ℕ) (s : LayoutState) (all : Creations) : Type 0 where
   pub phase : s.phase ≡ Making
+  pub owner : all.owner ≡ s.cred.0
+  pub least : net.drawn.top n ≡ all.owner
   pub items : AllByRecursion (IsCreationOf net n all.owner) all.items
   pub apart : are_apart (servers_of all.items) ≡ true
   pub fences : AllByRecursion (IsFencedTo n 0) journal
@@ -239,15 +276,16 @@ abbrev pub IsNotSource : List Mirror → Option MirrorId → Type 0
 IsNotSource live None = Unit {0}
 IsNotSource live (Some id) = is_source id live ≡ false
 
-pub record IsCopying (net : Net) (journal : List Entry) (n : ℕ) (s : LayoutState) (all : Creations) : Type 0 where
+pub record IsCopying (net : Net) (journal : List Entry) (n : ℕ) (s : LayoutState) (c : CopyState) : Type 0 where
   pub copier : Cred
   pub copies : CopyKind
   pub phase : s.phase ≡ Copying copier copies
-  pub items : AllByRecursion (IsCreationOf net n all.owner) all.items
-  pub later : s.cred.0 < all.owner
-  pub top : all.owner ≤ net.drawn.top n
-  pub fences : AllByRecursion (IsFencedTo n all.owner) journal
-  pub sources : AllByRecursion (λ c. IsNotSource s.live c.replaced) all.items
+  pub targets : AllByRecursion (IsTargetOf net n c.copier c.at c.piece) c.targets
+  pub later : s.cred.0 < c.copier
+  pub top : c.copier ≤ net.drawn.top n
+  pub fences : AllByRecursion (IsFencedTo n c.copier) journal
+  pub sources : AllByRecursion (λ t. IsNotSource s.live t.replaced) c.targets
+  pub plan : IsPlan s.live (map site_of c.targets)
 
 pub record IsSettling (s : LayoutState) : Type 0 where
   pub copies : CopyKind
@@ -267,7 +305,7 @@ IsBusyWith net journal n s Idle = is_idle s.phase ≡ true
 IsBusyWith net journal n s (Makes all) = IsMaking net journal n s all
 IsBusyWith net journal n s (Fences fence) = IsFencing net n s fence
 IsBusyWith net journal n s (Settles stage) = IsSettling s
-IsBusyWith net journal n s (Copies all) = IsCopying net journal n s all
+IsBusyWith net journal n s (Copies c) = IsCopying net journal n s c
 
 -- the live list, once the file was free
 abbrev pub live_of : LayoutPhase → List MirrorId → Option (List MirrorId)
@@ -315,7 +353,7 @@ AreRight before (e ∷ entries) = IsRight before e × AreRight (before ++ e ∷ 
 -- ---- all together
 
 abbrev pub net_of : Machine → Drawn → Net
-net_of m d = record { servers = m.servers; packets = m.packets; last_xid = m.last_xid; next_name = m.next_name; drawn = d }
+net_of m d = record { servers = m.servers; packets = m.packets; last_xid = m.last_xid Mds; next_name = m.next_name; drawn = d }
 
 pub record Holds (m : Machine) (journal : List Entry) (d : Drawn) : Type 0 where
   pub servers : (n : ℕ) (s : ServerState) → numbered_at m.servers n ≡ Some s → IsServer (net_of m d) journal n s

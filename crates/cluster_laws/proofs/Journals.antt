@@ -6,7 +6,7 @@ use Rattle.cluster_model.specs.declared.ids.MirrorId.{MirrorId}
 use Rattle.cluster_model.specs.declared.entry.Entry.{Entry}
 use Rattle.cluster_model.specs.declared.entry.Entry.TheVariants as entry
 use Rattle.cluster_model.specs.Journal.{Copy, no_copy, copy_after, copy_by, content_of}
-use Rattle.cluster_model.specs.FenceLaw.{live_in, live_by, live_after, is_among, ObeysFences}
+use Rattle.cluster_laws.specs.FenceLaw.{live_in, live_by, live_after, is_among, ObeysFences}
 use Rattle.cluster_laws.proofs.Invariant.{IsNotShutOut, IsRight, AreRight}
 use Rattle.cluster_laws.proofs.Lists.{all_split}
 

@@ -8,7 +8,7 @@ use Rattle.cluster_model.specs.Journal.{Copy, content_of}
 use Rattle.cluster_model.specs.Server.{ServerState, mirror_of}
 use Rattle.cluster_model.specs.DsCalls.{mirror_name}
 use Rattle.cluster_model.specs.GuardLaws.{IsInOrder, Follows}
-use Rattle.cluster_model.specs.Machine.{Machine}
+use Rattle.cluster_laws.specs.Machine.{Machine}
 use Rattle.cluster_laws.proofs.Facts.{AllFollow, Bears, OwnedFrom}
 use Rattle.cluster_laws.proofs.Lists.{same_numbered, at_place}
 use Rattle.cluster_laws.proofs.Invariant.{Drawn, net_of, Holds}
@@ -26,7 +26,7 @@ stands t o = record {
   asked = λ fileid owner guard a. a;
 }
 
-id_by : (id : MirrorId) (server fileid : ℕ) → id.server ≡ server → id.fileid ≡ fileid → id ≡ record { server = server; fileid = fileid }
+pub id_by : (id : MirrorId) (server fileid : ℕ) → id.server ≡ server → id.fileid ≡ fileid → id ≡ record { server = server; fileid = fileid }
 id_by id server fileid p q = subst (λ (x : ℕ). id ≡ record { server = x; fileid = fileid }) p (subst (λ (y : ℕ). id ≡ record { server = id.server; fileid = y }) q refl)
 
 same_index : (a b c : ℕ) → c ≡ a + 2 → c ≡ b + 2 → a ≡ b

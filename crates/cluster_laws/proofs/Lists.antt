@@ -5,7 +5,7 @@ use Rattle.std.specs.List.{AllByRecursion, position, position_from}
 use Rattle.std.proofs.lemmas.Iterator.Adapters.{position_from-zero}
 use Rattle.std.proofs.lemmas.Bool.{cond_both, eqb-false, ne_eqb}
 use Rattle.std.proofs.lemmas.Option.{same_Some, slice_get_within}
-use Rattle.cluster_model.specs.Machine.{numbered_at}
+use Rattle.cluster_laws.specs.Machine.{numbered_at}
 
 -- ---- all of a list
 

@@ -12,7 +12,7 @@ use Rattle.cluster_model.specs.declared.phase.LeftCause.{LeftCause}
 use Rattle.cluster_model.specs.Journal.{is_mirror}
 use Rattle.cluster_model.specs.Mirrors.{has_server, are_on_different_servers}
 use Rattle.cluster_model.specs.Phases.{ids_of, unreported, but_for, seen_if, seen_at, left_entries, SwappedIn, in_place, with_targets, swapped_entries}
-use Rattle.cluster_model.specs.FenceLaw.{is_file, live_by, changed_live, swapped_in}
+use Rattle.cluster_laws.specs.FenceLaw.{is_file, live_by, changed_live, swapped_in}
 
 -- ---- tests
 
@@ -47,7 +47,7 @@ or_right : (a b : Bool) → b ≡ true → (a || b) ≡ true
 or_right true b e = refl
 or_right false b e = e
 
-less_filter : (p : Mirror → Bool) (live : List Mirror) (n : ℕ) → has_server (filter p live) n ≡ true → has_server live n ≡ true
+pub less_filter : (p : Mirror → Bool) (live : List Mirror) (n : ℕ) → has_server (filter p live) n ≡ true → has_server live n ≡ true
 less_filter p [] n h = h
 less_filter p (m ∷ live) n h = by_test (p m) h (less_filter p live n)
   where
@@ -175,7 +175,7 @@ pub ids_seen : (id : MirrorId) (tick : Tick) (live : List Mirror) → ids_of (se
 ids_seen id tick [] = refl
 ids_seen id tick (m ∷ live) = ap (λ k. k ∷ ids_of (seen_at id tick live)) (seen_id id tick m) ∙ ap (λ ks. m.id ∷ ks) (ids_seen id tick live)
 
-has_seen : (id : MirrorId) (tick : Tick) (live : List Mirror) (n : ℕ) → has_server (seen_at id tick live) n ≡ has_server live n
+pub has_seen : (id : MirrorId) (tick : Tick) (live : List Mirror) (n : ℕ) → has_server (seen_at id tick live) n ≡ has_server live n
 has_seen id tick [] n = refl
 has_seen id tick (m ∷ live) n = ap (λ (k : MirrorId). eqb k.server n || has_server (seen_at id tick live) n) (seen_id id tick m) ∙ ap (λ b. eqb m.id.server n || b) (has_seen id tick live n)
 

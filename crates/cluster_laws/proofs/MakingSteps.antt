@@ -11,9 +11,9 @@ use Rattle.cluster_model.specs.declared.layout_state.LayoutState.{LayoutState}
 use Rattle.cluster_model.specs.DsCalls.{DsReplyValue}
 use Rattle.cluster_model.specs.Fences.{is_out, is_over}
 use Rattle.cluster_model.specs.Phases.{ids_of, made, free_with}
-use Rattle.cluster_model.specs.MdsFiles.{Creation, Creations, Idle, Makes, FileStep, stays, goes_idle, with_creation, all_made, creation_answered, creation_timed_out, creation_of, making_on, making_at, making_by}
-use Rattle.cluster_model.specs.Machine.{file_id}
-use Rattle.cluster_model.specs.FenceLaw.{live_by, first_free}
+use Rattle.cluster_laws.specs.MdsFiles.{Creation, Creations, Idle, Makes, FileStep, stays, goes_idle, with_creation, all_made, creation_answered, creation_timed_out, creation_of, making_on, making_at, making_by}
+use Rattle.cluster_laws.specs.Machine.{file_id}
+use Rattle.cluster_laws.specs.FenceLaw.{live_by, first_free}
 use Rattle.cluster_laws.proofs.Facts.{OwnedFrom}
 use Rattle.cluster_laws.proofs.Lists.{all_append, all_at, all_set, found_at}
 use Rattle.cluster_laws.proofs.Invariant.{Net, IsAnswer, FenceNote, fence_in, If, IsFenceNote, IsEntry, KeepsOwner, IsFencedTo, IsMirrorOf, IsCreationOf, servers_of, are_apart, live_of, IsFile}
@@ -32,7 +32,7 @@ module _ (net : Net) (n next_uid files : ℕ) (journal : List Entry) (entries_ok
     mirrors = h.mirrors;
     cred = h.cred;
     top = h.top;
-    busy = record { phase = h.busy.phase; items = ok; apart = ap are_apart same ∙ h.busy.apart; fences = h.busy.fences };
+    busy = record { phase = h.busy.phase; owner = h.busy.owner; least = h.busy.least; items = ok; apart = ap are_apart same ∙ h.busy.apart; fences = h.busy.fences };
   }
 
   pub put_creation : (place : ℕ) (c new : Creation) → slice_get all.items place ≡ Some c → new.server ≡ c.server → IsCreationOf net n all.owner new → IsFile net journal n (record { layout = s; activity = Makes (with_creation all place new) })

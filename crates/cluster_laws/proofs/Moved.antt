@@ -3,14 +3,15 @@ use Rattle.std.proofs.Common.{◌≡◌, ◌≢◌, ℕ, ◌-◌, ◌<◌, ◌�
 use Rattle.std.specs.List.{AllByRecursion}
 use Rattle.std.proofs.lemmas.Bool.{cases_eq}
 use Rattle.std.proofs.lemmas.List.{length-set}
+use Rattle.cluster_model.specs.declared.ids.NodeId.{NodeId}
 use Rattle.cluster_model.specs.declared.ids.MirrorId.{MirrorId}
 use Rattle.cluster_model.specs.declared.entry.Entry.{Entry}
 use Rattle.cluster_model.specs.Journal.{Copy, copy_after, content_of}
 use Rattle.cluster_model.specs.Server.{ServerState, mirror_of}
 use Rattle.cluster_model.specs.DsCalls.{mirror_name}
-use Rattle.cluster_model.specs.MdsFiles.{MdsFile}
-use Rattle.cluster_model.specs.Machine.{PacketValue, Machine, Holding, numbered_at, file_id}
-use Rattle.cluster_model.specs.FenceLaw.{live_after}
+use Rattle.cluster_laws.specs.MdsFiles.{MdsFile}
+use Rattle.cluster_laws.specs.Machine.{PacketValue, Machine, Holding, numbered_at, file_id}
+use Rattle.cluster_laws.specs.FenceLaw.{live_after}
 use Rattle.cluster_laws.proofs.Lists.{all_append, all_more, put_same, put_other, same_numbered, within_number}
 use Rattle.cluster_laws.proofs.Invariant.{Drawn, IsPacket, FenceNote, fence_in, freed_in, If, IsFenceNote, IsEntry, IsFile, IsServer, AreRight, net_of, Holds}
 use Rattle.cluster_laws.proofs.Journals.{content_same, right_more}
@@ -64,7 +65,7 @@ entries_more files more next_uid next le up journal h =
 
 -- ---- data servers stay
 
-module _ (m : Machine) (journal : List Entry) (d : Drawn) (h : Holds m journal d) (files : List MdsFile) (next_uid next_name last_xid : ℕ) (packets : List PacketValue) (holdings : List Holding) (e : Drawn) (few_names : next_name ≤ 18446744073709551616) where
+module _ (m : Machine) (journal : List Entry) (d : Drawn) (h : Holds m journal d) (files : List MdsFile) (next_uid next_name : ℕ) (last_xid : NodeId → ℕ) (packets : List PacketValue) (holdings : List Holding) (e : Drawn) (few_names : next_name ≤ 18446744073709551616) where
   abbrev pub moved_to : Machine
   moved_to = record { servers = m.servers; files = files; next_uid = next_uid; next_name = next_name; last_xid = last_xid; packets = packets; holdings = holdings }
 

@@ -1,7 +1,7 @@
 -- Each kind of move keeps what holds.
 use Rattle.std.proofs.Common.{◌≡◌, ℕ, ◌+◌, ◌-◌, ◌<◌, Bool, true, eqb, ltb, cond, List, [], ◌∷◌, ◌++◌, set, Option, Some, None, refl, sym, ap, subst, ◌∙◌, arith, append-nil}
-use Rattle.std.specs.Prelude.{slice_get}
-use Rattle.std.proofs.lemmas.Bool.{cond_both, ltb-true, eqb-true, ne_eqb}
+use Rattle.std.specs.Prelude.{slice_get, ◌&&◌}
+use Rattle.std.proofs.lemmas.Bool.{cond_both, and_parts, ltb-true, eqb-true, ne_eqb}
 use Rattle.std.proofs.lemmas.Option.{same_Some}
 use Rattle.cluster_model.specs.declared.tick.Tick.{Tick}
 use Rattle.cluster_model.specs.declared.piece.Piece.{Piece}
@@ -14,11 +14,11 @@ use Rattle.cluster_model.specs.declared.ds_call.Shown.{Shown}
 use Rattle.cluster_model.specs.Server.{ServerState, Caller, restart_of}
 use Rattle.cluster_model.specs.DsCalls.{DsCallValue, DsReplyValue, Created, Set, Written, Committed, Bytes, NotSync, Failed, ds_step}
 use Rattle.cluster_model.specs.GuardLaws.{IsInOrder, CallLaws, RestartLaws}
-use Rattle.cluster_model.specs.MdsFiles.{MdsFile, a_uid}
-use Rattle.cluster_model.specs.FilePhases.{FileInput, Answers, TimesOut, Sees, CallOut, call_out}
-use Rattle.cluster_model.specs.Machine.{PacketValue, Call, Reply, Machine, MachineStep, Move, Deliver, Creates, Happens, CallsOut, SendsAgain, GivesUpWaiting, Uses, Learns, Takes, Strays, Tells, Restarts, no_move, numbered_at, file_takes, arrives_at, file_of, answers_at, comes_to, delivered, comes_by_itself, goes_out, call_out_from, ctime_of, ctime_in, learns_tick, learns_from, learnt, started_again, restarts_at, moved}
+use Rattle.cluster_laws.specs.MdsFiles.{MdsFile, a_uid}
+use Rattle.cluster_laws.specs.FilePhases.{FileInput, Answers, TimesOut, Sees, CallOut, call_out, is_outstanding}
+use Rattle.cluster_laws.specs.Machine.{PacketValue, Call, Reply, Machine, MachineStep, Move, Deliver, Creates, Happens, CallsOut, SendsAgain, GivesUpWaiting, Uses, Learns, Takes, Strays, Tells, Restarts, no_move, numbered_at, with_number, file_takes, caller_by, arrives_at, file_of, answers_at, comes_to, delivered, comes_by_itself, goes_out, call_out_from, ctime_of, ctime_in, learns_tick, was_write_to, learns_from, learnt, started_again, restarts_at, moved}
 use Rattle.cluster_laws.proofs.Facts.{HasGiven}
-use Rattle.cluster_laws.proofs.Lists.{all_append, all_more, all_at}
+use Rattle.cluster_laws.proofs.Lists.{all_append, all_more, all_at, found_at}
 use Rattle.cluster_laws.proofs.Invariant.{Drawn, Net, IsGiven, IsReplyTo, IsAnswer, IsPacket, IsFile, net_of, Holds}
 use Rattle.cluster_laws.proofs.Onward.{packet_on}
 use Rattle.cluster_laws.proofs.Served.{served_holds}
@@ -33,7 +33,7 @@ use Rattle.cluster_laws.proofs.SentPackets.{IsQuiet, again_ok, uses_ok, noted_ok
 use Rattle.cluster_laws.proofs.NewFiles.{creates_ok}
 
 -- the number of a place
-next_number : {A : Type 0} (all : List A) (i : ℕ) → numbered_at all (i + 1) ≡ slice_get all i
+pub next_number : {A : Type 0} (all : List A) (i : ℕ) → numbered_at all (i + 1) ≡ slice_get all i
 next_number all i =
     let back : i + 1 - 1 ≡ i = omega arith in
     ap (λ (b : Bool). cond b None (slice_get all (i + 1 - 1))) (ne_eqb (i + 1) 0 (λ z. absurd (omega (arith, z)))) ∙ ap (slice_get all) back
@@ -65,54 +65,63 @@ module _ (m : Machine) (journal : List Entry) (d : Drawn) (h : Holds m journal d
 
   -- ---- inputs of the table of phases
 
-  brought : (input : FileInput) → comes_by_itself input ≡ true → IsInput net input
-  brought (Answers xid reply) e = absurd cc
-  brought (Sees id seen) e = absurd cc
-  brought _ e = tt
+  pub brought : (input : FileInput) → comes_by_itself input ≡ true → (f : MdsFile) → IsInput net f input
+  brought (Answers xid reply) e f = absurd cc
+  brought (Sees id seen) e f = absurd cc
+  brought _ e f = tt
 
   happens_ok : (n : ℕ) (input : FileInput) → Ok (moved m (Happens n input))
   happens_ok n input =
       cond_both (comes_by_itself input) (file_takes m n input (numbered_at m.files n)) (no_move m) Ok
-      (λ e. takes_ok m journal d h n input (brought input e) (numbered_at m.files n) refl) (λ e. none)
+      (λ e. takes_ok m journal d h n input (λ f there. brought input e f) (numbered_at m.files n) refl) (λ e. none)
 
-  answers_ok : (server xid : ℕ) (reply : DsReplyValue) → IsAnswer m.packets m.servers server Mds xid reply → (place : Option ℕ) → Ok (answers_at m xid reply place)
-  answers_ok server xid reply answer None = none
-  answers_ok server xid reply answer (Some place) = takes_ok m journal d h (place + 1) (Answers xid reply) (server, answer) (slice_get m.files place) (next_number m.files place)
+  -- the file whose call an answer answers
+  pub answers_input : (server xid : ℕ) (reply : DsReplyValue) → IsAnswer m.packets m.servers server Mds xid reply → (place : ℕ) → file_of m.files server xid ≡ Some place → (f : MdsFile) → numbered_at m.files (place + 1) ≡ Some f → IsInput net f (Answers xid reply)
+  answers_input server xid reply answer place is f there =
+      let found = found_at (λ (x : MdsFile). is_outstanding x server xid) m.files place is in
+      record { server = server; outstanding = ap (λ (x : MdsFile). is_outstanding x server xid) (same_Some f found.0 (sym there ∙ next_number m.files place ∙ found.1)) ∙ found.2; answer = answer }
+
+  answers_ok : (server xid : ℕ) (reply : DsReplyValue) → IsAnswer m.packets m.servers server Mds xid reply → (place : Option ℕ) → file_of m.files server xid ≡ place → Ok (answers_at m xid reply place)
+  answers_ok server xid reply answer None is = none
+  answers_ok server xid reply answer (Some place) is = takes_ok m journal d h (place + 1) (Answers xid reply) (answers_input server xid reply answer place is) (slice_get m.files place) (next_number m.files place)
 
   comes_ok : (server xid : ℕ) (reply : DsReplyValue) (to : NodeId) → IsAnswer m.packets m.servers server to xid reply → Ok (comes_to m server xid reply to)
-  comes_ok server xid reply Mds answer = answers_ok server xid reply answer (file_of m.files server xid)
+  comes_ok server xid reply Mds answer = answers_ok server xid reply answer (file_of m.files server xid) refl
   comes_ok server xid reply (Server k) answer = none
   comes_ok server xid reply (Client k) answer = none
 
   -- ---- a ctime is learnt
 
+  pub tick_input : (id : MirrorId) (server xid : ℕ) (reply : DsReplyValue) → IsAnswer m.packets m.servers server Mds xid reply → eqb server id.server ≡ true → (t : Tick) → ctime_in reply ≡ Some t → HasGiven m.servers id.server t
+  tick_input id server xid reply answer e t is = subst (λ (k : ℕ). HasGiven m.servers k t) (eqb-true server id.server e) (shown_given m.servers server answer.call reply t answer.shows is)
+
   tick_ok : (n : ℕ) (id : MirrorId) (tick : Option Tick) → ((t : Tick) → tick ≡ Some t → HasGiven m.servers id.server t) → Ok (learns_tick m n id (numbered_at m.files n) tick)
   tick_ok n id None given = none
-  tick_ok n id (Some tick) given = takes_ok m journal d h n (Sees id tick) (given tick refl) (numbered_at m.files n) refl
+  tick_ok n id (Some tick) given = takes_ok m journal d h n (Sees id tick) (λ f there. given tick refl) (numbered_at m.files n) refl
 
-  learns_ok : (n : ℕ) (id : MirrorId) (server : ℕ) (to : NodeId) (xid : ℕ) (reply : DsReplyValue) → IsAnswer m.packets m.servers server to xid reply → Ok (learns_from m n id (numbered_at m.files n) server to reply)
-  learns_ok n id server Mds xid reply answer =
-      cond_both (eqb server id.server) (learns_tick m n id (numbered_at m.files n) (ctime_in reply)) (no_move m) Ok
-      (λ e. tick_ok n id (ctime_in reply) (λ t is. subst (λ (k : ℕ). HasGiven m.servers k t) (eqb-true server id.server e) (shown_given m.servers server answer.call reply t answer.shows is))) (λ e. none)
-  learns_ok n id server (Server k) xid reply answer = none
-  learns_ok n id server (Client k) xid reply answer = none
+  learns_ok : (n : ℕ) (id : MirrorId) (place server : ℕ) (to : NodeId) (xid : ℕ) (reply : DsReplyValue) → IsAnswer m.packets m.servers server to xid reply → Ok (learns_from m n id (numbered_at m.files n) place server to reply)
+  learns_ok n id place server Mds xid reply answer =
+      cond_both (eqb server id.server && was_write_to id.fileid (slice_get m.packets place)) (learns_tick m n id (numbered_at m.files n) (ctime_in reply)) (no_move m) Ok
+      (λ e. tick_ok n id (ctime_in reply) (tick_input id server xid reply answer (and_parts _ _ e).0)) (λ e. none)
+  learns_ok n id place server (Server k) xid reply answer = none
+  learns_ok n id place server (Client k) xid reply answer = none
 
   learnt_ok : (n place : ℕ) (id : MirrorId) (p : Option PacketValue) → slice_get m.packets place ≡ p → Ok (learnt m n id (numbered_at m.files n) p)
   learnt_ok n place id None there = none
-  learnt_ok n place id (Some (Call from server xid uid call)) there = none
-  learnt_ok n place id (Some (Reply server to xid reply)) there = learns_ok n id server to xid reply (all_at (IsPacket net) m.packets place (Reply server to xid reply) h.packets there)
+  learnt_ok n place id (Some (Call from server xid uid gid call)) there = none
+  learnt_ok n place id (Some (Reply call server to xid reply)) there = learns_ok n id call server to xid reply (all_at (IsPacket net) m.packets place (Reply call server to xid reply) h.packets there).answer
 
   -- ---- a call goes out
 
-  out_ok : (n xid : ℕ) (f : MdsFile) → numbered_at m.files n ≡ Some f → m.last_xid < xid → (c : Option CallOut) → call_out f xid ≡ c → Ok (goes_out m n xid c)
+  out_ok : (n xid : ℕ) (f : MdsFile) → numbered_at m.files n ≡ Some f → m.last_xid Mds < xid → (c : Option CallOut) → call_out f xid ≡ c → Ok (goes_out m n xid c)
   out_ok n xid f there new None is = none
   out_ok n xid f there new (Some c) is =
       let same = all_stand m journal d h in
-      let later = later_sent net c.server xid 0 c.call same new in
+      let later = later_sent net c.server xid c.uid c.uid c.call same new in
       let after : Net = sent_net net xid (mds_call xid c) in
       let ok = call_out_ok net n xid journal same h.packets new (bounded_now m journal d h) f c (h.files n f there) is in (
         d,
-        moved_holds m journal d h (set m.files (n - 1) c.file) m.next_uid m.next_name xid (m.packets ++ mds_call xid c ∷ []) m.holdings d h.few_names later [] tt
+        moved_holds m journal d h (set m.files (n - 1) c.file) m.next_uid m.next_name (with_number m.last_xid Mds xid) (m.packets ++ mds_call xid c ∷ []) m.holdings d h.few_names later [] tt
             n f c.file there refl tt tt (subst (λ (j : List Entry). IsFile after j n c.file) (sym (append-nil journal)) ok.1)
             (all_append (IsPacket after) m.packets (mds_call xid c ∷ []) (all_more (IsPacket net) (IsPacket after) m.packets (packet_on net after later) h.packets) ((omega arith, ok.0), tt))
             (λ k other. refl) h.tops h.lows (omega arith),
@@ -121,19 +130,19 @@ module _ (m : Machine) (journal : List Entry) (d : Drawn) (h : Holds m journal d
   calls_out_ok : (n xid : ℕ) (f : Option MdsFile) → numbered_at m.files n ≡ f → Ok (call_out_from m n xid f)
   calls_out_ok n xid None there = none
   calls_out_ok n xid (Some f) there =
-      cond_both (ltb m.last_xid xid) (goes_out m n xid (call_out f xid)) (no_move m) Ok (λ e. out_ok n xid f there (ltb-true m.last_xid xid e) (call_out f xid) refl) (λ e. none)
+      cond_both (ltb (m.last_xid Mds) xid) (goes_out m n xid (call_out f xid)) (no_move m) Ok (λ e. out_ok n xid f there (ltb-true (m.last_xid Mds) xid e) (call_out f xid) refl) (λ e. none)
 
   -- ---- data servers
 
   module _ (calls : (s : ServerState) (caller : Caller) (call : DsCallValue) → IsInOrder s → CallLaws s caller call (ds_step s caller call).server (ds_step s caller call).reply (ds_step s caller call).entries) where
-    arrives_ok : (place : ℕ) (from : NodeId) (n xid uid : ℕ) (call : DsCallValue) → slice_get m.packets place ≡ Some (Call from n xid uid call) → (s : Option ServerState) → numbered_at m.servers n ≡ s → Ok (arrives_at m from n xid uid call s)
-    arrives_ok place from n xid uid call sent None there = none
-    arrives_ok place from n xid uid call sent (Some s) there = (d, served_holds calls m journal d h n s there from xid uid call (record { place = place; uid = uid; there = sent }))
+    arrives_ok : (place : ℕ) (from : NodeId) (n xid uid gid : ℕ) (call : DsCallValue) → slice_get m.packets place ≡ Some (Call from n xid uid gid call) → (s : Option ServerState) → numbered_at m.servers n ≡ s → Ok (arrives_at m place from n xid (caller_by uid gid) call s)
+    arrives_ok place from n xid uid gid call sent None there = none
+    arrives_ok place from n xid uid gid call sent (Some s) there = (d, served_holds calls m journal d h n s there from xid uid gid call (record { place = place; uid = uid; gid = gid; there = sent }))
 
-    delivered_ok : (place : ℕ) (p : Option PacketValue) → slice_get m.packets place ≡ p → Ok (delivered m p)
+    delivered_ok : (place : ℕ) (p : Option PacketValue) → slice_get m.packets place ≡ p → Ok (delivered m place p)
     delivered_ok place None there = none
-    delivered_ok place (Some (Call from server xid uid call)) there = arrives_ok place from server xid uid call there (numbered_at m.servers server) refl
-    delivered_ok place (Some (Reply server to xid reply)) there = comes_ok server xid reply to (all_at (IsPacket net) m.packets place (Reply server to xid reply) h.packets there)
+    delivered_ok place (Some (Call from server xid uid gid call)) there = arrives_ok place from server xid uid gid call there (numbered_at m.servers server) refl
+    delivered_ok place (Some (Reply call server to xid reply)) there = comes_ok server xid reply to (all_at (IsPacket net) m.packets place (Reply call server to xid reply) h.packets there).answer
 
   module _ (restarts : (s : ServerState) (pieces : List Piece) (new : ServerState) → restart_of s pieces ≡ Some new → IsInOrder s → RestartLaws s pieces new) where
     started_ok : (n : ℕ) (pieces : List Piece) (s : ServerState) → numbered_at m.servers n ≡ Some s → (new : Option ServerState) → restart_of s pieces ≡ new → Ok (started_again m n pieces new)
@@ -165,8 +174,8 @@ module _ (calls : (s : ServerState) (caller : Caller) (call : DsCallValue) → I
   move_ok m journal d h (Happens n input) = happens_ok m journal d h n input
   move_ok m journal d h (CallsOut n xid) = calls_out_ok m journal d h n xid (numbered_at m.files n) refl
   move_ok m journal d h (SendsAgain place) = again_ok m journal d h place (slice_get m.packets place) refl
-  move_ok m journal d h (GivesUpWaiting n xid) = takes_ok m journal d h n (TimesOut xid) tt (numbered_at m.files n) refl
-  move_ok m journal d h (Uses node server xid uid call) = uses_ok m journal d h node server xid uid call
+  move_ok m journal d h (GivesUpWaiting n xid) = takes_ok m journal d h n (TimesOut xid) (λ f there. tt) (numbered_at m.files n) refl
+  move_ok m journal d h (Uses node server xid uid gid call) = uses_ok m journal d h node server xid uid gid call
   move_ok m journal d h (Learns n place id) = learnt_ok m journal d h n place id (slice_get m.packets place) refl
   move_ok m journal d h (Takes holding at bytes) = noted_ok m journal d h (λ file uid. entry.Sent file (a_uid uid) at bytes) (λ file uid. sent_quiet m journal d h file uid at bytes) (slice_get m.holdings holding)
   move_ok m journal d h (Strays holding at bytes) = noted_ok m journal d h (λ file uid. entry.Rogue file (a_uid uid) at bytes) (λ file uid. rogue_quiet m journal d h file uid at bytes) (slice_get m.holdings holding)

@@ -9,10 +9,10 @@ use Rattle.cluster_model.specs.declared.ids.Mirror.{Mirror}
 use Rattle.cluster_model.specs.declared.entry.Entry.{Entry}
 use Rattle.cluster_model.specs.declared.entry.Entry.TheVariants as entry
 use Rattle.cluster_model.specs.declared.call_stage.CallStage.TheVariants.{Waits}
-use Rattle.cluster_model.specs.MdsFiles.{MdsFile}
-use Rattle.cluster_model.specs.FilePhases.{creations_at, new_mds_file, are_spent}
-use Rattle.cluster_model.specs.Machine.{Machine, no_move, numbered_at, file_id, fresh_of, are_servers, may_create, can_draw, created}
-use Rattle.cluster_model.specs.FenceLaw.{live_by, live_after, is_file, changed_live, first_free, swapped_in}
+use Rattle.cluster_laws.specs.MdsFiles.{MdsFile}
+use Rattle.cluster_laws.specs.FilePhases.{creations_at, new_mds_file, are_spent}
+use Rattle.cluster_laws.specs.Machine.{Machine, no_move, numbered_at, file_id, fresh_of, are_servers, may_create, can_draw, created}
+use Rattle.cluster_laws.specs.FenceLaw.{live_by, live_after, is_file, changed_live, first_free, swapped_in}
 use Rattle.cluster_laws.proofs.Lists.{all_more, place_of, at_number, within_number}
 use Rattle.cluster_laws.proofs.Invariant.{Drawn, Net, IsPacket, FenceNote, fence_in, If, IsFenceNote, IsEntry, IsFencedTo, IsCreationOf, IsFile, AreRight, servers_of, are_apart, net_of, Holds}
 use Rattle.cluster_laws.proofs.Onward.{Later, packet_on, file_on}
@@ -34,7 +34,7 @@ push_cases (z ∷ xs) y (suc i) x e =
     ]
 
 -- one that has a number is the last, or had it before
-pushed : {A : Type 0} (xs : List A) (y : A) (k : ℕ) (x : A) → numbered_at (xs ++ y ∷ []) k ≡ Some x → (numbered_at xs k ≡ Some x) ⊎ ((k ≡ length xs + 1) × (y ≡ x))
+pub pushed : {A : Type 0} (xs : List A) (y : A) (k : ℕ) (x : A) → numbered_at (xs ++ y ∷ []) k ≡ Some x → (numbered_at xs k ≡ Some x) ⊎ ((k ≡ length xs + 1) × (y ≡ x))
 pushed xs y k x is =
     let p = place_of (xs ++ y ∷ []) k x is in
     elim (push_cases xs y (k - 1) x p.1) [
@@ -42,7 +42,7 @@ pushed xs y k x is =
       | inr last ↦ let at = last.0 in let ne = p.0 in inr (omega (arith, at, ne), last.1)
     ]
 
-pushed_length : {A : Type 0} (xs : List A) (y : A) → length (xs ++ y ∷ []) ≡ length xs + 1
+pub pushed_length : {A : Type 0} (xs : List A) (y : A) → length (xs ++ y ∷ []) ≡ length xs + 1
 pushed_length [] y = refl
 pushed_length (x ∷ xs) y = let rest = pushed_length xs y in omega (arith, rest)
 
@@ -110,7 +110,7 @@ module _ (m : Machine) (journal : List Entry) (d : Drawn) (h : Holds m journal d
   past : length m.files < n
   past = omega arith
 
-  creation : (k : ℕ) → IsCreationOf after n m.next_uid (record { server = k; name = m.next_name; replaced = None; stage = Waits; made = None })
+  creation : (k : ℕ) → IsCreationOf after n m.next_uid (record { server = k; name = m.next_name; stage = Waits; made = None })
   creation k = record {
     drawn = omega arith;
     home = new_home d m.next_name n m.next_uid m.next_name (omega arith);
@@ -138,6 +138,8 @@ module _ (m : Machine) (journal : List Entry) (d : Drawn) (h : Holds m journal d
     top = let top = top_here d m.next_name n m.next_uid in omega (arith, top);
     busy = record {
       phase = refl;
+      owner = refl;
+      least = top_here d m.next_name n m.next_uid;
       items = creations servers;
       apart = ap are_apart (servers_same m.next_name servers) ∙ apart_servers (length m.servers) servers apart;
       fences = none_fenced (length m.files) m.next_uid n past journal h.entries;

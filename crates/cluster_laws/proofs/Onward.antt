@@ -12,11 +12,12 @@ use Rattle.cluster_model.specs.declared.fence_mirror.FenceMirror.{FenceMirror}
 use Rattle.cluster_model.specs.declared.layout_state.LayoutState.{LayoutState}
 use Rattle.cluster_model.specs.DsCalls.{DsCallValue, Create, SetAttr, Write, Commit, Read, DsReplyValue, Created, Set, Written, Committed, Bytes, NotSync, Failed}
 use Rattle.cluster_model.specs.GuardLaws.{target}
-use Rattle.cluster_model.specs.MdsFiles.{Creation, Activity, Idle, Makes, Fences, Settles, Copies, MdsFile}
-use Rattle.cluster_model.specs.Machine.{PacketValue, Call, Reply, file_id}
-use Rattle.cluster_model.specs.FenceLaw.{live_after}
+use Rattle.copy_rule.specs.Copies.{CopyTarget, target_call}
+use Rattle.cluster_laws.specs.MdsFiles.{Creation, Activity, Idle, Makes, Fences, Settles, Copies, MdsFile}
+use Rattle.cluster_laws.specs.Machine.{PacketValue, Call, Reply, file_id}
+use Rattle.cluster_laws.specs.FenceLaw.{live_after}
 use Rattle.cluster_laws.proofs.Facts.{AllFollow, OwnedFrom, bears_on, owned_on, given_on, asked_on}
-use Rattle.cluster_laws.proofs.Invariant.{Net, AreThisCall, at_server, IsCallOf, IsGiven, IsReplyTo, IsUsed, IsPacket, FenceNote, fence_in, If, KeepsOwner, IsFencedTo, IsMirrorOf, IsCreationOf, IsInFence, IsBusyWith, IsFile}
+use Rattle.cluster_laws.proofs.Invariant.{Net, AreThisCall, at_server, IsCallOf, IsGiven, IsReplyTo, IsUsed, IsPacket, FenceNote, fence_in, If, KeepsOwner, IsFencedTo, IsMirrorOf, IsCreationOf, IsTargetOf, IsInFence, IsBusyWith, IsFile}
 use Rattle.cluster_laws.proofs.Lists.{all_append, all_more}
 use Rattle.cluster_laws.proofs.Journals.{live_same}
 
@@ -72,8 +73,13 @@ module _ (old new : Net) (l : Later old new) where
   reply_on n call (Failed status shown) h = is_given_on n shown h
 
   pub packet_on : (p : PacketValue) → IsPacket old p → IsPacket new p
-  packet_on (Call from server xid uid call) h = (used_on from xid h.0, call_on server call h.1)
-  packet_on (Reply server to xid reply) h = record { call = h.call; sent = record { place = h.sent.place; uid = h.sent.uid; there = l.sent h.sent.place _ h.sent.there }; shows = reply_on server h.call reply h.shows }
+  packet_on (Call from server xid uid gid call) h = (used_on from xid h.0, call_on server call h.1)
+  packet_on (Reply place server to xid reply) h =
+      let a = h.answer in
+      record {
+        answer = record { call = a.call; sent = record { place = a.sent.place; uid = a.sent.uid; gid = a.sent.gid; there = l.sent a.sent.place _ a.sent.there }; shows = reply_on server a.call reply a.shows };
+        at = h.at;
+      }
 
   -- ---- a file
 
@@ -97,6 +103,21 @@ module _ (old new : Net) (l : Later old new) where
     made = λ m is.
         let k = h.made m is in
         (k.0, bears_on old.servers new.servers l.servers m.id c.name k.1, given_on old.servers new.servers l.servers m.id.server m.seen k.2);
+  }
+
+  pub target_on : (n copier at : ℕ) (piece : List ℕ) (t : CopyTarget) → IsTargetOf old n copier at piece t → IsTargetOf new n copier at piece t
+  target_on n copier at piece t h = record {
+    drawn = drawn_on t.name h.drawn;
+    home = l.home t.name h.drawn ∙ h.home;
+    low = l.low t.name h.drawn ∙ h.low;
+    out = λ xid is.
+        let o = h.out xid is in
+        let used = o.0 in
+        let up = l.used in
+        (omega (arith, used, up), l.calls xid t.server (target_call copier at piece t.name t.made) o.0 o.1);
+    made = λ m is.
+        let k = h.made m is in
+        (k.0, bears_on old.servers new.servers l.servers m.id t.name k.1, given_on old.servers new.servers l.servers m.id.server m.seen k.2);
   }
 
   pub in_fence_on : (n fresh : ℕ) (m : FenceMirror) → IsInFence old n fresh m → IsInFence new n fresh m
@@ -142,10 +163,10 @@ module _ (old new : Net) (l : Later old new) where
     module _ (top : new.drawn.top n ≡ old.drawn.top n) where
       busy_on : (s : LayoutState) (activity : Activity) → IsBusyWith old journal n s activity → IsBusyWith new (journal ++ entries) n s activity
       busy_on s Idle h = h
-      busy_on s (Makes all) h = record { phase = h.phase; items = all_more (IsCreationOf old n all.owner) (IsCreationOf new n all.owner) all.items (creation_on n all.owner) h.items; apart = h.apart; fences = fences_on 0 h.fences }
+      busy_on s (Makes all) h = record { phase = h.phase; owner = h.owner; least = top ∙ h.least; items = all_more (IsCreationOf old n all.owner) (IsCreationOf new n all.owner) all.items (creation_on n all.owner) h.items; apart = h.apart; fences = fences_on 0 h.fences }
       busy_on s (Fences fence) h = record { next = h.next; end = h.end; phase = h.phase; fresh = h.fresh; top = top ∙ h.top; later = h.later; mirrors = all_more (IsInFence old n fence.cred) (IsInFence new n fence.cred) fence.mirrors (in_fence_on n fence.cred) h.mirrors; ids = h.ids }
       busy_on s (Settles stage) h = h
-      busy_on s (Copies all) h = record { copier = h.copier; copies = h.copies; phase = h.phase; items = all_more (IsCreationOf old n all.owner) (IsCreationOf new n all.owner) all.items (creation_on n all.owner) h.items; later = h.later; top = subst (λ (t : ℕ). all.owner ≤ t) (sym top) h.top; fences = fences_on all.owner h.fences; sources = h.sources }
+      busy_on s (Copies c) h = record { copier = h.copier; copies = h.copies; phase = h.phase; targets = all_more (IsTargetOf old n c.copier c.at c.piece) (IsTargetOf new n c.copier c.at c.piece) c.targets (target_on n c.copier c.at c.piece) h.targets; later = h.later; top = subst (λ (t : ℕ). c.copier ≤ t) (sym top) h.top; fences = fences_on c.copier h.fences; sources = h.sources; plan = h.plan }
 
       pub file_on : (f : MdsFile) → AllByRecursion (λ e. (x : Option (List MirrorId)) → live_after (file_id n) x e ≡ x) entries → IsFile old journal n f → IsFile new (journal ++ entries) n f
       file_on f same h = record {

@@ -13,17 +13,17 @@ use Rattle.cluster_model.specs.declared.fence_mirror.FenceStep.TheVariants.{Stra
 use Rattle.cluster_model.specs.declared.layout_state.LayoutState.{LayoutState}
 use Rattle.cluster_model.specs.Fences.{is_over, stage_at_tick, FenceState, is_done, without}
 use Rattle.cluster_model.specs.Phases.{is_last_live, mirror_left, fence_done, made}
-use Rattle.cluster_model.specs.MdsFiles.{Creation, Creations, Activity, Idle, Makes, Fences, Settles, Copies, FileStep, stays, goes_idle, goes_on, with_entries, fenced_on, fence_stepped, in_stage, with_creation, all_made, making_at, making_by, source_left, settling_timed_out}
-use Rattle.cluster_model.specs.FilePhases.{ticked}
-use Rattle.cluster_model.specs.Machine.{file_id}
+use Rattle.cluster_laws.specs.MdsFiles.{Creation, Creations, Activity, Idle, Makes, Fences, Settles, Copies, FileStep, stays, goes_idle, goes_on, with_entries, fenced_on, fence_stepped, in_stage, with_creation, all_made, making_at, making_by, source_left, settling_timed_out}
+use Rattle.cluster_laws.specs.FilePhases.{ticked}
+use Rattle.cluster_laws.specs.Machine.{file_id}
 use Rattle.cluster_laws.proofs.Lives.{all_map}
-use Rattle.cluster_laws.proofs.Invariant.{Net, IsCreationOf, IsNotSource, servers_of, IsFile}
+use Rattle.cluster_laws.proofs.Invariant.{Net, IsCreationOf, servers_of, IsFile}
 use Rattle.cluster_laws.proofs.FenceSteps.{nothing_new}
 use Rattle.cluster_laws.proofs.FenceAnswers.{tick_ok}
 use Rattle.cluster_laws.proofs.Makings.{tick_stage}
 use Rattle.cluster_laws.proofs.MakingSteps.{remade}
 use Rattle.cluster_laws.proofs.CopySteps.{staged_settling, StepOk, Plain}
-use Rattle.cluster_laws.proofs.Targets.{retargeted}
+use Rattle.cluster_laws.proofs.Recopied.{recopied}
 use Rattle.cluster_laws.proofs.Known.{Known}
 
 -- neither a uid nor names
@@ -62,15 +62,15 @@ plain_fence n s fence (HasFailed id cause) =
 
 -- ---- the COMMIT of a source
 
-plain_left : (n : ℕ) (s : LayoutState) (live : List Mirror) (cause : LeftCause) (kept : CallStage) → DrawsNone (source_left (file_id n) s live cause kept)
+plain_left : (n : ℕ) (s : LayoutState) (live : List Mirror) (cause : LeftCause) (kept : Activity) → DrawsNone (source_left (file_id n) s live cause kept)
 plain_left n s [] cause kept = (refl, refl)
 plain_left n s (m ∷ live) cause kept =
-    plain_if (is_last_live s.live) (stays s (Settles kept)) (record { file = record { layout = (mirror_left (file_id n) s m.id cause).file; activity = Settles Waits }; entries = (mirror_left (file_id n) s m.id cause).entries; uids = 0; names = 0 })
+    plain_if (is_last_live s.live) (stays s kept) (record { file = record { layout = (mirror_left (file_id n) s m.id cause).file; activity = Settles Waits }; entries = (mirror_left (file_id n) s m.id cause).entries; uids = 0; names = 0 })
     (refl, refl) (refl, refl)
 
 pub plain_settling : (n : ℕ) (s : LayoutState) (stage : CallStage) → DrawsNone (settling_timed_out (file_id n) s stage)
 plain_settling n s Waits = (refl, refl)
-plain_settling n s (Out xid timeouts) = plain_if (ltb (timeouts + 1) 3) (stays s (Settles (Out xid (timeouts + 1)))) (source_left (file_id n) s s.live Timeouts (KeptOut xid)) (refl, refl) (plain_left n s s.live Timeouts (KeptOut xid))
+plain_settling n s (Out xid timeouts) = plain_if (ltb (timeouts + 1) 3) (stays s (Settles (Out xid (timeouts + 1)))) (source_left (file_id n) s s.live Timeouts (Settles (KeptOut xid))) (refl, refl) (plain_left n s s.live Timeouts (Settles (KeptOut xid)))
 plain_settling n s (KeptOut xid) = (refl, refl)
 plain_settling n s KeptBack = (refl, refl)
 plain_settling n s Done = (refl, refl)
@@ -93,10 +93,7 @@ module _ (net : Net) (n next_uid files : ℕ) (journal : List Entry) (known : Kn
       (all_map (IsCreationOf net n all.owner) (IsCreationOf net n all.owner) at_tick all.items (λ c k. tick_stage net n all.owner c k) h.busy.items) (servers_ticked all.items)
   ticked_file (Fences fence) h = tick_ok net n next_uid (known.tops n) journal s fence h known.exact
   ticked_file (Settles stage) h = staged_settling net n next_uid journal s stage h (stage_at_tick stage)
-  ticked_file (Copies all) h =
-      retargeted net n next_uid journal s all h (map at_tick all.items)
-      (all_map (IsCreationOf net n all.owner) (IsCreationOf net n all.owner) at_tick all.items (λ c k. tick_stage net n all.owner c k) h.busy.items)
-      (all_map (λ c. IsNotSource s.live c.replaced) (λ c. IsNotSource s.live c.replaced) at_tick all.items (λ c k. k) h.busy.sources)
+  ticked_file (Copies c) h = recopied net n journal s c h c.at c.piece c.ended (stage_at_tick c.read) c.targets h.busy.targets h.busy.sources refl
 
   pub ticks_ok : (activity : Activity) → IsFile net journal n (record { layout = s; activity = activity }) → StepOk net journal n next_uid (stays s (ticked activity))
   ticks_ok activity h = Plain refl refl (nothing_new net journal n next_uid _ (ticked_file activity h))

@@ -7,7 +7,7 @@ use Rattle.cluster_model.specs.File.{StoredFile}
 use Rattle.cluster_model.specs.Server.{ServerState}
 use Rattle.cluster_model.specs.DsCalls.{mirror_name}
 use Rattle.cluster_model.specs.GuardLaws.{IsInOrder, IsTold}
-use Rattle.cluster_model.specs.Machine.{Machine, numbered_at, with_server}
+use Rattle.cluster_laws.specs.Machine.{Machine, numbered_at, with_server}
 use Rattle.cluster_laws.proofs.Lists.{all_more}
 use Rattle.cluster_laws.proofs.Invariant.{Drawn, IsPacket, IsServer, net_of, Holds}
 use Rattle.cluster_laws.proofs.Onward.{packet_on}

@@ -1,20 +1,26 @@
 -- What holds at the start holds behind every move, and so the journal of a run obeys the fence law.
-use Rattle.std.proofs.Common.{◌≡◌, ℕ, zero, suc, ◌+◌, ◌-◌, List, [], ◌∷◌, ◌++◌, Some, refl, sym, ap, subst, ◌∙◌, arith, append_assoc}
+use Rattle.std.proofs.Common.{◌≡◌, ℕ, zero, suc, ◌+◌, ◌-◌, Bool, true, cond, List, [], ◌∷◌, ◌++◌, Some, refl, sym, ap, subst, ◌∙◌, arith, append_assoc}
 use Rattle.std.specs.Prelude.{slice_get}
+use Rattle.std.specs.List.{AllByRecursion}
 use Rattle.std.proofs.lemmas.Option.{same_Some}
 use Rattle.cluster_model.specs.declared.piece.Piece.{Piece}
 use Rattle.cluster_model.specs.declared.entry.Entry.{Entry}
 use Rattle.cluster_model.specs.Server.{ServerState, Caller, new_server, restart_of}
 use Rattle.cluster_model.specs.DsCalls.{DsCallValue, ds_step}
 use Rattle.cluster_model.specs.GuardLaws.{IsInOrder, IsTold, CallLaws, RestartLaws}
-use Rattle.cluster_model.specs.MdsFiles.{MdsFile}
-use Rattle.cluster_model.specs.Machine.{Machine, Move, new_machine, numbered_at, moved, machine_after, journal_of}
-use Rattle.cluster_model.specs.FenceLaw.{new_servers, ObeysFences}
+use Rattle.cluster_laws.specs.MdsFiles.{MdsFile}
+use Rattle.cluster_laws.specs.Machine.{Machine, Move, new_machine, numbered_at, moved, machine_after, journal_of}
+use Rattle.cluster_laws.specs.FenceLaw.{new_servers, ObeysFences}
+use Rattle.cluster_laws.specs.Telling.{is_telling, telling}
+use Rattle.cluster_laws.specs.Periods.{ArePeriodsFenced, DoOwnersStay, TellsTheTruth}
 use Rattle.cluster_laws.proofs.Lists.{place_of}
 use Rattle.cluster_laws.proofs.Invariant.{Drawn, IsServer, net_of, Holds}
 use Rattle.cluster_laws.proofs.Journals.{obeys}
 use Rattle.cluster_laws.proofs.Stepped.{no_step}
 use Rattle.cluster_laws.proofs.Moves.{move_ok}
+use Rattle.cluster_laws.proofs.RunFacts.{owners_stay, tells}
+use Rattle.cluster_laws.proofs.PeriodFacts.{periods_fenced}
+use Rattle.cluster_laws.proofs.PeriodMoves.{ArePeriods, none, move_periods}
 
 -- ---- the start
 
@@ -80,3 +86,40 @@ module _ (new : (number boot : ℕ) → IsInOrder (new_server number boot) × Is
 
     pub run_obeys : (moves : List Move) → ObeysFences (journal_of start moves)
     run_obeys moves = obeys (journal_of start moves) (run_holds moves start [] none_drawn start_holds).1.right
+
+    -- what holds of a whole run
+    run_whole : (moves : List Move) → (e : Drawn) × Holds (machine_after start moves) (journal_of start moves) e
+    run_whole moves = run_holds moves start [] none_drawn start_holds
+
+    pub run_stays : (moves : List Move) → DoOwnersStay (journal_of start moves)
+    run_stays moves = let w = run_whole moves in owners_stay (machine_after start moves) (journal_of start moves) w.0 w.1
+
+    pub run_tells : (moves : List Move) → TellsTheTruth boots moves
+    run_tells moves = let w = run_whole moves in tells (machine_after start moves) (journal_of start moves) w.0 w.1
+
+    -- ---- the periods of a run
+
+    start_periods : ArePeriods (λ uid. 0) start []
+    start_periods = record { files = λ n f is. absurd (no_file n f (place_of start.files n f is).1); past = λ n past. (refl, refl); below = tt; place = tt; tells = tt }
+      where
+        no_file : (n : ℕ) (f : MdsFile) → slice_get start.files (n - 1) ≡ Some f → ⊥
+        no_file n f e = cc
+
+    periods_hold : (moves : List Move) (m : Machine) (journal : List Entry) (d : Drawn) → Holds m journal d → (whose : ℕ → ℕ) → ArePeriods whose m journal → (w : ℕ → ℕ) × ArePeriods w (machine_after m moves) (journal ++ journal_of m moves)
+    periods_hold [] m journal d h whose p = none m journal d h whose p
+    periods_hold (move ∷ moves) m journal d h whose p =
+        let one = move_ok calls restarts m journal d h move in
+        let next = move_periods m journal d h whose p move in
+        let rest = periods_hold moves (moved m move).machine (journal ++ (moved m move).entries) one.0 one.1 next.0 next.1 in
+        (rest.0, subst (λ (j : List Entry). ArePeriods rest.0 (machine_after m (move ∷ moves)) j) (append_assoc journal (moved m move).entries (journal_of (moved m move).machine moves)) rest.1)
+
+    pub run_fenced : (moves : List Move) → ArePeriodsFenced (journal_of start moves)
+    run_fenced moves = periods_fenced (journal_of start moves) (periods_hold moves start [] none_drawn start_holds (λ uid. 0) start_periods).1.place
+
+    -- nothing is left out of a run's journal
+    all_left : (journal : List Entry) → AllByRecursion (λ e. is_telling e ≡ true) journal → telling journal ≡ journal
+    all_left [] h = refl
+    all_left (e ∷ journal) h = ap (λ (b : Bool). cond b (e ∷ telling journal) (telling journal)) h.0 ∙ ap (λ (j : List Entry). e ∷ j) (all_left journal h.1)
+
+    pub run_left : (moves : List Move) → telling (journal_of start moves) ≡ journal_of start moves
+    run_left moves = all_left (journal_of start moves) (periods_hold moves start [] none_drawn start_holds (λ uid. 0) start_periods).1.tells

@@ -1,5 +1,5 @@
 -- A ctime is seen at a mirror.
-use Rattle.std.proofs.Common.{ℕ, List, [], ◌∷◌, Option, Some, None, sym, ap, subst, ◌∙◌}
+use Rattle.std.proofs.Common.{ℕ, List, [], ◌∷◌, map, Option, Some, None, sym, ap, subst, ◌∙◌}
 use Rattle.std.proofs.lemmas.Bool.{cond_both, and_parts, eqb-true}
 use Rattle.cluster_model.specs.declared.tick.Tick.{Tick}
 use Rattle.cluster_model.specs.declared.ids.MirrorId.{MirrorId}
@@ -8,9 +8,10 @@ use Rattle.cluster_model.specs.declared.entry.Entry.{Entry}
 use Rattle.cluster_model.specs.declared.layout_state.LayoutState.{LayoutState}
 use Rattle.cluster_model.specs.Journal.{is_mirror}
 use Rattle.cluster_model.specs.Phases.{seen_if, seen_at, with_live}
-use Rattle.cluster_model.specs.MdsFiles.{Activity, Idle, Makes, Fences, Settles, Copies}
+use Rattle.cluster_laws.specs.MdsFiles.{Activity, Idle, Makes, Fences, Settles, Copies}
 use Rattle.cluster_laws.proofs.Facts.{HasGiven}
-use Rattle.cluster_laws.proofs.Invariant.{Net, IsMirrorOf, IsNotSource, IsBusyWith, live_of, IsFile}
+use Rattle.cluster_laws.proofs.Invariant.{Net, IsMirrorOf, IsNotSource, site_of, IsBusyWith, live_of, IsFile}
+use Rattle.cluster_laws.proofs.Plans.{plan_more, none_seen}
 use Rattle.cluster_laws.proofs.Lives.{all_map, seen_id, ids_seen, apart_seen}
 use Rattle.cluster_laws.proofs.Lists.{all_more}
 
@@ -28,10 +29,10 @@ module _ (net : Net) (journal : List Entry) (n : ℕ) (s : LayoutState) (id : Mi
 
   still_busy : (activity : Activity) → IsBusyWith net journal n s activity → IsBusyWith net journal n (with_live s (seen_at id tick s.live)) activity
   still_busy Idle h = h
-  still_busy (Makes all) h = record { phase = h.phase; items = h.items; apart = h.apart; fences = h.fences }
+  still_busy (Makes all) h = record { phase = h.phase; owner = h.owner; least = h.least; items = h.items; apart = h.apart; fences = h.fences }
   still_busy (Fences fence) h = record { next = h.next; end = h.end; phase = h.phase; fresh = h.fresh; top = h.top; later = h.later; mirrors = h.mirrors; ids = ids_seen id tick s.live ∙ h.ids }
   still_busy (Settles stage) h = record { copies = h.copies; phase = h.phase }
-  still_busy (Copies all) h = record { copier = h.copier; copies = h.copies; phase = h.phase; items = h.items; later = h.later; top = h.top; fences = h.fences; sources = all_more (λ c. IsNotSource s.live c.replaced) (λ c. IsNotSource (seen_at id tick s.live) c.replaced) all.items (λ c. still_not c.replaced s.live) h.sources }
+  still_busy (Copies c) h = record { copier = h.copier; copies = h.copies; phase = h.phase; targets = h.targets; later = h.later; top = h.top; fences = h.fences; sources = all_more (λ t. IsNotSource s.live t.replaced) (λ t. IsNotSource (seen_at id tick s.live) t.replaced) c.targets (λ t. still_not t.replaced s.live) h.sources; plan = plan_more s.live (seen_at id tick s.live) (none_seen id tick s.live) (map site_of c.targets) h.plan }
 
   pub seen_ok : (activity : Activity) → IsFile net journal n (record { layout = s; activity = activity }) → IsFile net journal n (record { layout = with_live s (seen_at id tick s.live); activity = activity })
   seen_ok activity h = record {

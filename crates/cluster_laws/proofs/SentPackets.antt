@@ -10,8 +10,8 @@ use Rattle.cluster_model.specs.declared.ids.MirrorId.{MirrorId}
 use Rattle.cluster_model.specs.declared.entry.Entry.{Entry}
 use Rattle.cluster_model.specs.Journal.{Copy, copy_after}
 use Rattle.cluster_model.specs.DsCalls.{DsCallValue, Create, SetAttr, Write, Commit, Read}
-use Rattle.cluster_model.specs.Machine.{PacketValue, Call, Machine, Holding, no_move, file_id, puts_out, sent_again, may_use, is_new_number, used, noted}
-use Rattle.cluster_model.specs.FenceLaw.{live_after}
+use Rattle.cluster_laws.specs.Machine.{PacketValue, Call, Machine, Holding, no_move, file_id, with_number, puts_out, sent_again, may_use, is_new_number, used, noted}
+use Rattle.cluster_laws.specs.FenceLaw.{live_after}
 use Rattle.cluster_laws.proofs.Lists.{all_append, all_more, all_at, push_old}
 use Rattle.cluster_laws.proofs.Invariant.{Drawn, Net, IsThisCall, IsCallOf, IsPacket, FenceNote, fence_in, freed_in, If, IsFenceNote, IsEntry, IsRight, AreRight, net_of, Holds}
 use Rattle.cluster_laws.proofs.Journals.{right_more}
@@ -28,7 +28,7 @@ module _ (m : Machine) (journal : List Entry) (d : Drawn) (h : Holds m journal d
 
   -- ---- packets
 
-  module _ (packets : List PacketValue) (last_xid : ℕ) where
+  module _ (packets : List PacketValue) (last_xid : NodeId → ℕ) where
     abbrev then : Machine
     then = record { servers = m.servers; files = m.files; next_uid = m.next_uid; next_name = m.next_name; last_xid = last_xid; packets = packets; holdings = m.holdings }
 
@@ -45,24 +45,24 @@ module _ (m : Machine) (journal : List Entry) (d : Drawn) (h : Holds m journal d
     }
 
   -- one more packet, which is not the metadata server's first under its number
-  module _ (p : PacketValue) (calls : (xid server : ℕ) (call : DsCallValue) → AllByRecursion (IsThisCall xid server call) m.packets → IsThisCall xid server call p) where
-    later_with : Later net (net_of (then (m.packets ++ p ∷ []) m.last_xid) d)
+  module _ (last_xid : NodeId → ℕ) (same : last_xid Mds ≡ m.last_xid Mds) (p : PacketValue) (calls : (xid server : ℕ) (call : DsCallValue) → AllByRecursion (IsThisCall xid server call) m.packets → IsThisCall xid server call p) where
+    later_with : Later net (net_of (then (m.packets ++ p ∷ []) last_xid) d)
     later_with = record {
       servers = all_stand m journal d h;
       sent = λ place x is. push_old m.packets (p ∷ []) place x is;
       calls = λ xid server call used all. all_append (IsThisCall xid server call) m.packets (p ∷ []) all (calls xid server call all, tt);
-      used = omega arith;
+      used = omega (arith, same);
       names = omega arith;
       home = λ k less. refl;
       low = λ k less. refl;
       tops = λ g. omega arith;
     }
 
-    with_packet : IsPacket (net_of (then (m.packets ++ p ∷ []) m.last_xid) d) p → Holds (then (m.packets ++ p ∷ []) m.last_xid) (journal ++ []) d
+    with_packet : IsPacket (net_of (then (m.packets ++ p ∷ []) last_xid) d) p → Holds (then (m.packets ++ p ∷ []) last_xid) (journal ++ []) d
     with_packet is =
-        sent_holds (m.packets ++ p ∷ []) m.last_xid later_with
-        (all_append (IsPacket (net_of (then (m.packets ++ p ∷ []) m.last_xid) d)) m.packets (p ∷ [])
-        (all_more (IsPacket net) (IsPacket (net_of (then (m.packets ++ p ∷ []) m.last_xid) d)) m.packets (packet_on net (net_of (then (m.packets ++ p ∷ []) m.last_xid) d) later_with) h.packets) (is, tt))
+        sent_holds (m.packets ++ p ∷ []) last_xid later_with
+        (all_append (IsPacket (net_of (then (m.packets ++ p ∷ []) last_xid) d)) m.packets (p ∷ [])
+        (all_more (IsPacket net) (IsPacket (net_of (then (m.packets ++ p ∷ []) last_xid) d)) m.packets (packet_on net (net_of (then (m.packets ++ p ∷ []) last_xid) d) later_with) h.packets) (is, tt))
 
   -- a packet is sent again
   pub again_ok : (place : ℕ) (p : Option PacketValue) → slice_get m.packets place ≡ p → HoldsAfter m journal d h (sent_again m p)
@@ -70,7 +70,7 @@ module _ (m : Machine) (journal : List Entry) (d : Drawn) (h : Holds m journal d
   again_ok place (Some p) there =
       let calls : (xid server : ℕ) (call : DsCallValue) → AllByRecursion (IsThisCall xid server call) m.packets → IsThisCall xid server call p =
       λ xid server call all. all_at (IsThisCall xid server call) m.packets place p all there in
-      (d, with_packet p calls (packet_on net (net_of (then (m.packets ++ p ∷ []) m.last_xid) d) (later_with p calls) p (all_at (IsPacket net) m.packets place p h.packets there)))
+      (d, with_packet m.last_xid refl p calls (packet_on net (net_of (then (m.packets ++ p ∷ []) m.last_xid) d) (later_with m.last_xid refl p calls) p (all_at (IsPacket net) m.packets place p h.packets there)))
 
   -- a node writes, commits or reads
   free_call : (node : NodeId) (n uid : ℕ) (call : DsCallValue) → may_use m node uid call ≡ true → IsCallOf d m.servers m.next_name n call
@@ -80,21 +80,21 @@ module _ (m : Machine) (journal : List Entry) (d : Drawn) (h : Holds m journal d
   free_call node n uid (Commit fileid) may = tt
   free_call node n uid (Read fileid at count) may = tt
 
-  sent_by : (node : NodeId) (n xid uid : ℕ) (call : DsCallValue) → IsCallOf d m.servers m.next_name n call → is_new_number m xid node ≡ true → HoldsAfter m journal d h (record { machine = puts_out m node xid (Call node n xid uid call); entries = [] })
-  sent_by Mds n xid uid call is new =
-      let later = later_sent net n xid uid call (all_stand m journal d h) (ltb-true m.last_xid xid new) in
-      let last : Net = net_of (then (m.packets ++ Call Mds n xid uid call ∷ []) xid) d in (
+  sent_by : (node : NodeId) (n xid uid gid : ℕ) (call : DsCallValue) → IsCallOf d m.servers m.next_name n call → is_new_number m node xid ≡ true → HoldsAfter m journal d h (record { machine = puts_out m node xid (Call node n xid uid gid call); entries = [] })
+  sent_by Mds n xid uid gid call is new =
+      let later = later_sent net n xid uid gid call (all_stand m journal d h) (ltb-true (m.last_xid Mds) xid new) in
+      let last : Net = net_of (then (m.packets ++ Call Mds n xid uid gid call ∷ []) (with_number m.last_xid Mds xid)) d in (
         d,
-        sent_holds (m.packets ++ Call Mds n xid uid call ∷ []) xid later
-            (all_append (IsPacket last) m.packets (Call Mds n xid uid call ∷ []) (all_more (IsPacket net) (IsPacket last) m.packets (packet_on net last later) h.packets) ((omega arith, is), tt)),
+        sent_holds (m.packets ++ Call Mds n xid uid gid call ∷ []) (with_number m.last_xid Mds xid) later
+            (all_append (IsPacket last) m.packets (Call Mds n xid uid gid call ∷ []) (all_more (IsPacket net) (IsPacket last) m.packets (packet_on net last later) h.packets) ((omega arith, is), tt)),
       )
-  sent_by (Server k) n xid uid call is new = (d, with_packet (Call (Server k) n xid uid call) (λ x server c all. tt) (tt, is))
-  sent_by (Client k) n xid uid call is new = (d, with_packet (Call (Client k) n xid uid call) (λ x server c all. tt) (tt, is))
+  sent_by (Server k) n xid uid gid call is new = (d, with_packet (with_number m.last_xid (Server k) xid) refl (Call (Server k) n xid uid gid call) (λ x server c all. tt) (tt, is))
+  sent_by (Client k) n xid uid gid call is new = (d, with_packet (with_number m.last_xid (Client k) xid) refl (Call (Client k) n xid uid gid call) (λ x server c all. tt) (tt, is))
 
-  pub uses_ok : (node : NodeId) (n xid uid : ℕ) (call : DsCallValue) → HoldsAfter m journal d h (used m node n xid uid call)
-  uses_ok node n xid uid call =
-      cond_both (may_use m node uid call && is_new_number m xid node) (record { machine = puts_out m node xid (Call node n xid uid call); entries = [] }) (no_move m) (HoldsAfter m journal d h)
-      (λ e. let parts = and_parts (may_use m node uid call) (is_new_number m xid node) e in sent_by node n xid uid call (free_call node n uid call parts.0) parts.1)
+  pub uses_ok : (node : NodeId) (n xid uid gid : ℕ) (call : DsCallValue) → HoldsAfter m journal d h (used m node n xid uid gid call)
+  uses_ok node n xid uid gid call =
+      cond_both (may_use m node uid call && is_new_number m node xid) (record { machine = puts_out m node xid (Call node n xid uid gid call); entries = [] }) (no_move m) (HoldsAfter m journal d h)
+      (λ e. let parts = and_parts (may_use m node uid call) (is_new_number m node xid) e in sent_by node n xid uid gid call (free_call node n uid call parts.0) parts.1)
       (λ e. no_step m journal d h)
 
   -- ---- an entry

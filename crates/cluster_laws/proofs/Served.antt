@@ -21,9 +21,9 @@ use Rattle.cluster_model.specs.DsCalls.{DsCallValue, Create, SetAttr, Write, Com
 use Rattle.cluster_model.specs.GuardLaws.{IsInOrder, WasAsked, MayCome, Follows, Came, Stayed, WasGiven, WasMade, target, IsSeen, Shows, IsOwners, IsByOwner, IsOfServer, CallLaws}
 use Rattle.cluster_model.specs.declared.layout_state.LayoutPhase.TheVariants as phase
 use Rattle.cluster_model.specs.Phases.{ids_of}
-use Rattle.cluster_model.specs.MdsFiles.{MdsFile}
-use Rattle.cluster_model.specs.Machine.{PacketValue, Call, Reply, Machine, numbered_at, with_server, caller_by_uid, file_id}
-use Rattle.cluster_model.specs.FenceLaw.{live_in, live_after, is_among}
+use Rattle.cluster_laws.specs.MdsFiles.{MdsFile}
+use Rattle.cluster_laws.specs.Machine.{PacketValue, Call, Reply, Machine, numbered_at, with_server, caller_by, file_id}
+use Rattle.cluster_laws.specs.FenceLaw.{live_in, live_after, is_among}
 use Rattle.cluster_laws.proofs.Facts.{OwnedFrom, HasGiven}
 use Rattle.cluster_laws.proofs.Names.{name_is}
 use Rattle.cluster_laws.proofs.Lists.{all_append, all_more, all_at, all_split, all_by_split, push_old, put_same, same_numbered, there_is, at_place}
@@ -136,25 +136,25 @@ module _ (calls : (s : ServerState) (caller : Caller) (call : DsCallValue) → I
 
     -- ---- the machine then
 
-    module _ (from : NodeId) (xid uid : ℕ) (call : DsCallValue) (sent : HasCall m.packets from n xid call) where
+    module _ (from : NodeId) (xid uid gid : ℕ) (call : DsCallValue) (sent : HasCall m.packets from n xid call) where
       abbrev net : Net
       net = net_of m d
 
       abbrev step : DsStep
-      step = ds_step s (caller_by_uid uid) call
+      step = ds_step s (caller_by uid gid) call
 
-      laws : CallLaws s (caller_by_uid uid) call step.server step.reply step.entries
-      laws = calls s (caller_by_uid uid) call (h.servers n s there).in_order
+      laws : CallLaws s (caller_by uid gid) call step.server step.reply step.entries
+      laws = calls s (caller_by uid gid) call (h.servers n s there).in_order
 
       abbrev answer : PacketValue
-      answer = Reply n from xid step.reply
+      answer = Reply sent.place n from xid step.reply
 
       abbrev after : Machine
       after = with_server m n step.server (m.packets ++ answer ∷ [])
 
       -- the call is such as is ever made
       is_call : IsCallOf d m.servers m.next_name n call
-      is_call = (all_at (IsPacket net) m.packets sent.place (Call from n xid sent.uid call) h.packets sent.there).1
+      is_call = (all_at (IsPacket net) m.packets sent.place (Call from n xid sent.uid sent.gid call) h.packets sent.there).1
 
       may_come : (c : DsCallValue) → IsCallOf d m.servers m.next_name n c → MayCome s c
       may_come (Create name owner) k = tt
@@ -194,7 +194,7 @@ module _ (calls : (s : ServerState) (caller : Caller) (call : DsCallValue) → I
       replied (Failed status shown) k = given_if shown k
 
       answered : IsPacket (net_of after d) answer
-      answered = record { call = call; sent = record { place = sent.place; uid = sent.uid; there = push_old m.packets (answer ∷ []) sent.place _ sent.there }; shows = replied step.reply laws.shows }
+      answered = record { answer = record { call = call; sent = record { place = sent.place; uid = sent.uid; gid = sent.gid; there = push_old m.packets (answer ∷ []) sent.place _ sent.there }; shows = replied step.reply laws.shows }; at = refl }
 
       -- ---- the servers
 
@@ -259,5 +259,5 @@ module _ (calls : (s : ServerState) (caller : Caller) (call : DsCallValue) → I
       pub served_holds : Holds after (journal ++ step.entries) d
       served_holds =
           changed_holds m journal d h n s there step.server follows (m.packets ++ answer ∷ []) (λ place p is. push_old m.packets (answer ∷ []) place p is) (λ x server c all. all_append _ m.packets (answer ∷ []) all (tt, tt))
-          step.entries laws.of_server (subst (λ (j : List Entry). AreRight j step.entries) (append-nil journal) (rights (caller_by_uid uid) [] step.entries tt laws.of_server laws.owners)) this_server
+          step.entries laws.of_server (subst (λ (j : List Entry). AreRight j step.entries) (append-nil journal) (rights (caller_by uid gid) [] step.entries tt laws.of_server laws.owners)) this_server
           (all_append (IsPacket (net_of after d)) m.packets (answer ∷ []) (all_more (IsPacket net) (IsPacket (net_of after d)) m.packets (packet_on net (net_of after d) later) h.packets) (answered, tt))

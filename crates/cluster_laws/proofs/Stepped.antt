@@ -5,9 +5,10 @@ use Rattle.std.proofs.lemmas.Bool.{cond_both, and_parts, ltb-true}
 use Rattle.cluster_model.specs.declared.ids.MirrorId.{MirrorId}
 use Rattle.cluster_model.specs.declared.entry.Entry.{Entry}
 use Rattle.cluster_model.specs.Journal.{Copy, copy_after}
-use Rattle.cluster_model.specs.MdsFiles.{MdsFile, FileStep}
-use Rattle.cluster_model.specs.FilePhases.{FileInput, end_of_uids, phase}
-use Rattle.cluster_model.specs.Machine.{Machine, MachineStep, Holding, no_move, numbered_at, with_file, fresh_of, held_by, copier_of, file_id, can_draw, file_stepped, file_takes}
+use Rattle.cluster_model.specs.Phases.{ids_of}
+use Rattle.cluster_laws.specs.MdsFiles.{MdsFile, FileStep}
+use Rattle.cluster_laws.specs.FilePhases.{FileInput, end_of_uids, phase}
+use Rattle.cluster_laws.specs.Machine.{Machine, MachineStep, Holding, no_move, numbered_at, with_file, fresh_of, held_by, file_id, can_draw, file_stepped, file_takes}
 use Rattle.cluster_laws.proofs.Lists.{all_more}
 use Rattle.cluster_laws.proofs.Invariant.{Drawn, Net, IsPacket, net_of, Holds}
 use Rattle.cluster_laws.proofs.Onward.{Later, packet_on}
@@ -82,11 +83,11 @@ module _ (m : Machine) (journal : List Entry) (d : Drawn) (h : Holds m journal d
 
   pub step_ok : (n : ℕ) (f : MdsFile) → numbered_at m.files n ≡ Some f → (s : FileStep) → StepOk net journal n m.next_uid s → HoldsAfter (file_stepped m n s)
   step_ok n f there s ok =
-      cond_both (can_draw m s.uids s.names) (record { machine = with_file m n s (held_by s.entries ++ copier_of (file_id n) m.next_uid s); entries = s.entries }) (no_move m) HoldsAfter
-      (λ e. step_taken n f there s (held_by s.entries ++ copier_of (file_id n) m.next_uid s) ok (few_by s.uids s.names e)) (λ e. no_step)
+      cond_both (can_draw m s.uids s.names) (record { machine = with_file m n s (held_by (ids_of s.file.layout.live) s.entries); entries = s.entries }) (no_move m) HoldsAfter
+      (λ e. step_taken n f there s (held_by (ids_of s.file.layout.live) s.entries) ok (few_by s.uids s.names e)) (λ e. no_step)
 
   -- an input comes to a file, if it is there
-  pub takes_ok : (n : ℕ) (input : FileInput) → IsInput net input → (f : Option MdsFile) → numbered_at m.files n ≡ f → HoldsAfter (file_takes m n input f)
+  pub takes_ok : (n : ℕ) (input : FileInput) → ((f : MdsFile) → numbered_at m.files n ≡ Some f → IsInput net f input) → (f : Option MdsFile) → numbered_at m.files n ≡ f → HoldsAfter (file_takes m n input f)
   takes_ok n input brought None there = no_step
   takes_ok n input brought (Some f) there =
-      step_ok n f there (phase (file_id n) f input (fresh_of m)) (phase_ok net n m.next_uid (length m.files) (length m.servers) journal (known_now m journal d h) f (h.files n f there) input brought)
+      step_ok n f there (phase (file_id n) f input (fresh_of m)) (phase_ok net n m.next_uid (length m.files) (length m.servers) journal (known_now m journal d h) f (h.files n f there) input (brought f there))

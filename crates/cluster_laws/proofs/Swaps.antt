@@ -1,7 +1,7 @@
 -- A copy ends: its targets come into the live list, and a fence begins.
 use Rattle.std.proofs.Common.{◌≡◌, ◌≢◌, ℕ, ◌+◌, ◌≤◌, true, List, [], ◌∷◌, ◌++◌, Option, Some, None, refl, ap, subst, ◌∙◌, arith}
-use Rattle.std.specs.List.{AllByRecursion}
-use Rattle.std.proofs.lemmas.Bool.{cond_both, and_parts}
+use Rattle.std.specs.List.{AllByRecursion, flat_map}
+use Rattle.std.proofs.lemmas.Bool.{cond_both}
 use Rattle.cluster_model.specs.declared.ids.MirrorId.{MirrorId}
 use Rattle.cluster_model.specs.declared.ids.Mirror.{Mirror}
 use Rattle.cluster_model.specs.declared.entry.Entry.{Entry}
@@ -10,13 +10,13 @@ use Rattle.cluster_model.specs.declared.layout_state.LayoutState.{LayoutState}
 use Rattle.cluster_model.specs.declared.layout_state.FenceEnd.TheVariants.{Copied}
 use Rattle.cluster_model.specs.Mirrors.{are_on_different_servers}
 use Rattle.cluster_model.specs.Phases.{ids_of, SwappedIn, with_targets, swapped_entries}
-use Rattle.cluster_model.specs.MdsFiles.{Creation, Creations, Copies, nothing, a_uid, swap_of, swaps_of, copied_by}
-use Rattle.cluster_model.specs.FilePhases.{may_swap, targets_hold}
-use Rattle.cluster_model.specs.Machine.{file_id}
-use Rattle.cluster_model.specs.FenceLaw.{live_in, live_by}
+use Rattle.copy_rule.specs.Copies.{CopyTarget, CopyState, has_outcome, swap_of, swaps_of}
+use Rattle.cluster_laws.specs.MdsFiles.{Copies, stays, a_uid, copied_by, copied_on}
+use Rattle.cluster_laws.specs.Machine.{file_id}
+use Rattle.cluster_laws.specs.FenceLaw.{live_in, live_by}
 use Rattle.cluster_laws.proofs.Facts.{OwnedFrom, owned_less}
 use Rattle.cluster_laws.proofs.Lists.{all_more}
-use Rattle.cluster_laws.proofs.Invariant.{Net, FenceNote, fence_in, If, KeepsOwner, IsFencedTo, IsMirrorOf, IsCreationOf, live_of, IsFile, AreRight}
+use Rattle.cluster_laws.proofs.Invariant.{Net, FenceNote, fence_in, If, KeepsOwner, IsFencedTo, IsMirrorOf, IsTargetOf, live_of, IsFile, AreRight}
 use Rattle.cluster_laws.proofs.Journals.{live_append}
 use Rattle.cluster_laws.proofs.Moved.{IsNote}
 use Rattle.cluster_laws.proofs.Rows.{swapped_note, fence_begins}
@@ -25,6 +25,7 @@ use Rattle.cluster_laws.proofs.FenceSteps.{nothing_new}
 use Rattle.cluster_laws.proofs.CopySteps.{frees, StepOk, Plain, Draws}
 use Rattle.cluster_laws.proofs.Draws.{drawn_net, later_drawn, top_here}
 use Rattle.cluster_laws.proofs.Known.{Known, fresh_from}
+use Rattle.cluster_laws.proofs.Plans.{IsOnServer, swap_apart}
 
 -- ---- the entries of targets that come in
 
@@ -42,14 +43,14 @@ swapped_right n before (t ∷ targets) = (tt, swapped_right n (before ++ entry.S
 
 -- ---- the targets that were made
 
-all_swaps : (net : Net) (n owner : ℕ) (P : Mirror → Type 0) (items : List Creation) → AllByRecursion (IsCreationOf net n owner) items → ((c : Creation) (m : Mirror) → IsCreationOf net n owner c → c.made ≡ Some m → P m)
-    → AllByRecursion (λ t. P t.new) (swaps_of (record { owner = owner; items = items }))
-all_swaps net n owner P [] h f = tt
-all_swaps net n owner P (c ∷ items) h f = by_made c.made refl (all_swaps net n owner P items h.1 f)
+all_swaps : (net : Net) (n copier at : ℕ) (piece : List ℕ) (P : Mirror → Type 0) (targets : List CopyTarget) → AllByRecursion (IsTargetOf net n copier at piece) targets → ((t : CopyTarget) (m : Mirror) → IsTargetOf net n copier at piece t → t.made ≡ Some m → P m)
+    → AllByRecursion (λ x. P x.new) (flat_map (λ t. swap_of t t.made) targets)
+all_swaps net n copier at piece P [] h f = tt
+all_swaps net n copier at piece P (t ∷ targets) h f = by_made t.made refl (all_swaps net n copier at piece P targets h.1 f)
   where
-    by_made : (o : Option Mirror) → c.made ≡ o → AllByRecursion (λ t. P t.new) (swaps_of (record { owner = owner; items = items })) → AllByRecursion (λ t. P t.new) (swap_of c o ++ swaps_of (record { owner = owner; items = items }))
+    by_made : (o : Option Mirror) → t.made ≡ o → AllByRecursion (λ x. P x.new) (flat_map (λ y. swap_of y y.made) targets) → AllByRecursion (λ x. P x.new) (swap_of t o ++ flat_map (λ y. swap_of y y.made) targets)
     by_made None is ih = ih
-    by_made (Some m) is ih = (f c m h.0 is, ih)
+    by_made (Some m) is ih = (f t m h.0 is, ih)
 
 -- a mirror that belongs to a uid, or a later one, keeps its owner where the file was fenced up to that uid
 keeps_up_to : (net : Net) (n uid : ℕ) (id : MirrorId) → OwnedFrom net.servers id uid → (x : Option FenceNote) → If x (λ y. y.file ≡ n → y.new ≤ uid) → If x (λ y. y.file ≡ n → OwnedFrom net.servers id y.new)
@@ -58,8 +59,8 @@ keeps_up_to net n uid id owned (Some x) up = λ e. owned_less net.servers id uid
 
 module _ (net : Net) (n next_uid files : ℕ) (journal : List Entry) (known : Known net next_uid files journal) where
   -- a target that was made is a mirror of the file
-  made_mirror : (owner : ℕ) → AllByRecursion (IsFencedTo n owner) journal → (c : Creation) (m : Mirror) → IsCreationOf net n owner c → c.made ≡ Some m → IsMirrorOf net n journal m
-  made_mirror owner fences c m h is =
+  made_mirror : (owner at : ℕ) (piece : List ℕ) → AllByRecursion (IsFencedTo n owner) journal → (c : CopyTarget) (m : Mirror) → IsTargetOf net n owner at piece c → c.made ≡ Some m → IsMirrorOf net n journal m
+  made_mirror owner at piece fences c m h is =
       let made = h.made m is in
       let owned : OwnedFrom net.servers m.id owner = subst (λ (uid : ℕ). OwnedFrom net.servers m.id uid) h.low (known.lowest m.id c.name made.1 h.drawn) in
       record {
@@ -71,7 +72,7 @@ module _ (net : Net) (n next_uid files : ℕ) (journal : List Entry) (known : Kn
         owned = all_more (IsFencedTo n owner) (KeepsOwner net.servers n m.id) journal (λ e k. keeps_up_to net n owner m.id owned (fence_in e) k) fences;
       }
 
-  module _ (servers : ℕ) (s : LayoutState) (all : Creations) (h : IsFile net journal n (record { layout = s; activity = Copies all })) where
+  module _ (servers : ℕ) (s : LayoutState) (c : CopyState) (h : IsFile net journal n (record { layout = s; activity = Copies c })) where
     live_copying : live_of s.phase (ids_of s.live) ≡ Some (ids_of s.live)
     live_copying = ap (λ p. live_of p (ids_of s.live)) h.busy.phase
 
@@ -83,10 +84,10 @@ module _ (net : Net) (n next_uid files : ℕ) (journal : List Entry) (known : Kn
 
     -- with these targets the copy ends
     swaps : (targets : List SwappedIn) → AllByRecursion (λ t. IsMirrorOf net n journal t.new) targets → are_on_different_servers (with_targets targets s.live) ≡ true
-        → StepOk net journal n next_uid (copied_by (file_id n) s (a_uid all.owner) targets (fresh_from net next_uid servers))
-    swaps [] mirrors apart = Plain refl refl (frees net n next_uid journal s (Copies all) h live_copying)
+        → StepOk net journal n next_uid (copied_by (file_id n) s (a_uid c.copier) targets (fresh_from net next_uid servers))
+    swaps [] mirrors apart = Plain refl refl (frees net n next_uid journal s (Copies c) h live_copying)
     swaps (t ∷ targets) mirrors apart =
-        let copied : LayoutState = record { wanted = s.wanted; cred = a_uid all.owner; live = s.live; phase = s.phase } in
+        let copied : LayoutState = record { wanted = s.wanted; cred = a_uid c.copier; live = s.live; phase = s.phase } in
         let later = h.busy.later in
         let up = h.busy.top in
         let less = known.tops n in
@@ -98,10 +99,12 @@ module _ (net : Net) (n next_uid files : ℕ) (journal : List Entry) (known : Kn
               (swapped_live (t ∷ targets)) apart (all_targets (IsMirrorOf net n journal) (t ∷ targets) s.live h.mirrors mirrors);
         })
 
-pub swaps_ok : (net : Net) (n next_uid files servers : ℕ) (journal : List Entry) → Known net next_uid files journal → (s : LayoutState) (all : Creations)
-    → IsFile net journal n (record { layout = s; activity = Copies all })
-    → StepOk net journal n next_uid (targets_hold (file_id n) (record { layout = s; activity = Copies all }) (fresh_from net next_uid servers) (a_uid all.owner) all)
-swaps_ok net n next_uid files servers journal known s all h =
-    cond_both (may_swap s all) (copied_by (file_id n) s (a_uid all.owner) (swaps_of all) (fresh_from net next_uid servers)) (nothing (record { layout = s; activity = Copies all })) (StepOk net journal n next_uid)
-    (λ e. swaps net n next_uid files journal known servers s all h (swaps_of all) (all_swaps net n all.owner (IsMirrorOf net n journal) all.items h.busy.items (made_mirror net n next_uid files journal known all.owner h.busy.fences)) (and_parts _ _ e).1)
+-- where the copy has its outcome
+pub copied_on_ok : (net : Net) (n next_uid files servers : ℕ) (journal : List Entry) → Known net next_uid files journal → (s : LayoutState) (c : CopyState)
+    → IsFile net journal n (record { layout = s; activity = Copies c })
+    → StepOk net journal n next_uid (copied_on (file_id n) s c (fresh_from net next_uid servers))
+copied_on_ok net n next_uid files servers journal known s c h =
+    cond_both (has_outcome c) (copied_by (file_id n) s (a_uid c.copier) (swaps_of c) (fresh_from net next_uid servers)) (stays s (Copies c)) (StepOk net journal n next_uid)
+    (λ e. swaps net n next_uid files journal known servers s c h (swaps_of c)
+    (all_swaps net n c.copier c.at c.piece (IsMirrorOf net n journal) c.targets h.busy.targets (made_mirror net n next_uid files journal known c.copier c.at c.piece h.busy.fences)) (swap_apart c.targets s.live (all_more (IsTargetOf net n c.copier c.at c.piece) IsOnServer c.targets (λ t k m is. (k.made m is).0) h.busy.targets) h.apart h.busy.plan))
     (λ e. Plain refl refl (nothing_new net journal n next_uid _ h))

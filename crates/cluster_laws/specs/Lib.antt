@@ -1,2 +1,12 @@
-pub mod Telling
+pub mod MdsFiles
+pub mod FilePhases
+pub mod Machine
+pub mod FenceLaw
+pub mod Agreement
 pub mod WorkedRuns
+pub mod CopyRuns
+pub mod Periods
+pub mod Telling
+pub mod BadJournals
+pub mod Holders
+pub mod Keeping

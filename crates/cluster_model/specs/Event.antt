@@ -3,13 +3,6 @@ use Rattle.std.specs.Prelude.{ℕ, List}
 use Rattle.cluster_model.specs.declared.ids.NodeId.{NodeId}
 use Rattle.cluster_model.specs.declared.piece.Piece.{Piece}
 
--- Which machines there are.
-pub data SetupValue : Type 0 where
-  -- one preset data server, and no other machine
-  Bare : SetupValue
-  -- the metadata server, so many data servers, so many mirrors of each file, and so many clients
-  Cluster : ℕ → ℕ → ℕ → SetupValue
-
 pub data EventValue : Type 0 where
   -- bare: a record comes from client 0 to the one data server
   Deliver : List ℕ → EventValue

@@ -14,9 +14,4 @@ pub mod Event
 pub mod Nodes
 pub mod Fences
 pub mod Phases
-pub mod MdsFiles
-pub mod FilePhases
-pub mod Machine
-pub mod FenceLaw
-pub mod Agreement
 pub mod GuardLaws

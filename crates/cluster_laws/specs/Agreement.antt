@@ -11,7 +11,7 @@ use Rattle.cluster_model.specs.Content.{Pending, Content, shown_of, overlay_all}
 use Rattle.cluster_model.specs.Journal.{content_of}
 use Rattle.cluster_model.specs.Laws.{AreDisjoint, byte_at}
 use Rattle.cluster_model.specs.Phases.{is_clean}
-use Rattle.cluster_model.specs.FenceLaw.{is_file, live_in}
+use Rattle.cluster_laws.specs.FenceLaw.{is_file, live_in}
 
 -- ---- what a journal says of a user
 
@@ -86,11 +86,11 @@ pub record IsCleanStep (journal : List Entry) (uid : ℕ) (old new : List ℕ) :
   pub bytes : new ≡ overlay_all old (sent_of uid journal)
 
 -- A dirty end, by what was written until the file is free again: each byte is the old one or a written one; where a write was told,
--- it is that write's, or one that strayed; and the length is between those that were told and those that were written.
+-- it is that write's, or one that strayed until then; and the length is between those that were told and those that were written.
 pub record IsDirtyStep (journal until : List Entry) (uid : ℕ) (old new : List ℕ) : Type 0 where
   pub bytes : (place : ℕ) → place < length new → (byte_at new place ≡ byte_at old place) ⊎ IsByteOfOne (sent_of uid until ++ rogue_of uid until) place (byte_at new place)
   pub told : (k place : ℕ) (w : Pending) → slice_get (told_of uid journal) k ≡ Some w → covers w place
-      → (byte_at new place ≡ byte_at w.bytes (place - w.at)) ⊎ IsByteOfOne (rogue_of uid journal) place (byte_at new place)
+      → (byte_at new place ≡ byte_at w.bytes (place - w.at)) ⊎ IsByteOfOne (rogue_of uid until) place (byte_at new place)
   pub least : max (length old) (furthest_end (told_of uid journal)) ≤ length new
   pub most : length new ≤ max (length old) (furthest_end (sent_of uid until ++ rogue_of uid until))
 

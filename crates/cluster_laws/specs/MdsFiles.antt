@@ -1,6 +1,6 @@
 -- A file at the metadata server, with the calls that it has under way (RFC 8435, section 2.2): what each input of the table of phases
 -- does to it, and each answer and timeout of its calls.
-use Rattle.std.specs.Prelude.{ℕ, ◌+◌, ◌-◌, Bool, true, false, not, List, [], ◌∷◌, ◌++◌, length, filter, take, drop, position, Option, Some, None, nat_lt, if◌then◌else◌, slice_get, slice_set}
+use Rattle.std.specs.Prelude.{ℕ, ◌+◌, ◌-◌, not, List, [], ◌∷◌, ◌++◌, length, filter, take, drop, position, Option, Some, None, nat_lt, if◌then◌else◌, slice_get, slice_set}
 use Rattle.std.specs.List.{list_all, flat_map, range_with_len}
 use Rattle.std.specs.Option.{option_to_list}
 use Rattle.cluster_model.specs.declared.tick.Tick.{Tick}
@@ -26,15 +26,15 @@ use Rattle.cluster_model.specs.Mirrors.{has_server}
 use Rattle.cluster_model.specs.DsCalls.{DsReplyValue, Created, Set, Written, Committed, Bytes, NotSync, Failed}
 use Rattle.cluster_model.specs.Fences.{is_out, is_over, odd_status, FenceState, fence_of, outstanding_at, on_reply, on_timeout, without, is_done}
 use Rattle.cluster_model.specs.Phases.{seen_at, is_last_live, with_live, PhaseStep, made, mirror_left, fence_done, settled_row, SwappedIn, copied, has_targets}
+use Rattle.copy_rule.specs.Copies.{Target, CopyState, CopyStep, is_given_up, copy_of, swaps_of, has_outcome}
+use Rattle.copy_rule.specs.Copies as copy
 
--- ---- files that are made at data servers: those of a new file, and the targets of a copy
+-- ---- the files that are made at data servers for a new file
 
 pub record Creation : Type 0 where
   pub server : ℕ
-  -- the number in its name, drawn once
+  -- the number in its name
   pub name : ℕ
-  -- the live mirror in whose place it is to come
-  pub replaced : Option MirrorId
   pub stage : CallStage
   pub made : Option Mirror
 
@@ -43,13 +43,13 @@ pub record Creations : Type 0 where
   pub owner : ℕ
   pub items : List Creation
 
--- What a file has under way: CREATEs, a fence, the COMMIT of the mirror from which the others are to be copied, the targets of the copy.
+-- What a file has under way: CREATEs, a fence, the COMMIT of the mirror from which the others are to be copied, the copy.
 pub data Activity : Type 0 where
   Idle : Activity
   Makes : Creations → Activity
   Fences : FenceState → Activity
   Settles : CallStage → Activity
-  Copies : Creations → Activity
+  Copies : CopyState → Activity
 
 pub record MdsFile : Type 0 where
   pub layout : LayoutState
@@ -147,19 +147,11 @@ fence_timed_out file layout fence xid = fence_stepped file layout (on_timeout fe
 
 -- ---- CREATEs
 
-abbrev pub is_given_up : CallStage → Bool
-is_given_up Waits = false
-is_given_up (Out xid timeouts) = false
-is_given_up (KeptOut xid) = false
-is_given_up KeptBack = false
-is_given_up Done = false
-is_given_up GivenUp = true
-
 abbrev pub in_stage : Creation → CallStage → Creation
-in_stage c stage = record { server = c.server; name = c.name; replaced = c.replaced; stage = stage; made = c.made }
+in_stage c stage = record { server = c.server; name = c.name; stage = stage; made = c.made }
 
 abbrev pub made_as : Creation → ℕ → Tick → Creation
-made_as c fileid seen = record { server = c.server; name = c.name; replaced = c.replaced; stage = Done; made = Some (record { id = record { server = c.server; fileid = fileid }; seen = seen }) }
+made_as c fileid seen = record { server = c.server; name = c.name; stage = Done; made = Some (record { id = record { server = c.server; fileid = fileid }; seen = seen }) }
 
 abbrev pub with_creation : Creations → ℕ → Creation → Creations
 with_creation all place c = record { owner = all.owner; items = slice_set all.items place c }
@@ -218,103 +210,94 @@ making_by file layout all step (Some place) = making_at file layout all step pla
 abbrev pub servers_without : ℕ → List Mirror → List ℕ
 servers_without count live = filter (λ n. not (has_server live n)) (range_with_len 1 count)
 
-abbrev pub replacing : ℕ → List Mirror → List Creation
+abbrev pub replacing : ℕ → List Mirror → List Target
 replacing name [] = []
-replacing name (m ∷ live) = record { server = m.id.server; name = name; replaced = Some m.id; stage = Waits; made = None } ∷ replacing (name + 1) live
+replacing name (m ∷ live) = record { server = m.id.server; name = name; replaced = Some m.id } ∷ replacing (name + 1) live
 
-abbrev pub adding : ℕ → List ℕ → List Creation
+abbrev pub adding : ℕ → List ℕ → List Target
 adding name [] = []
-adding name (n ∷ servers) = record { server = n; name = name; replaced = None; stage = Waits; made = None } ∷ adding (name + 1) servers
+adding name (n ∷ servers) = record { server = n; name = name; replaced = None } ∷ adding (name + 1) servers
 
 -- the plan of a copy: after a dirty end each live mirror but the first is replaced, on its server; else mirrors are added
-abbrev pub targets_of : CopyKind → LayoutState → Fresh → List Creation
-targets_of Replacing layout fresh = replacing fresh.name (drop 1 layout.live)
-targets_of Adding layout fresh = adding fresh.name (take (layout.wanted - length layout.live) (servers_without fresh.servers layout.live))
+abbrev pub plan_of : CopyKind → LayoutState → Fresh → List Target
+plan_of Replacing layout fresh = replacing fresh.name (drop 1 layout.live)
+plan_of Adding layout fresh = adding fresh.name (take (layout.wanted - length layout.live) (servers_without fresh.servers layout.live))
 
-abbrev pub copying : LayoutState → Fresh → List Creation → FileStep
-copying layout fresh targets = record { file = record { layout = layout; activity = Copies (record { owner = fresh.uid; items = targets }) }; entries = []; uids = 1; names = length targets }
+-- the first live mirror, of which each file has one
+abbrev pub source_of : List Mirror → MirrorId
+source_of [] = record { server = 0; fileid = 0 }
+source_of (m ∷ live) = m.id
+
+-- a copy begins
+abbrev pub copying : LayoutState → Fresh → List Target → FileStep
+copying layout fresh plan = record { file = record { layout = layout; activity = Copies (copy_of (source_of layout.live) plan fresh.uid) }; entries = []; uids = 1; names = length plan }
 
 -- the source is committed
 abbrev pub settled : FileId → LayoutState → CopyKind → Fresh → FileStep
 settled file layout copies fresh =
     if has_targets copies (length layout.live) layout.wanted
-    then copying (settled_row file layout copies (a_uid fresh.uid)).file fresh (targets_of copies layout fresh)
+    then copying (settled_row file layout copies (a_uid fresh.uid)).file fresh (plan_of copies layout fresh)
     else goes_idle (settled_row file layout copies (a_uid fresh.uid)) 0
 
 -- the source fails: it leaves, and the next one is to be committed; the last one is kept
-abbrev pub source_left : FileId → LayoutState → List Mirror → LeftCause → CallStage → FileStep
-source_left file layout [] cause kept = stays layout (Settles kept)
+abbrev pub source_left : FileId → LayoutState → List Mirror → LeftCause → Activity → FileStep
+source_left file layout [] cause kept = stays layout kept
 source_left file layout (m ∷ live) cause kept =
-    if is_last_live layout.live then stays layout (Settles kept)
+    if is_last_live layout.live then stays layout kept
     else record { file = record { layout = (mirror_left file layout m.id cause).file; activity = Settles Waits }; entries = (mirror_left file layout m.id cause).entries; uids = 0; names = 0 }
+
+-- the ctime that an answer to a COMMIT shows at the source
+abbrev pub shown_by_commit : DsReplyValue → Option Shown
+shown_by_commit (Created fileid shown) = None
+shown_by_commit (Set shown) = None
+shown_by_commit (Written shown verifier) = None
+shown_by_commit (Committed shown verifier) = shown
+shown_by_commit (Bytes shown eof bytes) = None
+shown_by_commit (NotSync shown) = None
+shown_by_commit (Failed status shown) = shown
+
+abbrev pub seen_at_source : LayoutState → List Mirror → Option Shown → LayoutState
+seen_at_source layout [] shown = layout
+seen_at_source layout (m ∷ live) None = layout
+seen_at_source layout (m ∷ live) (Some shown) = with_live layout (seen_at m.id shown.seen layout.live)
 
 -- an answer to the COMMIT, and a timeout of it
 abbrev pub settling_answered : FileId → LayoutState → CopyKind → Fresh → DsReplyValue → FileStep
-settling_answered file layout copies fresh (Created fileid shown) = source_left file layout layout.live (Error odd_status) KeptBack
-settling_answered file layout copies fresh (Set shown) = source_left file layout layout.live (Error odd_status) KeptBack
-settling_answered file layout copies fresh (Written shown verifier) = source_left file layout layout.live (Error odd_status) KeptBack
+settling_answered file layout copies fresh (Created fileid shown) = source_left file layout layout.live (Error odd_status) (Settles KeptBack)
+settling_answered file layout copies fresh (Set shown) = source_left file layout layout.live (Error odd_status) (Settles KeptBack)
+settling_answered file layout copies fresh (Written shown verifier) = source_left file layout layout.live (Error odd_status) (Settles KeptBack)
 settling_answered file layout copies fresh (Committed shown verifier) = settled file layout copies fresh
-settling_answered file layout copies fresh (Bytes shown eof bytes) = source_left file layout layout.live (Error odd_status) KeptBack
-settling_answered file layout copies fresh (NotSync shown) = source_left file layout layout.live (Error odd_status) KeptBack
-settling_answered file layout copies fresh (Failed status shown) = source_left file layout layout.live (Error status) KeptBack
+settling_answered file layout copies fresh (Bytes shown eof bytes) = source_left file layout layout.live (Error odd_status) (Settles KeptBack)
+settling_answered file layout copies fresh (NotSync shown) = source_left file layout layout.live (Error odd_status) (Settles KeptBack)
+settling_answered file layout copies fresh (Failed status shown) = source_left file layout layout.live (Error status) (Settles KeptBack)
 
 abbrev pub settling_timed_out : FileId → LayoutState → CallStage → FileStep
 settling_timed_out file layout Waits = stays layout (Settles Waits)
 settling_timed_out file layout (Out xid timeouts) =
     if nat_lt (timeouts + 1) 3 then stays layout (Settles (Out xid (timeouts + 1)))
-    else source_left file layout layout.live Timeouts (KeptOut xid)
+    else source_left file layout layout.live Timeouts (Settles (KeptOut xid))
 settling_timed_out file layout (KeptOut xid) = stays layout (Settles (KeptOut xid))
 settling_timed_out file layout KeptBack = stays layout (Settles KeptBack)
 settling_timed_out file layout Done = stays layout (Settles Done)
 settling_timed_out file layout GivenUp = stays layout (Settles GivenUp)
 
--- the targets that are left come into the live list
-abbrev pub swap_of : Creation → Option Mirror → List SwappedIn
-swap_of c None = []
-swap_of c (Some m) = record { new = m; old = c.replaced } ∷ []
-
-abbrev pub swaps_of : Creations → List SwappedIn
-swaps_of all = flat_map (λ c. swap_of c c.made) all.items
-
+-- the targets that are left come into the live list, and a fence begins; with none left the file is free
 abbrev pub copied_by : FileId → LayoutState → Cred → List SwappedIn → Fresh → FileStep
 copied_by file layout copier [] fresh = goes_idle (copied file layout copier [] (a_uid fresh.uid)) 0
 copied_by file layout copier (t ∷ targets) fresh = goes_fencing (copied file layout copier (t ∷ targets) (a_uid fresh.uid)) fresh.uid
 
--- a target fails: it is thrown away, and the mirror that it was to replace leaves
-abbrev pub target_left : FileId → LayoutState → Creations → Option MirrorId → LeftCause → FileStep
-target_left file layout all None cause = stays layout (Copies all)
-target_left file layout all (Some id) cause = record { file = record { layout = (mirror_left file layout id cause).file; activity = Copies all }; entries = (mirror_left file layout id cause).entries; uids = 0; names = 0 }
+-- where the copy has its outcome
+abbrev pub copied_on : FileId → LayoutState → CopyState → Fresh → FileStep
+copied_on file layout c fresh = if has_outcome c then copied_by file layout (a_uid c.copier) (swaps_of c) fresh else stays layout (Copies c)
 
-abbrev pub target_failed : FileId → LayoutState → Creations → ℕ → LeftCause → Option Creation → FileStep
-target_failed file layout all place cause None = stays layout (Copies all)
-target_failed file layout all place cause (Some c) =
-    if is_given_up c.stage then stays layout (Copies all)
-    else target_left file layout (with_creation all place (record { server = c.server; name = c.name; replaced = c.replaced; stage = GivenUp; made = None })) c.replaced cause
+-- a target was thrown away: the mirror that it was to replace leaves
+abbrev pub target_left : FileId → LayoutState → CopyState → Fresh → LeftCause → Option MirrorId → FileStep
+target_left file layout c fresh cause None = copied_on file layout c fresh
+target_left file layout c fresh cause (Some id) = with_entries (mirror_left file layout id cause).entries (copied_on file (mirror_left file layout id cause).file c fresh)
 
--- an answer to a target's CREATE
-abbrev pub target_answered : FileId → LayoutState → Creations → ℕ → Creation → DsReplyValue → FileStep
-target_answered file layout all place c (Created fileid shown) = stays layout (Copies (with_creation all place (made_as c fileid shown.seen)))
-target_answered file layout all place c (Set shown) = target_failed file layout all place (Error odd_status) (Some c)
-target_answered file layout all place c (Written shown verifier) = target_failed file layout all place (Error odd_status) (Some c)
-target_answered file layout all place c (Committed shown verifier) = target_failed file layout all place (Error odd_status) (Some c)
-target_answered file layout all place c (Bytes shown eof bytes) = target_failed file layout all place (Error odd_status) (Some c)
-target_answered file layout all place c (NotSync shown) = target_failed file layout all place (Error odd_status) (Some c)
-target_answered file layout all place c (Failed status shown) = target_failed file layout all place (Error status) (Some c)
-
-abbrev pub target_timed_out : FileId → LayoutState → Creations → ℕ → Creation → CallStage → FileStep
-target_timed_out file layout all place c Waits = stays layout (Copies all)
-target_timed_out file layout all place c (Out xid timeouts) =
-    if nat_lt (timeouts + 1) 3 then stays layout (Copies (with_creation all place (in_stage c (Out xid (timeouts + 1)))))
-    else target_failed file layout all place Timeouts (Some c)
-target_timed_out file layout all place c (KeptOut xid) = stays layout (Copies all)
-target_timed_out file layout all place c KeptBack = stays layout (Copies all)
-target_timed_out file layout all place c Done = stays layout (Copies all)
-target_timed_out file layout all place c GivenUp = stays layout (Copies all)
-
-abbrev pub target_at : Creations → (ℕ → Creation → FileStep) → FileStep → ℕ → Option Creation → FileStep
-target_at all step other place None = other
-target_at all step other place (Some c) = step place c
-
-abbrev pub target_by : Creations → (ℕ → Creation → FileStep) → FileStep → Option ℕ → FileStep
-target_by all step other None = other
-target_by all step other (Some place) = target_at all step other place (slice_get all.items place)
+abbrev pub copy_stepped : FileId → LayoutState → CopyState → Fresh → CopyStep → FileStep
+copy_stepped file layout c fresh copy.Stranger = stays layout (Copies c)
+copy_stepped file layout c fresh copy.Waiting = stays layout (Copies c)
+copy_stepped file layout c fresh (copy.SourceFailed cause) = source_left file layout layout.live cause (Copies c)
+copy_stepped file layout c fresh (copy.TargetFailed server replaced cause) = target_left file layout c fresh cause replaced
+copy_stepped file layout c fresh copy.AllHold = copied_on file layout c fresh

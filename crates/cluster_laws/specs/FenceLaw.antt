@@ -1,5 +1,5 @@
 -- The fence law: a client that has lost its layout can no longer change the file (RFC 8435, section 2.2).
-use Rattle.std.specs.Prelude.{◌≡◌, ℕ, ◌+◌, Bool, true, false, not, ◌==◌, List, [], ◌∷◌, ◌++◌, map, filter, Option, Some, None, if◌then◌else◌}
+use Rattle.std.specs.Prelude.{◌≡◌, ℕ, ◌+◌, Bool, false, not, ◌==◌, List, [], ◌∷◌, ◌++◌, map, filter, Option, Some, None, if◌then◌else◌}
 use Rattle.std.specs.List.{list_any, AllByRecursion}
 use Rattle.cluster_model.specs.declared.ids.FileId.{FileId}
 use Rattle.cluster_model.specs.declared.ids.Cred.{Cred}
@@ -8,7 +8,7 @@ use Rattle.cluster_model.specs.declared.entry.Entry.{Entry}
 use Rattle.cluster_model.specs.declared.entry.Entry.TheVariants.{Free, Granted, Left, Swapped, Fenced, Applied}
 use Rattle.cluster_model.specs.Journal.{is_mirror, content_of}
 use Rattle.cluster_model.specs.Server.{ServerState, new_server}
-use Rattle.cluster_model.specs.Machine.{Move, new_machine, journal_of}
+use Rattle.cluster_laws.specs.Machine.{Move, new_machine, journal_of}
 
 -- ---- what a journal says of a file's live mirrors
 
@@ -41,19 +41,6 @@ live_by f live (e ∷ entries) = live_by f (live_after f live e) entries
 
 abbrev pub live_in : List Entry → FileId → Option (List MirrorId)
 live_in journal f = live_by f None journal
-
--- of all entries free and granted of a file, the last is free
-abbrev pub free_after : FileId → Bool → Entry → Bool
-free_after f is_free (Free file mirrors) = if is_file file f then true else is_free
-free_after f is_free (Granted file cred holder) = if is_file file f then false else is_free
-free_after f is_free _ = is_free
-
-abbrev pub free_by : FileId → Bool → List Entry → Bool
-free_by f is_free [] = is_free
-free_by f is_free (e ∷ entries) = free_by f (free_after f is_free e) entries
-
-abbrev pub is_free_in : List Entry → FileId → Bool
-is_free_in journal f = free_by f false journal
 
 abbrev pub is_among : MirrorId → Option (List MirrorId) → Bool
 is_among m None = false

@@ -2,7 +2,7 @@
 -- moves, and all choice is in it: what is delivered, and how often; what is called, repeated or given up; what a restart keeps. A move
 -- that cannot be made does nothing. The journal has no packets (RFC 8435, section 2.2; RFC 1813; RFC 8881, section 12).
 use Rattle.std.specs.Prelude.{ℕ, ◌+◌, ◌-◌, Bool, true, false, ◌==◌, ◌&&◌, not, List, [], ◌∷◌, ◌++◌, length, position, Option, Some, None, nat_lt, if◌then◌else◌, slice_get, slice_set}
-use Rattle.std.specs.List.{list_any}
+use Rattle.std.specs.List.{list_any, flat_map}
 use Rattle.cluster_model.specs.declared.tick.Tick.{Tick}
 use Rattle.cluster_model.specs.declared.ids.NodeId.{NodeId}
 use Rattle.cluster_model.specs.declared.ids.NodeId.TheVariants.{Mds, Server, Client}
@@ -14,21 +14,25 @@ use Rattle.cluster_model.specs.declared.entry.Entry.{Entry}
 use Rattle.cluster_model.specs.declared.entry.Entry.TheVariants as entry
 use Rattle.cluster_model.specs.Nodes.{is_node}
 use Rattle.cluster_model.specs.Server.{ServerState, Caller, restart_of}
+use Rattle.cluster_model.specs.Phases.{ids_of}
 use Rattle.cluster_model.specs.DsCalls.{DsCallValue, Create, SetAttr, Write, Commit, Read, DsReplyValue, Created, Set, Written, Committed, Bytes, NotSync, Failed, DsStep, ds_step}
-use Rattle.cluster_model.specs.MdsFiles.{MdsFile, Fresh, FileStep, a_uid}
-use Rattle.cluster_model.specs.FilePhases.{FileInput, AsksLayout, OwnWrite, Recall, Returns, Revokes, OwnEnds, Resilver, Answers, TimesOut, Ticks, Sees, TargetsHold, TargetFails, SourceFails, new_mds_file, end_of_uids, are_spent, phase, CallOut, call_out, is_outstanding}
+use Rattle.cluster_laws.specs.MdsFiles.{MdsFile, Fresh, FileStep, a_uid}
+use Rattle.cluster_laws.specs.FilePhases.{FileInput, AsksLayout, OwnWrite, Recall, Returns, Revokes, OwnEnds, Resilver, Answers, TimesOut, Ticks, Sees, new_mds_file, end_of_uids, are_spent, phase, CallOut, call_out, is_outstanding}
 
--- ---- packets, of a call or of a reply, with the number of the call
+-- ---- packets
 
+-- A call of a user and a group, and a reply, which tells the place of its call's packet. Both have the number of the call (RFC 5531,
+-- section 9).
 pub data PacketValue : Type 0 where
-  Call : (from : NodeId) (server xid uid : ℕ) (call : DsCallValue) → PacketValue
-  Reply : (server : ℕ) (to : NodeId) (xid : ℕ) (reply : DsReplyValue) → PacketValue
+  Call : (from : NodeId) (server xid uid gid : ℕ) (call : DsCallValue) → PacketValue
+  Reply : (place server : ℕ) (to : NodeId) (xid : ℕ) (reply : DsReplyValue) → PacketValue
 
--- a uid that a node was granted, or draws for a copy
+-- a uid that a node was granted, with the mirrors of its layout
 pub record Holding : Type 0 where
   pub node : NodeId
   pub file : FileId
   pub uid : ℕ
+  pub mirrors : List MirrorId
 
 pub record Machine : Type 0 where
   -- data server n stands at place n - 1, file f at place f - 1
@@ -36,8 +40,8 @@ pub record Machine : Type 0 where
   pub files : List MdsFile
   pub next_uid : ℕ
   pub next_name : ℕ
-  -- the number of the last new call of the metadata server
-  pub last_xid : ℕ
+  -- the number of each node's last new call
+  pub last_xid : NodeId → ℕ
   pub packets : List PacketValue
   pub holdings : List Holding
 
@@ -51,7 +55,7 @@ no_move m = record { machine = m; entries = [] }
 
 -- new data servers, numbered from 1, and no files
 abbrev pub new_machine : List ServerState → Machine
-new_machine servers = record { servers = servers; files = []; next_uid = 65536; next_name = 1; last_xid = 0; packets = []; holdings = [] }
+new_machine servers = record { servers = servers; files = []; next_uid = 65536; next_name = 1; last_xid = λ node. 0; packets = []; holdings = [] }
 
 -- ---- moves
 
@@ -68,8 +72,8 @@ pub data Move : Type 0 where
   SendsAgain : (place : ℕ) → Move
   -- an outstanding call of a file times out
   GivesUpWaiting : (file xid : ℕ) → Move
-  -- a node sends a WRITE or a COMMIT under a uid that it was granted, and a READ under any
-  Uses : (node : NodeId) (server xid uid : ℕ) (call : DsCallValue) → Move
+  -- a node sends a WRITE or a COMMIT under a uid that it was granted, and any READ
+  Uses : (node : NodeId) (server xid uid gid : ℕ) (call : DsCallValue) → Move
   -- an own write's answer showed the ctime of a mirror
   Learns : (file place : ℕ) (id : MirrorId) → Move
   -- a holder takes a write; a client that left the protocol strays; a write is told as committed
@@ -107,19 +111,21 @@ with_packets m packets = record {
   holdings = m.holdings;
 }
 
--- a packet goes out, by the metadata server under a new number
+-- this number is the last one of the node
+abbrev pub with_number : (NodeId → ℕ) → NodeId → ℕ → NodeId → ℕ
+with_number last node xid other = if is_node node other then xid else last other
+
+-- a new call of a node goes out
 abbrev pub puts_out : Machine → NodeId → ℕ → PacketValue → Machine
-puts_out m Mds xid packet = record {
+puts_out m node xid packet = record {
   servers = m.servers;
   files = m.files;
   next_uid = m.next_uid;
   next_name = m.next_name;
-  last_xid = xid;
+  last_xid = with_number m.last_xid node xid;
   packets = m.packets ++ packet ∷ [];
   holdings = m.holdings;
 }
-puts_out m (Server n) xid packet = with_packets m (m.packets ++ packet ∷ [])
-puts_out m (Client n) xid packet = with_packets m (m.packets ++ packet ∷ [])
 
 -- a file after a step, with what was drawn, and what is held from then on
 abbrev pub with_file : Machine → ℕ → FileStep → List Holding → Machine
@@ -136,21 +142,13 @@ with_file m n s held = record {
 abbrev pub fresh_of : Machine → Fresh
 fresh_of m = record { uid = m.next_uid; name = m.next_name; servers = length m.servers }
 
--- what the entries and the draws of a file's step let a node hold: a grant, and the uid of a copy
-abbrev pub held_by_entry : Entry → List Holding
-held_by_entry (entry.Granted file cred holder) = record { node = holder; file = file; uid = cred.0 } ∷ []
-held_by_entry _ = []
+-- what the entries of a file's step let a node hold: a grant, whose layout has these mirrors
+abbrev pub held_by_entry : List MirrorId → Entry → List Holding
+held_by_entry mirrors (entry.Granted file cred holder) = record { node = holder; file = file; uid = cred.0; mirrors = mirrors } ∷ []
+held_by_entry mirrors _ = []
 
-abbrev pub held_by : List Entry → List Holding
-held_by [] = []
-held_by (e ∷ entries) = held_by_entry e ++ held_by entries
-
--- the uids that a step drew, to which the metadata server itself may write: those of a copy
-abbrev pub drawn_by : FileId → ℕ → ℕ → List Holding
-drawn_by file uid drawn = if drawn == 0 then [] else record { node = Mds; file = file; uid = uid } ∷ []
-
-abbrev pub copier_of : FileId → ℕ → FileStep → List Holding
-copier_of file uid s = if s.names == 0 then [] else drawn_by file uid s.uids
+abbrev pub held_by : List MirrorId → List Entry → List Holding
+held_by mirrors entries = flat_map (held_by_entry mirrors) entries
 
 abbrev pub file_id : ℕ → FileId
 file_id n = record { 0 = n }
@@ -162,7 +160,7 @@ can_draw m uids names = nat_lt (m.next_uid + uids) (end_of_uids + 1) && nat_lt (
 abbrev pub file_stepped : Machine → ℕ → FileStep → MachineStep
 file_stepped m n s =
     if can_draw m s.uids s.names
-    then record { machine = with_file m n s (held_by s.entries ++ copier_of (file_id n) m.next_uid s); entries = s.entries }
+    then record { machine = with_file m n s (held_by (ids_of s.file.layout.live) s.entries); entries = s.entries }
     else no_move m
 
 abbrev pub file_takes : Machine → ℕ → FileInput → Option MdsFile → MachineStep
@@ -171,16 +169,17 @@ file_takes m n input (Some f) = file_stepped m n (phase (file_id n) f input (fre
 
 -- ---- deliveries
 
--- The group of a call is the user's number, and there are no further groups.
-abbrev pub caller_by_uid : ℕ → Caller
-caller_by_uid uid = record { uid = uid; gid = uid; gids = [] }
+-- Who calls, by the user and the group that a call has: there are no further groups (RFC 5531, appendix A).
+abbrev pub caller_by : ℕ → ℕ → Caller
+caller_by uid gid = record { uid = uid; gid = gid; gids = [] }
 
-abbrev pub served : Machine → NodeId → ℕ → ℕ → DsStep → MachineStep
-served m from n xid step = record { machine = with_server m n step.server (m.packets ++ Reply n from xid step.reply ∷ []); entries = step.entries }
+-- the reply to the call at a place
+abbrev pub served : Machine → ℕ → NodeId → ℕ → ℕ → DsStep → MachineStep
+served m place from n xid step = record { machine = with_server m n step.server (m.packets ++ Reply place n from xid step.reply ∷ []); entries = step.entries }
 
-abbrev pub arrives_at : Machine → NodeId → ℕ → ℕ → ℕ → DsCallValue → Option ServerState → MachineStep
-arrives_at m from n xid uid call None = no_move m
-arrives_at m from n xid uid call (Some s) = served m from n xid (ds_step s (caller_by_uid uid) call)
+abbrev pub arrives_at : Machine → ℕ → NodeId → ℕ → ℕ → Caller → DsCallValue → Option ServerState → MachineStep
+arrives_at m place from n xid caller call None = no_move m
+arrives_at m place from n xid caller call (Some s) = served m place from n xid (ds_step s caller call)
 
 -- the file whose call of this number to this server is outstanding
 abbrev pub file_of : List MdsFile → ℕ → ℕ → Option ℕ
@@ -196,10 +195,10 @@ comes_to m server xid reply Mds = answers_at m xid reply (file_of m.files server
 comes_to m server xid reply (Server n) = no_move m
 comes_to m server xid reply (Client n) = no_move m
 
-abbrev pub delivered : Machine → Option PacketValue → MachineStep
-delivered m None = no_move m
-delivered m (Some (Call from server xid uid call)) = arrives_at m from server xid uid call (numbered_at m.servers server)
-delivered m (Some (Reply server to xid reply)) = comes_to m server xid reply to
+abbrev pub delivered : Machine → ℕ → Option PacketValue → MachineStep
+delivered m place None = no_move m
+delivered m place (Some (Call from server xid uid gid call)) = arrives_at m place from server xid (caller_by uid gid) call (numbered_at m.servers server)
+delivered m place (Some (Reply call server to xid reply)) = comes_to m server xid reply to
 
 -- ---- the other moves
 
@@ -216,9 +215,6 @@ comes_by_itself (Answers xid reply) = false
 comes_by_itself (TimesOut xid) = false
 comes_by_itself Ticks = true
 comes_by_itself (Sees id seen) = false
-comes_by_itself TargetsHold = true
-comes_by_itself (TargetFails place cause) = true
-comes_by_itself (SourceFails cause) = true
 
 -- the servers are there, and no two are the same
 abbrev pub are_servers : ℕ → List ℕ → Bool
@@ -242,6 +238,10 @@ created m servers = if may_create m servers then record {
   entries = [];
 } else no_move m
 
+-- a node's numbers rise from one new call to its next
+abbrev pub is_new_number : Machine → NodeId → ℕ → Bool
+is_new_number m node xid = nat_lt (m.last_xid node) xid
+
 abbrev pub goes_out : Machine → ℕ → ℕ → Option CallOut → MachineStep
 goes_out m n xid None = no_move m
 goes_out m n xid (Some c) = record {
@@ -250,8 +250,8 @@ goes_out m n xid (Some c) = record {
     files = slice_set m.files (n - 1) c.file;
     next_uid = m.next_uid;
     next_name = m.next_name;
-    last_xid = xid;
-    packets = m.packets ++ Call Mds c.server xid 0 c.call ∷ [];
+    last_xid = with_number m.last_xid Mds xid;
+    packets = m.packets ++ Call Mds c.server xid c.uid c.uid c.call ∷ [];
     holdings = m.holdings;
   };
   entries = [];
@@ -259,7 +259,7 @@ goes_out m n xid (Some c) = record {
 
 abbrev pub call_out_from : Machine → ℕ → ℕ → Option MdsFile → MachineStep
 call_out_from m n xid None = no_move m
-call_out_from m n xid (Some f) = if nat_lt m.last_xid xid then goes_out m n xid (call_out f xid) else no_move m
+call_out_from m n xid (Some f) = if is_new_number m Mds xid then goes_out m n xid (call_out f xid) else no_move m
 
 abbrev pub sent_again : Machine → Option PacketValue → MachineStep
 sent_again m None = no_move m
@@ -277,16 +277,10 @@ may_use m node uid (Write fileid at synced bytes) = holds m node uid
 may_use m node uid (Commit fileid) = holds m node uid
 may_use m node uid (Read fileid at count) = true
 
--- the metadata server's calls have new numbers
-abbrev pub is_new_number : Machine → ℕ → NodeId → Bool
-is_new_number m xid Mds = nat_lt m.last_xid xid
-is_new_number m xid (Server n) = true
-is_new_number m xid (Client n) = true
-
-abbrev pub used : Machine → NodeId → ℕ → ℕ → ℕ → DsCallValue → MachineStep
-used m node server xid uid call =
-    if may_use m node uid call && is_new_number m xid node
-    then record { machine = puts_out m node xid (Call node server xid uid call); entries = [] }
+abbrev pub used : Machine → NodeId → ℕ → ℕ → ℕ → ℕ → DsCallValue → MachineStep
+used m node server xid uid gid call =
+    if may_use m node uid call && is_new_number m node xid
+    then record { machine = puts_out m node xid (Call node server xid uid gid call); entries = [] }
     else no_move m
 
 -- the ctime that a reply shows
@@ -307,15 +301,28 @@ abbrev pub learns_tick : Machine → ℕ → MirrorId → Option MdsFile → Opt
 learns_tick m n id file None = no_move m
 learns_tick m n id file (Some tick) = file_takes m n (Sees id tick) file
 
-abbrev pub learns_from : Machine → ℕ → MirrorId → Option MdsFile → ℕ → NodeId → DsReplyValue → MachineStep
-learns_from m n id file server Mds reply = if server == id.server then learns_tick m n id file (ctime_in reply) else no_move m
-learns_from m n id file server (Server k) reply = no_move m
-learns_from m n id file server (Client k) reply = no_move m
+-- a call writes to this fileid, or commits it
+abbrev pub writes_to : ℕ → DsCallValue → Bool
+writes_to fileid (Create name owner) = false
+writes_to fileid (SetAttr other owner guard) = false
+writes_to fileid (Write other at synced bytes) = other == fileid
+writes_to fileid (Commit other) = other == fileid
+writes_to fileid (Read other at count) = false
+
+abbrev pub was_write_to : ℕ → Option PacketValue → Bool
+was_write_to fileid None = false
+was_write_to fileid (Some (Call from server xid uid gid call)) = writes_to fileid call
+was_write_to fileid (Some (Reply place server to xid reply)) = false
+
+abbrev pub learns_from : Machine → ℕ → MirrorId → Option MdsFile → ℕ → ℕ → NodeId → DsReplyValue → MachineStep
+learns_from m n id file call server Mds reply = if server == id.server && was_write_to id.fileid (slice_get m.packets call) then learns_tick m n id file (ctime_in reply) else no_move m
+learns_from m n id file call server (Server k) reply = no_move m
+learns_from m n id file call server (Client k) reply = no_move m
 
 abbrev pub learnt : Machine → ℕ → MirrorId → Option MdsFile → Option PacketValue → MachineStep
 learnt m n id file None = no_move m
-learnt m n id file (Some (Call from server xid uid call)) = no_move m
-learnt m n id file (Some (Reply server to xid reply)) = learns_from m n id file server to reply
+learnt m n id file (Some (Call from server xid uid gid call)) = no_move m
+learnt m n id file (Some (Reply call server to xid reply)) = learns_from m n id file call server to reply
 
 -- an entry of a holder, and nothing else
 abbrev pub noted : Machine → (FileId → ℕ → Entry) → Option Holding → MachineStep
@@ -333,13 +340,13 @@ restarts_at m n pieces (Some s) = started_again m n pieces (restart_of s pieces)
 -- ---- a move, and a run
 
 abbrev pub moved : Machine → Move → MachineStep
-moved m (Deliver place) = delivered m (slice_get m.packets place)
+moved m (Deliver place) = delivered m place (slice_get m.packets place)
 moved m (Creates at_servers) = created m at_servers
 moved m (Happens n input) = if comes_by_itself input then file_takes m n input (numbered_at m.files n) else no_move m
 moved m (CallsOut n xid) = call_out_from m n xid (numbered_at m.files n)
 moved m (SendsAgain place) = sent_again m (slice_get m.packets place)
 moved m (GivesUpWaiting n xid) = file_takes m n (TimesOut xid) (numbered_at m.files n)
-moved m (Uses node server xid uid call) = used m node server xid uid call
+moved m (Uses node server xid uid gid call) = used m node server xid uid gid call
 moved m (Learns n place id) = learnt m n id (numbered_at m.files n) (slice_get m.packets place)
 moved m (Takes holding at bytes) = noted m (λ file uid. entry.Sent file (a_uid uid) at bytes) (slice_get m.holdings holding)
 moved m (Strays holding at bytes) = noted m (λ file uid. entry.Rogue file (a_uid uid) at bytes) (slice_get m.holdings holding)

@@ -1,7 +1,7 @@
 -- The table of phases as one function: a file at the metadata server, an input and what may be drawn give the file after it and its
 -- entries (RFC 8435, section 2.2; RFC 8881, sections 12.5.5, 18.43 and 18.44).
 use Rattle.std.specs.Prelude.{ℕ, ◌+◌, Bool, true, false, ◌==◌, ◌&&◌, List, [], ◌∷◌, length, map, position, Option, Some, None, nat_lt, if◌then◌else◌, slice_get}
-use Rattle.std.specs.List.{list_all, list_any}
+use Rattle.std.specs.List.{list_any}
 use Rattle.cluster_model.specs.declared.tick.Tick.{Tick}
 use Rattle.cluster_model.specs.declared.ids.NodeId.{NodeId}
 use Rattle.cluster_model.specs.declared.ids.NodeId.TheVariants.{Mds, Server, Client}
@@ -14,15 +14,15 @@ use Rattle.cluster_model.specs.declared.phase.LeftCause.{LeftCause}
 use Rattle.cluster_model.specs.declared.entry.Entry.{Entry}
 use Rattle.cluster_model.specs.declared.entry.Entry.TheVariants as entry
 use Rattle.cluster_model.specs.declared.call_stage.CallStage.TheVariants.{Waits, Out}
-use Rattle.cluster_model.specs.declared.layout_state.LayoutState.{LayoutState}
 use Rattle.cluster_model.specs.declared.layout_state.LayoutPhase.{LayoutPhase}
 use Rattle.cluster_model.specs.declared.layout_state.LayoutPhase.TheVariants.{Making, Free, Held, Fencing, Settling, Copying}
 use Rattle.cluster_model.specs.declared.layout_state.CopyKind.{CopyKind}
-use Rattle.cluster_model.specs.Mirrors.{are_on_different_servers}
 use Rattle.cluster_model.specs.DsCalls.{DsCallValue, Create, Commit, DsReplyValue}
-use Rattle.cluster_model.specs.Fences.{waits, is_out, is_over, stage_at_tick, FenceCall, next_call, after_tick}
-use Rattle.cluster_model.specs.Phases.{seen_at, with_live, with_targets, is_clean, begun, granted, recalled, returned, revoked, own_done, resilvered}
-use Rattle.cluster_model.specs.MdsFiles.{Creation, Creations, Activity, Idle, Makes, Fences, Settles, Copies, MdsFile, Fresh, FileStep, nothing, stays, a_uid, goes_fencing, with_entries, fence_answered, fence_timed_out, in_stage, with_creation, creation_of, creation_answered, creation_timed_out, making_by, source_left, settling_answered, settling_timed_out, copied_by, swaps_of, target_failed, target_answered, target_timed_out, target_by}
+use Rattle.cluster_model.specs.Fences.{waits, is_out, stage_at_tick, FenceCall, next_call, after_tick}
+use Rattle.cluster_model.specs.Phases.{seen_at, with_live, is_clean, begun, granted, recalled, returned, revoked, own_done, resilvered}
+use Rattle.cluster_laws.specs.MdsFiles.{Creation, Creations, Activity, Idle, Makes, Fences, Settles, Copies, MdsFile, Fresh, FileStep, nothing, stays, a_uid, goes_fencing, with_entries, fence_answered, fence_timed_out, in_stage, with_creation, creation_of, creation_answered, creation_timed_out, making_by, shown_by_commit, seen_at_source, settling_answered, settling_timed_out, copy_stepped}
+use Rattle.copy_rule.specs.Copies.{CopyCall, on_reply, on_timeout}
+use Rattle.copy_rule.specs.Copies as copy
 
 pub data FileInput : Type 0 where
   -- a client asks for a layout for writing
@@ -46,16 +46,12 @@ pub data FileInput : Type 0 where
   Ticks : FileInput
   -- an own write's answer showed this ctime at a mirror
   Sees : (id : MirrorId) (seen : Tick) → FileInput
-  -- of a copy: each target that is left holds the source's bytes; a target fails; the source fails
-  TargetsHold : FileInput
-  TargetFails : (place : ℕ) (cause : LeftCause) → FileInput
-  SourceFails : (cause : LeftCause) → FileInput
 
 -- ---- the rows, by phase
 
 -- OPEN creates a file: a uid and a number are drawn, and a mirror is to be made at each of these servers
 abbrev pub creations_at : ℕ → List ℕ → List Creation
-creations_at name servers = map (λ n. record { server = n; name = name; replaced = None; stage = Waits; made = None }) servers
+creations_at name servers = map (λ n. record { server = n; name = name; stage = Waits; made = None }) servers
 
 abbrev pub new_mds_file : Fresh → List ℕ → MdsFile
 new_mds_file fresh servers = record {
@@ -137,15 +133,18 @@ abbrev pub answered_in : FileId → MdsFile → ℕ → DsReplyValue → Fresh �
 answered_in file f xid reply fresh Idle = nothing f
 answered_in file f xid reply fresh (Makes all) = making_by file f.layout all (λ c. creation_answered all c reply) (creation_of all xid)
 answered_in file f xid reply fresh (Fences fence) = fence_answered file f.layout fence xid reply
-answered_in file f xid reply fresh (Settles stage) = if is_out xid stage then settles_by f (λ copies. settling_answered file f.layout copies fresh reply) (kind_of f.layout.phase) else nothing f
-answered_in file f xid reply fresh (Copies all) = target_by all (λ place c. target_answered file f.layout all place c reply) (nothing f) (creation_of all xid)
+answered_in file f xid reply fresh (Settles stage) =
+    if is_out xid stage
+    then settles_by f (λ copies. settling_answered file (seen_at_source f.layout f.layout.live (shown_by_commit reply)) copies fresh reply) (kind_of f.layout.phase)
+    else nothing f
+answered_in file f xid reply fresh (Copies c) = copy_stepped file f.layout (on_reply c xid reply).copy fresh (on_reply c xid reply).step
 
-abbrev pub timed_out_in : FileId → MdsFile → ℕ → Activity → FileStep
-timed_out_in file f xid Idle = nothing f
-timed_out_in file f xid (Makes all) = making_by file f.layout all (creation_timed_out all) (creation_of all xid)
-timed_out_in file f xid (Fences fence) = fence_timed_out file f.layout fence xid
-timed_out_in file f xid (Settles stage) = if is_out xid stage then settling_timed_out file f.layout stage else nothing f
-timed_out_in file f xid (Copies all) = target_by all (λ place c. target_timed_out file f.layout all place c c.stage) (nothing f) (creation_of all xid)
+abbrev pub timed_out_in : FileId → MdsFile → ℕ → Fresh → Activity → FileStep
+timed_out_in file f xid fresh Idle = nothing f
+timed_out_in file f xid fresh (Makes all) = making_by file f.layout all (creation_timed_out all) (creation_of all xid)
+timed_out_in file f xid fresh (Fences fence) = fence_timed_out file f.layout fence xid
+timed_out_in file f xid fresh (Settles stage) = if is_out xid stage then settling_timed_out file f.layout stage else nothing f
+timed_out_in file f xid fresh (Copies c) = copy_stepped file f.layout (on_timeout c xid).copy fresh (on_timeout c xid).step
 
 abbrev pub all_at_tick : Creations → Creations
 all_at_tick all = record { owner = all.owner; items = map (λ c. in_stage c (stage_at_tick c.stage)) all.items }
@@ -155,23 +154,7 @@ ticked Idle = Idle
 ticked (Makes all) = Makes (all_at_tick all)
 ticked (Fences fence) = Fences (after_tick fence)
 ticked (Settles stage) = Settles (stage_at_tick stage)
-ticked (Copies all) = Copies (all_at_tick all)
-
--- ---- a copy
-
-abbrev pub copies_in : MdsFile → (Cred → Creations → FileStep) → LayoutPhase → Activity → FileStep
-copies_in f row phase Idle = nothing f
-copies_in f row phase (Makes all) = nothing f
-copies_in f row phase (Fences fence) = nothing f
-copies_in f row phase (Settles stage) = nothing f
-copies_in f row phase (Copies all) = row (a_uid all.owner) all
-
--- each target was made or thrown away; no two mirrors come to one server, as in every plan
-abbrev pub may_swap : LayoutState → Creations → Bool
-may_swap layout all = list_all (λ c. is_over c.stage) all.items && are_on_different_servers (with_targets (swaps_of all) layout.live)
-
-abbrev pub targets_hold : FileId → MdsFile → Fresh → Cred → Creations → FileStep
-targets_hold file f fresh copier all = if may_swap f.layout all then copied_by file f.layout copier (swaps_of all) fresh else nothing f
+ticked (Copies c) = Copies (copy.after_tick c)
 
 -- ---- the table
 
@@ -184,45 +167,47 @@ phase file f (Revokes cause) fresh = held_in f (by_client f (λ client. revoked_
 phase file f (OwnEnds causes at bytes) fresh = held_in f (by_mds f (own_row file f causes (entry.Told file f.layout.cred at bytes) fresh)) f.layout.phase
 phase file f Resilver fresh = resilvered_in f fresh f.layout.phase
 phase file f (Answers xid reply) fresh = answered_in file f xid reply fresh f.activity
-phase file f (TimesOut xid) fresh = timed_out_in file f xid f.activity
+phase file f (TimesOut xid) fresh = timed_out_in file f xid fresh f.activity
 phase file f Ticks fresh = stays f.layout (ticked f.activity)
 phase file f (Sees id seen) fresh = nothing (record { layout = with_live f.layout (seen_at id seen f.layout.live); activity = f.activity })
-phase file f TargetsHold fresh = copies_in f (targets_hold file f fresh) f.layout.phase f.activity
-phase file f (TargetFails place cause) fresh = copies_in f (λ copier all. target_failed file f.layout all place cause (slice_get all.items place)) f.layout.phase f.activity
-phase file f (SourceFails cause) fresh = copies_in f (λ copier all. if nat_lt 1 (length f.layout.live) then source_left file f.layout f.layout.live cause Waits else nothing f) f.layout.phase f.activity
 
--- ---- the calls that go out, by uid 0: to the first server in order to which one waits
+-- ---- the calls that go out: to the first server in order to which one waits
 
 pub record CallOut : Type 0 where
   pub file : MdsFile
   pub server : ℕ
+  pub uid : ℕ
   pub call : DsCallValue
 
 abbrev pub creation_waiting : Creations → Option ℕ
 creation_waiting all = position (λ c. waits c.stage) all.items
 
-abbrev pub create_out_at : MdsFile → (Creations → Activity) → Creations → ℕ → ℕ → Option Creation → Option CallOut
-create_out_at f activity all xid place None = None
-create_out_at f activity all xid place (Some c) = Some (record { file = record { layout = f.layout; activity = activity (with_creation all place (in_stage c (Out xid 0))) }; server = c.server; call = Create c.name all.owner })
+abbrev pub create_out_at : MdsFile → Creations → ℕ → ℕ → Option Creation → Option CallOut
+create_out_at f all xid place None = None
+create_out_at f all xid place (Some c) = Some (record { file = record { layout = f.layout; activity = Makes (with_creation all place (in_stage c (Out xid 0))) }; server = c.server; uid = 0; call = Create c.name all.owner })
 
-abbrev pub create_out : MdsFile → (Creations → Activity) → Creations → ℕ → Option ℕ → Option CallOut
-create_out f activity all xid None = None
-create_out f activity all xid (Some place) = create_out_at f activity all xid place (slice_get all.items place)
+abbrev pub create_out : MdsFile → Creations → ℕ → Option ℕ → Option CallOut
+create_out f all xid None = None
+create_out f all xid (Some place) = create_out_at f all xid place (slice_get all.items place)
 
 abbrev pub fence_out : MdsFile → Option FenceCall → Option CallOut
 fence_out f None = None
-fence_out f (Some c) = Some (record { file = record { layout = f.layout; activity = Fences c.fence }; server = c.id.server; call = c.call })
+fence_out f (Some c) = Some (record { file = record { layout = f.layout; activity = Fences c.fence }; server = c.id.server; uid = 0; call = c.call })
 
 abbrev pub settle_out : MdsFile → ℕ → List Mirror → Option CallOut
 settle_out f xid [] = None
-settle_out f xid (m ∷ live) = Some (record { file = record { layout = f.layout; activity = Settles (Out xid 0) }; server = m.id.server; call = Commit m.id.fileid })
+settle_out f xid (m ∷ live) = Some (record { file = record { layout = f.layout; activity = Settles (Out xid 0) }; server = m.id.server; uid = 0; call = Commit m.id.fileid })
+
+abbrev pub copy_out : MdsFile → Option CopyCall → Option CallOut
+copy_out f None = None
+copy_out f (Some c) = Some (record { file = record { layout = f.layout; activity = Copies c.copy }; server = c.server; uid = c.uid; call = c.call })
 
 abbrev pub call_out_of : MdsFile → ℕ → Activity → Option CallOut
 call_out_of f xid Idle = None
-call_out_of f xid (Makes all) = create_out f Makes all xid (creation_waiting all)
+call_out_of f xid (Makes all) = create_out f all xid (creation_waiting all)
 call_out_of f xid (Fences fence) = fence_out f (next_call fence xid)
 call_out_of f xid (Settles stage) = if waits stage then settle_out f xid f.layout.live else None
-call_out_of f xid (Copies all) = create_out f Copies all xid (creation_waiting all)
+call_out_of f xid (Copies c) = copy_out f (copy.next_call c xid)
 
 -- the next call of a file goes out under this number
 abbrev pub call_out : MdsFile → ℕ → Option CallOut
@@ -241,7 +226,7 @@ is_outstanding_in f server xid Idle = false
 is_outstanding_in f server xid (Makes all) = creation_is_out all server xid
 is_outstanding_in f server xid (Fences fence) = list_any (λ m. m.id.server == server && is_out xid m.stage) fence.mirrors
 is_outstanding_in f server xid (Settles stage) = is_out xid stage && first_is_on f.layout.live server
-is_outstanding_in f server xid (Copies all) = creation_is_out all server xid
+is_outstanding_in f server xid (Copies c) = copy.is_outstanding c server xid
 
 abbrev pub is_outstanding : MdsFile → ℕ → ℕ → Bool
 is_outstanding f server xid = is_outstanding_in f server xid f.activity
