@@ -1,2 +1,3 @@
 mod Search
 mod Steps
+mod History

@@ -4,7 +4,9 @@
 
 mod call;
 mod fence;
+mod laws;
 mod mirror;
 
 pub use cluster_model::FenceStep;
 pub use fence::Fence;
+pub use laws::fence_history;
