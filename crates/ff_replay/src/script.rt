@@ -1,7 +1,7 @@
 //! A run of a script to its end.
 
 ghost use Rattle.std.specs.Prelude.{◌≡◌};
-ghost use Rattle.line_runs.specs.Runs.{Runs, ReadFaults, write_faults};
+ghost use Rattle.line_runs.specs.Runs.{Runs, read_faults, write_faults};
 ghost use Rattle.ff_replay.specs.Script.{script_budget, script_meaning};
 
 use crate::player::Player;
@@ -14,7 +14,7 @@ use std::alloc::Global;
 /// wanted, a beginning of it.
 pub fn replay<S: Source, K: Sink>(alloc: Global, source: &mut S, sink: &mut K) -> RunEnd
     ensures told { Runs script_budget script_meaning (S.left source.old) (K.held sink.old) result (S.left source.new) (K.held sink.new) }
-    ensures reads { ReadFaults result (S.faults source.old) (S.faults source.new) }
+    ensures reads { S.faults source.new ≡ read_faults result (S.faults source.old) }
     ensures writes { K.faults sink.new ≡ write_faults result (K.faults sink.old) }
 {
     let mut player = Player::new(alloc);

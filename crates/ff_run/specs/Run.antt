@@ -8,7 +8,7 @@ use Rattle.line_runs.specs.declared.end.RunEnd.TheVariants.{Done, BadLine, ReadF
 use Rattle.ff_run.specs.declared.program.ProgramEnd.{ProgramEnd}
 use Rattle.ff_run.specs.declared.program.ProgramEnd.TheVariants.{Usage, Ended, Served}
 use Rattle.line_runs.specs.declared.end.RunEnd.{RunEnd}
-use Rattle.line_runs.specs.Runs.{Runs, ReadFaults, write_faults}
+use Rattle.line_runs.specs.Runs.{Runs, read_faults, write_faults}
 use Rattle.cluster_model.specs.declared.ids.NodeId.{NodeId}
 use Rattle.ff_node.specs.declared.link.Arrival.{Arrival}
 use Rattle.ff_node.specs.declared.serve.NodeEnd.{NodeEnd}
@@ -101,10 +101,10 @@ Performs asked (Ended end) old new = (command : Command) × (asked ≡ Some comm
 Performs asked (Served end) old new = (asked ≡ Some Ds) × ServesBy old.unread old.arrivals old.sent (Ok end) new.unread new.arrivals new.sent × (new.written ≡ old.written)
 
 -- the source's count of faults, and the sink's
-abbrev pub SourceFaultsAfter : ProgramEnd → ℕ → ℕ → Type 0
-SourceFaultsAfter Usage old new = new ≡ old
-SourceFaultsAfter (Ended end) old new = ReadFaults end old new
-SourceFaultsAfter (Served end) old new = new ≡ old
+abbrev pub source_faults_after : ProgramEnd → ℕ → ℕ
+source_faults_after Usage n = n
+source_faults_after (Ended end) n = read_faults end n
+source_faults_after (Served end) n = n
 
 abbrev pub sink_faults_after : ProgramEnd → ℕ → ℕ
 sink_faults_after Usage n = n

@@ -5,7 +5,7 @@ ghost use Rattle.std.specs.String.{string_bytes};
 ghost use Rattle.rpc_record.specs.Stream.{counted};
 ghost use Rattle.ff_run.specs.declared.program.ProgramEnd.{ProgramEnd};
 ghost use Rattle.line_runs.specs.Writing.{WritesText};
-ghost use Rattle.ff_run.specs.Run.{command_named, command_of, status_of, note_of, with_number, observed, end_of_serving, Performs, SourceFaultsAfter, sink_faults_after, link_faults_after, Reports};
+ghost use Rattle.ff_run.specs.Run.{command_named, command_of, status_of, note_of, with_number, observed, end_of_serving, Performs, source_faults_after, sink_faults_after, link_faults_after, Reports};
 
 use crate::serving::serve;
 use ff_node::{Link, NodeEnd};
@@ -154,7 +154,7 @@ pub fn run<S: Source, K: Sink, E: Sink, L: Link>(
 ) -> u8
     ensures { (end : ProgramEnd)
         × Performs (command_of (map string_bytes words.now)) end (observed (S.left source.old) (K.held sink.old) (L.coming link.old) (L.sent link.old)) (observed (S.left source.new) (K.held sink.new) (L.coming link.new) (L.sent link.new))
-        × SourceFaultsAfter end (S.faults source.old) (S.faults source.new)
+        × (S.faults source.new ≡ source_faults_after end (S.faults source.old))
         × (K.faults sink.new ≡ sink_faults_after end (K.faults sink.old))
         × (L.faults link.new ≡ link_faults_after end (L.faults link.old))
         × Reports end result (E.held notes.old) (E.held notes.new) (E.faults notes.old) (E.faults notes.new) }

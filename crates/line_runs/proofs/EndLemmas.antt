@@ -1,14 +1,14 @@
 -- How a run over lines ends.
-use Rattle.std.proofs.Common.{◌⊎◌, inl, inr, ◌≡◌, ℕ, true, false, List, [], ◌++◌, Option, Some, None, Result, Ok, Err, refl, sym, ap, subst, ◌∙◌, arith, ⊎_elim}
+use Rattle.std.proofs.Common.{◌⊎◌, inl, inr, ◌≡◌, ℕ, ◌<◌, length, true, false, List, [], ◌++◌, Option, Some, None, Result, Ok, Err, IfOk, IfSome, refl, sym, ap, subst, ◌∙◌, arith, ⊎_elim}
 use Rattle.std.proofs.lemmas.List.{append-nil, append_assoc}
 use Rattle.rpc_record.specs.declared.stream.Failed.{Failed}
 use Rattle.rpc_record.specs.Stream.{one_more}
 use Rattle.line_runs.specs.declared.end.RunEnd.{RunEnd}
 use Rattle.line_runs.specs.declared.end.RunEnd.TheVariants.{Done, BadLine, ReadFault, WriteFault, NoMemory, Limit}
 use Rattle.line_runs.specs.Writing.{IsBeginningOf, WritesText}
-use Rattle.line_runs.specs.Runs.{RunEffect, after_text, whole_text, ended_effect, IsPastLimit, Ends, HasRead, TookAll, TookPart, TookOfRead, SinkGot, Leaves, Runs, HasBecome, ReadFaults, write_faults}
+use Rattle.line_runs.specs.Runs.{RunEffect, after_text, whole_text, ended_effect, IsPastLimit, Ends, HasRead, TookAll, TookPart, TookOfRead, SinkGot, Leaves, Runs, HasBecome, read_faults, write_faults}
 use Rattle.line_runs.specs.Tasks.{TaskValue}
-use Rattle.line_runs.specs.Playback.{Stand, stand, start, effect_ahead, state_ahead, over_ahead, Owes, OwesPart, GoesOn, OwesRead, Passes, EndsBy, LinesEnd, Stops, closed_text, is_of_lines, PlaybackSteps, Finishes, PlaysAll, ClosesRun, EndFaults, StepFaults, LinesFaults, SourceFaults}
+use Rattle.line_runs.specs.Playback.{Stand, stand, start, effect_ahead, state_ahead, over_ahead, Owes, OwesPart, GoesOn, OwesRead, Passes, EndsBy, LinesEnd, Stops, closed_text, is_of_lines, PlaybackSteps, Finishes, PlaysAll, ClosesRun, EndFaults, StepFaults, LinesFaults, HasWrittenAll, IsOfLine}
 use Rattle.line_runs.proofs.OweLemmas.{owes_same, owes_as, whole_part, wrote_all, wrote_some, some_is, owes_on, part_on, part_more, part_less, begins_whole}
 use Rattle.line_runs.proofs.StepLemmas.{text_again}
 use Rattle.line_runs.proofs.RunLemmas.{Went}
@@ -237,18 +237,49 @@ unfinished (Some a) held left2 held2 s task state (Ok x) q e f text owed is so p
 unfinished (Some a) held left2 held2 s task state (Err x) (Ok y) e f text owed is so plays = absurd (cc)
 unfinished (Some a) held left2 held2 s task state (Err x) (Err y) e f text owed is so plays = plays
 
--- the count of the source's faults where the last writing failed
-pub faults_err : (end : RunEnd) (q : Result RunEnd Failed) (e : Failed) (old new : ℕ) → q ≡ Err e → EndFaults end old new → SourceFaults q old new
-faults_err end (Ok y) e old new so counts = absurd (cc)
-faults_err end (Err y) e old new so counts = either end counts
+-- all text is written where the source failed, closed or not
+pub closed_written : (end end' : RunEnd) (closing text text' : List ℕ) → HasWrittenAll end text → ClosesRun end closing text end' text' → HasWrittenAll end' text'
+closed_written end end' closing text text' has closes =
+    ⊎_elim (λ all. subst (λ e. HasWrittenAll e text') (sym all.0) (subst (λ t. HasWrittenAll end t) (sym all.1) (still end has))) (λ part. subst (λ e. HasWrittenAll e text') (sym part.1) tt) closes
   where
-    either : (x : RunEnd) → EndFaults x old new → (new ≡ old) ⊎ (new ≡ one_more old)
-    either Done h = inl h
-    either (BadLine n) h = inl h
-    either (Limit n) h = inl h
-    either ReadFault h = inr h
-    either WriteFault h = absurd h
-    either NoMemory h = inl h
+    still : (e : RunEnd) → HasWrittenAll e text → HasWrittenAll e (closed_text e closing text)
+    still Done h = tt
+    still (BadLine n) h = tt
+    still (Limit n) h = tt
+    still ReadFault h = h
+    still WriteFault h = tt
+    still NoMemory h = tt
+
+-- so where the last writing failed, the source had not
+pub faults_err : (end : RunEnd) (q : Result RunEnd Failed) (e : Failed) (text : List ℕ) (old new : ℕ) → q ≡ Err e → HasWrittenAll end text → 0 < length text → EndFaults end old new → LinesFaults q old new
+faults_err end (Ok y) e text old new so has some counts = absurd (cc)
+faults_err end (Err y) e text old new so has some counts = same end has counts
+  where
+    same : (x : RunEnd) → HasWrittenAll x text → EndFaults x old new → new ≡ old
+    same Done h c = c
+    same (BadLine n) h c = c
+    same (Limit n) h c = c
+    same ReadFault h c = absurd (omega (arith, subst (λ (t : List ℕ). 0 < length t) h some))
+    same WriteFault h c = absurd c
+    same NoMemory h c = c
+
+-- what a line did is not the source's
+pub of_line_written : (r : Result (Option RunEnd) Failed) (text : List ℕ) → IfOk r (λ end. IfSome end (λ e. IsOfLine e)) → IfOk r (λ end. IfSome end (λ e. HasWrittenAll e text))
+of_line_written (Err e) text h = tt
+of_line_written (Ok None) text h = tt
+of_line_written (Ok (Some end)) text h = of end h
+  where
+    of : (x : RunEnd) → IsOfLine x → HasWrittenAll x text
+    of Done h = tt
+    of (BadLine n) h = tt
+    of (Limit n) h = tt
+    of ReadFault h = absurd h
+    of WriteFault h = tt
+    of NoMemory h = tt
+
+-- after all steps, from the last of them
+pub written_after : (end : RunEnd) (r : Result (Option RunEnd) Failed) (text : List ℕ) → r ≡ Ok (Some end) → IfOk r (λ x. IfSome x (λ e. HasWrittenAll e text)) → HasWrittenAll end text
+written_after end r text is has = subst (λ (q : Result (Option RunEnd) Failed). IfOk q (λ x. IfSome x (λ e. HasWrittenAll e text))) is has
 
 -- ---- a run from the start
 
@@ -341,13 +372,13 @@ sink_faults ReadFault old new mid mid' reads same = same
 sink_faults WriteFault old new mid mid' reads same = absurd reads
 sink_faults NoMemory old new mid mid' reads same = same
 
-pub read_faults : (end : RunEnd) (old new : ℕ) → EndFaults end old new → ReadFaults end old new
-read_faults Done old new reads = reads
-read_faults (BadLine n) old new reads = reads
-read_faults (Limit n) old new reads = reads
-read_faults ReadFault old new reads = reads
-read_faults WriteFault old new reads = absurd reads
-read_faults NoMemory old new reads = inl reads
+pub source_faults : (end : RunEnd) (old new : ℕ) → EndFaults end old new → new ≡ read_faults end old
+source_faults Done old new reads = reads
+source_faults (BadLine n) old new reads = reads
+source_faults (Limit n) old new reads = reads
+source_faults ReadFault old new reads = reads
+source_faults WriteFault old new reads = absurd reads
+source_faults NoMemory old new reads = reads
 
 -- after all steps, from the last of them
 pub faults_after : (end : RunEnd) (r : Result (Option RunEnd) Failed) (old mid new : ℕ) → r ≡ Ok (Some end) → mid ≡ old → StepFaults r mid new → EndFaults end old new

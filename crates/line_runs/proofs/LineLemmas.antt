@@ -522,3 +522,15 @@ unasked_again first held held' s s' s2 so far h =
     let one = so h in
     let some : 0 < length held = subst (λ (x : List ℕ). 0 < length x) (sym one.0) (holds_some first h) in
     let two = far some in (two.0 ∙ one.0, two.1 ∙ one.1)
+
+-- so where a line was held first, refilling is no error
+pub refill_holds : {S : Type 0} (first held : List ℕ) (s s' : S) (r : Result Bool Failed) (e : Failed) → r ≡ Err e → (HoldsLine first → (held ≡ first) × (s' ≡ s)) → (0 < length held → r ≡ Ok true) → HoldsLine first → ⊥
+refill_holds first held s s' r e is so_far far h =
+    let ok : r ≡ Ok true = far (subst (λ (x : List ℕ). 0 < length x) (sym (so_far h).0) (holds_some first h)) in
+    absurd (cc (is, ok))
+
+-- and taking a line is no fault of the source
+pub taking_is_no_fault : (room : ℕ) (held line held' line' : List ℕ) (r : Result (Option Ended) Failed) (e : Failed) (q : Result Ended Failed) (f : Failed)
+    → r ≡ Err e → q ≡ Err f → f ≡ e → TakesLine room held line r held' line' → q ≢ Err Fault
+taking_is_no_fault room held line held' line' (Ok x) e q f is so same takes fault = absurd (cc)
+taking_is_no_fault room held line held' line' (Err d) e q f is so same takes fault = let no : Fault ≡ NoMemory = cc (is, so, same, takes.0, fault) in absurd (cc)

@@ -202,7 +202,7 @@ EndFaults ReadFault old new = new ≡ one_more old
 EndFaults WriteFault old new = ⊥
 EndFaults NoMemory old new = new ≡ old
 
--- after a step, after all steps, and after the last writing
+-- after a step, and after all steps or the last writing
 abbrev pub StepFaults : Result (Option RunEnd) Failed → ℕ → ℕ → Type 0
 StepFaults (Ok None) old new = new ≡ old
 StepFaults (Ok (Some end)) old new = EndFaults end old new
@@ -212,9 +212,14 @@ abbrev pub LinesFaults : Result RunEnd Failed → ℕ → ℕ → Type 0
 LinesFaults (Ok end) old new = EndFaults end old new
 LinesFaults (Err e) old new = new ≡ old
 
-abbrev pub SourceFaults : Result RunEnd Failed → ℕ → ℕ → Type 0
-SourceFaults (Ok end) old new = EndFaults end old new
-SourceFaults (Err e) old new = (new ≡ old) ⊎ (new ≡ one_more old)
+-- all text was written before the source was asked and failed
+abbrev pub HasWrittenAll : RunEnd → List ℕ → Type 0
+HasWrittenAll Done text = ⊤
+HasWrittenAll (BadLine line) text = ⊤
+HasWrittenAll (Limit count) text = ⊤
+HasWrittenAll ReadFault text = text ≡ []
+HasWrittenAll WriteFault text = ⊤
+HasWrittenAll NoMemory text = ⊤
 
 -- how a line ends a run: neither the source nor the sink failed
 abbrev pub IsOfLine : RunEnd → Type 0

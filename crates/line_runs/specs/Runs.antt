@@ -126,15 +126,15 @@ HasBecome budget after (Some bytes) ends.ReadFault state = ⊤
 HasBecome budget after (Some bytes) ends.WriteFault state = ⊤
 HasBecome budget after (Some bytes) ends.NoMemory state = ⊤
 
--- The count of the source's faults: one more at a fault, and as before where nothing failed. Where the text could not be
--- written in the end, the source may have failed before.
-abbrev pub ReadFaults : RunEnd → ℕ → ℕ → Type 0
-ReadFaults ends.Done old new = new ≡ old
-ReadFaults (ends.BadLine line) old new = new ≡ old
-ReadFaults (ends.Limit count) old new = new ≡ old
-ReadFaults ends.ReadFault old new = new ≡ one_more old
-ReadFaults ends.WriteFault old new = (new ≡ old) ⊎ (new ≡ one_more old)
-ReadFaults ends.NoMemory old new = (new ≡ old) ⊎ (new ≡ one_more old)
+-- The count of the source's faults: one more at its fault, and as before at every other end. So the source was not asked again
+-- before the text so far was written.
+abbrev pub read_faults : RunEnd → ℕ → ℕ
+read_faults ends.Done n = n
+read_faults (ends.BadLine line) n = n
+read_faults (ends.Limit count) n = n
+read_faults ends.ReadFault n = one_more n
+read_faults ends.WriteFault n = n
+read_faults ends.NoMemory n = n
 
 -- the count of the sink's faults
 abbrev pub write_faults : RunEnd → ℕ → ℕ

@@ -1,5 +1,5 @@
 //! Reading lines through a buffer.
-ghost use Rattle.std.specs.Prelude.{◌≡◌, ℕ, ◌+◌, ◌-◌, ◌<◌, ◌≤◌, ◌↔◌, IsTrue, List, [], ◌++◌, length, is_ok, IfOk, IfErr, MatchBool, if◌then◌else◌};
+ghost use Rattle.std.specs.Prelude.{◌≡◌, ◌≢◌, ℕ, ◌+◌, ◌-◌, ◌<◌, ◌≤◌, ◌↔◌, IsTrue, true, List, [], ◌++◌, length, Ok, Err, is_ok, IfOk, IfErr, MatchBool, if◌then◌else◌};
 ghost use Rattle.rpc_record.specs.Stream.{counted};
 ghost use Rattle.line_runs.specs.Lines.{HoldsLine, HoldsNoLine, IsWithinBudget, ReadsLine, Refills, TakesLine};
 
@@ -75,6 +75,7 @@ impl LineBuffer {
         ensures within { IfOk result (λ ended_course. IsWithinBudget budget ended_course line.new.items) }
         ensures faults { S.faults source.new ≡ counted result (S.faults source.old) }
         ensures unasked { HoldsLine self.old → source.new ≡ source.old }
+        ensures asks { HoldsLine self.old → result ≢ Err Failed.Fault }
     {
         line.clear();
         'pieces: while self.refill(source)? {
@@ -91,6 +92,7 @@ impl LineBuffer {
         ensures told { Refills self.old (S.left source.old) result self.new (S.left source.new) }
         ensures faults { S.faults source.new ≡ counted result (S.faults source.old) }
         ensures unasked { 0 < length self.old → (self.new ≡ self.old) × (source.new ≡ source.old) }
+        ensures holds { 0 < length self.old → result ≡ Ok true }
     {
         if self.start < self.end {
             return Ok(true);

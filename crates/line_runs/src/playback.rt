@@ -1,12 +1,12 @@
 //! A run over the lines of a source to its end.
 
-ghost use Rattle.std.specs.Prelude.{◌≡◌, ◌+◌, ◌<◌, ◌≤◌, ◌↔◌, [], None, Some, Ok, OnOk, OnErr, IfOk, IfSome, IsTrue, length};
+ghost use Rattle.std.specs.Prelude.{◌≡◌, ◌+◌, ◌<◌, ◌≤◌, ◌↔◌, [], None, Some, Ok, Err, OnOk, OnErr, IfOk, IfSome, IsTrue, length};
 ghost use Rattle.rpc_record.specs.Stream.{counted};
 ghost use Rattle.line_runs.specs.declared.end.RunEnd.TheVariants as ends;
 ghost use Rattle.line_runs.specs.Lines.{HoldsNoLine, IsWithinBudget, ReadsLine};
 ghost use Rattle.line_runs.specs.Writing.{WritesText};
-ghost use Rattle.line_runs.specs.Runs.{Runs, HasBecome, ReadFaults, write_faults};
-ghost use Rattle.line_runs.specs.Playback.{start, with_text, full, stand, at_line, StepFaults, LinesFaults, SourceFaults, EndFaults, PlaybackSteps, PlaysAll, Finishes, ClosesRun, Relieves, LinePlays, LastPlays, IsOfLine, to_do};
+ghost use Rattle.line_runs.specs.Runs.{Runs, HasBecome, read_faults, write_faults};
+ghost use Rattle.line_runs.specs.Playback.{start, with_text, full, stand, at_line, StepFaults, LinesFaults, HasWrittenAll, PlaybackSteps, PlaysAll, Finishes, ClosesRun, Relieves, LinePlays, LastPlays, IsOfLine, to_do};
 
 use crate::end::{LineStep, RunEnd};
 use crate::lines::{Ended, LineBuffer};
@@ -67,6 +67,7 @@ impl Playback {
         ensures faults { K.faults sink.new ≡ counted result (K.faults sink.old) }
         ensures ok { OnOk result (self.new ≡ with_text [] self.old) }
         ensures err { OnErr result (self.new ≡ self.old) }
+        ensures some { OnErr result (0 < length self.old.text) }
     {
         write_all(sink, self.text.bytes())?;
         self.text.truncate(0);
@@ -155,6 +156,7 @@ impl Playback {
         ensures within { IfOk result (λ ended. IsWithinBudget self.old.room ended line.new.items) }
         ensures faults { S.faults source.new ≡ counted result (S.faults source.old) }
         ensures rest { self.new ≡ record { text = self.old.text; held = self.new.held; room = self.old.room; begun = self.old.begun } }
+        ensures asks { result ≡ Err Failed.Fault → self.old.text ≡ [] }
     {
         let room = self.room;
         self.buffer.read_line(source, room, line)
@@ -173,6 +175,7 @@ impl Playback {
         ensures told { T.fresh task.old → PlaybackSteps (S.left source.old) (K.held sink.old) (stand (T.value task.old) self.old) result (S.left source.new) (K.held sink.new) (T.value task.new) (stand (T.value task.new) self.new) }
         ensures goes_on { T.fresh task.old → result ≡ Ok None → T.fresh task.new }
         ensures shrinks { OnOk result (result ≡ Ok None → to_do self.new < to_do self.old) }
+        ensures written { IfOk result (λ end. IfSome end (λ e. HasWrittenAll e self.new.text)) }
         ensures reads { StepFaults result (S.faults source.old) (S.faults source.new) }
         ensures writes { K.faults sink.new ≡ counted result (K.faults sink.old) }
     {
@@ -198,6 +201,7 @@ impl Playback {
         sink: &mut K,
     ) -> Result<RunEnd, Failed>
         ensures told { T.fresh task.old → PlaysAll (S.left source.old) (K.held sink.old) (stand (T.value task.old) self.old) result (S.left source.new) (K.held sink.new) (T.value task.new) self.new.text }
+        ensures written { IfOk result (λ end. HasWrittenAll end self.new.text) }
         ensures reads { LinesFaults result (S.faults source.old) (S.faults source.new) }
         ensures writes { K.faults sink.new ≡ counted result (K.faults sink.old) }
     {
@@ -232,7 +236,7 @@ impl Playback {
         sink: &mut K,
     ) -> Result<RunEnd, Failed>
         ensures told { T.fresh task.old → Finishes (S.left source.old) (K.held sink.old) (stand (T.value task.old) self.old) result (S.left source.new) (K.held sink.new) (T.value task.new).state [] }
-        ensures reads { SourceFaults result (S.faults source.old) (S.faults source.new) }
+        ensures reads { LinesFaults result (S.faults source.old) (S.faults source.new) }
         ensures writes { K.faults sink.new ≡ counted result (K.faults sink.old) }
     {
         let ended = self.play(alloc, task, source, sink)?;
@@ -246,6 +250,9 @@ impl Playback {
 /// the task's closing text behind it where the lines ended the run. Where the source failed, that is
 /// the text of the lines that ended in what it gave; where the sink failed or memory was wanted, a
 /// beginning of it.
+///
+/// The source is asked for more only when the text of all lines so far was written, so a line is
+/// answered before the next is read: its failure never follows on a failure of the sink.
 pub fn run_lines<T: LineTask, S: Source, K: Sink>(
     alloc: Global,
     task: &mut T,
@@ -255,7 +262,7 @@ pub fn run_lines<T: LineTask, S: Source, K: Sink>(
     requires { T.fresh task.old }
     ensures told { Runs T.BUDGET ((T.value task.old).meaning 1) (S.left source.old) (K.held sink.old) result (S.left source.new) (K.held sink.new) }
     ensures became { HasBecome T.BUDGET (T.value task.old).after (S.left source.old) result (T.value task.new).state }
-    ensures reads { ReadFaults result (S.faults source.old) (S.faults source.new) }
+    ensures reads { S.faults source.new ≡ read_faults result (S.faults source.old) }
     ensures writes { K.faults sink.new ≡ write_faults result (K.faults sink.old) }
 {
     let Ok(mut run) = Playback::new(alloc, T::BUDGET) else {

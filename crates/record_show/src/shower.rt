@@ -8,7 +8,7 @@ ghost use Rattle.rpc_record.specs.Calls.{RpcCall, rpc_call};
 ghost use Rattle.rpc_record.specs.declared.call.CallFault.{CallFault};
 ghost use Rattle.rpc_record.specs.Replies.{reply_stat, reply_at};
 ghost use Rattle.nfs3_wire.specs.Calls.{calls};
-ghost use Rattle.line_runs.specs.Runs.{Runs, ReadFaults, write_faults};
+ghost use Rattle.line_runs.specs.Runs.{Runs, read_faults, write_faults};
 ghost use Rattle.record_show.specs.Show.{why_text, bad_text, args_of, args_text, compound_text, cb_compound_text, verdict_text, program_text, procedure_text, call_text, stat_text, refused_text, reply_text, found_text, record_line, line_shown, show_budget, show_meaning, ShowsLine};
 
 use ff_script::Digits;
@@ -300,7 +300,7 @@ impl LineTask for Shower {
 /// line and one that begins with `#` add nothing.
 pub fn show<S: Source, K: Sink>(alloc: Global, source: &mut S, sink: &mut K) -> RunEnd
     ensures told { Runs show_budget show_meaning (S.left source.old) (K.held sink.old) result (S.left source.new) (K.held sink.new) }
-    ensures reads { ReadFaults result (S.faults source.old) (S.faults source.new) }
+    ensures reads { S.faults source.new ≡ read_faults result (S.faults source.old) }
     ensures writes { K.faults sink.new ≡ write_faults result (K.faults sink.old) }
 {
     let mut shower = Shower::new(alloc);

@@ -2,7 +2,7 @@ use Rattle.std.proofs.Common.{rules, ◌≡◌, ◌-◌, ◌<◌, ◌≤◌, Boo
 use Rattle.std.proofs.lemmas.Result.{err_from_is_err_and}
 use Rattle.line_runs.specs.declared.lines.Ended.{Ended}
 use Rattle.line_runs.specs.Lines.{HoldsLine, Refills, TakesLine}
-use Rattle.line_runs.proofs.LineLemmas.{begun_at_first, begun_refilled, begun_taken, reads_line, reads_last, reads_fault, reads_none, is_within, taken_length, last_holds_none, unasked_again}
+use Rattle.line_runs.proofs.LineLemmas.{begun_at_first, begun_refilled, begun_taken, reads_line, reads_last, reads_fault, reads_none, is_within, taken_length, last_holds_none, unasked_again, refill_holds, taking_is_no_fault}
 use Rattle.line_runs.proofs.lines.LineBuffer.read_line.Goals as goal
 
 pub pieces-init : goal.pieces-init
@@ -96,3 +96,12 @@ returns-in-Some-clause-unasked g c =
 pub returns-clause-unasked : goal.returns-clause-unasked
 returns-clause-unasked g c =
     λ h. (unasked_again c.args.self.now c.pieces.self c.refill.new.self c.args.source.now c.pieces.source c.refill.new.source c.pieces.invariant.unasked c.refill.ensures.unasked h).1
+
+pub returns-in_err-refill-clause-asks : goal.returns-in_err-refill-clause-asks
+returns-in_err-refill-clause-asks g c =
+    λ h. absurd (refill_holds c.args.self.now c.pieces.self c.args.source.now c.pieces.source c.refill.result _ c.in_err-refill.was c.pieces.invariant.unasked c.refill.ensures.holds h)
+
+pub returns-in_err-ended-clause-asks : goal.returns-in_err-ended-clause-asks
+returns-in_err-ended-clause-asks g c =
+    let p = err_from_is_err_and c.from_residual-in_err-ended.result c.from_residual-in_err-ended.ensures.1 in
+    λ h. taking_is_no_fault (c.args.budget - c.len.result) c.refill.new.self c.pieces.line.items c.take_line.new.self c.take_line.new.line.items c.take_line.result _ c.from_residual-in_err-ended.result p.0 c.in_err-ended.was p.1 p.2 c.take_line.ensures

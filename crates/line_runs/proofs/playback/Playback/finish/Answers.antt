@@ -1,6 +1,9 @@
+use Rattle.std.proofs.Common.{Result, IfOk, subst}
 use Rattle.std.proofs.lemmas.Result.{err_from_is_err_and}
-use Rattle.line_runs.specs.Playback.{stand}
-use Rattle.line_runs.proofs.EndLemmas.{closed, closed_faults, finished, finished_err, unfinished, faults_err}
+use Rattle.rpc_record.specs.declared.stream.Failed.{Failed}
+use Rattle.line_runs.specs.declared.end.RunEnd.{RunEnd}
+use Rattle.line_runs.specs.Playback.{stand, HasWrittenAll}
+use Rattle.line_runs.proofs.EndLemmas.{closed, closed_faults, finished, closed_written, finished_err, unfinished, faults_err}
 use Rattle.line_runs.proofs.playback.Playback.finish.Goals as goal
 
 pub returns-in_err-ended-clause-told : goal.returns-in_err-ended-clause-told
@@ -23,7 +26,8 @@ returns-in_err-flush-clause-told g c =
 pub returns-in_err-flush-clause-reads : goal.returns-in_err-flush-clause-reads
 returns-in_err-flush-clause-reads g c =
     let p = err_from_is_err_and c.from_residual-in_err-flush.result c.from_residual-in_err-flush.ensures.1 in
-    faults_err c.close-end.result c.from_residual-in_err-flush.result p.0 _ _ p.1
+    let written = closed_written c.in_ok-ended.ended c.close-end.result (g.T.LineTask.value c.play.new.task).closing c.play.new.self.text c.close-end.new.self.text (subst (λ (r : Result RunEnd Failed). IfOk r (λ end. HasWrittenAll end c.play.new.self.text)) c.in_ok-ended.was c.play.ensures.written) c.close-end.ensures.closes in
+    faults_err c.close-end.result c.from_residual-in_err-flush.result p.0 c.close-end.new.self.text _ _ p.1 written c.in_err-flush.ensures.some
     (closed_faults c.play.result c.in_ok-ended.ended c.close-end.result (g.T.LineTask.value c.play.new.task).closing c.play.new.self.text c.close-end.new.self.text _ _ c.in_ok-ended.was c.close-end.ensures.closes c.play.ensures.reads)
 
 pub returns-clause-told : goal.returns-clause-told

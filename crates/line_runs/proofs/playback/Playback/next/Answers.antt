@@ -1,4 +1,4 @@
-use Rattle.std.proofs.Common.{◌≡◌, ℕ, ◌+◌, length, arith, Some, None, Ok, Err, sym, subst}
+use Rattle.std.proofs.Common.{◌≡◌, ℕ, ◌+◌, length, arith, Some, None, Ok, Err, sym, subst, ap, ◌∙◌}
 use Rattle.std.proofs.lemmas.Result.{err_from_is_err_and}
 use Rattle.rpc_record.specs.declared.stream.Failed.{Failed}
 use Rattle.line_runs.specs.declared.lines.Ended.{Ended}
@@ -6,6 +6,7 @@ use Rattle.line_runs.specs.declared.end.RunEnd.TheVariants.{ReadFault, NoMemory,
 use Rattle.line_runs.specs.Lines.{ReadsLine}
 use Rattle.line_runs.specs.Playback.{RunState, stand, at_line, PlaybackSteps, LastPlays, LinePlays}
 use Rattle.line_runs.proofs.RunLemmas.{flushes, flush_fails, read_fault, read_memory, read_over, read_last, read_ended}
+use Rattle.line_runs.proofs.EndLemmas.{of_line_written}
 use Rattle.line_runs.proofs.playback.Playback.next.Goals as goal
 
 pub returns-in_err-flush-clause-told : goal.returns-in_err-flush-clause-told
@@ -91,3 +92,12 @@ returns-in-Ok-Newline-clause-told g c =
     λ fresh. read_ended (left c.args.source.now) (held c.args.sink.now) (left c.read_line.new.source) (held c.play_line.new.sink) (stand was old) new task line held1 c.play_line.result read
     (subst (λ (t : RunState). LinePlays (held c.args.sink.now) (at_line (length line + 1) line (stand was t)) c.play_line.result (held c.play_line.new.sink) task new) c.read_line.ensures.rest
     (subst (λ (n : ℕ). LinePlays (held c.args.sink.now) (at_line (n + 1) line (stand was c.read_line.new.self)) c.play_line.result (held c.play_line.new.sink) task new) size (plays fresh)))
+
+pub returns-in-Err-Fault-clause-written : goal.returns-in-Err-Fault-clause-written
+returns-in-Err-Fault-clause-written g c = ap (λ (s : RunState). s.text) c.read_line.ensures.rest ∙ c.in-Err-Fault.ensures.asks (ap (λ (e : Failed). Err e) c.in-Err-Fault.field-0-is)
+
+pub returns-in-Ok-End-clause-written : goal.returns-in-Ok-End-clause-written
+returns-in-Ok-End-clause-written g c = of_line_written c.play_last.result c.play_last.new.self.text c.play_last.ensures.ends
+
+pub returns-in-Ok-Newline-clause-written : goal.returns-in-Ok-Newline-clause-written
+returns-in-Ok-Newline-clause-written g c = of_line_written c.play_line.result c.play_line.new.self.text c.play_line.ensures.ends

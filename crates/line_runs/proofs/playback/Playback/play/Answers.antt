@@ -4,7 +4,7 @@ use Rattle.rpc_record.specs.Stream.{counted}
 use Rattle.rpc_record.specs.declared.stream.Failed.{Failed}
 use Rattle.line_runs.specs.declared.end.RunEnd.{RunEnd}
 use Rattle.line_runs.specs.Playback.{stand, StepFaults}
-use Rattle.line_runs.proofs.EndLemmas.{goes, finishes, finishes_err}
+use Rattle.line_runs.proofs.EndLemmas.{goes, finishes, finishes_err, written_after}
 use Rattle.line_runs.proofs.playback.Playback.play.Goals as goal
 
 pub returns-in_err-end-clause-told : goal.returns-in_err-end-clause-told
@@ -36,3 +36,6 @@ loop-line-preserved g c =
       reads = subst (λ (r : Result (Option RunEnd) Failed). StepFaults r (g.S.Source.faults c.loop-line.source) (g.S.Source.faults c.next.new.source)) on c.next.ensures.reads ∙ c.loop-line.invariant.reads;
       writes = subst (λ (r : Result (Option RunEnd) Failed). g.K.Sink.faults c.next.new.sink ≡ counted r (g.K.Sink.faults c.loop-line.sink)) on c.next.ensures.writes ∙ c.loop-line.invariant.writes;
     }
+
+pub returns-in-Some-clause-written : goal.returns-in-Some-clause-written
+returns-in-Some-clause-written g c = written_after c.in-Some.end c.next.result c.next.new.self.text (c.in_ok-end.was ∙ ap (λ x. Ok x) c.in-Some.is) c.next.ensures.written
