@@ -12,7 +12,7 @@ use Rattle.cluster_model.specs.declared.outbox.Outbox.{Outbox}
 use Rattle.cluster_model.specs.File.{StoredFile}
 use Rattle.cluster_model.specs.Server.{ServerState, Caller, Refusal, NoEffect, server_after, write_refusal, commit_refusal, set_refusal}
 use Rattle.nfs3_wire.specs.Replies.{Nfs3Reply}
-use Rattle.ds_files.specs.declared.journal.Journal.{Journal}
+use Rattle.ds_files.specs.declared.logging.Logging.{Logging}
 use Rattle.ds_files.specs.Posts.{Acts, IsAsBefore, entries_made, outcome_made}
 use Rattle.ds_files.proofs.Journals.{none_made}
 use Rattle.ds_procedures.specs.Objects.{Object, caller_of}
@@ -86,12 +86,12 @@ turned_away s (Refused reply) h = (refl, refl)
 turned_away s (Asked xid call cred) h = refusals s call cred h
 
 -- what a step that has no effect leaves
-acts_stay : (j : Journal) (s new : ServerState) (xid : ℕ) (t : Step) (node : NodeId) (before after : Outbox) → HasNoEffect s t → Acts (outcome_made j (outcome_of_step xid t)) node new before after → (new ≡ s) × (after.entries.items ≡ before.entries.items)
+acts_stay : (j : Logging) (s new : ServerState) (xid : ℕ) (t : Step) (node : NodeId) (before after : Outbox) → HasNoEffect s t → Acts (outcome_made j (outcome_of_step xid t)) node new before after → (new ≡ s) × (after.entries.items ≡ before.entries.items)
 acts_stay j s new xid t node before after none acts =
     (acts.state ∙ none.0, acts.entries ∙ ap (λ (entries : List Entry). before.entries.items ++ entries_made j entries) none.1 ∙ ap (λ (entries : List Entry). before.entries.items ++ entries) (none_made j) ∙ append-nil before.entries.items)
 
 -- the same after a record whose call was served
-pub served_stays : {E : Type 0} (j : Journal) (result : Result Unit E) (s new : ServerState) (received : Received) (xid : ℕ) (call : Nfs3Call) (cred : Credential) (node : NodeId) (before after : Outbox) → Asked xid call cred ≡ received
+pub served_stays : {E : Type 0} (j : Logging) (result : Result Unit E) (s new : ServerState) (received : Received) (xid : ℕ) (call : Nfs3Call) (cred : Credential) (node : NodeId) (before after : Outbox) → Asked xid call cred ≡ received
     → OnOk result (Acts (outcome_made j (outcome_of_step xid (step_of s call cred))) node new before after) → OnErr result ((new ≡ s) × IsAsBefore before after) → IsTurnedAway s received → (new ≡ s) × (after.entries.items ≡ before.entries.items)
 served_stays j (Ok u) s new received xid call cred node before after is ok err h = acts_stay j s new xid (step_of s call cred) node before after (refusals s call cred (subst (λ (r : Received). IsTurnedAway s r) (sym is) h)) ok
 served_stays j (Err e) s new received xid call cred node before after is ok err h = (err.0, err.1.entries)

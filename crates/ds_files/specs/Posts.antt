@@ -4,18 +4,18 @@ use Rattle.cluster_model.specs.declared.entry.Entry.{Entry}
 use Rattle.cluster_model.specs.declared.ids.NodeId.{NodeId}
 use Rattle.cluster_model.specs.declared.outbox.Outbox.{Outbox}
 use Rattle.cluster_model.specs.Server.{ServerState}
-use Rattle.ds_files.specs.declared.journal.Journal.{Journal}
-use Rattle.ds_files.specs.declared.journal.Journal.TheVariants.{Kept, Absent}
+use Rattle.ds_files.specs.declared.logging.Logging.{Logging}
+use Rattle.ds_files.specs.declared.logging.Logging.TheVariants.{Kept, Absent}
 use Rattle.ds_files.specs.Receive.{Outcome}
 use Rattle.ds_files.specs.Records.{sent_to}
 
 -- the entries of a step that are made of it
-abbrev pub entries_made : Journal → List Entry → List Entry
+abbrev pub entries_made : Logging → List Entry → List Entry
 entries_made Kept entries = entries
 entries_made Absent entries = []
 
 -- an outcome with those alone
-abbrev pub outcome_made : Journal → Outcome → Outcome
+abbrev pub outcome_made : Logging → Outcome → Outcome
 outcome_made journal o = record { server = o.server; entries = entries_made journal o.entries; reply = o.reply }
 
 -- the server and what was put out are as the outcome says: its entries, and its reply to the node

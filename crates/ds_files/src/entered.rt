@@ -6,7 +6,7 @@ ghost use Rattle.ds_procedures.specs.Heads.{server_of};
 ghost use Rattle.ds_procedures.specs.CodePlans.{plain_effect, IsReady};
 ghost use Rattle.ds_files.specs.Posts.{entries_made};
 
-use crate::journal::Journal;
+use crate::logging::Logging;
 use cluster_model::{Cred, Entry, MirrorId};
 use data_file::DataFile;
 use ds_procedures::{Effect, Head};
@@ -102,7 +102,7 @@ pub fn entries_of(
 
 /// Those of them that a journal wants; takes no memory where none is kept.
 pub fn entries_made(
-    journal: Journal,
+    logging: Logging,
     alloc: Global,
     head: &Head,
     files: &[DataFile],
@@ -110,10 +110,10 @@ pub fn entries_made(
     uid: u32,
 ) -> Result<Vec<Entry>, NoMemory>
     requires { IsReady head.now files.now (plain_effect effect.now) }
-    ensures { IfOk result (λ entries. entries.items ≡ entries_made journal (entries_of (server_of head.now files.now) uid (plain_effect effect.now))) }
+    ensures { IfOk result (λ entries. entries.items ≡ entries_made logging (entries_of (server_of head.now files.now) uid (plain_effect effect.now))) }
 {
-    match journal {
-        Journal::Kept => entries_of(alloc, head, files, effect, uid),
-        Journal::Absent => Ok(Vec::new(alloc)),
+    match logging {
+        Logging::Kept => entries_of(alloc, head, files, effect, uid),
+        Logging::Absent => Ok(Vec::new(alloc)),
     }
 }

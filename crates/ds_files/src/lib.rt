@@ -3,8 +3,8 @@
 
 mod carry;
 mod entered;
-mod journal;
 mod laws;
+mod logging;
 mod receive;
 mod received;
 mod record;

@@ -9,12 +9,12 @@ ghost use Rattle.ds_procedures.specs.Steps.{step_of};
 ghost use Rattle.ds_procedures.specs.Answer.{answer_of};
 ghost use Rattle.ds_files.specs.Receive.{received, outcome_of, outcome_of_step};
 ghost use Rattle.ds_files.specs.Laws.{IsRefusedReply, IsTurnedAway};
-ghost use Rattle.ds_files.specs.declared.journal.Journal.TheVariants.{Absent};
+ghost use Rattle.ds_files.specs.declared.logging.Logging.TheVariants.{Absent};
 ghost use Rattle.ds_files.specs.Posts.{Acts, IsAsBefore, outcome_made};
 
 use crate::carry::carry_out;
 use crate::entered::{entries_made, entries_of};
-use crate::journal::Journal;
+use crate::logging::Logging;
 use crate::receive::receive;
 use crate::received::Received;
 use crate::record::{encode, post, success, take_back};
@@ -111,7 +111,7 @@ impl DataServer {
     /// The same, once it gave so many ticks: the first to the file, and the others to changes of which
     /// nothing is left to see. There are 999,999,999 ticks in a boot.
     pub fn preset_after(alloc: Global, count: u32) -> Result<DataServer, NoMemory>
-        requires { count ≤ max_ticks }
+        requires { (1 ≤ count) × (count ≤ max_ticks) }
         ensures { IfOk result (λ server. server ≡ preset_after count) }
     {
         let start = Tick { boot: 1, count: 0 };
@@ -159,10 +159,10 @@ impl DataServer {
         xid: u32,
         call: &Call3<'_>,
         cred: &AuthSys<'_>,
-        journal: Journal,
+        logging: Logging,
         out: &mut Outbox,
     ) -> Result<(), NoMemory>
-        ensures ok { OnOk result (Acts (outcome_made journal (outcome_of_step xid (step_of self.old (plain_call call.now) (plain_credential cred.now)))) node self.new out.old out.new) }
+        ensures ok { OnOk result (Acts (outcome_made logging (outcome_of_step xid (step_of self.old (plain_call call.now) (plain_credential cred.now)))) node self.new out.old out.new) }
         ensures err { OnErr result ((self.new ≡ self.old) × IsAsBefore out.old out.new) }
     {
         let (sends, entered) = (out.sends.len(), out.entries.len());
@@ -170,7 +170,7 @@ impl DataServer {
         let effect = plan.effect;
         let bytes = success(self.alloc, xid, &plan.response)?;
         let entries = entries_made(
-            journal,
+            logging,
             self.alloc,
             &self.head,
             &self.files,
@@ -206,10 +206,10 @@ impl DataServer {
         &mut self,
         from: NodeId,
         message: &[u8],
-        journal: Journal,
+        logging: Logging,
         out: &mut Outbox,
     ) -> Result<(), NoMemory>
-        ensures ok { OnOk result (Acts (outcome_made journal (outcome_of self.old message.now)) from self.new out.old out.new) }
+        ensures ok { OnOk result (Acts (outcome_made logging (outcome_of self.old message.now)) from self.new out.old out.new) }
         ensures err { OnErr result ((self.new ≡ self.old) × IsAsBefore out.old out.new) }
         ensures turned_away { IsTurnedAway self.old (received message.now) → (self.new ≡ self.old) × (out.new.entries.items ≡ out.old.entries.items) }
     {
@@ -221,7 +221,7 @@ impl DataServer {
                 Ok(())
             }
             Received::Asked { xid, call, cred } => {
-                self.serve(from, xid, &call, &cred, journal, out)
+                self.serve(from, xid, &call, &cred, logging, out)
             }
         }
     }
@@ -239,7 +239,7 @@ impl DataServer {
         ensures err { OnErr result ((self.new ≡ self.old) × IsAsBefore out.old out.new) }
         ensures turned_away { IsTurnedAway self.old (received message.now) → (self.new ≡ self.old) × (out.new.entries.items ≡ out.old.entries.items) }
     {
-        self.take_record(from, message, Journal::Kept, out)
+        self.take_record(from, message, Logging::Kept, out)
     }
 
     /// Takes a record from a node, and puts out the reply to it as `on_record` does, but no entry, for
@@ -255,6 +255,6 @@ impl DataServer {
         ensures err { OnErr result ((self.new ≡ self.old) × IsAsBefore out.old out.new) }
         ensures turned_away { IsTurnedAway self.old (received message.now) → self.new ≡ self.old }
     {
-        self.take_record(from, message, Journal::Absent, out)
+        self.take_record(from, message, Logging::Absent, out)
     }
 }

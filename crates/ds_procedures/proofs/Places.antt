@@ -16,7 +16,7 @@ use Rattle.cluster_model.proofs.Permitted.{stops, not_false}
 use Rattle.ds_procedures.specs.declared.head.Head.{Head}
 use Rattle.ds_procedures.specs.declared.object.Place.TheVariants as place
 use Rattle.ds_procedures.specs.Objects.{object_by}
-use Rattle.ds_procedures.specs.Heads.{IsAt, IsServer, server_of, size_refusal, sized_refusal}
+use Rattle.ds_procedures.specs.Heads.{IsAt, IsServer, server_of, size_refusal, write_refusal_by_sizes}
 use Rattle.ds_procedures.specs.CodePlans.{HasRoom}
 
 -- what a file is in the code and in the rule
@@ -66,7 +66,7 @@ room_is h files index f at (b ∷ bytes) k e =
 
 -- the refusals of a write are those of the sizes
 pub refusal_is : (h : Head) (files : List StoredFile) (index : ℕ) (f : StoredFile) (caller : Caller) (agree : Bool) (at : ℕ) (bytes : List ℕ) → IsServer h files → slice_get files index ≡ Some f
-    → sized_refusal h.total h.clock f caller agree at bytes ≡ write_refusal (server_of h files) index f caller agree at bytes
+    → write_refusal_by_sizes h.total h.clock f caller agree at bytes ≡ write_refusal (server_of h files) index f caller agree at bytes
 refusal_is h files index f caller agree at bytes k e = rw (room_is h files index f at bytes k e) refl
 
 -- there is room for a write that is not refused, and its arguments agree
@@ -84,7 +84,7 @@ pub record IsGranted (h : Head) (size at len : ℕ) (agree : Bool) : Type 0 wher
   pub agrees : agree ≡ true
   pub room : HasRoom h size at len
 
-pub granted : (h : Head) (f : StoredFile) (caller : Caller) (agree : Bool) (at : ℕ) (bytes : List ℕ) → h.clock.count ≤ max_ticks → sized_refusal h.total h.clock f caller agree at bytes ≡ None → IsGranted h (length (shown f)) at (length bytes) agree
+pub granted : (h : Head) (f : StoredFile) (caller : Caller) (agree : Bool) (at : ℕ) (bytes : List ℕ) → h.clock.count ≤ max_ticks → write_refusal_by_sizes h.total h.clock f caller agree at bytes ≡ None → IsGranted h (length (shown f)) at (length bytes) agree
 granted h f caller agree at bytes le e =
     let a = stops (not (may_write f caller)) Acces _ e in
     let b = stops (not agree) Inval _ a.1 in

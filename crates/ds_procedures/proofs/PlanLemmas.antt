@@ -15,7 +15,7 @@ use Rattle.ds_procedures.specs.Objects.{stat_of, file_attributes, wcc_same}
 use Rattle.ds_procedures.specs.Write.{is_synced, write_done, write_unless}
 use Rattle.ds_procedures.specs.Setattr.{set_done, set_unless}
 use Rattle.ds_procedures.specs.Plans.{reply_alone}
-use Rattle.ds_procedures.specs.Heads.{IsServer, server_of, sized_refusal}
+use Rattle.ds_procedures.specs.Heads.{IsServer, server_of, write_refusal_by_sizes}
 use Rattle.ds_procedures.specs.CodePlans.{HasRoom, IsReady}
 use Rattle.ds_procedures.proofs.Places.{refusal_is, granted, same_file}
 
@@ -45,27 +45,27 @@ module _ (h : Head) (files : List StoredFile) (index : ℕ) (x : StoredFile) (ca
   -- ---- WRITE
 
   module _ (agree : Bool) (offset : ℕ) (how : StableHow) (bytes : List ℕ) where
-    same_refusal : sized_refusal h.total h.clock x caller agree offset bytes ≡ write_refusal (server_of h files) index x caller agree offset bytes
+    same_refusal : write_refusal_by_sizes h.total h.clock x caller agree offset bytes ≡ write_refusal (server_of h files) index x caller agree offset bytes
     same_refusal = refusal_is h files index x caller agree offset bytes k there_is
 
-    pub write_refused : (status : Stat3) → Some status ≡ option_map stat_of (sized_refusal h.total h.clock x caller agree offset bytes) → (f : StoredFile) → slice_get files index ≡ Some f
+    pub write_refused : (status : Stat3) → Some status ≡ option_map stat_of (write_refusal_by_sizes h.total h.clock x caller agree offset bytes) → (f : StoredFile) → slice_get files index ≡ Some f
         → reply_alone (WriteRefused status (wcc_same (Some (file_attributes (index + 2) x)))) ≡ write_unless (server_of h files) index f offset how bytes (write_refusal (server_of h files) index f caller agree offset bytes)
     write_refused status e f there =
         let here : reply_alone (WriteRefused status (wcc_same (Some (file_attributes (index + 2) x)))) ≡ write_unless (server_of h files) index x offset how bytes (write_refusal (server_of h files) index x caller agree offset bytes) =
         write_status (server_of h files) index x offset how bytes (write_refusal (server_of h files) index x caller agree offset bytes) status (e ∙ ap (option_map stat_of) same_refusal) in
         subst (λ (g : StoredFile). reply_alone (WriteRefused status (wcc_same (Some (file_attributes (index + 2) x)))) ≡ write_unless (server_of h files) index g offset how bytes (write_refusal (server_of h files) index g caller agree offset bytes)) (same_file files index x f is there) here
 
-    pub write_granted : None ≡ option_map stat_of (sized_refusal h.total h.clock x caller agree offset bytes) → (f : StoredFile) → slice_get files index ≡ Some f
+    pub write_granted : None ≡ option_map stat_of (write_refusal_by_sizes h.total h.clock x caller agree offset bytes) → (f : StoredFile) → slice_get files index ≡ Some f
         → write_done (server_of h files) index x (Writes offset (is_synced how) bytes) (length bytes) (is_synced how) ≡ write_unless (server_of h files) index f offset how bytes (write_refusal (server_of h files) index f caller agree offset bytes)
     write_granted e f there =
-        let none = sym same_refusal ∙ none_by (sized_refusal h.total h.clock x caller agree offset bytes) e in
+        let none = sym same_refusal ∙ none_by (write_refusal_by_sizes h.total h.clock x caller agree offset bytes) e in
         let here : write_done (server_of h files) index x (Writes offset (is_synced how) bytes) (length bytes) (is_synced how) ≡ write_unless (server_of h files) index x offset how bytes (write_refusal (server_of h files) index x caller agree offset bytes) = rw none refl in
         subst (λ (g : StoredFile). write_done (server_of h files) index x (Writes offset (is_synced how) bytes) (length bytes) (is_synced how) ≡ write_unless (server_of h files) index g offset how bytes (write_refusal (server_of h files) index g caller agree offset bytes)) (same_file files index x f is there) here
 
     -- and it can be carried out
-    pub write_ready : None ≡ option_map stat_of (sized_refusal h.total h.clock x caller agree offset bytes) → IsReady h files (OnFile index (Writes offset (is_synced how) bytes))
+    pub write_ready : None ≡ option_map stat_of (write_refusal_by_sizes h.total h.clock x caller agree offset bytes) → IsReady h files (OnFile index (Writes offset (is_synced how) bytes))
     write_ready e =
-        let room = (granted h x caller agree offset bytes k.ticks (none_by (sized_refusal h.total h.clock x caller agree offset bytes) e)).room in
+        let room = (granted h x caller agree offset bytes k.ticks (none_by (write_refusal_by_sizes h.total h.clock x caller agree offset bytes) e)).room in
         (lt, (λ f there. subst (λ (g : StoredFile). HasRoom h (length (shown g)) offset (length bytes)) (same_file files index x f is there) room), tt)
 
   -- ---- SETATTR

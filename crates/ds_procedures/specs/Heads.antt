@@ -39,8 +39,8 @@ size_refusal total clock size at len =
     else tick_refusal clock))
 
 -- the refusals of a WRITE on a file in their order, by the sizes alone
-abbrev pub sized_refusal : ℕ → Tick → StoredFile → Caller → Bool → ℕ → List ℕ → Option Refusal
-sized_refusal total clock f caller agree at bytes =
+abbrev pub write_refusal_by_sizes : ℕ → Tick → StoredFile → Caller → Bool → ℕ → List ℕ → Option Refusal
+write_refusal_by_sizes total clock f caller agree at bytes =
     if not (may_write f caller) then Some Acces
     else (if not agree then Some Inval
     else size_refusal total clock (length (shown f)) at (length bytes))

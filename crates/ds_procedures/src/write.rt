@@ -6,7 +6,7 @@ ghost use Rattle.cluster_model.specs.File.{shown, written, Writes};
 ghost use Rattle.cluster_model.specs.Server.{write_refusal, max_total, max_file};
 ghost use Rattle.ds_procedures.specs.Objects.{object_of, caller, file_attributes, stat_of};
 ghost use Rattle.ds_procedures.specs.Write.{is_synced, stability_of, write_done, write_unless, write_plan};
-ghost use Rattle.ds_procedures.specs.Heads.{IsServer, server_of, size_refusal, sized_refusal, Refuses};
+ghost use Rattle.ds_procedures.specs.Heads.{IsServer, server_of, size_refusal, write_refusal_by_sizes, Refuses};
 ghost use Rattle.ds_procedures.specs.CodePlans.{plain_plan, plain_effect, IsPlanOn, IsReady};
 ghost use Rattle.std.specs.Prelude.{[]};
 
@@ -72,7 +72,7 @@ pub fn size_refusal(total: u64, clock: Tick, size: u64, at: u64, length: u64) ->
 fn refusal(head: &Head, file: &DataFile, args: &WriteArgs<'_>, cred: &AuthSys<'_>) -> Option<Stat3>
     requires part { length (shown file.now) ≤ head.now.total }
     requires bounded { head.now.total ≤ max_total }
-    ensures exact { result ≡ option_map stat_of (sized_refusal head.now.total head.now.clock file.now (caller cred.now) (args.now.count == length args.now.bytes.now) args.now.offset args.now.bytes.now) }
+    ensures exact { result ≡ option_map stat_of (write_refusal_by_sizes head.now.total head.now.clock file.now (caller cred.now) (args.now.count == length args.now.bytes.now) args.now.offset args.now.bytes.now) }
     ensures status { IfSome result Refuses }
 {
     if !may_write(file, cred) {

@@ -45,10 +45,6 @@ is_refused TooManyFragments = true
 abbrev pub is_spent : ConnectionState → Bool
 is_spent s = (s.ended || is_refused s.front) && not (is_whole s.front)
 
--- no more records come, those that were handed out are answered, and nothing is to go
-abbrev pub has_served_all : ConnectionState → Bool
-has_served_all s = is_spent s && ((s.unanswered == 0) && (length s.to_go == 0))
-
 -- ---- what the calls of `Connection` do
 
 -- What filling did: these bytes of the stream came behind the others; or the peer has ended its side; or nothing was done.

@@ -4,7 +4,7 @@ ghost use Rattle.std.specs.Prelude.{◌≡◌, ◌≤◌, ◌<◌, ◌++◌, ◌
 ghost use Rattle.std.specs.Option.{option_map};
 ghost use Rattle.rpc_record.specs.Frames.{front_of, max_record, record_bytes, is_whole, with_taken, TakesOut};
 ghost use Rattle.record_link.specs.Stream.{Comes};
-ghost use Rattle.record_link.specs.Connection.{new_connection, is_refused, is_spent, has_served_all, Fills, Advances, Hands, PutsAnswer, Drains, HasCome, HasGone};
+ghost use Rattle.record_link.specs.Connection.{new_connection, is_refused, is_spent, Fills, Advances, Hands, PutsAnswer, Drains, HasCome, HasGone};
 
 use crate::ahead::Ahead;
 use crate::outgoing::Outgoing;

@@ -5,12 +5,12 @@
 mod ahead;
 mod connection;
 mod connections;
-mod line;
 mod memory_stream;
 mod outgoing;
 mod peer;
 mod rank;
 mod stream;
+mod stream_connection;
 
 pub use connection::Connection;
 pub use connections::{Connections, MAX_CONNECTIONS};

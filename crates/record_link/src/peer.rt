@@ -5,8 +5,8 @@ ghost use Rattle.rpc_record.specs.Frames.{is_whole, max_record};
 ghost use Rattle.record_link.specs.Connections.{is_ready, wants_bytes, is_stuck, is_finished, is_idle, is_to_close, new_peer, order_after, Settles, FillsPeer, HandsPeer, AnswersPeer, DrainsPeer};
 
 use crate::connection::Connection;
-use crate::line::Line;
 use crate::stream::{Halt, Stream};
+use crate::stream_connection::StreamConnection;
 use ff_xdr::{Data, NoMemory};
 use rpc_record::RecordFault;
 use std::alloc::Global;
@@ -33,7 +33,7 @@ pub const HIGH_WATER: usize = 1_048_576;
 pub struct Peer<S: Stream> {
     // given once
     number: u32,
-    line: Line<S>,
+    line: StreamConnection<S>,
     // when it was opened or the last bytes came, in milliseconds
     heard: u64,
     // when bytes began to wait for it or the last of them went, in milliseconds
@@ -143,7 +143,7 @@ impl<S: Stream> Peer<S> {
     {
         Peer {
             number,
-            line: Line {
+            line: StreamConnection {
                 stream,
                 connection: Connection::new(alloc),
             },

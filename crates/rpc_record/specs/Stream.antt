@@ -1,7 +1,7 @@
 -- What the calls of a source and of a sink of bytes do.
 use Rattle.std.specs.Prelude.{◌≡◌, ℕ, ◌+◌, ◌-◌, ◌^◌, ◌<◌, ◌≤◌, ◌==◌, nat_lt, min, Bool, ◌&&◌, List, [], ◌++◌, length, take, drop, Option, None, Some, Result, Ok, Err}
 use Rattle.std.specs.List.{list_any}
-use Rattle.std.specs.Io.KnownBytes.{Appends}
+use Rattle.std.specs.Io.KnownBytes.{Appends, Keeps}
 use Rattle.rpc_record.specs.declared.stream.Failed.{Failed}
 use Rattle.rpc_record.specs.declared.stream.Failed.TheVariants.{Fault, NoMemory}
 
@@ -44,10 +44,12 @@ pub record WriterState : Type 0 where
   pub contents : Option (List ℕ)
   pub faults : ℕ
 
--- The writer's bytes grew by the n that were taken. At an error they may have grown by some from the piece's front.
+-- The writer's bytes grew by the n that were taken; by none where memory was wanted. At a fault they may have grown by some from the
+-- piece's front.
 abbrev pub WritesTo : Option (List ℕ) → List ℕ → Result ℕ Failed → Option (List ℕ) → Type 0
 WritesTo old piece (Ok n) new = Appends old new (take n piece)
-WritesTo old piece (Err e) new = (n : ℕ) × Appends old new (take n piece)
+WritesTo old piece (Err NoMemory) new = Keeps old new
+WritesTo old piece (Err Fault) new = (n : ℕ) × Appends old new (take n piece)
 
 -- a source over memory: the bytes that are left, the numbers of the calls that fail, how many calls were made and how many failed
 pub record SourceState : Type 0 where

@@ -1,5 +1,5 @@
 //! The readers and writers of `std::io` as sources and sinks.
-ghost use Rattle.std.specs.Prelude.{◌≡◌, ◌↔◌, ℕ, ◌<◌, ◌≤◌, length, None, Err, IsOk, IfOk};
+ghost use Rattle.std.specs.Prelude.{◌≡◌, ◌≢◌, ◌↔◌, ℕ, ◌<◌, ◌≤◌, length, None, Err, IsOk, IfOk};
 ghost use Rattle.std.specs.Io.KnownBytes.{Keeps, ReadConsumes};
 ghost use Rattle.rpc_record.specs.Stream.{ReaderState, WriterState, counted, Reads, Writes, WritesTo};
 
@@ -77,9 +77,10 @@ impl<W: Write + Drop> Sink for StdSink<W> {
     ghost held = { λ _. None };
 
     /// Writes once, again where a signal interrupts it, and flushes, so that no buffer keeps what was
-    /// taken. An error of the writer's is a fault, but for one of kind `OutOfMemory`, which is
-    /// `Failed::NoMemory`. A writer that takes nothing of a piece that isn't empty is a fault too. After
-    /// an error a part of the piece may have been taken.
+    /// taken. An error of the writing is a fault, but for one of kind `OutOfMemory`, which is
+    /// `Failed::NoMemory`: nothing was taken then. An error of the flush, of any kind, is a fault, and so
+    /// is a writer that takes nothing of a piece that isn't empty. After a fault a part of the piece may
+    /// have been taken.
     fn write(&mut self, piece: &[u8]) -> Result<usize, Failed>
         ensures within { IfOk result (λ n. n ≤ length piece.now) }
         ensures takes { IfOk result (λ n. 0 < length piece.now → 0 < n) }
@@ -134,13 +135,16 @@ fn write_piece<W: Write>(writer: &mut W, piece: &[u8]) -> Result<usize, Failed>
     Err(Failed::Fault)
 }
 
+/// Flushes, again where a signal interrupts it. Bytes were taken before, so any other error is a fault.
 fn flush<W: Write>(writer: &mut W) -> Result<(), Failed>
-    ensures { Keeps (W.contents writer.old) (W.contents writer.new) }
+    ensures kept { Keeps (W.contents writer.old) (W.contents writer.new) }
+    ensures faults { result ≢ Err Failed.NoMemory }
 {
     for _ in 0..u64::MAX {
         match writer.flush() {
             Ok(()) => return Ok(()),
-            Err(error) => retry(error.kind())?,
+            Err(error) if error.kind() == ErrorKind::Interrupted => {}
+            Err(_) => return Err(Failed::Fault),
         }
     }
     Err(Failed::Fault)

@@ -8,14 +8,14 @@ use crate::stream::{Halt, Stream};
 
 /// A stream, and what came and what goes on it.
 #[derive(Drop)]
-pub struct Line<S> {
+pub struct StreamConnection<S> {
     /// What carries the bytes.
     pub stream: S,
     /// What came and what goes.
     pub connection: Connection,
 }
 
-impl<S: Stream> Line<S> {
+impl<S: Stream> StreamConnection<S> {
     /// Reads once from its stream, and keeps what came behind the bytes ahead.
     pub fn fill(&mut self) -> Result<usize, Halt>
         ensures told { Fills self.old.connection (S.coming self.old.stream) result self.new.connection (S.coming self.new.stream) }

@@ -2,7 +2,7 @@
 
 /// Whether the entries of a step are made.
 #[derive(Clone, Copy, Debug, PartialEq, Eq)]
-pub enum Journal {
+pub enum Logging {
     /// They are, with bytes of their own.
     Kept,
     /// They are not, since nobody keeps them.
