@@ -13,6 +13,7 @@ pub fn put_applied(
     answer: &mut Answer,
 ) -> Result<(), RowFault> {
     let record = words.bytes()?;
+    words.end()?;
     let call = Call::read(&record).ok().ok_or(RowFault::Outside)?;
     let cred = AuthSys::from_bytes(call.cred.body)
         .ok()

@@ -35,18 +35,27 @@ impl ClientRows {
     }
 
     fn make(&mut self, words: &mut Words<'_>) -> Result<(), RowFault> {
-        self.number = words.number32()?;
+        let number = words.number32()?;
         let verifier = words.sized::<8>()?;
-        let first_xid = words.number32()?;
-        let client = Client::new(self.alloc, self.number, verifier, first_xid)?;
+        let first_xid = words.last_number32()?;
+        let client = Client::new(self.alloc, number, verifier, first_xid)?;
         self.client = Some(client);
+        self.number = number;
         Ok(())
+    }
+
+    /// The moment of an event: a tick says its own.
+    fn moment(&self, name: &str, words: &mut Words<'_>) -> Result<u64, RowFault> {
+        match name {
+            "tick" => words.last_number64(),
+            _ => Ok(self.now),
+        }
     }
 }
 
-/// A request for a file of a name that is not too long.
+/// A request for a file of a name that is there and not too long.
 fn open(client: &mut Client, name: &str, out: &mut Outbox) -> Result<(), RowFault> {
-    if name.len() > MAX_NAME {
+    if name.is_empty() || name.len() > MAX_NAME {
         return Err(RowFault::Outside);
     }
     client.open(name, out)?;
@@ -62,6 +71,7 @@ fn write(
 ) -> Result<(), RowFault> {
     let at = words.number64()?;
     let bytes = words.bytes()?;
+    words.end()?;
     if bytes.is_empty() || bytes.len() > MAX_WRITE {
         return Err(RowFault::Outside);
     }
@@ -78,6 +88,7 @@ fn stray(client: &mut Client, words: &mut Words<'_>, out: &mut Outbox) -> Result
     let place = words.number32()?;
     let at = words.number64()?;
     let bytes = words.bytes()?;
+    words.end()?;
     if bytes.len() > MAX_WRITE || !client.has_left() {
         return Err(RowFault::Outside);
     }
@@ -96,12 +107,18 @@ fn request(
         "open" => open(client, words.rest(), out)?,
         "write" => write(client, false, words, out)?,
         "through" => write(client, true, words, out)?,
-        "commit" => client.commit(out)?,
+        "commit" => {
+            words.end()?;
+            client.commit(out)?;
+        }
         "read" => {
             let at = words.number64()?;
-            client.read(at, words.number32()?, out)?;
+            client.read(at, words.last_number32()?, out)?;
         }
-        "return" => client.return_all(out)?,
+        "return" => {
+            words.end()?;
+            client.return_all(out)?;
+        }
         _ => return Err(RowFault::Outside),
     }
     Ok(())
@@ -118,9 +135,15 @@ fn event(
     match name {
         "record" => {
             let from = words.node()?;
-            client.on_record(from, &words.bytes()?, now, out)?;
+            let record = words.bytes()?;
+            words.end()?;
+            client.on_record(from, &record, now, out)?;
         }
-        "timeout" => client.on_timeout(words.node()?, out)?,
+        "timeout" => {
+            let node = words.node()?;
+            words.end()?;
+            client.on_timeout(node, out)?;
+        }
         "tick" => client.tick(now, out)?,
         "stray" => stray(client, words, out)?,
         _ => request(client, name, words, out)?,
@@ -148,20 +171,26 @@ impl Part for ClientRows {
             self.make(words)?;
             return answer.word("Ok");
         }
-        if name == "tick" {
-            self.now = words.number64()?;
-        }
+        let now = self.moment(name, words)?;
         let client = self.client.as_mut().ok_or(RowFault::Outside)?;
         match name {
             "turn" => {
+                words.end()?;
                 client.turn();
                 answer.word("Ok")
             }
-            "answers" => put_oldest(client, self.number, answer),
-            "next_xid" => answer.number(u64::from(client.next_xid())),
+            "answers" => {
+                words.end()?;
+                put_oldest(client, self.number, answer)
+            }
+            "next_xid" => {
+                words.end()?;
+                answer.number(u64::from(client.next_xid()))
+            }
             _ => {
                 let mut out = Outbox::new(self.alloc);
-                event(client, self.now, name, words, &mut out)?;
+                event(client, now, name, words, &mut out)?;
+                self.now = now;
                 put_outbox(&out, answer)
             }
         }

@@ -4,7 +4,6 @@
 mod apply;
 mod client;
 mod outbox;
-mod pieces;
 mod server;
 mod stored_file;
 

@@ -7,7 +7,6 @@
 
 use crate::apply::put_applied;
 use crate::outbox::put_outbox;
-use crate::pieces::pieces;
 use cluster_model::{Outbox, Tick};
 use ds_files::{DataServer, RestartFault};
 use ds_procedures::size_refusal;
@@ -41,16 +40,19 @@ impl ServerRows {
         match name {
             "new" => {
                 let number = words.number32()?;
-                let boot = words.number32()?;
+                let boot = words.last_number32()?;
                 if boot == 0 {
                     return Err(RowFault::Outside);
                 }
                 Ok(Some(DataServer::new(self.alloc, number, boot)))
             }
-            "preset" => Ok(Some(DataServer::preset(self.alloc)?)),
+            "preset" => {
+                words.end()?;
+                Ok(Some(DataServer::preset(self.alloc)?))
+            }
             "preset_after" => {
-                let count = words.number32()?;
-                if count > MAX_TICKS {
+                let count = words.last_number32()?;
+                if count == 0 || count > MAX_TICKS {
                     return Err(RowFault::Outside);
                 }
                 Ok(Some(DataServer::preset_after(self.alloc, count)?))
@@ -65,7 +67,9 @@ fn put_restart(
     words: &mut Words<'_>,
     answer: &mut Answer,
 ) -> Result<(), RowFault> {
-    match server.restart(&pieces(words)?) {
+    let pieces = words.pieces()?;
+    words.end()?;
+    match server.restart(&pieces) {
         Ok(()) => answer.word("Ok"),
         Err(RestartFault::BootsSpent) => answer.word("BootsSpent"),
         Err(RestartFault::NoMemory) => Err(RowFault::NoMemory),
@@ -80,6 +84,7 @@ fn put_record(
 ) -> Result<(), RowFault> {
     let from = words.node()?;
     let record = words.bytes()?;
+    words.end()?;
     let mut out = Outbox::new(words.alloc());
     if is_kept {
         server.on_record(from, &record, &mut out)?;
@@ -97,6 +102,7 @@ fn put_cut(
 ) -> Result<(), RowFault> {
     let from = words.node()?;
     let record = words.bytes()?;
+    words.end()?;
     let mut first = String::new(words.alloc());
     let mut count = 0_u64;
     for length in 0..record.len() {
@@ -125,7 +131,7 @@ fn put_room(words: &mut Words<'_>, answer: &mut Answer) -> Result<(), RowFault> 
     };
     let size = words.number64()?;
     let at = words.number64()?;
-    let count = words.number64()?;
+    let count = words.last_number64()?;
     if size > total || total > MAX_TOTAL {
         return Err(RowFault::Outside);
     }

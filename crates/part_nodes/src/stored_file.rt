@@ -2,8 +2,7 @@
 //! `set TICK OWNER GROUP MODE ATIME MTIME`, where `-` stays, and a time is `-`, `now` or a tick, and `restart PIECES`. Behind
 //! each answer stand the size, the owner, the group, the mode, and the times of the last access, write and change.
 
-use crate::pieces::pieces;
-use cluster_model::{Changes, NewTime, Piece};
+use cluster_model::{Changes, NewTime};
 use data_file::{DataFile, MAX_FILE};
 use row_words::{Answer, Part, RowFault, Words};
 use std::alloc::Global;
@@ -25,7 +24,9 @@ impl DataFileRows {
         let owner = words.number32()?;
         let group = words.number32()?;
         let mode = words.number32()?;
-        self.file = Some(DataFile::new(self.alloc, owner, group, mode, words.tick()?));
+        let tick = words.tick()?;
+        words.end()?;
+        self.file = Some(DataFile::new(self.alloc, owner, group, mode, tick));
         Ok(())
     }
 }
@@ -36,6 +37,7 @@ fn write(file: &mut DataFile, words: &mut Words<'_>) -> Result<(), RowFault> {
     let at = words.number64()?;
     let synced = words.flag()?;
     let bytes = words.bytes()?;
+    words.end()?;
     let count = bytes.len() as u64;
     if count > MAX_FILE || at > MAX_FILE - count {
         return Err(RowFault::Outside);
@@ -62,14 +64,17 @@ fn set(file: &mut DataFile, words: &mut Words<'_>) -> Result<(), RowFault> {
         atime: new_time(words)?,
         mtime: new_time(words)?,
     };
+    words.end()?;
     file.set(tick, &changes);
     Ok(())
 }
 
 /// A restart that these pieces reached the disk before.
-fn restart(file: &mut DataFile, pieces: &[Piece]) -> Result<(), RowFault> {
+fn restart(file: &mut DataFile, words: &mut Words<'_>) -> Result<(), RowFault> {
+    let pieces = words.pieces()?;
+    words.end()?;
     let mut kept = None;
-    for piece in pieces {
+    for piece in &pieces {
         kept = file.keep(piece, kept)?;
     }
     file.restart(kept);
@@ -86,12 +91,15 @@ fn put_call(
     match name {
         "new" => {}
         "write" => write(file, words)?,
-        "commit" => file.commit(),
+        "commit" => {
+            words.end()?;
+            file.commit();
+        }
         "set" => set(file, words)?,
-        "restart" => restart(file, &pieces(words)?)?,
+        "restart" => restart(file, words)?,
         "read" => {
             let at = words.number64()?;
-            return answer.bytes(file.read(at, words.number32()?));
+            return answer.bytes(file.read(at, words.last_number32()?));
         }
         _ => return Err(RowFault::Outside),
     }

@@ -55,11 +55,12 @@ impl Part for ExtentsRows {
     fn call(&mut self, words: &mut Words<'_>, answer: &mut Answer) -> Result<(), RowFault> {
         let name = words.word()?;
         if name == "new" {
+            words.end()?;
             self.extents = Extents::new(self.alloc);
             return answer.word("Ok");
         }
         let at = words.number64()?;
-        let count = words.number64()?;
+        let count = words.last_number64()?;
         match name {
             "insert" => {
                 self.insert(at, count)?;

@@ -24,7 +24,9 @@ fn started(words: &mut Words<'_>) -> Result<Fence, RowFault> {
     if mirrors.len() == 0 {
         return Err(RowFault::Outside);
     }
-    Ok(Fence::start(mirrors, words.cred()?))
+    let cred = words.cred()?;
+    words.end()?;
+    Ok(Fence::start(mirrors, cred))
 }
 
 /// What an answer or a timeout came to.
@@ -62,6 +64,7 @@ fn put_reply(
     let mut bytes = Vec::new(words.alloc());
     let xid = words.number32()?;
     let reply = words.ds_reply(&mut bytes)?;
+    words.end()?;
     put_step(fence.on_reply(xid, &reply), answer)
 }
 
@@ -73,15 +76,18 @@ fn put_call(
     answer: &mut Answer,
 ) -> Result<(), RowFault> {
     match name {
-        "next_call" => put_next(fence, words.number32()?, answer),
+        "next_call" => put_next(fence, words.last_number32()?, answer),
         "on_reply" => put_reply(fence, words, answer),
-        "on_timeout" => put_step(fence.on_timeout(words.number32()?), answer),
+        "on_timeout" => put_step(fence.on_timeout(words.last_number32()?), answer),
         "tick" => {
+            words.end()?;
             fence.tick();
             answer.word("Ok")
         }
         "drop_mirror" => {
-            fence.drop_mirror(words.mirror_id()?);
+            let id = words.mirror_id()?;
+            words.end()?;
+            fence.drop_mirror(id);
             answer.word("Ok")
         }
         _ => Err(RowFault::Outside),

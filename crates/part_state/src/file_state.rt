@@ -22,6 +22,7 @@ impl FileStateRows {
 /// Its mirrors are made, where they are to be made and it is to have as many.
 fn made(file: &mut FileState, words: &mut Words<'_>) -> Result<(), RowFault> {
     let live = words.mirrors()?;
+    words.end()?;
     if live.len() == 0 || live.len() as u64 > u64::from(file.wanted()) {
         return Err(RowFault::Outside);
     }
@@ -36,6 +37,7 @@ fn made(file: &mut FileState, words: &mut Words<'_>) -> Result<(), RowFault> {
 fn revoke(file: &mut FileState, words: &mut Words<'_>) -> Result<(), RowFault> {
     let cause = words.end_cause()?;
     let next = words.cred()?;
+    words.end()?;
     if cause.is_clean() || file.holder().is_none() {
         return Err(RowFault::Outside);
     }
@@ -44,7 +46,8 @@ fn revoke(file: &mut FileState, words: &mut Words<'_>) -> Result<(), RowFault> {
 }
 
 /// Its fence is done, where it is in one.
-fn fence_done(file: &mut FileState) -> Result<(), RowFault> {
+fn fence_done(file: &mut FileState, words: &mut Words<'_>) -> Result<(), RowFault> {
+    words.end()?;
     let Phase::Fencing = file.phase() else {
         return Err(RowFault::Outside);
     };
@@ -55,7 +58,9 @@ fn fence_done(file: &mut FileState) -> Result<(), RowFault> {
 /// This ctime was seen at a mirror.
 fn saw(file: &mut FileState, words: &mut Words<'_>) -> Result<(), RowFault> {
     let id = words.mirror_id()?;
-    file.saw(id, words.tick()?);
+    let tick = words.tick()?;
+    words.end()?;
+    file.saw(id, tick);
     Ok(())
 }
 
@@ -65,7 +70,7 @@ fn put_grant(
     answer: &mut Answer,
 ) -> Result<(), RowFault> {
     let node = words.node()?;
-    match file.grant(node, words.number32()?) {
+    match file.grant(node, words.last_number32()?) {
         Ok(
             Grant {
                 cred,
@@ -95,7 +100,9 @@ fn put_return(
     let node = words.node()?;
     let named = words.cred()?;
     let reported = words.places()?;
-    match file.take_return(node, named, reported, words.cred()?) {
+    let next = words.cred()?;
+    words.end()?;
+    match file.take_return(node, named, reported, next) {
         Ok(cause) => {
             answer.word("Ok")?;
             answer.end_cause(cause)
@@ -116,6 +123,7 @@ fn put_own_done(
 ) -> Result<(), RowFault> {
     let failed = words.places()?;
     let next = words.cred()?;
+    words.end()?;
     match file.holder() {
         Some(NodeId::Mds) => answer.end_cause(file.own_done(failed, next)),
         _ => Err(RowFault::Outside),
@@ -130,6 +138,7 @@ fn put_failed(
 ) -> Result<(), RowFault> {
     let id = words.mirror_id()?;
     let cause = words.left_cause()?;
+    words.end()?;
     match file.phase() {
         Phase::Fencing | Phase::Settling | Phase::Copying => {
             answer.flag(file.mirror_failed(id, cause))
@@ -145,7 +154,7 @@ fn change(file: &mut FileState, name: &str, words: &mut Words<'_>) -> Result<(),
         "made" => made(file, words),
         "saw" => saw(file, words),
         "revoke" => revoke(file, words),
-        "fence_done" => fence_done(file),
+        "fence_done" => fence_done(file, words),
         _ => Err(RowFault::Outside),
     }
 }
@@ -159,7 +168,10 @@ fn put_call(
 ) -> Result<(), RowFault> {
     match name {
         "grant" => put_grant(file, words, answer),
-        "recall" => answer.flag(file.recall()),
+        "recall" => {
+            words.end()?;
+            answer.flag(file.recall())
+        }
         "take_return" => put_return(file, words, answer),
         "own_done" => put_own_done(file, words, answer),
         "mirror_failed" => put_failed(file, words, answer),
@@ -187,7 +199,7 @@ impl Part for FileStateRows {
         let name = words.word()?;
         if name == "making" {
             let first = words.cred()?;
-            self.file = Some(FileState::making(first, words.number32()?));
+            self.file = Some(FileState::making(first, words.last_number32()?));
         }
         let file = self.file.as_mut().ok_or(RowFault::Outside)?;
         put_call(file, name, words, answer)?;

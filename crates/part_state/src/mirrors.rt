@@ -31,7 +31,9 @@ impl MirrorsRows {
 
 /// The list of these mirrors.
 fn of(words: &mut Words<'_>, answer: &mut Answer) -> Result<(), RowFault> {
-    match Mirrors::of(&words.mirror_list()?) {
+    let mirrors = words.mirror_list()?;
+    words.end()?;
+    match Mirrors::of(&mirrors) {
         None => answer.word("None"),
         Some(mirrors) => {
             answer.word("Some")?;
@@ -44,14 +46,16 @@ impl Part for MirrorsRows {
     fn call(&mut self, words: &mut Words<'_>, answer: &mut Answer) -> Result<(), RowFault> {
         match words.word()? {
             "new" => {
+                words.end()?;
                 self.mirrors = Mirrors::none();
                 answer.word("Ok")?;
             }
             "add" => {
-                let added = self.mirrors.add(words.mirror()?);
-                answer.flag(added)?;
+                let mirror = words.mirror()?;
+                words.end()?;
+                answer.flag(self.mirrors.add(mirror))?;
             }
-            "get" => self.get(words.number32()?, answer)?,
+            "get" => self.get(words.last_number32()?, answer)?,
             "of" => return of(words, answer),
             _ => return Err(RowFault::Outside),
         }

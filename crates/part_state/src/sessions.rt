@@ -53,7 +53,7 @@ fn put_exchange(
 ) -> Result<(), RowFault> {
     let verifier = words.sized::<8>()?;
     let owner = words.bytes()?;
-    match sessions.exchange_id(verifier, &owner, words.number64()?) {
+    match sessions.exchange_id(verifier, &owner, words.last_number64()?) {
         Ok(
             Exchanged {
                 client,
@@ -104,7 +104,7 @@ fn put_create(
     let back = channel(words)?;
     let program = words.number32()?;
     let node = words.node()?;
-    let now = words.number64()?;
+    let now = words.last_number64()?;
     let created = sessions.create_session(
         client, sequence, flags, &fore, &back, program, node, now,
     );
@@ -129,7 +129,7 @@ fn put_begin(
     answer: &mut Answer,
 ) -> Result<(), RowFault> {
     let request = request(words)?;
-    match sessions.begin(&request, words.number64()?) {
+    match sessions.begin(&request, words.last_number64()?) {
         Begin::New { client, slot } => {
             passes.push(slot)?;
             answer.word("New")?;
@@ -158,7 +158,9 @@ fn finish(
         .get(place as usize)
         .copied()
         .ok_or(RowFault::Outside)?;
-    sessions.finish(pass, &words.bytes()?);
+    let answered = words.bytes()?;
+    words.end()?;
+    sessions.finish(pass, &answered);
     Ok(())
 }
 
@@ -205,12 +207,18 @@ fn put_call(
         "create_session" => put_create(sessions, words, answer),
         "bind" => {
             let session = session(words)?;
-            put_done(sessions.bind(session, words.node()?), answer)
+            let node = words.node()?;
+            words.end()?;
+            put_done(sessions.bind(session, node), answer)
         }
-        "destroy_session" => put_done(sessions.destroy_session(session(words)?), answer),
-        "destroy_client" => put_done(sessions.destroy_client(words.number64()?), answer),
-        "back_channel" => put_back(sessions.back_channel(words.number64()?), answer),
-        "expire" => put_expired(sessions.expire(words.number64()?), answer),
+        "destroy_session" => {
+            let session = session(words)?;
+            words.end()?;
+            put_done(sessions.destroy_session(session), answer)
+        }
+        "destroy_client" => put_done(sessions.destroy_client(words.last_number64()?), answer),
+        "back_channel" => put_back(sessions.back_channel(words.last_number64()?), answer),
+        "expire" => put_expired(sessions.expire(words.last_number64()?), answer),
         _ => Err(RowFault::Outside),
     }
 }
@@ -219,11 +227,11 @@ impl Part for SessionsRows {
     fn call(&mut self, words: &mut Words<'_>, answer: &mut Answer) -> Result<(), RowFault> {
         let name = words.word()?;
         if name == "next_sequence" {
-            let next = next_sequence(words.number32()?);
+            let next = next_sequence(words.last_number32()?);
             return answer.number(u64::from(next));
         }
         if name == "new" {
-            self.sessions = Some(Sessions::new(self.alloc, words.number32()?)?);
+            self.sessions = Some(Sessions::new(self.alloc, words.last_number32()?)?);
             self.passes.clear();
             return answer.word("Ok");
         }

@@ -1,5 +1,6 @@
 //! A writer: `open MIRRORS CRED`, `write AT HEX`, `commit`, `next_call XID`, `on_reply XID REPLY`, `on_timeout XID`,
-//! `taken N`, `covered N ID`. Behind each answer stand its report, whether all are committed and whether the rest are, and
+//! `taken N`, `covered N ID`, and `write_numbered N`, `covered_everywhere N`, `count`, `has_no_mirror`, `call_to SERVER`, the
+//! call that is outstanding at the mirror there and its number. Behind each answer stand its report, whether all are committed and whether the rest are, and
 //! for each mirror a digit for each write that was taken: whether it is covered there.
 
 use cluster_model::Mirrors;
@@ -39,7 +40,9 @@ fn opened(words: &mut Words<'_>) -> Result<OpenWriter, RowFault> {
     if mirrors.len() == 0 {
         return Err(RowFault::Outside);
     }
-    let writer = Writer::open(words.alloc(), mirrors, words.cred()?)?;
+    let cred = words.cred()?;
+    words.end()?;
+    let writer = Writer::open(words.alloc(), mirrors, cred)?;
     Ok(OpenWriter {
         writer,
         mirrors,
@@ -87,6 +90,7 @@ fn put_reply(
     let mut bytes = Vec::new(words.alloc());
     let xid = words.number32()?;
     let reply = words.ds_reply(&mut bytes)?;
+    words.end()?;
     put_step(writer.on_reply(xid, &reply), answer)
 }
 
@@ -98,6 +102,7 @@ fn put_write(
 ) -> Result<(), RowFault> {
     let at = words.number64()?;
     let bytes = words.bytes()?;
+    words.end()?;
     let count = bytes.len() as u64;
     if count == 0 || count > MAX_WRITE || at > MAX_PLACE - count {
         return Err(RowFault::Outside);
@@ -112,9 +117,9 @@ fn put_write(
     }
 }
 
-/// The write that was taken under a number.
-fn put_taken(writer: &Writer, number: u32, answer: &mut Answer) -> Result<(), RowFault> {
-    match writer.taken(number) {
+/// A write that was taken.
+fn put_taken(taken: Option<(u64, &[u8])>, answer: &mut Answer) -> Result<(), RowFault> {
+    match taken {
         None => answer.word("None"),
         Some((at, bytes)) => {
             answer.word("Some")?;
@@ -122,6 +127,46 @@ fn put_taken(writer: &Writer, number: u32, answer: &mut Answer) -> Result<(), Ro
             answer.bytes(bytes)
         }
     }
+}
+
+/// The call that is outstanding at the mirror on a data server.
+fn put_outstanding(writer: &Writer, server: u32, answer: &mut Answer) -> Result<(), RowFault> {
+    match writer.call_to(server) {
+        None => answer.word("None"),
+        Some((xid, call)) => {
+            answer.word("Some")?;
+            answer.number(u64::from(xid))?;
+            answer.ds_call(&call)
+        }
+    }
+}
+
+/// Asks a writer, which stays as it is.
+fn put_asked(
+    writer: &Writer,
+    name: &str,
+    words: &mut Words<'_>,
+    answer: &mut Answer,
+) -> Result<(), RowFault> {
+    match name {
+        "taken" => put_taken(writer.taken(words.last_number32()?), answer),
+        "covered" => {
+            let number = words.number32()?;
+            answer.flag(writer.covered(number, words.mirror_id()?))
+        }
+        "write_numbered" => {
+            let number = words.last_number32()? as usize;
+            put_taken(writer.write_numbered(number), answer)
+        }
+        "covered_everywhere" => {
+            answer.flag(writer.covered_everywhere(words.last_number32()? as usize))
+        }
+        "count" => answer.number(writer.count() as u64),
+        "has_no_mirror" => answer.flag(writer.has_no_mirror()),
+        "call_to" => put_outstanding(writer, words.last_number32()?, answer),
+        _ => Err(RowFault::Outside),
+    }?;
+    words.end()
 }
 
 /// Makes a call on a writer.
@@ -135,18 +180,14 @@ fn put_call(
         "open" => answer.word("Ok"),
         "write" => put_write(open, words, answer),
         "commit" => {
+            words.end()?;
             open.writer.commit();
             answer.word("Ok")
         }
-        "next_call" => put_next(&mut open.writer, words.number32()?, answer),
+        "next_call" => put_next(&mut open.writer, words.last_number32()?, answer),
         "on_reply" => put_reply(&mut open.writer, words, answer),
-        "on_timeout" => put_step(open.writer.on_timeout(words.number32()?), answer),
-        "taken" => put_taken(&open.writer, words.number32()?, answer),
-        "covered" => {
-            let number = words.number32()?;
-            answer.flag(open.writer.covered(number, words.mirror_id()?))
-        }
-        _ => Err(RowFault::Outside),
+        "on_timeout" => put_step(open.writer.on_timeout(words.last_number32()?), answer),
+        _ => put_asked(&open.writer, name, words, answer),
     }
 }
 

@@ -8,6 +8,7 @@ mod fault;
 mod mirrors;
 mod numbers;
 mod part;
+mod pieces;
 mod words;
 
 pub use answer::Answer;

@@ -79,6 +79,20 @@ impl<'a> Words<'a> {
         number32(self.word()?)
     }
 
+    /// A number below 2^64 that is the line's last word.
+    pub fn last_number64(&mut self) -> Result<u64, RowFault> {
+        let number = self.number64()?;
+        self.end()?;
+        Ok(number)
+    }
+
+    /// A number below 2^32 that is the line's last word.
+    pub fn last_number32(&mut self) -> Result<u32, RowFault> {
+        let number = self.number32()?;
+        self.end()?;
+        Ok(number)
+    }
+
     /// `0` or `1`.
     pub fn flag(&mut self) -> Result<bool, RowFault> {
         match self.word()? {
