@@ -20,7 +20,7 @@ use Rattle.client_state.specs.ClientQueue.{with_layout}
 use Rattle.client_state.specs.ClientSends.{CallsMds}
 use Rattle.client_answers.specs.ClientMirrors.{told_entry, told_entries, tells, tells_covered}
 use Rattle.client_laws.specs.ClientHistory.{HistoryItem, Hears, Enters, Sends, Recorded, entered, Each}
-use Rattle.client_laws.specs.ClientRunLaws.{WasCovered, CoveredAtEach, CoveredByReturn, MayTell, is_reported}
+use Rattle.client_laws.specs.ClientRunLaws.{WasCovered, CoveredAtEach, CoveredByReturn, MayBeTold, is_reported}
 use Rattle.client_laws.proofs.Orders.{in_more}
 use Rattle.client_laws.proofs.Later.{AreIdle, covered_later, granted_later, stands_later, under_uid_later}
 use Rattle.client_laws.proofs.LayoutMoves.{untold_stands}
@@ -45,7 +45,7 @@ by_return_later h more grant at d c =
       covered = λ place m there not_so. covered_later h more m.id grant.uid.0 at d items (c.covered place m there not_so);
     }
 
-tell_later : (h more : List HistoryItem) (uid at : ℕ) (d : List ℕ) → MayTell h uid at d → MayTell (h ++ more) uid at d
+tell_later : (h more : List HistoryItem) (uid at : ℕ) (d : List ℕ) → MayBeTold h uid at d → MayBeTold (h ++ more) uid at d
 tell_later h more uid at d t = record { grant = t.grant; granted = granted_later h more t.grant t.granted; its_uid = t.its_uid; taken = under_uid_later h more uid at d t.taken; covered = by_way t.covered }
   where
     by_way : CoveredAtEach h t.grant at d ⊎ CoveredByReturn h t.grant at d → CoveredAtEach (h ++ more) t.grant at d ⊎ CoveredByReturn (h ++ more) t.grant at d
@@ -54,7 +54,7 @@ tell_later h more uid at d t = record { grant = t.grant; granted = granted_later
 
 -- a taken write may be told
 abbrev pub MayTellWrite : List HistoryItem → WriterValue → ℕ → Type 0
-MayTellWrite past w n = (t : TakenWrite) → slice_get w.taken n ≡ Some t → MayTell past w.cred t.at t.bytes
+MayTellWrite past w n = (t : TakenWrite) → slice_get w.taken n ≡ Some t → MayBeTold past w.cred t.at t.bytes
 
 writes_later : (h more : List HistoryItem) (w : WriterValue) (ns : List ℕ) → Every (MayTellWrite h w) ns → Every (MayTellWrite (h ++ more) w) ns
 writes_later h more w [] all = tt

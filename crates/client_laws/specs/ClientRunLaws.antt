@@ -139,7 +139,7 @@ pub record WasTakenUnder (past : List HistoryItem) (uid at : ℕ) (bytes : List 
 
 -- The write was taken under this uid, and a layout under it was granted before; and the write is covered at each of its mirrors, or those
 -- where it is not were reported with its return.
-pub record MayTell (past : List HistoryItem) (uid at : ℕ) (data_of : List ℕ) : Type 0 where
+pub record MayBeTold (past : List HistoryItem) (uid at : ℕ) (data_of : List ℕ) : Type 0 where
   pub grant : LayoutGrant
   pub granted : WasGranted past grant
   pub its_uid : grant.uid.0 ≡ uid
@@ -147,7 +147,7 @@ pub record MayTell (past : List HistoryItem) (uid at : ℕ) (data_of : List ℕ)
   pub covered : CoveredAtEach past grant at data_of ⊎ CoveredByReturn past grant at data_of
 
 abbrev pub TellsEntry : List HistoryItem → Entry → Type 0
-TellsEntry past (Told file uid at bytes) = MayTell past uid.0 at bytes
+TellsEntry past (Told file uid at bytes) = MayBeTold past uid.0 at bytes
 TellsEntry past entry = Unit {0}
 
 -- a write is told only where that is so (RFC 8435, section 5)

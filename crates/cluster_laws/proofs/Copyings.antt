@@ -17,7 +17,7 @@ use Rattle.cluster_model.specs.Mirrors.{has_server, are_on_different_servers}
 use Rattle.cluster_model.specs.DsCalls.{DsReplyValue, Created, Set, Written, Committed, Bytes, NotSync, Failed}
 use Rattle.cluster_model.specs.Fences.{odd_status}
 use Rattle.cluster_model.specs.Phases.{ids_of, is_last_live, with_phase, after_loss, freed, has_targets}
-use Rattle.copy_rule.specs.Copies.{Target, to_make, copy_of}
+use Rattle.copy_rule.specs.Copies.{Target, to_make, new_copy}
 use Rattle.cluster_laws.specs.MdsFiles.{Idle, Settles, Copies, Fresh, stays, a_uid, goes_idle, servers_without, replacing, adding, plan_of, source_of, copying, settled, source_left, settling_answered}
 use Rattle.cluster_laws.specs.Machine.{file_id}
 use Rattle.cluster_laws.specs.FenceLaw.{live_in}
@@ -112,7 +112,7 @@ module _ (net : Net) (n next_uid files : ℕ) (journal : List Entry) (same : All
     made = λ m is. absurd cc;
   }
 
-  begins_copying : (copies : CopyKind) → RowOk (drawn_net net n next_uid (length (plan_of copies s fresh))) journal n (next_uid + 1) (record { layout = with_phase s (Copying (a_uid next_uid) copies); activity = Copies (copy_of (source_of s.live) (plan_of copies s fresh) next_uid) }) []
+  begins_copying : (copies : CopyKind) → RowOk (drawn_net net n next_uid (length (plan_of copies s fresh))) journal n (next_uid + 1) (record { layout = with_phase s (Copying (a_uid next_uid) copies); activity = Copies (new_copy (source_of s.live) (plan_of copies s fresh) next_uid) }) []
   begins_copying copies =
       let names = length (plan_of copies s fresh) in
       let new = drawn_net net n next_uid names in

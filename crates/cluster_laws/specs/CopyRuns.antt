@@ -15,16 +15,16 @@ use Rattle.cluster_laws.specs.WorkedRuns.{at_server}
 
 -- The ended user's byte came to the first mirror alone. It is read there and written to a fresh file at the second server, which comes into the
 -- second mirror's place. The SETATTR there is guarded by the ctime that the copy's WRITE showed, so it is applied at once.
-abbrev pub copied : List Move
-copied =
+abbrev pub copy_run : List Move
+copy_run =
     Creates (1 ∷ 2 ∷ []) ∷ CallsOut 1 1 ∷ CallsOut 1 2 ∷ Deliver 0 ∷ Deliver 2 ∷ Deliver 1 ∷ Deliver 3 ∷ Happens 1 (AsksLayout 1)
     ∷ Takes 0 0 (65 ∷ []) ∷ Uses (Client 1) 1 1 65536 65536 (Write 2 0 false (65 ∷ [])) ∷ Deliver 4 ∷ Happens 1 (Revokes Lease) ∷ CallsOut 1 3
     ∷ Deliver 6 ∷ Deliver 7 ∷ CallsOut 1 4 ∷ Deliver 8 ∷ Deliver 9 ∷ CallsOut 1 5 ∷ Deliver 10 ∷ Deliver 11 ∷ CallsOut 1 6 ∷ Deliver 12 ∷ Deliver 13
     ∷ CallsOut 1 7 ∷ Deliver 14 ∷ Deliver 15 ∷ CallsOut 1 8 ∷ Deliver 16 ∷ Deliver 17 ∷ CallsOut 1 9 ∷ Deliver 18 ∷ Deliver 19 ∷ CallsOut 1 10
     ∷ CallsOut 1 11 ∷ Deliver 20 ∷ Deliver 22 ∷ Deliver 21 ∷ Deliver 23 ∷ []
 
-abbrev pub copied_journal : List Entry
-copied_journal =
+abbrev pub copy_run_journal : List Entry
+copy_run_journal =
     Owner (at_server 1 2) (a_uid 65536)
     ∷ Owner (at_server 2 2) (a_uid 65536)
     ∷ Free (file_id 1) (at_server 1 2 ∷ at_server 2 2 ∷ [])

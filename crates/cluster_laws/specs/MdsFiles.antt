@@ -26,7 +26,7 @@ use Rattle.cluster_model.specs.Mirrors.{has_server}
 use Rattle.cluster_model.specs.DsCalls.{DsReplyValue, Created, Set, Written, Committed, Bytes, NotSync, Failed}
 use Rattle.cluster_model.specs.Fences.{is_out, is_over, odd_status, FenceState, fence_of, outstanding_at, on_reply, on_timeout, without, is_done}
 use Rattle.cluster_model.specs.Phases.{seen_at, is_last_live, with_live, PhaseStep, made, mirror_left, fence_done, settled_row, SwappedIn, copied, has_targets}
-use Rattle.copy_rule.specs.Copies.{Target, CopyState, CopyStep, is_given_up, copy_of, swaps_of, has_outcome}
+use Rattle.copy_rule.specs.Copies.{Target, CopyState, CopyStep, is_given_up, new_copy, swaps_of, has_outcome}
 use Rattle.copy_rule.specs.Copies as copy
 
 -- ---- the files that are made at data servers for a new file
@@ -230,7 +230,7 @@ source_of (m ∷ live) = m.id
 
 -- a copy begins
 abbrev pub copying : LayoutState → Fresh → List Target → FileStep
-copying layout fresh plan = record { file = record { layout = layout; activity = Copies (copy_of (source_of layout.live) plan fresh.uid) }; entries = []; uids = 1; names = length plan }
+copying layout fresh plan = record { file = record { layout = layout; activity = Copies (new_copy (source_of layout.live) plan fresh.uid) }; entries = []; uids = 1; names = length plan }
 
 -- the source is committed
 abbrev pub settled : FileId → LayoutState → CopyKind → Fresh → FileStep

@@ -10,7 +10,7 @@ ghost use Rattle.cluster_laws.specs.FenceLaw.{FenceLaw};
 ghost use Rattle.cluster_laws.specs.Periods.{EachPeriodIsFenced, OwnersStay, TellsTheTruth};
 ghost use Rattle.cluster_laws.specs.Telling.{SaysTheSame, MakesTelling};
 ghost use Rattle.cluster_laws.specs.WorkedRuns.{run_journal, two_periods, two_periods_journal, restart_between, restart_between_journal, late_write, late_write_journal, repeat, repeat_journal, timeouts, timeouts_journal, out_of_sync, out_of_sync_journal, own_write, own_write_journal, resilver, resilver_journal, strays, strays_journal, reported, reported_journal, recalled, run_phases};
-ghost use Rattle.cluster_laws.specs.CopyRuns.{copied, copied_journal, source_fails, source_fails_journal, target_fails, target_fails_journal};
+ghost use Rattle.cluster_laws.specs.CopyRuns.{copy_run, copy_run_journal, source_fails, source_fails_journal, target_fails, target_fails_journal};
 ghost use Rattle.cluster_model.specs.Content.{Pending, Content};
 ghost use Rattle.cluster_laws.specs.Holders.{AreBound, the_write};
 ghost use Rattle.cluster_laws.specs.Keeping.{MirrorTurn, KeepsAlways, KeepsAll, IsMadeByTurns, HasHeld, HeldAgree, TakesCleanStep, HasSettled, TakesDirtyStep};
@@ -85,7 +85,7 @@ pub fn worked_runs()
     ensures strays { run_journal (1 ∷ []) strays ≡ strays_journal }
     ensures reported { run_journal (1 ∷ 1 ∷ []) reported ≡ reported_journal }
     ensures recalled { run_phases (1 ∷ []) recalled ≡ Held (Client 1) true ∷ [] }
-    ensures copied { run_journal (1 ∷ 1 ∷ []) copied ≡ copied_journal }
+    ensures copied { run_journal (1 ∷ 1 ∷ []) copy_run ≡ copy_run_journal }
     ensures source_fails { run_journal (1 ∷ 1 ∷ []) source_fails ≡ source_fails_journal }
     ensures target_fails { run_journal (1 ∷ 1 ∷ []) target_fails ≡ target_fails_journal }
 {}
@@ -113,5 +113,5 @@ pub fn bound_runs()
     ensures own_write { AreBound (1 ∷ []) own_write }
     ensures resilver { AreBound (1 ∷ 1 ∷ []) resilver }
     ensures strays { AreBound (1 ∷ []) strays }
-    ensures copied { AreBound (1 ∷ 1 ∷ []) copied }
+    ensures copied { AreBound (1 ∷ 1 ∷ []) copy_run }
 {}

@@ -137,8 +137,8 @@ to_write bytes t = if is_given_up t.stage then t else at_stage t (stage_for byte
 
 -- ---- a copy
 
-abbrev pub copy_of : MirrorId → List Target → ℕ → CopyState
-copy_of source plan copier = record { copier = copier; source = source; at = 0; piece = []; ended = false; read = Waits; targets = map to_make plan }
+abbrev pub new_copy : MirrorId → List Target → ℕ → CopyState
+new_copy source plan copier = record { copier = copier; source = source; at = 0; piece = []; ended = false; read = Waits; targets = map to_make plan }
 
 abbrev pub with_target : CopyState → ℕ → CopyTarget → CopyState
 with_target c place t = record { copier = c.copier; source = c.source; at = c.at; piece = c.piece; ended = c.ended; read = c.read; targets = slice_set c.targets place t }

@@ -6,48 +6,48 @@ use Rattle.cluster_model.specs.declared.phase.LeftCause.TheVariants.{Error, Time
 use Rattle.cluster_model.specs.declared.ds_call.Shown.{Shown}
 use Rattle.cluster_model.specs.DsCalls.{DsCallValue, Create, Write, Read, DsReplyValue, Created, Written, Bytes, Failed}
 use Rattle.cluster_model.specs.Phases.{SwappedIn}
-use Rattle.copy_rule.specs.Copies.{CopyState, CopyStep, Stranger, Waiting, SourceFailed, TargetFailed, AllHold, copy_of, CopyCall, on_reply, on_timeout, after_tick, next_call, outcome}
+use Rattle.copy_rule.specs.Copies.{CopyState, CopyStep, Stranger, Waiting, SourceFailed, TargetFailed, AllHold, new_copy, CopyCall, on_reply, on_timeout, after_tick, next_call, outcome}
 
 -- ---- turns of a copy
 
-pub data Turn : Type 0 where
+pub data CopyInput : Type 0 where
   -- the next call goes out under this number
-  Calls : (xid : ℕ) → Turn
-  Replies : (xid : ℕ) (reply : DsReplyValue) → Turn
-  Waits : (xid : ℕ) → Turn
-  Ticks : Turn
+  Calls : (xid : ℕ) → CopyInput
+  Replies : (xid : ℕ) (reply : DsReplyValue) → CopyInput
+  Waits : (xid : ℕ) → CopyInput
+  Ticks : CopyInput
 
 -- what a turn shows: a call, to which server and by whom, or what an answer or a timeout comes to
-pub data Shows : Type 0 where
-  Nothing : Shows
-  Goes : (server uid : ℕ) (call : DsCallValue) → Shows
-  Comes : CopyStep → Shows
+pub data CopyShown : Type 0 where
+  Nothing : CopyShown
+  Goes : (server uid : ℕ) (call : DsCallValue) → CopyShown
+  Comes : CopyStep → CopyShown
 
 pub record CopyTurn : Type 0 where
   pub copy : CopyState
-  pub shows : Shows
+  pub shows : CopyShown
 
 abbrev pub called : CopyState → Option CopyCall → CopyTurn
 called c None = record { copy = c; shows = Nothing }
 called c (Some call) = record { copy = call.copy; shows = Goes call.server call.uid call.call }
 
-abbrev pub after_turn : CopyState → Turn → CopyTurn
-after_turn c (Calls xid) = called c (next_call c xid)
-after_turn c (Replies xid reply) = record { copy = (on_reply c xid reply).copy; shows = Comes (on_reply c xid reply).step }
-after_turn c (Waits xid) = record { copy = (on_timeout c xid).copy; shows = Comes (on_timeout c xid).step }
-after_turn c Ticks = record { copy = after_tick c; shows = Nothing }
+abbrev pub after_input : CopyState → CopyInput → CopyTurn
+after_input c (Calls xid) = called c (next_call c xid)
+after_input c (Replies xid reply) = record { copy = (on_reply c xid reply).copy; shows = Comes (on_reply c xid reply).step }
+after_input c (Waits xid) = record { copy = (on_timeout c xid).copy; shows = Comes (on_timeout c xid).step }
+after_input c Ticks = record { copy = after_tick c; shows = Nothing }
 
 -- what a list of turns shows, and the copy's outcome then
 pub record Worked : Type 0 where
-  pub shows : List Shows
+  pub shows : List CopyShown
   pub outcome : Option (List SwappedIn)
 
-abbrev pub shown_before : Shows → Worked → Worked
+abbrev pub shown_before : CopyShown → Worked → Worked
 shown_before shows w = record { shows = shows ∷ w.shows; outcome = w.outcome }
 
-abbrev pub worked : CopyState → List Turn → Worked
+abbrev pub worked : CopyState → List CopyInput → Worked
 worked c [] = record { shows = []; outcome = outcome c }
-worked c (turn ∷ turns) = shown_before (after_turn c turn).shows (worked (after_turn c turn).copy turns)
+worked c (turn ∷ turns) = shown_before (after_input c turn).shows (worked (after_input c turn).copy turns)
 
 -- ---- what is copied
 
@@ -62,7 +62,7 @@ showing count = record { owner = record { 0 = 70000 }; seen = tick count; size =
 
 -- from server 1 to fresh files at servers 2 and 3, which replace one mirror and join the others
 abbrev two_targets : CopyState
-two_targets = copy_of (at_server 1 2) (record { server = 2; name = 8; replaced = Some (at_server 2 2) } ∷ record { server = 3; name = 9; replaced = None } ∷ []) 70000
+two_targets = new_copy (at_server 1 2) (record { server = 2; name = 8; replaced = Some (at_server 2 2) } ∷ record { server = 3; name = 9; replaced = None } ∷ []) 70000
 
 -- ---- two pieces
 
@@ -106,7 +106,7 @@ none_left_shown = record {
 -- source has no bytes, so no WRITE is needed.
 abbrev pub kept_source : Worked
 kept_source =
-    worked (copy_of (at_server 1 2) (record { server = 2; name = 8; replaced = None } ∷ []) 70000)
+    worked (new_copy (at_server 1 2) (record { server = 2; name = 8; replaced = None } ∷ []) 70000)
     (Calls 1 ∷ Replies 1 (Created 5 (showing 1)) ∷ Calls 2 ∷ Waits 2 ∷ Waits 2 ∷ Waits 2 ∷ Waits 2 ∷ Calls 3 ∷ Ticks ∷ Calls 3 ∷ Waits 2 ∷ Waits 2 ∷ Waits 2 ∷ Replies 2 (Failed 10006 None) ∷ Calls 3 ∷ Ticks ∷ Calls 3
     ∷ Replies 2 (Bytes None true []) ∷ Replies 3 (Bytes None true []) ∷ [])
 

@@ -9,7 +9,7 @@ use Rattle.ds_procedures.specs.Steps.{step_of}
 use Rattle.ds_files.specs.Receive.{Outcome, outcome_by, outcome_of, outcome_of_step}
 use Rattle.ds_calls.specs.MadeCalls.{nfs_call_of, user_credential}
 use Rattle.ds_calls.specs.DsCallLaws.{DsMessage, record_of, IsUnderstood, Beside, nfs_reply_of, ds_rpc_reply, IsAnswered, IsAnsweredByRule}
-use Rattle.same_server.specs.SameServer.{caller_by, IsSameServer}
+use Rattle.same_server.specs.SameServer.{caller_of_user, IsSameServer}
 use Rattle.same_server.proofs.Asked.{is_asked}
 use Rattle.same_server.proofs.Plans.{plan_same}
 
@@ -18,9 +18,9 @@ module _ (understood : (m : DsMessage) → IsUnderstood m)
     (ruled : (s : ServerState) (caller : Caller) (call : DsCallValue) → IsAnsweredByRule s caller call) where
   pub same_by : (s : ServerState) (m : DsMessage) → IsSameServer s m
   same_by s m has can =
-      let said : DsReplyValue = (ds_plan s (caller_by m.user) m.call).reply in
-      let answers = ruled s (caller_by m.user) m.call can.few in
-      let p = plan_same s (caller_by m.user) m.call has.call_fits can.named answers in
+      let said : DsReplyValue = (ds_plan s (caller_of_user m.user) m.call).reply in
+      let answers = ruled s (caller_of_user m.user) m.call can.few in
+      let p = plan_same s (caller_of_user m.user) m.call has.call_fits can.named answers in
       let is : outcome_of s (record_of m) ≡ outcome_of_step m.xid (step_of s (nfs_call_of m.call) (user_credential m.machine m.user)) = ap (outcome_by s) (is_asked m (understood m has)) in
       let fits = subst (λ (r : Nfs3Reply). Fits nfs3_results (reply_value r)) p.reply can.fits in
       let read = answered m.xid p.beside m.call said has.xid_fits answers fits in

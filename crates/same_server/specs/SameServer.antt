@@ -12,18 +12,18 @@ use Rattle.ds_calls.specs.GivenReplies.{reply_of_call}
 use Rattle.ds_calls.specs.DsCallLaws.{DsMessage, HasRecord, record_of}
 
 -- the user of a call, whose group has the same number, and who is in no further group
-abbrev pub caller_by : ℕ → Caller
-caller_by user = record { uid = user; gid = user; gids = [] }
+abbrev pub caller_of_user : ℕ → Caller
+caller_of_user user = record { uid = user; gid = user; gids = [] }
 
 -- The server and the entries are those of the call, and the reply is read as its answer, under its number.
 pub record DoesTheCall (s : ServerState) (m : DsMessage) : Type 0 where
   pub reply : RpcReply
-  pub server : (outcome_of s (record_of m)).server ≡ (ds_step s (caller_by m.user) m.call).server
-  pub entries : (outcome_of s (record_of m)).entries ≡ (ds_step s (caller_by m.user) m.call).entries
+  pub server : (outcome_of s (record_of m)).server ≡ (ds_step s (caller_of_user m.user) m.call).server
+  pub entries : (outcome_of s (record_of m)).entries ≡ (ds_step s (caller_of_user m.user) m.call).entries
   pub bytes : (outcome_of s (record_of m)).reply ≡ Some (reply_bytes reply)
   pub again : reply_at (reply_bytes reply) ≡ Ok reply
   pub number : reply.xid ≡ m.xid
-  pub answer : reply_of_call m.call reply ≡ (ds_step s (caller_by m.user) m.call).reply
+  pub answer : reply_of_call m.call reply ≡ (ds_step s (caller_of_user m.user) m.call).reply
 
 -- What every data server meets: each of its files has a name, and what it replies has a spelling.
 pub record CanReply (s : ServerState) (m : DsMessage) : Type 0 where
