@@ -9,6 +9,9 @@ use Rattle.std.proofs.lemmas.Bool.Decides.{nat_tests}
 use Rattle.std.proofs.lemmas.List.{map-append, length-map, set-append_right, take-append-drop, take_more}
 use Rattle.std.proofs.lemmas.List.Folds.{list_any-append, list_any_at}
 use Rattle.cluster_model.specs.declared.ids.Mirror.{Mirror}
+use Rattle.cluster_model.specs.declared.ids.MirrorId.{MirrorId}
+use Rattle.cluster_model.specs.Journal.{is_mirror}
+use Rattle.cluster_model.specs.Phases.{is_one_of}
 use Rattle.cluster_model.specs.Mirrors.{has_server, are_on_different_servers, are_mirrors, can_add, mirrors_in, places_of, AreMirrorsIn}
 
 -- ---- tests
@@ -162,3 +165,8 @@ pub on_server : (places : List (Option Mirror)) (i server : ℕ) (m : Mirror) �
 on_server places i server m within is on =
     let test : Mirror → Bool = λ y. y.id.server == server in
     by_place test places ∙ list_any_at (λ place. option_map_or test place false) places i None within (ap (λ place. option_map_or test place false) is ∙ eq-eqb _ _ on)
+
+pub is_there : (places : List (Option Mirror)) (i : ℕ) (id : MirrorId) (m : Mirror) → i < length places → get_or places i None ≡ Some m → is_mirror m.id id ≡ true → is_one_of id (mirrors_in places) ≡ true
+is_there places i id m within is this =
+    let test : Mirror → Bool = λ y. is_mirror y.id id in
+    by_place test places ∙ list_any_at (λ place. option_map_or test place false) places i None within (ap (λ place. option_map_or test place false) is ∙ this)

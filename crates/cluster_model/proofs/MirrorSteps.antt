@@ -1,15 +1,15 @@
 -- Going over a list of mirrors from its first to its last, and making another list of it.
-use Rattle.std.proofs.Common.{◌≡◌, ℕ, ◌+◌, ◌<◌, ◌≤◌, Bool, true, false, List, [], ◌∷◌, ◌++◌, length, drop, cond, Some, refl, sym, ap, ◌∙◌, arith, append_assoc, length-append, get_or, drop-cons, add-one}
+use Rattle.std.proofs.Common.{◌≡◌, ℕ, ◌+◌, ◌<◌, ◌≤◌, Bool, true, false, List, [], ◌∷◌, ◌++◌, length, map, drop, cond, Some, refl, sym, ap, ◌∙◌, arith, append_assoc, length-append, get_or, drop-cons, add-one}
 use Rattle.std.specs.Prelude.{◌==◌, ◌&&◌, ◌||◌, not, slice_get}
 use Rattle.std.specs.List.{list_any}
-use Rattle.std.proofs.lemmas.Bool.{and_parts}
+use Rattle.std.proofs.lemmas.Bool.{and_parts, eqb-true}
 use Rattle.std.proofs.lemmas.List.Folds.{list_any-append}
 use Rattle.std.proofs.lemmas.Option.{slice_get_within, get_or_from_slice_get}
 use Rattle.cluster_model.specs.declared.ids.Mirror.{Mirror}
 use Rattle.cluster_model.specs.declared.ids.MirrorId.{MirrorId}
 use Rattle.cluster_model.specs.declared.tick.Tick.{Tick}
 use Rattle.cluster_model.specs.Journal.{is_mirror}
-use Rattle.cluster_model.specs.Phases.{but_for, seen_if, seen_at, unreported}
+use Rattle.cluster_model.specs.Phases.{but_for, seen_if, seen_at, unreported, put_if}
 use Rattle.cluster_model.specs.Mirrors.{has_server, are_on_different_servers, are_mirrors, can_add}
 use Rattle.cluster_model.proofs.MirrorLists.{both, no_more, mirrors_push, mirrors_first}
 
@@ -107,6 +107,17 @@ on_its_server m id tick false = refl
 
 pub same_server : (m : Mirror) (id : MirrorId) (tick : Tick) → m.id.server ≡ (seen_if id tick m).id.server
 same_server m id tick = on_its_server m id tick (is_mirror m.id id)
+
+-- one in another's place, on its server
+pub put_here : (ms : List Mirror) (i : ℕ) (m : Mirror) (old : MirrorId) (new : Mirror) → slice_get ms i ≡ Some m → map (put_if old new) (drop i ms) ≡ put_if old new m ∷ map (put_if old new) (drop (i + 1) ms)
+put_here ms i m old new is = ap (map (put_if old new)) (drop_here ms i m is)
+
+server_of_put : (m new : Mirror) (old : MirrorId) → new.id.server ≡ old.server → (b : Bool) → is_mirror m.id old ≡ b → m.id.server ≡ (cond b new m).id.server
+server_of_put m new old same true h = eqb-true _ _ (and_parts _ _ h).0 ∙ sym same
+server_of_put m new old same false h = refl
+
+pub put_server : (old : MirrorId) (new m : Mirror) → new.id.server ≡ old.server → m.id.server ≡ (put_if old new m).id.server
+put_server old new m same = server_of_put m new old same (is_mirror m.id old) refl
 
 -- a place among four flags
 pub flag_here : (places : List Bool) (i : ℕ) (d : Bool) → i < length places → drop i places ≡ get_or places i d ∷ drop (i + 1) places

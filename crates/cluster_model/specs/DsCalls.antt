@@ -1,6 +1,7 @@
 -- The rule of a data server on the five calls of a cluster, without handles and names of objects (RFC 1813, sections 3.3.2, 3.3.6 to
 -- 3.3.8 and 3.3.21).
 use Rattle.std.specs.Prelude.{ℕ, ◌+◌, Bool, true, not, List, [], ◌++◌, length, codes, decimal, Option, Some, None, ◌==◌, if◌then◌else◌, slice_get}
+use Rattle.cluster_model.specs.declared.limits.TheConstants.{FILE_MODE}
 use Rattle.cluster_model.specs.declared.tick.Tick.{Tick}
 use Rattle.cluster_model.specs.declared.tick.Times.{Times}
 use Rattle.cluster_model.specs.declared.change.NewTime.TheVariants.{Keep}
@@ -146,8 +147,8 @@ created_before index (Some f) = replies (Created (index + 2) (shown_by f))
 abbrev pub made_unless : ServerState → List ℕ → ℕ → Option Refusal → DsPlan
 made_unless s name owner (Some refusal) = replies (Failed (refusal_number refusal) None)
 made_unless s name owner None = record {
-  reply = Created (length s.files + 2) (shown_by (new_file owner owner 416 (next_tick s.clock)));
-  effect = NewFile name owner owner 416;
+  reply = Created (length s.files + 2) (shown_by (new_file owner owner FILE_MODE (next_tick s.clock)));
+  effect = NewFile name owner owner FILE_MODE;
 }
 
 abbrev pub created_by : ServerState → List ℕ → ℕ → Option ℕ → DsPlan

@@ -2,6 +2,7 @@
 -- RFC 1813, section 3.3.2).
 use Rattle.std.specs.Prelude.{ℕ, ◌+◌, Bool, true, false, List, map, Option, Some, None, position, nat_lt, ◌==◌, if◌then◌else◌, slice_get, slice_set}
 use Rattle.std.specs.List.{list_all}
+use Rattle.cluster_model.specs.declared.limits.TheConstants.{MAX_TIMEOUTS, MAX_UNSYNCED, SERVERFAULT}
 use Rattle.cluster_model.specs.declared.ids.Mirror.{Mirror}
 use Rattle.cluster_model.specs.declared.ids.MirrorId.{MirrorId}
 use Rattle.cluster_model.specs.declared.phase.LeftCause.{LeftCause}
@@ -63,11 +64,11 @@ is_kept GivenUp = false
 
 -- how many answers that do not acknowledge make a mirror fail
 abbrev pub max_unsynced : ℕ
-max_unsynced = 8
+max_unsynced = MAX_UNSYNCED
 
 -- the error that an answer counts as which no server gives to this call
 abbrev pub odd_status : ℕ
-odd_status = 10006
+odd_status = SERVERFAULT
 
 -- a mirror and what came to pass there
 pub record MirrorStep : Type 0 where
@@ -109,7 +110,7 @@ answered fresh m (Bytes shown eof bytes) = failed_by m (Error odd_status)
 -- A timeout: the same record is sent again twice; behind the third timeout it is kept.
 abbrev pub stage_timed_out : FenceMirror → CallStage → MirrorStep
 stage_timed_out m (Out xid timeouts) =
-    if nat_lt (timeouts + 1) 3
+    if nat_lt (timeouts + 1) MAX_TIMEOUTS
     then record { mirror = with_stage m (Out xid (timeouts + 1)); step = Again }
     else record { mirror = with_stage m (KeptOut xid); step = HasFailed m.id Timeouts }
 stage_timed_out m (KeptOut xid) = record { mirror = m; step = Again }

@@ -1,5 +1,6 @@
 -- The phases of a file at the metadata server, row by row (RFC 8435, section 2.2; RFC 8881, sections 12.5 and 18.44).
-use Rattle.std.specs.Prelude.{ℕ, Bool, true, false, not, List, [], ◌∷◌, ◌++◌, length, map, filter, Option, Some, None, is_some, nat_lt, if◌then◌else◌}
+use Rattle.std.specs.Prelude.{ℕ, Bool, true, false, ◌==◌, ◌&&◌, not, List, [], ◌∷◌, ◌++◌, length, map, filter, Option, Some, None, is_some, nat_lt, if◌then◌else◌}
+use Rattle.std.specs.List.{list_any}
 use Rattle.cluster_model.specs.declared.tick.Tick.{Tick}
 use Rattle.cluster_model.specs.declared.ids.NodeId.{NodeId}
 use Rattle.cluster_model.specs.declared.ids.FileId.{FileId}
@@ -21,7 +22,9 @@ use Rattle.cluster_model.specs.declared.layout_state.CopyKind.{CopyKind}
 use Rattle.cluster_model.specs.declared.layout_state.CopyKind.TheVariants.{Replacing, Adding}
 use Rattle.cluster_model.specs.declared.entry.Entry.{Entry}
 use Rattle.cluster_model.specs.declared.entry.Entry.TheVariants as entry
+use Rattle.cluster_model.specs.declared.targets.SwappedIn.{SwappedIn}
 use Rattle.cluster_model.specs.Journal.{is_mirror}
+use Rattle.cluster_model.specs.Mirrors.{can_add}
 
 -- ---- the live list
 
@@ -230,17 +233,28 @@ settled_row file s copies copier =
     else freed file s
 
 -- Copying: all targets that are left hold the source's bytes. Each comes into the place of the mirror that it replaces, or to the end.
-pub record SwappedIn : Type 0 where
-  pub new : Mirror
-  pub old : Option MirrorId
+abbrev pub put_if : MirrorId → Mirror → Mirror → Mirror
+put_if old new m = if is_mirror m.id old then new else m
 
 abbrev pub in_place : SwappedIn → Option MirrorId → List Mirror → List Mirror
 in_place t None live = live ++ t.new ∷ []
-in_place t (Some old) live = map (λ m. if is_mirror m.id old then t.new else m) live
+in_place t (Some old) live = map (put_if old t.new) live
 
 abbrev pub with_targets : List SwappedIn → List Mirror → List Mirror
 with_targets [] live = live
 with_targets (t ∷ targets) live = with_targets targets (in_place t t.old live)
+
+-- A fresh mirror may come into the place of a live one on its server that is not the source, or to the end where none is on its server.
+abbrev pub is_one_of : MirrorId → List Mirror → Bool
+is_one_of id mirrors = list_any (λ m. is_mirror m.id id) mirrors
+
+abbrev pub can_swap : SwappedIn → Option MirrorId → List Mirror → Bool
+can_swap t None live = can_add live t.new
+can_swap t (Some old) live = (t.new.id.server == old.server) && (not (is_source old live) && is_one_of old live)
+
+abbrev pub can_swap_all : List SwappedIn → List Mirror → Bool
+can_swap_all [] live = true
+can_swap_all (t ∷ targets) live = can_swap t t.old live && can_swap_all targets (in_place t t.old live)
 
 abbrev pub swapped_entries : FileId → List SwappedIn → List Entry
 swapped_entries file targets = map (λ t. entry.Swapped file t.old t.new.id) targets

@@ -2,6 +2,7 @@
 use Rattle.std.specs.Prelude.{ℕ, ◌+◌, ◌-◌, Bool, true, false, ◌&&◌, ◌||◌, not, List, [], ◌∷◌, ◌++◌, length, codes, sum_by, take, drop, min, position, Option, Some, None, nat_lt, nat_le, ◌==◌, if◌then◌else◌, slice_get, slice_set, bit_and}
 use Rattle.std.specs.Str.{bytes_eq}
 use Rattle.std.specs.List.{list_any}
+use Rattle.cluster_model.specs.declared.limits.TheConstants.{FILE_MODE, FIRST_UID, MAX_BOOT, MAX_FILE, MAX_READ, MAX_TICKS, MAX_TOTAL}
 use Rattle.cluster_model.specs.declared.ids.MirrorId.{MirrorId}
 use Rattle.cluster_model.specs.declared.entry.Entry.{Entry}
 use Rattle.cluster_model.specs.declared.entry.Entry.TheVariants.{Applied, Committed, Owner}
@@ -38,24 +39,24 @@ preset_server =
       clock = first;
       root = record { atime = start; mtime = first; ctime = first };
       names = codes "m1" ∷ [];
-      files = new_file 65536 65536 416 first ∷ [];
+      files = new_file FIRST_UID FIRST_UID FILE_MODE first ∷ [];
     }
 
 -- the limits of a server: data in one READ, all files together, one file, ticks in one boot, boots
 abbrev pub max_read : ℕ
-max_read = 1048576
+max_read = MAX_READ
 
 abbrev pub max_total : ℕ
-max_total = 268435456
+max_total = MAX_TOTAL
 
 abbrev pub max_file : ℕ
-max_file = 67108864
+max_file = MAX_FILE
 
 abbrev pub max_ticks : ℕ
-max_ticks = 999999999
+max_ticks = MAX_TICKS
 
 abbrev pub max_boot : ℕ
-max_boot = 4294967295
+max_boot = MAX_BOOT
 
 -- ---- files
 

@@ -31,7 +31,7 @@ pub struct MirrorId {
 }
 
 /// A mirror, and the ctime that was last seen there.
-#[derive(Clone, Copy, Debug, PartialEq, Eq)]
+#[derive(Clone, Copy, Debug, Default, PartialEq, Eq)]
 pub struct Mirror {
     pub id: MirrorId,
     pub seen: Tick,

@@ -1,11 +1,12 @@
 //! Where the copies of a file are.
 
-ghost use Rattle.std.specs.Prelude.{◌≡◌, true, List, [], ◌∷◌, ◌++◌, length, Some, None, slice_get, if◌then◌else◌};
+ghost use Rattle.std.specs.Prelude.{◌≡◌, true, List, [], ◌∷◌, ◌++◌, length, map, Some, None, slice_get, if◌then◌else◌};
 ghost use Rattle.cluster_model.specs.Mirrors.{are_mirrors, can_add, has_server, mirrors_in};
-ghost use Rattle.cluster_model.specs.Phases.{unreported, but_for, seen_at, seen_if};
+ghost use Rattle.cluster_model.specs.Phases.{unreported, but_for, seen_at, seen_if, is_source, is_one_of, put_if, can_swap, in_place};
 
 use crate::ids::{Mirror, MirrorId};
 use crate::layout_state::Reported;
+use crate::targets::SwappedIn;
 use crate::tick::Tick;
 use std::marker::Model;
 
@@ -120,6 +121,54 @@ impl Mirrors {
         kept
     }
 
+    /// A fresh mirror comes into the place of one on its server that is not the first, or joins at the end where there is
+    /// room for it and none is on its server.
+    pub fn swap(&mut self, target: SwappedIn) -> bool
+        ensures swapped { result ≡ can_swap target target.old self.old }
+        ensures list { self.new ≡ (if result then in_place target target.old self.old else self.old) }
+    {
+        let Some(old) = target.old else {
+            return self.add(target.new);
+        };
+        if target.new.id.server != old.server || self.is_first(old) || !self.has(old) {
+            return false;
+        }
+        *self = self.with(old, target.new);
+        true
+    }
+
+    /// The mirror is the first one.
+    pub fn is_first(&self, id: MirrorId) -> bool
+        ensures { result ≡ is_source id self.now }
+    {
+        match self.get(0) {
+            Some(first) => first.id == id,
+            None => false,
+        }
+    }
+
+    /// The mirror is one of them.
+    pub fn has(&self, id: MirrorId) -> bool
+        ensures { result ≡ is_one_of id self.now }
+    {
+        has_mirror(&self.items, id)
+    }
+
+    /// The same, with a mirror of the same server in one's place.
+    fn with(&self, old: MirrorId, new: Mirror) -> Mirrors
+        requires { new.id.server ≡ old.server }
+        ensures { result ≡ map (put_if old new) self.now }
+    {
+        let mut all = Mirrors::none();
+        for place in 0..self.len() {
+            let Some(mirror) = self.get(place) else {
+                return all;
+            };
+            all.add(put_if(old, new, mirror));
+        }
+        all
+    }
+
     /// The same, with this ctime as the one last seen at a mirror, where it is one of them.
     pub fn seen_at(&self, id: MirrorId, seen: Tick) -> Mirrors
         ensures { result ≡ seen_at id seen self.now }
@@ -146,6 +195,27 @@ fn seen_if(mirror: Mirror, id: MirrorId, seen: Tick) -> Mirror
         };
     }
     mirror
+}
+
+/// The mirror, or the new one where it is the one that is named.
+fn put_if(old: MirrorId, new: Mirror, mirror: Mirror) -> Mirror
+    ensures { result ≡ put_if old new mirror }
+{
+    if mirror.id == old { new } else { mirror }
+}
+
+/// One of the mirrors is this one.
+fn has_mirror(places: &[Option<Mirror>], id: MirrorId) -> bool
+    ensures { result ≡ is_one_of id (mirrors_in places.now) }
+{
+    for place in places {
+        if let Some(mirror) = place
+            && mirror.id == id
+        {
+            return true;
+        }
+    }
+    false
 }
 
 /// How many places are filled.
