@@ -16,7 +16,9 @@ use Rattle.cluster_model.specs.File.{StoredFile}
 use Rattle.cluster_model.specs.Server.{ServerState}
 use Rattle.cluster_model.specs.DsCalls.{DsCallValue, Create, SetAttr, Read}
 use Rattle.cluster_model.specs.Fences.{FenceState, waits, with_stage, with_mirror, fence_call_at, call_from, waiting_at}
-use Rattle.copy_rule.specs.Copies.{CopyTarget, CopyState, CopyCall, is_given_up, at_stage, with_target, with_read, have_answered, target_call, target_caller, piece_size, target_call_at, waiting_at as copy_waiting, call_from as copy_call_from}
+use Rattle.copy_rule.specs.Copies.{CopyState, CopyCall, is_given_up, at_stage, with_target, with_read, have_answered, target_call, target_caller, target_call_at, waiting_at as copy_waiting, call_from as copy_call_from}
+use Rattle.copy_rule.specs.declared.copy_target.CopyTarget.{CopyTarget}
+use Rattle.cluster_model.specs.declared.limits.TheConstants.{PIECE_SIZE}
 use Rattle.cluster_laws.specs.MdsFiles.{Creation, Creations, Activity, Idle, Makes, Fences, Settles, Copies, MdsFile, in_stage, with_creation}
 use Rattle.cluster_laws.specs.FilePhases.{CallOut, call_out, create_out, create_out_at, creation_waiting, copy_out, fence_out, settle_out}
 use Rattle.cluster_laws.specs.Machine.{PacketValue, Call, Reply, numbered_at}
@@ -166,9 +168,9 @@ module _ (net : Net) (n xid : ℕ) (journal : List Entry) (same : AllFollow net.
       (asked c.copier c.at c.piece t t.made it, put_target after n journal s c k place t (at_stage t (Out xid 0)) there refl refl (target_out c.copier c.at c.piece t uid it))
 
   reads : (s : LayoutState) (c : CopyState) → IsFile net journal n (record { layout = s; activity = Copies c })
-      → GoesOut (record { file = record { layout = s; activity = Copies (with_read c (Out xid 0)) }; server = c.source.server; uid = 0; call = Read c.source.fileid c.at piece_size })
+      → GoesOut (record { file = record { layout = s; activity = Copies (with_read c (Out xid 0)) }; server = c.source.server; uid = 0; call = Read c.source.fileid c.at PIECE_SIZE })
   reads s c h =
-      let k = as_it_was c.source.server 0 (Read c.source.fileid c.at piece_size) (record { layout = s; activity = Copies c }) h in
+      let k = as_it_was c.source.server 0 (Read c.source.fileid c.at PIECE_SIZE) (record { layout = s; activity = Copies c }) h in
       (tt, recopied _ n journal s c k c.at c.piece c.ended (Out xid 0) c.targets k.busy.targets k.busy.sources refl)
 
   -- the call of a fence is such as is ever made
@@ -219,7 +221,7 @@ module _ (net : Net) (n xid : ℕ) (journal : List Entry) (same : AllFollow net.
   by_target : (s : LayoutState) (c : CopyState) → IsFile net journal n (record { layout = s; activity = Copies c }) → (got : Option ℕ) → copy_waiting c ≡ got → (x : CallOut)
       → copy_out (record { layout = s; activity = Copies c }) (copy_call_from c xid got) ≡ Some x → GoesOut x
   by_target s c h None at x is =
-      cond_both (waits c.read && have_answered c) (Some (record { copy = with_read c (Out xid 0); server = c.source.server; uid = 0; call = Read c.source.fileid c.at piece_size })) None
+      cond_both (waits c.read && have_answered c) (Some (record { copy = with_read c (Out xid 0); server = c.source.server; uid = 0; call = Read c.source.fileid c.at PIECE_SIZE })) None
       (λ (o : Option CopyCall). copy_out (record { layout = s; activity = Copies c }) o ≡ Some x → GoesOut x) (λ e same_call. subst GoesOut (same_Some _ x same_call) (reads s c h)) (λ e none. absurd cc) is
   by_target s c h (Some place) at x is =
       let found = found_at (λ t. waits t.stage) c.targets place at in

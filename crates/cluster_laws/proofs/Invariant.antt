@@ -28,7 +28,8 @@ use Rattle.cluster_model.specs.DsCalls.{DsCallValue, Create, SetAttr, Write, Com
 use Rattle.cluster_model.specs.GuardLaws.{IsInOrder, target, IsTold}
 use Rattle.cluster_model.specs.Fences.{FenceState, is_out}
 use Rattle.cluster_model.specs.Phases.{ids_of, is_source}
-use Rattle.copy_rule.specs.Copies.{CopyTarget, CopyState, is_given_up, target_call}
+use Rattle.copy_rule.specs.Copies.{CopyState, is_given_up, target_call}
+use Rattle.copy_rule.specs.declared.copy_target.CopyTarget.{CopyTarget}
 use Rattle.cluster_laws.specs.MdsFiles.{Creation, Creations, Activity, Idle, Makes, Fences, Settles, Copies, MdsFile}
 use Rattle.cluster_laws.specs.Machine.{PacketValue, Call, Reply, Machine, numbered_at, file_id}
 use Rattle.cluster_laws.specs.FenceLaw.{live_in, is_among}

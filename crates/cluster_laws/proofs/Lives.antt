@@ -11,7 +11,8 @@ use Rattle.cluster_model.specs.declared.ids.Mirror.{Mirror}
 use Rattle.cluster_model.specs.declared.phase.LeftCause.{LeftCause}
 use Rattle.cluster_model.specs.Journal.{is_mirror}
 use Rattle.cluster_model.specs.Mirrors.{has_server, are_on_different_servers}
-use Rattle.cluster_model.specs.Phases.{ids_of, unreported, but_for, seen_if, seen_at, left_entries, SwappedIn, in_place, with_targets, swapped_entries}
+use Rattle.cluster_model.specs.Phases.{ids_of, unreported, but_for, seen_if, seen_at, left_entries, in_place, with_targets, swapped_entries}
+use Rattle.cluster_model.specs.declared.targets.SwappedIn.{SwappedIn}
 use Rattle.cluster_laws.specs.FenceLaw.{is_file, live_by, changed_live, swapped_in}
 
 -- ---- tests

@@ -12,7 +12,8 @@ use Rattle.cluster_model.specs.declared.fence_mirror.FenceMirror.{FenceMirror}
 use Rattle.cluster_model.specs.declared.layout_state.LayoutState.{LayoutState}
 use Rattle.cluster_model.specs.DsCalls.{DsCallValue, Create, SetAttr, Write, Commit, Read, DsReplyValue, Created, Set, Written, Committed, Bytes, NotSync, Failed}
 use Rattle.cluster_model.specs.GuardLaws.{target}
-use Rattle.copy_rule.specs.Copies.{CopyTarget, target_call}
+use Rattle.copy_rule.specs.Copies.{target_call}
+use Rattle.copy_rule.specs.declared.copy_target.CopyTarget.{CopyTarget}
 use Rattle.cluster_laws.specs.MdsFiles.{Creation, Activity, Idle, Makes, Fences, Settles, Copies, MdsFile}
 use Rattle.cluster_laws.specs.Machine.{PacketValue, Call, Reply, file_id}
 use Rattle.cluster_laws.specs.FenceLaw.{live_after}

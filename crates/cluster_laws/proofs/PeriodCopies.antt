@@ -18,8 +18,12 @@ use Rattle.cluster_model.specs.Journal.{is_mirror}
 use Rattle.cluster_model.specs.Mirrors.{are_on_different_servers}
 use Rattle.cluster_model.specs.DsCalls.{DsReplyValue, Created, Set, Written, Committed, Bytes, NotSync, Failed}
 use Rattle.cluster_model.specs.Fences.{is_out, odd_status}
-use Rattle.cluster_model.specs.Phases.{ids_of, but_for, is_last_live, is_source, after_loss, mirror_left, with_phase, freed, has_targets, SwappedIn, in_place, with_targets, swapped_entries}
-use Rattle.copy_rule.specs.Copies.{CopyTarget, CopyState, CopyStep, Stranger, Waiting, SourceFailed, TargetFailed, AllHold, at_stage, TargetStep, goes_on_with, target_fails, create_answered, write_answered, target_answered, target_late, with_target, with_read, with_next, with_piece, has_outcome, goes_on, swaps_of, CopyAfter, step_told, stranger, source_fails, read_answered, read_late, target_of, step_at, step_from, by_read, on_reply, on_timeout}
+use Rattle.cluster_model.specs.Phases.{ids_of, but_for, is_last_live, is_source, after_loss, mirror_left, with_phase, freed, has_targets, in_place, with_targets, swapped_entries}
+use Rattle.cluster_model.specs.declared.targets.SwappedIn.{SwappedIn}
+use Rattle.copy_rule.specs.Copies.{CopyState, at_stage, TargetStep, goes_on_with, target_fails, create_answered, write_answered, target_answered, target_late, with_target, with_read, with_next, with_piece, has_outcome, goes_on, swaps_of, CopyAfter, step_told, stranger, source_fails, is_long, copy_then, read_answered, read_late, target_of, step_at, step_from, by_read, on_reply, on_timeout}
+use Rattle.copy_rule.specs.declared.copy_target.CopyTarget.{CopyTarget}
+use Rattle.copy_rule.specs.declared.copy_target.CopyStep.{CopyStep}
+use Rattle.copy_rule.specs.declared.copy_target.CopyStep.TheVariants.{Stranger, Waiting, SourceFailed, TargetFailed, Done as AllHold}
 use Rattle.cluster_laws.specs.MdsFiles.{Activity, Idle, Settles, Copies, Fresh, FileStep, stays, a_uid, goes_idle, with_entries, plan_of, copying, settled, source_left, settling_answered, settling_timed_out, copied_by, copied_on, target_left, copy_stepped}
 use Rattle.cluster_laws.specs.Machine.{file_id}
 use Rattle.cluster_laws.specs.Periods.{user_when_free, user_in}
@@ -139,7 +143,9 @@ module _ (live : List Mirror) (c : CopyState) (sources : AllByRecursion (λ t. I
   read_step (Set shown) = record { same = refl; tells = tt }
   read_step (Written shown verifier) = record { same = refl; tells = tt }
   read_step (Committed shown verifier) = record { same = refl; tells = tt }
-  read_step (Bytes shown eof bytes) = record { same = goes_on_copier (with_piece c eof bytes); tells = told_tells live (with_piece c eof bytes) Waiting tt }
+  read_step (Bytes shown eof bytes) =
+      cond_both (is_long c bytes) (source_fails c KeptBack (Error odd_status)) (copy_then (with_piece c eof bytes) Waiting) (IsStep live c.copier) (λ e. record { same = refl; tells = tt })
+      (λ e. record { same = goes_on_copier (with_piece c eof bytes); tells = told_tells live (with_piece c eof bytes) Waiting tt })
   read_step (NotSync shown) = record { same = refl; tells = tt }
   read_step (Failed status shown) = record { same = refl; tells = tt }
 

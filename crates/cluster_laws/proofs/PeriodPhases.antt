@@ -18,7 +18,9 @@ use Rattle.cluster_model.specs.Mirrors.{are_on_different_servers}
 use Rattle.cluster_model.specs.DsCalls.{DsReplyValue, Read}
 use Rattle.cluster_model.specs.Fences.{is_out, waits, FenceState, fence_call_at, call_from, waiting_at, outstanding_at, on_reply, on_timeout}
 use Rattle.cluster_model.specs.Phases.{with_live, seen_at}
-use Rattle.copy_rule.specs.Copies.{CopyState, CopyTarget, CopyCall, with_read, have_answered, piece_size, target_call_at, waiting_at as copy_waiting, call_from as copy_call_from, on_reply as copy_reply, on_timeout as copy_timeout}
+use Rattle.copy_rule.specs.Copies.{CopyState, CopyCall, with_read, have_answered, target_call_at, waiting_at as copy_waiting, call_from as copy_call_from, on_reply as copy_reply, on_timeout as copy_timeout}
+use Rattle.copy_rule.specs.declared.copy_target.CopyTarget.{CopyTarget}
+use Rattle.cluster_model.specs.declared.limits.TheConstants.{PIECE_SIZE}
 use Rattle.cluster_laws.specs.MdsFiles.{Creation, Creations, Activity, Idle, Makes, Fences, Settles, Copies, MdsFile, FileStep, nothing, in_stage, shown_by_set, seen_by, mirror_at, creation_of, creation_answered, creation_timed_out, shown_by_commit, seen_at_source, settling_answered, settling_timed_out}
 use Rattle.cluster_laws.specs.FilePhases.{FileInput, AsksLayout, OwnWrite, Recall, Returns, Revokes, OwnEnds, Resilver, Answers, TimesOut, Ticks, Sees, kind_of, settles_by, answered_in, timed_out_in, ticked, phase, CallOut, call_out, create_out, create_out_at, creation_waiting, fence_out, settle_out, copy_out}
 use Rattle.cluster_laws.specs.Machine.{file_id}
@@ -146,7 +148,7 @@ module _ (whose : ℕ → ℕ) (n next_uid xid : ℕ) (journal : List Entry) (s 
 
   copy_period : (d : CopyState) → IsPeriod whose next_uid journal n (record { layout = s; activity = Copies d }) → (got : Option ℕ) → copy_waiting d ≡ got → (c : CallOut) → copy_out (record { layout = s; activity = Copies d }) (copy_call_from d xid got) ≡ Some c → Still c
   copy_period d p None at c is =
-      cond_both (waits d.read && have_answered d) (Some (record { copy = with_read d (Out xid 0); server = d.source.server; uid = 0; call = Read d.source.fileid d.at piece_size })) None
+      cond_both (waits d.read && have_answered d) (Some (record { copy = with_read d (Out xid 0); server = d.source.server; uid = 0; call = Read d.source.fileid d.at PIECE_SIZE })) None
       (λ (o : Option CopyCall). copy_out (record { layout = s; activity = Copies d }) o ≡ Some c → Still c) (λ e same_call. subst Still (same_Some _ c same_call) (record { mine = p.mine; active = p.active })) (λ e none. absurd cc) is
   copy_period d p (Some place) at c is =
       let t = found_at (λ (y : CopyTarget). waits y.stage) d.targets place at in

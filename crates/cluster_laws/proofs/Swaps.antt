@@ -9,8 +9,10 @@ use Rattle.cluster_model.specs.declared.entry.Entry.TheVariants as entry
 use Rattle.cluster_model.specs.declared.layout_state.LayoutState.{LayoutState}
 use Rattle.cluster_model.specs.declared.layout_state.FenceEnd.TheVariants.{Copied}
 use Rattle.cluster_model.specs.Mirrors.{are_on_different_servers}
-use Rattle.cluster_model.specs.Phases.{ids_of, SwappedIn, with_targets, swapped_entries}
-use Rattle.copy_rule.specs.Copies.{CopyTarget, CopyState, has_outcome, swap_of, swaps_of}
+use Rattle.cluster_model.specs.Phases.{ids_of, with_targets, swapped_entries}
+use Rattle.cluster_model.specs.declared.targets.SwappedIn.{SwappedIn}
+use Rattle.copy_rule.specs.Copies.{CopyState, has_outcome, swap_of, swaps_of}
+use Rattle.copy_rule.specs.declared.copy_target.CopyTarget.{CopyTarget}
 use Rattle.cluster_laws.specs.MdsFiles.{Copies, stays, a_uid, copied_by, copied_on}
 use Rattle.cluster_laws.specs.Machine.{file_id}
 use Rattle.cluster_laws.specs.FenceLaw.{live_in, live_by}

@@ -19,7 +19,10 @@ use Rattle.cluster_model.specs.declared.layout_state.LayoutPhase.TheVariants.{Se
 use Rattle.cluster_model.specs.DsCalls.{DsCallValue, Create, DsReplyValue, Created, Set, Written, Committed, Bytes, NotSync, Failed}
 use Rattle.cluster_model.specs.Fences.{is_out, odd_status}
 use Rattle.cluster_model.specs.Phases.{ids_of, but_for, is_last_live, is_source, phase_without, after_loss}
-use Rattle.copy_rule.specs.Copies.{CopyTarget, CopyState, CopyStep, Stranger, Waiting, SourceFailed, TargetFailed, AllHold, at_stage, having_made, seen_then, having_written, TargetStep, goes_on_with, target_fails, create_answered, write_answered, target_answered, target_late, to_write, with_target, with_read, with_piece, has_outcome, goes_on, CopyAfter, step_told, stranger, source_fails, read_answered, read_late, target_of, stepped, step_at, step_from, by_read, on_reply, on_timeout, target_call}
+use Rattle.copy_rule.specs.Copies.{CopyState, at_stage, having_made, seen_then, having_written, TargetStep, goes_on_with, target_fails, create_answered, write_answered, target_answered, target_late, to_write, with_target, with_read, with_piece, has_outcome, goes_on, CopyAfter, step_told, stranger, source_fails, is_long, copy_then, read_answered, read_late, target_of, stepped, step_at, step_from, by_read, on_reply, on_timeout, target_call}
+use Rattle.copy_rule.specs.declared.copy_target.CopyTarget.{CopyTarget}
+use Rattle.copy_rule.specs.declared.copy_target.CopyStep.{CopyStep}
+use Rattle.copy_rule.specs.declared.copy_target.CopyStep.TheVariants.{Stranger, Waiting, SourceFailed, TargetFailed, Done as AllHold}
 use Rattle.cluster_laws.specs.MdsFiles.{Settles, Copies, Fresh, FileStep, stays, source_left, with_entries, target_left, copy_stepped}
 use Rattle.cluster_laws.specs.Machine.{file_id}
 use Rattle.cluster_laws.proofs.Facts.{Bears, HasGiven}
@@ -267,10 +270,11 @@ module _ (net : Net) (n next_uid files servers : ℕ) (journal : List Entry) (kn
     read_ok (Written shown verifier) = failed_read KeptBack (Error odd_status)
     read_ok (Committed shown verifier) = failed_read KeptBack (Error odd_status)
     read_ok (Bytes shown eof bytes) =
+        cond_both (is_long c bytes) (source_fails c KeptBack (Error odd_status)) (copy_then (with_piece c eof bytes) Waiting) RightAfter (λ e. failed_read KeptBack (Error odd_status)) (λ e.
         waited (with_piece c eof bytes)
         (recopied net n journal s c h c.at bytes eof Done (map (to_write bytes) c.targets)
         (all_map (IsTargetOf net n c.copier c.at c.piece) (IsTargetOf net n c.copier c.at bytes) (to_write bytes) c.targets (to_write_ok net n c.copier c.at c.piece c.at bytes) h.busy.targets)
-        (all_map (λ t. IsNotSource s.live t.replaced) (λ t. IsNotSource s.live t.replaced) (to_write bytes) c.targets (λ t k. same_replaced bytes (IsNotSource s.live) t k) h.busy.sources) (sites_written bytes c.targets))
+        (all_map (λ t. IsNotSource s.live t.replaced) (λ t. IsNotSource s.live t.replaced) (to_write bytes) c.targets (λ t k. same_replaced bytes (IsNotSource s.live) t k) h.busy.sources) (sites_written bytes c.targets)))
     read_ok (NotSync shown) = failed_read KeptBack (Error odd_status)
     read_ok (Failed status shown) = failed_read KeptBack (Error status)
 

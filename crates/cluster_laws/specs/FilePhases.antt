@@ -23,6 +23,7 @@ use Rattle.cluster_model.specs.Phases.{seen_at, with_live, is_clean, begun, gran
 use Rattle.cluster_laws.specs.MdsFiles.{Creation, Creations, Activity, Idle, Makes, Fences, Settles, Copies, MdsFile, Fresh, FileStep, nothing, stays, a_uid, goes_fencing, with_entries, fence_answered, fence_timed_out, in_stage, with_creation, creation_of, creation_answered, creation_timed_out, making_by, shown_by_commit, seen_at_source, settling_answered, settling_timed_out, copy_stepped}
 use Rattle.copy_rule.specs.Copies.{CopyCall, on_reply, on_timeout}
 use Rattle.copy_rule.specs.Copies as copy
+use Rattle.cluster_model.specs.declared.limits.TheConstants.{SPARE_UIDS}
 
 pub data FileInput : Type 0 where
   -- a client asks for a layout for writing
@@ -64,7 +65,7 @@ abbrev pub end_of_uids : ℕ
 end_of_uids = 4294967294
 
 abbrev pub are_spent : Fresh → Bool
-are_spent fresh = nat_lt end_of_uids (fresh.uid + 65536)
+are_spent fresh = nat_lt end_of_uids (fresh.uid + SPARE_UIDS)
 
 abbrev pub asked_in : FileId → MdsFile → NodeId → List Entry → Fresh → LayoutPhase → FileStep
 asked_in file f holder entries fresh Making = nothing f

@@ -4,6 +4,7 @@
 use Rattle.std.specs.Prelude.{ℕ, ◌+◌, ◌-◌, Bool, true, false, ◌==◌, ◌&&◌, not, List, [], ◌∷◌, ◌++◌, length, position, Option, Some, None, nat_lt, if◌then◌else◌, slice_get, slice_set}
 use Rattle.std.specs.List.{list_any, flat_map}
 use Rattle.cluster_model.specs.declared.tick.Tick.{Tick}
+use Rattle.cluster_model.specs.declared.limits.TheConstants.{FIRST_UID}
 use Rattle.cluster_model.specs.declared.ids.NodeId.{NodeId}
 use Rattle.cluster_model.specs.declared.ids.NodeId.TheVariants.{Mds, Server, Client}
 use Rattle.cluster_model.specs.declared.ids.FileId.{FileId}
@@ -55,7 +56,7 @@ no_move m = record { machine = m; entries = [] }
 
 -- new data servers, numbered from 1, and no files
 abbrev pub new_machine : List ServerState → Machine
-new_machine servers = record { servers = servers; files = []; next_uid = 65536; next_name = 1; last_xid = λ node. 0; packets = []; holdings = [] }
+new_machine servers = record { servers = servers; files = []; next_uid = FIRST_UID; next_name = 1; last_xid = λ node. 0; packets = []; holdings = [] }
 
 -- ---- moves
 

@@ -3,6 +3,7 @@
 use Rattle.std.specs.Prelude.{ℕ, ◌+◌, ◌-◌, not, List, [], ◌∷◌, ◌++◌, length, filter, take, drop, position, Option, Some, None, nat_lt, if◌then◌else◌, slice_get, slice_set}
 use Rattle.std.specs.List.{list_all, flat_map, range_with_len}
 use Rattle.std.specs.Option.{option_to_list}
+use Rattle.cluster_model.specs.declared.limits.TheConstants.{MAX_TIMEOUTS}
 use Rattle.cluster_model.specs.declared.tick.Tick.{Tick}
 use Rattle.cluster_model.specs.declared.ids.FileId.{FileId}
 use Rattle.cluster_model.specs.declared.ids.Cred.{Cred}
@@ -25,9 +26,13 @@ use Rattle.cluster_model.specs.declared.layout_state.CopyKind.TheVariants.{Repla
 use Rattle.cluster_model.specs.Mirrors.{has_server}
 use Rattle.cluster_model.specs.DsCalls.{DsReplyValue, Created, Set, Written, Committed, Bytes, NotSync, Failed}
 use Rattle.cluster_model.specs.Fences.{is_out, is_over, odd_status, FenceState, fence_of, outstanding_at, on_reply, on_timeout, without, is_done}
-use Rattle.cluster_model.specs.Phases.{seen_at, is_last_live, with_live, PhaseStep, made, mirror_left, fence_done, settled_row, SwappedIn, copied, has_targets}
-use Rattle.copy_rule.specs.Copies.{Target, CopyState, CopyStep, is_given_up, new_copy, swaps_of, has_outcome}
+use Rattle.cluster_model.specs.Phases.{seen_at, is_last_live, with_live, PhaseStep, made, mirror_left, fence_done, settled_row, copied, has_targets}
+use Rattle.cluster_model.specs.declared.targets.SwappedIn.{SwappedIn}
+use Rattle.copy_rule.specs.Copies.{CopyState, is_given_up, new_copy, swaps_of, has_outcome}
+use Rattle.copy_rule.specs.declared.copy_target.Target.{Target}
+use Rattle.copy_rule.specs.declared.copy_target.CopyStep.{CopyStep}
 use Rattle.copy_rule.specs.Copies as copy
+use Rattle.copy_rule.specs.declared.copy_target.CopyStep.TheVariants as copy_step
 
 -- ---- the files that are made at data servers for a new file
 
@@ -180,7 +185,7 @@ creation_answered all c (Failed status shown) = in_stage c (creation_failed all 
 -- the stage of a call behind a timeout, where a third one leaves it at `behind`
 abbrev pub stage_behind : CallStage → (ℕ → CallStage) → CallStage
 stage_behind Waits behind = Waits
-stage_behind (Out xid timeouts) behind = if nat_lt (timeouts + 1) 3 then Out xid (timeouts + 1) else behind xid
+stage_behind (Out xid timeouts) behind = if nat_lt (timeouts + 1) MAX_TIMEOUTS then Out xid (timeouts + 1) else behind xid
 stage_behind (KeptOut xid) behind = KeptOut xid
 stage_behind KeptBack behind = KeptBack
 stage_behind Done behind = Done
@@ -274,7 +279,7 @@ settling_answered file layout copies fresh (Failed status shown) = source_left f
 abbrev pub settling_timed_out : FileId → LayoutState → CallStage → FileStep
 settling_timed_out file layout Waits = stays layout (Settles Waits)
 settling_timed_out file layout (Out xid timeouts) =
-    if nat_lt (timeouts + 1) 3 then stays layout (Settles (Out xid (timeouts + 1)))
+    if nat_lt (timeouts + 1) MAX_TIMEOUTS then stays layout (Settles (Out xid (timeouts + 1)))
     else source_left file layout layout.live Timeouts (Settles (KeptOut xid))
 settling_timed_out file layout (KeptOut xid) = stays layout (Settles (KeptOut xid))
 settling_timed_out file layout KeptBack = stays layout (Settles KeptBack)
@@ -296,8 +301,8 @@ target_left file layout c fresh cause None = copied_on file layout c fresh
 target_left file layout c fresh cause (Some id) = with_entries (mirror_left file layout id cause).entries (copied_on file (mirror_left file layout id cause).file c fresh)
 
 abbrev pub copy_stepped : FileId → LayoutState → CopyState → Fresh → CopyStep → FileStep
-copy_stepped file layout c fresh copy.Stranger = stays layout (Copies c)
-copy_stepped file layout c fresh copy.Waiting = stays layout (Copies c)
-copy_stepped file layout c fresh (copy.SourceFailed cause) = source_left file layout layout.live cause (Copies c)
-copy_stepped file layout c fresh (copy.TargetFailed server replaced cause) = target_left file layout c fresh cause replaced
-copy_stepped file layout c fresh copy.AllHold = copied_on file layout c fresh
+copy_stepped file layout c fresh copy_step.Stranger = stays layout (Copies c)
+copy_stepped file layout c fresh copy_step.Waiting = stays layout (Copies c)
+copy_stepped file layout c fresh (copy_step.SourceFailed cause) = source_left file layout layout.live cause (Copies c)
+copy_stepped file layout c fresh (copy_step.TargetFailed server replaced cause) = target_left file layout c fresh cause replaced
+copy_stepped file layout c fresh copy_step.Done = copied_on file layout c fresh

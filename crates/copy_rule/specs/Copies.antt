@@ -12,24 +12,14 @@ use Rattle.cluster_model.specs.declared.call_stage.CallStage.{CallStage}
 use Rattle.cluster_model.specs.declared.call_stage.CallStage.TheVariants.{Waits, Out, KeptOut, KeptBack, Done, GivenUp}
 use Rattle.cluster_model.specs.DsCalls.{DsCallValue, Create, Write, Read, DsReplyValue, Created, Set, Written, Committed, Bytes, NotSync, Failed}
 use Rattle.cluster_model.specs.Fences.{waits, is_out, is_over, stage_at_tick, odd_status}
-use Rattle.cluster_model.specs.Phases.{SwappedIn}
+use Rattle.cluster_model.specs.declared.limits.TheConstants.{MAX_FILE, MAX_TIMEOUTS, PIECE_SIZE}
+use Rattle.cluster_model.specs.declared.targets.SwappedIn.{SwappedIn}
+use Rattle.copy_rule.specs.declared.copy_target.Target.{Target}
+use Rattle.copy_rule.specs.declared.copy_target.CopyTarget.{CopyTarget}
+use Rattle.copy_rule.specs.declared.copy_target.CopyStep.{CopyStep}
+use Rattle.copy_rule.specs.declared.copy_target.CopyStep.TheVariants.{Stranger, Waiting, SourceFailed, TargetFailed, Done as AllHold}
 
 -- ---- what a copy is of
-
--- where a fresh file is to be made, under the name of which number, and the live mirror in whose place it is to come
-pub record Target : Type 0 where
-  pub server : ℕ
-  pub name : ℕ
-  pub replaced : Option MirrorId
-
--- The file that was made, with the ctime last seen there; and where the call to it stands: its CREATE, and once it is made the WRITE of
--- the piece in hand.
-pub record CopyTarget : Type 0 where
-  pub server : ℕ
-  pub name : ℕ
-  pub replaced : Option MirrorId
-  pub made : Option Mirror
-  pub stage : CallStage
 
 pub record CopyState : Type 0 where
   -- the uid that the targets belong to
@@ -42,16 +32,6 @@ pub record CopyState : Type 0 where
   -- where its READ stands
   pub read : CallStage
   pub targets : List CopyTarget
-
--- What an answer or a timeout comes to.
-pub data CopyStep : Type 0 where
-  -- no call of this number is outstanding in the copy
-  Stranger : CopyStep
-  Waiting : CopyStep
-  SourceFailed : (cause : LeftCause) → CopyStep
-  TargetFailed : (server : ℕ) (replaced : Option MirrorId) (cause : LeftCause) → CopyStep
-  -- each target that is left holds the source's bytes
-  AllHold : CopyStep
 
 abbrev pub is_given_up : CallStage → Bool
 is_given_up Waits = false
@@ -121,7 +101,7 @@ target_answered t reply (Some m) = write_answered t reply
 -- A timeout: the same record is sent again twice. With the third one the target fails.
 abbrev pub target_late : CopyTarget → CallStage → TargetStep
 target_late t Waits = goes_on_with t
-target_late t (Out xid timeouts) = if nat_lt (timeouts + 1) 3 then goes_on_with (at_stage t (Out xid (timeouts + 1))) else target_fails t Timeouts
+target_late t (Out xid timeouts) = if nat_lt (timeouts + 1) MAX_TIMEOUTS then goes_on_with (at_stage t (Out xid (timeouts + 1))) else target_fails t Timeouts
 target_late t (KeptOut xid) = goes_on_with t
 target_late t KeptBack = goes_on_with t
 target_late t Done = goes_on_with t
@@ -205,20 +185,24 @@ stranger c = record { copy = c; step = Stranger }
 abbrev pub source_fails : CopyState → CallStage → LeftCause → CopyAfter
 source_fails c kept cause = record { copy = with_read c kept; step = SourceFailed cause }
 
+-- more bytes than were asked for, or some past the end of the longest file
+abbrev pub is_long : CopyState → List ℕ → Bool
+is_long c bytes = nat_lt PIECE_SIZE (length bytes) || nat_lt MAX_FILE (c.at + length bytes)
+
 -- an answer to the READ, and a timeout of it
 abbrev pub read_answered : CopyState → DsReplyValue → CopyAfter
 read_answered c (Created fileid shown) = source_fails c KeptBack (Error odd_status)
 read_answered c (Set shown) = source_fails c KeptBack (Error odd_status)
 read_answered c (Written shown verifier) = source_fails c KeptBack (Error odd_status)
 read_answered c (Committed shown verifier) = source_fails c KeptBack (Error odd_status)
-read_answered c (Bytes shown eof bytes) = copy_then (with_piece c eof bytes) Waiting
+read_answered c (Bytes shown eof bytes) = if is_long c bytes then source_fails c KeptBack (Error odd_status) else copy_then (with_piece c eof bytes) Waiting
 read_answered c (NotSync shown) = source_fails c KeptBack (Error odd_status)
 read_answered c (Failed status shown) = source_fails c KeptBack (Error status)
 
 abbrev pub read_late : CopyState → CallStage → CopyAfter
 read_late c Waits = stranger c
 read_late c (Out xid timeouts) =
-    if nat_lt (timeouts + 1) 3 then record { copy = with_read c (Out xid (timeouts + 1)); step = Waiting }
+    if nat_lt (timeouts + 1) MAX_TIMEOUTS then record { copy = with_read c (Out xid (timeouts + 1)); step = Waiting }
     else source_fails c (KeptOut xid) Timeouts
 read_late c (KeptOut xid) = record { copy = c; step = Waiting }
 read_late c KeptBack = stranger c
@@ -267,10 +251,6 @@ abbrev pub target_caller : ℕ → Option Mirror → ℕ
 target_caller copier None = 0
 target_caller copier (Some m) = copier
 
--- how many bytes of the source are read at a time
-abbrev pub piece_size : ℕ
-piece_size = 65536
-
 -- a call that goes out, to which server and by whom, and the copy then
 pub record CopyCall : Type 0 where
   pub copy : CopyState
@@ -291,7 +271,7 @@ target_call_at c xid place (Some t) = Some (record {
 abbrev pub read_call : CopyState → ℕ → Option CopyCall
 read_call c xid =
     if waits c.read && have_answered c
-    then Some (record { copy = with_read c (Out xid 0); server = c.source.server; uid = 0; call = Read c.source.fileid c.at piece_size })
+    then Some (record { copy = with_read c (Out xid 0); server = c.source.server; uid = 0; call = Read c.source.fileid c.at PIECE_SIZE })
     else None
 
 abbrev pub call_from : CopyState → ℕ → Option ℕ → Option CopyCall

@@ -5,8 +5,10 @@ use Rattle.cluster_model.specs.declared.ids.MirrorId.{MirrorId}
 use Rattle.cluster_model.specs.declared.phase.LeftCause.TheVariants.{Error, Timeouts}
 use Rattle.cluster_model.specs.declared.ds_call.Shown.{Shown}
 use Rattle.cluster_model.specs.DsCalls.{DsCallValue, Create, Write, Read, DsReplyValue, Created, Written, Bytes, Failed}
-use Rattle.cluster_model.specs.Phases.{SwappedIn}
-use Rattle.copy_rule.specs.Copies.{CopyState, CopyStep, Stranger, Waiting, SourceFailed, TargetFailed, AllHold, new_copy, CopyCall, on_reply, on_timeout, after_tick, next_call, outcome}
+use Rattle.cluster_model.specs.declared.targets.SwappedIn.{SwappedIn}
+use Rattle.copy_rule.specs.declared.copy_target.CopyStep.{CopyStep}
+use Rattle.copy_rule.specs.declared.copy_target.CopyStep.TheVariants.{Stranger, Waiting, SourceFailed, TargetFailed, Done as AllHold}
+use Rattle.copy_rule.specs.Copies.{CopyState, new_copy, CopyCall, on_reply, on_timeout, after_tick, next_call, outcome}
 
 -- ---- turns of a copy
 

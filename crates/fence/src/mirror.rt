@@ -6,17 +6,9 @@ ghost use Rattle.cluster_model.specs.Fences.{to_fence, having_seen, acknowledged
 
 use crate::call::{is_kept, stage_at_tick};
 use cluster_model::{
-    CallStage, Cred, DsReply, FenceMirror, FenceStep, LeftCause, Mirror, MirrorId, Shown,
+    CallStage, Cred, DsReply, FenceMirror, FenceStep, LeftCause, MAX_TIMEOUTS, MAX_UNSYNCED,
+    Mirror, MirrorId, SERVERFAULT, Shown,
 };
-
-/// How many answers that do not acknowledge make a mirror fail.
-const MAX_UNSYNCED: u32 = 8;
-
-/// How many timeouts make a call fail.
-const MAX_TIMEOUTS: u32 = 3;
-
-/// The status that an answer counts as which no server gives to a SETATTR (RFC 1813, section 2.6, NFS3ERR_SERVERFAULT).
-const ODD_ANSWER: u32 = 10006;
 
 /// A mirror at the start of a fence: a call to it waits.
 pub fn to_fence(mirror: Mirror) -> FenceMirror
@@ -100,7 +92,7 @@ pub fn answered(fresh: Cred, mirror: FenceMirror, reply: &DsReply<'_>) -> (Fence
         DsReply::Failed { status, shown } => {
             failed_by(having_seen(mirror, shown), LeftCause::Error(status))
         }
-        _ => failed_by(mirror, LeftCause::Error(ODD_ANSWER)),
+        _ => failed_by(mirror, LeftCause::Error(SERVERFAULT)),
     }
 }
 

@@ -1,5 +1,6 @@
 -- Who is granted a file (RFC 8881, section 18.43; RFC 8435, section 2.2).
 use Rattle.std.specs.Prelude.{◌≡◌, ℕ, Bool, true, false, ◌==◌, List, Option, Some, None, Result, Ok, Err, nat_lt, if◌then◌else◌}
+use Rattle.cluster_model.specs.declared.limits.TheConstants.{SPARE_UIDS}
 use Rattle.cluster_model.specs.declared.ids.NodeId.{NodeId}
 use Rattle.cluster_model.specs.declared.ids.NodeId.TheVariants.{Mds, Server, Client}
 use Rattle.cluster_model.specs.declared.ids.Cred.{Cred}
@@ -16,14 +17,10 @@ use Rattle.layout_state.specs.declared.grant.GrantFault.TheVariants.{Later, Reca
 
 -- ---- a grant
 
--- uids count as spent where fewer than this are left
-abbrev pub spare_uids : ℕ
-spare_uids = 65536
-
 -- Why a file is not granted. The holder gets its grant again, unless it is recalled.
 abbrev pub grant_fault_by : LayoutPhase → NodeId → ℕ → Option GrantFault
 grant_fault_by Making node uids_left = Some (Later name.Making)
-grant_fault_by Free node uids_left = if nat_lt uids_left spare_uids then Some Spent else None
+grant_fault_by Free node uids_left = if nat_lt uids_left SPARE_UIDS then Some Spent else None
 grant_fault_by (Held holder is_recalled) node uids_left = if is_node holder node then (if is_recalled then Some Recalling else None) else Some (Later name.Held)
 grant_fault_by (Fencing next end) node uids_left = Some (Later name.Fencing)
 grant_fault_by (Settling copies) node uids_left = Some (Later name.Settling)

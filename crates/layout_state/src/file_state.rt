@@ -15,9 +15,6 @@ use cluster_model::{
 };
 use std::marker::Model;
 
-/// Uids count as spent where fewer than this are left.
-const SPARE_UIDS: u32 = 65_536;
-
 /// One file at the metadata server. Each call is a row of the table of phases; no call takes memory.
 #[derive(Clone, Copy, Debug, PartialEq, Eq)]
 pub struct FileState {

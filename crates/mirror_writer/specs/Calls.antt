@@ -1,5 +1,6 @@
 -- What the calls of a writer do.
 use Rattle.std.specs.Prelude.{◌≡◌, ◌≤◌, ℕ, Bool, true, false, List, length, Option, Some, None, slice_get}
+use Rattle.cluster_model.specs.declared.limits.TheConstants.{PIECE_SIZE}
 use Rattle.cluster_model.specs.declared.ids.MirrorId.{MirrorId}
 use Rattle.cluster_model.specs.declared.ds_call.DsCall.{DsCall}
 use Rattle.cluster_model.specs.DsCalls.{DsCallValue, plain_ds_call, data_in}
@@ -57,4 +58,4 @@ IsGone s next false = (id : MirrorId) → (call : DsCallValue) × (call_for s id
 -- the bytes of a WRITE that is lent are at most 65,536
 abbrev pub CarriesFewBytes : {A : Type 0} → Option (A × DsCall) → Type 0
 CarriesFewBytes None = Unit {0}
-CarriesFewBytes (Some (id, call)) = length (data_in (plain_ds_call call)) ≤ 65536
+CarriesFewBytes (Some (id, call)) = length (data_in (plain_ds_call call)) ≤ PIECE_SIZE

@@ -1,6 +1,7 @@
 -- Sets of places of a file. A run of places is the pair of its first and of the first behind it.
 use Rattle.std.specs.Prelude.{◌≡◌, ℕ, ◌+◌, ◌<◌, ◌≤◌, Bool, true, false, ◌&&◌, ◌||◌, not, ⊤, List, [], ◌∷◌, map, nat_le, nat_lt}
 use Rattle.std.specs.List.{All, list_any}
+use Rattle.cluster_model.specs.declared.limits.TheConstants.{MAX_FILE}
 
 abbrev pub has_place : ℕ → (ℕ × ℕ) → Bool
 has_place p run = nat_le run.0 p && nat_lt p run.1
@@ -42,4 +43,4 @@ EndBy end runs = All (λ run. run.1 ≤ end) runs
 
 -- the places of a file end here
 abbrev pub max_place : ℕ
-max_place = 67108864
+max_place = MAX_FILE

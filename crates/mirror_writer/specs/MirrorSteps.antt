@@ -10,6 +10,7 @@ use Rattle.mirror_writer.specs.declared.call.MirrorOutcome.TheVariants as outcom
 use Rattle.mirror_writer.specs.declared.call.NextCall.{NextCall}
 use Rattle.mirror_writer.specs.declared.call.WriterCall.{WriterCall}
 use Rattle.mirror_writer.specs.declared.call.WriterCall.TheVariants.{NoCall, OutWrite, OutCommit}
+use Rattle.mirror_writer.specs.declared.mirror.TheConstants.{ACCES, STALE}
 use Rattle.mirror_writer.specs.declared.step.WriterStep.TheVariants as step
 use Rattle.mirror_writer.specs.Writers.{WriterMirror, WriterValue, WriterAfter, with_failure, without_call, with_write_answer, with_commit, with_writer_call, after_commit, is_stranger, fenced, next_at}
 
@@ -22,7 +23,7 @@ failed_there m cause = record { mirror = with_failure m; outcome = outcome.Faile
 
 abbrev pub refused_there : WriterMirror → ℕ → MirrorAfter
 refused_there m status =
-    if (status == 13) || (status == 70) then record { mirror = without_call m; outcome = outcome.Fenced status } else failed_there m (Error status)
+    if (status == ACCES) || (status == STALE) then record { mirror = without_call m; outcome = outcome.Fenced status } else failed_there m (Error status)
 
 abbrev pub write_answered_there : WriterMirror → ℕ → DsReplyValue → MirrorAfter
 write_answered_there m write (Written shown verifier) = record { mirror = with_write_answer write verifier m; outcome = outcome.Waiting }

@@ -15,6 +15,7 @@ use Rattle.mirror_writer.specs.declared.call.WriterCall.{WriterCall}
 use Rattle.mirror_writer.specs.declared.call.WriterCall.TheVariants.{NoCall, OutWrite, OutCommit}
 use Rattle.mirror_writer.specs.declared.call.NextCall.{NextCall}
 use Rattle.mirror_writer.specs.declared.call.NextCall.TheVariants.{SendsWrite, SendsCommit}
+use Rattle.mirror_writer.specs.declared.mirror.TheConstants.{ACCES, STALE}
 use Rattle.mirror_writer.specs.declared.step.WriterStep.{WriterStep}
 use Rattle.mirror_writer.specs.declared.step.WriterStep.TheVariants as step
 
@@ -194,9 +195,9 @@ fenced s = record { cred = s.cred; taken = s.taken; mirrors = s.mirrors; wants_c
 abbrev pub is_fenced_by : WriterValue → ℕ → WriterMirror → ℕ → WriterAfter
 is_fenced_by s place m status = record { writer = fenced (with_writer_mirror s place (without_call m)); step = step.Fenced m.id status }
 
--- ACCES 13 and STALE 70: the layout is no more
+-- ACCES and STALE: the layout is no more
 abbrev pub refused_by : WriterValue → ℕ → WriterMirror → ℕ → WriterAfter
-refused_by s place m status = if (status == 13) || (status == 70) then is_fenced_by s place m status else fails s place m (Error status)
+refused_by s place m status = if (status == ACCES) || (status == STALE) then is_fenced_by s place m status else fails s place m (Error status)
 
 abbrev pub with_write_answer : ℕ → ℕ → WriterMirror → WriterMirror
 with_write_answer write verifier m = record {

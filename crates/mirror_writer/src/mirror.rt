@@ -10,23 +10,17 @@ ghost use Rattle.mirror_writer.specs.MirrorSteps.{MirrorAfter, answered_there, w
 
 use crate::call::{MirrorOutcome, NextCall, WriteAnswer, WriterCall};
 use crate::covering::{cover, requeue};
-use cluster_model::{DsReply, LeftCause, Mirror, MirrorId};
+use cluster_model::{DsReply, LeftCause, MAX_TIMEOUTS, Mirror, MirrorId, SERVERFAULT};
 use ff_xdr::NoMemory;
 use std::alloc::Global;
 use std::collections::VecDeque;
 use std::marker::Model;
 use std::mem;
 
-/// How many timeouts make a call fail.
-const MAX_TIMEOUTS: u32 = 3;
-
-/// The status that an answer counts as which no server gives to this call (RFC 1813, section 2.6, NFS3ERR_SERVERFAULT).
-const ODD_ANSWER: u32 = 10006;
-
 /// ACCES, and STALE: the layout is no more (RFC 1813, section 2.6; RFC 8435, section 2.2).
-const ACCES: u32 = 13;
+pub const ACCES: u32 = 13;
 
-const STALE: u32 = 70;
+pub const STALE: u32 = 70;
 
 /// One mirror of a writer: what waits for it, what is out, and which taken writes it has for good.
 #[derive(Debug, Drop)]
@@ -201,7 +195,7 @@ impl MirrorWrites {
                 MirrorOutcome::Waiting
             }
             DsReply::Failed { status, .. } => self.refused(status),
-            _ => self.fail(LeftCause::Error(ODD_ANSWER)),
+            _ => self.fail(LeftCause::Error(SERVERFAULT)),
         }
     }
 
@@ -215,7 +209,7 @@ impl MirrorWrites {
                 MirrorOutcome::CommitOk
             }
             DsReply::Failed { status, .. } => self.refused(status),
-            _ => self.fail(LeftCause::Error(ODD_ANSWER)),
+            _ => self.fail(LeftCause::Error(SERVERFAULT)),
         }
     }
 

@@ -1,5 +1,6 @@
 //! What a writer tells of what is outstanding, of its taken writes, and of its mirrors together.
 
+ghost use Rattle.cluster_model.specs.declared.limits.TheConstants.{PIECE_SIZE};
 ghost use Rattle.std.specs.Prelude.{◌≡◌, ◌≤◌, IfSome, length, option_map, slice_get};
 ghost use Rattle.mirror_writer.specs.Calls.{LendsTaken, CarriesFewBytes};
 ghost use Rattle.mirror_writer.specs.Outstanding.{out_at, out_call, out_shown, is_covered_everywhere, has_no_mirror};
@@ -59,7 +60,7 @@ impl Writer {
 
     /// The taken write of this number, from 0: its place and its bytes.
     pub fn write_numbered(&self, n: usize) -> Option<(u64, &[u8])>
-        ensures few { IfSome result (λ w. length w.1.now ≤ 65536) }
+        ensures few { IfSome result (λ w. length w.1.now ≤ PIECE_SIZE) }
         ensures lent { LendsTaken (slice_get self.now.taken n) (option_map (λ w. (w.0, w.1.now)) result) }
     {
         let write = self.taken.get(n)?;

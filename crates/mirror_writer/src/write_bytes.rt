@@ -1,5 +1,6 @@
 //! The bytes of a write.
 
+ghost use Rattle.cluster_model.specs.declared.limits.TheConstants.{PIECE_SIZE};
 ghost use Rattle.std.specs.Prelude.{◌≡◌, ◌≤◌, length, IfOk};
 
 use ff_xdr::{Data, NoMemory};
@@ -14,19 +15,20 @@ pub struct WriteBytes {
 
 impl Model for WriteBytes {
     ghost use Rattle.std.specs.Prelude.{List, ℕ, ◌≤◌, length};
+    ghost use Rattle.cluster_model.specs.declared.limits.TheConstants.{PIECE_SIZE};
 
     ghost Value = { List ℕ };
 
     ghost view = { λ w. w.bytes };
 
-    ghost invariant = { λ w. (1 ≤ length w.bytes) × (length w.bytes ≤ 65536) };
+    ghost invariant = { λ w. (1 ≤ length w.bytes) × (length w.bytes ≤ PIECE_SIZE) };
 }
 
 impl WriteBytes {
     /// A copy of 1 to 65,536 bytes.
     pub fn of(alloc: Global, bytes: &[u8]) -> Result<WriteBytes, NoMemory>
         requires some { 1 ≤ length bytes.now }
-        requires few { length bytes.now ≤ 65536 }
+        requires few { length bytes.now ≤ PIECE_SIZE }
         ensures { IfOk result (λ copy. copy ≡ bytes.now) }
     {
         let bytes = Data::of(alloc, bytes)?;
@@ -37,7 +39,7 @@ impl WriteBytes {
     pub fn bytes(&self) -> &[u8]
         ensures bytes { result.now ≡ self.now }
         ensures some { 1 ≤ length self.now }
-        ensures few { length self.now ≤ 65536 }
+        ensures few { length self.now ≤ PIECE_SIZE }
     {
         self.bytes.bytes()
     }

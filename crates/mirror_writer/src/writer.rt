@@ -1,5 +1,6 @@
 //! A writer over the mirrors of one file.
 
+ghost use Rattle.cluster_model.specs.declared.limits.TheConstants.{MAX_FILE, PIECE_SIZE};
 ghost use Rattle.std.specs.Prelude.{◌≡◌, ⊤, ◌≤◌, ◌+◌, ◌<◌, length, false, IfOk, OnOk, OnErr, option_map, position, map, slice_get};
 ghost use Rattle.std.specs.List.{list_all, list_any, find, All};
 ghost use Rattle.std.specs.Borrow.{sem, follows_so};
@@ -76,8 +77,8 @@ impl Writer {
     /// It waits at every mirror then.
     pub fn write(&mut self, at: u64, bytes: &[u8]) -> WriteStart
         requires some { 1 ≤ length bytes.now }
-        requires few { length bytes.now ≤ 65536 }
-        requires within { at + length bytes.now ≤ 67108864 }
+        requires few { length bytes.now ≤ PIECE_SIZE }
+        requires within { at + length bytes.now ≤ MAX_FILE }
         ensures { TakesWriteAs self.old at bytes.now result self.new }
     {
         if self.places.overlaps(at, bytes.len() as u64) {
@@ -92,8 +93,8 @@ impl Writer {
     /// Takes a write that has no place in common with the taken ones. At an error nothing has changed.
     fn take(&mut self, at: u64, bytes: &[u8]) -> Result<(), NoMemory>
         requires some { 1 ≤ length bytes.now }
-        requires few { length bytes.now ≤ 65536 }
-        requires within { at + length bytes.now ≤ 67108864 }
+        requires few { length bytes.now ≤ PIECE_SIZE }
+        requires within { at + length bytes.now ≤ MAX_FILE }
         requires apart { overlaps_taken self.old at (length bytes.now) ≡ false }
         ensures ok { OnOk result (self.new ≡ with_write self.old at bytes.now) }
         ensures err { OnErr result (self.new ≡ self.old) }
