@@ -1,5 +1,6 @@
 -- What the answer to a compound comes to for a client (RFC 8881, sections 2.10.6, 18; RFC 8435, section 7).
 use Rattle.std.specs.Prelude.{ℕ, Bool, true, false, ◌&&◌, ◌||◌, ◌==◌, List, [], ◌∷◌, ◌++◌, length, nat_lt, drop, replicate, Option, Some, None, if◌then◌else◌}
+use Rattle.client_answers.specs.declared.answers.TheConstants.{BADSESSION, BAD_STATEID, DELAY, LAYOUTTRYLATER, RECALLCONFLICT}
 use Rattle.nfs4_types.specs.declared.ids.SessionId.{SessionId}
 use Rattle.nfs4_types.specs.declared.ids.DeviceId.{DeviceId}
 use Rattle.nfs4_types.specs.Ids.{device_id_of}
@@ -105,26 +106,26 @@ after_refusal kind c = if has_session c.tie then defers kind c else as_new c
 abbrev pub refused_otherwise : MdsAsk → ℕ → ClientValue → ClientRun
 refused_otherwise kind status c = ends_as (head_refused status c.queue c) (after_refusal kind)
 
--- the same is asked again at the next tick: LAYOUTTRYLATER 10058, RECALLCONFLICT 10061, DELAY 10008
+-- the same is asked again at the next tick
 abbrev pub is_for_later : ℕ → Bool
-is_for_later status = (status == 10058) || (status == 10061) || (status == 10008)
+is_for_later status = (status == LAYOUTTRYLATER) || (status == RECALLCONFLICT) || (status == DELAY)
 
 abbrev pub asks_later : MdsAsk → ClientValue → ClientValue
 asks_later ask.LayoutReturn c = record c { layout = deferred c.layout }
 asks_later ask.Renew c = c
 asks_later kind c = record c { waits = true }
 
--- BADSESSION 10052: with a layout that is lost with it; without one the request at the head gets the status; then the client is as new
+-- BADSESSION: with a layout that is lost with it; without one the request at the head gets the status; then the client is as new
 abbrev pub session_lost : Option Layout → ClientValue → ClientRun
-session_lost None c = ends_as (head_refused 10052 c.queue c) as_new
+session_lost None c = ends_as (head_refused BADSESSION c.queue c) as_new
 session_lost (Some l) c = ends_as (revoked_layout c) as_new
 
--- BAD_STATEID 10025 at LAYOUTRETURN: the layout was taken away
+-- BAD_STATEID at LAYOUTRETURN: the layout was taken away
 abbrev pub refused_by_mds : MdsAsk → ℕ → ClientValue → ClientRun
 refused_by_mds kind status c =
-    if status == 10052 then session_lost c.layout c
+    if status == BADSESSION then session_lost c.layout c
     else if is_for_later status then unmoved (asks_later kind c)
-    else if (status == 10025) && is_layout_return kind then revoked_layout c
+    else if (status == BAD_STATEID) && is_layout_return kind then revoked_layout c
     else refused_otherwise kind status c
 
 -- ---- the answer

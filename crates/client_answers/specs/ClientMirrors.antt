@@ -1,6 +1,7 @@
 -- What the answers of data servers come to for a client, and timeouts of its calls to them (RFC 8435, sections 5 and 8).
 use Rattle.std.specs.Prelude.{ℕ, ◌+◌, Bool, true, false, not, ◌==◌, nat_lt, List, [], ◌∷◌, ◌++◌, length, position, Option, Some, None, slice_get, slice_set, if◌then◌else◌}
 use Rattle.std.specs.List.{filter}
+use Rattle.client_answers.specs.declared.answers.TheConstants.{DELAY}
 use Rattle.cluster_model.specs.declared.ids.NodeId.TheVariants.{Client}
 use Rattle.cluster_model.specs.declared.ids.Mirror.{Mirror}
 use Rattle.cluster_model.specs.declared.ids.MirrorId.{MirrorId}
@@ -53,12 +54,12 @@ is_commit call = false
 
 -- ---- a mirror failed
 
--- the status that is reported of it: DELAY 10008 for timeouts
+-- the status that is reported of it: DELAY for timeouts
 abbrev pub reported_status : LeftCause → ℕ
 reported_status (left.Error status) = status
-reported_status left.Timeouts = 10008
-reported_status left.Reported = 10008
-reported_status left.Unsynced = 10008
+reported_status left.Timeouts = DELAY
+reported_status left.Reported = DELAY
+reported_status left.Unsynced = DELAY
 
 abbrev pub with_status_at : List (Option ℕ) → Option ℕ → ℕ → List (Option ℕ)
 with_status_at statuses None status = statuses

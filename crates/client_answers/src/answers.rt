@@ -24,16 +24,16 @@ use nfs4_types::SessionId;
 pub const DELAY: u32 = 10008;
 
 /// NFS4ERR_BAD_STATEID.
-const BAD_STATEID: u32 = 10025;
+pub const BAD_STATEID: u32 = 10025;
 
 /// NFS4ERR_BADSESSION.
-const BADSESSION: u32 = 10052;
+pub const BADSESSION: u32 = 10052;
 
 /// NFS4ERR_LAYOUTTRYLATER.
-const LAYOUTTRYLATER: u32 = 10058;
+pub const LAYOUTTRYLATER: u32 = 10058;
 
 /// NFS4ERR_RECALLCONFLICT.
-const RECALLCONFLICT: u32 = 10061;
+pub const RECALLCONFLICT: u32 = 10061;
 
 /// The same is asked again at the next tick.
 fn is_for_later(status: u32) -> bool

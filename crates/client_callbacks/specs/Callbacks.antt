@@ -1,6 +1,9 @@
 -- What a client answers to its callbacks (RFC 8881, sections 2.10.6, 20.3 and 20.9; RFC 5531, section 9).
 use Rattle.std.specs.Prelude.{ℕ, Bool, true, false, ◌&&◌, ◌==◌, nat_le, nat_lt, List, [], ◌∷◌, bytes_eq, Option, Some, None, Result, Ok, Err, if◌then◌else◌}
 use Rattle.std.proofs.Common.{inl, inr}
+use Rattle.rpc_record.specs.declared.call.TheConstants.{RPC_VERSION}
+use Rattle.client_callbacks.specs.declared.cb_ops.TheConstants.{ILLEGAL, LAYOUTRECALL, SEQUENCE}
+use Rattle.client_callbacks.specs.declared.callback.TheConstants.{COMPOUND, MAX_OPS, MINOR_VERSION, NULL, PROGRAM, VERSION}
 use Rattle.ff_xdr.specs.declared.error.XdrError.{XdrError}
 use Rattle.ff_xdr.specs.Form.{Value, spelling}
 use Rattle.ff_xdr.specs.Arms.{arm, by_arm}
@@ -37,8 +40,8 @@ use Rattle.client_state.specs.ClientQueue.{with_layout, ending}
 -- a status other than OK under a number
 abbrev pub cb_refusal : ℕ → Stat4 → Value cb_resop4
 cb_refusal number status =
-    if number == 5 then arm 5 cb_resop4 (inr (stat4_number status))
-    else if number == 11 then arm 11 cb_resop4 (inr (stat4_number status))
+    if number == LAYOUTRECALL then arm 5 cb_resop4 (inr (stat4_number status))
+    else if number == SEQUENCE then arm 11 cb_resop4 (inr (stat4_number status))
     else behind_arms cb_resop4 (number, stat4_number status)
 
 abbrev pub cb_recall_result : Stat4 → Value cb_resop4
@@ -84,7 +87,7 @@ unread_status number false = stat.OpIllegal
 
 abbrev pub unread_number : ℕ → Bool → ℕ
 unread_number number true = number
-unread_number number false = 10044
+unread_number number false = ILLEGAL
 
 abbrev pub is_callback_number : ℕ → Bool
 is_callback_number number = nat_le 3 number && nat_le number 14
@@ -94,7 +97,7 @@ stopped (stop.End rest) = given stat.Ok []
 stopped (stop.Unread number) =
     let known = is_callback_number number in
     refused_result (unread_status number known) (cb_refusal (unread_number number known) (unread_status number known))
-stopped (stop.Bad e) = refused_result stat.BadXdr (cb_refusal 10044 stat.BadXdr)
+stopped (stop.Bad e) = refused_result stat.BadXdr (cb_refusal ILLEGAL stat.BadXdr)
 
 -- ---- CB_LAYOUTRECALL
 
@@ -184,7 +187,7 @@ cb_in_session tie sequence ops st c = leaves (sequence_refused stat.BadSession) 
 -- the first operation: no other than CB_SEQUENCE stands there
 abbrev pub cb_first : List (Value cb_argop4) → Stop → ClientValue → CbJudged
 cb_first [] s c = leaves (stopped s) c
-cb_first (op ∷ ops) s c = by_arm cb_argop4 ((λ recall. leaves (refused_result stat.OpNotInSession (cb_refusal 5 stat.OpNotInSession)) c), ((λ sequence. cb_in_session c.tie sequence ops s c), tt)) op
+cb_first (op ∷ ops) s c = by_arm cb_argop4 ((λ recall. leaves (refused_result stat.OpNotInSession (cb_refusal LAYOUTRECALL stat.OpNotInSession)) c), ((λ sequence. cb_in_session c.tie sequence ops s c), tt)) op
 
 -- ---- the callback
 
@@ -209,24 +212,24 @@ cb_walked cb None c = cb_results cb.tag (cb_first cb.ops.values cb.ops.stop c)
 abbrev pub cb_compound_answer : Result CbCompoundValue XdrError → ClientValue → CbAnswer
 cb_compound_answer (Err e) c = cb_refused garbage_args c
 cb_compound_answer (Ok cb) c =
-    if cb.minorversion == 1
-    then (if nat_lt 16 cb.count then cb_results cb.tag (leaves (given stat.TooManyOps []) c) else cb_walked cb (rest_of_stop cb.ops.stop) c)
+    if cb.minorversion == MINOR_VERSION
+    then (if nat_lt MAX_OPS cb.count then cb_results cb.tag (leaves (given stat.TooManyOps []) c) else cb_walked cb (rest_of_stop cb.ops.stop) c)
     else cb_results cb.tag (leaves (given stat.MinorVersMismatch []) c)
 
 abbrev pub cb_null_answer : List ℕ → ClientValue → CbAnswer
 cb_null_answer [] c = record { stat = success; results = []; client = c }
 cb_null_answer (b ∷ bs) c = cb_refused garbage_args c
 
--- NULL 0 and CB_COMPOUND 1 of version 1 of the callback program (RFC 8881, section 20)
+-- NULL and CB_COMPOUND of the callback program (RFC 8881, section 20)
 abbrev pub cb_procedure_answer : RpcCall → ClientValue → CbAnswer
 cb_procedure_answer call c =
-    if call.procedure == 0 then cb_null_answer call.args c
-    else if call.procedure == 1 then cb_compound_answer (cb_compound_at call.args) c
+    if call.procedure == NULL then cb_null_answer call.args c
+    else if call.procedure == COMPOUND then cb_compound_answer (cb_compound_at call.args) c
     else cb_refused proc_unavail c
 
 abbrev pub cb_call_answer : RpcCall → ClientValue → CbAnswer
 cb_call_answer call c =
-    if call.program == 1073741824 then (if call.version == 1 then cb_procedure_answer call c else cb_refused (prog_mismatch 1 1) c)
+    if call.program == PROGRAM then (if call.version == VERSION then cb_procedure_answer call c else cb_refused (prog_mismatch VERSION VERSION) c)
     else cb_refused prog_unavail c
 
 -- the reply to a record that is a call, and the client then
@@ -240,6 +243,6 @@ cb_reply xid a = record { reply = record { xid = xid; verf = auth_none; stat = a
 -- A call that is none has no reply; one of another RPC version, or with a header out of form, is refused.
 abbrev pub callback_of : Result RpcCall CallFault → ClientValue → Option CbReply
 callback_of (Ok call) c = Some (cb_reply call.xid (cb_call_answer call c))
-callback_of (Err (RpcVersion xid)) c = Some (cb_reply xid (cb_refused (rpc_mismatch 2 2) c))
+callback_of (Err (RpcVersion xid)) c = Some (cb_reply xid (cb_refused (rpc_mismatch RPC_VERSION RPC_VERSION) c))
 callback_of (Err (Bad xid e)) c = Some (cb_reply xid (cb_refused garbage_args c))
 callback_of (Err NotACall) c = None

@@ -15,29 +15,26 @@ use client_state::State;
 use ff_xdr::{Data, NoMemory, Out};
 use nfs4_compound::CbCompound;
 use nfs4_types::Stat4;
-use rpc_record::{AUTH_NONE, Auth, Call, CallFault, Reply, ReplyBody};
+use rpc_record::{AUTH_NONE, Auth, Call, CallFault, RPC_VERSION, Reply, ReplyBody};
 use std::alloc::Global;
 
 /// The callback program of this client's CREATE_SESSION (RFC 8881, section 20).
-const PROGRAM: u32 = 1_073_741_824;
+pub const PROGRAM: u32 = 1_073_741_824;
 
 /// The program's version.
-const VERSION: u32 = 1;
+pub const VERSION: u32 = 1;
 
 /// CB_NULL (RFC 8881, section 20.1).
-const NULL: u32 = 0;
+pub const NULL: u32 = 0;
 
 /// CB_COMPOUND (RFC 8881, section 20.2).
-const COMPOUND: u32 = 1;
+pub const COMPOUND: u32 = 1;
 
 /// The minor version.
-const MINOR_VERSION: u32 = 1;
+pub const MINOR_VERSION: u32 = 1;
 
 /// The most operations of a callback compound.
-const MAX_OPS: u32 = 16;
-
-/// The version of RPC (RFC 5531, section 9).
-const RPC_VERSION: u32 = 2;
+pub const MAX_OPS: u32 = 16;
 
 /// The record of a reply without a verifier.
 fn spell_reply(alloc: Global, xid: u32, body: ReplyBody<'_>) -> Result<Data, NoMemory>

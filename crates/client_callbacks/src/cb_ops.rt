@@ -24,13 +24,13 @@ use std::alloc::Global;
 use std::marker::Model;
 
 /// CB_LAYOUTRECALL (RFC 8881, section 20.3).
-const LAYOUTRECALL: u32 = 5;
+pub const LAYOUTRECALL: u32 = 5;
 
 /// CB_SEQUENCE (RFC 8881, section 20.9).
-const SEQUENCE: u32 = 11;
+pub const SEQUENCE: u32 = 11;
 
 /// OP_CB_ILLEGAL (RFC 8881, section 20.13).
-const ILLEGAL: u32 = 10044;
+pub const ILLEGAL: u32 = 10044;
 
 /// The results of a callback compound, so far.
 #[derive(Drop)]

@@ -1,5 +1,7 @@
 -- What a client does for its user's requests, in order, as far as it can by itself.
 use Rattle.std.specs.Prelude.{ℕ, ◌+◌, Bool, true, false, ◌==◌, nat_lt, List, [], ◌∷◌, ◌++◌, length, Option, Some, None, is_some, if◌then◌else◌}
+use Rattle.client_state.specs.declared.head.TheConstants.{FBIG, INVAL, NOFILEHANDLE}
+use Rattle.cluster_model.specs.declared.limits.TheConstants.{MAX_FILE}
 use Rattle.nfs4_types.specs.declared.ids.DeviceId.{DeviceId}
 use Rattle.nfs4_types.specs.Ids.{device_id_of}
 use Rattle.device_addr.specs.declared.net_addr.NetAddr.{NetAddr}
@@ -87,7 +89,7 @@ pub data HeadStep : Type 0 where
 
 -- the end of a file, at most (RFC 1813, section 3.3.7, NFS3ERR_FBIG)
 abbrev pub is_past : ℕ → List ℕ → Bool
-is_past at bytes = nat_lt 67108864 (at + length bytes)
+is_past at bytes = nat_lt MAX_FILE (at + length bytes)
 
 -- the write is taken: it will be sent to each mirror
 abbrev pub taken_write : ClientValue → OpenFile → Layout → ℕ → List ℕ → ClientRun
@@ -129,9 +131,9 @@ commit_by c = if is_all_told c.layout then IsDone (answers_committed c) else IsK
 
 -- a request for an open file; what goes to the metadata server waits until the layout is given back
 abbrev pub on_open_file : ClientValue → OpenFile → UserRequest → HeadStep
-on_open_file c file (Open name) = IsDone (refuses_request 22 c)
-on_open_file c file (Write at bytes) = if is_past at bytes then IsDone (refuses_request 27 c) else write_by c file c.layout at bytes
-on_open_file c file (Through at bytes) = if is_past at bytes then IsDone (refuses_request 27 c) else behind_return (Asks ask.Write) c c.layout
+on_open_file c file (Open name) = IsDone (refuses_request INVAL c)
+on_open_file c file (Write at bytes) = if is_past at bytes then IsDone (refuses_request FBIG c) else write_by c file c.layout at bytes
+on_open_file c file (Through at bytes) = if is_past at bytes then IsDone (refuses_request FBIG c) else behind_return (Asks ask.Write) c c.layout
 on_open_file c file Commit = commit_by c
 on_open_file c file (Read at count) = Asks (ask.Read at count)
 on_open_file c file Return = behind_return (IsDone (answers_user answer.Returned c)) c c.layout
@@ -145,7 +147,7 @@ opens_by (HasSession s) = if s.is_complete then ask.Open else ask.ReclaimComplet
 -- before a file is open: INVAL 22, FBIG 27 and NOFILEHANDLE 10020 are the statuses of RFC 8881, section 15.1
 abbrev pub head_step : ClientValue → Option OpenFile → UserRequest → HeadStep
 head_step c None (Open name) = Asks (opens_by c.tie)
-head_step c None request = IsDone (refuses_request 10020 c)
+head_step c None request = IsDone (refuses_request NOFILEHANDLE c)
 head_step c (Some file) request = on_open_file c file request
 
 -- ---- the queue

@@ -2,6 +2,7 @@
 
 ghost use Rattle.std.specs.Prelude.{◌≡◌, ◌≤◌, ◌+◌, length, IfOk, OnOk};
 ghost use Rattle.std.specs.Bool.{OnFalse};
+ghost use Rattle.cluster_model.specs.declared.limits.TheConstants.{MAX_FILE};
 ghost use Rattle.client_state.specs.ClientQueue.{IsDone, answers_user, answers_committed, refuses_request, is_past, write_by, layout_ending, behind_return, is_all_told, layout_committing, commit_by, on_open_file, opens_by, head_step, keeps_head};
 ghost use Rattle.cluster_model.specs.declared.answer.UserAnswer.TheVariants.{Returned};
 ghost use Rattle.client_state.specs.QueueSteps.{HasJudged, writes_under};
@@ -10,22 +11,19 @@ use crate::devices::count_unknown;
 use crate::request::UserRequest;
 use crate::state::State;
 use crate::tie::Tie;
-use cluster_model::{Entry, Outbox, UserAnswer};
+use cluster_model::{Entry, MAX_FILE, Outbox, UserAnswer};
 use ff_xdr::{Data, NoMemory};
 use mds_calls::{MdsAsk, OpenFile};
 use mirror_writer::{WriteBytes, WriteStart};
 
-/// The end of a file, at most (RFC 1813, section 3.3.7, NFS3ERR_FBIG).
-const MAX_SIZE: u64 = 67_108_864;
-
 /// NFS4ERR_INVAL: a file is open (RFC 8881, section 15.1).
-const INVAL: u32 = 22;
+pub const INVAL: u32 = 22;
 
 /// NFS4ERR_FBIG: the write would end past the most.
-const FBIG: u32 = 27;
+pub const FBIG: u32 = 27;
 
 /// NFS4ERR_NOFILEHANDLE: no file is open.
-const NOFILEHANDLE: u32 = 10020;
+pub const NOFILEHANDLE: u32 = 10020;
 
 /// What the request at the head came to.
 #[derive(Clone, Copy, Debug, PartialEq, Eq)]
@@ -41,9 +39,9 @@ pub enum JudgedHead {
 /// The write would end past the end of a file.
 fn is_past(at: u64, bytes: &WriteBytes) -> bool
     ensures past { result ≡ is_past at bytes.now }
-    ensures within { OnFalse result (at + length bytes.now ≤ 67108864) }
+    ensures within { OnFalse result (at + length bytes.now ≤ MAX_FILE) }
 {
-    at > MAX_SIZE - bytes.bytes().len() as u64
+    at > MAX_FILE - bytes.bytes().len() as u64
 }
 
 impl State {
@@ -56,7 +54,7 @@ impl State {
         bytes: &WriteBytes,
         out: &mut Outbox,
     ) -> Result<JudgedHead, NoMemory>
-        requires { at + length bytes.now ≤ 67108864 }
+        requires { at + length bytes.now ≤ MAX_FILE }
         ensures { IfOk result (λ judged. HasJudged (writes_under self.old file self.old.layout at bytes.now) self.old out.old judged self.new out.new) }
     {
         let Some(layout) = &mut self.layout else {
@@ -89,7 +87,7 @@ impl State {
         bytes: &WriteBytes,
         out: &mut Outbox,
     ) -> Result<JudgedHead, NoMemory>
-        requires { at + length bytes.now ≤ 67108864 }
+        requires { at + length bytes.now ≤ MAX_FILE }
         ensures { IfOk result (λ judged. HasJudged (write_by self.old file self.old.layout at bytes.now) self.old out.old judged self.new out.new) }
     {
         let Some(layout) = &self.layout else {

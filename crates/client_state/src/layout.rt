@@ -1,6 +1,7 @@
 //! A layout, and the writes under it.
 
 ghost use Rattle.std.specs.Prelude.{◌≡◌, ◌≤◌, ◌+◌, length};
+ghost use Rattle.cluster_model.specs.declared.limits.TheConstants.{MAX_FILE, PIECE_SIZE};
 ghost use Rattle.client_state.specs.ClientQueue.{ending};
 ghost use Rattle.client_state.specs.QueueSteps.{TakesUnder};
 
@@ -47,8 +48,8 @@ impl Layout {
     /// places. It is to be told. After `NoMemory` nothing is said.
     pub fn take(&mut self, at: u64, bytes: &[u8]) -> WriteStart
         requires some { 1 ≤ length bytes.now }
-        requires few { length bytes.now ≤ 65536 }
-        requires within { at + length bytes.now ≤ 67108864 }
+        requires few { length bytes.now ≤ PIECE_SIZE }
+        requires within { at + length bytes.now ≤ MAX_FILE }
         ensures { TakesUnder self.old at bytes.now result self.new }
     {
         let number = self.writer.count();

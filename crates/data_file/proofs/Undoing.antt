@@ -5,7 +5,7 @@ use Rattle.std.proofs.lemmas.Bool.{cases_lt}
 use Rattle.std.proofs.lemmas.Bool.Decides.{nat_tests}
 use Rattle.std.proofs.lemmas.List.{same_lists, places, append_assoc, length-take, length-drop, get_or-take, get_or-drop, take-append-drop, reverse-append}
 use Rattle.std.proofs.lemmas.Option.{same_Some}
-use Rattle.data_file.specs.declared.file.TheConstants.{MAX_FILE}
+use Rattle.cluster_model.specs.declared.limits.TheConstants.{MAX_FILE}
 use Rattle.cluster_model.specs.declared.piece.Piece.{Piece}
 use Rattle.cluster_model.specs.declared.tick.Tick.{Tick}
 use Rattle.cluster_model.specs.Content.{overlay, overlay_all, joined, shown_of, piece_of, Pending, Content}

@@ -1,6 +1,6 @@
 -- The undo log of a file: what each pending write (RFC 1813, section 3.3.7) wrote over, so that the bytes before it are found again.
 use Rattle.std.specs.Prelude.{⊤, ◌≡◌, ℕ, ◌+◌, ◌<◌, ◌≤◌, List, [], ◌∷◌, length, take, drop}
-use Rattle.data_file.specs.declared.file.TheConstants.{MAX_FILE}
+use Rattle.cluster_model.specs.declared.limits.TheConstants.{MAX_FILE}
 use Rattle.cluster_model.specs.Content.{Pending, Content, overlay}
 
 -- A pending write by its place and how many bytes it has, with the length of the file before it and the bytes that it wrote over.

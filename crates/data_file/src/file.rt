@@ -1,6 +1,7 @@
 //! A file of a data server.
 
 ghost use Rattle.std.specs.Prelude.{◌≡◌, true, false, ◌+◌, ◌≤◌, length, take, drop, OnOk, OnErr, IfOk, slice_get};
+ghost use Rattle.cluster_model.specs.declared.limits.TheConstants.{MAX_FILE};
 ghost use Rattle.cluster_model.specs.Content.{overlay_all, piece_of};
 ghost use Rattle.cluster_model.specs.File.{shown, new_file, all_at, times_after, times_set, time_set, written, committed, set};
 ghost use Rattle.data_file.specs.Kept.{kept_content, IsKeptOf, crashed};
@@ -12,9 +13,6 @@ use crate::undo::{UndoEntry, undo_all, unroll, write_logged};
 use cluster_model::{Changes, NewTime, Piece, Tick, Times};
 use std::alloc::{AllocError, Global};
 use std::marker::Model;
-
-/// The longest that a file may be, in bytes (`maxfilesize` of RFC 1813, section 3.3.19).
-pub const MAX_FILE: u64 = 67_108_864;
 
 /// The times of a file that is made at the tick.
 fn all_at(tick: Tick) -> Times

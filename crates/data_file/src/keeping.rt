@@ -2,7 +2,7 @@
 
 ghost use Rattle.std.specs.Prelude.{◌≡◌, ◌+◌, ◌≤◌, length, OnOk, IfOk, IfSome, option_map, option_to_list, slice_get};
 ghost use Rattle.cluster_model.specs.Content.{overlay_all, piece_of};
-ghost use Rattle.data_file.specs.declared.file.TheConstants.{MAX_FILE};
+ghost use Rattle.cluster_model.specs.declared.limits.TheConstants.{MAX_FILE};
 
 use crate::overlay::{overlay_onto, part_of};
 use cluster_model::Piece;
@@ -19,7 +19,7 @@ pub struct PendingWrite {
 
 impl Model for PendingWrite {
     ghost use Rattle.std.specs.Prelude.{◌+◌, ◌≤◌, length};
-    ghost use Rattle.data_file.specs.declared.file.TheConstants.{MAX_FILE};
+    ghost use Rattle.cluster_model.specs.declared.limits.TheConstants.{MAX_FILE};
     ghost use Rattle.cluster_model.specs.Content.{Pending};
 
     ghost Value = { Pending };

@@ -7,5 +7,5 @@ mod keeping;
 mod overlay;
 mod undo;
 
-pub use file::{DataFile, MAX_FILE};
+pub use file::DataFile;
 pub use keeping::Kept;

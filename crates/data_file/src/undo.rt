@@ -2,7 +2,7 @@
 
 ghost use Rattle.std.specs.Prelude.{◌≡◌, ◌+◌, ◌<◌, ◌≤◌, [], ◌∷◌, ◌++◌, length, IfOk, OnOk, OnErr};
 ghost use Rattle.cluster_model.specs.Content.{overlay};
-ghost use Rattle.data_file.specs.declared.file.TheConstants.{MAX_FILE};
+ghost use Rattle.cluster_model.specs.declared.limits.TheConstants.{MAX_FILE};
 ghost use Rattle.data_file.specs.Undo.{undo_of, undone, write_of, unrolled, AreUndoable};
 
 use crate::keeping::{Kept, PendingWrite};

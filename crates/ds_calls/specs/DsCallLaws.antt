@@ -2,6 +2,8 @@
 use Rattle.std.specs.Prelude.{◌≡◌, ◌≢◌, ℕ, ◌+◌, ◌^◌, ◌<◌, ◌≤◌, List, [], ◌∷◌, length, Option, Some, None, Ok, IsTrue, nat_eq, ◌==◌, if◌then◌else◌}
 use Rattle.std.specs.List.{list_any}
 use Rattle.std.specs.Option.{option_map}
+use Rattle.nfs3_wire.specs.declared.objects.TheConstants.{MAX_DATA}
+use Rattle.ds_calls.specs.declared.call.TheConstants.{MAX_MACHINE}
 use Rattle.ff_xdr.specs.Form.{Fits, arm_spelling}
 use Rattle.ff_xdr.specs.Reading.{reading, whole}
 use Rattle.ff_xdr.specs.WholeArms.{whole_arm}
@@ -29,7 +31,7 @@ use Rattle.ds_calls.specs.GivenReplies.{reply_of_call}
 abbrev pub IsSpeakable : DsCallValue → Type 0
 IsSpeakable (ds.Create name owner) = (name < 2 ^ 64) × (owner < 2 ^ 32)
 IsSpeakable (ds.SetAttr fileid owner guard) = (fileid < 2 ^ 64) × (owner < 2 ^ 32) × (guard.boot < 2 ^ 32) × (guard.count < 2 ^ 32)
-IsSpeakable (ds.Write fileid at synced bytes) = (fileid < 2 ^ 64) × (at < 2 ^ 64) × (length bytes ≤ 1048576)
+IsSpeakable (ds.Write fileid at synced bytes) = (fileid < 2 ^ 64) × (at < 2 ^ 64) × (length bytes ≤ MAX_DATA)
 IsSpeakable (ds.Commit fileid) = fileid < 2 ^ 64
 IsSpeakable (ds.Read fileid at count) = (fileid < 2 ^ 64) × (at < 2 ^ 64) × (count < 2 ^ 32)
 
@@ -42,7 +44,7 @@ pub record DsMessage : Type 0 where
 
 pub record HasRecord (m : DsMessage) : Type 0 where
   pub xid_fits : m.xid < 2 ^ 32
-  pub machine_fits : length m.machine ≤ 255
+  pub machine_fits : length m.machine ≤ MAX_MACHINE
   pub user_fits : m.user < 2 ^ 32
   pub call_fits : IsSpeakable m.call
 

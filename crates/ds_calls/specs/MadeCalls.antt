@@ -1,5 +1,10 @@
 -- The calls of a cluster to its data servers, as NFSv3 calls (RFC 1813, section 3.3) in records of RPC (RFC 5531, section 9).
 use Rattle.std.specs.Prelude.{ℕ, Bool, true, false, List, [], length, Option, Some, None}
+use Rattle.rpc_record.specs.declared.call.TheConstants.{NFS_PROGRAM}
+use Rattle.rpc_record.specs.declared.auth.TheConstants.{AUTH_SYS}
+use Rattle.ds_calls.specs.declared.header.TheConstants.{NFS_VERSION}
+use Rattle.ds_calls.specs.declared.handle.TheConstants.{ROOT}
+use Rattle.cluster_model.specs.declared.limits.TheConstants.{FILE_MODE}
 use Rattle.ff_xdr.specs.Form.{spelling, arm_spelling, arm_of, long}
 use Rattle.rpc_record.specs.Rpc.{Credential, authsys_parms, credential_value}
 use Rattle.rpc_record.specs.Calls.{RpcCall, call_bytes}
@@ -31,10 +36,10 @@ abbrev pub asked_stability : Bool → StableHow
 asked_stability true = FileSync
 asked_stability false = Unstable
 
--- Each call with its arguments: CREATE in the root, UNCHECKED, with mode 0640 (section 3.3.8); SETATTR with the guard (3.3.2);
+-- Each call with its arguments: CREATE in the root, UNCHECKED (section 3.3.8); SETATTR with the guard (3.3.2);
 -- WRITE, whose count is its data's (3.3.7); COMMIT of the whole file (3.3.21); READ (3.3.6).
 abbrev pub nfs_call_of : DsCallValue → Nfs3Call
-nfs_call_of (ds.Create name owner) = Create (fileid_handle 1) (mirror_name name) (Unchecked (owner_set (Some 416) owner))
+nfs_call_of (ds.Create name owner) = Create (fileid_handle ROOT) (mirror_name name) (Unchecked (owner_set (Some FILE_MODE) owner))
 nfs_call_of (ds.SetAttr fileid owner guard) = SetAttr (fileid_handle fileid) (owner_set None owner) (Some (guard_time guard))
 nfs_call_of (ds.Write fileid at synced bytes) = Write (fileid_handle fileid) at (length bytes) (asked_stability synced) bytes
 nfs_call_of (ds.Commit fileid) = Commit (fileid_handle fileid) 0 0
@@ -53,10 +58,10 @@ ds_rpc_call xid machine user call =
     let value = call_value (nfs_call_of call) in
     record {
       xid = xid;
-      program = 100003;
-      version = 3;
+      program = NFS_PROGRAM;
+      version = NFS_VERSION;
       procedure = arm_of calls value;
-      cred = record { flavor = 1; body = credential_body machine user };
+      cred = record { flavor = AUTH_SYS; body = credential_body machine user };
       verf = auth_none;
       args = arm_spelling calls value;
     }

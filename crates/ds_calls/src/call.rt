@@ -1,6 +1,7 @@
 //! Calls as records.
 
 ghost use Rattle.std.specs.Prelude.{◌≡◌, ◌≤◌, ◌↔◌, IsTrue, length, IfOk};
+ghost use Rattle.nfs3_wire.specs.declared.objects.TheConstants.{MAX_DATA};
 ghost use Rattle.ff_xdr.specs.Form.{arm_spelling, arm_of};
 ghost use Rattle.ff_xdr.specs.Calls.{Puts, Grows};
 ghost use Rattle.nfs3_wire.specs.Calls.{calls, call_value};
@@ -19,7 +20,7 @@ use nfs3_wire::MAX_DATA;
 use std::alloc::Global;
 
 /// The longest name of a machine, in bytes (RFC 5531, appendix A).
-const MAX_MACHINE: usize = 255;
+pub const MAX_MACHINE: usize = 255;
 
 /// The number of the call's procedure (RFC 1813, section 3.3).
 fn procedure_of(call: &DsCall<'_>) -> u32
@@ -36,7 +37,7 @@ fn procedure_of(call: &DsCall<'_>) -> u32
 
 /// Appends the arguments, or nothing.
 fn put_args(call: &DsCall<'_>, out: &mut Out) -> Result<(), NoMemory>
-    requires { length (data_in (plain_ds_call call.now)) ≤ 1048576 }
+    requires { length (data_in (plain_ds_call call.now)) ≤ MAX_DATA }
     ensures { Puts out.old result out.new (arm_spelling calls (call_value (nfs_call_of (plain_ds_call call.now)))) }
 {
     match call {
@@ -65,8 +66,8 @@ fn put(
     call: &DsCall<'_>,
     out: &mut Out,
 ) -> Result<(), NoMemory>
-    requires machine { length machine.now ≤ 255 }
-    requires data { length (data_in (plain_ds_call call.now)) ≤ 1048576 }
+    requires machine { length machine.now ≤ MAX_MACHINE }
+    requires data { length (data_in (plain_ds_call call.now)) ≤ MAX_DATA }
     ensures { Grows out.old result out.new (ds_call_bytes xid machine.now user.0 (plain_ds_call call.now)) }
 {
     put_start(xid, out)?;
@@ -78,7 +79,7 @@ fn put(
 /// Such a call from such a machine has a record: `machine` has at most 255 bytes, and the data of a WRITE
 /// at most 1,048,576.
 pub fn fits(machine: &[u8], call: &DsCall<'_>) -> bool
-    ensures { IsTrue result ↔ ((length machine.now ≤ 255) × (length (data_in (plain_ds_call call.now)) ≤ 1048576)) }
+    ensures { IsTrue result ↔ ((length machine.now ≤ MAX_MACHINE) × (length (data_in (plain_ds_call call.now)) ≤ MAX_DATA)) }
 {
     let data = match call {
         DsCall::Write { bytes, .. } => bytes.len(),
@@ -97,8 +98,8 @@ pub fn put_ds_call(
     call: &DsCall<'_>,
     out: &mut Out,
 ) -> Result<(), NoMemory>
-    requires machine { length machine.now ≤ 255 }
-    requires data { length (data_in (plain_ds_call call.now)) ≤ 1048576 }
+    requires machine { length machine.now ≤ MAX_MACHINE }
+    requires data { length (data_in (plain_ds_call call.now)) ≤ MAX_DATA }
     ensures { Puts out.old result out.new (ds_call_bytes xid machine.now user.0 (plain_ds_call call.now)) }
 {
     let mark = out.len();
@@ -119,8 +120,8 @@ pub fn ds_record(
     user: Cred,
     call: &DsCall<'_>,
 ) -> Result<Data, NoMemory>
-    requires machine { length machine.now ≤ 255 }
-    requires data { length (data_in (plain_ds_call call.now)) ≤ 1048576 }
+    requires machine { length machine.now ≤ MAX_MACHINE }
+    requires data { length (data_in (plain_ds_call call.now)) ≤ MAX_DATA }
     ensures { IfOk result (λ message. message ≡ ds_call_bytes xid machine.now user.0 (plain_ds_call call.now)) }
 {
     let mut out = Out::new(alloc);

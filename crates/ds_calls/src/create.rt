@@ -14,13 +14,10 @@ ghost use Rattle.std.proofs.Common.{inl};
 use crate::handle::{ROOT, fileid_of, handle_of};
 use crate::owner::owner_set;
 use crate::shown::{odd_answer, shown_in};
-use cluster_model::{Cred, DsReply};
+use cluster_model::{Cred, DsReply, FILE_MODE};
 use ff_xdr::{NoMemory, Out, Wire};
 use itoa::write_digits;
 use nfs3_wire::{Call3, CreateArgs, CreateHow, CreateOk, CreateReply, Outcome, write_call};
-
-/// The mode of a mirror's file: the owner reads and writes, and the group reads (RFC 8435, section 2.2).
-const MODE: u32 = 0o640;
 
 /// The longest name: m, and the digits of 2^64 - 1.
 const LONGEST: usize = 21;
@@ -44,7 +41,7 @@ pub fn put_create(name: u64, owner: Cred, out: &mut Out) -> Result<(), NoMemory>
     let args = CreateArgs {
         directory: &directory,
         name: mirror_name(name, &mut room),
-        how: CreateHow::Unchecked(owner_set(Some(MODE), owner)),
+        how: CreateHow::Unchecked(owner_set(Some(FILE_MODE), owner)),
     };
     write_call(&Call3::Create(args), out)
 }

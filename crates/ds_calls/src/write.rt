@@ -9,6 +9,7 @@ ghost use Rattle.cluster_model.specs.DsCalls.{Write, plain_ds_reply};
 ghost use Rattle.ds_calls.specs.MadeCalls.{nfs_call_of};
 ghost use Rattle.ds_calls.specs.GivenReplies.{write_answer, in_form};
 ghost use Rattle.std.proofs.Common.{inl};
+ghost use Rattle.nfs3_wire.specs.declared.objects.TheConstants.{MAX_DATA};
 
 use crate::handle::handle_of;
 use crate::shown::{odd_answer, shown_where};
@@ -24,7 +25,7 @@ pub fn put_write(
     bytes: &[u8],
     out: &mut Out,
 ) -> Result<(), NoMemory>
-    requires { length bytes.now ≤ 1048576 }
+    requires { length bytes.now ≤ MAX_DATA }
     ensures { Puts out.old result out.new (arm_spelling calls (call_value (nfs_call_of (Write fileid at synced bytes.now)))) }
 {
     let file = handle_of(fileid);

@@ -1,5 +1,8 @@
 -- What a data server makes of a record (RFC 5531, section 9, and RFC 1813): the order of its refusals.
 use Rattle.std.specs.Prelude.{ℕ, List, [], Option, Some, None, Result, Ok, Err, not, ◌==◌, if◌then◌else◌}
+use Rattle.rpc_record.specs.declared.call.TheConstants.{NFS_PROGRAM, RPC_VERSION}
+use Rattle.rpc_record.specs.declared.auth.TheConstants.{AUTH_SYS}
+use Rattle.ds_files.specs.declared.receive.TheConstants.{AUTH_BADCRED, AUTH_TOOWEAK, NFS_VERSION, NOBODY}
 use Rattle.ff_xdr.specs.declared.error.XdrError.{XdrError}
 use Rattle.ff_xdr.specs.Form.{Value, has_arm, arm_spelling}
 use Rattle.ff_xdr.specs.Reading.{reading, arm_reading, whole}
@@ -30,7 +33,7 @@ refuses xid stat = Refused (replies_with xid stat [])
 
 -- the credential of a call that names no caller
 abbrev pub nobody : Credential
-nobody = record { stamp = 0; machine = []; uid = 65534; gid = 65534; gids = [] }
+nobody = record { stamp = 0; machine = []; uid = NOBODY; gid = NOBODY; gids = [] }
 
 -- the arguments in their form, with no bytes behind them; else GARBAGE_ARGS
 abbrev pub with_args : ℕ → Credential → Result (Value calls) XdrError → Received
@@ -40,23 +43,23 @@ with_args xid cred (Err e) = refuses xid rpc_reply.garbage_args
 abbrev pub asked : rpc.RpcCall → Credential → Received
 asked c cred = with_args c.xid cred (whole c.args (arm_reading calls c.procedure c.args 0))
 
--- the AUTH_SYS body in its form, with no bytes behind it; else AUTH_ERROR AUTH_BADCRED 1
+-- the AUTH_SYS body in its form, with no bytes behind it; else AUTH_ERROR AUTH_BADCRED
 abbrev pub with_cred : rpc.RpcCall → Result (Value authsys_parms) XdrError → Received
 with_cred c (Ok v) = asked c (credential_of v)
-with_cred c (Err e) = refuses c.xid (rpc_reply.auth_error 1)
+with_cred c (Err e) = refuses c.xid (rpc_reply.auth_error AUTH_BADCRED)
 
--- NULL asks for no credential; any other procedure for AUTH_SYS 1, else AUTH_ERROR AUTH_TOOWEAK 5
+-- NULL asks for no credential; any other procedure for AUTH_SYS, else AUTH_ERROR AUTH_TOOWEAK
 abbrev pub authenticated : rpc.RpcCall → Received
 authenticated c =
     if c.procedure == 0 then asked c nobody
-    else (if not (c.cred.flavor == 1) then refuses c.xid (rpc_reply.auth_error 5)
+    else (if not (c.cred.flavor == AUTH_SYS) then refuses c.xid (rpc_reply.auth_error AUTH_TOOWEAK)
     else with_cred c (whole c.cred.body (reading authsys_parms c.cred.body 0)))
 
--- program 100003, version 3, a procedure that is built, and then the credential
+-- the program, its version, a procedure that is built, and then the credential
 abbrev pub dispatched : rpc.RpcCall → Received
 dispatched c =
-    if not (c.program == 100003) then refuses c.xid rpc_reply.prog_unavail
-    else (if not (c.version == 3) then refuses c.xid (rpc_reply.prog_mismatch 3 3)
+    if not (c.program == NFS_PROGRAM) then refuses c.xid rpc_reply.prog_unavail
+    else (if not (c.version == NFS_VERSION) then refuses c.xid (rpc_reply.prog_mismatch NFS_VERSION NFS_VERSION)
     else (if not (has_arm c.procedure calls) then refuses c.xid rpc_reply.proc_unavail
     else authenticated c))
 
@@ -64,7 +67,7 @@ dispatched c =
 abbrev pub with_call : Result rpc.RpcCall CallFault → Received
 with_call (Ok c) = dispatched c
 with_call (Err NotACall) = Silent
-with_call (Err (RpcVersion xid)) = refuses xid (rpc_reply.rpc_mismatch 2 2)
+with_call (Err (RpcVersion xid)) = refuses xid (rpc_reply.rpc_mismatch RPC_VERSION RPC_VERSION)
 with_call (Err (Bad xid e)) = refuses xid rpc_reply.garbage_args
 
 abbrev pub received : List ℕ → Received

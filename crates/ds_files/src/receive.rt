@@ -13,25 +13,21 @@ ghost use Rattle.ds_files.specs.Records.{plain_received, ReceivedFits, FindsCred
 use crate::received::Received;
 use ff_xdr::{Items, Wire, XdrError};
 use nfs3_wire::{is_built, read_call};
-use rpc_record::{AUTH_NONE, AUTH_SYS, Auth, AuthSys, Call, CallFault, Reply, ReplyBody};
-
-/// The program's number (RFC 1813, section 2.1).
-const NFS_PROGRAM: u32 = 100_003;
+use rpc_record::{
+    AUTH_NONE, AUTH_SYS, Auth, AuthSys, Call, CallFault, NFS_PROGRAM, RPC_VERSION, Reply, ReplyBody,
+};
 
 /// The program's version.
-const NFS_VERSION: u32 = 3;
-
-/// The version of RPC (RFC 5531, section 9).
-const RPC_VERSION: u32 = 2;
+pub const NFS_VERSION: u32 = 3;
 
 /// The body of the credential is not in its form, `AUTH_BADCRED`.
-const AUTH_BADCRED: u32 = 1;
+pub const AUTH_BADCRED: u32 = 1;
 
 /// The flavor says too little, `AUTH_TOOWEAK`.
-const AUTH_TOOWEAK: u32 = 5;
+pub const AUTH_TOOWEAK: u32 = 5;
 
 /// The user and the group of a call that names no caller.
-const NOBODY: u32 = 65_534;
+pub const NOBODY: u32 = 65_534;
 
 /// A reply with no verifier.
 pub fn replies_with<'a>(xid: u32, body: ReplyBody<'a>) -> Reply<'a>

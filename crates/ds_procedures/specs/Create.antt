@@ -1,5 +1,6 @@
 -- CREATE: a new file in the root (RFC 1813, section 3.3.8).
 use Rattle.std.specs.Prelude.{ℕ, ◌+◌, Bool, true, false, ◌&&◌, ◌||◌, not, List, length, Option, Some, None, is_some, unwrap_or, nat_lt, ◌==◌, if◌then◌else◌}
+use Rattle.cluster_model.specs.declared.limits.TheConstants.{FILE_MODE}
 use Rattle.nfs3_wire.specs.declared.status.Stat3.{Stat3}
 use Rattle.nfs3_wire.specs.declared.status.Stat3.TheVariants as stat
 use Rattle.nfs3_wire.specs.declared.sattr.Sattr3.{Sattr3}
@@ -61,7 +62,7 @@ abbrev pub group_of : Sattr3 → Caller → ℕ
 group_of a caller = unwrap_or a.gid caller.gid
 
 abbrev pub file_mode_of : Sattr3 → ℕ
-file_mode_of a = unwrap_or (mode_of a.mode) 416
+file_mode_of a = unwrap_or (mode_of a.mode) FILE_MODE
 
 abbrev pub create_done : ServerState → List ℕ → ℕ → ℕ → ℕ → Plan
 create_done s name owner group mode = record {

@@ -1,5 +1,6 @@
 -- FSINFO: what the file system can (RFC 1813, section 3.3.19).
 use Rattle.std.specs.Prelude.{Option, None}
+use Rattle.ds_procedures.specs.declared.fsinfo.TheConstants.{LISTING, PREFERRED, PROPERTIES}
 use Rattle.nfs3_wire.specs.declared.attributes.Fattr3.{Fattr3}
 use Rattle.nfs3_wire.specs.declared.fsinfo.FsInfoOk.{FsInfoOk}
 use Rattle.nfs3_wire.specs.Replies.{Nfs3Reply, FsInfoDone, FsInfoRefused}
@@ -12,15 +13,15 @@ abbrev pub server_info : Option Fattr3 → FsInfoOk
 server_info attributes = record {
   attributes = attributes;
   rtmax = max_read;
-  rtpref = 65536;
+  rtpref = PREFERRED;
   rtmult = 1;
   wtmax = max_read;
-  wtpref = 65536;
+  wtpref = PREFERRED;
   wtmult = 1;
-  dtpref = 4096;
+  dtpref = LISTING;
   maxfilesize = max_file;
   time_delta = record { seconds = 0; nanos = 1 };
-  properties = 24;
+  properties = PROPERTIES;
 }
 
 abbrev pub fsinfo_reply : ServerState → Object → Nfs3Reply

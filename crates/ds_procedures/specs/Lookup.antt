@@ -1,5 +1,6 @@
 -- LOOKUP: the object with a name (RFC 1813, section 3.3.3).
 use Rattle.std.specs.Prelude.{ℕ, List, length, Option, Some, None, nat_lt, if◌then◌else◌}
+use Rattle.ds_procedures.specs.declared.lookup.TheConstants.{MAX_NAME}
 use Rattle.nfs3_wire.specs.declared.status.Stat3.TheVariants as stat
 use Rattle.nfs3_wire.specs.Replies.{Nfs3Reply, LookupDone, LookupRefused}
 use Rattle.cluster_model.specs.Server.{ServerState, index_of}
@@ -7,7 +8,7 @@ use Rattle.ds_procedures.specs.Objects.{Object, Missing, Root, File, attributes_
 
 -- the longest name, in bytes
 abbrev pub max_name : ℕ
-max_name = 255
+max_name = MAX_NAME
 
 abbrev pub lookup_found : ServerState → Option ℕ → Nfs3Reply
 lookup_found s None = LookupRefused stat.NoEnt (attributes_of s Root)

@@ -1,6 +1,7 @@
 -- SETATTR: attributes of a file (RFC 1813, section 3.3.2). No size can be set.
 use Rattle.std.specs.Prelude.{ℕ, ◌+◌, ◌%◌, not, Option, Some, None, is_some}
 use Rattle.std.specs.Option.{option_map}
+use Rattle.ds_procedures.specs.declared.setattr.TheConstants.{MODE_BITS}
 use Rattle.nfs3_wire.specs.declared.status.Stat3.TheVariants as stat
 use Rattle.nfs3_wire.specs.declared.attributes.Time3.{Time3}
 use Rattle.nfs3_wire.specs.declared.sattr.SetTime.{SetTime}
@@ -27,7 +28,7 @@ new_time (set_time.Client t) = new.At (tick_of t)
 
 -- a mode is its lowest twelve bits
 abbrev pub mode_of : Option ℕ → Option ℕ
-mode_of mode = option_map (λ m. m % 4096) mode
+mode_of mode = option_map (λ m. m % MODE_BITS) mode
 
 abbrev pub changes_of : Sattr3 → Changes
 changes_of a = record { owner = a.uid; group = a.gid; mode = mode_of a.mode; atime = new_time a.atime; mtime = new_time a.mtime }

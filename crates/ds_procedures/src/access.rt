@@ -6,7 +6,7 @@ ghost use Rattle.cluster_model.specs.Server.{allows, is_member, may_read, may_wr
 ghost use Rattle.ds_procedures.specs.Objects.{caller, stat_of};
 ghost use Rattle.ds_procedures.specs.Heads.{Refuses};
 
-use cluster_model::Tick;
+use cluster_model::{MAX_TICKS, Tick};
 use data_file::DataFile;
 use nfs3_wire::Stat3;
 use rpc_record::AuthSys;
@@ -19,9 +19,6 @@ const OWNER_WRITES: u32 = 0o200;
 
 /// Members of the group may read.
 const GROUP_READS: u32 = 0o040;
-
-/// The most ticks that are given in one boot.
-const MAX_TICKS: u32 = 999_999_999;
 
 /// The mode has this bit.
 fn allows(mode: u32, bit: u32) -> bool

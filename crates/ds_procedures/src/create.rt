@@ -17,14 +17,11 @@ use crate::objects::{attributes_at, attributes_of_file, handle_of, place_of};
 use crate::plan::{Effect, Plan, reply_alone};
 use crate::setattr::mode_of;
 use crate::stored::StoredReply;
-use cluster_model::{Tick, Times};
+use cluster_model::{FILE_MODE, Tick, Times};
 use data_file::DataFile;
 use nfs3_wire::{CreateArgs, CreateHow, Sattr3, Stat3};
 use rpc_record::AuthSys;
 use std::alloc::Global;
-
-/// The mode of a file for which none is named.
-const DEFAULT_MODE: u32 = 0o640;
 
 /// What comes of a CREATE in the root.
 #[derive(Clone, Copy)]
@@ -179,7 +176,7 @@ fn in_root<'s, 'c>(
         CreateCase::Makes(attributes) => {
             let owner = attributes.uid.unwrap_or(cred.uid);
             let group = attributes.gid.unwrap_or(cred.gid);
-            let mode = mode_of(attributes.mode).unwrap_or(DEFAULT_MODE);
+            let mode = mode_of(attributes.mode).unwrap_or(FILE_MODE);
             done(alloc, head, files, args.name, owner, group, mode)
         }
     }

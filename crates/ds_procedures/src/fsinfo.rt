@@ -12,17 +12,18 @@ use crate::head::Head;
 use crate::object::Place;
 use crate::objects::{attributes_of, place_of};
 use crate::stored::StoredReply;
-use data_file::{DataFile, MAX_FILE};
+use cluster_model::MAX_FILE;
+use data_file::DataFile;
 use nfs3_wire::{Fattr3, FsInfoArgs, FsInfoOk, FsInfoReply, MAX_DATA, Time3};
 
 /// The size of a READ or a WRITE that is best, in bytes.
-const PREFERRED: u32 = 65_536;
+pub const PREFERRED: u32 = 65_536;
 
 /// The size of a listing that would be best, in bytes.
-const LISTING: u32 = 4_096;
+pub const LISTING: u32 = 4_096;
 
 /// The file system is the same everywhere, and sets times (`FSF3_HOMOGENEOUS`, `FSF3_CANSETTIME`).
-const PROPERTIES: u32 = 0x08 | 0x10;
+pub const PROPERTIES: u32 = 0x08 | 0x10;
 
 /// What the file system is, and what it can.
 fn server_info(attributes: Option<Fattr3>) -> FsInfoOk

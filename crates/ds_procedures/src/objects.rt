@@ -12,7 +12,7 @@ use data_file::DataFile;
 use nfs3_wire::{Fattr3, Stat3};
 
 /// The root's fileid; the files have the numbers behind it.
-const ROOT: u64 = 1;
+pub const ROOT: u64 = 1;
 
 /// Where the object with this fileid is.
 fn named(files: &[DataFile], fileid: u64) -> Place

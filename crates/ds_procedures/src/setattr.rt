@@ -23,7 +23,7 @@ use nfs3_wire::{Fattr3, Sattr3, SetAttrArgs, SetAttrReply, SetTime, Stat3, Time3
 use rpc_record::AuthSys;
 
 /// The permission bits of a mode.
-const MODE_BITS: u32 = 4_096;
+pub const MODE_BITS: u32 = 4_096;
 
 /// A time as a tick: the seconds are the boot, the nanoseconds the count.
 fn tick_of(time: Time3) -> Tick

@@ -18,13 +18,10 @@ use crate::object::Place;
 use crate::objects::place_of;
 use crate::plan::{Effect, Plan, reply_alone};
 use crate::stored::StoredReply;
-use cluster_model::Tick;
-use data_file::{DataFile, MAX_FILE};
+use cluster_model::{MAX_FILE, MAX_TOTAL, Tick};
+use data_file::DataFile;
 use nfs3_wire::{Fattr3, StableHow, Stat3, WriteArgs, WriteOk, WriteReply};
 use rpc_record::AuthSys;
-
-/// The most bytes that the files of a data server show together.
-const MAX_TOTAL: u64 = 268_435_456;
 
 /// The write is to be stable before its answer.
 fn is_synced(how: StableHow) -> bool

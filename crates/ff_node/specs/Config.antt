@@ -8,6 +8,7 @@ use Rattle.serde_json.specs.View.{view, items_view}
 use Rattle.serde_json.specs.declared.value.Value.{Value}
 use Rattle.std.specs.declared.alloc.Global.{Global}
 use Rattle.std.specs.Prelude.{Vec}
+use Rattle.ff_node.specs.declared.config.TheConstants.{MAX_LINE, MAX_MIRRORS, MAX_NUMBER, MAX_SERVERS}
 use Rattle.ff_node.specs.declared.config.Config.{Config}
 use Rattle.ff_node.specs.declared.config.ConfigFault.{ConfigFault}
 use Rattle.ff_node.specs.declared.config.ConfigFault.TheVariants.{Bad, NoMemory}
@@ -17,7 +18,7 @@ use Rattle.device_addr.specs.Universal.{AddressValue, IsAddress, address_text, a
 
 -- the longest line of a configuration, in bytes
 abbrev pub max_line : ℕ
-max_line = 65536
+max_line = MAX_LINE
 
 pub record ConfigValue : Type 0 where
   pub servers : List AddressValue
@@ -31,12 +32,12 @@ pub record IsInRange (c : ConfigValue) : Type 0 where
   pub addresses : All IsAddress c.servers
   pub mds_address : IsAddress c.mds
   pub some : 1 ≤ length c.servers
-  pub few : length c.servers ≤ 16
+  pub few : length c.servers ≤ MAX_SERVERS
   pub mirrored : 1 ≤ c.mirrors
-  pub mirrors_few : c.mirrors ≤ 4
+  pub mirrors_few : c.mirrors ≤ MAX_MIRRORS
   pub mirrors_within : c.mirrors ≤ length c.servers
   pub own_some : 1 ≤ c.own
-  pub own_few : c.own ≤ 256
+  pub own_few : c.own ≤ MAX_NUMBER
   pub turns_some : 1 ≤ c.turns
   pub turns_few : c.turns < 2 ^ 32
 
@@ -116,7 +117,7 @@ pub record ListsServers (d : Data) (servers : List AddressValue) : Type 0 where
   pub items : d ≡ array (address_items servers)
   pub addresses : All IsAddress servers
   pub some : 1 ≤ length servers
-  pub few : length servers ≤ 16
+  pub few : length servers ≤ MAX_SERVERS
 
 -- the same of some items: each is an address
 abbrev pub ReadsItems : List Value → Result (Vec NetAddr Global) ConfigFault → Type 0

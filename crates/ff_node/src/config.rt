@@ -16,13 +16,13 @@ use thiserror::Error;
 pub const MAX_LINE: usize = 65_536;
 
 /// The most data servers of a configuration.
-const MAX_SERVERS: usize = 16;
+pub const MAX_SERVERS: usize = 16;
 
 /// The most mirrors of a file.
-const MAX_MIRRORS: u32 = 4;
+pub const MAX_MIRRORS: u32 = 4;
 
 /// The largest number of a node.
-const MAX_NUMBER: u32 = 256;
+pub const MAX_NUMBER: u32 = 256;
 
 /// What a node is told at its start.
 #[derive(Debug, Drop)]

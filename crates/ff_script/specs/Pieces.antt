@@ -2,6 +2,7 @@
 -- pending ones, A its first byte that is meant, and N how many.
 use Rattle.std.specs.Prelude.{◌≡◌, ◌⊎◌, true, ℕ, ◌+◌, ◌-◌, ◌*◌, ◌^◌, ◌&&◌, ◌==◌, nat_le, nat_lt, if◌then◌else◌, List, [], ◌∷◌, length, decimal, Option, Some, None, is_some}
 use Rattle.std.specs.Str.{bytes_eq}
+use Rattle.ff_script.specs.declared.pieces.TheConstants.{DIGITS}
 use Rattle.cluster_model.specs.declared.piece.Piece.{Piece}
 use Rattle.line_runs.specs.Lines.{onto_first}
 
@@ -19,7 +20,7 @@ decimal_value n (c ∷ cs) = decimal_value (n * 10 + (c - 48)) cs
 unfoldable pub decimal_at : List ℕ → Option ℕ
 decimal_at text =
     let n = decimal_value 0 text in
-    if nat_le (length text) 10 && nat_lt n (2 ^ 32) && bytes_eq (decimal n) text then Some n else None
+    if nat_le (length text) DIGITS && nat_lt n (2 ^ 32) && bytes_eq (decimal n) text then Some n else None
 
 -- the parts of a text between separators
 unfoldable pub parts : ℕ → List ℕ → List (List ℕ)

@@ -11,7 +11,7 @@ use std::alloc::Global;
 use std::marker::Model;
 
 /// A number of a piece has at most so many digits.
-const DIGITS: usize = 10;
+pub const DIGITS: usize = 10;
 
 /// What digits come to.
 fn decimal_value(text: &[u8]) -> u64

@@ -11,7 +11,7 @@ ghost use Rattle.layout_state.specs.Returns.{Returns, may_lose};
 use crate::grant::{Grant, GrantFault, ReturnFault};
 use cluster_model::{
     CopyKind, Cred, EndCause, FenceEnd, LayoutPhase, LayoutState, LeftCause, MirrorId, Mirrors,
-    NodeId, Phase, Reported, Tick,
+    NodeId, Phase, Reported, SPARE_UIDS, Tick,
 };
 use std::marker::Model;
 

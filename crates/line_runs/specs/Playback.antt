@@ -1,5 +1,6 @@
 -- A run that is under way: what is still to come, and what a step does to it.
 use Rattle.std.specs.Prelude.{⊤, ◌⊎◌, ◌≡◌, ℕ, ◌+◌, ◌-◌, ◌*◌, ◌<◌, Bool, true, false, List, [], ◌∷◌, ◌++◌, length, take, Option, Some, None, Result, Ok, Err, if◌then◌else◌}
+use Rattle.line_runs.specs.declared.playback.TheConstants.{FULL}
 use Rattle.ff_xdr.specs.declared.error.NoMemory.{NoMemory as WantsMemory}
 use Rattle.rpc_record.specs.declared.stream.Failed.{Failed}
 use Rattle.rpc_record.specs.Stream.{one_more}
@@ -30,7 +31,7 @@ with_text text s = record { text = text; held = s.held; room = s.room; begun = s
 
 -- the text is written once it has so many bytes
 abbrev pub full : ℕ
-full = 65536
+full = FULL
 
 -- what a run has to do yet: it reads what there is room for, and writes its text
 abbrev pub some_text : List ℕ → ℕ

@@ -18,7 +18,7 @@ use std::alloc::{AllocError, Global};
 use std::marker::Model;
 
 /// The text is written once it has so many bytes.
-const FULL: usize = 65_536;
+pub const FULL: usize = 65_536;
 
 /// A run that is under way, apart from its task.
 #[derive(Drop)]

@@ -1,5 +1,8 @@
 -- The compounds that a client makes (RFC 8881, section 18), in records of RPC (RFC 5531, section 9).
 use Rattle.std.specs.Prelude.{ℕ, ◌^◌, ◌<◌, ◌≤◌, List, [], ◌∷◌, length}
+use Rattle.rpc_record.specs.declared.call.TheConstants.{NFS_PROGRAM}
+use Rattle.mds_parts.specs.declared.header.TheConstants.{NFS_VERSION}
+use Rattle.mds_calls.specs.declared.record.TheConstants.{MOST}
 use Rattle.ff_xdr.specs.Form.{Value}
 use Rattle.rpc_record.specs.Calls.{RpcCall, call_bytes}
 use Rattle.rpc_record.specs.Replies.{auth_none}
@@ -32,8 +35,8 @@ mds_ops owner (OnSlot session sequence call) = sequence_op session sequence (is_
 abbrev pub mds_rpc_call : ℕ → List ℕ → MdsCallValue → RpcCall
 mds_rpc_call xid owner call = record {
   xid = xid;
-  program = 100003;
-  version = 4;
+  program = NFS_PROGRAM;
+  version = NFS_VERSION;
   procedure = 1;
   cred = auth_none;
   verf = auth_none;
@@ -66,5 +69,5 @@ failed_of_call call = []
 pub record FitsCompound (call : MdsCallValue) : Type 0 where
   pub name : length (name_of_call call) < 2 ^ 32
   pub data_few : length (data_of_call call) < 2 ^ 32
-  pub servers : length (servers_of_call call) ≤ 4
-  pub failed : length (failed_of_call call) ≤ 4
+  pub servers : length (servers_of_call call) ≤ MOST
+  pub failed : length (failed_of_call call) ≤ MOST

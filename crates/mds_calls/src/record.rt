@@ -17,7 +17,7 @@ use nfs4_types::MAX_OPAQUE4;
 use std::alloc::Global;
 
 /// The most data servers of a GETDEVICEINFO, and the most mirrors of a report.
-const MOST: usize = 4;
+pub const MOST: usize = 4;
 
 /// Appends the arguments of a request on a slot, or nothing.
 fn put_on_slot(

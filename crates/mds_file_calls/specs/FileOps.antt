@@ -2,6 +2,9 @@
 -- false, absent or empty.
 use Rattle.std.specs.Prelude.{ℕ, ◌^◌, ◌-◌, false, List, [], ◌∷◌, map}
 use Rattle.std.proofs.Common.{inl}
+use Rattle.mds_file_calls.specs.declared.layout_return.TheConstants.{WRITE}
+use Rattle.mds_file_calls.specs.declared.open.TheConstants.{SHARE_BOTH}
+use Rattle.mds_file_calls.specs.declared.layouts.TheConstants.{FLEX_FILES, MAX_COUNT, READS_AND_WRITES}
 use Rattle.ff_xdr.specs.Form.{Value, spelling}
 use Rattle.ff_xdr.specs.Arms.{arm}
 use Rattle.nfs4_types.specs.declared.stateid.Stateid.{Stateid}
@@ -23,10 +26,10 @@ whole_length = 2 ^ 64 - 1
 
 -- LAYOUT4_FLEX_FILES (RFC 8435, section 4), and LAYOUTIOMODE4_RW (RFC 8881, section 3.3.20)
 abbrev pub flex_files : ℕ
-flex_files = 4
+flex_files = FLEX_FILES
 
 abbrev pub reads_and_writes : ℕ
-reads_and_writes = 2
+reads_and_writes = READS_AND_WRITES
 
 -- ---- operations by themselves
 
@@ -36,15 +39,15 @@ put_fh_op file = arm 22 argop4 (file_handle_of file.0)
 
 -- (section 18.16): for reading and writing, UNCHECKED with no attributes, by its name
 abbrev pub open_op : List ℕ → List ℕ → Value argop4
-open_op owner name = arm 18 argop4 (0, (3, (0, (0, (owner, (arm 1 openflag4 (arm 0 createhow4 ([], [])), inl name))))))
+open_op owner name = arm 18 argop4 (0, (SHARE_BOTH, (0, (0, (owner, (arm 1 openflag4 (arm 0 createhow4 ([], [])), inl name))))))
 
 -- (section 18.43): all of the file, in at most 4,096 bytes
 abbrev pub layout_get_op : Stateid → Value argop4
-layout_get_op stateid = arm 50 argop4 (false, (flex_files, (reads_and_writes, (0, (whole_length, (0, (stateid4_value stateid, 4096)))))))
+layout_get_op stateid = arm 50 argop4 (false, (flex_files, (reads_and_writes, (0, (whole_length, (0, (stateid4_value stateid, MAX_COUNT)))))))
 
 -- (section 18.40): the address of a data server, in at most 4,096 bytes
 abbrev pub device_info_op : ℕ → Value argop4
-device_info_op server = arm 47 argop4 ((device_id_of server).0, (flex_files, (4096, [])))
+device_info_op server = arm 47 argop4 ((device_id_of server).0, (flex_files, (MAX_COUNT, [])))
 
 -- (section 18.32): FILE_SYNC 2
 abbrev pub write_op : Stateid → ℕ → List ℕ → Value argop4
@@ -55,9 +58,9 @@ abbrev pub read_op : Stateid → ℕ → ℕ → Value argop4
 read_op stateid at count = arm 25 argop4 (stateid4_value stateid, (at, count))
 
 -- What is reported of a mirror that failed (RFC 8435, section 9.1.1): for the whole file, under the layout's stateid, its device, the
--- status, and the operation WRITE 38.
+-- status, and the operation WRITE.
 abbrev pub io_error_of : Stateid → FailedMirror → Value ff_ioerr4
-io_error_of stateid m = (0, (whole_length, (stateid4_value stateid, ((device_id_of m.server).0, (m.status, 38)) ∷ [])))
+io_error_of stateid m = (0, (whole_length, (stateid4_value stateid, ((device_id_of m.server).0, (m.status, WRITE)) ∷ [])))
 
 -- the report's body (RFC 8435, section 9.3); there are no statistics
 abbrev pub return_body : Stateid → List FailedMirror → List ℕ

@@ -1,5 +1,7 @@
 -- What the results of a client's calls on files and layouts say (RFC 8881, section 18): those of the call's operations, in order, each OK.
 use Rattle.std.specs.Prelude.{ℕ, ◌+◌, ◌^◌, Bool, false, ◌&&◌, ◌==◌, nat_le, nat_lt, List, [], ◌∷◌, length, Option, Some, None, if◌then◌else◌}
+use Rattle.cluster_model.specs.declared.limits.TheConstants.{MAX_FILE}
+use Rattle.mds_file_calls.specs.declared.layouts.TheConstants.{FLEX_FILES, READS_AND_WRITES}
 use Rattle.ff_xdr.specs.Form.{Value}
 use Rattle.ff_xdr.specs.Reading.{reading, whole}
 use Rattle.nfs4_types.specs.declared.stateid.Stateid.{Stateid}
@@ -51,7 +53,7 @@ open_results results = None
 
 -- exactly one layout, for reading and writing and of flexible files
 abbrev pub one_layout : Stateid → List (Value layout4) → Option LayoutGrant
-one_layout stateid ((offset, (length, (iomode, (kind, body)))) ∷ []) = if iomode == 2 && kind == 4 then layout_grant_of stateid (whole body (reading ff_layout4 body 0)) else None
+one_layout stateid ((offset, (length, (iomode, (kind, body)))) ∷ []) = if iomode == READS_AND_WRITES && kind == FLEX_FILES then layout_grant_of stateid (whole body (reading ff_layout4 body 0)) else None
 one_layout stateid layouts = None
 
 abbrev pub layout_get_ok : Value resop4 → Option LayoutGrant
@@ -96,7 +98,7 @@ abbrev pub plain_bytes_read : BytesRead → BytesReadValue
 plain_bytes_read r = record { eof = r.eof; bytes = r.bytes.now }
 
 abbrev pub read4_done : ℕ → ℕ → Value resop4 → Option BytesReadValue
-read4_done at count = in_arm 25 resop4 (done_as (λ (eof, bytes). if nat_le (length bytes) count && nat_le (at + length bytes) 67108864 then Some (record { eof = eof; bytes = bytes }) else None)) None
+read4_done at count = in_arm 25 resop4 (done_as (λ (eof, bytes). if nat_le (length bytes) count && nat_le (at + length bytes) MAX_FILE then Some (record { eof = eof; bytes = bytes }) else None)) None
 
 abbrev pub read_results : ℕ → ℕ → List (Value resop4) → Option BytesReadValue
 read_results at count (s ∷ p ∷ r ∷ []) = if sequence_ok s && put_fh_ok p then read4_done at count r else None

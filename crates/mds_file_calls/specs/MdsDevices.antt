@@ -1,6 +1,7 @@
 -- What a GETDEVICEINFO says of where a data server is (RFC 8881, section 18.40; RFC 8435, section 4.1; RFC 5665, section 5.2.3.3).
 use Rattle.std.specs.Prelude.{ℕ, ◌+◌, ◌*◌, ◌==◌, Bool, true, ◌&&◌, List, [], ◌∷◌, bytes_eq, codes, Option, Some, None, Result, Ok, Err, if◌then◌else◌, nat_lt}
 use Rattle.std.specs.Str.Parse.{digits_value}
+use Rattle.mds_file_calls.specs.declared.layouts.TheConstants.{FLEX_FILES}
 use Rattle.ff_xdr.specs.declared.error.XdrError.{XdrError}
 use Rattle.ff_xdr.specs.Form.{Value}
 use Rattle.ff_xdr.specs.Reading.{reading, whole}
@@ -65,4 +66,4 @@ device_address (Err e) = None
 
 -- the body is in its form, of flexible files
 abbrev pub device_info_ok : Value resop4 → Option NetAddr
-device_info_ok = in_arm 47 resop4 (done_as (λ (kind, (body, notification)). if kind == 4 then device_address (whole body (reading ff_device_addr4 body 0)) else None)) None
+device_info_ok = in_arm 47 resop4 (done_as (λ (kind, (body, notification)). if kind == FLEX_FILES then device_address (whole body (reading ff_device_addr4 body 0)) else None)) None

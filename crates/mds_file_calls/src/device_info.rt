@@ -18,16 +18,13 @@ ghost use Rattle.mds_file_calls.specs.FileOps.{device_info_op, device_info_ops};
 ghost use Rattle.mds_file_calls.specs.FileResults.{device_addresses, device_info_results};
 ghost use Rattle.mds_file_calls.specs.MdsDevices.{address_on_tcp, device_address, device_info_ok, first_address, universal_address};
 
-use crate::layouts::FLEX_FILES;
+use crate::layouts::{FLEX_FILES, MAX_COUNT};
 use device_addr::{FfDeviceAddr, NetAddr, NetText, parse_universal};
 use ff_xdr::{Items, NoMemory, Out, Wire};
 use mds_parts::{Few, Results, Start, few_of, put_ops, sequence_ok, sequence_op};
 use nfs4_compound::{Op, OpRes};
 use nfs4_file_ops::{GetDeviceInfoArgs, GetDeviceInfoRes};
 use nfs4_types::{Bitmap, device_of};
-
-/// The most bytes of the result.
-const MOST: u32 = 4_096;
 
 /// GETDEVICEINFO of the device of a data server.
 fn device_info_op<'a>(server: u32) -> Op<'a>
@@ -37,7 +34,7 @@ fn device_info_op<'a>(server: u32) -> Op<'a>
     Op::GetDeviceInfo(GetDeviceInfoArgs {
         device: device_of(server),
         layout_type: FLEX_FILES,
-        maxcount: MOST,
+        maxcount: MAX_COUNT,
         notify_types: Bitmap {
             words: Items::made(&[]),
         },

@@ -13,16 +13,13 @@ ghost use Rattle.mds_file_calls.specs.FileResults.{layout_get_ok, layout_get_res
 
 use crate::grant::{LayoutGrant, grant_in};
 use crate::handles::{handle_of, put_fh_ok};
-use crate::layouts::{FLEX_FILES, READS_AND_WRITES};
+use crate::layouts::{FLEX_FILES, MAX_COUNT, READS_AND_WRITES};
 use crate::open::OpenFile;
 use ff_xdr::{Items, NoMemory, Out};
 use mds_parts::{Few, Results, Start, few_of, put_ops, sequence_ok, sequence_op};
 use nfs4_compound::{Op, OpRes};
 use nfs4_file_ops::{Layout4, LayoutGetArgs, LayoutGetRes};
 use nfs4_types::{Handle4, Stateid};
-
-/// The most bytes of the result.
-const MOST: u32 = 4_096;
 
 /// LAYOUTGET of all of the file.
 fn layout_get_op<'a>(stateid: Stateid) -> Op<'a>
@@ -37,7 +34,7 @@ fn layout_get_op<'a>(stateid: Stateid) -> Op<'a>
         length: u64::MAX,
         minlength: 0,
         stateid,
-        maxcount: MOST,
+        maxcount: MAX_COUNT,
     })
 }
 

@@ -32,7 +32,7 @@ pub struct FailedMirror {
 }
 
 /// The operation that failed: WRITE.
-const WRITE: u32 = 38;
+pub const WRITE: u32 = 38;
 
 /// The error at the device of a mirror.
 fn device_error(mirror: FailedMirror) -> DeviceError

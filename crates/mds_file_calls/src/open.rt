@@ -26,7 +26,7 @@ pub struct OpenFile {
 }
 
 /// OPEN4_SHARE_ACCESS_BOTH.
-const READS_AND_WRITES: u32 = 3;
+pub const SHARE_BOTH: u32 = 3;
 
 /// OPEN in the current directory: for reading and writing, UNCHECKED with no attributes.
 fn open_op<'a>(owner: &'a [u8], name: &'a str) -> Op<'a>
@@ -43,7 +43,7 @@ fn open_op<'a>(owner: &'a [u8], name: &'a str) -> Op<'a>
     };
     Op::Open(OpenArgs {
         seqid: 0,
-        share_access: READS_AND_WRITES,
+        share_access: SHARE_BOTH,
         share_deny: 0,
         clientid: 0,
         owner: Owner4 { bytes: owner },

@@ -2,6 +2,7 @@
 
 ghost use Rattle.std.specs.Prelude.{◌≡◌, ◌+◌, ◌&&◌, false, ◌∷◌, length, nat_le};
 ghost use Rattle.std.specs.Option.{option_map};
+ghost use Rattle.cluster_model.specs.declared.limits.TheConstants.{MAX_FILE};
 ghost use Rattle.ff_xdr.specs.Form.{Fits};
 ghost use Rattle.ff_xdr.specs.Calls.{Puts};
 ghost use Rattle.ff_xdr.specs.Items.{contents};
@@ -13,6 +14,7 @@ ghost use Rattle.mds_file_calls.specs.FileResults.{plain_bytes_read, read4_done,
 
 use crate::handles::{handle_of, put_fh_ok};
 use crate::open::OpenFile;
+use cluster_model::MAX_FILE;
 use ff_xdr::{NoMemory, Out};
 use mds_parts::{Few, Results, Start, few_of, put_ops, sequence_ok, sequence_op};
 use nfs4_compound::{Op, OpRes};
@@ -25,9 +27,6 @@ pub struct BytesRead<'a> {
     pub eof: bool,
     pub bytes: &'a [u8],
 }
-
-/// The most bytes of a file.
-const MAX_FILE: u64 = 67_108_864;
 
 /// READ.
 fn read_op<'a>(stateid: Stateid, at: u64, count: u32) -> Op<'a>
@@ -61,7 +60,7 @@ pub fn put_read(
 
 /// There are no more bytes than were asked for, and none past the end of the longest file.
 fn are_in_place(at: u64, count: u32, bytes: &[u8]) -> bool
-    ensures { result ≡ (nat_le (length bytes.now) count && nat_le (at + length bytes.now) 67108864) }
+    ensures { result ≡ (nat_le (length bytes.now) count && nat_le (at + length bytes.now) MAX_FILE) }
 {
     let size = bytes.len() as u64;
     size <= count as u64 && size <= MAX_FILE && at <= MAX_FILE - size

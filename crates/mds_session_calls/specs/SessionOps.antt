@@ -2,6 +2,7 @@
 -- absent or empty.
 use Rattle.std.specs.Prelude.{ℕ, false, List, [], ◌∷◌}
 use Rattle.std.proofs.Common.{inl}
+use Rattle.mds_session_calls.specs.declared.create_session.TheConstants.{CALLBACK_PROGRAM, WITH_BACK_CHANNEL}
 use Rattle.ff_xdr.specs.Form.{Value}
 use Rattle.ff_xdr.specs.Arms.{arm}
 use Rattle.nfs4_types.specs.Channels.{channel_attrs4}
@@ -22,11 +23,11 @@ back_channel = (0, (4096, (4096, (0, (2, (1, []))))))
 
 -- the program of its callbacks, in the transient range (RFC 5531, section 8.3)
 abbrev pub callback_program : ℕ
-callback_program = 1073741824
+callback_program = CALLBACK_PROGRAM
 
 -- (section 18.36): with a back channel, whose calls have no credential
 abbrev pub create_session_op : ℕ → ℕ → Value argop4
-create_session_op clientid sequence = arm 43 argop4 (clientid, (sequence, (2, (fore_channel, (back_channel, (callback_program, arm 0 callback_sec4 tt ∷ []))))))
+create_session_op clientid sequence = arm 43 argop4 (clientid, (sequence, (WITH_BACK_CHANNEL, (fore_channel, (back_channel, (callback_program, arm 0 callback_sec4 tt ∷ []))))))
 
 -- (section 18.51), behind a SEQUENCE
 abbrev pub reclaim_complete_ops : List (Value argop4)

@@ -16,10 +16,10 @@ use nfs4_session_ops::{CallbackSec, CreateSessionArgs};
 use nfs4_types::{ChannelAttrs, OpResult, SessionId};
 
 /// The session has a back channel, CREATE_SESSION4_FLAG_CONN_BACK_CHAN.
-const WITH_BACK_CHANNEL: u32 = 2;
+pub const WITH_BACK_CHANNEL: u32 = 2;
 
 /// The program of the client's callbacks, in the transient range (RFC 5531, section 8.3).
-const CALLBACK_PROGRAM: u32 = 0x4000_0000;
+pub const CALLBACK_PROGRAM: u32 = 0x4000_0000;
 
 /// The channel of requests that a client asks for.
 const FORE: ChannelAttrs = ChannelAttrs {

@@ -1,5 +1,6 @@
 -- The rule of a client of the cluster: what each event leaves of it, what it enters into the journal, and what it sends.
 use Rattle.std.specs.Prelude.{ℕ, ◌+◌, ◌-◌, Bool, true, false, ◌&&◌, ◌||◌, ◌==◌, nat_le, List, [], ◌∷◌, ◌++◌, Option, Some, None, Result, Ok, Err, if◌then◌else◌, slice_get}
+use Rattle.mirror_client.specs.declared.events.TheConstants.{RENEWAL}
 use Rattle.ff_xdr.specs.declared.error.XdrError.{XdrError}
 use Rattle.rpc_record.specs.Calls.{call_at}
 use Rattle.rpc_record.specs.Replies.{RpcReply, reply_at}
@@ -97,7 +98,7 @@ resends_late c (Some asked) =
 -- a SEQUENCE alone, 30 s after the last that was answered, where nothing else is outstanding
 abbrev pub is_stale : ℕ → Option ℕ → Bool
 is_stale now None = false
-is_stale now (Some renewed) = nat_le (renewed + 30) now
+is_stale now (Some renewed) = nat_le (renewed + RENEWAL) now
 
 abbrev pub is_stale_tie : ℕ → Tie → Bool
 is_stale_tie now (HasSession s) = is_stale now s.renewed

@@ -1,6 +1,7 @@
 //! A client, for its user.
 
 ghost use Rattle.std.specs.Prelude.{◌≡◌, ◌≤◌, true, false, [], ◌++◌, length, slice_get, IfOk, OnOk, OnErr};
+ghost use Rattle.cluster_model.specs.declared.limits.TheConstants.{PIECE_SIZE};
 ghost use Rattle.client_state.specs.declared.request.UserRequest.TheVariants.{Open, Write, Through, Commit, Read, Return};
 ghost use Rattle.mirror_client.specs.ClientRule.{client_requested, client_recorded, client_timed_out, client_ticked, strays};
 ghost use Rattle.mirror_client.specs.ClientSteps.{fresh_client_of_user, StepsBy, answer_taken, left_protocol};
@@ -118,7 +119,7 @@ impl Client {
     /// Writes 1 to 65,536 bytes from this place of the file on, to each mirror of a layout (RFC 8435, section 8).
     pub fn write(&mut self, at: u64, bytes: &[u8], out: &mut Outbox) -> Result<(), NoMemory>
         requires some { 1 ≤ length bytes.now }
-        requires few { length bytes.now ≤ 65536 }
+        requires few { length bytes.now ≤ PIECE_SIZE }
         ensures { StepsBy (client_requested (Write at bytes.now)) self.old out.old result self.new out.new }
     {
         let mut own = self.begin()?;
@@ -130,7 +131,7 @@ impl Client {
     /// Writes 1 to 65,536 bytes through the metadata server (RFC 8881, section 18.32). A layout is given back first.
     pub fn through(&mut self, at: u64, bytes: &[u8], out: &mut Outbox) -> Result<(), NoMemory>
         requires some { 1 ≤ length bytes.now }
-        requires few { length bytes.now ≤ 65536 }
+        requires few { length bytes.now ≤ PIECE_SIZE }
         ensures { StepsBy (client_requested (Through at bytes.now)) self.old out.old result self.new out.new }
     {
         let mut own = self.begin()?;
@@ -237,7 +238,7 @@ impl Client {
         out: &mut Outbox,
     ) -> Result<(), NoMemory>
         requires left { self.old.client.has_left ≡ true }
-        requires few { length bytes.now ≤ 65536 }
+        requires few { length bytes.now ≤ PIECE_SIZE }
         ensures { StepsBy (λ c. strays c.file c.layout place at bytes.now c) self.old out.old result self.new out.new }
     {
         let mut own = self.begin()?;

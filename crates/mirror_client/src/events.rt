@@ -18,7 +18,7 @@ use mds_calls::MdsAsk;
 use rpc_record::Reply;
 
 /// After so many seconds a lease is renewed (RFC 8881, section 8.3).
-const RENEWAL: u64 = 30;
+pub const RENEWAL: u64 = 30;
 
 /// What waited for the tick waits no longer.
 fn after_tick(stage: LayoutStage) -> LayoutStage

@@ -1,6 +1,7 @@
 //! A client that leaves the protocol.
 
 ghost use Rattle.std.specs.Prelude.{◌≡◌, ◌≤◌, true, length, OnOk};
+ghost use Rattle.cluster_model.specs.declared.limits.TheConstants.{PIECE_SIZE};
 ghost use Rattle.mirror_client.specs.ClientRule.{turned, mirror_of_place, strays};
 ghost use Rattle.client_state.specs.QueueSteps.{HasStepped};
 
@@ -37,7 +38,7 @@ pub fn stray(
     out: &mut Outbox,
 ) -> Result<(), NoMemory>
     requires left { client.old.has_left ≡ true }
-    requires few { length bytes.now ≤ 65536 }
+    requires few { length bytes.now ≤ PIECE_SIZE }
     ensures { OnOk result (HasStepped (strays client.old.file client.old.layout place at bytes.now client.old) out.old client.new out.new) }
 {
     let Some(file) = client.file else {

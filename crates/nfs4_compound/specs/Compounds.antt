@@ -1,5 +1,6 @@
 -- Compounds and callback compounds: what stands before the operations, and the whole (RFC 8881, sections 16.2.3 and 20.2.3).
 use Rattle.std.specs.Prelude.{ℕ, List, Result, Ok}
+use Rattle.nfs4_compound.specs.declared.tag.TheConstants.{MAX_TAG4}
 use Rattle.ff_xdr.specs.declared.error.XdrError.{XdrError}
 use Rattle.ff_xdr.specs.Form.{Form, Number32, Text, Pair, Array, Value}
 use Rattle.ff_xdr.specs.Reading.{◌>>=◌, reading}
@@ -12,7 +13,7 @@ use Rattle.nfs4_compound.specs.Operations.{OpList, operations, verdict_of}
 
 -- a tag, utf8str_cs, of at most 1,024 bytes; the maximum is the project's own
 abbrev pub tag4 : Form
-tag4 = Text 1024
+tag4 = Text MAX_TAG4
 
 -- COMPOUND4args: tag, minorversion, argarray<>
 abbrev pub compound4_args : Form

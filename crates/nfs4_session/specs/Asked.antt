@@ -1,6 +1,7 @@
 -- How the code names a case of CREATE_SESSION.
 use Rattle.std.specs.Prelude.{position, remove, slice_get, ℕ, Bool, false, ◌==◌, ◌&&◌, not, List, [], length, nat_lt, if◌then◌else◌, Option, Some, None, Result, Ok, Err}
 use Rattle.std.specs.Option.{option_map}
+use Rattle.nfs4_session.specs.declared.client.TheConstants.{MAX_SESSIONS}
 use Rattle.cluster_model.specs.declared.ids.NodeId.{NodeId}
 use Rattle.nfs4_session.specs.declared.faults.Created.{Created}
 use Rattle.nfs4_session.specs.declared.faults.SessionFault.{SessionFault}
@@ -34,7 +35,7 @@ fresh_record id owner verifier now = record { id = id; owner = owner; verifier =
 abbrev pub case_by_room : ClientState → ℕ → Bool → CreateSessionCase
 case_by_room c sequence are_spent =
     if not (sequence == c.sequence) then IsMisordered
-    else (if nat_lt (length c.sessions) 4 && not are_spent then IsDue c else HasNoRoom)
+    else (if nat_lt (length c.sessions) MAX_SESSIONS && not are_spent then IsDue c else HasNoRoom)
 
 abbrev pub case_by_made : ClientState → ℕ → Bool → Option MadeSession → CreateSessionCase
 case_by_made c sequence are_spent (Some made) = if sequence == made.sequence then IsReplay made.number else case_by_room c sequence are_spent

@@ -3,6 +3,7 @@ use Rattle.std.specs.Prelude.{ℕ, ◌+◌, ◌*◌, Bool, ◌==◌, List, [], �
 use Rattle.std.specs.Int.{w64, from_be_bytes}
 use Rattle.std.specs.List.{find}
 use Rattle.std.specs.Str.{bytes_eq}
+use Rattle.nfs4_session.specs.declared.session.TheConstants.{SLOTS}
 use Rattle.ff_xdr.specs.Form.{long}
 use Rattle.cluster_model.specs.declared.ids.NodeId.{NodeId}
 use Rattle.nfs4_types.specs.declared.ids.SessionId.{SessionId}
@@ -106,7 +107,7 @@ with_slots session slots = record { number = session.number; slots = slots; node
 
 -- a session has eight slots
 abbrev pub new_session : ℕ → NodeId → ℕ → SessionState
-new_session number node program = record { number = number; slots = replicate 8 new_slot; node = node; program = program; callback = 0 }
+new_session number node program = record { number = number; slots = replicate SLOTS new_slot; node = node; program = program; callback = 0 }
 
 -- one session is changed, and no other
 abbrev pub change_session : SessionId → (SessionState → SessionState) → List ClientState → List ClientState

@@ -2,6 +2,7 @@
 use Rattle.std.specs.Prelude.{◌≡◌, ℕ, ◌+◌, Bool, true, false, ◌==◌, ◌&&◌, not, [], ◌∷◌, ◌++◌, length, Option, Some, None, Result, Ok, Err, nat_lt, if◌then◌else◌}
 use Rattle.std.specs.List.{find}
 use Rattle.std.specs.Option.{option_map}
+use Rattle.nfs4_session.specs.declared.client.TheConstants.{MAX_SESSIONS}
 use Rattle.cluster_model.specs.declared.ids.NodeId.{NodeId}
 use Rattle.nfs4_session.specs.declared.faults.Created.{Created}
 use Rattle.nfs4_session.specs.declared.faults.SessionFault.{SessionFault}
@@ -28,7 +29,7 @@ numbers_are_spent s = s.numbers == 18446744073709551615
 abbrev pub case_by_next : SessionsState → ClientState → ℕ → CreateSessionCase
 case_by_next s c sequence =
     if not (sequence == c.sequence) then IsMisordered
-    else (if nat_lt (length c.sessions) 4 && not (numbers_are_spent s) then IsDue c else HasNoRoom)
+    else (if nat_lt (length c.sessions) MAX_SESSIONS && not (numbers_are_spent s) then IsDue c else HasNoRoom)
 
 abbrev pub case_by_last : SessionsState → ClientState → ℕ → Option MadeSession → CreateSessionCase
 case_by_last s c sequence (Some made) = if sequence == made.sequence then IsReplay made.number else case_by_next s c sequence

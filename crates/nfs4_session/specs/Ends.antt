@@ -1,6 +1,7 @@
 -- How sessions, clients and leases end (RFC 8881, sections 18.37, 18.50 and 8.3).
 use Rattle.std.specs.Prelude.{◌≡◌, ℕ, ◌+◌, Bool, List, [], ◌∷◌, Option, Some, None, Result, Ok, Err, nat_lt}
 use Rattle.std.specs.List.{find}
+use Rattle.nfs4_session.specs.declared.seek.TheConstants.{LEASE}
 use Rattle.nfs4_types.specs.declared.ids.SessionId.{SessionId}
 use Rattle.nfs4_types.specs.declared.status.Stat4.{Stat4}
 use Rattle.nfs4_types.specs.declared.status.Stat4.TheVariants.{StaleClientId, ClientIdBusy}
@@ -31,7 +32,7 @@ DestroysClient old client result new = DestroysClientBy old client (destroy_clie
 
 -- A lease has ended where it was renewed last more than 90 s before.
 abbrev pub has_ended : ℕ → ClientState → Bool
-has_ended now c = nat_lt (c.renewed + 90) now
+has_ended now c = nat_lt (c.renewed + LEASE) now
 
 abbrev pub ExpiresBy : SessionsState → Option ClientState → Option ℕ → SessionsState → Type 0
 ExpiresBy old None result new = (result ≡ None) × (new ≡ old)

@@ -2,6 +2,7 @@
 use Rattle.std.specs.Prelude.{◌≡◌, ℕ, ◌+◌, Bool, true, false, ◌==◌, ◌&&◌, not, List, [], ◌∷◌, ◌++◌, Option, Some, None, Result, Ok, Err, nat_lt, if◌then◌else◌}
 use Rattle.std.specs.List.{find, list_any}
 use Rattle.std.specs.Str.{bytes_eq}
+use Rattle.nfs4_session.specs.declared.exchange.TheConstants.{MAX_OWNERS}
 use Rattle.nfs4_session.specs.declared.faults.Exchanged.{Exchanged}
 use Rattle.nfs4_session.specs.declared.faults.IdFault.{IdFault}
 use Rattle.nfs4_session.specs.declared.faults.IdFault.TheVariants.{Full, NoMemory}
@@ -64,7 +65,7 @@ exchange_fault s (IsKnown client) = None
 exchange_fault s (IsAgain client) = None
 exchange_fault s ReplacesUnconfirmed = new_id_fault s
 exchange_fault s Restarts = new_id_fault s
-exchange_fault s IsNewOwner = if nat_lt (known_owners s.clients) 256 then new_id_fault s else Some Full
+exchange_fault s IsNewOwner = if nat_lt (known_owners s.clients) MAX_OWNERS then new_id_fault s else Some Full
 
 -- ---- what is given, and what it leaves
 

@@ -1,6 +1,7 @@
 -- A slot of a session: a request takes effect once, and one that comes again is answered by what is kept of it (RFC 8881, section
 -- 2.10.6).
 use Rattle.std.specs.Prelude.{ℕ, ◌+◌, Bool, true, false, ◌==◌, ◌&&◌, not, List, length, nat_lt, if◌then◌else◌}
+use Rattle.nfs4_session.specs.declared.slot.TheConstants.{MAX_KEPT}
 use Rattle.nfs4_types.specs.declared.status.Stat4.{Stat4}
 use Rattle.nfs4_types.specs.declared.status.Stat4.TheVariants.{SeqMisordered, Delay, RetryUncachedRep}
 
@@ -57,7 +58,7 @@ slot_begun number = record { last = number; reply = InProgress }
 
 -- a kept reply has at most 32,768 bytes
 abbrev pub kept_as : List ℕ → SlotReply
-kept_as reply = if nat_lt 32768 (length reply) then Uncached else Kept reply
+kept_as reply = if nat_lt MAX_KEPT (length reply) then Uncached else Kept reply
 
 -- the request of this number is done, where it is in progress
 abbrev pub slot_finished : ℕ → List ℕ → SlotState → SlotState

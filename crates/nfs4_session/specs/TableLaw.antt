@@ -2,6 +2,9 @@
 -- confirmed record and one that is not (RFC 8881, sections 2.4 and 2.10.3).
 use Rattle.std.specs.Prelude.{◌≡◌, ℕ, ◌+◌, ◌≤◌, ◌<◌, ◌==◌, List, [], ◌∷◌, ◌++◌, length, Option, Some, None, fold, slice_get, if◌then◌else◌}
 use Rattle.std.specs.List.{All, AllPairs, find}
+use Rattle.nfs4_session.specs.declared.session.TheConstants.{SLOTS}
+use Rattle.nfs4_session.specs.declared.exchange.TheConstants.{MAX_OWNERS}
+use Rattle.nfs4_session.specs.declared.client.TheConstants.{MAX_SESSIONS}
 use Rattle.cluster_model.specs.declared.ids.NodeId.{NodeId}
 use Rattle.nfs4_types.specs.declared.ids.SessionId.{SessionId}
 use Rattle.nfs4_types.specs.declared.sequence.Sequence.{Sequence}
@@ -116,10 +119,10 @@ pub record IsTable (s : SessionsState) : Type 0 where
   pub ids : AllPairs (λ a b. ¬ (a.id ≡ b.id)) s.clients
   -- an owner has at most one record of each kind
   pub owners : AllPairs (λ a b. ¬ ((a.owner ≡ b.owner) × (a.confirmed ≡ b.confirmed))) s.clients
-  pub known : known_owners s.clients ≤ 256
-  pub sessions : All (λ c. length c.sessions ≤ 4) s.clients
+  pub known : known_owners s.clients ≤ MAX_OWNERS
+  pub sessions : All (λ c. length c.sessions ≤ MAX_SESSIONS) s.clients
   pub numbers : All (λ c. AllPairs (λ a b. ¬ (a.number ≡ b.number)) c.sessions) s.clients
-  pub slots : All (λ c. All (λ session. length session.slots ≡ 8) c.sessions) s.clients
+  pub slots : All (λ c. All (λ session. length session.slots ≡ SLOTS) c.sessions) s.clients
 
 -- they are given in order, each once
 pub record GivesOnce (boot : ℕ) (run : TableRun) : Type 0 where

@@ -24,7 +24,7 @@ use std::alloc::Global;
 use std::marker::Model;
 
 /// The most sessions that a client has.
-const MAX_SESSIONS: usize = 4;
+pub const MAX_SESSIONS: usize = 4;
 
 /// The session that a client's last CREATE_SESSION made, and the number of that call.
 #[derive(Clone, Copy, Debug, PartialEq, Eq)]

@@ -12,7 +12,7 @@ use crate::{Exchanged, IdFault};
 use ff_xdr::NoMemory;
 
 /// The most owners that are known.
-const MAX_OWNERS: usize = 256;
+pub const MAX_OWNERS: usize = 256;
 
 impl Sessions {
     /// Gives a client its record (RFC 8881, section 18.35): the one that it has, or a new one. `now` is the

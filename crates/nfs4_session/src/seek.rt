@@ -26,7 +26,7 @@ pub enum Seek<'s> {
 }
 
 /// How long a lease lasts, in seconds.
-const LEASE: u64 = 90;
+pub const LEASE: u64 = 90;
 
 impl ClientRecord {
     /// It is one of those that are looked for.

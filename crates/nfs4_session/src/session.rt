@@ -16,7 +16,7 @@ use std::alloc::Global;
 use std::marker::Model;
 
 /// How many slots a session has.
-const SLOTS: usize = 8;
+pub const SLOTS: usize = 8;
 
 /// A session: its slots, and where its callbacks go (RFC 8881, section 2.10).
 #[derive(Drop)]
@@ -38,7 +38,7 @@ impl Model for Session {
 
 /// The slots of a new session.
 fn new_slots(alloc: Global) -> Result<Vec<Slot>, NoMemory>
-    ensures { IfOk result (λ slots. slots.items ≡ replicate 8 new_slot) }
+    ensures { IfOk result (λ slots. slots.items ≡ replicate SLOTS new_slot) }
 {
     let mut slots = Vec::with_capacity(alloc, SLOTS)?;
     for _ in 0..SLOTS {

@@ -44,6 +44,7 @@ pub struct Slot {
 impl Model for Slot {
     ghost use Rattle.std.specs.Prelude.{◌≤◌, vec_capacity};
     ghost use Rattle.nfs4_session.specs.Slots.{SlotState};
+    ghost use Rattle.nfs4_session.specs.declared.slot.TheConstants.{MAX_KEPT};
 
     ghost Value = { SlotState };
 
@@ -51,7 +52,7 @@ impl Model for Slot {
 
     ghost view = { λ s. record { last = s.last; reply = reply_in s.stage s.room.items } };
 
-    ghost invariant = { λ s. 32768 ≤ vec_capacity s.room };
+    ghost invariant = { λ s. MAX_KEPT ≤ vec_capacity s.room };
 }
 
 impl Slot {

@@ -2,11 +2,12 @@
 -- constant is refused.
 use Rattle.std.specs.Prelude.{ℕ, List, length, Option, Some, None, ◌==◌, if◌then◌else◌}
 use Rattle.std.specs.Int.{w64, from_be_bytes}
+use Rattle.nfs4_types.specs.declared.handle.TheConstants.{MAX_HANDLE4}
 use Rattle.ff_xdr.specs.Form.{Form, Opaque, long}
 
 -- nfs_fh4: at most 128 bytes
 abbrev pub nfs_fh4 : Form
-nfs_fh4 = Opaque 128
+nfs_fh4 = Opaque MAX_HANDLE4
 
 -- The handle of a file of the metadata server is its number as eight bytes, the highest first. The layout is the project's own.
 abbrev pub file_handle_of : ℕ → List ℕ

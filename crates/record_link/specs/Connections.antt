@@ -1,5 +1,7 @@
 -- Connections under numbers: which is read, handed out, answered and closed.
 use Rattle.std.specs.Prelude.{◌≡◌, ◌⊎◌, ◌≢◌, ℕ, ◌+◌, ◌-◌, ◌^◌, ◌<◌, ◌≤◌, ◌==◌, nat_lt, nat_le, max, Bool, true, false, ◌&&◌, ◌||◌, not, if◌then◌else◌, List, [], ◌∷◌, ◌++◌, length, take, drop, slice_get, slice_set, Option, None, Some, Result, Ok, Err}
+use Rattle.record_link.specs.declared.peer.TheConstants.{ANSWER_LIMIT, HIGH_WATER, IDLE_LIMIT, MOST_WAITING, STUCK_LIMIT}
+use Rattle.record_link.specs.declared.connections.TheConstants.{MAX_CONNECTIONS}
 use Rattle.ff_xdr.specs.declared.error.NoMemory.{NoMemory}
 use Rattle.rpc_record.specs.declared.frames.RecordFault.{RecordFault}
 use Rattle.rpc_record.specs.declared.frames.RecordFault.TheVariants as fault
@@ -12,24 +14,24 @@ use Rattle.record_link.specs.Connection.{ConnectionState, new_connection, is_spe
 
 -- the most connections
 abbrev pub max_connections : ℕ
-max_connections = 64
+max_connections = MAX_CONNECTIONS
 
 -- the times, in milliseconds
 abbrev pub idle_limit : ℕ
-idle_limit = 60000
+idle_limit = IDLE_LIMIT
 
 abbrev pub stuck_limit : ℕ
-stuck_limit = 2000
+stuck_limit = STUCK_LIMIT
 
 abbrev pub answer_limit : ℕ
-answer_limit = 10000
+answer_limit = ANSWER_LIMIT
 
 -- the most bytes that may wait for a peer to read them, and the most with which another record of its is handed out
 abbrev pub most_waiting : ℕ
-most_waiting = 4194304
+most_waiting = MOST_WAITING
 
 abbrev pub high_water : ℕ
-high_water = 1048576
+high_water = HIGH_WATER
 
 -- A connection under its number, given once: what came and what goes; when it was opened or the last bytes came, and when bytes
 -- began to wait for it or the last of them went, in milliseconds; its place in the order in which records became whole; and

@@ -1,6 +1,8 @@
 -- What the command `show` says of records.
 use Rattle.std.specs.Prelude.{ℕ, ◌+◌, ◌-◌, ◌==◌, ◌≡◌, ◌&&◌, Bool, true, false, List, [], ◌∷◌, ◌++◌, length, codes, decimal, Option, Some, None, Result, Ok, Err, if◌then◌else◌}
 use Rattle.std.specs.Option.{option_map}
+use Rattle.rpc_record.specs.declared.call.TheConstants.{NFS_PROGRAM}
+use Rattle.record_show.specs.declared.shower.TheConstants.{CALLBACK_PROGRAM, COMPOUND, NULL}
 use Rattle.ff_xdr.specs.declared.error.XdrError.{XdrError}
 use Rattle.ff_xdr.specs.declared.error.XdrWhy.{XdrWhy}
 use Rattle.ff_xdr.specs.declared.error.XdrWhy.TheVariants as why
@@ -47,21 +49,21 @@ args_of c = whole c.args (arm_reading calls c.procedure c.args 0)
 -- and 20.1). An operation that is not built counts as good and ends the check.
 unfoldable pub compound_text : ℕ → RpcCall → List ℕ
 compound_text header c =
-    if c.procedure == 0 then args_text header (rest_of c.args 0)
-    else (if c.procedure == 1 then args_text header (compound_verdict c.args) else codes "unbuilt")
+    if c.procedure == NULL then args_text header (rest_of c.args 0)
+    else (if c.procedure == COMPOUND then args_text header (compound_verdict c.args) else codes "unbuilt")
 
 unfoldable pub cb_compound_text : ℕ → RpcCall → List ℕ
 cb_compound_text header c =
-    if c.procedure == 0 then args_text header (rest_of c.args 0)
-    else (if c.procedure == 1 then args_text header (cb_compound_verdict c.args) else codes "unbuilt")
+    if c.procedure == NULL then args_text header (rest_of c.args 0)
+    else (if c.procedure == COMPOUND then args_text header (cb_compound_verdict c.args) else codes "unbuilt")
 
 -- The procedures of NFS (RFC 1813; RFC 8881): program 100003, versions 3 and 4; and the callbacks of the cluster's clients, program
 -- 1073741824, version 1. All others are not built.
 unfoldable pub verdict_text : ℕ → RpcCall → List ℕ
 verdict_text header c =
-    if c.program == 100003 && (c.version == 3 && has_arm c.procedure calls) then args_text header (args_of c)
-    else (if c.program == 100003 && c.version == 4 then compound_text header c
-    else (if c.program == 1073741824 && c.version == 1 then cb_compound_text header c
+    if c.program == NFS_PROGRAM && (c.version == 3 && has_arm c.procedure calls) then args_text header (args_of c)
+    else (if c.program == NFS_PROGRAM && c.version == 4 then compound_text header c
+    else (if c.program == CALLBACK_PROGRAM && c.version == 1 then cb_compound_text header c
     else codes "unbuilt"))
 
 -- `call XID PROGRAM VERSION PROCEDURE LENGTH` and what the arguments are, of which there are LENGTH bytes

@@ -18,20 +18,17 @@ use journal_print::put_numbered;
 use line_runs::{LineStep, LineTask, RunEnd, run_lines};
 use nfs3_wire::{is_built, read_call};
 use nfs4_compound::{judge_cb_compound, judge_compound};
-use rpc_record::{Call, CallFault, Reply, ReplyBody, Sink, Source};
+use rpc_record::{Call, CallFault, NFS_PROGRAM, Reply, ReplyBody, Sink, Source};
 use std::alloc::Global;
 
-/// The program number of NFS (RFC 1813, section 2.1).
-const NFS_PROGRAM: u32 = 100_003;
-
 /// The program number of the callbacks of the cluster's clients, in the transient range (RFC 5531, section 8.3).
-const CALLBACK_PROGRAM: u32 = 1_073_741_824;
+pub const CALLBACK_PROGRAM: u32 = 1_073_741_824;
 
 /// Do nothing (RFC 8881, section 16.1).
-const NULL: u32 = 0;
+pub const NULL: u32 = 0;
 
 /// A compound (RFC 8881, sections 16.2 and 20.2).
-const COMPOUND: u32 = 1;
+pub const COMPOUND: u32 = 1;
 
 /// The name of a refusal.
 fn why_text(why: XdrWhy) -> &'static [u8]

@@ -1,6 +1,7 @@
 -- RPC calls (RFC 5531, section 9).
 use Rattle.std.specs.Prelude.{◌≡◌, ℕ, List, ◌++◌, length, take, drop, Result, Ok, Err, nat_lt, ◌==◌, if◌then◌else◌}
 use Rattle.std.specs.Int.{w32, from_be_bytes}
+use Rattle.rpc_record.specs.declared.call.TheConstants.{RPC_VERSION}
 use Rattle.ff_xdr.specs.declared.error.XdrError.{XdrError}
 use Rattle.ff_xdr.specs.Form.{Form, Number32, Pair, Value, spelling, word}
 use Rattle.ff_xdr.specs.Reading.{Read, number_at, reading}
@@ -31,7 +32,7 @@ body_value c = (c.program, (c.version, (c.procedure, (opaque_auth_value c.cred, 
 
 -- the bytes of a call: the transaction's number, 0 for a call, 2 for the RPC version, the rest, the arguments
 abbrev pub call_bytes : RpcCall → List ℕ
-call_bytes c = (word c.xid ++ (word 0 ++ word 2)) ++ (spelling call_body (body_value c) ++ c.args)
+call_bytes c = (word c.xid ++ (word 0 ++ word RPC_VERSION)) ++ (spelling call_body (body_value c) ++ c.args)
 
 -- the number that four bytes spell
 unfoldable pub word_of : List ℕ → ℕ → ℕ
@@ -46,7 +47,7 @@ unfoldable pub body_at : ℕ → List ℕ → ℕ → Result RpcCall CallFault
 body_at xid bytes at = with_body xid bytes (reading call_body bytes at)
 
 abbrev pub with_version : ℕ → List ℕ → Read ℕ → Result RpcCall CallFault
-with_version xid bytes (Ok version) = if version.0 == 2 then body_at xid bytes version.1 else Err (RpcVersion xid)
+with_version xid bytes (Ok version) = if version.0 == RPC_VERSION then body_at xid bytes version.1 else Err (RpcVersion xid)
 with_version xid bytes (Err e) = Err (Bad xid e)
 
 -- What a record is as a call: none where fewer than eight bytes stand or the second word is not 0;

@@ -1,5 +1,6 @@
 -- Record marking: a stream of bytes as records (RFC 5531, section 11).
 use Rattle.std.specs.Prelude.{◌≡◌, ℕ, zero, suc, ◌+◌, ◌-◌, ◌^◌, ◌≤◌, nat_lt, nat_le, Bool, true, false, if◌then◌else◌, List, [], ◌∷◌, ◌++◌, length, take, drop, Option, Some, None, Result, Ok, Err}
+use Rattle.rpc_record.specs.declared.frames.TheConstants.{MAX_FRAGMENTS, MAX_RECORD}
 use Rattle.ff_xdr.specs.Form.{word}
 use Rattle.rpc_record.specs.declared.frames.RecordFault.{RecordFault}
 use Rattle.rpc_record.specs.declared.frames.RecordFault.TheVariants as fault
@@ -7,10 +8,10 @@ use Rattle.rpc_record.specs.Calls.{word_of}
 
 -- the most bytes of a record, and the most fragments
 abbrev pub max_record : ℕ
-max_record = 1179648
+max_record = MAX_RECORD
 
 abbrev pub max_fragments : ℕ
-max_fragments = 1024
+max_fragments = MAX_FRAGMENTS
 
 -- the word of a fragment's header: its length, and the highest bit at the last fragment of a record
 abbrev pub header_word : ℕ → Bool → ℕ

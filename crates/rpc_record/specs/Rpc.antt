@@ -1,13 +1,15 @@
 -- RPC messages (RFC 5531, sections 8 and 9).
 use Rattle.std.specs.Prelude.{ℕ, List}
+use Rattle.rpc_record.specs.declared.auth_wire.TheConstants.{MAX_GIDS, MAX_MACHINE}
+use Rattle.rpc_record.specs.declared.auth.TheConstants.{MAX_BODY}
 use Rattle.ff_xdr.specs.Form.{Form, Number32, Opaque, Array, Pair, Value}
 use Rattle.ff_xdr.specs.Items.{contents}
 use Rattle.rpc_record.specs.declared.auth.Auth.{Auth}
 use Rattle.rpc_record.specs.declared.auth.AuthSys.{AuthSys}
 
--- opaque_auth: a flavor and a body of at most 400 bytes (section 8.2)
+-- opaque_auth: a flavor and a body (section 8.2)
 abbrev pub opaque_auth : Form
-opaque_auth = Pair Number32 (Opaque 400)
+opaque_auth = Pair Number32 (Opaque MAX_BODY)
 
 -- an opaque_auth, without where its bytes lie
 pub record OpaqueAuth : Type 0 where
@@ -25,7 +27,7 @@ opaque_auth_of (flavor, body) = record { flavor = flavor; body = body }
 
 -- authsys_parms: stamp, machine name, uid, gid, gids (appendix A)
 abbrev pub authsys_parms : Form
-authsys_parms = Pair Number32 (Pair (Opaque 255) (Pair Number32 (Pair Number32 (Array 16 Number32))))
+authsys_parms = Pair Number32 (Pair (Opaque MAX_MACHINE) (Pair Number32 (Pair Number32 (Array MAX_GIDS Number32))))
 
 -- who calls
 pub record Credential : Type 0 where

@@ -7,10 +7,10 @@ use crate::auth::{Auth, AuthSys, MAX_BODY};
 use ff_xdr::{Array, Cursor, Message, NoMemory, Opaque, Out, Wire, XdrError};
 
 /// The most bytes in a machine's name.
-const MAX_MACHINE: u32 = 255;
+pub const MAX_MACHINE: u32 = 255;
 
 /// The most further groups.
-const MAX_GIDS: u32 = 16;
+pub const MAX_GIDS: u32 = 16;
 
 /// The body of an `opaque_auth` (RFC 5531, section 8.2).
 type Body<'a> = Opaque<'a, MAX_BODY>;

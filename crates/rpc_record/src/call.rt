@@ -4,6 +4,12 @@ use crate::auth::Auth;
 use ff_xdr::XdrError;
 use thiserror::Error;
 
+/// The version of RPC (RFC 5531, section 9).
+pub const RPC_VERSION: u32 = 2;
+
+/// The program's number of NFS, of all its versions (RFC 1813, section 2.1; RFC 8881, section 1.3).
+pub const NFS_PROGRAM: u32 = 100_003;
+
 /// A call, `call_body` behind the transaction's number.
 #[derive(Clone, Copy, Debug)]
 pub struct Call<'a> {

@@ -1,13 +1,14 @@
 //! Reading and writing of calls.
 
 ghost use Rattle.std.specs.Prelude.{◌≡◌, ◌+◌, ◌≤◌, ◌++◌, length, drop};
+ghost use Rattle.rpc_record.specs.declared.call.TheConstants.{RPC_VERSION};
 ghost use Rattle.ff_xdr.specs.Form.{Fits, spelling, word};
 ghost use Rattle.ff_xdr.specs.Calls.{Grows, Puts, Finds};
 ghost use Rattle.ff_xdr.specs.Reading.{reading};
 ghost use Rattle.rpc_record.specs.Calls.{rpc_call, call_body, body_value, call_bytes, call_at, body_at, word_of, HasBody};
 
 use crate::auth::Auth;
-use crate::call::{Call, CallFault};
+use crate::call::{Call, CallFault, RPC_VERSION};
 use ff_xdr::{Cursor, NoMemory, Out, Wire, XdrError};
 
 /// The word at a place.
@@ -61,11 +62,11 @@ fn read_body<'a>(xid: u32, cursor: &mut Cursor<'a>) -> Result<Call<'a>, CallFaul
 
 impl<'a> Call<'a> {
     fn put_header(&self, out: &mut Out) -> Result<(), NoMemory>
-        ensures { Grows out.old result out.new (word self.now.xid ++ (word 0 ++ word 2)) }
+        ensures { Grows out.old result out.new (word self.now.xid ++ (word 0 ++ word RPC_VERSION)) }
     {
         out.number32(self.xid)?;
         out.number32(0)?;
-        out.number32(2)?;
+        out.number32(RPC_VERSION)?;
         Ok(())
     }
 
@@ -105,7 +106,7 @@ impl<'a> Call<'a> {
         let mut cursor = Cursor::at(message, 8);
         match cursor.number32() {
             Err(error) => Err(CallFault::Bad { xid, error }),
-            Ok(2) => read_body(xid, &mut cursor),
+            Ok(RPC_VERSION) => read_body(xid, &mut cursor),
             Ok(_) => Err(CallFault::RpcVersion { xid }),
         }
     }

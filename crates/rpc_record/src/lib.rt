@@ -17,7 +17,7 @@ mod stream;
 mod sure;
 
 pub use auth::{AUTH_NONE, AUTH_SYS, Auth, AuthSys, MAX_BODY};
-pub use call::{Call, CallFault};
+pub use call::{Call, CallFault, NFS_PROGRAM, RPC_VERSION};
 pub use frame_law::every_stream;
 pub use frames::{Frames, MAX_FRAGMENTS, MAX_RECORD, RecordFault, put_record};
 pub use laws::every_message;

@@ -1,6 +1,6 @@
 use Rattle.std.proofs.Common.{◌≡◌, ℕ, ◌++◌, ◌∷◌, [], List, ap, sym, ◌∙◌, arith}
 use Rattle.std.proofs.lemmas.Grind.{common_steps}
-use Rattle.data_file.specs.declared.file.TheConstants.{MAX_FILE}
+use Rattle.cluster_model.specs.declared.limits.TheConstants.{MAX_FILE}
 use Rattle.cluster_model.specs.Content.{Content}
 use Rattle.data_file.specs.Undo.{write_of}
 use Rattle.data_file.proofs.Undoing.{last_undoable, last_unrolled, one_write, undone_within}

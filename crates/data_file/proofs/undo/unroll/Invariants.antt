@@ -1,5 +1,5 @@
 use Rattle.std.proofs.Common.{◌≡◌, ◌≤◌, ◌++◌, length, reverse}
-use Rattle.data_file.specs.declared.file.TheConstants.{MAX_FILE}
+use Rattle.cluster_model.specs.declared.limits.TheConstants.{MAX_FILE}
 use Rattle.data_file.specs.Undo.{unrolled, AreUndoable}
 use Rattle.data_file.proofs.undo.unroll.Given as goal
 
