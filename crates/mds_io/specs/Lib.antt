@@ -1,0 +1,5 @@
+pub mod Reads
+pub mod Calls
+pub mod ReadLaws
+pub mod OwnWrites
+pub mod OwnWriteLaws

@@ -1,0 +1,3 @@
+pub mod Recalls
+pub mod Calls
+pub mod RecallLaws

@@ -1,0 +1,7 @@
+//! Recalls of layouts: which are under way, what goes to which client next, and what its answers come to (RFC 8881,
+//! sections 12.5.5 and 20.3).
+#![tactic(auto)]
+
+mod recall;
+
+pub use recall::{AskFault, Outcome, RECALL_TIME, Recall, RecallCall, RecallStage};
