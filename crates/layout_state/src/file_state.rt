@@ -4,7 +4,7 @@ ghost use Rattle.std.specs.Prelude.{◌≡◌, ◌≤◌, length, not, true, fal
 ghost use Rattle.cluster_model.specs.declared.phase.EndCause.TheVariants as cause_of;
 ghost use Rattle.cluster_model.specs.declared.phase.Phase.TheVariants as name;
 ghost use Rattle.cluster_model.specs.Nodes.{is_mds};
-ghost use Rattle.cluster_model.specs.Phases.{begun, free_with, with_live, seen_at, phase_of, holder_of, unreported, end_cause, left_with, after_return, after_revocation, is_last_live, is_source, after_loss, after_fence, is_clean};
+ghost use Rattle.cluster_model.specs.Phases.{begun, free_with, with_live, seen_at, phase_of, holder_of, unreported, end_cause, left_with, after_return, after_revocation, is_last_live, after_loss, after_fence, is_clean};
 ghost use Rattle.layout_state.specs.Grants.{Grants, Recalls, holder_to_recall};
 ghost use Rattle.layout_state.specs.Returns.{Returns, may_lose};
 
@@ -18,7 +18,7 @@ use std::marker::Model;
 /// One file at the metadata server. Each call is a row of the table of phases; no call takes memory.
 #[derive(Clone, Copy, Debug, PartialEq, Eq)]
 pub struct FileState {
-    state: LayoutState,
+    pub(crate) state: LayoutState,
 }
 
 impl Model for FileState {
@@ -228,7 +228,7 @@ impl FileState {
         if self.state.live.len() < 2 {
             return false;
         }
-        let source = is_source(id, &self.state.live);
+        let source = self.state.live.is_first(id);
         if let LayoutPhase::Copying { copies, .. } = self.state.phase
             && source
         {
@@ -274,15 +274,5 @@ impl FileState {
             end: FenceEnd::Clean,
         };
         cause
-    }
-}
-
-/// The mirror is the first one, from which the others are copied.
-fn is_source(id: MirrorId, live: &Mirrors) -> bool
-    ensures { result ≡ is_source id live.now }
-{
-    match live.get(0) {
-        Some(first) => first.id == id,
-        None => false,
     }
 }

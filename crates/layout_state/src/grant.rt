@@ -36,3 +36,17 @@ pub enum ReturnFault {
     #[error("another node holds the file, or under another user, which is now {}", .current.0)]
     Other { current: Cred },
 }
+
+/// Why no mirrors are added. Nothing has changed then.
+#[derive(Clone, Copy, Debug, PartialEq, Eq, Error)]
+pub enum AddMirrorFault {
+    /// The file is in this phase, and not free.
+    #[error("the file is {0:?}, and not free")]
+    Later(Phase),
+    /// As many mirrors are live as are wanted.
+    #[error("as many mirrors are live as are wanted")]
+    Whole,
+    /// Too few users are left for a copy.
+    #[error("too few users are left for a copy")]
+    Spent,
+}
