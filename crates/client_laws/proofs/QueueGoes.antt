@@ -20,7 +20,7 @@ use Rattle.client_state.specs.declared.layout.Layout.{Layout}
 use Rattle.client_state.specs.declared.tie.Tie.{Tie}
 use Rattle.client_state.specs.declared.tie.Tie.TheVariants.{NoClient, HasClient, HasSession}
 use Rattle.client_state.specs.ClientStates.{ClientValue, is_layout_return}
-use Rattle.client_state.specs.ClientQueue.{HeadStep, IsDone, IsKept, Asks, answers_user, refuses_request, answers_committed, with_layout, with_writer, ends_layout, ending, is_writing, unknown_servers, is_past, taken_write, write_under, write_to, write_by, behind_return, is_all_told, layout_committing, on_open_file, opens_by, head_step, QueueRun, keeps_head, awake, after_head, with_rest, run_requests, run_queue}
+use Rattle.client_state.specs.ClientQueue.{HeadStep, IsDone, IsWaiting, Asks, answers_user, refuses_request, answers_committed, with_layout, with_writer, ends_layout, ending, is_writing, unknown_servers, is_past, taken_write, write_under, write_to, write_by, behind_return, is_all_told, layout_committing, on_open_file, opens_by, head_step, QueueRun, keeps_head, awake, after_head, with_rest, run_requests, run_queue}
 use Rattle.client_calls.specs.ClientCalls.{calls_all, ends_event}
 use Rattle.client_laws.specs.ClientHistory.{HistoryItem, Enters, entered, HasItem}
 use Rattle.client_laws.specs.ClientRunLaws.{is_reported}
@@ -58,7 +58,7 @@ ending_client past c l at s =
 
 abbrev pub HeadGoes : List HistoryItem → Option Layout → HeadStep → Type 0
 HeadGoes past layout (IsDone r) = RunGoes past r
-HeadGoes past layout (IsKept c) = Stands past c
+HeadGoes past layout (IsWaiting c) = Stands past c
 HeadGoes past layout (Asks kind) = (is_layout_return kind ≡ false) × (kind ≡ ask.LayoutGet → layout ≡ None)
 
 by_if_of : (past : List HistoryItem) (layout : Option Layout) (b : Bool) (x y : HeadStep) → (b ≡ true → HeadGoes past layout x) → (b ≡ false → HeadGoes past layout y) → HeadGoes past layout (if b then x else y)
@@ -117,9 +117,9 @@ module _ (past : List HistoryItem) (c : ClientValue) (s : Stands past c) where
   write_goes : (file : OpenFile) (layout : Option Layout) (at : ℕ) (bytes : List ℕ) → c.layout ≡ layout → HeadGoes past c.layout (write_by c file layout at bytes)
   write_goes file None at bytes there = (refl, λ is. there)
   write_goes file (Some l) at bytes there =
-      by_if_of past c.layout (is_writing l.stage) (write_to c file l at bytes (length (unknown_servers c l))) (IsKept c)
+      by_if_of past c.layout (is_writing l.stage) (write_to c file l at bytes (length (unknown_servers c l))) (IsWaiting c)
       (λ writing. by_if_of past c.layout (length (unknown_servers c l) == 0) (write_under c file l at bytes) (Asks (ask.DeviceInfo (length (unknown_servers c l))))
-      (λ known. by_if_of past c.layout (overlaps_taken l.writer at (length bytes)) (IsKept (with_layout c (ending l))) (IsDone (taken_write c file l at bytes)) (λ over. ending_client past c l there s) (λ free. taken_goes file l at bytes there (is_stage l.stage writing) free))
+      (λ known. by_if_of past c.layout (overlaps_taken l.writer at (length bytes)) (IsWaiting (with_layout c (ending l))) (IsDone (taken_write c file l at bytes)) (λ over. ending_client past c l there s) (λ free. taken_goes file l at bytes there (is_stage l.stage writing) free))
       (λ unknown. (refl, λ is. absurd (cc (is)))))
       (λ returning. s)
     where
@@ -144,7 +144,7 @@ module _ (past : List HistoryItem) (c : ClientValue) (s : Stands past c) where
   file_goes file (Open name) = answer_goes past _ c s tt
   file_goes file (Write at bytes) = by_if_of past c.layout (is_past at bytes) (IsDone (refuses_request 27 c)) (write_by c file c.layout at bytes) (λ over. answer_goes past _ c s tt) (λ within. write_goes file c.layout at bytes refl)
   file_goes file (Through at bytes) = by_if_of past c.layout (is_past at bytes) (IsDone (refuses_request 27 c)) (behind_return (Asks ask.Write) c c.layout) (λ over. answer_goes past _ c s tt) (λ within. return_goes c.layout (Asks ask.Write) refl (refl, λ is. absurd (cc (is))))
-  file_goes file Commit = by_if_of past c.layout (is_all_told c.layout) (IsDone (answers_committed c)) (IsKept (layout_committing c c.layout)) (λ told. answer_goes past _ (record c { told = 0 }) s tt) (λ untold. committing_goes c.layout refl)
+  file_goes file Commit = by_if_of past c.layout (is_all_told c.layout) (IsDone (answers_committed c)) (IsWaiting (layout_committing c c.layout)) (λ told. answer_goes past _ (record c { told = 0 }) s tt) (λ untold. committing_goes c.layout refl)
   file_goes file (Read at count) = (refl, λ is. absurd (cc (is)))
   file_goes file Return = return_goes c.layout (IsDone (answers_user answer.Returned c)) refl (answer_goes past answer.Returned c s tt)
 
@@ -180,7 +180,7 @@ head_then past request c (IsDone r) next s goes further =
       run = run_follows past (awake r) (λ d. (next d).run) (record { entries = goes.entries; stands = goes.stands }) rest.run;
       wants = rest.wants;
     }
-head_then past request c (IsKept d) next s goes further = record { run = run_unmoved past (keeps_head request d) goes; wants = tt }
+head_then past request c (IsWaiting d) next s goes further = record { run = run_unmoved past (keeps_head request d) goes; wants = tt }
 head_then past request c (Asks kind) next s goes further = record { run = run_unmoved past (keeps_head request c) s; wants = goes }
 
 requests_go : (requests : List UserRequest) (past : List HistoryItem) (c : ClientValue) → Stands past c → QueueGoes past (run_requests requests c)

@@ -18,7 +18,7 @@ use Rattle.client_state.specs.declared.layout.Layout.{Layout}
 use Rattle.client_state.specs.declared.asked.Asked.{Asked}
 use Rattle.client_state.specs.ClientStates.{ClientValue}
 use Rattle.client_state.specs.ClientSends.{CallsMds, RepliesToMds}
-use Rattle.client_state.specs.ClientQueue.{HeadStep, IsDone, IsKept, Asks, answers_user, refuses_request, answers_committed, is_writing, unknown_servers, is_past, write_to, write_by, behind_return, is_all_told, layout_committing, on_open_file, head_step, QueueRun, after_head, awake, with_rest, run_requests, run_queue}
+use Rattle.client_state.specs.ClientQueue.{HeadStep, IsDone, IsWaiting, Asks, answers_user, refuses_request, answers_committed, is_writing, unknown_servers, is_past, write_to, write_by, behind_return, is_all_told, layout_committing, on_open_file, head_step, QueueRun, after_head, awake, with_rest, run_requests, run_queue}
 use Rattle.client_callbacks.specs.Callbacks.{CbReply, callback_of}
 use Rattle.client_laws.specs.ClientHistory.{ClientInput, Recorded, HistoryItem, Hears, Enters, Sends, entered, HasItem}
 use Rattle.client_laws.specs.ClientRunLaws.{is_reported}
@@ -34,7 +34,7 @@ use Rattle.client_laws.proofs.Stands.{Stands, LayoutStands, AskFits, AskOut, IfT
 
 abbrev Holds : HeadStep → Type 0
 Holds (IsDone r) = IsEnding r.client.layout
-Holds (IsKept c) = IsEnding c.layout
+Holds (IsWaiting c) = IsEnding c.layout
 Holds (Asks kind) = Unit {0}
 
 by_if : (b : Bool) (x y : HeadStep) → (b ≡ true → Holds x) → (b ≡ false → Holds y) → Holds (if b then x else y)
@@ -50,7 +50,7 @@ is_its c l at e = subst (λ (k : Layout). is_writing k.stage ≡ false) (same_So
 write_holds : (c : ClientValue) (file : OpenFile) (layout : Option Layout) (at : ℕ) (bytes : List ℕ) → c.layout ≡ layout → IsEnding c.layout → Holds (write_by c file layout at bytes)
 write_holds c file None at bytes there e = tt
 write_holds c file (Some l) at bytes there e =
-    by_if (is_writing l.stage) (write_to c file l at bytes (length (unknown_servers c l))) (IsKept c) (λ writing. absurd (not_both (sym writing ∙ is_its c l there e))) (λ ended. e)
+    by_if (is_writing l.stage) (write_to c file l at bytes (length (unknown_servers c l))) (IsWaiting c) (λ writing. absurd (not_both (sym writing ∙ is_its c l there e))) (λ ended. e)
 
 return_holds : (c : ClientValue) (layout : Option Layout) (step : HeadStep) → Holds step → Holds (behind_return step c layout)
 return_holds c None step holds = holds
@@ -64,7 +64,7 @@ file_holds : (c : ClientValue) (file : OpenFile) (request : UserRequest) → IsE
 file_holds c file (Open name) e = e
 file_holds c file (Write at bytes) e = by_if (is_past at bytes) (IsDone (refuses_request 27 c)) (write_by c file c.layout at bytes) (λ over. e) (λ within. write_holds c file c.layout at bytes refl e)
 file_holds c file (Through at bytes) e = by_if (is_past at bytes) (IsDone (refuses_request 27 c)) (behind_return (Asks ask.Write) c c.layout) (λ over. e) (λ within. return_holds c c.layout (Asks ask.Write) tt)
-file_holds c file Commit e = by_if (is_all_told c.layout) (IsDone (answers_committed c)) (IsKept (layout_committing c c.layout)) (λ told. e) (λ untold. commits_hold c c.layout refl e)
+file_holds c file Commit e = by_if (is_all_told c.layout) (IsDone (answers_committed c)) (IsWaiting (layout_committing c c.layout)) (λ told. e) (λ untold. commits_hold c c.layout refl e)
 file_holds c file (Read at count) e = tt
 file_holds c file Return e = return_holds c c.layout (IsDone (answers_user answer.Returned c)) e
 
@@ -80,7 +80,7 @@ head_holds c (Some file) request e = file_holds c file request e
 after_holds : (request : UserRequest) (c : ClientValue) (step : HeadStep) (next : ClientValue → QueueRun) → IsEnding c.layout → Holds step → ((d : ClientValue) → IsEnding d.layout → IsEnding (next d).run.client.layout)
     → IsEnding (after_head request c step next).run.client.layout
 after_holds request c (IsDone r) next e holds further = further (awake r).client holds
-after_holds request c (IsKept d) next e holds further = holds
+after_holds request c (IsWaiting d) next e holds further = holds
 after_holds request c (Asks kind) next e holds further = e
 
 requests_hold : (requests : List UserRequest) (c : ClientValue) → IsEnding c.layout → IsEnding (run_requests requests c).run.client.layout

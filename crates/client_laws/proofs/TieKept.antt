@@ -19,7 +19,7 @@ use Rattle.client_state.specs.declared.layout.Layout.{Layout}
 use Rattle.client_state.specs.declared.tie.Tie.{Tie}
 use Rattle.client_state.specs.ClientStates.{ClientValue, ClientRun, unmoved}
 use Rattle.client_state.specs.ClientSends.{ClientStep, sends_none}
-use Rattle.client_state.specs.ClientQueue.{HeadStep, IsDone, IsKept, Asks, answers_user, refuses_request, answers_committed, with_layout, ending, is_writing, unknown_servers, is_past, taken_write, write_under, write_to, write_by, behind_return, is_all_told, layout_committing, on_open_file, head_step, QueueRun, after_head, awake, with_rest, run_requests, run_queue, lost_mirrors}
+use Rattle.client_state.specs.ClientQueue.{HeadStep, IsDone, IsWaiting, Asks, answers_user, refuses_request, answers_committed, with_layout, ending, is_writing, unknown_servers, is_past, taken_write, write_under, write_to, write_by, behind_return, is_all_told, layout_committing, on_open_file, head_step, QueueRun, after_head, awake, with_rest, run_requests, run_queue, lost_mirrors}
 use Rattle.client_calls.specs.ClientCalls.{calls_next, calls_under, calls_mirror, calls_two, calls_mirrors, asks_as, asks, call_by_ask, may_ask, due_ask, calls_mds, calls_all, ends_event}
 use Rattle.client_answers.specs.ClientMirrors.{is_commit, tells_covered, with_failed, mirror_failed, after_step, has_writer, answered_out, ds_answered_by, ds_answered}
 
@@ -27,7 +27,7 @@ use Rattle.client_answers.specs.ClientMirrors.{is_commit, tells_covered, with_fa
 
 abbrev Holds : Tie → HeadStep → Type 0
 Holds tie (IsDone r) = r.client.tie ≡ tie
-Holds tie (IsKept c) = c.tie ≡ tie
+Holds tie (IsWaiting c) = c.tie ≡ tie
 Holds tie (Asks kind) = Unit {0}
 
 by_if : (tie : Tie) (b : Bool) (x y : HeadStep) → Holds tie x → Holds tie y → Holds tie (if b then x else y)
@@ -37,9 +37,9 @@ by_if tie false x y first second = second
 write_holds : (c : ClientValue) (file : OpenFile) (layout : Option Layout) (at : ℕ) (bytes : List ℕ) → Holds c.tie (write_by c file layout at bytes)
 write_holds c file None at bytes = tt
 write_holds c file (Some l) at bytes =
-    by_if c.tie (is_writing l.stage) (write_to c file l at bytes (length (unknown_servers c l))) (IsKept c)
+    by_if c.tie (is_writing l.stage) (write_to c file l at bytes (length (unknown_servers c l))) (IsWaiting c)
     (by_if c.tie (length (unknown_servers c l) == 0) (write_under c file l at bytes) (Asks (ask.DeviceInfo (length (unknown_servers c l))))
-    (by_if c.tie (overlaps_taken l.writer at (length bytes)) (IsKept (with_layout c (ending l))) (IsDone (taken_write c file l at bytes)) refl refl) tt)
+    (by_if c.tie (overlaps_taken l.writer at (length bytes)) (IsWaiting (with_layout c (ending l))) (IsDone (taken_write c file l at bytes)) refl refl) tt)
     refl
 
 return_holds : (c : ClientValue) (layout : Option Layout) (step : HeadStep) → Holds c.tie step → Holds c.tie (behind_return step c layout)
@@ -54,7 +54,7 @@ file_holds : (c : ClientValue) (file : OpenFile) (request : UserRequest) → Hol
 file_holds c file (Open name) = refl
 file_holds c file (Write at bytes) = by_if c.tie (is_past at bytes) (IsDone (refuses_request 27 c)) (write_by c file c.layout at bytes) refl (write_holds c file c.layout at bytes)
 file_holds c file (Through at bytes) = by_if c.tie (is_past at bytes) (IsDone (refuses_request 27 c)) (behind_return (Asks ask.Write) c c.layout) refl (return_holds c c.layout (Asks ask.Write) tt)
-file_holds c file Commit = by_if c.tie (is_all_told c.layout) (IsDone (answers_committed c)) (IsKept (layout_committing c c.layout)) refl (commits_hold c c.layout)
+file_holds c file Commit = by_if c.tie (is_all_told c.layout) (IsDone (answers_committed c)) (IsWaiting (layout_committing c c.layout)) refl (commits_hold c c.layout)
 file_holds c file (Read at count) = tt
 file_holds c file Return = return_holds c c.layout (IsDone (answers_user answer.Returned c)) refl
 
@@ -69,7 +69,7 @@ head_holds c (Some file) request = file_holds c file request
 
 after_holds : (request : UserRequest) (c : ClientValue) (step : HeadStep) (next : ClientValue → QueueRun) → Holds c.tie step → ((d : ClientValue) → (next d).run.client.tie ≡ d.tie) → (after_head request c step next).run.client.tie ≡ c.tie
 after_holds request c (IsDone r) next holds further = further (awake r).client ∙ holds
-after_holds request c (IsKept d) next holds further = holds
+after_holds request c (IsWaiting d) next holds further = holds
 after_holds request c (Asks kind) next holds further = refl
 
 requests_hold : (requests : List UserRequest) (c : ClientValue) → (run_requests requests c).run.client.tie ≡ c.tie

@@ -11,7 +11,7 @@ use Rattle.client_state.specs.declared.request.UserRequest.{UserRequest}
 use Rattle.client_state.specs.declared.request.UserRequest.TheVariants.{Open, Write, Through, Commit, Read, Return}
 use Rattle.client_state.specs.declared.layout.Layout.{Layout}
 use Rattle.client_state.specs.ClientStates.{ClientValue}
-use Rattle.client_state.specs.ClientQueue.{HeadStep, IsDone, IsKept, Asks, unknown_servers, is_writing, answers_user, ends_layout, ending, with_layout, answers_committed, refuses_request, is_past, taken_write, write_under, write_to, write_by, behind_return, is_all_told, layout_committing, on_open_file, head_step}
+use Rattle.client_state.specs.ClientQueue.{HeadStep, IsDone, IsWaiting, Asks, unknown_servers, is_writing, answers_user, ends_layout, ending, with_layout, answers_committed, refuses_request, is_past, taken_write, write_under, write_to, write_by, behind_return, is_all_told, layout_committing, on_open_file, head_step}
 use Rattle.client_state.specs.QueueLaws.{is_under_way, WaitsForCause}
 
 by_if : (b : Bool) (x y : HeadStep) → (b ≡ true → WaitsForCause x) → (b ≡ false → WaitsForCause y) → WaitsForCause (if b then x else y)
@@ -36,9 +36,9 @@ write_waits : (c : ClientValue) (file : OpenFile) (layout : Option Layout) (at :
 write_waits c file None at bytes is = tt
 write_waits c file (Some l) at bytes is =
     let unknown = length (unknown_servers c l) in
-    by_if (is_writing l.stage) (write_to c file l at bytes unknown) (IsKept c)
+    by_if (is_writing l.stage) (write_to c file l at bytes unknown) (IsWaiting c)
     (λ writing. by_if (unknown == 0) (write_under c file l at bytes) (Asks (ask.DeviceInfo unknown))
-    (λ known. by_if (overlaps_taken l.writer at (length bytes)) (IsKept (with_layout c (ending l))) (IsDone (taken_write c file l at bytes)) (λ over. ending_waits l) (λ apart. tt)) (λ some. tt))
+    (λ known. by_if (overlaps_taken l.writer at (length bytes)) (IsWaiting (with_layout c (ending l))) (IsDone (taken_write c file l at bytes)) (λ over. ending_waits l) (λ apart. tt)) (λ some. tt))
     (λ returning. ap is_under_way is ∙ ap (λ w. not w || not (length l.untold == 0)) returning)
 
 return_waits : (c : ClientValue) (layout : Option Layout) (step : HeadStep) → WaitsForCause step → WaitsForCause (behind_return step c layout)
@@ -53,7 +53,7 @@ file_waits : (c : ClientValue) (file : OpenFile) (request : UserRequest) → Wai
 file_waits c file (Open name) = tt
 file_waits c file (Write at bytes) = by_if (is_past at bytes) (IsDone (refuses_request 27 c)) (write_by c file c.layout at bytes) (λ past. tt) (λ within. write_waits c file c.layout at bytes refl)
 file_waits c file (Through at bytes) = by_if (is_past at bytes) (IsDone (refuses_request 27 c)) (behind_return (Asks ask.Write) c c.layout) (λ past. tt) (λ within. return_waits c c.layout (Asks ask.Write) tt)
-file_waits c file Commit = by_if (is_all_told c.layout) (IsDone (answers_committed c)) (IsKept (layout_committing c c.layout)) (λ told. tt) (untold_waits c c.layout)
+file_waits c file Commit = by_if (is_all_told c.layout) (IsDone (answers_committed c)) (IsWaiting (layout_committing c c.layout)) (λ told. tt) (untold_waits c c.layout)
 file_waits c file (Read at count) = tt
 file_waits c file Return = return_waits c c.layout (IsDone (answers_user answer.Returned c)) tt
 

@@ -6,7 +6,7 @@ use Rattle.client_state.specs.declared.request.UserRequest.{UserRequest}
 use Rattle.client_state.specs.declared.head.JudgedHead.{JudgedHead}
 use Rattle.client_state.specs.declared.head.JudgedHead.TheVariants as head
 use Rattle.client_state.specs.ClientStates.{ClientValue, unmoved}
-use Rattle.client_state.specs.ClientQueue.{HeadStep, IsDone, IsKept, Asks, QueueRun, head_step, with_rest, keeps_head, after_head, run_requests, run_queue}
+use Rattle.client_state.specs.ClientQueue.{HeadStep, IsDone, IsWaiting, Asks, QueueRun, head_step, with_rest, keeps_head, after_head, run_requests, run_queue}
 use Rattle.client_state.specs.QueueSteps.{HasRun, HasJudged, HasRunQueue}
 
 -- What is left to do comes to the whole, behind the entries that were made so far.
@@ -59,7 +59,7 @@ module _ (whole : QueueRun) (old mid : Outbox) (c : ClientValue) (request : User
           → HasRunQueue whole old (Some kind) (keeps_head request d) new
       by_step (Asks wanted) is has = stays_so (with_rest c rest) d new (Some kind) (run_is (Asks wanted) is ∙ ap (λ k. record { run = unmoved (keeps_head request (with_rest c rest)); wants = Some k }) (sym (asked_kind kind wanted has.0))) has.1
       by_step (IsDone r) is has = absurd (cc (has.0))
-      by_step (IsKept e) is has = absurd (cc (has.0))
+      by_step (IsWaiting e) is has = absurd (cc (has.0))
 
 -- ---- the same, as the code has it
 

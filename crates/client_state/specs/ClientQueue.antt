@@ -84,7 +84,7 @@ layout_ending c (Some l) = with_layout c (ending l)
 -- It is done; it waits for what is under way, and the client is this; or it waits for what is asked of the metadata server.
 pub data HeadStep : Type 0 where
   IsDone : (r : ClientRun) → HeadStep
-  IsKept : (c : ClientValue) → HeadStep
+  IsWaiting : (c : ClientValue) → HeadStep
   Asks : (kind : MdsAsk) → HeadStep
 
 -- the end of a file, at most (RFC 1813, section 3.3.7, NFS3ERR_FBIG)
@@ -100,7 +100,7 @@ taken_write c file l at bytes = record {
 
 -- where a taken write has one of its places, the layout is given back first
 abbrev pub write_under : ClientValue → OpenFile → Layout → ℕ → List ℕ → HeadStep
-write_under c file l at bytes = if overlaps_taken l.writer at (length bytes) then IsKept (with_layout c (ending l)) else IsDone (taken_write c file l at bytes)
+write_under c file l at bytes = if overlaps_taken l.writer at (length bytes) then IsWaiting (with_layout c (ending l)) else IsDone (taken_write c file l at bytes)
 
 -- the addresses of the devices that are not known are asked for first; so many are not
 abbrev pub write_to : ClientValue → OpenFile → Layout → ℕ → List ℕ → ℕ → HeadStep
@@ -109,12 +109,12 @@ write_to c file l at bytes unknown = if unknown == 0 then write_under c file l a
 -- a write wants a layout; where one is given back it waits for that
 abbrev pub write_by : ClientValue → OpenFile → Option Layout → ℕ → List ℕ → HeadStep
 write_by c file None at bytes = Asks ask.LayoutGet
-write_by c file (Some l) at bytes = if is_writing l.stage then write_to c file l at bytes (length (unknown_servers c l)) else IsKept c
+write_by c file (Some l) at bytes = if is_writing l.stage then write_to c file l at bytes (length (unknown_servers c l)) else IsWaiting c
 
 -- what comes once the layout is given back
 abbrev pub behind_return : HeadStep → ClientValue → Option Layout → HeadStep
 behind_return step c None = step
-behind_return step c (Some l) = IsKept (with_layout c (ending l))
+behind_return step c (Some l) = IsWaiting (with_layout c (ending l))
 
 -- each taken write is told
 abbrev pub is_all_told : Option Layout → Bool
@@ -127,7 +127,7 @@ layout_committing c (Some l) = with_layout c (with_writer l (commit_wanted l.wri
 
 -- a commit is done where each taken write is told
 abbrev pub commit_by : ClientValue → HeadStep
-commit_by c = if is_all_told c.layout then IsDone (answers_committed c) else IsKept (layout_committing c c.layout)
+commit_by c = if is_all_told c.layout then IsDone (answers_committed c) else IsWaiting (layout_committing c c.layout)
 
 -- a request for an open file; what goes to the metadata server waits until the layout is given back
 abbrev pub on_open_file : ClientValue → OpenFile → UserRequest → HeadStep
@@ -167,7 +167,7 @@ awake r = record r { client = record r.client { waits = false } }
 
 abbrev pub after_head : UserRequest → ClientValue → HeadStep → (ClientValue → QueueRun) → QueueRun
 after_head request c (IsDone r) next = record { run = followed_by (awake r) (λ d. (next d).run); wants = (next (awake r).client).wants }
-after_head request c (IsKept d) next = record { run = unmoved (keeps_head request d); wants = None }
+after_head request c (IsWaiting d) next = record { run = unmoved (keeps_head request d); wants = None }
 after_head request c (Asks kind) next = record { run = unmoved (keeps_head request c); wants = Some kind }
 
 abbrev pub with_rest : ClientValue → List UserRequest → ClientValue

@@ -10,7 +10,7 @@ use Rattle.client_state.specs.declared.layout.Layout.{Layout}
 use Rattle.client_state.specs.declared.head.JudgedHead.{JudgedHead}
 use Rattle.client_state.specs.declared.head.JudgedHead.TheVariants as head
 use Rattle.client_state.specs.ClientStates.{ClientValue, ClientRun, unmoved}
-use Rattle.client_state.specs.ClientQueue.{HeadStep, IsDone, IsKept, Asks, write_under, QueueRun}
+use Rattle.client_state.specs.ClientQueue.{HeadStep, IsDone, IsWaiting, Asks, write_under, QueueRun}
 use Rattle.client_state.specs.ClientSends.{ClientStep, spelled_send}
 
 -- it is in the state of a run now, with the run's entries behind those that were there
@@ -28,12 +28,12 @@ pub record HasStepped (s : ClientStep) (old : Outbox) (c : ClientValue) (new : O
 -- what the request at the head came to; the client was this before
 abbrev pub HasJudged : HeadStep → ClientValue → Outbox → JudgedHead → ClientValue → Outbox → Type 0
 HasJudged (IsDone r) was old judged c new = (judged ≡ head.Done) × HasRun r old c new
-HasJudged (IsKept d) was old judged c new = (judged ≡ head.Kept) × HasRun (unmoved d) old c new
+HasJudged (IsWaiting d) was old judged c new = (judged ≡ head.Waits) × HasRun (unmoved d) old c new
 HasJudged (Asks kind) was old judged c new = (judged ≡ head.Asks kind) × HasRun (unmoved was) old c new
 
 -- a write under the layout, if there is one
 abbrev pub writes_under : ClientValue → OpenFile → Option Layout → ℕ → List ℕ → HeadStep
-writes_under c file None at bytes = IsKept c
+writes_under c file None at bytes = IsWaiting c
 writes_under c file (Some l) at bytes = write_under c file l at bytes
 
 -- what the queue came to, and what its head wants

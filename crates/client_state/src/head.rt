@@ -31,7 +31,7 @@ pub enum JudgedHead {
     /// It is done.
     Done,
     /// It waits for what is under way.
-    Kept,
+    Waits,
     /// It waits for what is asked of the metadata server.
     Asks(MdsAsk),
 }
@@ -58,13 +58,13 @@ impl State {
         ensures { IfOk result (λ judged. HasJudged (writes_under self.old file self.old.layout at bytes.now) self.old out.old judged self.new out.new) }
     {
         let Some(layout) = &mut self.layout else {
-            return Ok(JudgedHead::Kept);
+            return Ok(JudgedHead::Waits);
         };
         match layout.take(at, bytes.bytes()) {
             WriteStart::Taken => {}
             WriteStart::Overlap => {
                 layout.end();
-                return Ok(JudgedHead::Kept);
+                return Ok(JudgedHead::Waits);
             }
             WriteStart::NoMemory => return Err(NoMemory),
         }
@@ -94,7 +94,7 @@ impl State {
             return Ok(JudgedHead::Asks(MdsAsk::LayoutGet));
         };
         if !layout.stage.is_writing() {
-            return Ok(JudgedHead::Kept);
+            return Ok(JudgedHead::Waits);
         }
         let count = count_unknown(&self.devices, &layout.mirrors);
         if count != 0 {
@@ -147,7 +147,7 @@ impl State {
             return self.end_commit(out);
         }
         self.commit_layout();
-        Ok(JudgedHead::Kept)
+        Ok(JudgedHead::Waits)
     }
 
     /// A return is done where there is no layout.
@@ -156,7 +156,7 @@ impl State {
     {
         if self.layout.is_some() {
             self.end_layout();
-            return Ok(JudgedHead::Kept);
+            return Ok(JudgedHead::Waits);
         }
         self.answer(UserAnswer::Returned, out)?;
         Ok(JudgedHead::Done)
@@ -193,7 +193,7 @@ impl State {
                 }
                 if self.layout.is_some() {
                     self.end_layout();
-                    return Ok(JudgedHead::Kept);
+                    return Ok(JudgedHead::Waits);
                 }
                 Ok(JudgedHead::Asks(MdsAsk::Write))
             }
@@ -223,7 +223,7 @@ impl State {
     }
 
     /// The request at the head: whether it is done, and what it waits for.
-    pub fn judge_head(
+    pub(crate) fn judge_head(
         &mut self,
         request: &UserRequest,
         out: &mut Outbox,

@@ -19,7 +19,7 @@ impl State {
         while let Some(request) = self.queue.pop_front() {
             match self.judge_head(&request, out)? {
                 JudgedHead::Done => self.waits = false,
-                JudgedHead::Kept => {
+                JudgedHead::Waits => {
                     self.keep_head(request)?;
                     return Ok(None);
                 }

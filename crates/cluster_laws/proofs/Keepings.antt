@@ -8,7 +8,7 @@ use Rattle.cluster_model.specs.Laws.{byte_at}
 use Rattle.cluster_model.proofs.Placing.{length-overlay-ge, length-overlay-end, overlay_all_push}
 use Rattle.cluster_laws.specs.Agreement.{covers, IsByteOfOne, furthest_end, ArePairwiseDisjoint, IsNoChange, Has}
 use Rattle.cluster_laws.specs.Holders.{IsIn}
-use Rattle.cluster_laws.specs.Keeping.{MirrorTurn, Applies, Commits, Loses, Kept, kept_from, after_turn, after_turns, IsTurnOf, KeepsWrites, KeepsAlways, KeepsAll}
+use Rattle.cluster_laws.specs.Keeping.{MirrorTurn, Applies, Commits, Loses, MirrorTrace, kept_from, after_turn, after_turns, IsTurnOf, KeepsWrites, KeepsAlways, KeepsAll}
 use Rattle.cluster_laws.proofs.Lists.{all_append, all_more}
 use Rattle.cluster_laws.proofs.Putting.{AllBytes, Gives, EndsBy, past_end, put_one, put_all, all_longer, all_shorter, ends_furthest, furthest_by, in_left, in_right, in_either, is_at, byte_of, all_in, all_of_in, same_or_apart, covered_or_not, kept_gives, kept_ends, inside}
 
@@ -91,7 +91,7 @@ module _ (base : List ℕ) (sent rogue : List Pending) (apart : ArePairwiseDisjo
 
   -- ---- a mirror
 
-  pub record IsKeeping (k : Kept) : Type 0 where
+  pub record IsKeeping (k : MirrorTrace) : Type 0 where
     pub least : length base ≤ length k.content.stable
     pub up : length k.content.stable ≤ most
     pub bytes : AllBytes IsOf k.content.stable
@@ -112,27 +112,27 @@ module _ (base : List ℕ) (sent rogue : List Pending) (apart : ArePairwiseDisjo
   }
 
   -- what is shown
-  shown_bytes : (k : Kept) → IsKeeping k → AllBytes IsOf (shown_of k.content)
+  shown_bytes : (k : MirrorTrace) → IsKeeping k → AllBytes IsOf (shown_of k.content)
   shown_bytes k h = let least = h.least in put_all IsOf k.content.pending k.content.stable h.bytes (all_more IsKnown (Gives IsOf) k.content.pending known_gives h.pending) (λ j past. of_zero j (omega (arith, least, past)))
 
-  shown_least : (k : Kept) → IsKeeping k → length base ≤ length (shown_of k.content)
+  shown_least : (k : MirrorTrace) → IsKeeping k → length base ≤ length (shown_of k.content)
   shown_least k h = let least = h.least in let up = all_longer k.content.pending k.content.stable in omega (arith, least, up)
 
-  shown_up : (k : Kept) → IsKeeping k → length (shown_of k.content) ≤ most
+  shown_up : (k : MirrorTrace) → IsKeeping k → length (shown_of k.content) ≤ most
   shown_up k h = all_shorter k.content.pending k.content.stable most h.up (all_more IsKnown (EndsBy most) k.content.pending known_ends h.pending)
 
   none_in : (w : Pending) (ws : List Pending) → ws ≡ [] → IsIn w ws → ⊥
   none_in w ws none is = subst (IsIn w) none is
 
   -- a covered write stands in what is put over the stable bytes from what is pending
-  covered_still : (k : Kept) → IsKeeping k → (vs : List Pending) → (w : Pending) → IsIn w sent → IsIn w k.covered → ((AllByRecursion IsNew k.content.pending → AllByRecursion (Gives (IsBy w)) vs)) → Stands w (overlay_all k.content.stable vs)
+  covered_still : (k : MirrorTrace) → IsKeeping k → (vs : List Pending) → (w : Pending) → IsIn w sent → IsIn w k.covered → ((AllByRecursion IsNew k.content.pending → AllByRecursion (Gives (IsBy w)) vs)) → Stands w (overlay_all k.content.stable vs)
   covered_still k h vs w is by gives = from h.fresh
     where
       from : (k.covered ≡ []) ⊎ AllByRecursion IsNew k.content.pending → Stands w (overlay_all k.content.stable vs)
       from (inl none) = absurd (none_in w k.covered none by)
       from (inr news) = stands_all w vs k.content.stable is (h.covered w is by) (gives news)
 
-  shown_covered : (k : Kept) → IsKeeping k → (w : Pending) → IsIn w sent → IsIn w k.covered → Stands w (shown_of k.content)
+  shown_covered : (k : MirrorTrace) → IsKeeping k → (w : Pending) → IsIn w sent → IsIn w k.covered → Stands w (shown_of k.content)
   shown_covered k h w is by = covered_still k h k.content.pending w is by (λ news. all_more IsNew (Gives (IsBy w)) k.content.pending (λ v. new_gives w v is) news)
 
   -- ---- turns
@@ -141,7 +141,7 @@ module _ (base : List ℕ) (sent rogue : List Pending) (apart : ArePairwiseDisjo
   join_some c at [] some = absurd (omega (arith, some))
   join_some c at (b ∷ bytes) some = refl
 
-  applies : (k : Kept) (w : Pending) → IsNew w → IsKeeping k → IsKeeping (after_turn k (Applies w))
+  applies : (k : MirrorTrace) (w : Pending) → IsNew w → IsKeeping k → IsKeeping (after_turn k (Applies w))
   applies k w new h =
       subst (λ (c : Content). IsKeeping (record { content = c; here = w ∷ k.here; covered = k.covered })) (sym (join_some k.content w.at w.bytes (new_some w new)))
       (record {
@@ -162,7 +162,7 @@ module _ (base : List ℕ) (sent rogue : List Pending) (apart : ArePairwiseDisjo
       stands v is (inl same) = subst (λ (x : Pending). Stands x (overlay (shown_of k.content) w.at w.bytes)) same (stands_itself w (shown_of k.content) (new_some w new))
       stands v is (inr by) = stands_one v (shown_of k.content) w is (h.here v is by) new
 
-  commits : (k : Kept) → IsKeeping k → IsKeeping (after_turn k Commits)
+  commits : (k : MirrorTrace) → IsKeeping k → IsKeeping (after_turn k Commits)
   commits k h = record {
     least = shown_least k h;
     up = shown_up k h;
@@ -177,7 +177,7 @@ module _ (base : List ℕ) (sent rogue : List Pending) (apart : ArePairwiseDisjo
       either w is (inl now) = h.here w is now
       either w is (inr before) = shown_covered k h w is before
 
-  loses : (k : Kept) (pieces : List Piece) → IsKeeping k → IsKeeping (after_turn k (Loses pieces))
+  loses : (k : MirrorTrace) (pieces : List Piece) → IsKeeping k → IsKeeping (after_turn k (Loses pieces))
   loses k pieces h =
       let vs : List Pending = kept_of k.content.pending pieces in
       let least = h.least in
@@ -192,16 +192,16 @@ module _ (base : List ℕ) (sent rogue : List Pending) (apart : ArePairwiseDisjo
         covered = λ w is by. covered_still k h vs w is by (λ news. kept_gives (IsBy w) k.content.pending (all_more IsNew (Gives (IsBy w)) k.content.pending (λ v. new_gives w v is) news) pieces);
       }
 
-  pub turn_keeps : (k : Kept) (turn : MirrorTurn) → IsTurnOf sent rogue turn → IsKeeping k → IsKeeping (after_turn k turn)
+  pub turn_keeps : (k : MirrorTrace) (turn : MirrorTurn) → IsTurnOf sent rogue turn → IsKeeping k → IsKeeping (after_turn k turn)
   turn_keeps k (Applies w) of h = applies k w of h
   turn_keeps k Commits of h = commits k h
   turn_keeps k (Loses pieces) of h = loses k pieces h
 
-  pub turns_keep : (turns : List MirrorTurn) (k : Kept) → AllByRecursion (IsTurnOf sent rogue) turns → IsKeeping k → IsKeeping (after_turns k turns)
+  pub turns_keep : (turns : List MirrorTurn) (k : MirrorTrace) → AllByRecursion (IsTurnOf sent rogue) turns → IsKeeping k → IsKeeping (after_turns k turns)
   turns_keep [] k of h = h
   turns_keep (turn ∷ turns) k of h = turns_keep turns (after_turn k turn) of.1 (turn_keeps k turn of.0 h)
 
-  pub keeps_writes : (k : Kept) → IsKeeping k → KeepsWrites base sent rogue k
+  pub keeps_writes : (k : MirrorTrace) → IsKeeping k → KeepsWrites base sent rogue k
   keeps_writes k h = record {
     bytes = h.bytes;
     least = h.least;
@@ -283,7 +283,7 @@ module _ (base : List ℕ) (sent : List Pending) (apart : ArePairwiseDisjoint se
     stands = λ w is. placed sent base (λ v k. k) w is;
   }
 
-  module _ (k : Kept) (h : IsKeeping base sent [] apart some tt k) (all : AllByRecursion (λ w. IsIn w k.covered) sent) where
+  module _ (k : MirrorTrace) (h : IsKeeping base sent [] apart some tt k) (all : AllByRecursion (λ w. IsIn w k.covered) sent) where
     stable_whole : IsWhole k.content.stable
     stable_whole = record { least = h.least; up = h.up; of = h.bytes; stands = λ w is. h.covered w is (all_in (λ v. IsIn v k.covered) sent w all is) }
 

@@ -9,18 +9,18 @@ use Rattle.cluster_model.specs.Journal.{Copy, no_copy, is_mirror, copy_after, co
 use Rattle.cluster_laws.specs.Agreement.{sent_of, rogue_of, told_of, covers, IsByteOfOne, furthest_end, IsDirtyStep, Has}
 use Rattle.cluster_model.specs.Laws.{byte_at}
 use Rattle.cluster_laws.specs.Holders.{IsIn, the_write}
-use Rattle.cluster_laws.specs.Keeping.{MirrorTurn, Applies, Commits, Loses, Kept, kept_from, after_turn, after_turns, turns_in, turns_of, KeepsWrites, kept_behind, IsMadeByTurns, HasHeld, HeldAgree, shown_behind, TakesCleanStep, TakesDirtyStep}
+use Rattle.cluster_laws.specs.Keeping.{MirrorTurn, Applies, Commits, Loses, MirrorTrace, kept_from, after_turn, after_turns, turns_in, turns_of, KeepsWrites, kept_behind, IsMadeByTurns, HasHeld, HeldAgree, shown_behind, TakesCleanStep, TakesDirtyStep}
 use Rattle.cluster_laws.proofs.Putting.{all_in, is_at, furthest_by}
 use Rattle.cluster_laws.proofs.Journals.{copy_append}
 use Rattle.cluster_laws.proofs.Lists.{all_more}
 use Rattle.cluster_laws.proofs.Keepings.{keeps_always, keeps_all}
 
-turns_append : (k : Kept) (a b : List MirrorTurn) → after_turns k (a ++ b) ≡ after_turns (after_turns k a) b
+turns_append : (k : MirrorTrace) (a b : List MirrorTurn) → after_turns k (a ++ b) ≡ after_turns (after_turns k a) b
 turns_append k [] b = refl
 turns_append k (turn ∷ a) b = turns_append (after_turn k turn) a b
 
 -- one entry
-one_made : (m : MirrorId) (e : Entry) (k : Kept) (c : Copy) → k.content ≡ c.content → (after_turns k (turns_in m e)).content ≡ (copy_after m c e).content
+one_made : (m : MirrorId) (e : Entry) (k : MirrorTrace) (c : Copy) → k.content ≡ c.content → (after_turns k (turns_in m e)).content ≡ (copy_after m c e).content
 one_made m (Applied mirror cred at bytes) k c same = by_test (is_mirror mirror m)
   where
     by_test : (b : Bool) → (after_turns k (cond b (Applies (the_write at bytes) ∷ []) [])).content ≡ (cond b (record { content = joined c.content at bytes; owner = c.owner }) c).content
@@ -43,10 +43,10 @@ one_made m (Owner mirror cred) k c same = by_test (is_mirror mirror m)
     by_test false = same
 one_made m _ k c same = same
 
-all_made : (m : MirrorId) (entries : List Entry) (k : Kept) (c : Copy) → k.content ≡ c.content → (after_turns k (turns_of m entries)).content ≡ (copy_by m c entries).content
+all_made : (m : MirrorId) (entries : List Entry) (k : MirrorTrace) (c : Copy) → k.content ≡ c.content → (after_turns k (turns_of m entries)).content ≡ (copy_by m c entries).content
 all_made m [] k c same = same
 all_made m (e ∷ entries) k c same =
-    ap (λ (x : Kept). x.content) (turns_append k (turns_in m e) (turns_of m entries)) ∙ all_made m entries (after_turns k (turns_in m e)) (copy_after m c e) (one_made m e k c same)
+    ap (λ (x : MirrorTrace). x.content) (turns_append k (turns_in m e) (turns_of m entries)) ∙ all_made m entries (after_turns k (turns_in m e)) (copy_after m c e) (one_made m e k c same)
 
 pub made_by_turns : (before entries : List Entry) (m : MirrorId) → IsMadeByTurns before entries m
 made_by_turns before entries m = ap (λ (c : Copy). c.content) (copy_append m no_copy before entries) ∙ sym (all_made m entries (kept_from (content_of before m).content) (content_of before m) refl)
@@ -70,7 +70,7 @@ takes_dirty journal uid base before entries m h = subst (IsDirtyStep journal (be
     rogue : List Pending
     rogue = rogue_of uid (before ++ entries)
 
-    kept : Kept
+    kept : MirrorTrace
     kept = kept_behind before entries m
 
     k : KeepsWrites base sent rogue kept

@@ -22,20 +22,20 @@ pub data MirrorTurn : Type 0 where
   Loses : (pieces : List Piece) → MirrorTurn
 
 -- the bytes; what was applied since the last restart; and what was applied before a COMMIT, in the same boot
-pub record Kept : Type 0 where
+pub record MirrorTrace : Type 0 where
   pub content : Content
   pub here : List Pending
   pub covered : List Pending
 
-abbrev pub kept_from : Content → Kept
+abbrev pub kept_from : Content → MirrorTrace
 kept_from c = record { content = c; here = []; covered = [] }
 
-abbrev pub after_turn : Kept → MirrorTurn → Kept
+abbrev pub after_turn : MirrorTrace → MirrorTurn → MirrorTrace
 after_turn k (Applies w) = record { content = joined k.content w.at w.bytes; here = w ∷ k.here; covered = k.covered }
 after_turn k Commits = record { content = settled k.content; here = k.here; covered = k.here ++ k.covered }
 after_turn k (Loses pieces) = record { content = survived k.content pieces; here = []; covered = k.covered }
 
-abbrev pub after_turns : Kept → List MirrorTurn → Kept
+abbrev pub after_turns : MirrorTrace → List MirrorTurn → MirrorTrace
 after_turns k [] = k
 after_turns k (turn ∷ turns) = after_turns (after_turn k turn) turns
 
@@ -57,7 +57,7 @@ pub record IsPeriodOf (sent rogue : List Pending) (turns : List MirrorTurn) : Ty
 -- ---- what is kept
 
 -- Each stable byte is one from before, or a written one. A write that was taken and is covered stands, but for bytes that strayed.
-pub record KeepsWrites (base : List ℕ) (sent rogue : List Pending) (k : Kept) : Type 0 where
+pub record KeepsWrites (base : List ℕ) (sent rogue : List Pending) (k : MirrorTrace) : Type 0 where
   pub bytes : (place : ℕ) → place < length k.content.stable → (byte_at k.content.stable place ≡ byte_at base place) ⊎ IsByteOfOne (sent ++ rogue) place (byte_at k.content.stable place)
   pub least : length base ≤ length k.content.stable
   pub most : length k.content.stable ≤ max (length base) (furthest_end (sent ++ rogue))
@@ -86,7 +86,7 @@ abbrev pub turns_of : MirrorId → List Entry → List MirrorTurn
 turns_of m entries = flat_map (turns_in m) entries
 
 -- a mirror behind entries that follow others
-abbrev pub kept_behind : List Entry → List Entry → MirrorId → Kept
+abbrev pub kept_behind : List Entry → List Entry → MirrorId → MirrorTrace
 kept_behind before entries m = after_turns (kept_from (content_of before m).content) (turns_of m entries)
 
 -- its bytes are what its turns make of them

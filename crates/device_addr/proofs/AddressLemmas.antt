@@ -10,7 +10,7 @@ use Rattle.std.proofs.lemmas.Fmt.{decimal_is_IsNumeral}
 use Rattle.std.proofs.lemmas.List.{length-append}
 use Rattle.std.proofs.lemmas.List.Elements.{All-head, All-tail, All-nil, All-cons, All-append}
 use Rattle.std.proofs.lemmas.Str.Parse.{digit_at}
-use Rattle.device_addr.specs.Universal.{AddressValue, IsAddress, BeginsWith, dotted, address_text}
+use Rattle.device_addr.specs.Universal.{AddressValue, IsAddress, IsNumberBefore, dotted, address_text}
 
 pub when_none : {A : Type 0} (P : Type 0) (Q : A → Type 0) (r : Option A) → r ≡ None → P → MatchOption r P Q
 when_none P Q None e p = p
@@ -70,7 +70,7 @@ pub record IsDotted (count : ℕ) (text : List ℕ) : Type 0 where
   pub is : text ≡ dotted numbers
 
 -- the numbers behind the first
-pub dotted_behind : (k m : ℕ) (text rest : List ℕ) → IsDotted (suc (suc k)) text → (m < 256) × BeginsWith text m rest → IsDotted (suc k) rest
+pub dotted_behind : (k m : ℕ) (text rest : List ℕ) → IsDotted (suc (suc k)) text → (m < 256) × IsNumberBefore text m rest → IsDotted (suc k) rest
 dotted_behind k m text rest d begins = of d.numbers d.many d.bytes d.is
   where
     of : (ns : List ℕ) → length ns ≡ suc (suc k) → All (λ n. n < 256) ns → text ≡ dotted ns → IsDotted (suc k) rest
@@ -83,7 +83,7 @@ dotted_behind k m text rest d begins = of d.numbers d.many d.bytes d.is
       is = sym (after_dot m rest text begins.0 begins.1) ∙ after_dot n (dotted (p ∷ ns)) text (All-head IsByte n (p ∷ ns) bytes) is;
     }
 
-pub none_first : (k : ℕ) (text : List ℕ) → IsDotted (suc (suc k)) text → ((n : ℕ) (rest : List ℕ) → n < 256 → BeginsWith text n rest → ⊥) → ⊥
+pub none_first : (k : ℕ) (text : List ℕ) → IsDotted (suc (suc k)) text → ((n : ℕ) (rest : List ℕ) → n < 256 → IsNumberBefore text n rest → ⊥) → ⊥
 none_first k text d none = of d.numbers d.many d.bytes d.is
   where
     of : (ns : List ℕ) → length ns ≡ suc (suc k) → All (λ n. n < 256) ns → text ≡ dotted ns → ⊥

@@ -29,5 +29,5 @@ abbrev pub address_value : NetAddr → AddressValue
 address_value a = record { host = a.host; port = a.port }
 
 -- a text is a number of one byte in decimal, then a dot, then the rest
-abbrev pub BeginsWith : List ℕ → ℕ → List ℕ → Type 0
-BeginsWith text n rest = text ≡ decimal n ++ (codes "." ++ rest)
+abbrev pub IsNumberBefore : List ℕ → ℕ → List ℕ → Type 0
+IsNumberBefore text n rest = text ≡ decimal n ++ (codes "." ++ rest)

@@ -3,7 +3,7 @@
 ghost use Rattle.std.specs.Prelude.{◌≡◌, ◌<◌, ◌++◌, ℕ, List, MatchOption, codes, decimal};
 ghost use Rattle.std.specs.List.{flat_map};
 ghost use Rattle.ff_xdr.specs.Calls.{Grows, Puts};
-ghost use Rattle.device_addr.specs.Universal.{AddressValue, IsAddress, BeginsWith, address_text, address_value};
+ghost use Rattle.device_addr.specs.Universal.{AddressValue, IsAddress, IsNumberBefore, address_text, address_value};
 
 use ff_xdr::{NoMemory, Out};
 use itoa::Buffer;
@@ -28,7 +28,7 @@ fn byte_at(text: &str) -> Option<u8>
 
 /// The number of one byte before the first dot, and the text behind the dot.
 fn first_byte(text: &str) -> Option<(u8, &str)>
-    ensures { MatchOption result ((n : ℕ) (rest : List ℕ) → n < 256 → BeginsWith text.now n rest → ⊥) (λ p. (p.0 < 256) × BeginsWith text.now p.0 p.1.now) }
+    ensures { MatchOption result ((n : ℕ) (rest : List ℕ) → n < 256 → IsNumberBefore text.now n rest → ⊥) (λ p. (p.0 < 256) × IsNumberBefore text.now p.0 p.1.now) }
 {
     let (first, rest) = text.split_once('.')?;
     Some((byte_at(first)?, rest))

@@ -5,14 +5,14 @@ use Rattle.cluster_model.specs.declared.ids.NodeId.{NodeId}
 use Rattle.cluster_model.specs.declared.outbox.Outbox.{Outbox}
 use Rattle.cluster_model.specs.Server.{ServerState}
 use Rattle.ds_files.specs.declared.logging.Logging.{Logging}
-use Rattle.ds_files.specs.declared.logging.Logging.TheVariants.{Kept, Absent}
+use Rattle.ds_files.specs.declared.logging.Logging.TheVariants.{On, Off}
 use Rattle.ds_files.specs.Receive.{Outcome}
 use Rattle.ds_files.specs.Records.{sent_to}
 
 -- the entries of a step that are made of it
 abbrev pub entries_made : Logging → List Entry → List Entry
-entries_made Kept entries = entries
-entries_made Absent entries = []
+entries_made On entries = entries
+entries_made Off entries = []
 
 -- an outcome with those alone
 abbrev pub outcome_made : Logging → Outcome → Outcome

@@ -4,7 +4,7 @@
 #[derive(Clone, Copy, Debug, PartialEq, Eq)]
 pub enum Logging {
     /// They are, with bytes of their own.
-    Kept,
+    On,
     /// They are not, since nobody keeps them.
-    Absent,
+    Off,
 }

@@ -9,7 +9,7 @@ ghost use Rattle.ds_procedures.specs.Steps.{step_of};
 ghost use Rattle.ds_procedures.specs.Answer.{answer_of};
 ghost use Rattle.ds_files.specs.Receive.{received, outcome_of, outcome_of_step};
 ghost use Rattle.ds_files.specs.Laws.{IsRefusedReply, IsTurnedAway};
-ghost use Rattle.ds_files.specs.declared.logging.Logging.TheVariants.{Absent};
+ghost use Rattle.ds_files.specs.declared.logging.Logging.TheVariants.{Off};
 ghost use Rattle.ds_files.specs.Posts.{Acts, IsAsBefore, outcome_made};
 
 use crate::carry::carry_out;
@@ -21,7 +21,7 @@ use crate::record::{encode, post, success, take_back};
 use crate::restart::restart_server;
 use cluster_model::{NodeId, Outbox, Piece, Tick, Times};
 use data_file::DataFile;
-use ds_procedures::{Answer3, Head, Names, plan_of};
+use ds_procedures::{Answer3, Names, Superblock, plan_of};
 use ff_xdr::NoMemory;
 use nfs3_wire::Call3;
 use rpc_record::AuthSys;
@@ -58,13 +58,13 @@ impl From<AllocError> for RestartFault {
 #[derive(Drop)]
 pub struct DataServer {
     alloc: Global,
-    head: Head,
+    head: Superblock,
     files: Vec<DataFile>,
 }
 
 impl Model for DataServer {
     ghost use Rattle.cluster_model.specs.Server.{ServerState};
-    ghost use Rattle.ds_procedures.specs.Heads.{server_of, IsServer};
+    ghost use Rattle.ds_procedures.specs.Superblocks.{server_of, IsServer};
 
     ghost Value = { ServerState };
 
@@ -86,7 +86,7 @@ impl DataServer {
             mtime: start,
             ctime: start,
         };
-        let head = Head {
+        let head = Superblock {
             number,
             clock: start,
             root,
@@ -126,7 +126,7 @@ impl DataServer {
         };
         let mut names = Names::new(alloc);
         names.add(b"m1")?;
-        let head = Head {
+        let head = Superblock {
             number: 1,
             clock: Tick { boot: 1, count },
             root,
@@ -239,7 +239,7 @@ impl DataServer {
         ensures err { OnErr result ((self.new ≡ self.old) × IsAsBefore out.old out.new) }
         ensures turned_away { IsTurnedAway self.old (received message.now) → (self.new ≡ self.old) × (out.new.entries.items ≡ out.old.entries.items) }
     {
-        self.take_record(from, message, Logging::Kept, out)
+        self.take_record(from, message, Logging::On, out)
     }
 
     /// Takes a record from a node, and puts out the reply to it as `on_record` does, but no entry, for
@@ -251,10 +251,10 @@ impl DataServer {
         message: &[u8],
         out: &mut Outbox,
     ) -> Result<(), NoMemory>
-        ensures ok { OnOk result (Acts (outcome_made Absent (outcome_of self.old message.now)) from self.new out.old out.new) }
+        ensures ok { OnOk result (Acts (outcome_made Off (outcome_of self.old message.now)) from self.new out.old out.new) }
         ensures err { OnErr result ((self.new ≡ self.old) × IsAsBefore out.old out.new) }
         ensures turned_away { IsTurnedAway self.old (received message.now) → self.new ≡ self.old }
     {
-        self.take_record(from, message, Logging::Absent, out)
+        self.take_record(from, message, Logging::Off, out)
     }
 }

@@ -6,18 +6,18 @@ ghost use Rattle.cluster_model.specs.File.{shown, written, Writes};
 ghost use Rattle.cluster_model.specs.Server.{write_refusal, max_total, max_file};
 ghost use Rattle.ds_procedures.specs.Objects.{object_of, caller, file_attributes, stat_of};
 ghost use Rattle.ds_procedures.specs.Write.{is_synced, stability_of, write_done, write_unless, write_plan};
-ghost use Rattle.ds_procedures.specs.Heads.{IsServer, server_of, size_refusal, write_refusal_by_sizes, Refuses};
+ghost use Rattle.ds_procedures.specs.Superblocks.{IsServer, server_of, size_refusal, write_refusal_by_sizes, Refuses};
 ghost use Rattle.ds_procedures.specs.CodePlans.{plain_plan, plain_effect, IsPlanOn, IsReady};
 ghost use Rattle.std.specs.Prelude.{[]};
 
 use crate::access::{may_write, tick_refusal};
 use crate::answer::Response;
 use crate::attributes::{file_attributes, root_attributes, time_of, wcc_between, wcc_same};
-use crate::head::Head;
 use crate::object::Place;
 use crate::objects::place_of;
 use crate::plan::{Effect, Plan, reply_alone};
 use crate::stored::StoredReply;
+use crate::superblock::Superblock;
 use cluster_model::{MAX_FILE, MAX_TOTAL, Tick};
 use data_file::DataFile;
 use nfs3_wire::{Fattr3, StableHow, Stat3, WriteArgs, WriteOk, WriteReply};
@@ -66,7 +66,12 @@ pub fn size_refusal(total: u64, clock: Tick, size: u64, at: u64, length: u64) ->
 }
 
 /// Why a WRITE of a file is refused, the first reason in the order of the refusals.
-fn refusal(head: &Head, file: &DataFile, args: &WriteArgs<'_>, cred: &AuthSys<'_>) -> Option<Stat3>
+fn refusal(
+    head: &Superblock,
+    file: &DataFile,
+    args: &WriteArgs<'_>,
+    cred: &AuthSys<'_>,
+) -> Option<Stat3>
     requires part { length (shown file.now) ≤ head.now.total }
     requires bounded { head.now.total ≤ max_total }
     ensures exact { result ≡ option_map stat_of (write_refusal_by_sizes head.now.total head.now.clock file.now (caller cred.now) (args.now.count == length args.now.bytes.now) args.now.offset args.now.bytes.now) }
@@ -117,7 +122,12 @@ fn attributes_after(
 }
 
 /// The plan of a WRITE that is done.
-fn done<'s, 'c>(head: &Head, index: usize, file: &DataFile, args: &WriteArgs<'c>) -> Plan<'s, 'c>
+fn done<'s, 'c>(
+    head: &Superblock,
+    index: usize,
+    file: &DataFile,
+    args: &WriteArgs<'c>,
+) -> Plan<'s, 'c>
     requires ticks { head.now.clock.count < 2 ^ 32 - 1 }
     requires count { args.now.count ≡ length args.now.bytes.now }
     requires fits { 0 < length args.now.bytes.now → args.now.offset + length args.now.bytes.now ≤ max_file }
@@ -148,7 +158,7 @@ fn done<'s, 'c>(head: &Head, index: usize, file: &DataFile, args: &WriteArgs<'c>
 
 /// The plan of a WRITE on a file.
 fn on_file<'s, 'c>(
-    head: &Head,
+    head: &Superblock,
     files: &[DataFile],
     index: usize,
     args: &WriteArgs<'c>,
@@ -169,7 +179,7 @@ fn on_file<'s, 'c>(
 
 /// The plan of a WRITE.
 pub fn write_plan<'s, 'c>(
-    head: &Head,
+    head: &Superblock,
     files: &[DataFile],
     args: &WriteArgs<'c>,
     cred: &AuthSys<'_>,

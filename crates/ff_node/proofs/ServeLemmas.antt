@@ -8,7 +8,7 @@ use Rattle.cluster_model.specs.declared.ids.NodeId.{NodeId}
 use Rattle.ff_node.specs.declared.link.Arrival.{Arrival}
 use Rattle.ff_node.specs.declared.serve.NodeEnd.{NodeEnd}
 use Rattle.ff_node.specs.declared.serve.NodeEnd.TheVariants as ends
-use Rattle.ff_node.specs.Link.{Gives, Sends}
+use Rattle.ff_node.specs.Link.{Gives, HandsOver}
 use Rattle.ff_node.specs.Serve.{Served, ServedInPart, IsDone, NodeServes, is_closed, state_after, sends_over, TakesTurn, SendsAll, AnswersArrival, end_of, sent_more}
 
 abbrev pub Sent : Type 0
@@ -24,11 +24,11 @@ pub no_more : (s : Option Sent) → sent_more s [] ≡ s
 no_more None = refl
 no_more (Some sent) = ap Some (append-nil sent)
 
-pub sends_ok : (s : Option Sent) (to : NodeId) (bytes : List ℕ) (x : Unit {0}) (s' : Option Sent) → Sends s to bytes (Ok x) s' → s' ≡ sent_more s ((to, bytes) ∷ [])
+pub sends_ok : (s : Option Sent) (to : NodeId) (bytes : List ℕ) (x : Unit {0}) (s' : Option Sent) → HandsOver s to bytes (Ok x) s' → s' ≡ sent_more s ((to, bytes) ∷ [])
 sends_ok None to bytes x s' h = h
 sends_ok (Some sent) to bytes x s' h = h
 
-pub sends_err : (s : Option Sent) (to : NodeId) (bytes : List ℕ) (e : NoMemory) (s' : Option Sent) → Sends s to bytes (Err e) s' → s' ≡ s
+pub sends_err : (s : Option Sent) (to : NodeId) (bytes : List ℕ) (e : NoMemory) (s' : Option Sent) → HandsOver s to bytes (Err e) s' → s' ≡ s
 sends_err None to bytes e s' h = h
 sends_err (Some sent) to bytes e s' h = h
 

@@ -21,10 +21,10 @@ Gives (Some coming) (Err e) new = new ≡ Some coming
 
 -- What sending did, where a link tells what was handed to it: the record stands behind the others; want of memory has done
 -- nothing.
-abbrev pub Sends : Option (List (NodeId × List ℕ)) → NodeId → List ℕ → Result (Unit {0}) NoMemory → Option (List (NodeId × List ℕ)) → Type 0
-Sends None to bytes result new = new ≡ None
-Sends (Some sent) to bytes (Ok x) new = new ≡ Some (sent ++ (to, bytes) ∷ [])
-Sends (Some sent) to bytes (Err e) new = new ≡ Some sent
+abbrev pub HandsOver : Option (List (NodeId × List ℕ)) → NodeId → List ℕ → Result (Unit {0}) NoMemory → Option (List (NodeId × List ℕ)) → Type 0
+HandsOver None to bytes result new = new ≡ None
+HandsOver (Some sent) to bytes (Ok x) new = new ≡ Some (sent ++ (to, bytes) ∷ [])
+HandsOver (Some sent) to bytes (Err e) new = new ≡ Some sent
 
 -- the address of this number in a list, from 1
 abbrev pub address_numbered : List NetAddr → ℕ → Option NetAddr

@@ -5,7 +5,7 @@ ghost use Rattle.rpc_record.specs.Stream.{counted};
 ghost use Rattle.cluster_model.specs.declared.ids.NodeId.{NodeId};
 ghost use Rattle.ff_node.specs.declared.link.Arrival.{Arrival};
 ghost use Rattle.ff_node.specs.declared.link.Opening.{Opening};
-ghost use Rattle.ff_node.specs.Link.{Gives, OpensLink, Sends, address_numbered, opening_of, own_address};
+ghost use Rattle.ff_node.specs.Link.{Gives, OpensLink, HandsOver, address_numbered, opening_of, own_address};
 
 use crate::config::Config;
 use cluster_model::NodeId;
@@ -117,7 +117,7 @@ pub trait Link {
     /// Sends a record to a node. A record that cannot be sent is lost, which is no fault. At an error
     /// nothing was sent.
     fn send(&mut self, to: NodeId, message: &[u8]) -> Result<(), NoMemory>
-        ensures told { Sends (sent self.old) to message.now result (sent self.new) }
+        ensures told { HandsOver (sent self.old) to message.now result (sent self.new) }
         ensures opened { opened self.new ≡ opened self.old }
         ensures coming { coming self.new ≡ coming self.old }
         ensures faults { faults self.new ≡ faults self.old };

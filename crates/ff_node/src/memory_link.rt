@@ -2,7 +2,7 @@
 
 ghost use Rattle.std.specs.Prelude.{◌≡◌, ◌↔◌, List, [], None, Some, Ok, Err, IsTrue, IsOk, if◌then◌else◌};
 ghost use Rattle.rpc_record.specs.Stream.{counted, one_more, fails_next};
-ghost use Rattle.ff_node.specs.Link.{OpensLink, Gives, Sends};
+ghost use Rattle.ff_node.specs.Link.{OpensLink, Gives, HandsOver};
 
 use crate::config::Config;
 use crate::link::{Arrival, Link, Role};
@@ -137,7 +137,7 @@ impl Link for MemoryLink {
     }
 
     fn send(&mut self, to: NodeId, message: &[u8]) -> Result<(), NoMemory>
-        ensures told { Sends (Some self.old.sent) to message.now result (Some self.new.sent) }
+        ensures told { HandsOver (Some self.old.sent) to message.now result (Some self.new.sent) }
         ensures opened { self.new.opened ≡ self.old.opened }
         ensures coming { Some self.new.coming ≡ Some self.old.coming }
         ensures faults { self.new.faults ≡ self.old.faults }

@@ -3,7 +3,7 @@ use Rattle.std.specs.Prelude.{⊤, ◌≡◌, ℕ, ◌+◌, ◌≤◌, List, len
 use Rattle.cluster_model.specs.declared.ids.NodeId.{NodeId}
 use Rattle.line_runs.specs.declared.end.RunEnd.{RunEnd}
 use Rattle.line_runs.specs.declared.end.RunEnd.TheVariants.{Done, BadLine, ReadFault, WriteFault, NoMemory, Limit}
-use Rattle.line_runs.specs.Lines.{Cut, Line, Last, Over, cut_line, Drawn}
+use Rattle.line_runs.specs.Lines.{Cut, Line, Last, PastBudget, cut_line, Drawn}
 use Rattle.line_runs.specs.Playback.{EndFaults}
 use Rattle.cluster_model.specs.Server.{new_server}
 use Rattle.ff_node.specs.declared.config.Config.{Config}
@@ -16,7 +16,7 @@ use Rattle.ff_node.specs.Serve.{Serves, link_faults}
 abbrev pub line_of_cut : Cut → Option (List ℕ)
 line_of_cut (Line line rest) = Some line
 line_of_cut (Last line) = Some line
-line_of_cut Over = None
+line_of_cut PastBudget = None
 
 -- the first line of bytes: with its newline it has at most one byte more than a configuration
 abbrev pub first_line : List ℕ → Option (List ℕ)

@@ -37,7 +37,7 @@ fn read_first<S: Source>(alloc: Global, source: &mut S) -> Result<Config, RunEnd
     match buffer.read_line(source, MAX_LINE + 1, &mut line) {
         Err(Failed::Fault) => Err(RunEnd::ReadFault),
         Err(Failed::NoMemory) => Err(RunEnd::NoMemory),
-        Ok(Ended::Over) => Err(RunEnd::BadLine(1)),
+        Ok(Ended::PastBudget) => Err(RunEnd::BadLine(1)),
         Ok(Ended::Newline) => config_in(alloc, &line),
         Ok(Ended::End) => config_in(alloc, &line),
     }

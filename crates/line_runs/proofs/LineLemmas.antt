@@ -8,8 +8,8 @@ use Rattle.rpc_record.specs.declared.stream.Failed.{Failed}
 use Rattle.rpc_record.specs.Stream.{Reads}
 use Rattle.rpc_record.specs.declared.stream.Failed.TheVariants.{Fault, NoMemory}
 use Rattle.line_runs.specs.declared.lines.Ended.{Ended}
-use Rattle.line_runs.specs.declared.lines.Ended.TheVariants.{Newline, End, Over as RanOver}
-use Rattle.line_runs.specs.Lines.{Cut, Line, Last, Over, onto, cut_line, onto_first, onto_ended, lines_of, ended_lines, script_lines, Drawn, Keeps, ReadsLine, IsWithinBudget, Refills, TakesLine, HoldsLine, HoldsNoLine}
+use Rattle.line_runs.specs.declared.lines.Ended.TheVariants.{Newline, End, PastBudget as RanOver}
+use Rattle.line_runs.specs.Lines.{Cut, Line, Last, PastBudget, onto, cut_line, onto_first, onto_ended, lines_of, ended_lines, script_lines, Drawn, Keeps, ReadsLine, IsWithinBudget, Refills, TakesLine, HoldsLine, HoldsNoLine}
 
 -- these bytes in front of the line
 abbrev pub before : List ℕ → Cut → Cut
@@ -24,7 +24,7 @@ pub before-last : (bs line : List ℕ) → before bs (Last line) ≡ Last (bs ++
 before-last [] line = refl
 before-last (b ∷ bs) line = ap (onto b) (before-last bs line)
 
-pub before-over : (bs : List ℕ) → before bs Over ≡ Over
+pub before-over : (bs : List ℕ) → before bs PastBudget ≡ PastBudget
 before-over [] = refl
 before-over (b ∷ bs) = ap (onto b) (before-over bs)
 
@@ -36,17 +36,17 @@ before-append (b ∷ bs) cs cut = ap (onto b) (before-append bs cs cut)
 pub onto-line : (b : ℕ) (cut : Cut) (line rest : List ℕ) → onto b cut ≡ Line line rest → (tail : List ℕ) × (cut ≡ Line tail rest) × (line ≡ b ∷ tail)
 onto-line b (Line tail others) line rest h = (tail, cc, cc)
 onto-line b (Last tail) line rest h = absurd (cc)
-onto-line b Over line rest h = absurd (cc)
+onto-line b PastBudget line rest h = absurd (cc)
 
 pub onto-last : (b : ℕ) (cut : Cut) (line : List ℕ) → onto b cut ≡ Last line → (tail : List ℕ) × (cut ≡ Last tail) × (line ≡ b ∷ tail)
 onto-last b (Line tail others) line h = absurd (cc)
 onto-last b (Last tail) line h = (tail, refl, cc)
-onto-last b Over line h = absurd (cc)
+onto-last b PastBudget line h = absurd (cc)
 
-pub onto-over : (b : ℕ) (cut : Cut) → onto b cut ≡ Over → cut ≡ Over
+pub onto-over : (b : ℕ) (cut : Cut) → onto b cut ≡ PastBudget → cut ≡ PastBudget
 onto-over b (Line tail others) h = absurd (cc)
 onto-over b (Last tail) h = absurd (cc)
-onto-over b Over h = refl
+onto-over b PastBudget h = refl
 
 -- a step of `cut_line`
 pub cut_newline : (n b : ℕ) (bs : List ℕ) → b ≡ 10 → cut_line (suc n) (b ∷ bs) ≡ Line [] bs
@@ -61,7 +61,7 @@ pub cut_nil : (n : ℕ) → cut_line n [] ≡ Last []
 unfolding cut_line
 cut_nil n = refl
 
-pub cut_zero : (b : ℕ) (bs : List ℕ) → cut_line zero (b ∷ bs) ≡ Over
+pub cut_zero : (b : ℕ) (bs : List ℕ) → cut_line zero (b ∷ bs) ≡ PastBudget
 unfolding cut_line
 cut_zero b bs = refl
 
@@ -80,7 +80,7 @@ cut_none zero (b ∷ bs) room none = absurd (omega arith)
 cut_none (suc n) (b ∷ bs) room none =
     cut_other n b bs (none 0 (omega arith)) ∙ ap (onto b) (cut_none n bs (omega arith) (λ j below. none (suc j) (omega arith)))
 
-pub cut_beyond : (n : ℕ) (bs : List ℕ) → n < length bs → ((j : ℕ) → j < n → get_or bs j 0 ≢ 10) → cut_line n bs ≡ Over
+pub cut_beyond : (n : ℕ) (bs : List ℕ) → n < length bs → ((j : ℕ) → j < n → get_or bs j 0 ≢ 10) → cut_line n bs ≡ PastBudget
 cut_beyond n [] beyond none = absurd (omega arith)
 cut_beyond zero (b ∷ bs) beyond none = cut_zero b bs
 cut_beyond (suc n) (b ∷ bs) beyond none =
@@ -95,7 +95,7 @@ found_within room at bs held same within found =
     ∙ cut_at room at bs within found.0.high (λ j below is. found.0.before j (omega arith) below (eq-eqb _ 10 is)) (eqb-true _ 10 found.1)
     ∙ ap (λ l. Line (take at bs) (drop (suc at) l)) same ∙ ap (λ k. Line (take at bs) (drop k held)) next
 
-pub found_beyond : (room at : ℕ) (bs held : List ℕ) → bs ≡ held → room ≤ at → IsFirstByte (is_byte 10) bs (Some at) → cut_line room held ≡ Over
+pub found_beyond : (room at : ℕ) (bs held : List ℕ) → bs ≡ held → room ≤ at → IsFirstByte (is_byte 10) bs (Some at) → cut_line room held ≡ PastBudget
 found_beyond room at bs held same beyond found =
     ap (cut_line room) (sym same)
     ∙ cut_beyond room bs (omega (arith, found.0.high)) (λ j below is. found.0.before j (omega arith) (omega arith) (eq-eqb _ 10 is))
@@ -104,7 +104,7 @@ pub not_found_within : (room : ℕ) (bs held : List ℕ) → bs ≡ held → len
 not_found_within room bs held same within found =
     ap (cut_line room) (sym same) ∙ cut_none room bs within (λ j below is. found j (omega arith) below (eq-eqb _ 10 is)) ∙ ap Last same
 
-pub not_found_beyond : (room : ℕ) (bs held : List ℕ) → bs ≡ held → room < length bs → IsFirstByte (is_byte 10) bs None → cut_line room held ≡ Over
+pub not_found_beyond : (room : ℕ) (bs held : List ℕ) → bs ≡ held → room < length bs → IsFirstByte (is_byte 10) bs None → cut_line room held ≡ PastBudget
 not_found_beyond room bs held same beyond found =
     ap (cut_line room) (sym same) ∙ cut_beyond room bs beyond (λ j below is. found j (omega arith) (omega arith) (eq-eqb _ 10 is))
 
@@ -136,7 +136,7 @@ cut_more-line (suc n) (b ∷ bs) more line rest is =
     whole ∙ ap (onto b) (cut_more-line n bs more parts.0 rest parts.1) ∙ ap (λ l. Line l (rest ++ more)) (sym parts.2))
     (cases_eq b 10)
 
-pub cut_more-over : (n : ℕ) (bs more : List ℕ) → cut_line n bs ≡ Over → cut_line n (bs ++ more) ≡ Over
+pub cut_more-over : (n : ℕ) (bs more : List ℕ) → cut_line n bs ≡ PastBudget → cut_line n (bs ++ more) ≡ PastBudget
 cut_more-over n [] more is = absurd (cc (cut_nil n))
 cut_more-over zero (b ∷ bs) more is = cut_zero b (bs ++ more)
 cut_more-over (suc n) (b ∷ bs) more is =
@@ -189,7 +189,7 @@ last_length (suc n) (b ∷ bs) line is =
     let rest = last_length n bs parts.0 parts.1 in (ap (λ l. b ∷ l) rest.0 ∙ sym parts.2, omega (arith, rest.1)))
     (cases_eq b 10)
 
-pub over_length : (n : ℕ) (bs : List ℕ) → cut_line n bs ≡ Over → n < length bs
+pub over_length : (n : ℕ) (bs : List ℕ) → cut_line n bs ≡ PastBudget → n < length bs
 over_length n [] is = absurd (cc (cut_nil n))
 over_length zero (b ∷ bs) is = omega arith
 over_length (suc n) (b ∷ bs) is =
@@ -274,7 +274,7 @@ script_last (suc n) (b ∷ bs) line is some =
       whole.1,
     )
 
-pub over_lines : (n : ℕ) (bs : List ℕ) → cut_line n bs ≡ Over → ended_lines (take n bs) ≡ []
+pub over_lines : (n : ℕ) (bs : List ℕ) → cut_line n bs ≡ PastBudget → ended_lines (take n bs) ≡ []
 unfolding ended_lines
 over_lines n [] is = absurd (cc (cut_nil n))
 over_lines zero (b ∷ bs) is = refl
@@ -286,7 +286,7 @@ over_lines (suc n) (b ∷ bs) is =
     ∙ ap (onto_ended b) (over_lines n bs (onto-over b (cut_line n bs) (sym (cut_other n b bs other) ∙ is))))
     (cases_eq b 10)
 
-pub script_over : (n : ℕ) (bs : List ℕ) → cut_line n bs ≡ Over → (script_lines n bs ≡ []) × (n < length bs)
+pub script_over : (n : ℕ) (bs : List ℕ) → cut_line n bs ≡ PastBudget → (script_lines n bs ≡ []) × (n < length bs)
 unfolding script_lines
 script_over n bs is =
     let beyond = over_length n bs is in (cond-false (leb (length bs) n) _ _ (lt-leb (length bs) n beyond) ∙ over_lines n bs is, beyond)

@@ -4,10 +4,10 @@ use Rattle.std.proofs.Common.{inl, inr, ◌≡◌, ℕ, ◌+◌, ◌-◌, Bool, 
 use Rattle.std.proofs.lemmas.List.{append-nil, append_assoc}
 use Rattle.rpc_record.specs.declared.stream.Failed.{Failed}
 use Rattle.rpc_record.specs.declared.stream.Failed.TheVariants.{Fault, NoMemory as Wanted}
-use Rattle.line_runs.specs.declared.lines.Ended.TheVariants.{Newline, End, Over as RanOver}
+use Rattle.line_runs.specs.declared.lines.Ended.TheVariants.{Newline, End, PastBudget as RanOver}
 use Rattle.line_runs.specs.declared.end.RunEnd.{RunEnd}
 use Rattle.line_runs.specs.declared.end.RunEnd.TheVariants.{Done, BadLine, ReadFault, WriteFault, NoMemory, Limit}
-use Rattle.line_runs.specs.Lines.{Line, Over, cut_line, ended_lines, script_lines, Drawn, ReadsLine, CutsLine}
+use Rattle.line_runs.specs.Lines.{Line, PastBudget, cut_line, ended_lines, script_lines, Drawn, ReadsLine, CutsLine}
 use Rattle.line_runs.specs.Writing.{IsBeginningOf, WritesText}
 use Rattle.line_runs.specs.Runs.{RunEffect, at_end, after_text, whole_text}
 use Rattle.line_runs.specs.Tasks.{TaskValue, IsAtEnd, IsOutside, IsAtLimit}
@@ -143,7 +143,7 @@ pub read_over : {State : Type 0} (left held left' : Option (List ℕ)) (s : Stan
 read_over None held left' s task line held1 count ends is read = tt
 read_over (Some b) held left' s task line held1 count ends is read =
     let drawn = read.keeps.drawn in
-    let cut : cut_line s.room (s.held ++ b) ≡ Over = ap (λ bs. cut_line s.room (s.held ++ bs)) (sym drawn.whole) ∙ ap (cut_line s.room) (sym (append_assoc s.held drawn.front drawn.rest)) ∙ cut_more-over s.room (s.held ++ drawn.front) drawn.rest read.cut in
+    let cut : cut_line s.room (s.held ++ b) ≡ PastBudget = ap (λ bs. cut_line s.room (s.held ++ bs)) (sym drawn.whole) ∙ ap (cut_line s.room) (sym (append_assoc s.held drawn.front drawn.rest)) ∙ cut_more-over s.room (s.held ++ drawn.front) drawn.rest read.cut in
     let over = script_over s.room (s.held ++ b) cut in
     let none = none_at true held s b task ends over.0 in
     let front = none_at false held s drawn.front task ends (over_lines s.room (s.held ++ drawn.front) read.cut) in record {

@@ -4,24 +4,24 @@ use Rattle.std.proofs.Common.{get_or}
 use Rattle.rpc_record.specs.declared.stream.Failed.{Failed}
 use Rattle.rpc_record.specs.declared.stream.Failed.TheVariants.{Fault, NoMemory}
 use Rattle.line_runs.specs.declared.lines.Ended.{Ended}
-use Rattle.line_runs.specs.declared.lines.Ended.TheVariants.{Newline, End, Over as RanOver}
+use Rattle.line_runs.specs.declared.lines.Ended.TheVariants.{Newline, End, PastBudget as RanOver}
 
 -- The front of some bytes: a line, with what stands behind its newline; a last line, with no newline; or more than the budget.
 pub data Cut : Type 0 where
   Line : (line rest : List ℕ) → Cut
   Last : (line : List ℕ) → Cut
-  Over : Cut
+  PastBudget : Cut
 
 -- the same with this byte in front of the line
 abbrev pub onto : ℕ → Cut → Cut
 onto b (Line line rest) = Line (b ∷ line) rest
 onto b (Last line) = Last (b ∷ line)
-onto b Over = Over
+onto b PastBudget = PastBudget
 
 -- the first line of the bytes, within a budget of bytes, the newline among them
 unfoldable pub cut_line : ℕ → List ℕ → Cut
 cut_line budget [] = Last []
-cut_line zero (b ∷ bs) = Over
+cut_line zero (b ∷ bs) = PastBudget
 cut_line (suc n) (b ∷ bs) = if b == 10 then Line [] bs else onto b (cut_line n bs)
 
 -- the byte in front of the first line, and in a line of its own where there is none
@@ -81,7 +81,7 @@ pub record Keeps (held left line held' : List ℕ) (left' : Option (List ℕ)) :
 -- The bytes run past the budget with no newline.
 pub record RunsOver (budget : ℕ) (held left line held' : List ℕ) (left' : Option (List ℕ)) : Type 0 where
   pub keeps : Keeps held left line held' left'
-  pub cut : cut_line budget (held ++ keeps.drawn.front) ≡ Over
+  pub cut : cut_line budget (held ++ keeps.drawn.front) ≡ PastBudget
 
 -- The source failed: the line so far is all that it gave, within the budget and with no newline.
 pub record BreaksOff (budget : ℕ) (held left line held' : List ℕ) (left' : Option (List ℕ)) : Type 0 where
@@ -118,6 +118,6 @@ Refills held (Some left) (Err e) held' left' = (held ≡ []) × (held' ≡ []) �
 abbrev pub TakesLine : ℕ → List ℕ → List ℕ → Result (Option Ended) Failed → List ℕ → List ℕ → Type 0
 TakesLine room held line (Ok (Some Newline)) held' line' = (more : List ℕ) × (line' ≡ line ++ more) × (cut_line room held ≡ Line more held')
 TakesLine room held line (Ok (Some End)) held' line' = ⊥
-TakesLine room held line (Ok (Some RanOver)) held' line' = (cut_line room held ≡ Over) × (held' ≡ held) × (line' ≡ line)
+TakesLine room held line (Ok (Some RanOver)) held' line' = (cut_line room held ≡ PastBudget) × (held' ≡ held) × (line' ≡ line)
 TakesLine room held line (Ok None) held' line' = (cut_line room held ≡ Last held) × (held' ≡ []) × (line' ≡ line ++ held)
 TakesLine room held line (Err e) held' line' = (e ≡ NoMemory) × (held' ≡ held) × (line' ≡ line)

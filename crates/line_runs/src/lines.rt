@@ -19,7 +19,7 @@ pub enum Ended {
     /// At the end of the bytes, with no newline.
     End,
     /// It runs past the budget.
-    Over,
+    PastBudget,
 }
 
 /// The bytes that were read from a source and not yet taken. Clauses see them as a list.
@@ -62,7 +62,7 @@ impl LineBuffer {
     /// Reads the next line into `line`, without its newline, from the bytes that are held and then from
     /// `source`. `budget` is how many bytes the line and its newline may have at most.
     ///
-    /// `Ended::End` with an empty line is the end of the bytes. `Ended::Over` is a line that runs past
+    /// `Ended::End` with an empty line is the end of the bytes. `Ended::PastBudget` is a line that runs past
     /// the budget, and an error one of the source's or of memory: then `line` is its beginning, and no
     /// byte is lost. Where the source failed, `line` has all that was read, and no byte is held.
     pub fn read_line<S: Source>(
@@ -115,13 +115,13 @@ impl LineBuffer {
                 self.start += at + 1;
                 Ok(Some(Ended::Newline))
             }
-            Some(_) => Ok(Some(Ended::Over)),
+            Some(_) => Ok(Some(Ended::PastBudget)),
             None if held.len() <= room => {
                 append(line, held)?;
                 self.start = self.end;
                 Ok(None)
             }
-            None => Ok(Some(Ended::Over)),
+            None => Ok(Some(Ended::PastBudget)),
         }
     }
 }

@@ -1,6 +1,6 @@
 //! The laws of lines of bytes.
 ghost use Rattle.std.specs.Prelude.{◌≡◌, ◌≢◌, ℕ, ◌+◌, ◌-◌, ◌<◌, ◌≤◌, List, [], ◌∷◌, length};
-ghost use Rattle.line_runs.specs.Lines.{Line, Last, Over, cut_line, script_lines};
+ghost use Rattle.line_runs.specs.Lines.{Line, Last, PastBudget, cut_line, script_lines};
 
 /// How the lines of a script follow from one cut after another.
 pub fn line_laws()
@@ -12,6 +12,6 @@ pub fn line_laws()
         → (bytes ≡ []) × (script_lines n bytes ≡ []) }
     ensures last { (n : ℕ) (bytes line : List ℕ) → cut_line n bytes ≡ Last line → line ≢ []
         → (script_lines n bytes ≡ line ∷ []) × (bytes ≡ line) × (length bytes ≤ n) }
-    ensures over { (n : ℕ) (bytes : List ℕ) → cut_line n bytes ≡ Over
+    ensures over { (n : ℕ) (bytes : List ℕ) → cut_line n bytes ≡ PastBudget
         → (script_lines n bytes ≡ []) × (n < length bytes) }
 {}

@@ -186,7 +186,7 @@ impl Playback {
         match self.read_line(source, line) {
             Err(Failed::Fault) => Ok(Some(RunEnd::ReadFault)),
             Err(Failed::NoMemory) => Ok(Some(RunEnd::NoMemory)),
-            Ok(Ended::Over) => Ok(Some(RunEnd::Limit(task.count()))),
+            Ok(Ended::PastBudget) => Ok(Some(RunEnd::Limit(task.count()))),
             Ok(Ended::End) => self.play_last(task, line, sink),
             Ok(Ended::Newline) => self.play_line(task, line, line.len() + 1, sink),
         }

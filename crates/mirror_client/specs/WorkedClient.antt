@@ -69,11 +69,11 @@ abbrev pub told_write : ℕ → ℕ → List ℕ → Entry
 told_write uid at bytes = Told the_file (record { 0 = uid }) at bytes
 
 -- what this client sends: a compound; a request on slot 0 of its session, with its number there; the same again
-abbrev pub calls_mds : ℕ → MdsCallValue → ClientSend
-calls_mds xid call = CallsMds xid client.name call
+abbrev pub to_mds : ℕ → MdsCallValue → ClientSend
+to_mds xid call = CallsMds xid client.name call
 
 abbrev pub on_session : ℕ → ℕ → SlotCallValue → ClientSend
-on_session xid sequence call = calls_mds xid (OnSlot session sequence call)
+on_session xid sequence call = to_mds xid (OnSlot session sequence call)
 
 abbrev pub again_on_session : ℕ → ℕ → SlotCallValue → ClientSend
 again_on_session xid sequence call = RepeatsToMds xid (mds_call_bytes xid client.name (OnSlot session sequence call))
@@ -118,7 +118,7 @@ abbrev pub opening_seen : ClientSeen
 opening_seen = record {
   entries = answer_entry (answer.Opened the_file) ∷ [];
   sends =
-      calls_mds 1 (ExchangeId 1) ∷ calls_mds 2 (CreateSession 4294967297 1) ∷ on_session 3 1 slot.ReclaimComplete
+      to_mds 1 (ExchangeId 1) ∷ to_mds 2 (CreateSession 4294967297 1) ∷ on_session 3 1 slot.ReclaimComplete
       ∷ on_session 4 2 (slot.Open (97 ∷ [])) ∷ [];
   asked = None;
 }
@@ -226,7 +226,7 @@ session_gone_seen = record {
   entries =
       writing_seen.entries ++ answer_entry (answer.Failed failing.Revoked) ∷ answer_entry (answer.Failed (failing.Refused 10020))
       ∷ answer_entry (answer.Failed (failing.Refused 10020)) ∷ [];
-  sends = writing_seen.sends ++ on_session 9 5 (slot.Read opened 0 1) ∷ calls_mds 10 (ExchangeId 1) ∷ [];
+  sends = writing_seen.sends ++ on_session 9 5 (slot.Read opened 0 1) ∷ to_mds 10 (ExchangeId 1) ∷ [];
   asked = Some ask.ExchangeId;
 }
 

@@ -25,7 +25,7 @@ use Rattle.client_state.specs.ClientStates.{ClientValue, fresh_client}
 use Rattle.client_state.specs.ClientSends.{RepliesToMds}
 use Rattle.client_callbacks.specs.Callbacks.{cb_first, cb_recall_result, cb_sequence_result}
 use Rattle.mirror_client.specs.ClientRuns.{ClientEvent, UserAsks, DsSays, CallsBack, Ticks, Leaves, Strays, client_run, ClientSeen}
-use Rattle.mirror_client.specs.WorkedClient.{client, session, the_file, opened, says_ok, says_plain, answer_entry, told_write, calls_mds, on_session, calls_server, write_call, commit_call, gives_back, opening, opening_seen, writing, writing_seen, committing, committing_seen}
+use Rattle.mirror_client.specs.WorkedClient.{client, session, the_file, opened, says_ok, says_plain, answer_entry, told_write, to_mds, on_session, calls_server, write_call, commit_call, gives_back, opening, opening_seen, writing, writing_seen, committing, committing_seen}
 
 -- ---- recalls
 
@@ -123,7 +123,7 @@ unknown = UserAsks (Open (97 ∷ [])) ∷ says_plain 1 (says.Client 4294967297 1
 abbrev pub unknown_seen : ClientSeen
 unknown_seen = record {
   entries = answer_entry (answer.Failed (failing.Refused 10022)) ∷ [];
-  sends = calls_mds 1 (ExchangeId 1) ∷ calls_mds 2 (CreateSession 4294967297 1) ∷ calls_mds 3 (ExchangeId 1) ∷ [];
+  sends = to_mds 1 (ExchangeId 1) ∷ to_mds 2 (CreateSession 4294967297 1) ∷ to_mds 3 (ExchangeId 1) ∷ [];
   asked = Some ask.ExchangeId;
 }
 
@@ -152,7 +152,7 @@ abbrev pub numberless : List ClientEvent
 numberless = UserAsks (Open (97 ∷ [])) ∷ says_plain 4294967295 (says.Client 4294967297 1) ∷ []
 
 abbrev pub numberless_seen : ClientSeen
-numberless_seen = record { entries = []; sends = calls_mds 4294967295 (ExchangeId 1) ∷ []; asked = None }
+numberless_seen = record { entries = []; sends = to_mds 4294967295 (ExchangeId 1) ∷ []; asked = None }
 
 -- ---- a client that leaves the protocol does nothing but write to a mirror of its layout, WRITE 9
 

@@ -6,7 +6,7 @@ use Rattle.std.proofs.lemmas.List.{length_push}
 use Rattle.std.proofs.lemmas.Option.{same_Some}
 use Rattle.std.proofs.Math.Nat.{mod-lt, mod-eq_of_lt, mod-add-mod, div-add-mod}
 use Rattle.nfs4_types.specs.declared.status.Stat4.TheVariants.{SeqMisordered}
-use Rattle.nfs4_session.specs.Slots.{SlotReply, NoRequest, InProgress, Kept, Uncached, SlotState, SlotAnswer, TakesEffect, Repeats, Refuses, new_slot, slot_answer, answer_again, is_in_progress, sequence_after, slot_finished, kept_as}
+use Rattle.nfs4_session.specs.Slots.{SlotReply, NoRequest, InProgress, Cached, Uncached, SlotState, SlotAnswer, TakesEffect, Repeats, Refuses, new_slot, slot_answer, answer_again, is_in_progress, sequence_after, slot_finished, kept_as}
 use Rattle.nfs4_session.specs.SlotsLaw.{SlotMove, Requests, Finishes, SlotRun, requested, slot_moved, slot_run, AreNumbered, TakeEffectOnce, EachOnce}
 use Rattle.nfs4_session.proofs.Numbered.{numbered_push}
 
@@ -32,7 +32,7 @@ sequence_mod n = by_case (n % 4294967296 == 4294967295) refl
 again_never : (reply : SlotReply) → answer_again reply ≡ TakesEffect → ⊥
 again_never NoRequest is = absurd (cc (is))
 again_never InProgress is = absurd (cc (is))
-again_never (Kept reply) is = absurd (cc (is))
+again_never (Cached reply) is = absurd (cc (is))
 again_never Uncached is = absurd (cc (is))
 
 takes_next : (s : SlotState) (number : ℕ) → slot_answer s number ≡ TakesEffect → number ≡ sequence_after s.last

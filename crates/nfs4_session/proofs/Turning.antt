@@ -7,7 +7,7 @@ use Rattle.nfs4_session.specs.declared.begin.Begin.{Begin}
 use Rattle.nfs4_session.specs.declared.slot.Turn.{Turn}
 use Rattle.nfs4_session.specs.declared.slot.Turn.TheVariants as turn
 use Rattle.nfs4_session.specs.declared.change.Change.TheVariants as change
-use Rattle.nfs4_session.specs.Slots.{SlotReply, NoRequest, InProgress, Kept, Uncached, SlotState, SlotAnswer, TakesEffect, Repeats, Refuses, slot_answer, answer_again, is_in_progress, sequence_after}
+use Rattle.nfs4_session.specs.Slots.{SlotReply, NoRequest, InProgress, Cached, Uncached, SlotState, SlotAnswer, TakesEffect, Repeats, Refuses, slot_answer, answer_again, is_in_progress, sequence_after}
 use Rattle.nfs4_session.specs.Clients.{ClientState, SessionState, SessionsState, has_id, client_in, number_in, change_first, with_clients, renewed_at, with_sessions, session_of}
 use Rattle.nfs4_session.specs.Requests.{after_request, answer_by_slot, answer_by_session, request_answer, IsReplayOf, BeginsRequest, BeginsBy}
 use Rattle.nfs4_session.specs.Changes.{changed, sessions_begun}
@@ -34,7 +34,7 @@ one_change s r now = ap (with_clients s) (sym (change_twice (has_id (client_in r
 again_kept : (reply : SlotReply) (bytes : List ℕ) → answer_again reply ≡ Repeats bytes → kept_bytes reply ≡ bytes
 again_kept NoRequest bytes is = absurd (cc (is))
 again_kept InProgress bytes is = absurd (cc (is))
-again_kept (Kept reply) bytes is = cc (is)
+again_kept (Cached reply) bytes is = cc (is)
 again_kept Uncached bytes is = absurd (cc (is))
 
 slot_kept : (slot : SlotState) (number : ℕ) (bytes : List ℕ) → slot_answer slot number ≡ Repeats bytes → kept_bytes slot.reply ≡ bytes

@@ -11,12 +11,12 @@ use Rattle.nfs4_session.specs.Clients.{ClientState, MadeSession, SessionsState}
 use Rattle.nfs4_session.specs.CreateSessions.{CreateSessionCase, IsDue, IsReplay, IsMisordered, HasNoRoom, IsStale, CreatesBy, is_before_restart}
 
 -- the session that is made already, or a fault
-abbrev pub asked_by : CreateSessionCase → Result (Option ℕ) SessionFault
-asked_by (IsDue client) = Ok None
-asked_by (IsReplay session) = Ok (Some session)
-asked_by IsMisordered = Err Misordered
-asked_by HasNoRoom = Err Full
-asked_by IsStale = Err StaleClient
+abbrev pub case_result : CreateSessionCase → Result (Option ℕ) SessionFault
+case_result (IsDue client) = Ok None
+case_result (IsReplay session) = Ok (Some session)
+case_result IsMisordered = Err Misordered
+case_result HasNoRoom = Err Full
+case_result IsStale = Err StaleClient
 
 abbrev pub last_made : Option Made → Option MadeSession
 last_made None = None

@@ -10,7 +10,7 @@ pub data SlotReply : Type 0 where
   -- none has, so far
   NoRequest : SlotReply
   InProgress : SlotReply
-  Kept : (reply : List ℕ) → SlotReply
+  Cached : (reply : List ℕ) → SlotReply
   -- its reply was too long
   Uncached : SlotReply
 
@@ -37,13 +37,13 @@ pub data SlotAnswer : Type 0 where
 abbrev pub answer_again : SlotReply → SlotAnswer
 answer_again NoRequest = Refuses SeqMisordered
 answer_again InProgress = Refuses Delay
-answer_again (Kept reply) = Repeats reply
+answer_again (Cached reply) = Repeats reply
 answer_again Uncached = Refuses RetryUncachedRep
 
 abbrev pub is_in_progress : SlotReply → Bool
 is_in_progress NoRequest = false
 is_in_progress InProgress = true
-is_in_progress (Kept reply) = false
+is_in_progress (Cached reply) = false
 is_in_progress Uncached = false
 
 abbrev pub slot_answer : SlotState → ℕ → SlotAnswer
@@ -58,7 +58,7 @@ slot_begun number = record { last = number; reply = InProgress }
 
 -- a kept reply has at most 32,768 bytes
 abbrev pub kept_as : List ℕ → SlotReply
-kept_as reply = if nat_lt MAX_KEPT (length reply) then Uncached else Kept reply
+kept_as reply = if nat_lt MAX_KEPT (length reply) then Uncached else Cached reply
 
 -- the request of this number is done, where it is in progress
 abbrev pub slot_finished : ℕ → List ℕ → SlotState → SlotState

@@ -4,14 +4,14 @@ use Rattle.nfs4_session.specs.declared.slot.Stage.{Stage}
 use Rattle.nfs4_session.specs.declared.slot.Stage.TheVariants as stage
 use Rattle.nfs4_session.specs.declared.slot.Turn.{Turn}
 use Rattle.nfs4_session.specs.declared.slot.Turn.TheVariants as turn
-use Rattle.nfs4_session.specs.Slots.{SlotReply, NoRequest, InProgress, Kept, Uncached, SlotState, SlotAnswer, TakesEffect, Repeats, Refuses}
+use Rattle.nfs4_session.specs.Slots.{SlotReply, NoRequest, InProgress, Cached, Uncached, SlotState, SlotAnswer, TakesEffect, Repeats, Refuses}
 use Rattle.nfs4_session.specs.Clients.{SessionState}
 
 -- the reply is in the slot's room
 abbrev pub reply_in : Stage → List ℕ → SlotReply
 reply_in stage.NoRequest room = NoRequest
 reply_in stage.InProgress room = InProgress
-reply_in stage.Kept room = Kept room
+reply_in stage.Cached room = Cached room
 reply_in stage.Uncached room = Uncached
 
 -- an answer, but for the reply
@@ -24,7 +24,7 @@ turn_of (Refuses status) = turn.Refuses status
 abbrev pub kept_bytes : SlotReply → List ℕ
 kept_bytes NoRequest = []
 kept_bytes InProgress = []
-kept_bytes (Kept reply) = reply
+kept_bytes (Cached reply) = reply
 kept_bytes Uncached = []
 
 abbrev pub kept_at_slot : Option SlotState → List ℕ

@@ -8,7 +8,7 @@ ghost use Rattle.nfs4_session.specs.CreateSessions.{with_new_session};
 ghost use Rattle.nfs4_session.specs.Requests.{answer_by_session};
 ghost use Rattle.nfs4_session.specs.Ends.{busy_with};
 ghost use Rattle.nfs4_session.specs.Changes.{changed};
-ghost use Rattle.nfs4_session.specs.Asked.{asked_by, fresh_record, case_in};
+ghost use Rattle.nfs4_session.specs.Asked.{case_result, fresh_record, case_in};
 ghost use Rattle.nfs4_session.specs.Turns.{turn_of, kept_in_session};
 
 use crate::change::Change;
@@ -136,7 +136,7 @@ impl ClientRecord {
     /// What a CREATE_SESSION of this number comes to: the session that it made already, or none where
     /// one is due.
     pub fn asked(&self, sequence: u32, are_spent: bool) -> Result<Option<u64>, SessionFault>
-        ensures exact { result ≡ asked_by (case_in self.now sequence are_spent) }
+        ensures exact { result ≡ case_result (case_in self.now sequence are_spent) }
         ensures spare { IfOk result (λ made. IfNone made (are_spent ≡ false)) }
     {
         if let Some(made) = self.made

@@ -3,7 +3,7 @@
 ghost use Rattle.std.specs.Prelude.{◌≡◌, ◌+◌, ◌<◌, ◌^◌, find, length, IsSome, IfSome, IfOk, IfNone};
 ghost use Rattle.nfs4_session.specs.Clients.{has_id, with_clients};
 ghost use Rattle.nfs4_session.specs.CreateSessions.{CreatesSession, create_session_case};
-ghost use Rattle.nfs4_session.specs.Asked.{asked_by, place_before_restart, id_at, without_place, CreatesDue};
+ghost use Rattle.nfs4_session.specs.Asked.{case_result, place_before_restart, id_at, without_place, CreatesDue};
 
 use crate::ids::session_id;
 use crate::seek::{Seek, first};
@@ -47,7 +47,7 @@ impl Sessions {
 
     /// The session that a CREATE_SESSION of this number made already, or none where one is due.
     fn asked(&self, client: u64, sequence: u32) -> Result<Option<u64>, SessionFault>
-        ensures exact { result ≡ asked_by (create_session_case self.now client sequence) }
+        ensures exact { result ≡ case_result (create_session_case self.now client sequence) }
         ensures spare { IfOk result (λ made. IfNone made (self.now.numbers + 1 < 2 ^ 64)) }
     {
         match self.record(client) {

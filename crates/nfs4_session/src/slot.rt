@@ -19,7 +19,7 @@ enum Stage {
     NoRequest,
     InProgress,
     /// The reply is in the slot's room.
-    Kept,
+    Cached,
     /// The reply was too long.
     Uncached,
 }
@@ -76,7 +76,7 @@ impl Slot {
             return match self.stage {
                 Stage::NoRequest => Turn::Refuses(Stat4::SeqMisordered),
                 Stage::InProgress => Turn::Refuses(Stat4::Delay),
-                Stage::Kept => Turn::Repeats,
+                Stage::Cached => Turn::Repeats,
                 Stage::Uncached => Turn::Refuses(Stat4::RetryUncachedRep),
             };
         }
@@ -92,7 +92,7 @@ impl Slot {
         ensures { result.now ≡ kept_bytes self.now.reply }
     {
         match self.stage {
-            Stage::Kept => &self.room,
+            Stage::Cached => &self.room,
             _ => &[],
         }
     }
@@ -119,7 +119,7 @@ impl Slot {
         self.room.clear();
         // the room is as large as any reply that comes here, so it does not fail
         self.stage = match self.room.extend_from_slice(reply) {
-            Ok(()) => Stage::Kept,
+            Ok(()) => Stage::Cached,
             Err(_) => Stage::Uncached,
         };
     }

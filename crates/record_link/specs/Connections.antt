@@ -9,7 +9,7 @@ use Rattle.rpc_record.specs.Frames.{front_of, is_whole, max_record}
 use Rattle.record_link.specs.declared.stream.Halt.{Halt}
 use Rattle.record_link.specs.declared.stream.Halt.TheVariants as halt
 use Rattle.record_link.specs.declared.rank.Rank.{Rank}
-use Rattle.record_link.specs.declared.rank.Rank.TheVariants.{Numbered, Silent, Ready, Over}
+use Rattle.record_link.specs.declared.rank.Rank.TheVariants.{Numbered, Silent, Ready, ToClose}
 use Rattle.record_link.specs.Connection.{ConnectionState, new_connection, is_spent, Fills, Advances, Hands, PutsAnswer, Drains}
 
 -- the most connections
@@ -76,7 +76,7 @@ abbrev pub rank_of : Rank → PeerState → Option ℕ
 rank_of (Numbered number) e = if e.number == number then Some 0 else None
 rank_of Silent e = Some e.heard
 rank_of Ready e = if is_ready e then Some e.order else None
-rank_of (Over now) e = if is_to_close now e then Some 0 else None
+rank_of (ToClose now) e = if is_to_close now e then Some 0 else None
 
 -- none has this rank
 abbrev pub HasNone : Rank → List PeerState → Type 0

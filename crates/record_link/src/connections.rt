@@ -245,9 +245,9 @@ impl<S: Stream + Drop> Connections<S> {
 
     /// The first connection that is to be closed now.
     pub fn over(&self) -> Option<u32>
-        ensures { MatchOption result (HasNone (Rank.Over self.now.time) self.now.peers) (λ n. IsNumberOf (Rank.Over self.now.time) self.now.peers n) }
+        ensures { MatchOption result (HasNone (Rank.ToClose self.now.time) self.now.peers) (λ n. IsNumberOf (Rank.ToClose self.now.time) self.now.peers n) }
     {
-        number_of(&self.peers, Rank::Over(self.time))
+        number_of(&self.peers, Rank::ToClose(self.time))
     }
 
     /// Reads once from the stream of the connection of this number, and reads what came as records.

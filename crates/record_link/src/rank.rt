@@ -16,7 +16,7 @@ pub enum Rank {
     /// Those of which a record may be handed out, in the order in which the records became whole.
     Ready,
     /// Those to be closed at this time.
-    Over(u64),
+    ToClose(u64),
 }
 
 impl<S: Stream> Peer<S> {
@@ -28,7 +28,7 @@ impl<S: Stream> Peer<S> {
             Rank::Numbered(number) => (self.number() == number).then_some(0),
             Rank::Silent => Some(self.heard()),
             Rank::Ready => self.is_ready().then_some(self.order()),
-            Rank::Over(now) => self.is_to_close(now).then_some(0),
+            Rank::ToClose(now) => self.is_to_close(now).then_some(0),
         }
     }
 }

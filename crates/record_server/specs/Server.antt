@@ -6,7 +6,7 @@ use Rattle.rpc_record.specs.declared.stream.Failed.TheVariants as failed
 use Rattle.rpc_record.specs.Stream.{one_more}
 use Rattle.record_link.specs.declared.stream.Halt.{Halt}
 use Rattle.record_link.specs.declared.stream.Halt.TheVariants as halt
-use Rattle.record_link.specs.declared.rank.Rank.TheVariants.{Over}
+use Rattle.record_link.specs.declared.rank.Rank.TheVariants.{ToClose}
 use Rattle.record_link.specs.Connections.{ConnectionsState, OpensConnection, Closes, Crowds, FillsOf, DrainsOf, HandsOut, AnswersOf, IsNumberOf, with_peers, at_time, wants_bytes, Asks}
 use Rattle.record_server.specs.declared.server.Taken.{Taken}
 use Rattle.record_server.specs.declared.server.Taken.TheVariants as taken
@@ -82,7 +82,7 @@ DoesStep (Accepted opened to_come went) old new =
     × ((mid : ConnectionsState) × MakesRoom old.connections mid × OpensConnection mid to_come went (Ok opened) new.connections)
 DoesStep (Read number result) old new = (new.waiting ≡ old.waiting) × Asks number wants_bytes old.connections.peers true × ReadsOn number old.connections result new.connections
 DoesStep (Wrote number result) old new = (new.waiting ≡ old.waiting) × WritesOn number old.connections result new.connections
-DoesStep (Closed number) old new = (new.waiting ≡ old.waiting) × IsNumberOf (Over old.connections.time) old.connections.peers number × ClosesOn number old.connections new.connections
+DoesStep (Closed number) old new = (new.waiting ≡ old.waiting) × IsNumberOf (ToClose old.connections.time) old.connections.peers number × ClosesOn number old.connections new.connections
 DoesStep FoundNone old new = (new.waiting ≡ old.waiting) × HandsOn old.connections (Ok None) new.connections
 
 -- what steps do, one after the other

@@ -11,11 +11,11 @@ type Reading = (usize, Result<Ended, Failed>, &'static [u8]);
 
 /// Lines are read within a budget.
 const WITHIN: [Reading; 7] = [
-    (2, Ok(Ended::Over), b""),
+    (2, Ok(Ended::PastBudget), b""),
     (3, Ok(Ended::Newline), b"ab"),
     (1, Ok(Ended::Newline), b""),
     (9, Ok(Ended::Newline), b"longer"),
-    (2, Ok(Ended::Over), b""),
+    (2, Ok(Ended::PastBudget), b""),
     (3, Ok(Ended::End), b"end"),
     (0, Ok(Ended::End), b""),
 ];

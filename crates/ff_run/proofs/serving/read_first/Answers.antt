@@ -6,9 +6,9 @@ use Rattle.ff_node.specs.Config.{max_line}
 use Rattle.ff_run.proofs.ServeLemmas.{first_newline, first_over, reads_first, draws_newline, draws_end, draws_over, draws_fault, draws_wanted, draws_none}
 use Rattle.ff_run.proofs.serving.read_first.Goals as goal
 
-pub returns-in-Ok-Over-clause-told : goal.returns-in-Ok-Over-clause-told
-returns-in-Ok-Over-clause-told g c =
-    let read = subst (λ (ended : Ended). ReadsLine (max_line + 1) [] (g.S.Source.left c.args.source.now) (Ok ended) c.read_line.new.line.items c.read_line.new.self (g.S.Source.left c.read_line.new.source)) c.in-Ok-Over.field-0-is (rw c.in-Ok.ensures at c.in-Ok-Over.ensures.told) in
+pub returns-in-Ok-PastBudget-clause-told : goal.returns-in-Ok-PastBudget-clause-told
+returns-in-Ok-PastBudget-clause-told g c =
+    let read = subst (λ (ended : Ended). ReadsLine (max_line + 1) [] (g.S.Source.left c.args.source.now) (Ok ended) c.read_line.new.line.items c.read_line.new.self (g.S.Source.left c.read_line.new.source)) c.in-Ok-PastBudget.field-0-is (rw c.in-Ok.ensures at c.in-Ok-PastBudget.ensures.told) in
     (refl, first_over (g.S.Source.left c.args.source.now) (g.S.Source.left c.read_line.new.source) c.read_line.new.line.items c.read_line.new.self read)
 
 pub returns-in-Ok-Newline-clause-told : goal.returns-in-Ok-Newline-clause-told
@@ -32,10 +32,10 @@ returns-in-Err-NoMemory-clause-drawn g c =
     let read = subst (λ (e : Failed). ReadsLine (max_line + 1) [] (left c.args.source.now) (Err e) c.read_line.new.line.items c.read_line.new.self (left c.read_line.new.source)) c.in-Err-NoMemory.field-0-is (rw c.in-Ok.ensures at c.in-Err-NoMemory.ensures.told) in
     draws_wanted (left c.args.source.now) (left c.read_line.new.source) c.read_line.new.line.items c.read_line.new.self read
 
-pub returns-in-Ok-Over-clause-drawn : goal.returns-in-Ok-Over-clause-drawn
-returns-in-Ok-Over-clause-drawn g c =
+pub returns-in-Ok-PastBudget-clause-drawn : goal.returns-in-Ok-PastBudget-clause-drawn
+returns-in-Ok-PastBudget-clause-drawn g c =
     let left = g.S.Source.left in
-    let read = subst (λ (ended : Ended). ReadsLine (max_line + 1) [] (left c.args.source.now) (Ok ended) c.read_line.new.line.items c.read_line.new.self (left c.read_line.new.source)) c.in-Ok-Over.field-0-is (rw c.in-Ok.ensures at c.in-Ok-Over.ensures.told) in
+    let read = subst (λ (ended : Ended). ReadsLine (max_line + 1) [] (left c.args.source.now) (Ok ended) c.read_line.new.line.items c.read_line.new.self (left c.read_line.new.source)) c.in-Ok-PastBudget.field-0-is (rw c.in-Ok.ensures at c.in-Ok-PastBudget.ensures.told) in
     draws_over (left c.args.source.now) (left c.read_line.new.source) c.read_line.new.line.items c.read_line.new.self 1 read
 
 pub returns-in-Ok-Newline-clause-drawn : goal.returns-in-Ok-Newline-clause-drawn

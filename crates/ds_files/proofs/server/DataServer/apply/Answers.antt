@@ -2,7 +2,7 @@ use Rattle.std.proofs.Common.{ap, ◌∙◌}
 use Rattle.rpc_record.specs.Rpc.{plain_credential}
 use Rattle.nfs3_wire.specs.Calls.{plain_call}
 use Rattle.ds_procedures.specs.Answer.{Answer}
-use Rattle.ds_procedures.specs.Heads.{server_of}
+use Rattle.ds_procedures.specs.Superblocks.{server_of}
 use Rattle.ds_procedures.specs.CodePlans.{plain_plan}
 use Rattle.ds_files.proofs.Harmless.{applied_stays}
 use Rattle.ds_files.proofs.server.DataServer.apply.Goals as goal

@@ -48,15 +48,15 @@ returns-in-Err-NoMemory-clause-told g c =
     λ fresh. subst (λ (t : RunState). PlaybackSteps (left c.args.source.now) held (stand task old) (Ok (Some NoMemory)) (left c.read_line.new.source) held task (stand task t)) (sym c.read_line.ensures.rest)
     (read_memory (left c.args.source.now) held (left c.read_line.new.source) (stand task old) task line new.held read)
 
-pub returns-in-Ok-Over-clause-told : goal.returns-in-Ok-Over-clause-told
-returns-in-Ok-Over-clause-told g c =
+pub returns-in-Ok-PastBudget-clause-told : goal.returns-in-Ok-PastBudget-clause-told
+returns-in-Ok-PastBudget-clause-told g c =
     let left = g.S.Source.left in
     let held = g.K.Sink.held c.args.sink.now in
     let task = g.T.LineTask.value c.args.task.now in
     let old = c.args.self.now in
     let new = c.read_line.new.self in
     let line = c.read_line.new.line.items in
-    let read = subst (λ (ended : Ended). ReadsLine old.room old.held (left c.args.source.now) (Ok ended) line new.held (left c.read_line.new.source)) c.in-Ok-Over.field-0-is c.in-Ok-Over.ensures.told in
+    let read = subst (λ (ended : Ended). ReadsLine old.room old.held (left c.args.source.now) (Ok ended) line new.held (left c.read_line.new.source)) c.in-Ok-PastBudget.field-0-is c.in-Ok-PastBudget.ensures.told in
     λ fresh. subst (λ (t : RunState). PlaybackSteps (left c.args.source.now) held (stand task old) (Ok (Some (Limit c.count.result))) (left c.read_line.new.source) held task (stand task t)) (sym c.read_line.ensures.rest)
     (read_over (left c.args.source.now) held (left c.read_line.new.source) (stand task old) task line new.held c.count.result (g.met.T.LineTask.ends c.args.task.now _ fresh) c.count.ensures read)
 

@@ -9,16 +9,16 @@ use Rattle.nfs3_wire.specs.Attributes.{fattr3, fattr3_value}
 use Rattle.cluster_model.specs.declared.tick.Tick.{Tick}
 use Rattle.cluster_model.specs.File.{StoredFile, shown}
 use Rattle.cluster_model.specs.Server.{ServerState, Caller, total_size, max_total, max_file, max_ticks, may_write, Refusal, Acces, Inval, Fbig, NoSpc, tick_refusal}
-use Rattle.ds_procedures.specs.declared.head.Head.{Head}
+use Rattle.ds_procedures.specs.declared.superblock.Superblock.{Superblock}
 use Rattle.ds_procedures.specs.declared.object.Place.{Place}
 use Rattle.ds_procedures.specs.declared.object.Place.TheVariants as place
 use Rattle.ds_procedures.specs.Objects.{Object, Missing, Root, File, attributes_of, file_attributes}
 
-abbrev pub server_of : Head → List StoredFile → ServerState
+abbrev pub server_of : Superblock → List StoredFile → ServerState
 server_of h files = record { number = h.number; clock = h.clock; root = h.root; names = h.names; files = files }
 
 -- what holds of every data server
-pub record IsServer (h : Head) (files : List StoredFile) : Type 0 where
+pub record IsServer (h : Superblock) (files : List StoredFile) : Type 0 where
   pub total : h.total ≡ total_size files
   pub bounded : h.total ≤ max_total
   pub ticks : h.clock.count ≤ max_ticks
@@ -60,7 +60,7 @@ abbrev pub AttributesFit : Option Fattr3 → Type 0
 AttributesFit attributes = Fits (Optional fattr3) (option_map fattr3_value attributes)
 
 -- the attributes are those of the object at a place
-abbrev pub AreOf : Head → List StoredFile → Place → Option Fattr3 → Type 0
+abbrev pub AreOf : Superblock → List StoredFile → Place → Option Fattr3 → Type 0
 AreOf h files at attributes = (object : Object) → IsAt files at object → attributes ≡ attributes_of (server_of h files) object
 
 -- they are those of the file at an index

@@ -5,7 +5,7 @@ use cluster_model::{Tick, Times};
 
 /// All of a data server but its files.
 #[derive(Drop)]
-pub struct Head {
+pub struct Superblock {
     pub number: u32,
     /// The last tick that was given, of count 0 where none was in this boot.
     pub clock: Tick,
