@@ -1,21 +1,29 @@
 //! A file's state: `making CRED WANTED`, `made MIRRORS`, `saw ID TICK`, `grant NODE UIDS_LEFT`, `recall`,
 //! `take_return NODE NAMED PLACES NEXT`, `revoke CAUSE NEXT`, `own_done PLACES NEXT`, `mirror_failed ID CAUSE`,
-//! `fence_done`. Behind each answer stand the phase, the live mirrors, the holder and the user of its period.
+//! `fence_done`, `settled NEXT`, `copied TARGETS NEXT`, `add_mirrors UIDS_LEFT`, `report_of MIRRORS IOERR ..`. Behind each
+//! answer stand the phase, the live mirrors, the holder and the user of its period, where it has one: a copy, and the
+//! fence behind it, belong to no period.
 
+use crate::report::put_report;
 use cluster_model::{NodeId, Phase};
-use layout_state::{FileState, Grant, GrantFault, ReturnFault};
+use layout_state::{AddMirrorFault, FileState, Grant, GrantFault, ReturnFault};
 use row_words::{Answer, Part, RowFault, Words};
 
 /// The state of a file.
 #[derive(Clone, Copy)]
 pub struct FileStateRows {
     file: Option<FileState>,
+    // its mirrors came from a copy, and are not fenced yet
+    is_copied: bool,
 }
 
 impl FileStateRows {
     /// None yet.
     pub fn new() -> FileStateRows {
-        FileStateRows { file: None }
+        FileStateRows {
+            file: None,
+            is_copied: false,
+        }
     }
 }
 
@@ -52,6 +60,32 @@ fn fence_done(file: &mut FileState, words: &mut Words<'_>) -> Result<(), RowFaul
         return Err(RowFault::Outside);
     };
     file.fence_done();
+    Ok(())
+}
+
+/// Its first mirror is committed, where it is to be.
+fn settled(file: &mut FileState, words: &mut Words<'_>) -> Result<(), RowFault> {
+    let next = words.cred()?;
+    words.end()?;
+    let Phase::Settling = file.phase() else {
+        return Err(RowFault::Outside);
+    };
+    file.settled(next);
+    Ok(())
+}
+
+/// Fresh mirrors hold its bytes, where it is being copied and they can come into the live list.
+fn copied(file: &mut FileState, words: &mut Words<'_>) -> Result<(), RowFault> {
+    let targets = words.targets()?;
+    let next = words.cred()?;
+    words.end()?;
+    let Phase::Copying = file.phase() else {
+        return Err(RowFault::Outside);
+    };
+    if !file.can_swap(&targets) {
+        return Err(RowFault::Outside);
+    }
+    file.copied(&targets, next);
     Ok(())
 }
 
@@ -130,6 +164,22 @@ fn put_own_done(
     }
 }
 
+fn put_added(
+    file: &mut FileState,
+    words: &mut Words<'_>,
+    answer: &mut Answer,
+) -> Result<(), RowFault> {
+    match file.add_mirrors(words.last_number32()?) {
+        Ok(()) => answer.word("Ok"),
+        Err(AddMirrorFault::Later(phase)) => {
+            answer.word("Later")?;
+            answer.phase(phase)
+        }
+        Err(AddMirrorFault::Whole) => answer.word("Whole"),
+        Err(AddMirrorFault::Spent) => answer.word("Spent"),
+    }
+}
+
 /// A live mirror fails, where mirrors may leave by themselves.
 fn put_failed(
     file: &mut FileState,
@@ -155,6 +205,8 @@ fn change(file: &mut FileState, name: &str, words: &mut Words<'_>) -> Result<(),
         "saw" => saw(file, words),
         "revoke" => revoke(file, words),
         "fence_done" => fence_done(file, words),
+        "settled" => settled(file, words),
+        "copied" => copied(file, words),
         _ => Err(RowFault::Outside),
     }
 }
@@ -175,6 +227,8 @@ fn put_call(
         "take_return" => put_return(file, words, answer),
         "own_done" => put_own_done(file, words, answer),
         "mirror_failed" => put_failed(file, words, answer),
+        "add_mirrors" => put_added(file, words, answer),
+        "report_of" => put_report(words, answer),
         _ => {
             change(file, name, words)?;
             answer.word("Ok")
@@ -183,7 +237,7 @@ fn put_call(
 }
 
 /// What is seen of a file.
-fn put_state(file: &FileState, answer: &mut Answer) -> Result<(), RowFault> {
+fn put_state(file: &FileState, is_copied: bool, answer: &mut Answer) -> Result<(), RowFault> {
     answer.state()?;
     answer.phase(file.phase())?;
     answer.mirrors(file.live())?;
@@ -191,7 +245,11 @@ fn put_state(file: &FileState, answer: &mut Answer) -> Result<(), RowFault> {
         None => answer.word("-")?,
         Some(holder) => answer.node(holder)?,
     }
-    answer.cred(file.cred())
+    match file.phase() {
+        Phase::Copying => answer.word("-"),
+        Phase::Fencing if is_copied => answer.word("-"),
+        _ => answer.cred(file.cred()),
+    }
 }
 
 impl Part for FileStateRows {
@@ -203,6 +261,10 @@ impl Part for FileStateRows {
         }
         let file = self.file.as_mut().ok_or(RowFault::Outside)?;
         put_call(file, name, words, answer)?;
-        put_state(file, answer)
+        self.is_copied = match file.phase() {
+            Phase::Fencing => self.is_copied || name == "copied",
+            _ => false,
+        };
+        put_state(file, self.is_copied, answer)
     }
 }

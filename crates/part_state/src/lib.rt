@@ -7,6 +7,7 @@ mod extents;
 mod fences;
 mod file_state;
 mod mirrors;
+mod report;
 mod sessions;
 mod writer;
 

@@ -4,7 +4,9 @@ use crate::answer::Answer;
 use crate::fault::RowFault;
 use crate::numbers::{number32, number64};
 use crate::words::Words;
-use cluster_model::{Cred, Mirror, MirrorId, Mirrors, NodeId, Reported, Shown, Tick};
+use cluster_model::{
+    Cred, Mirror, MirrorId, Mirrors, NodeId, Reported, Shown, SwappedIn, Targets, Tick,
+};
 
 /// `m`, or `d` or `c` and a number.
 fn node_of(word: &str) -> Result<NodeId, RowFault> {
@@ -59,6 +61,19 @@ fn shown_of(word: &str) -> Result<Shown, RowFault> {
     })
 }
 
+/// `d2.3@1.8:d2.2`: a fresh mirror, and the one in whose place it comes; `-` is none.
+fn swapped_of(word: &str) -> Result<SwappedIn, RowFault> {
+    let (new, old) = word.split_once(":").ok_or(RowFault::Outside)?;
+    Ok(SwappedIn {
+        new: mirror_of(new)?,
+        old: if old == "-" {
+            None
+        } else {
+            Some(mirror_id_of(old)?)
+        },
+    })
+}
+
 impl Words<'_> {
     /// A machine.
     pub fn node(&mut self) -> Result<NodeId, RowFault> {
@@ -96,6 +111,21 @@ impl Words<'_> {
     /// Mirrors on different servers, at most four, with commas between them; `-` is none.
     pub fn mirrors(&mut self) -> Result<Mirrors, RowFault> {
         Mirrors::of(&self.mirror_list()?).ok_or(RowFault::Outside)
+    }
+
+    /// Fresh mirrors with commas between them, at most four; `-` is none.
+    pub fn targets(&mut self) -> Result<Targets, RowFault> {
+        let mut targets = Targets::none();
+        let word = self.word()?;
+        if word == "-" {
+            return Ok(targets);
+        }
+        for item in word.split(',') {
+            if !targets.add(swapped_of(item)?) {
+                return Err(RowFault::Outside);
+            }
+        }
+        Ok(targets)
     }
 
     /// Four digits, one for each place of the live list, `1` where it is reported.
@@ -188,6 +218,31 @@ impl Answer {
             if let Some(mirror) = mirrors.get(place) {
                 self.push_mirror(mirror)?;
             }
+        }
+        Ok(())
+    }
+
+    /// Appends a fresh mirror, and the one in whose place it comes, to the last word.
+    fn push_swapped(&mut self, target: SwappedIn) -> Result<(), RowFault> {
+        self.push_mirror(target.new)?;
+        self.push(":")?;
+        match target.old {
+            None => self.push("-"),
+            Some(old) => self.push_mirror_id(old),
+        }
+    }
+
+    /// Fresh mirrors, with commas between them; `-` is none.
+    pub fn targets(&mut self, targets: &Targets) -> Result<(), RowFault> {
+        self.word("")?;
+        if targets.as_slice().is_empty() {
+            return self.push("-");
+        }
+        for (place, target) in targets.as_slice().iter().enumerate() {
+            if place > 0 {
+                self.push(",")?;
+            }
+            self.push_swapped(*target)?;
         }
         Ok(())
     }
