@@ -45,6 +45,11 @@ abbrev pub client_history : ClientValue → List ClientInput → List HistoryIte
 client_history c [] = []
 client_history c (input ∷ inputs) = items_of input (input_step input c) ++ client_history (input_step input c).client inputs
 
+-- the client behind the inputs
+abbrev pub client_after : ClientValue → List ClientInput → ClientValue
+client_after c [] = c
+client_after c (input ∷ inputs) = client_after (input_step input c).client inputs
+
 -- ---- what is said of a history
 
 -- these stand in it, in this order

@@ -4,17 +4,26 @@ use Rattle.std.proofs.Common.{inl, inr}
 use Rattle.ff_xdr.specs.Form.{Value, word}
 use Rattle.rpc_record.specs.Calls.{RpcCall, call_at}
 use Rattle.rpc_record.specs.Replies.{RpcReply}
+use Rattle.nfs4_types.specs.declared.ids.SessionId.{SessionId}
+use Rattle.nfs4_types.specs.declared.stateid.Stateid.{Stateid}
 use Rattle.nfs4_compound.specs.CbArgs.{cb_argop4}
 use Rattle.nfs4_compound.specs.Compounds.{CbCompoundValue, cb_compound_at}
 use Rattle.cluster_model.specs.declared.ids.NodeId.TheVariants.{Mds}
+use Rattle.cluster_model.specs.declared.ids.FileId.{FileId}
+use Rattle.cluster_model.specs.declared.answer.UserAnswer.TheVariants as answer
+use Rattle.cluster_model.specs.declared.answer.FailCause.TheVariants as failing
 use Rattle.cluster_model.specs.declared.entry.Entry.{Entry}
-use Rattle.cluster_model.specs.declared.entry.Entry.TheVariants.{Sent}
+use Rattle.cluster_model.specs.declared.entry.Entry.TheVariants.{Sent, Answer}
 use Rattle.mds_file_calls.specs.declared.grant.LayoutGrant.{LayoutGrant}
+use Rattle.mds_file_calls.specs.declared.layout_return.FailedMirror.{FailedMirror}
 use Rattle.mds_calls.specs.MdsCalls.{OnSlot}
 use Rattle.mds_calls.specs.MdsCalls as slot
+use Rattle.client_state.specs.declared.layout.Layout.{Layout}
+use Rattle.client_state.specs.ClientStates.{ClientValue, fresh_client}
+use Rattle.client_state.specs.ClientQueue.{is_writing}
 use Rattle.client_state.specs.ClientSends.{CallsMds, RepliesToMds}
 use Rattle.client_callbacks.specs.Callbacks.{recalled_state}
-use Rattle.client_laws.specs.ClientHistory.{ClientInput, Recorded, HistoryItem, Hears, Enters, Sends, HasItem}
+use Rattle.client_laws.specs.ClientHistory.{ClientInput, Recorded, HistoryItem, Hears, Enters, Sends, HasItem, client_history, client_after}
 use Rattle.client_laws.specs.ClientRunLaws.{WasGranted, AreGrantedOnce}
 
 -- ---- a callback
@@ -91,3 +100,39 @@ TakesUnrecalled past entry = Unit {0}
 abbrev pub KeepsRecalled : List HistoryItem → HistoryItem → Type 0
 KeepsRecalled past (Enters entry) = TakesUnrecalled past entry
 KeepsRecalled past item = Unit {0}
+
+-- ---- a layout that is recalled does go
+
+-- a LAYOUTRETURN of the layout of this state was sent (RFC 8881, section 18.44)
+pub record WasGivenBack (past : List HistoryItem) (state : List ℕ) : Type 0 where
+  pub xid : ℕ
+  pub name : List ℕ
+  pub session : SessionId
+  pub sequence : ℕ
+  pub file : FileId
+  pub stateid : Stateid
+  pub failed : List FailedMirror
+  pub its_state : stateid.other ≡ state
+  pub sent : HasItem past (Sends (CallsMds xid name (OnSlot session sequence (slot.LayoutReturn file stateid failed))))
+
+-- the client has the layout still, and takes no write under it
+pub record IsGoing (c : ClientValue) (state : List ℕ) : Type 0 where
+  pub layout : Layout
+  pub there : c.layout ≡ Some layout
+  pub its_state : layout.stateid.other ≡ state
+  pub stage : is_writing layout.stage ≡ false
+
+-- what has become of it, by all that came and by what came behind the recall
+pub data HasGone (past behind : List HistoryItem) (c : ClientValue) (state : List ℕ) : Type 0 where
+  WasReturned : WasGivenBack past state → HasGone past behind c state
+  -- the user was answered since that it was taken away
+  WasLost : (client : ℕ) → HasItem behind (Enters (Answer client (answer.Failed failing.Revoked))) → HasGone past behind c state
+  GoesStill : IsGoing c state → HasGone past behind c state
+
+-- At every moment behind a recall that was answered OK the layout was given back, was found lost, or is held still with no write taken
+-- under it (RFC 8881, section 20.3).
+abbrev pub RecalledGoes : Type 0
+RecalledGoes =
+    (number verifier first_xid : ℕ) (inputs : List ClientInput) (before behind : List HistoryItem) (reply : RpcReply) (state : List ℕ)
+    → client_history (fresh_client number verifier first_xid) inputs ≡ before ++ Sends (RepliesToMds reply) ∷ behind → WasRecalled before reply state
+    → HasGone (client_history (fresh_client number verifier first_xid) inputs) behind (client_after (fresh_client number verifier first_xid) inputs) state
