@@ -19,8 +19,9 @@ use Rattle.cluster_model.specs.Fences.{FenceState, waits, with_stage, with_mirro
 use Rattle.copy_rule.specs.Copies.{CopyState, CopyCall, is_given_up, at_stage, with_target, with_read, have_answered, target_call, target_caller, target_call_at, waiting_at as copy_waiting, call_from as copy_call_from}
 use Rattle.copy_rule.specs.declared.copy_target.CopyTarget.{CopyTarget}
 use Rattle.cluster_model.specs.declared.limits.TheConstants.{PIECE_SIZE}
-use Rattle.cluster_laws.specs.MdsFiles.{Creation, Creations, Activity, Idle, Makes, Fences, Settles, Copies, MdsFile, in_stage, with_creation}
-use Rattle.cluster_laws.specs.FilePhases.{CallOut, call_out, create_out, create_out_at, creation_waiting, copy_out, fence_out, settle_out}
+use Rattle.file_rule.specs.MdsFiles.{Creations, Activity, Idle, Makes, Fences, Settles, Copies, MdsFile, in_stage, with_creation}
+use Rattle.file_rule.specs.declared.creation.Creation.{Creation}
+use Rattle.file_rule.specs.FilePhases.{CallOut, call_out, create_out, create_out_at, creation_waiting, copy_out, fence_out, settle_out}
 use Rattle.cluster_laws.specs.Machine.{PacketValue, Call, Reply, numbered_at}
 use Rattle.cluster_laws.proofs.Facts.{AllFollow, Bears}
 use Rattle.cluster_laws.proofs.Lists.{all_append, all_more, all_at, all_set, push_old, found_at, same_numbered}

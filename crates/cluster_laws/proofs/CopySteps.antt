@@ -15,7 +15,7 @@ use Rattle.cluster_model.specs.declared.layout_state.LayoutPhase.TheVariants.{Fr
 use Rattle.cluster_model.specs.declared.layout_state.CopyKind.{CopyKind}
 use Rattle.cluster_model.specs.Journal.{is_mirror}
 use Rattle.cluster_model.specs.Phases.{ids_of, but_for, is_last_live, is_source, phase_without, with_phase, after_loss}
-use Rattle.cluster_laws.specs.MdsFiles.{Activity, Idle, Settles, FileStep, stays, source_left, settling_timed_out}
+use Rattle.file_rule.specs.MdsFiles.{Activity, Idle, Settles, FileStep, stays, source_left, settling_timed_out}
 use Rattle.cluster_laws.specs.Machine.{file_id}
 use Rattle.cluster_laws.specs.FenceLaw.{live_by, changed_live, first_free}
 use Rattle.cluster_laws.proofs.Lists.{all_append, all_more}

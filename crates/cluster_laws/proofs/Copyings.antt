@@ -19,7 +19,8 @@ use Rattle.cluster_model.specs.Fences.{odd_status}
 use Rattle.cluster_model.specs.Phases.{ids_of, is_last_live, with_phase, after_loss, freed, has_targets}
 use Rattle.copy_rule.specs.Copies.{to_make, new_copy}
 use Rattle.copy_rule.specs.declared.copy_target.Target.{Target}
-use Rattle.cluster_laws.specs.MdsFiles.{Idle, Settles, Copies, Fresh, stays, a_uid, goes_idle, servers_without, replacing, adding, plan_of, source_of, copying, settled, source_left, settling_answered}
+use Rattle.file_rule.specs.MdsFiles.{Idle, Settles, Copies, stays, a_uid, goes_idle, servers_without, replacing, adding, plan_of, source_of, copying, settled, source_left, settling_answered}
+use Rattle.file_rule.specs.declared.fresh.Fresh.{Fresh}
 use Rattle.cluster_laws.specs.Machine.{file_id}
 use Rattle.cluster_laws.specs.FenceLaw.{live_in}
 use Rattle.cluster_laws.proofs.Facts.{AllFollow}

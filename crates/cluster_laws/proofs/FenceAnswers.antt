@@ -13,7 +13,7 @@ use Rattle.cluster_model.specs.declared.layout_state.LayoutState.{LayoutState}
 use Rattle.cluster_model.specs.DsCalls.{DsCallValue, SetAttr, DsReplyValue, Created, Set, Written, Committed, Bytes, NotSync, Failed}
 use Rattle.cluster_model.specs.Fences.{is_out, stage_at_tick, max_unsynced, MirrorStep, having_seen, acknowledged, failed_by, out_of_sync, answered, stage_timed_out, timed_out, at_tick, FenceState, outstanding_at, with_mirror, step_at, step_from, after_tick}
 use Rattle.copy_rule.specs.Copies.{is_given_up}
-use Rattle.cluster_laws.specs.MdsFiles.{Activity, Fences, fence_stepped, shown_by_set, seen_by, mirror_at, fence_answered, fence_timed_out}
+use Rattle.file_rule.specs.MdsFiles.{Activity, Fences, fence_stepped, shown_by_set, seen_by, mirror_at, fence_answered, fence_timed_out}
 use Rattle.cluster_laws.specs.Machine.{file_id}
 use Rattle.cluster_laws.proofs.Lists.{all_at, all_set, found_at}
 use Rattle.cluster_laws.proofs.Invariant.{Net, IsThisCall, IsGiven, IsReplyTo, IsAnswer, IsInFence, kept_ids, IsFile}

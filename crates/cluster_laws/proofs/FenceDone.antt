@@ -19,7 +19,7 @@ use Rattle.cluster_model.specs.Journal.{Copy, copy_after, content_of}
 use Rattle.cluster_model.specs.Fences.{FenceState, is_over, is_done}
 use Rattle.cluster_model.specs.Phases.{ids_of, fenced_to, fence_entries}
 use Rattle.copy_rule.specs.Copies.{is_given_up}
-use Rattle.cluster_laws.specs.MdsFiles.{Idle, Fences, begun_by}
+use Rattle.file_rule.specs.MdsFiles.{Idle, Fences, begun_by}
 use Rattle.cluster_laws.specs.Machine.{file_id}
 use Rattle.cluster_laws.specs.FenceLaw.{live_in, live_by, first_free}
 use Rattle.cluster_laws.proofs.Facts.{Bears, OwnedFrom}

@@ -24,7 +24,7 @@ use Rattle.cluster_model.specs.GuardLaws.{target}
 use Rattle.cluster_model.specs.Fences.{is_out, stage_at_tick, max_unsynced, MirrorStep, with_stage, having_seen, acknowledged, failed_by, out_of_sync, answered, stage_timed_out, timed_out, at_tick, dropped_if, FenceState, without, is_done}
 use Rattle.cluster_model.specs.Phases.{ids_of, but_for, is_last_live, is_source, phase_without, after_loss, mirror_left, fence_done}
 use Rattle.copy_rule.specs.Copies.{is_given_up}
-use Rattle.cluster_laws.specs.MdsFiles.{Fences, MdsFile, FileStep, stays, goes_on, with_entries, fenced_on, fence_failed, fence_stepped}
+use Rattle.file_rule.specs.MdsFiles.{Fences, MdsFile, FileStep, stays, goes_on, with_entries, fenced_on, fence_failed, fence_stepped}
 use Rattle.cluster_laws.specs.Machine.{file_id}
 use Rattle.cluster_laws.specs.FenceLaw.{live_by, changed_live}
 use Rattle.cluster_laws.proofs.Facts.{OwnedFrom}

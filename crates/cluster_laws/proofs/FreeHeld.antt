@@ -17,8 +17,9 @@ use Rattle.cluster_model.specs.declared.layout_state.LayoutPhase.TheVariants.{Ma
 use Rattle.cluster_model.specs.declared.layout_state.FenceEnd.TheVariants.{Dirty}
 use Rattle.cluster_model.specs.declared.layout_state.CopyKind.TheVariants.{Adding}
 use Rattle.cluster_model.specs.Phases.{ids_of, unreported, left_entries, is_clean, granted, reported_cause, returned, revoked, resilvered}
-use Rattle.cluster_laws.specs.MdsFiles.{Settles, MdsFile, Fresh, FileStep, nothing, stays, a_uid, goes_fencing, with_entries}
-use Rattle.cluster_laws.specs.FilePhases.{are_spent, asked_in, held_in, by_client, by_mds, recalled_row, returned_row, revoked_row, own_row, resilvered_in}
+use Rattle.file_rule.specs.MdsFiles.{Settles, MdsFile, FileStep, nothing, stays, a_uid, goes_fencing, with_entries}
+use Rattle.file_rule.specs.declared.fresh.Fresh.{Fresh}
+use Rattle.file_rule.specs.FilePhases.{are_spent, asked_in, held_in, by_client, by_mds, recalled_row, returned_row, revoked_row, own_row, resilvered_in}
 use Rattle.cluster_laws.specs.Machine.{file_id}
 use Rattle.cluster_laws.specs.FenceLaw.{live_in, live_after}
 use Rattle.cluster_laws.proofs.Lists.{all_append}

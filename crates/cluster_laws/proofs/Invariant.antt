@@ -30,7 +30,8 @@ use Rattle.cluster_model.specs.Fences.{FenceState, is_out}
 use Rattle.cluster_model.specs.Phases.{ids_of, is_source}
 use Rattle.copy_rule.specs.Copies.{CopyState, is_given_up, target_call}
 use Rattle.copy_rule.specs.declared.copy_target.CopyTarget.{CopyTarget}
-use Rattle.cluster_laws.specs.MdsFiles.{Creation, Creations, Activity, Idle, Makes, Fences, Settles, Copies, MdsFile}
+use Rattle.file_rule.specs.MdsFiles.{Creations, Activity, Idle, Makes, Fences, Settles, Copies, MdsFile}
+use Rattle.file_rule.specs.declared.creation.Creation.{Creation}
 use Rattle.cluster_laws.specs.Machine.{PacketValue, Call, Reply, Machine, numbered_at, file_id}
 use Rattle.cluster_laws.specs.FenceLaw.{live_in, is_among}
 use Rattle.cluster_laws.proofs.Facts.{Bears, OwnedFrom, HasGiven, AskedAt}

@@ -3,7 +3,7 @@ use Rattle.std.proofs.Common.{ℕ, ◌<◌, List}
 use Rattle.std.specs.List.{AllByRecursion}
 use Rattle.cluster_model.specs.declared.ids.MirrorId.{MirrorId}
 use Rattle.cluster_model.specs.declared.entry.Entry.{Entry}
-use Rattle.cluster_laws.specs.MdsFiles.{Fresh}
+use Rattle.file_rule.specs.declared.fresh.Fresh.{Fresh}
 use Rattle.cluster_laws.proofs.Facts.{AllFollow, Bears, OwnedFrom}
 use Rattle.cluster_laws.proofs.Invariant.{Net, IsEntry}
 use Rattle.cluster_laws.proofs.FenceDone.{IsExact}

@@ -11,7 +11,8 @@ use Rattle.cluster_model.specs.declared.layout_state.LayoutState.{LayoutState}
 use Rattle.cluster_model.specs.DsCalls.{DsReplyValue}
 use Rattle.cluster_model.specs.Fences.{is_out, is_over}
 use Rattle.cluster_model.specs.Phases.{ids_of, made, free_with}
-use Rattle.cluster_laws.specs.MdsFiles.{Creation, Creations, Idle, Makes, FileStep, stays, goes_idle, with_creation, all_made, creation_answered, creation_timed_out, creation_of, making_on, making_at, making_by}
+use Rattle.file_rule.specs.MdsFiles.{Creations, Idle, Makes, FileStep, stays, goes_idle, with_creation, all_made, creation_answered, creation_timed_out, creation_of, making_on, making_at, making_by}
+use Rattle.file_rule.specs.declared.creation.Creation.{Creation}
 use Rattle.cluster_laws.specs.Machine.{file_id}
 use Rattle.cluster_laws.specs.FenceLaw.{live_by, first_free}
 use Rattle.cluster_laws.proofs.Facts.{OwnedFrom}

@@ -13,7 +13,8 @@ use Rattle.cluster_model.specs.declared.call_stage.CallStage.TheVariants.{Waits,
 use Rattle.cluster_model.specs.Mirrors.{has_server, are_on_different_servers}
 use Rattle.cluster_model.specs.DsCalls.{DsCallValue, Create, DsReplyValue, Created, Set, Written, Committed, Bytes, NotSync, Failed}
 use Rattle.cluster_model.specs.Fences.{is_out, stage_at_tick}
-use Rattle.cluster_laws.specs.MdsFiles.{Creation, Creations, in_stage, made_as, all_made, standing, creation_failed, creation_answered, stage_behind, creation_timed_out}
+use Rattle.file_rule.specs.MdsFiles.{Creations, in_stage, made_as, all_made, standing, creation_failed, creation_answered, stage_behind, creation_timed_out}
+use Rattle.file_rule.specs.declared.creation.Creation.{Creation}
 use Rattle.cluster_laws.proofs.Facts.{Bears, HasGiven}
 use Rattle.cluster_laws.proofs.Lists.{all_at}
 use Rattle.cluster_laws.proofs.Invariant.{Net, at_server, IsThisCall, IsReplyTo, IsAnswer, IsCreationOf, servers_of, are_apart}

@@ -9,7 +9,7 @@ use Rattle.cluster_model.specs.declared.entry.Entry.{Entry}
 use Rattle.cluster_model.specs.Journal.{Copy, copy_after, content_of}
 use Rattle.cluster_model.specs.Server.{ServerState, mirror_of}
 use Rattle.cluster_model.specs.DsCalls.{mirror_name}
-use Rattle.cluster_laws.specs.MdsFiles.{MdsFile}
+use Rattle.file_rule.specs.MdsFiles.{MdsFile}
 use Rattle.cluster_laws.specs.Machine.{PacketValue, Machine, Holding, numbered_at, file_id}
 use Rattle.cluster_laws.specs.FenceLaw.{live_after}
 use Rattle.cluster_laws.proofs.Lists.{all_append, all_more, put_same, put_other, same_numbered, within_number}

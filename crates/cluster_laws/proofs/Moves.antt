@@ -14,8 +14,8 @@ use Rattle.cluster_model.specs.declared.ds_call.Shown.{Shown}
 use Rattle.cluster_model.specs.Server.{ServerState, Caller, restart_of}
 use Rattle.cluster_model.specs.DsCalls.{DsCallValue, DsReplyValue, Created, Set, Written, Committed, Bytes, NotSync, Failed, ds_step}
 use Rattle.cluster_model.specs.GuardLaws.{IsInOrder, CallLaws, RestartLaws}
-use Rattle.cluster_laws.specs.MdsFiles.{MdsFile, a_uid}
-use Rattle.cluster_laws.specs.FilePhases.{FileInput, Answers, TimesOut, Sees, CallOut, call_out, is_outstanding}
+use Rattle.file_rule.specs.MdsFiles.{MdsFile, a_uid}
+use Rattle.file_rule.specs.FilePhases.{FileInput, Answers, TimesOut, Sees, CallOut, call_out, is_outstanding}
 use Rattle.cluster_laws.specs.Machine.{PacketValue, Call, Reply, Machine, MachineStep, Move, Deliver, Creates, Happens, CallsOut, SendsAgain, GivesUpWaiting, Uses, Learns, Takes, Strays, Tells, Restarts, no_move, numbered_at, with_number, file_takes, caller_by, arrives_at, file_of, answers_at, comes_to, delivered, comes_by_itself, goes_out, call_out_from, ctime_of, ctime_in, learns_tick, was_write_to, learns_from, learnt, started_again, restarts_at, moved}
 use Rattle.cluster_laws.proofs.Facts.{HasGiven}
 use Rattle.cluster_laws.proofs.Lists.{all_append, all_more, all_at, found_at}

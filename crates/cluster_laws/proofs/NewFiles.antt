@@ -9,8 +9,8 @@ use Rattle.cluster_model.specs.declared.ids.Mirror.{Mirror}
 use Rattle.cluster_model.specs.declared.entry.Entry.{Entry}
 use Rattle.cluster_model.specs.declared.entry.Entry.TheVariants as entry
 use Rattle.cluster_model.specs.declared.call_stage.CallStage.TheVariants.{Waits}
-use Rattle.cluster_laws.specs.MdsFiles.{MdsFile}
-use Rattle.cluster_laws.specs.FilePhases.{creations_at, new_mds_file, are_spent}
+use Rattle.file_rule.specs.MdsFiles.{MdsFile}
+use Rattle.file_rule.specs.FilePhases.{creations_at, new_mds_file, are_spent}
 use Rattle.cluster_laws.specs.Machine.{Machine, no_move, numbered_at, file_id, fresh_of, are_servers, may_create, can_draw, created}
 use Rattle.cluster_laws.specs.FenceLaw.{live_by, live_after, is_file, changed_live, first_free, swapped_in}
 use Rattle.cluster_laws.proofs.Lists.{all_more, place_of, at_number, within_number}

@@ -14,7 +14,8 @@ use Rattle.cluster_model.specs.DsCalls.{DsCallValue, Create, SetAttr, Write, Com
 use Rattle.cluster_model.specs.GuardLaws.{target}
 use Rattle.copy_rule.specs.Copies.{target_call}
 use Rattle.copy_rule.specs.declared.copy_target.CopyTarget.{CopyTarget}
-use Rattle.cluster_laws.specs.MdsFiles.{Creation, Activity, Idle, Makes, Fences, Settles, Copies, MdsFile}
+use Rattle.file_rule.specs.MdsFiles.{Activity, Idle, Makes, Fences, Settles, Copies, MdsFile}
+use Rattle.file_rule.specs.declared.creation.Creation.{Creation}
 use Rattle.cluster_laws.specs.Machine.{PacketValue, Call, Reply, file_id}
 use Rattle.cluster_laws.specs.FenceLaw.{live_after}
 use Rattle.cluster_laws.proofs.Facts.{AllFollow, OwnedFrom, bears_on, owned_on, given_on, asked_on}

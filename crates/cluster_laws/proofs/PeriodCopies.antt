@@ -24,7 +24,8 @@ use Rattle.copy_rule.specs.Copies.{CopyState, at_stage, TargetStep, goes_on_with
 use Rattle.copy_rule.specs.declared.copy_target.CopyTarget.{CopyTarget}
 use Rattle.copy_rule.specs.declared.copy_target.CopyStep.{CopyStep}
 use Rattle.copy_rule.specs.declared.copy_target.CopyStep.TheVariants.{Stranger, Waiting, SourceFailed, TargetFailed, Done as AllHold}
-use Rattle.cluster_laws.specs.MdsFiles.{Activity, Idle, Settles, Copies, Fresh, FileStep, stays, a_uid, goes_idle, with_entries, plan_of, copying, settled, source_left, settling_answered, settling_timed_out, copied_by, copied_on, target_left, copy_stepped}
+use Rattle.file_rule.specs.MdsFiles.{Activity, Idle, Settles, Copies, FileStep, stays, a_uid, goes_idle, with_entries, plan_of, copying, settled, source_left, settling_answered, settling_timed_out, copied_by, copied_on, target_left, copy_stepped}
+use Rattle.file_rule.specs.declared.fresh.Fresh.{Fresh}
 use Rattle.cluster_laws.specs.Machine.{file_id}
 use Rattle.cluster_laws.specs.Periods.{user_when_free, user_in}
 use Rattle.cluster_laws.proofs.Lists.{all_at, found_at}

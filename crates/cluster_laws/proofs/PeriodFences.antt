@@ -24,7 +24,7 @@ use Rattle.cluster_model.specs.Mirrors.{has_server, are_on_different_servers}
 use Rattle.cluster_model.specs.DsCalls.{DsReplyValue}
 use Rattle.cluster_model.specs.Fences.{FenceState, MirrorStep, outstanding_at, step_at, step_from, on_reply, on_timeout, without, is_done}
 use Rattle.cluster_model.specs.Phases.{ids_of, but_for, is_last_live, is_source, phase_without, after_loss, mirror_left, seen_at, with_live, fenced_to, fence_entries, fence_done}
-use Rattle.cluster_laws.specs.MdsFiles.{Idle, Fences, MdsFile, FileStep, stays, goes_on, begun_by, with_entries, fenced_on, fence_failed, fence_stepped, shown_by_set, seen_by, mirror_at, fence_answered, fence_timed_out}
+use Rattle.file_rule.specs.MdsFiles.{Idle, Fences, MdsFile, FileStep, stays, goes_on, begun_by, with_entries, fenced_on, fence_failed, fence_stepped, shown_by_set, seen_by, mirror_at, fence_answered, fence_timed_out}
 use Rattle.cluster_laws.specs.Machine.{file_id}
 use Rattle.cluster_laws.specs.Periods.{owed_behind, owed_after, owed_in, user_when_free, user_after, user_in}
 use Rattle.cluster_laws.proofs.Invariant.{If}

@@ -15,8 +15,9 @@ use Rattle.cluster_model.specs.DsCalls.{DsReplyValue, Created, Set, Written, Com
 use Rattle.cluster_model.specs.Fences.{is_out, is_over, stage_at_tick}
 use Rattle.cluster_model.specs.Phases.{ids_of, made, free_with}
 use Rattle.copy_rule.specs.Copies.{is_given_up}
-use Rattle.cluster_laws.specs.MdsFiles.{Creation, Creations, Idle, Makes, FileStep, stays, goes_idle, in_stage, made_as, with_creation, all_made, standing, creation_failed, creation_answered, stage_behind, creation_timed_out, creation_of, making_on, making_at, making_by}
-use Rattle.cluster_laws.specs.FilePhases.{all_at_tick}
+use Rattle.file_rule.specs.MdsFiles.{Creations, Idle, Makes, FileStep, stays, goes_idle, in_stage, made_as, with_creation, all_made, standing, creation_failed, creation_answered, stage_behind, creation_timed_out, creation_of, making_on, making_at, making_by}
+use Rattle.file_rule.specs.declared.creation.Creation.{Creation}
+use Rattle.file_rule.specs.FilePhases.{all_at_tick}
 use Rattle.cluster_laws.specs.Machine.{file_id}
 use Rattle.cluster_laws.specs.Periods.{first_owner, user_when_free, user_in, AreAlike}
 use Rattle.cluster_laws.proofs.Facts.{OwnedFrom}

@@ -18,8 +18,9 @@ use Rattle.cluster_model.specs.Server.{ServerState, Caller, Effect, NoEffect, On
 use Rattle.cluster_model.specs.DsCalls.{DsCallValue, DsReplyValue, ds_plan}
 use Rattle.cluster_model.specs.Phases.{ids_of}
 use Rattle.copy_rule.specs.Copies.{is_given_up}
-use Rattle.cluster_laws.specs.MdsFiles.{Creation, MdsFile, FileStep, a_uid}
-use Rattle.cluster_laws.specs.FilePhases.{FileInput, Answers, TimesOut, Sees, CallOut, call_out, creations_at, new_mds_file, are_spent, phase}
+use Rattle.file_rule.specs.MdsFiles.{MdsFile, FileStep, a_uid}
+use Rattle.file_rule.specs.declared.creation.Creation.{Creation}
+use Rattle.file_rule.specs.FilePhases.{FileInput, Answers, TimesOut, Sees, CallOut, call_out, creations_at, new_mds_file, are_spent, phase}
 use Rattle.cluster_laws.specs.Machine.{PacketValue, Call, Reply, Machine, MachineStep, Holding, Move, Deliver, Creates, Happens, CallsOut, SendsAgain, GivesUpWaiting, Uses, Learns, Takes, Strays, Tells, Restarts, no_move, numbered_at, with_file, held_by, file_id, fresh_of, can_draw, file_takes, caller_by, arrives_at, file_of, answers_at, comes_to, delivered, comes_by_itself, are_servers, may_create, created, goes_out, call_out_from, sent_again, used, may_use, is_new_number, puts_out, ctime_in, learns_tick, was_write_to, learnt, noted, started_again, restarts_at, moved}
 use Rattle.cluster_laws.specs.Telling.{is_telling}
 use Rattle.cluster_laws.specs.Periods.{owed_in, user_in}

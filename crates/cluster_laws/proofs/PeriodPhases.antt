@@ -21,8 +21,9 @@ use Rattle.cluster_model.specs.Phases.{with_live, seen_at}
 use Rattle.copy_rule.specs.Copies.{CopyState, CopyCall, with_read, have_answered, target_call_at, waiting_at as copy_waiting, call_from as copy_call_from, on_reply as copy_reply, on_timeout as copy_timeout}
 use Rattle.copy_rule.specs.declared.copy_target.CopyTarget.{CopyTarget}
 use Rattle.cluster_model.specs.declared.limits.TheConstants.{PIECE_SIZE}
-use Rattle.cluster_laws.specs.MdsFiles.{Creation, Creations, Activity, Idle, Makes, Fences, Settles, Copies, MdsFile, FileStep, nothing, in_stage, shown_by_set, seen_by, mirror_at, creation_of, creation_answered, creation_timed_out, shown_by_commit, seen_at_source, settling_answered, settling_timed_out}
-use Rattle.cluster_laws.specs.FilePhases.{FileInput, AsksLayout, OwnWrite, Recall, Returns, Revokes, OwnEnds, Resilver, Answers, TimesOut, Ticks, Sees, kind_of, settles_by, answered_in, timed_out_in, ticked, phase, CallOut, call_out, create_out, create_out_at, creation_waiting, fence_out, settle_out, copy_out}
+use Rattle.file_rule.specs.MdsFiles.{Creations, Activity, Idle, Makes, Fences, Settles, Copies, MdsFile, FileStep, nothing, in_stage, shown_by_set, seen_by, mirror_at, creation_of, creation_answered, creation_timed_out, shown_by_commit, seen_at_source, settling_answered, settling_timed_out}
+use Rattle.file_rule.specs.declared.creation.Creation.{Creation}
+use Rattle.file_rule.specs.FilePhases.{FileInput, AsksLayout, OwnWrite, Recall, Returns, Revokes, OwnEnds, Resilver, Answers, TimesOut, Ticks, Sees, kind_of, settles_by, answered_in, timed_out_in, ticked, phase, CallOut, call_out, create_out, create_out_at, creation_waiting, fence_out, settle_out, copy_out}
 use Rattle.cluster_laws.specs.Machine.{file_id}
 use Rattle.cluster_laws.proofs.Invariant.{Net, If, IsAnswer, IsFile}
 use Rattle.cluster_laws.proofs.Lists.{all_set, found_at}

@@ -20,8 +20,9 @@ use Rattle.cluster_model.specs.declared.layout_state.FenceEnd.TheVariants.{Clean
 use Rattle.cluster_model.specs.declared.layout_state.CopyKind.TheVariants.{Adding}
 use Rattle.cluster_model.specs.Fences.{fence_of}
 use Rattle.cluster_model.specs.Phases.{unreported, left_entries, is_clean, granted, reported_cause, returned, revoked, resilvered, fencing, left_with, end_entries, with_phase}
-use Rattle.cluster_laws.specs.MdsFiles.{Activity, Idle, Makes, Fences, Settles, Copies, MdsFile, Fresh, FileStep, nothing, stays, a_uid, goes_fencing, with_entries}
-use Rattle.cluster_laws.specs.FilePhases.{are_spent, asked_in, held_in, by_client, by_mds, recalled_row, returned_row, revoked_row, own_row, resilvered_in}
+use Rattle.file_rule.specs.MdsFiles.{Activity, Idle, Makes, Fences, Settles, Copies, MdsFile, FileStep, nothing, stays, a_uid, goes_fencing, with_entries}
+use Rattle.file_rule.specs.declared.fresh.Fresh.{Fresh}
+use Rattle.file_rule.specs.FilePhases.{are_spent, asked_in, held_in, by_client, by_mds, recalled_row, returned_row, revoked_row, own_row, resilvered_in}
 use Rattle.cluster_laws.specs.Machine.{file_id}
 use Rattle.cluster_laws.specs.Telling.{is_telling}
 use Rattle.cluster_laws.specs.Periods.{owed_in}

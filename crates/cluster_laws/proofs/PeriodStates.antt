@@ -10,7 +10,8 @@ use Rattle.cluster_model.specs.declared.layout_state.LayoutPhase.{LayoutPhase}
 use Rattle.cluster_model.specs.declared.layout_state.LayoutPhase.TheVariants.{Making, Free, Held, Fencing, Settling, Copying}
 use Rattle.cluster_model.specs.declared.layout_state.FenceEnd.{FenceEnd}
 use Rattle.cluster_model.specs.declared.layout_state.FenceEnd.TheVariants.{Clean, Dirty, Copied}
-use Rattle.cluster_laws.specs.MdsFiles.{Creation, Creations, Activity, Idle, Makes, Fences, Settles, Copies, MdsFile, FileStep, standing}
+use Rattle.file_rule.specs.MdsFiles.{Creations, Activity, Idle, Makes, Fences, Settles, Copies, MdsFile, FileStep, standing}
+use Rattle.file_rule.specs.declared.creation.Creation.{Creation}
 use Rattle.cluster_laws.specs.Machine.{file_id}
 use Rattle.cluster_laws.specs.Telling.{is_telling}
 use Rattle.cluster_laws.specs.Periods.{owed_in, user_in, was_granted}

@@ -11,8 +11,9 @@ use Rattle.cluster_model.specs.declared.layout_state.CopyKind.{CopyKind}
 use Rattle.cluster_model.specs.Server.{ServerState}
 use Rattle.cluster_model.specs.DsCalls.{DsCallValue, DsReplyValue, Created, Set, Written, Committed, Bytes, NotSync, Failed}
 use Rattle.cluster_model.specs.Fences.{is_out, on_reply, on_timeout, outstanding_at}
-use Rattle.cluster_laws.specs.MdsFiles.{Activity, Idle, Makes, Fences, Settles, Copies, MdsFile, Fresh, FileStep, nothing, seen_by, shown_by_set, mirror_at, creation_of, creation_answered, creation_timed_out, shown_by_commit, seen_at_source, settling_answered, settling_timed_out}
-use Rattle.cluster_laws.specs.FilePhases.{FileInput, AsksLayout, OwnWrite, Recall, Returns, Revokes, OwnEnds, Resilver, Answers, TimesOut, Ticks, Sees, kind_of, settles_by, answered_in, timed_out_in, phase, first_is_on, is_outstanding}
+use Rattle.file_rule.specs.MdsFiles.{Activity, Idle, Makes, Fences, Settles, Copies, MdsFile, FileStep, nothing, seen_by, shown_by_set, mirror_at, creation_of, creation_answered, creation_timed_out, shown_by_commit, seen_at_source, settling_answered, settling_timed_out}
+use Rattle.file_rule.specs.declared.fresh.Fresh.{Fresh}
+use Rattle.file_rule.specs.FilePhases.{FileInput, AsksLayout, OwnWrite, Recall, Returns, Revokes, OwnEnds, Resilver, Answers, TimesOut, Ticks, Sees, kind_of, settles_by, answered_in, timed_out_in, phase, first_is_on, is_outstanding}
 use Rattle.cluster_laws.specs.Machine.{file_id}
 use Rattle.cluster_laws.proofs.Facts.{HasGiven}
 use Rattle.cluster_laws.proofs.Invariant.{Net, IsGiven, IsReplyTo, IsAnswer, IsFile}

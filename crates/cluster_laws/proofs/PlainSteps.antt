@@ -13,8 +13,9 @@ use Rattle.cluster_model.specs.declared.fence_mirror.FenceStep.TheVariants.{Stra
 use Rattle.cluster_model.specs.declared.layout_state.LayoutState.{LayoutState}
 use Rattle.cluster_model.specs.Fences.{is_over, stage_at_tick, FenceState, is_done, without}
 use Rattle.cluster_model.specs.Phases.{is_last_live, mirror_left, fence_done, made}
-use Rattle.cluster_laws.specs.MdsFiles.{Creation, Creations, Activity, Idle, Makes, Fences, Settles, Copies, FileStep, stays, goes_idle, goes_on, with_entries, fenced_on, fence_stepped, in_stage, with_creation, all_made, making_at, making_by, source_left, settling_timed_out}
-use Rattle.cluster_laws.specs.FilePhases.{ticked}
+use Rattle.file_rule.specs.MdsFiles.{Creations, Activity, Idle, Makes, Fences, Settles, Copies, FileStep, stays, goes_idle, goes_on, with_entries, fenced_on, fence_stepped, in_stage, with_creation, all_made, making_at, making_by, source_left, settling_timed_out}
+use Rattle.file_rule.specs.declared.creation.Creation.{Creation}
+use Rattle.file_rule.specs.FilePhases.{ticked}
 use Rattle.cluster_laws.specs.Machine.{file_id}
 use Rattle.cluster_laws.proofs.Lives.{all_map}
 use Rattle.cluster_laws.proofs.Invariant.{Net, IsCreationOf, servers_of, IsFile}

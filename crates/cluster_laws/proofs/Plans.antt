@@ -16,7 +16,8 @@ use Rattle.cluster_model.specs.Phases.{but_for, seen_at, in_place, with_targets}
 use Rattle.copy_rule.specs.Copies.{is_given_up, at_stage, stage_for, to_make, to_write, swap_of}
 use Rattle.copy_rule.specs.declared.copy_target.Target.{Target}
 use Rattle.copy_rule.specs.declared.copy_target.CopyTarget.{CopyTarget}
-use Rattle.cluster_laws.specs.MdsFiles.{Fresh, servers_without, replacing, adding, plan_of}
+use Rattle.file_rule.specs.MdsFiles.{servers_without, replacing, adding, plan_of}
+use Rattle.file_rule.specs.declared.fresh.Fresh.{Fresh}
 use Rattle.cluster_laws.proofs.Lives.{both, not_true, less_filter, has_seen}
 use Rattle.cluster_laws.proofs.Invariant.{are_apart, Site, site_of, FitsIn, site_servers, IsPlan}
 

@@ -11,7 +11,7 @@ use Rattle.cluster_model.specs.declared.layout_state.LayoutState.{LayoutState}
 use Rattle.cluster_model.specs.Fences.{is_out, is_over}
 use Rattle.copy_rule.specs.Copies.{CopyState, is_given_up, at_stage, stage_for, to_write, with_target, with_next, have_answered, goes_on}
 use Rattle.copy_rule.specs.declared.copy_target.CopyTarget.{CopyTarget}
-use Rattle.cluster_laws.specs.MdsFiles.{Copies}
+use Rattle.file_rule.specs.MdsFiles.{Copies}
 use Rattle.cluster_laws.proofs.Lists.{all_at, all_set}
 use Rattle.cluster_laws.proofs.Invariant.{Net, IsTargetOf, IsNotSource, site_of, IsPlan, IsFile}
 use Rattle.cluster_laws.proofs.Plans.{sites_set}

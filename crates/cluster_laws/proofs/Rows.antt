@@ -21,7 +21,7 @@ use Rattle.cluster_model.specs.Journal.{is_mirror}
 use Rattle.cluster_model.specs.Mirrors.{are_on_different_servers}
 use Rattle.cluster_model.specs.Fences.{fence_of, to_fence}
 use Rattle.cluster_model.specs.Phases.{ids_of, unreported, left_entries, with_phase, fencing, left_with, end_entries}
-use Rattle.cluster_laws.specs.MdsFiles.{Activity, Idle, Makes, Fences, Settles, Copies, MdsFile, a_uid}
+use Rattle.file_rule.specs.MdsFiles.{Activity, Idle, Makes, Fences, Settles, Copies, MdsFile, a_uid}
 use Rattle.cluster_laws.specs.Machine.{file_id}
 use Rattle.cluster_laws.specs.FenceLaw.{live_in, live_by, live_after, is_file, changed_live, first_free, swapped_in}
 use Rattle.cluster_laws.proofs.Lists.{all_append, all_more}

@@ -8,7 +8,7 @@ use Rattle.cluster_model.specs.declared.entry.Entry.{Entry}
 use Rattle.cluster_model.specs.Server.{ServerState, Caller, new_server, restart_of}
 use Rattle.cluster_model.specs.DsCalls.{DsCallValue, ds_step}
 use Rattle.cluster_model.specs.GuardLaws.{IsInOrder, IsTold, CallLaws, RestartLaws}
-use Rattle.cluster_laws.specs.MdsFiles.{MdsFile}
+use Rattle.file_rule.specs.MdsFiles.{MdsFile}
 use Rattle.cluster_laws.specs.Machine.{Machine, Move, new_machine, numbered_at, moved, machine_after, journal_of}
 use Rattle.cluster_laws.specs.FenceLaw.{new_servers, ObeysFences}
 use Rattle.cluster_laws.specs.Telling.{is_telling, telling}

@@ -8,7 +8,7 @@ use Rattle.cluster_model.specs.declared.entry.Entry.{Entry}
 use Rattle.cluster_model.specs.declared.layout_state.LayoutState.{LayoutState}
 use Rattle.cluster_model.specs.Journal.{is_mirror}
 use Rattle.cluster_model.specs.Phases.{seen_if, seen_at, with_live}
-use Rattle.cluster_laws.specs.MdsFiles.{Activity, Idle, Makes, Fences, Settles, Copies}
+use Rattle.file_rule.specs.MdsFiles.{Activity, Idle, Makes, Fences, Settles, Copies}
 use Rattle.cluster_laws.proofs.Facts.{HasGiven}
 use Rattle.cluster_laws.proofs.Invariant.{Net, IsMirrorOf, IsNotSource, site_of, IsBusyWith, live_of, IsFile}
 use Rattle.cluster_laws.proofs.Plans.{plan_more, none_seen}

@@ -21,7 +21,7 @@ use Rattle.cluster_model.specs.DsCalls.{DsCallValue, Create, SetAttr, Write, Com
 use Rattle.cluster_model.specs.GuardLaws.{IsInOrder, WasAsked, MayCome, Follows, Came, Stayed, WasGiven, WasMade, target, IsSeen, Shows, IsOwners, IsByOwner, IsOfServer, CallLaws}
 use Rattle.cluster_model.specs.declared.layout_state.LayoutPhase.TheVariants as phase
 use Rattle.cluster_model.specs.Phases.{ids_of}
-use Rattle.cluster_laws.specs.MdsFiles.{MdsFile}
+use Rattle.file_rule.specs.MdsFiles.{MdsFile}
 use Rattle.cluster_laws.specs.Machine.{PacketValue, Call, Reply, Machine, numbered_at, with_server, caller_by, file_id}
 use Rattle.cluster_laws.specs.FenceLaw.{live_in, live_after, is_among}
 use Rattle.cluster_laws.proofs.Facts.{OwnedFrom, HasGiven}

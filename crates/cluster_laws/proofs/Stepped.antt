@@ -6,8 +6,8 @@ use Rattle.cluster_model.specs.declared.ids.MirrorId.{MirrorId}
 use Rattle.cluster_model.specs.declared.entry.Entry.{Entry}
 use Rattle.cluster_model.specs.Journal.{Copy, copy_after}
 use Rattle.cluster_model.specs.Phases.{ids_of}
-use Rattle.cluster_laws.specs.MdsFiles.{MdsFile, FileStep}
-use Rattle.cluster_laws.specs.FilePhases.{FileInput, end_of_uids, phase}
+use Rattle.file_rule.specs.MdsFiles.{MdsFile, FileStep}
+use Rattle.file_rule.specs.FilePhases.{FileInput, end_of_uids, phase}
 use Rattle.cluster_laws.specs.Machine.{Machine, MachineStep, Holding, no_move, numbered_at, with_file, fresh_of, held_by, file_id, can_draw, file_stepped, file_takes}
 use Rattle.cluster_laws.proofs.Lists.{all_more}
 use Rattle.cluster_laws.proofs.Invariant.{Drawn, Net, IsPacket, net_of, Holds}

@@ -13,7 +13,7 @@ use Rattle.cluster_model.specs.Phases.{ids_of, with_targets, swapped_entries}
 use Rattle.cluster_model.specs.declared.targets.SwappedIn.{SwappedIn}
 use Rattle.copy_rule.specs.Copies.{CopyState, has_outcome, swap_of, swaps_of}
 use Rattle.copy_rule.specs.declared.copy_target.CopyTarget.{CopyTarget}
-use Rattle.cluster_laws.specs.MdsFiles.{Copies, stays, a_uid, copied_by, copied_on}
+use Rattle.file_rule.specs.MdsFiles.{Copies, stays, a_uid, copied_by, copied_on}
 use Rattle.cluster_laws.specs.Machine.{file_id}
 use Rattle.cluster_laws.specs.FenceLaw.{live_in, live_by}
 use Rattle.cluster_laws.proofs.Facts.{OwnedFrom, owned_less}

@@ -23,7 +23,8 @@ use Rattle.copy_rule.specs.Copies.{CopyState, at_stage, having_made, seen_then, 
 use Rattle.copy_rule.specs.declared.copy_target.CopyTarget.{CopyTarget}
 use Rattle.copy_rule.specs.declared.copy_target.CopyStep.{CopyStep}
 use Rattle.copy_rule.specs.declared.copy_target.CopyStep.TheVariants.{Stranger, Waiting, SourceFailed, TargetFailed, Done as AllHold}
-use Rattle.cluster_laws.specs.MdsFiles.{Settles, Copies, Fresh, FileStep, stays, source_left, with_entries, target_left, copy_stepped}
+use Rattle.file_rule.specs.MdsFiles.{Settles, Copies, FileStep, stays, source_left, with_entries, target_left, copy_stepped}
+use Rattle.file_rule.specs.declared.fresh.Fresh.{Fresh}
 use Rattle.cluster_laws.specs.Machine.{file_id}
 use Rattle.cluster_laws.proofs.Facts.{Bears, HasGiven}
 use Rattle.cluster_laws.proofs.Lists.{all_append, all_more, all_at, found_at}

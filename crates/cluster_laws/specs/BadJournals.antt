@@ -4,9 +4,9 @@ use Rattle.cluster_model.specs.declared.ids.NodeId.TheVariants.{Client}
 use Rattle.cluster_model.specs.declared.phase.EndCause.TheVariants.{Returned, Lease}
 use Rattle.cluster_model.specs.declared.entry.Entry.{Entry}
 use Rattle.cluster_model.specs.declared.entry.Entry.TheVariants.{Granted, Sent, Told, Ended, Fenced, Free, Applied, Committed, Owner, Restarted}
-use Rattle.cluster_laws.specs.MdsFiles.{a_uid}
+use Rattle.file_rule.specs.MdsFiles.{a_uid}
 use Rattle.cluster_model.specs.DsCalls.{Write, Commit}
-use Rattle.cluster_laws.specs.FilePhases.{AsksLayout, Returns, Revokes}
+use Rattle.file_rule.specs.FilePhases.{AsksLayout, Returns, Revokes}
 use Rattle.cluster_laws.specs.Machine.{Move, Deliver, Creates, Happens, CallsOut, SendsAgain, Uses, Takes, Tells, Restarts, file_id}
 use Rattle.cluster_laws.specs.FenceLaw.{ObeysFences}
 use Rattle.cluster_laws.specs.Periods.{ArePeriodsFenced}

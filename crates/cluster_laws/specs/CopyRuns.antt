@@ -6,8 +6,8 @@ use Rattle.cluster_model.specs.declared.phase.LeftCause.TheVariants.{Timeouts}
 use Rattle.cluster_model.specs.declared.entry.Entry.{Entry}
 use Rattle.cluster_model.specs.declared.entry.Entry.TheVariants.{Granted, Sent, Ended, Left, Swapped, Fenced, Free, Applied, Committed, Owner}
 use Rattle.cluster_model.specs.DsCalls.{Write}
-use Rattle.cluster_laws.specs.MdsFiles.{a_uid}
-use Rattle.cluster_laws.specs.FilePhases.{AsksLayout, Revokes}
+use Rattle.file_rule.specs.MdsFiles.{a_uid}
+use Rattle.file_rule.specs.FilePhases.{AsksLayout, Revokes}
 use Rattle.cluster_laws.specs.Machine.{Move, Deliver, Creates, Happens, CallsOut, GivesUpWaiting, Uses, Takes, file_id}
 use Rattle.cluster_laws.specs.WorkedRuns.{at_server}
 

@@ -15,8 +15,8 @@ use Rattle.cluster_model.specs.Content.{Pending}
 use Rattle.cluster_model.specs.Laws.{AreDisjoint}
 use Rattle.cluster_model.specs.DsCalls.{DsCallValue, Create, SetAttr, Write, Commit, Read, Written, Committed}
 use Rattle.cluster_model.specs.Phases.{ids_of, unreported, is_clean}
-use Rattle.cluster_laws.specs.MdsFiles.{MdsFile}
-use Rattle.cluster_laws.specs.FilePhases.{FileInput, OwnWrite, Returns, OwnEnds}
+use Rattle.file_rule.specs.MdsFiles.{MdsFile}
+use Rattle.file_rule.specs.FilePhases.{FileInput, OwnWrite, Returns, OwnEnds}
 use Rattle.cluster_laws.specs.Machine.{PacketValue, Call, Reply, Holding, Machine, Move, Deliver, Creates, Happens, CallsOut, SendsAgain, GivesUpWaiting, Uses, Learns, Takes, Strays, Tells, Restarts, new_machine, numbered_at, moved, journal_of}
 use Rattle.cluster_laws.specs.FenceLaw.{new_servers}
 use Rattle.cluster_laws.specs.Agreement.{sent_of, rogue_of, causes_of, AgreesAlways}

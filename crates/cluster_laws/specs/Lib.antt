@@ -1,5 +1,3 @@
-pub mod MdsFiles
-pub mod FilePhases
 pub mod Machine
 pub mod FenceLaw
 pub mod Agreement

@@ -17,8 +17,9 @@ use Rattle.cluster_model.specs.Nodes.{is_node}
 use Rattle.cluster_model.specs.Server.{ServerState, Caller, restart_of}
 use Rattle.cluster_model.specs.Phases.{ids_of}
 use Rattle.cluster_model.specs.DsCalls.{DsCallValue, Create, SetAttr, Write, Commit, Read, DsReplyValue, Created, Set, Written, Committed, Bytes, NotSync, Failed, DsStep, ds_step}
-use Rattle.cluster_laws.specs.MdsFiles.{MdsFile, Fresh, FileStep, a_uid}
-use Rattle.cluster_laws.specs.FilePhases.{FileInput, AsksLayout, OwnWrite, Recall, Returns, Revokes, OwnEnds, Resilver, Answers, TimesOut, Ticks, Sees, new_mds_file, end_of_uids, are_spent, phase, CallOut, call_out, is_outstanding}
+use Rattle.file_rule.specs.MdsFiles.{MdsFile, FileStep, a_uid}
+use Rattle.file_rule.specs.declared.fresh.Fresh.{Fresh}
+use Rattle.file_rule.specs.FilePhases.{FileInput, AsksLayout, OwnWrite, Recall, Returns, Revokes, OwnEnds, Resilver, Answers, TimesOut, Ticks, Sees, new_mds_file, end_of_uids, are_spent, phase, CallOut, call_out, is_outstanding}
 
 -- ---- packets
 

@@ -8,8 +8,8 @@ use Rattle.cluster_model.specs.declared.entry.Entry.{Entry}
 use Rattle.cluster_model.specs.declared.entry.Entry.TheVariants.{Granted, Sent, Rogue, Told, Ended, Left, Swapped, Fenced, Free, Applied, Committed, Owner, Restarted}
 use Rattle.cluster_model.specs.declared.layout_state.LayoutPhase.{LayoutPhase}
 use Rattle.cluster_model.specs.DsCalls.{Write, Commit}
-use Rattle.cluster_laws.specs.MdsFiles.{a_uid}
-use Rattle.cluster_laws.specs.FilePhases.{AsksLayout, OwnWrite, Recall, Returns, Revokes, OwnEnds, Resilver, Ticks}
+use Rattle.file_rule.specs.MdsFiles.{a_uid}
+use Rattle.file_rule.specs.FilePhases.{AsksLayout, OwnWrite, Recall, Returns, Revokes, OwnEnds, Resilver, Ticks}
 use Rattle.cluster_laws.specs.Machine.{Move, Deliver, Creates, Happens, CallsOut, SendsAgain, GivesUpWaiting, Uses, Learns, Takes, Strays, Tells, Restarts, new_machine, machine_after, journal_of, file_id}
 use Rattle.cluster_laws.specs.FenceLaw.{new_servers}
 

@@ -3,7 +3,7 @@ use Rattle.std.specs.Prelude.{slice_get}
 use Rattle.cluster_model.specs.declared.ids.NodeId.TheVariants.{Client}
 use Rattle.cluster_model.specs.declared.phase.EndCause.TheVariants.{Returned, Lease}
 use Rattle.cluster_model.specs.declared.entry.Entry.TheVariants.{Granted, Sent, Told, Ended, Fenced, Free, Applied, Committed as AllCommitted, Owner, Restarted}
-use Rattle.cluster_laws.specs.MdsFiles.{a_uid}
+use Rattle.file_rule.specs.MdsFiles.{a_uid}
 use Rattle.cluster_laws.specs.Machine.{file_id}
 use Rattle.cluster_laws.specs.WorkedRuns.{at_server}
 use Rattle.cluster_model.specs.declared.ids.NodeId.{NodeId}

@@ -20,7 +20,9 @@ use Rattle.cluster_model.specs.declared.layout_state.CopyKind.{CopyKind}
 use Rattle.cluster_model.specs.DsCalls.{DsCallValue, Create, Commit, DsReplyValue}
 use Rattle.cluster_model.specs.Fences.{waits, is_out, stage_at_tick, FenceCall, next_call, after_tick}
 use Rattle.cluster_model.specs.Phases.{seen_at, with_live, is_clean, begun, granted, recalled, returned, revoked, own_done, resilvered}
-use Rattle.cluster_laws.specs.MdsFiles.{Creation, Creations, Activity, Idle, Makes, Fences, Settles, Copies, MdsFile, Fresh, FileStep, nothing, stays, a_uid, goes_fencing, with_entries, fence_answered, fence_timed_out, in_stage, with_creation, creation_of, creation_answered, creation_timed_out, making_by, shown_by_commit, seen_at_source, settling_answered, settling_timed_out, copy_stepped}
+use Rattle.file_rule.specs.MdsFiles.{Creations, Activity, Idle, Makes, Fences, Settles, Copies, MdsFile, FileStep, nothing, stays, a_uid, goes_fencing, with_entries, fence_answered, fence_timed_out, in_stage, with_creation, creation_of, creation_answered, creation_timed_out, making_by, shown_by_commit, seen_at_source, settling_answered, settling_timed_out, copy_stepped}
+use Rattle.file_rule.specs.declared.creation.Creation.{Creation}
+use Rattle.file_rule.specs.declared.fresh.Fresh.{Fresh}
 use Rattle.copy_rule.specs.Copies.{CopyCall, on_reply, on_timeout}
 use Rattle.copy_rule.specs.Copies as copy
 use Rattle.cluster_model.specs.declared.limits.TheConstants.{SPARE_UIDS}

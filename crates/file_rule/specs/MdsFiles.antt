@@ -32,16 +32,11 @@ use Rattle.copy_rule.specs.Copies.{CopyState, is_given_up, new_copy, swaps_of, h
 use Rattle.copy_rule.specs.declared.copy_target.Target.{Target}
 use Rattle.copy_rule.specs.declared.copy_target.CopyStep.{CopyStep}
 use Rattle.copy_rule.specs.Copies as copy
+use Rattle.file_rule.specs.declared.creation.Creation.{Creation}
+use Rattle.file_rule.specs.declared.fresh.Fresh.{Fresh}
 use Rattle.copy_rule.specs.declared.copy_target.CopyStep.TheVariants as copy_step
 
 -- ---- the files that are made at data servers for a new file
-
-pub record Creation : Type 0 where
-  pub server : ℕ
-  -- the number in its name
-  pub name : ℕ
-  pub stage : CallStage
-  pub made : Option Mirror
 
 pub record Creations : Type 0 where
   -- the uid that they are to belong to
@@ -59,12 +54,6 @@ pub data Activity : Type 0 where
 pub record MdsFile : Type 0 where
   pub layout : LayoutState
   pub activity : Activity
-
--- what may be drawn for it: the next uid and the next number of a name; and how many data servers there are
-pub record Fresh : Type 0 where
-  pub uid : ℕ
-  pub name : ℕ
-  pub servers : ℕ
 
 -- the file after an input, the entries of it, and how many uids and name numbers were drawn
 pub record FileStep : Type 0 where

@@ -1,0 +1,3 @@
+pub mod MdsFiles
+pub mod FilePhases
+pub mod WorkedFiles
