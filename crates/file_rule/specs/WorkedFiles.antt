@@ -138,14 +138,14 @@ last_stays_shown =
 abbrev pub added : List FileShown
 added =
     worked two_mirrors behind_it
-    (Calls 1 ∷ Calls 2 ∷ Takes (Answers 1 (Failed 28 None)) ∷ Takes (Answers 2 (Created 2 (showing 65536 1))) ∷ Takes Resilver ∷ Calls 3 ∷ Takes (Answers 3 (Committed None 1))
+    (Calls 1 ∷ Calls 2 ∷ Takes (Answers 2 (Failed 28 None)) ∷ Takes (Answers 1 (Created 2 (showing 65536 1))) ∷ Takes Resilver ∷ Calls 3 ∷ Takes (Answers 3 (Committed None 1))
     ∷ Calls 4 ∷ Takes (Answers 4 (Created 4 (showing 65537 6))) ∷ Calls 5 ∷ Takes (Answers 5 (Bytes None true [])) ∷ Calls 6 ∷ Calls 7 ∷ Takes (Answers 7 (Set None)) ∷ Takes (Answers 6 (Set None)) ∷ Takes Resilver ∷ [])
 
 abbrev pub added_shown : List FileShown
 added_shown =
-    Goes 1 0 (Create 1 65536) ∷ Goes 2 0 (Create 1 65536) ∷ Nothing ∷ Enters (Free the_file (at_server 2 2 ∷ []) ∷ []) ∷ Nothing ∷ Goes 2 0 (Commit 2) ∷ Nothing
-    ∷ Goes 1 0 (Create 2 65537) ∷ Nothing ∷ Goes 2 0 (Read 2 0 65536) ∷ Enters (Swapped the_file None (at_server 1 4) ∷ []) ∷ Goes 2 0 (SetAttr 2 65538 (tick 1)) ∷ Goes 1 0 (SetAttr 4 65538 (tick 6)) ∷ Nothing
-    ∷ Enters (Fenced the_file (record { 0 = 65537 }) (record { 0 = 65538 }) (at_server 2 2 ∷ at_server 1 4 ∷ []) ∷ Free the_file (at_server 2 2 ∷ at_server 1 4 ∷ []) ∷ []) ∷ Nothing ∷ []
+    Goes 1 0 (Create 1 65536) ∷ Goes 2 0 (Create 1 65536) ∷ Nothing ∷ Enters (Free the_file (at_server 1 2 ∷ []) ∷ []) ∷ Nothing ∷ Goes 1 0 (Commit 2) ∷ Nothing
+    ∷ Goes 2 0 (Create 2 65537) ∷ Nothing ∷ Goes 1 0 (Read 2 0 65536) ∷ Enters (Swapped the_file None (at_server 2 4) ∷ []) ∷ Goes 1 0 (SetAttr 2 65538 (tick 1)) ∷ Goes 2 0 (SetAttr 4 65538 (tick 6)) ∷ Nothing
+    ∷ Enters (Fenced the_file (record { 0 = 65537 }) (record { 0 = 65538 }) (at_server 1 2 ∷ at_server 2 4 ∷ []) ∷ Free the_file (at_server 1 2 ∷ at_server 2 4 ∷ []) ∷ []) ∷ Nothing ∷ []
 
 -- ---- the metadata server's own write, and a report
 
