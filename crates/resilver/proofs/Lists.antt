@@ -1,13 +1,14 @@
 -- Lists by places, numbers, and where a call stands.
-use Rattle.std.proofs.Common.{◌≡◌, ◌≢◌, ℕ, zero, suc, ◌+◌, Bool, true, false, eqb, cond, List, [], ◌∷◌, ◌++◌, map, Option, Some, None, refl, sym, ap, ◌∙◌, arith, subst}
-use Rattle.std.specs.Prelude.{◌==◌, slice_get, option_map}
+use Rattle.std.proofs.Common.{◌≡◌, ◌≢◌, ◌⊎◌, inl, inr, ℕ, zero, suc, ◌+◌, Bool, true, false, eqb, cond, List, [], ◌∷◌, ◌++◌, map, Option, Some, None, refl, sym, ap, ◌∙◌, arith, subst}
+use Rattle.std.specs.Prelude.{◌==◌, slice_get, slice_set, option_map}
 use Rattle.std.specs.List.{list_all, position, position_from}
-use Rattle.std.proofs.lemmas.Bool.{and_parts}
+use Rattle.std.proofs.lemmas.Bool.{and_parts, cases_eq}
 use Rattle.std.proofs.lemmas.Bool.Decides.{nat_tests}
 use Rattle.std.proofs.lemmas.Iterator.Adapters.{position_from-zero}
 use Rattle.std.proofs.lemmas.Option.{same_Some, none-some, slice_get-map}
 use Rattle.cluster_model.specs.declared.call_stage.CallStage.{CallStage}
 use Rattle.cluster_model.specs.declared.call_stage.CallStage.TheVariants.{Waits, Out, KeptOut, KeptBack, Done, GivenUp}
+use Rattle.cluster_model.proofs.Elements.{slice_get-set_other, slice_get-set_same}
 use Rattle.cluster_model.specs.Fences.{waits, is_out, is_over}
 
 -- ---- numbers
@@ -110,3 +111,17 @@ waits_not_over (KeptOut own) is = absurd cc
 waits_not_over KeptBack is = absurd cc
 waits_not_over Done is = absurd cc
 waits_not_over GivenUp is = absurd cc
+
+-- ---- one element changes
+
+-- what stands at a place of a list of which one element was changed
+pub data AfterSet {A : Type 0} (xs : List A) (place : ℕ) (new : A) (q : ℕ) (u : A) : Type 0 where
+  Here : q ≡ place → u ≡ new → AfterSet xs place new q u
+  There : q ≢ place → slice_get xs q ≡ Some u → AfterSet xs place new q u
+
+pub after_set : {A : Type 0} (xs : List A) (place : ℕ) (t new : A) (q : ℕ) (u : A) → slice_get xs place ≡ Some t → slice_get (slice_set xs place new) q ≡ Some u → AfterSet xs place new q u
+after_set xs place t new q u found there = by_place (cases_eq q place)
+  where
+    by_place : (q ≡ place) ⊎ (q ≢ place) → AfterSet xs place new q u
+    by_place (inl is) = Here is (sym (same_Some new u (sym (slice_get-set_same xs place t new found) ∙ ap (slice_get (slice_set xs place new)) (sym is) ∙ there)))
+    by_place (inr other) = There other (sym (slice_get-set_other xs place q new other) ∙ there)
