@@ -106,7 +106,7 @@ fails_none (Create own owner) reply is = absurd cc
 fails_none (SetAttr fileid owner guard) reply is = absurd cc
 fails_none (Commit fileid) reply is = absurd cc
 
-answer_away : (server : ℕ) (reply : DsReplyValue) (o : Option OutCall) → IsAway server o → lost_by_answer server reply o ≡ false
+pub answer_away : (server : ℕ) (reply : DsReplyValue) (o : Option OutCall) → IsAway server o → lost_by_answer server reply o ≡ false
 answer_away server reply o (NoCall is) = ap (lost_by_answer server reply) is
 answer_away server reply o (OfOther k is other) = ap (lost_by_answer server reply) is ∙ ap (λ b. b && fails_call k.call reply) other
 answer_away server reply o (OfRead k is reads) = ap (lost_by_answer server reply) is ∙ ap (λ b. (k.server == server) && b) (fails_none k.call reply reads) ∙ and_false (k.server == server)
