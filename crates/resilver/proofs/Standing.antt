@@ -130,7 +130,7 @@ standing_at copier at piece notes t stage going open' (Writing m was is made tak
 standing_at copier at piece notes t stage going open' (Holding m over is made taken) = absurd (apart (is_over t.stage) (ap is_over over) going)
 standing_at copier at piece notes t stage going open' (Lost over none) = absurd (apart (is_over t.stage) (ap is_over over) going)
 
-open_over : (s : CallStage) → is_open s ≡ true → is_over s ≡ true → ⊥
+pub open_over : (s : CallStage) → is_open s ≡ true → is_over s ≡ true → ⊥
 open_over Waits is over = absurd cc
 open_over (Out own n) is over = absurd cc
 open_over (KeptOut own) is over = absurd cc
