@@ -1,0 +1,14 @@
+use Rattle.resilver.proofs.Turns.{in_turn}
+use Rattle.resilver.proofs.Quiet.{quiet_reply, quiet_timeout, callers}
+use Rattle.resilver.proofs.Outcomes.{outcomes, goes_on}
+use Rattle.resilver.proofs.laws.copy_law.Goals as goal
+
+pub returns : goal.returns
+returns c = record {
+  in_turn = in_turn;
+  outcomes = outcomes;
+  goes_on = goes_on;
+  quiet_reply = quiet_reply;
+  quiet_timeout = quiet_timeout;
+  callers = callers;
+}
