@@ -1,0 +1,4 @@
+mod Firsts
+mod Inserted
+mod Loops
+mod Outs

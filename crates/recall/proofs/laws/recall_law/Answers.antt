@@ -1,0 +1,7 @@
+use Rattle.recall.proofs.Firsts.{no_first}
+use Rattle.recall.proofs.Outs.{alone_asked}
+use Rattle.recall.proofs.Loops.{written}
+use Rattle.recall.proofs.laws.recall_law.Goals as goal
+
+pub returns : goal.returns
+returns c = ?
