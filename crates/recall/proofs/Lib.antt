@@ -1,4 +1,7 @@
+mod Answered
 mod Firsts
 mod Inserted
 mod Loops
 mod Outs
+mod Standing
+mod Statuses

@@ -1,6 +1,6 @@
 //! The recalls that are under way.
 
-ghost use Rattle.std.specs.Prelude.{◌≡◌, ◌<◌, true, false, [], length, map, filter, slice_get, slice_set, IfOk, IfSome};
+ghost use Rattle.std.specs.Prelude.{◌≡◌, true, false, [], map, filter, slice_get, slice_set, Some, IfOk};
 ghost use Rattle.recall.specs.Recalls.{is_out, at_stage, at_tick, after_reply, after_timeout, after_tick, without_file};
 ghost use Rattle.recall.specs.Calls.{AsksFor, SendsRecall};
 ghost use Rattle.recall.specs.Entries.{goes_on};
@@ -105,7 +105,7 @@ impl Recalls {
         let recall = self.entries[place].recall;
         match status {
             Stat4::Ok => {
-                self.rest(place, RecallStage::Agreed);
+                self.rest(place, recall, RecallStage::Agreed);
                 Outcome::Agreed
             }
             Stat4::NoMatchingLayout => {
@@ -113,7 +113,7 @@ impl Recalls {
                 Outcome::NoLayout(recall.file, recall.cred)
             }
             _ => {
-                self.rest(place, RecallStage::Later);
+                self.rest(place, recall, RecallStage::Later);
                 Outcome::Waiting
             }
         }
@@ -155,12 +155,13 @@ impl Recalls {
     pub fn tick(&mut self, now: u64) -> Option<(FileId, Cred)>
         ensures { record { recalls = self.new; expired = result } ≡ after_tick self.old now }
     {
-        let expired = expired(now, self.entries.as_slice());
-        if let Some((file, cred)) = expired {
-            self.forget(Ended::Grant(file, cred));
-        }
+        let Some((file, cred)) = expired(now, self.entries.as_slice()) else {
+            self.wake();
+            return None;
+        };
+        self.forget(Ended::Grant(file, cred));
         self.wake();
-        expired
+        Some((file, cred))
     }
 
     /// The file's periods have ended, and so have the recalls of its layouts.
@@ -170,17 +171,14 @@ impl Recalls {
         self.forget(Ended::File(file));
     }
 
-    /// The callback at this place, which is outstanding, is so no more.
-    fn rest(&mut self, place: usize, stage: RecallStage)
-        requires out { IfSome (slice_get self.old place) (λ r. is_out r.stage ≡ true) }
+    /// The callback of this recall, which stands at this place and is outstanding, is so no more.
+    fn rest(&mut self, place: usize, recall: Recall, stage: RecallStage)
+        requires at { slice_get self.old place ≡ Some recall }
+        requires out { is_out recall.stage ≡ true }
         requires over { is_out stage ≡ false }
-        requires within { place < length self.old }
-        ensures { IfSome (slice_get self.old place) (λ r. self.new ≡ slice_set self.old place (at_stage stage r)) }
+        ensures { self.new ≡ slice_set self.old place (at_stage stage recall) }
     {
-        let recall = Recall {
-            stage,
-            ..self.entries[place].recall
-        };
+        let recall = Recall { stage, ..recall };
         self.entries[place] = Entry {
             recall,
             held_by: None,
