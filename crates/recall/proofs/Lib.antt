@@ -1,4 +1,5 @@
 mod Answered
+mod Asked
 mod Firsts
 mod Inserted
 mod Loops
