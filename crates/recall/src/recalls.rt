@@ -69,7 +69,10 @@ impl Recalls {
         };
         let held_by = holder(client, self.entries.as_slice());
         let place = place_for(recall, self.entries.as_slice());
-        insert(place, Entry { recall, held_by }, &mut self.entries)?;
+        // `?` would promise nothing of the error
+        if let Err(e) = insert(place, Entry { recall, held_by }, &mut self.entries) {
+            return Err(AskFault::NoMemory(e));
+        }
         Ok(())
     }
 

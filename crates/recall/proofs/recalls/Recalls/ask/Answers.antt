@@ -1,24 +1,18 @@
 use Rattle.std.proofs.Common.{◌≡◌, List, refl, sym, ap, subst, ◌∙◌}
 use Rattle.std.specs.Prelude.{insert}
 use Rattle.std.specs.List.{list_any, position_or_len}
-use Rattle.std.proofs.lemmas.Result.{err_from_is_err_and}
 use Rattle.recall.specs.declared.recall.Recall.{Recall}
 use Rattle.recall.specs.declared.entry.Entry.{Entry}
 use Rattle.recall.specs.Recalls.{is_of, is_before, is_under_way, new_recall, with_recall}
 use Rattle.recall.specs.Entries.{recalls_of, is_out_to, holder, IsStanding}
 use Rattle.recall.proofs.Inserted.{inserted}
 use Rattle.recall.proofs.Standing.{any_in, found_in, asked_stands}
-use Rattle.recall.proofs.Asked.{is_known, no_memory, holder_is, place_is}
+use Rattle.recall.proofs.Asked.{is_known, holder_is, place_is, was_ok}
 use Rattle.recall.proofs.recalls.Recalls.ask.Goals as goal
 
 pub returns-then-is_under_way : goal.returns-then-is_under_way
 returns-then-is_under_way c =
     (is_known c.args.file c.args.cred c.self.inside.entries.items c.args.self.now _ c.self.view_is c.as_slice.ensures.value ∙ sym c.is_under_way.ensures ∙ c.if-is_under_way.true, refl)
-
-pub returns-in_err-insert : goal.returns-in_err-insert
-returns-in_err-insert c =
-    let p = err_from_is_err_and c.from_residual.result c.from_residual.ensures.1 in
-    no_memory c.args.self.now c.args.file c.args.cred c.args.client c.args.now c.from_residual.result p.0 _ _ p.1 p.2 (ap recalls_of c.in_err-insert.ensures.err ∙ c.self.view_is)
 
 pub invariant_of-self-2 : goal.invariant_of-self-2
 invariant_of-self-2 c =
@@ -27,7 +21,7 @@ invariant_of-self-2 c =
     let e : Entry = record { recall = r; held_by = c.holder-held_by.result } in
     let held = holder_is c.args.client items _ c.holder-held_by.result c.as_slice-2.ensures.value c.holder-held_by.ensures in
     let place = place_is r items _ c.place_for-place.result c.as_slice-3.ensures.value c.place_for-place.ensures.exact in
-    subst (λ (l : List Entry). IsStanding l) (sym (c.in_ok-insert.ensures.ok ∙ ap (λ k. insert items k e) place))
+    subst (λ (l : List Entry). IsStanding l) (sym (was_ok c.insert.result c.in_default.not-Err c.insert.ensures.ok ∙ ap (λ k. insert items k e) place))
     (asked_stands e items c.self.invariant refl held)
 
 pub returns : goal.returns
@@ -37,4 +31,4 @@ returns c =
     let e : Entry = record { recall = r; held_by = c.holder-held_by.result } in
     let place = place_is r items _ c.place_for-place.result c.as_slice-3.ensures.value c.place_for-place.ensures.exact in
     (is_known c.args.file c.args.cred items c.args.self.now _ c.self.view_is c.as_slice.ensures.value ∙ sym c.is_under_way.ensures ∙ c.if-is_under_way.false,
-    ap recalls_of (c.in_ok-insert.ensures.ok ∙ ap (λ k. insert items k e) place) ∙ inserted e items ∙ ap (with_recall r) c.self.view_is)
+    ap recalls_of (was_ok c.insert.result c.in_default.not-Err c.insert.ensures.ok ∙ ap (λ k. insert items k e) place) ∙ inserted e items ∙ ap (with_recall r) c.self.view_is)
