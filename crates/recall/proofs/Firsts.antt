@@ -175,6 +175,15 @@ module _ {X : Type 0} (test : X → Bool) where
       by_case true first rest = absurd (none-some x (sym none ∙ find_here x xs first))
       by_case false behind rest = find_behind x (set xs place new) behind ∙ rest (sym (find_behind x xs behind) ∙ none) is here
 
+  pub set_again : (xs : List X) (place : ℕ) (r new : X) → IsAtMostOne test xs → slice_get xs place ≡ Some r → test r ≡ true → test new ≡ true → find test (set xs place new) ≡ Some new
+  set_again [] place r new one is old here = absurd (none-some r is)
+  set_again (x ∷ xs) zero r new one is old here = find_here new xs here
+  set_again (x ∷ xs) (suc place) r new one is old here = by_case (test x) refl (set_again xs place r new one.1 is old here)
+    where
+      by_case : (b : Bool) → test x ≡ b → find test (set xs place new) ≡ Some new → find test (x ∷ set xs place new) ≡ Some new
+      by_case true first rest = absurd (both_ways (test r) (none_at xs place r (one.0 first) is) old)
+      by_case false behind rest = find_behind x (set xs place new) behind ∙ rest
+
   -- what is found stands at the place where the test's answer stays
   pub set_image : {Y : Type 0} (f : X → Y) (xs : List X) (place : ℕ) (r new : X) → slice_get xs place ≡ Some r → test new ≡ test r → f new ≡ f r
       → option_map f (find test (set xs place new)) ≡ option_map f (find test xs)
@@ -263,3 +272,16 @@ module _ {X : Type 0} (test : X → Bool) where
 
   pub no_first : (xs : List X) → position test xs ≡ None → find test xs ≡ None
   no_first xs is = missing_from xs 0 (sym (position_from-zero test xs) ∙ is)
+
+-- what is found is left out by a test that says the same of it
+pub left_by : {X Y : Type 0} (g : X → Y) (keep : X → Bool) (gone : Bool) (o : Option X) → ((x : X) → o ≡ Some x → keep x ≡ not gone) → option_map g (kept_if keep o) ≡ cond gone None (option_map g o)
+left_by {Y = Y} g keep gone None says = by_case gone
+  where
+    by_case : (b : Bool) → ◌≡◌ {A = Option Y} None (cond b None None)
+    by_case true = refl
+    by_case false = refl
+left_by g keep gone (Some x) says = ap (λ b. option_map g (cond b (Some x) None)) (says x refl) ∙ by_case gone
+  where
+    by_case : (b : Bool) → option_map g (cond (not b) (Some x) None) ≡ cond b None (Some (g x))
+    by_case true = refl
+    by_case false = refl

@@ -3,6 +3,9 @@ mod Asked
 mod Firsts
 mod Inserted
 mod Loops
+mod Moves
+mod Notes
 mod Outs
 mod Standing
 mod Statuses
+mod Told
