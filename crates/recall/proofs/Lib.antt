@@ -6,6 +6,7 @@ mod Loops
 mod Moves
 mod Notes
 mod Outs
+mod Promises
 mod Standing
 mod Statuses
 mod Told

@@ -44,7 +44,7 @@ module _ (run : RecallRun) (told : Told run) where
   -- ---- no callback of the number is out
 
   module _ (xid : ℕ) (none : find (out_as xid) run.recalls ≡ None) where
-    nothing_out : call_out run.notes xid ≡ None
+    pub nothing_out : call_out run.notes xid ≡ None
     nothing_out = sym (told.out xid) ∙ ap (option_map (as_out xid)) none
 
     stranger_told : (status : Stat4) → Told (record { recalls = run.recalls; notes = WasAnswered xid status ∷ run.notes })
@@ -77,10 +77,10 @@ module _ (run : RecallRun) (told : Told run) where
   -- ---- the callback of the number is that of a recall
 
   module _ (xid place : ℕ) (r : Recall) (there : IsOutAt run.recalls xid place r) where
-    finds : find (out_as xid) run.recalls ≡ Some r
+    pub finds : find (out_as xid) run.recalls ≡ Some r
     finds = finds_out run.recalls xid place r (told.xids xid) there
 
-    is_call : call_out run.notes xid ≡ Some (as_out xid r)
+    pub is_call : call_out run.notes xid ≡ Some (as_out xid r)
     is_call = sym (told.out xid) ∙ ap (option_map (as_out xid)) finds
 
     -- it is out no more
