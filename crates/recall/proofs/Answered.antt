@@ -1,12 +1,11 @@
 -- What each call of the code comes to.
-use Rattle.std.proofs.Common.{◌≡◌, ℕ, ◌+◌, ◌-◌, ◌<◌, ◌≤◌, Bool, true, false, not, ◌&&◌, cond, ltb, nat_lt, eqb, List, [], ◌∷◌, length, map, set, get_or, Option, Some, None, refl, sym, ap, subst, ◌∙◌, arith}
-use Rattle.std.specs.Prelude.{slice_get, option_map, insert}
-use Rattle.std.specs.List.{find, filter, list_any, position, position_or_len}
+use Rattle.std.proofs.Common.{◌≡◌, ℕ, ◌+◌, ◌<◌, ◌≤◌, true, false, not, cond, ltb, List, length, map, set, get_or, Option, Some, None, refl, sym, ap, subst, ◌∙◌, arith}
+use Rattle.std.specs.Prelude.{slice_get, option_map}
+use Rattle.std.specs.List.{find, filter, position}
 use Rattle.std.proofs.lemmas.Option.{same_Some, none-some}
 use Rattle.std.proofs.lemmas.Bool.{and_parts, not-true, both_ways, lt-ltb, le-ltb}
 use Rattle.cluster_model.specs.declared.ids.FileId.{FileId}
 use Rattle.cluster_model.specs.declared.ids.Cred.{Cred}
-use Rattle.cluster_model.specs.declared.limits.TheConstants.{MAX_TIMEOUTS}
 use Rattle.nfs4_types.specs.declared.status.Stat4.{Stat4}
 use Rattle.nfs4_types.specs.declared.status.Stat4.TheVariants as stat
 use Rattle.recall.specs.declared.recall.Recall.{Recall}
@@ -16,10 +15,10 @@ use Rattle.recall.specs.declared.recall.RecallCall.{RecallCall}
 use Rattle.recall.specs.declared.recall.Outcome.TheVariants as outcome
 use Rattle.recall.specs.declared.entry.Entry.{Entry}
 use Rattle.recall.specs.declared.entry.Ended.TheVariants.{Grant}
-use Rattle.recall.specs.Recalls.{is_out, is_out_as, may_go, has_one_out, waits, at_stage, at_tick, grant_of, has_expired, RecallSends, sent_at, sent_from, next_sent, out_at, RecallsAfter, is_stranger, answered, late, step_at, step_from, after_reply, after_timeout, RecallsTick, without, without_found, told_found, after_tick}
+use Rattle.recall.specs.Recalls.{is_out, is_out_as, may_go, has_one_out, waits, at_stage, at_tick, grant_of, has_expired, RecallSends, sent_at, sent_from, next_sent, out_at, RecallsAfter, answered, late, step_at, step_from, after_reply, after_timeout, RecallsTick, without, without_found, told_found, after_tick}
 use Rattle.recall.specs.Calls.{SendsRecall}
 use Rattle.recall.specs.Entries.{grant_in, recalls_of, is_out_to, is_ready, held_as, goes_on, IsStanding}
-use Rattle.recall.proofs.Firsts.{passes, none_found, first_there, IsFirst}
+use Rattle.recall.proofs.Firsts.{passes, none_found, first_there}
 use Rattle.recall.proofs.Standing.{ready_in, position_in, at_place, put_in, sent_stands, found_in}
 use Rattle.recall.proofs.Statuses.{StatusKind, Agrees, HasNone, Else, kind_of}
 

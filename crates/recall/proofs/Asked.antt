@@ -1,5 +1,5 @@
 -- What asking comes to.
-use Rattle.std.proofs.Common.{◌≡◌, ℕ, Bool, true, List, Option, Result, Ok, Err, refl, sym, ap, ◌∙◌}
+use Rattle.std.proofs.Common.{◌≡◌, ℕ, List, Option, Result, Ok, Err, refl, sym, ap, ◌∙◌}
 use Rattle.std.specs.Prelude.{option_map, OnOk}
 use Rattle.std.specs.List.{find, list_any, position_or_len}
 use Rattle.cluster_model.specs.declared.ids.FileId.{FileId}

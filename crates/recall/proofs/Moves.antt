@@ -1,8 +1,8 @@
 -- What the notes tell holds behind each move.
-use Rattle.std.proofs.Common.{◌≡◌, ◌⊎◌, inl, inr, ℕ, zero, suc, ◌+◌, ◌<◌, ◌≤◌, Bool, true, false, not, ◌&&◌, cond, eqb, ltb, nat_lt, List, [], ◌∷◌, map, set, Option, Some, None, refl, sym, ap, subst, ◌∙◌, arith}
+use Rattle.std.proofs.Common.{◌≡◌, inl, ℕ, ◌+◌, ◌<◌, ◌≤◌, Bool, true, false, not, ◌&&◌, cond, eqb, ltb, List, [], ◌∷◌, map, set, Option, Some, None, refl, sym, ap, subst, ◌∙◌, arith}
 use Rattle.std.specs.Prelude.{slice_get, option_map, fold}
-use Rattle.std.specs.List.{find, filter, list_any, position}
-use Rattle.std.proofs.lemmas.Option.{same_Some, none-some}
+use Rattle.std.specs.List.{find, position}
+use Rattle.std.proofs.lemmas.Option.{same_Some}
 use Rattle.std.proofs.lemmas.Bool.{eq-eqb, eqb-true, ltb-false, ltb-true, ne_eqb, and_parts, not-true, both_ways, lt-ltb, le-ltb}
 use Rattle.cluster_model.specs.declared.ids.FileId.{FileId}
 use Rattle.cluster_model.specs.declared.ids.Cred.{Cred}
@@ -11,15 +11,14 @@ use Rattle.nfs4_types.specs.declared.status.Stat4.TheVariants as stat
 use Rattle.recall.specs.declared.recall.Recall.{Recall}
 use Rattle.recall.specs.declared.recall.RecallStage.{RecallStage}
 use Rattle.recall.specs.declared.recall.RecallStage.TheVariants.{Waits, Out, Later, Agreed}
-use Rattle.recall.specs.declared.recall.RecallCall.{RecallCall}
 use Rattle.recall.specs.declared.recall.Outcome.TheVariants as outcome
-use Rattle.recall.specs.Recalls.{is_of, is_under_way, new_recall, with_recall, at_stage, waits, is_out, is_out_as, has_one_out, may_go, has_expired, RecallSends, sent_at, sent_from, next_sent, RecallsAfter, is_stranger, answered, late, out_at, step_at, step_from, after_reply, after_timeout, after_tick, without, without_found, told_found, at_tick}
-use Rattle.recall.specs.RecallLaws.{RecallMove, Asks, SendsOne, TakesReply, TakesTimeout, Ticks, Ends, RecallNote, WasAsked, WasSent, WasAnswered, WasLate, HasExpired, WasEnded, RecallRun, sent_noted, sends_new, expired_notes, recall_moved, recall_run, OutRecall, is_call_of, late_once, unless_call, call_out, answers_none, is_third, AskedRecall, asked_of, asked_in}
+use Rattle.recall.specs.Recalls.{is_of, is_under_way, new_recall, with_recall, at_stage, waits, is_out, is_out_as, has_one_out, may_go, has_expired, sent_at, sent_from, RecallsAfter, answered, late, out_at, step_from, after_reply, after_timeout, without, without_found, told_found, at_tick}
+use Rattle.recall.specs.RecallLaws.{RecallMove, Asks, SendsOne, TakesReply, TakesTimeout, Ticks, Ends, WasAsked, WasAnswered, WasLate, HasExpired, RecallRun, sent_noted, sends_new, expired_notes, recall_moved, recall_run, OutRecall, late_once, call_out, answers_none, is_third, AskedRecall, asked_of, asked_in}
 use Rattle.recall.specs.Entries.{is_out_to, IsAtMostOne}
-use Rattle.recall.proofs.Firsts.{kept_if, passes, none_found, one_found, one_at, find_kept, set_other, set_gone, set_again, set_image, one_set, left_by, first_there, no_first, IsFirst}
+use Rattle.recall.proofs.Firsts.{passes, none_found, one_found, one_at, find_kept, set_other, set_gone, set_again, set_image, one_set, left_by, first_there, no_first}
 use Rattle.recall.proofs.Outs.{alone_rests, alone_stays}
 use Rattle.recall.proofs.Statuses.{StatusKind, Agrees, HasNone, Else, kind_of}
-use Rattle.recall.proofs.Answered.{IsOutAt, is_out_by, steps}
+use Rattle.recall.proofs.Answered.{IsOutAt, steps}
 use Rattle.recall.proofs.Notes.{few_out}
 use Rattle.recall.proofs.Told.{out_as, timeouts_of, as_out, out_with, Told, is_own, same_xid, other_xid, not_out_as, asked_told, sent_told, left_asked, left_grants, left_clients, left_xids, expired_told, ended_told, ticked_told}
 

@@ -1,7 +1,7 @@
 -- Whose callback is outstanding, once a recall changed.
-use Rattle.std.proofs.Common.{◌≡◌, ◌⊎◌, inl, inr, ℕ, Bool, true, false, not, ◌&&◌, cond, eqb, List, [], ◌∷◌, map, set, Option, Some, None, refl, sym, ap, subst, ◌∙◌}
+use Rattle.std.proofs.Common.{◌≡◌, inl, inr, ℕ, Bool, true, false, not, ◌&&◌, cond, eqb, List, map, set, Option, Some, None, refl, sym, ap, subst, ◌∙◌}
 use Rattle.std.specs.Prelude.{slice_get, option_map, is_some}
-use Rattle.std.specs.List.{find, filter, list_any}
+use Rattle.std.specs.List.{find, filter}
 use Rattle.std.proofs.lemmas.Bool.{eq-eqb, eqb-true, and_left, and_right, both_ways}
 use Rattle.cluster_model.specs.declared.ids.FileId.{FileId}
 use Rattle.cluster_model.specs.declared.ids.Cred.{Cred}
@@ -11,7 +11,7 @@ use Rattle.recall.specs.declared.recall.RecallStage.TheVariants.{Waits, Out, Lat
 use Rattle.recall.specs.declared.entry.Ended.{Ended}
 use Rattle.recall.specs.Recalls.{at_stage, is_out, waits, stage_at_tick, at_tick, grant_of, has_one_out, with_recall}
 use Rattle.recall.specs.Entries.{is_out_to, holder, is_free, is_ended, goes_on, unless_ended, IsAtMostOne}
-use Rattle.recall.proofs.Firsts.{kept_if, none_found, any_found, find_kept, one_kept, find_map, one_map, set_other, set_gone, set_found, set_image, one_set}
+use Rattle.recall.proofs.Firsts.{kept_if, any_found, find_kept, one_kept, find_map, one_map, set_other, set_gone, set_found, set_image, one_set}
 use Rattle.recall.proofs.Inserted.{found_past, one_more}
 
 -- ---- one recall

@@ -1,8 +1,8 @@
 -- The entries of a table behind each change, and the recalls that are seen.
-use Rattle.std.proofs.Common.{◌≡◌, ◌⊎◌, inl, inr, ℕ, zero, suc, ◌+◌, ◌<◌, Bool, true, false, not, ◌&&◌, ◌||◌, cond, eqb, nat_lt, List, [], ◌∷◌, length, map, set, get_or, Option, Some, None, refl, sym, ap, subst, ◌∙◌, arith}
+use Rattle.std.proofs.Common.{◌≡◌, ℕ, zero, suc, ◌+◌, ◌<◌, Bool, true, false, not, ◌&&◌, ◌||◌, cond, eqb, nat_lt, List, [], ◌∷◌, length, map, set, get_or, Option, Some, None, refl, sym, ap, subst, ◌∙◌, arith}
 use Rattle.std.specs.Prelude.{slice_get, option_map, insert}
 use Rattle.std.specs.List.{find, filter, list_any, position, position_or_len, AllByRecursion}
-use Rattle.std.proofs.lemmas.Option.{same_Some, none-some, slice_get-map, slice_get-get_or}
+use Rattle.std.proofs.lemmas.Option.{slice_get-map, slice_get-get_or}
 use Rattle.std.proofs.lemmas.Bool.{eq-eqb, both_ways}
 use Rattle.std.proofs.lemmas.List.{length-map}
 use Rattle.cluster_model.specs.declared.ids.FileId.{FileId}
@@ -11,8 +11,8 @@ use Rattle.recall.specs.declared.recall.Recall.{Recall}
 use Rattle.recall.specs.declared.recall.RecallStage.{RecallStage}
 use Rattle.recall.specs.declared.entry.Entry.{Entry}
 use Rattle.recall.specs.declared.entry.Ended.{Ended}
-use Rattle.recall.specs.Recalls.{at_stage, at_tick, is_out, waits, grant_of, may_go, has_one_out, is_before, with_recall}
-use Rattle.recall.specs.Entries.{recall_in, grant_in, recalls_of, is_out_to, holder, is_free, is_ready, with_recall_in, ticked, held_as, is_ended, goes_on, goes_on_in, unless_ended, released, entries_after, IsAtMostOne, IsHeld, IsStanding}
+use Rattle.recall.specs.Recalls.{at_stage, at_tick, is_out, waits, grant_of, may_go, is_before, with_recall}
+use Rattle.recall.specs.Entries.{recall_in, grant_in, recalls_of, is_out_to, holder, is_free, is_ready, ticked, held_as, goes_on, goes_on_in, unless_ended, released, entries_after, IsAtMostOne, IsHeld, IsStanding}
 use Rattle.recall.proofs.Inserted.{inserted, each_inserted}
 use Rattle.recall.proofs.Outs.{free_is, holder_sent, holder_rests, holder_stays, alone_sent, alone_rests, alone_stays, holder_left, alone_left, holder_at_tick, alone_at_tick, holder_asked, alone_asked}
 
@@ -107,7 +107,7 @@ module _ (es : List Entry) (stands : IsStanding es) (place : ℕ) (r : Recall) (
       let same : set (recalls_of es) place (at_stage s r) ≡ recalls_of (map (held_as r.client grant) (set es place e)) = sym (put_in r.client grant es place e) in
       record {
         held = subst (λ (rs : List Recall). AllByRecursion (IsHeld rs) (map (held_as r.client grant) (set es place e))) same
-        (marks_put (recalls_of es) (set (recalls_of es) place (at_stage s r)) r.client grant now es place e (eq-eqb r.client r.client refl) stands.held);
+            (marks_put (recalls_of es) (set (recalls_of es) place (at_stage s r)) r.client grant now es place e (eq-eqb r.client r.client refl) stands.held);
         alone = λ own. subst (λ (rs : List Recall). IsAtMostOne (is_out_to own) rs) same (alone own);
       }
 
@@ -144,7 +144,7 @@ late_stands es stands place e within is s same =
     let own : IsHeld (recalls_of es) e = subst (λ (x : Entry). IsHeld (recalls_of es) x) (sym is) (each_at (IsHeld (recalls_of es)) es place e within stands.held) in
     record {
       held = subst (λ (l : List Recall). AllByRecursion (IsHeld l) (set es place new)) shown
-      (each_set (IsHeld rs) es place new (weaker (recalls_of es) rs (holder_stays (recalls_of es) place e.recall at s same) es stands.held) (own ∙ sym (holder_stays (recalls_of es) place e.recall at s same e.recall.client)));
+          (each_set (IsHeld rs) es place new (weaker (recalls_of es) rs (holder_stays (recalls_of es) place e.recall at s same) es stands.held) (own ∙ sym (holder_stays (recalls_of es) place e.recall at s same e.recall.client)));
       alone = λ client. subst (λ (l : List Recall). IsAtMostOne (is_out_to client) l) shown (alone_stays (recalls_of es) place e.recall at s same stands.alone client);
     }
 
@@ -175,7 +175,7 @@ left_stands ended es stands =
     let shown = sym (left_in ended es) in
     record {
       held = subst (λ (rs : List Recall). AllByRecursion (IsHeld rs) (entries_after ended es)) shown
-      (each_left ended (recalls_of es) (filter (goes_on ended) (recalls_of es)) (λ own. holder_left ended (recalls_of es) own (stands.alone own)) es stands.held);
+          (each_left ended (recalls_of es) (filter (goes_on ended) (recalls_of es)) (λ own. holder_left ended (recalls_of es) own (stands.alone own)) es stands.held);
       alone = λ own. subst (λ (rs : List Recall). IsAtMostOne (is_out_to own) rs) shown (alone_left ended (recalls_of es) stands.alone own);
     }
 
@@ -194,7 +194,7 @@ ticked_stands es stands =
     let shown = sym (ticked_in es) in
     record {
       held = subst (λ (rs : List Recall). AllByRecursion (IsHeld rs) (map ticked es)) shown
-      (each_ticked (map at_tick (recalls_of es)) es (weaker (recalls_of es) (map at_tick (recalls_of es)) (holder_at_tick (recalls_of es)) es stands.held));
+          (each_ticked (map at_tick (recalls_of es)) es (weaker (recalls_of es) (map at_tick (recalls_of es)) (holder_at_tick (recalls_of es)) es stands.held));
       alone = λ own. subst (λ (rs : List Recall). IsAtMostOne (is_out_to own) rs) shown (alone_at_tick (recalls_of es) stands.alone own);
     }
 
@@ -209,6 +209,6 @@ asked_stands e es stands rests held =
     let same : (own : ℕ) → holder rs own ≡ holder (recalls_of es) own = λ own. holder_asked e.recall (recalls_of es) own rests in
     record {
       held = subst (λ (l : List Recall). AllByRecursion (IsHeld l) (insert es place e)) shown
-      (each_inserted (IsHeld rs) e es place (weaker (recalls_of es) rs same es stands.held) (held ∙ sym (same e.recall.client)));
+          (each_inserted (IsHeld rs) e es place (weaker (recalls_of es) rs same es stands.held) (held ∙ sym (same e.recall.client)));
       alone = λ own. subst (λ (l : List Recall). IsAtMostOne (is_out_to own) l) shown (alone_asked e.recall (recalls_of es) rests stands.alone own);
     }

@@ -1,5 +1,5 @@
 -- The statuses that an answer has: the two that end a callback, and all others.
-use Rattle.std.proofs.Common.{◌≡◌, ℕ, Bool, true, false, List, Option, Some, None, refl}
+use Rattle.std.proofs.Common.{◌≡◌, ℕ, false, List, Option, Some, refl}
 use Rattle.std.specs.Prelude.{slice_set}
 use Rattle.cluster_model.specs.declared.ids.FileId.{FileId}
 use Rattle.cluster_model.specs.declared.ids.Cred.{Cred}
@@ -8,7 +8,7 @@ use Rattle.nfs4_types.specs.declared.status.Stat4.TheVariants as stat
 use Rattle.recall.specs.declared.recall.Recall.{Recall}
 use Rattle.recall.specs.declared.recall.RecallStage.TheVariants.{Later}
 use Rattle.recall.specs.declared.recall.Outcome.TheVariants as outcome
-use Rattle.recall.specs.Recalls.{RecallsAfter, at_stage, answered}
+use Rattle.recall.specs.Recalls.{at_stage, answered}
 use Rattle.recall.specs.RecallLaws.{OutRecall, answers_none, reply_outcome}
 
 pub record IsElse (status : Stat4) : Type 0 where

@@ -1,8 +1,7 @@
 -- What the notes tell of a run's recalls, through each change.
-use Rattle.std.proofs.Common.{◌≡◌, ◌⊎◌, inl, inr, ℕ, zero, ◌+◌, ◌<◌, ◌≤◌, Bool, true, false, not, ◌&&◌, cond, eqb, ltb, List, [], ◌∷◌, map, set, Option, Some, None, refl, sym, ap, subst, ◌∙◌, arith}
+use Rattle.std.proofs.Common.{◌≡◌, inl, inr, ℕ, Bool, true, false, not, ◌&&◌, cond, eqb, ◌∷◌, map, set, Option, Some, None, refl, sym, ap, subst, ◌∙◌}
 use Rattle.std.specs.Prelude.{slice_get, option_map}
-use Rattle.std.specs.List.{find, filter}
-use Rattle.std.proofs.lemmas.Option.{same_Some, none-some}
+use Rattle.std.specs.List.{find}
 use Rattle.std.proofs.lemmas.Bool.{eq-eqb, eqb-true, ne_eqb, and_parts, and_from, both_ways}
 use Rattle.cluster_model.specs.declared.ids.FileId.{FileId}
 use Rattle.cluster_model.specs.declared.ids.Cred.{Cred}
@@ -10,12 +9,12 @@ use Rattle.recall.specs.declared.recall.Recall.{Recall}
 use Rattle.recall.specs.declared.recall.RecallStage.{RecallStage}
 use Rattle.recall.specs.declared.recall.RecallStage.TheVariants.{Waits, Out, Later, Agreed}
 use Rattle.recall.specs.declared.recall.RecallCall.{RecallCall}
-use Rattle.recall.specs.Recalls.{is_of_file, is_of, at_stage, waits, is_out, is_out_as, with_recall, new_recall, stage_at_tick, at_tick, without, without_file}
-use Rattle.recall.specs.RecallLaws.{RecallNote, WasAsked, WasSent, WasAnswered, WasLate, HasExpired, WasEnded, RecallRun, OutRecall, is_call_of, late_once, unless_call, call_out, AskedRecall, asked_of, asked_in}
+use Rattle.recall.specs.Recalls.{is_of_file, is_of, at_stage, waits, is_out, is_out_as, with_recall, stage_at_tick, at_tick, without, without_file}
+use Rattle.recall.specs.RecallLaws.{WasAsked, WasSent, HasExpired, WasEnded, RecallRun, OutRecall, is_call_of, unless_call, call_out, AskedRecall, asked_of, asked_in}
 use Rattle.recall.specs.Entries.{is_out_to, IsAtMostOne}
-use Rattle.recall.proofs.Firsts.{kept_if, passes, one_found, one_at, find_kept, one_kept, find_map, one_map, set_other, set_gone, set_found, set_again, set_image, one_set, left_by}
+use Rattle.recall.proofs.Firsts.{kept_if, passes, find_kept, one_kept, find_map, one_map, set_other, set_found, set_image, one_set, left_by}
 use Rattle.recall.proofs.Inserted.{found_past, found_new, one_more}
-use Rattle.recall.proofs.Outs.{out_at_tick, waits_not_out, alone_sent, alone_rests, alone_stays, alone_asked, alone_at_tick}
+use Rattle.recall.proofs.Outs.{waits_not_out, alone_sent, alone_asked, alone_at_tick}
 
 abbrev pub out_as : ℕ → Recall → Bool
 out_as xid r = is_out_as xid r.stage

@@ -6,8 +6,8 @@ ghost use Rattle.recall.specs.Recalls.{is_out_as, is_of, is_before, has_expired}
 ghost use Rattle.recall.specs.Entries.{grant_in, is_out_to, is_ready, held_as, released, entries_after, ticked};
 
 use crate::entry::{
-    Ended, Entry, has_expired, held_as, is_before, is_ended, is_of, is_out_as, is_out_to,
-    is_ready, released, ticked,
+    Ended, Entry, has_expired, held_as, is_before, is_ended, is_of, is_out_as, is_out_to, is_ready,
+    released, ticked,
 };
 use crate::recall::Recall;
 use cluster_model::{Cred, FileId};

@@ -1,4 +1,4 @@
-use Rattle.std.proofs.Common.{List, Some, map, position, length, sym, ap, ◌∙◌}
+use Rattle.std.proofs.Common.{Some, map, position, length, sym, ap, ◌∙◌}
 use Rattle.std.proofs.lemmas.List.{length-map}
 use Rattle.recall.specs.Recalls.{grant_of}
 use Rattle.recall.specs.Entries.{is_ready, held_as}

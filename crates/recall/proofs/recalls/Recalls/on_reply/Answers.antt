@@ -1,8 +1,8 @@
-use Rattle.std.proofs.Common.{List, Some, refl, sym, ap, subst, ◌∙◌}
+use Rattle.std.proofs.Common.{List, refl, sym, ap, ◌∙◌}
 use Rattle.std.specs.List.{position}
 use Rattle.recall.specs.declared.entry.Entry.{Entry}
 use Rattle.recall.specs.Recalls.{answered, is_out_as}
-use Rattle.recall.proofs.Answered.{stranger_at, out_there, is_out_by, within_at, agrees, has_none, asks_later}
+use Rattle.recall.proofs.Answered.{stranger_at, out_there, is_out_by, agrees, has_none, asks_later}
 use Rattle.recall.proofs.recalls.Recalls.on_reply.Goals as goal
 
 pub returns-in_default : goal.returns-in_default

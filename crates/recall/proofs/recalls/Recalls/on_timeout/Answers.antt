@@ -1,4 +1,4 @@
-use Rattle.std.proofs.Common.{◌+◌, List, Some, set, sym, ap, subst, ◌∙◌}
+use Rattle.std.proofs.Common.{◌+◌, List, set, sym, ap, ◌∙◌}
 use Rattle.std.specs.List.{position}
 use Rattle.recall.specs.declared.entry.Entry.{Entry}
 use Rattle.recall.specs.declared.recall.RecallStage.TheVariants.{Out}
