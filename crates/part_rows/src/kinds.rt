@@ -6,7 +6,8 @@ use part_messages::MessageRows;
 use part_nodes::{ClientRows, DataFileRows, ServerRows};
 use part_runs::{ConfigRows, LineRows, RunRows};
 use part_state::{
-    CbSlotRows, ExtentsRows, FenceRows, FileStateRows, MirrorsRows, SessionsRows, WriterRows,
+    CbSlotRows, ExtentsRows, FenceRows, FileStateRows, MirrorsRows, RecallRows, SessionsRows,
+    WriterRows,
 };
 use row_words::{Part, RowFault};
 use std::alloc::Global;
@@ -35,6 +36,7 @@ fn on_state<V: Player>(alloc: Global, kind: &str, player: &mut V) -> Played {
         "fence" => on(player, FenceRows::new()),
         "filestate" => on(player, FileStateRows::new()),
         "mirrors" => on(player, MirrorsRows::new()),
+        "recalls" => on(player, RecallRows::new()),
         "sessions" => on(player, SessionsRows::new(alloc)),
         "writer" => on(player, WriterRows::new()),
         _ => None,

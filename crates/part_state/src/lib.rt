@@ -1,5 +1,5 @@
 //! The parts of a metadata server and of a client that keep states, as rows play them: files' states, fences, writers,
-//! places, sessions and the slot of callbacks.
+//! places, recalls, sessions and the slot of callbacks.
 #![tactic(auto)]
 
 mod cb_slot;
@@ -7,6 +7,7 @@ mod extents;
 mod fences;
 mod file_state;
 mod mirrors;
+mod recalls;
 mod report;
 mod sessions;
 mod writer;
@@ -16,5 +17,6 @@ pub use extents::ExtentsRows;
 pub use fences::FenceRows;
 pub use file_state::FileStateRows;
 pub use mirrors::MirrorsRows;
+pub use recalls::RecallRows;
 pub use sessions::SessionsRows;
 pub use writer::WriterRows;

@@ -1,0 +1,12 @@
+mod Answered
+mod Asked
+mod Firsts
+mod Inserted
+mod Loops
+mod Moves
+mod Notes
+mod Outs
+mod Promises
+mod Standing
+mod Statuses
+mod Told

@@ -1,3 +1,4 @@
 pub mod Recalls
 pub mod Calls
+pub mod Entries
 pub mod RecallLaws

@@ -1,5 +1,5 @@
 -- What holds of recalls in every run of them, told by what was asked, sent and answered (RFC 8881, sections 12.5.5.1 and 20.3).
-use Rattle.std.specs.Prelude.{◌≡◌, ℕ, ◌+◌, ◌<◌, ◌≤◌, Bool, true, false, ◌==◌, ◌&&◌, List, [], ◌∷◌, ◌++◌, Option, Some, None, find, fold, nat_lt, if◌then◌else◌}
+use Rattle.std.specs.Prelude.{◌≡◌, ℕ, ◌+◌, ◌<◌, ◌≤◌, Bool, false, ◌==◌, ◌&&◌, List, [], ◌∷◌, Option, Some, None, find, fold, nat_lt, if◌then◌else◌}
 use Rattle.std.specs.Option.{option_map}
 use Rattle.cluster_model.specs.declared.limits.TheConstants.{MAX_TIMEOUTS}
 use Rattle.cluster_model.specs.declared.ids.FileId.{FileId}

@@ -2,6 +2,12 @@
 //! sections 12.5.5 and 20.3).
 #![tactic(auto)]
 
+mod entries;
+mod entry;
+mod laws;
 mod recall;
+mod recalls;
 
+pub use laws::recall_law;
 pub use recall::{AskFault, Outcome, RECALL_TIME, Recall, RecallCall, RecallStage};
+pub use recalls::Recalls;
