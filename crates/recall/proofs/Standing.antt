@@ -61,7 +61,7 @@ at_place es place d within = slice_get-map recall_in es place ∙ ap (option_map
 
 -- ---- one entry is put anew
 
-set_in : (es : List Entry) (place : ℕ) (e : Entry) → recalls_of (set es place e) ≡ set (recalls_of es) place e.recall
+pub set_in : (es : List Entry) (place : ℕ) (e : Entry) → recalls_of (set es place e) ≡ set (recalls_of es) place e.recall
 set_in [] place e = refl
 set_in (x ∷ es) zero e = refl
 set_in (x ∷ es) (suc place) e = ap (λ rs. x.recall ∷ rs) (set_in es place e)
@@ -147,9 +147,6 @@ late_stands es stands place e within is s same =
           (each_set (IsHeld rs) es place new (weaker (recalls_of es) rs (holder_stays (recalls_of es) place e.recall at s same) es stands.held) (own ∙ sym (holder_stays (recalls_of es) place e.recall at s same e.recall.client)));
       alone = λ client. subst (λ (l : List Recall). IsAtMostOne (is_out_to client) l) shown (alone_stays (recalls_of es) place e.recall at s same stands.alone client);
     }
-
-pub late_in : (es : List Entry) (place : ℕ) (e : Entry) → recalls_of (set es place e) ≡ set (recalls_of es) place e.recall
-late_in es place e = set_in es place e
 
 -- ---- some recalls are over
 

@@ -37,12 +37,8 @@ is_ready e = waits e.recall.stage && is_free e.held_by
 abbrev pub held_as : ℕ → Option (FileId × Cred) → Entry → Entry
 held_as client grant e = if e.recall.client == client then record { recall = e.recall; held_by = grant } else e
 
--- the recall changes, and its client stays
-abbrev pub with_recall_in : Recall → Entry → Entry
-with_recall_in r e = record { recall = r; held_by = e.held_by }
-
 abbrev pub ticked : Entry → Entry
-ticked e = with_recall_in (at_tick e.recall) e
+ticked e = record { recall = at_tick e.recall; held_by = e.held_by }
 
 -- ---- what ends
 

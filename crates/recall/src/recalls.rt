@@ -17,8 +17,8 @@ use std::alloc::Global;
 use std::marker::Model;
 
 /// The recalls of layouts that a metadata server has under way, in order of file and uid (RFC 8881, sections 12.5.5.1 and
-/// 20.3). At most one callback is outstanding to a client. Times are seconds, and a recall is given up 90 of them after it
-/// was asked. Each call goes through the recalls a few times, however many there are.
+/// 20.3). At most one callback is outstanding to a client. Times are seconds, and a recall is given up once more than 90 of
+/// them have passed since it was asked. Each call goes through the recalls a fixed number of times.
 #[derive(Debug, Drop)]
 pub struct Recalls {
     entries: Vec<Entry>,
@@ -69,15 +69,15 @@ impl Recalls {
         };
         let held_by = holder(client, self.entries.as_slice());
         let place = place_for(recall, self.entries.as_slice());
-        // `?` would promise nothing of the error
+        // by hand, since no clause says which error `?` makes of it
         if let Err(e) = insert(place, Entry { recall, held_by }, &mut self.entries) {
             return Err(AskFault::NoMemory(e));
         }
         Ok(())
     }
 
-    /// The callback of the first recall that waits and to whose client none is outstanding. It is outstanding from now on,
-    /// under this number; no callback of this number is. `None` where there is no such recall.
+    /// The callback of the first recall that waits and to whose client none is outstanding; `None` where there is no such
+    /// recall. It is outstanding from now on under this number, under which the caller has none outstanding.
     pub fn next_call(&mut self, xid: u32) -> Option<RecallCall>
         ensures { SendsRecall self.old xid result self.new }
     {

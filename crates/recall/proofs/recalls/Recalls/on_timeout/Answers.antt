@@ -5,7 +5,7 @@ use Rattle.recall.specs.declared.recall.RecallStage.TheVariants.{Out}
 use Rattle.recall.specs.declared.recall.Recall.{Recall}
 use Rattle.recall.specs.Recalls.{at_stage, late, is_out, is_out_as}
 use Rattle.recall.proofs.Answered.{stranger_at, out_there, within_at, goes_again, expires, is_some_stage}
-use Rattle.recall.proofs.Standing.{late_stands, late_in}
+use Rattle.recall.proofs.Standing.{late_stands, set_in}
 use Rattle.recall.proofs.recalls.Recalls.on_timeout.Goals as goal
 
 pub returns-in_default : goal.returns-in_default
@@ -26,7 +26,7 @@ returns-in-Out c =
     let found = sym (ap (λ (l : List Entry). position (λ e. is_out_as c.args.xid e.recall.stage) l) c.as_slice.ensures.value) ∙ sym c.outstanding.ensures ∙ c.in-Some.is in
     let there = out_there items c.args.self.now c.args.xid c.in-Some.place c.index-entry.result.now c.self.view_is found c.index-entry.ensures in
     goes_again c.args.self.now c.args.xid c.in-Some.place r there _ c.in-Out.xid c.in-Out.timeouts c.in-Out.is c.if-timeouts.true
-    (late_in items c.in-Some.place _ ∙ ap (λ (l : List Recall). set l c.in-Some.place (at_stage (Out c.in-Out.xid (c.in-Out.timeouts + 1)) r)) c.self.view_is)
+    (set_in items c.in-Some.place _ ∙ ap (λ (l : List Recall). set l c.in-Some.place (at_stage (Out c.in-Out.xid (c.in-Out.timeouts + 1)) r)) c.self.view_is)
 
 pub returns-in-Out-2 : goal.returns-in-Out-2
 returns-in-Out-2 c =
