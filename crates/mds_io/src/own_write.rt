@@ -6,7 +6,7 @@ ghost use mathlib.Core.Option.{none};
 ghost use Rattle.cluster_model.specs.declared.limits.TheConstants.{MAX_FILE, PIECE_SIZE};
 ghost use Rattle.cluster_model.specs.DsCalls.{plain_ds_reply};
 ghost use Rattle.mirror_writer.specs.Calls.{SendsCall, CarriesFewBytes};
-ghost use Rattle.mirror_writer.specs.Writers.{after_timeout};
+ghost use Rattle.mirror_writer.specs.Writers.{after_timeout, open_committed};
 ghost use Rattle.mds_io.specs.contracts.own_write.MdsWrite.{the_row};
 ghost use Rattle.mds_io.specs.OwnWrites.{own_write, after_own_reply, step_by, ended};
 
@@ -95,10 +95,20 @@ impl MdsWrite {
     pub fn ended(&self) -> Option<Reported>
         ensures { option_map (λ r. r.places) result ≡ ended self.now }
     {
-        if self.writer.rest_committed() || self.writer.has_no_mirror() {
+        if self.is_over() {
             return Some(self.writer.report());
         }
         None
+    }
+
+    /// Each mirror has failed or covered the write.
+    fn is_over(&self) -> bool
+        ensures { result ≡ open_committed self.now.mirrors }
+    {
+        if self.writer.rest_committed() {
+            return true;
+        }
+        self.writer.has_no_mirror()
     }
 
     /// The uid that the calls carry.
