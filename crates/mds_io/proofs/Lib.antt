@@ -1,3 +1,4 @@
 mod Ended
 mod Named
 mod ReadSteps
+mod ReadRuns
