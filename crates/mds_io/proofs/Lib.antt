@@ -2,3 +2,5 @@ mod Ended
 mod Named
 mod ReadSteps
 mod ReadRuns
+mod OwnSteps
+mod OwnRuns

@@ -6,7 +6,7 @@ mod own_write;
 mod read;
 mod read_end;
 
-pub use laws::read_law;
+pub use laws::{own_write_law, read_law};
 pub use own_write::MdsWrite;
 pub use read::MdsRead;
 pub use read_end::{Failure, Failures, ReadEnd};
