@@ -1,20 +1,18 @@
 -- What holds of a write of the metadata server in every run of it: its runs are runs of a writer.
-use Rattle.std.proofs.Common.{◌≡◌, ℕ, zero, suc, ◌+◌, ◌<◌, Bool, true, false, ◌||◌, ◌&&◌, cond, List, [], ◌∷◌, ◌++◌, length, map, take, replicate, Option, Some, None, refl, ap, sym, subst, ◌∙◌, arith}
+use Rattle.std.proofs.Common.{◌≡◌, ℕ, zero, suc, ◌<◌, Bool, true, false, ◌||◌, ◌&&◌, cond, List, [], ◌∷◌, ◌++◌, length, map, take, replicate, Option, Some, None, refl, ap, sym, subst, ◌∙◌, arith}
 use Rattle.std.specs.Prelude.{slice_get, fold}
 use Rattle.std.specs.List.{list_all}
 use Rattle.std.proofs.lemmas.Bool.{and_parts, both_ways}
 use Rattle.std.proofs.lemmas.Option.{same_Some, none-some}
 use Rattle.cluster_model.specs.declared.ids.Mirror.{Mirror}
-use Rattle.cluster_model.specs.declared.ids.MirrorId.{MirrorId}
 use Rattle.cluster_model.specs.declared.ds_call.Shown.{Shown}
-use Rattle.cluster_model.specs.DsCalls.{DsReplyValue, Created, Set, Written, Committed, Bytes, NotSync, Failed}
+use Rattle.cluster_model.specs.DsCalls.{Created, Set, Written, Committed, Bytes, NotSync, Failed}
 use Rattle.cluster_model.specs.Fences.{odd_status}
-use Rattle.mirror_writer.specs.declared.call.TakenWrite.{TakenWrite}
 use Rattle.mirror_writer.specs.declared.call.WriterCall.{WriterCall}
 use Rattle.mirror_writer.specs.declared.call.WriterCall.TheVariants.{NoCall, OutWrite, OutCommit}
 use Rattle.mirror_writer.specs.Writers.{WriterMirror, WriterValue, is_committed, open_committed, reported_places, covered_flag, mirror_of_call, next_place, next_sent}
 use Rattle.mirror_writer.specs.WriterLaws.{WriterMove, TakesWrite, WantsCommit, SendsOne as AsSend, TakesReply as AsReply, TakesTimeout as AsTimeout, WriterNote, WriterRun, call_notes, mirror_notes, answer_notes, sent_from, sent_notes, is_new_call, writer_moved, writer_run, IsCoveredBy, covered_of, CoversJustWhere, IsCommittedJustWhere, WriterLaw}
-use Rattle.mds_io.specs.OwnWrites.{own_write, ended}
+use Rattle.mds_io.specs.OwnWrites.{own_write}
 use Rattle.mds_io.specs.OwnWriteLaws.{OwnMove, SendsOne, TakesReply, TakesTimeout, OwnRun, own_moved, own_run, IsCoveredWhereEnded, GoesOnJustWhile, OwnWriteLaw}
 use Rattle.mds_io.proofs.OwnSteps.{plain_of, own_plain, run_taken}
 

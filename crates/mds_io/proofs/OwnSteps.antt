@@ -1,5 +1,5 @@
 -- What a step makes of a write of the metadata server: its one taken write stays, and nothing is told of a layout.
-use Rattle.std.proofs.Common.{◌≡◌, ℕ, ◌+◌, Bool, true, false, cond, List, [], ◌∷◌, ◌++◌, Option, Some, None, refl, ap, sym, ◌∙◌}
+use Rattle.std.proofs.Common.{◌≡◌, ℕ, ◌+◌, Bool, true, false, cond, List, [], ◌∷◌, ◌++◌, Option, Some, None, refl, ◌∙◌}
 use Rattle.std.specs.Prelude.{slice_get, ◌==◌, fold}
 use Rattle.cluster_model.specs.declared.ids.MirrorId.{MirrorId}
 use Rattle.cluster_model.specs.declared.phase.LeftCause.{LeftCause}
@@ -12,7 +12,7 @@ use Rattle.mirror_writer.specs.declared.call.WriterCall.{WriterCall}
 use Rattle.mirror_writer.specs.declared.call.WriterCall.TheVariants.{NoCall, OutWrite, OutCommit}
 use Rattle.mirror_writer.specs.declared.step.WriterStep.{WriterStep}
 use Rattle.mirror_writer.specs.declared.step.WriterStep.TheVariants as step
-use Rattle.mirror_writer.specs.Writers.{WriterMirror, WriterValue, WriterAfter, WriterSends, open_committed, with_writer_mirror, with_writer_call, with_commit, with_write_answer, fails, after_commit, is_stranger, call_answered, mirror_answered, answered_at, mirror_of_call, after_reply, timed_out_as, call_timed_out, mirror_timed_out, timed_out_at, after_timeout, call_for, sends_as, sends_next, sends_to, sends_at, next_at, next_place, next_sent}
+use Rattle.mirror_writer.specs.Writers.{WriterMirror, WriterValue, WriterAfter, open_committed, with_writer_mirror, with_writer_call, with_commit, fails, after_commit, is_stranger, call_answered, mirror_answered, answered_at, mirror_of_call, after_reply, call_timed_out, mirror_timed_out, timed_out_at, after_timeout, call_for, sends_as, sends_next, sends_to, sends_at, next_at, next_place, next_sent}
 use Rattle.mirror_writer.specs.WriterLaws.{sent_from, sent_notes, is_new_call}
 use Rattle.mds_io.specs.OwnWrites.{step_by, told_by, after_own_reply}
 use Rattle.mds_io.specs.OwnWriteLaws.{OwnMove, SendsOne, TakesReply, TakesTimeout, OwnRun, own_moved}

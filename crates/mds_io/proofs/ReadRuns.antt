@@ -14,12 +14,11 @@ use Rattle.cluster_model.specs.DsCalls.{DsReplyValue, Created, Set, Written, Com
 use Rattle.cluster_model.specs.Fences.{odd_status}
 use Rattle.cluster_model.specs.Phases.{ids_of}
 use Rattle.mds_io.specs.declared.read_end.Failure.{Failure}
-use Rattle.mds_io.specs.declared.read_end.ReadEnd.{ReadEnd}
 use Rattle.mds_io.specs.declared.read_end.ReadEnd.TheVariants as end
-use Rattle.mds_io.specs.Reads.{ReadState, ReadSends, ReadAfter, new_read, begun_again, goes_on, at_stage, fails, sends_to, next_sent, answered, after_reply, after_timeout}
-use Rattle.mds_io.specs.ReadLaws.{ReadMove, SendsOne, TakesReply, TakesTimeout, BeginsAgain, ReadNote, WasSent, WasAnswered, WasLate, ReadRun, sent_noted, read_moved, read_run, OutRead, answered_once, late_once, read_out, error_of, failed_for, failed_by_answer, failed_by_timeout, failures_told, is_read_out, ids_failed, EndsAs, GivesBytes, IsNextRead, live_then, live_last, ReadLaw}
+use Rattle.mds_io.specs.Reads.{ReadState, ReadSends, ReadAfter, new_read, begun_again, goes_on, fails, sends_to, next_sent, answered, after_reply, after_timeout}
+use Rattle.mds_io.specs.ReadLaws.{ReadMove, SendsOne, TakesReply, TakesTimeout, BeginsAgain, ReadNote, WasAnswered, WasLate, ReadRun, sent_noted, read_moved, read_run, OutRead, answered_once, late_once, read_out, error_of, failed_for, failed_by_answer, failed_by_timeout, failures_told, is_read_out, ids_failed, EndsAs, GivesBytes, IsNextRead, live_then, live_last, ReadLaw}
 use Rattle.mds_io.proofs.Named.{Begins, next_named}
-use Rattle.mds_io.proofs.ReadSteps.{out_as, IsOutAs, Good, state_of, Stands, AfterSo, no_failure, has_bytes, one_fails}
+use Rattle.mds_io.proofs.ReadSteps.{out_as, IsOutAs, state_of, Stands, AfterSo, no_failure, has_bytes, one_fails}
 
 flipped : (a b : ℕ) (t : Bool) → (a == b) ≡ t → (b == a) ≡ t
 flipped a b true is = eq-eqb b a (sym (eqb-true a b is))

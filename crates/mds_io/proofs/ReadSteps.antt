@@ -1,24 +1,18 @@
 -- What a step makes of a read, beside what the notes tell of it.
-use Rattle.std.proofs.Common.{◌≡◌, ℕ, ◌+◌, ◌<◌, Bool, true, false, cond, eqb, ltb, List, [], ◌∷◌, ◌++◌, length, Option, Some, None, refl, sym, ap, subst, ◌∙◌, arith, append-nil}
-use Rattle.std.specs.Prelude.{slice_get, nat_lt, ◌==◌}
-use Rattle.std.proofs.lemmas.Bool.{eqb-true, eqb-false, eq-eqb, ne_eqb, ltb-true, ltb-false}
+use Rattle.std.proofs.Common.{◌≡◌, ℕ, ◌<◌, Bool, List, [], ◌∷◌, ◌++◌, length, Option, Some, None, refl, sym, ap, subst, ◌∙◌, arith}
+use Rattle.std.specs.Prelude.{slice_get}
 use Rattle.std.proofs.lemmas.List.{length-append}
-use Rattle.std.proofs.lemmas.Option.{same_Some, none-some}
 use Rattle.cluster_model.specs.declared.ids.Mirror.{Mirror}
 use Rattle.cluster_model.specs.declared.ids.MirrorId.{MirrorId}
-use Rattle.cluster_model.specs.declared.phase.LeftCause.{LeftCause}
-use Rattle.cluster_model.specs.declared.phase.LeftCause.TheVariants.{Error, Timeouts}
 use Rattle.cluster_model.specs.declared.ds_call.Shown.{Shown}
 use Rattle.cluster_model.specs.declared.call_stage.CallStage.{CallStage}
 use Rattle.cluster_model.specs.declared.call_stage.CallStage.TheVariants.{Waits, Out, KeptOut, KeptBack, Done, GivenUp}
-use Rattle.cluster_model.specs.DsCalls.{DsReplyValue, Created, Set, Written, Committed, Bytes, NotSync, Failed}
-use Rattle.cluster_model.specs.Fences.{odd_status}
+use Rattle.cluster_model.specs.DsCalls.{DsReplyValue, Bytes}
 use Rattle.cluster_model.specs.Phases.{ids_of}
 use Rattle.mds_io.specs.declared.read_end.Failure.{Failure}
-use Rattle.mds_io.specs.declared.read_end.ReadEnd.{ReadEnd}
 use Rattle.mds_io.specs.declared.read_end.ReadEnd.TheVariants as end
-use Rattle.mds_io.specs.Reads.{ReadState, ReadAfter, goes_on, at_stage, with_failure, failed_with, fails, end_of, in_turn, answered, after_reply, after_timeout}
-use Rattle.mds_io.specs.ReadLaws.{ReadNote, WasSent, WasAnswered, WasLate, ReadRun, OutRead, answered_once, late_once, read_out, error_of, failed_for, failed_by_answer, failed_by_timeout, failures_told, is_read_out, ids_failed, AllHaveFailed, EndsAs, GivesBytes}
+use Rattle.mds_io.specs.Reads.{ReadState, ReadAfter, goes_on, with_failure, failed_with, end_of}
+use Rattle.mds_io.specs.ReadLaws.{ReadNote, ReadRun, OutRead, read_out, failures_told, ids_failed, EndsAs}
 use Rattle.mds_io.proofs.Named.{Begins, next_named, one_failed, all_failed, one_left}
 
 -- ---- a read that stands as the notes tell
