@@ -1,0 +1,6 @@
+mod Ended
+mod Named
+mod ReadSteps
+mod ReadRuns
+mod OwnSteps
+mod OwnRuns

@@ -1,18 +1,18 @@
 -- What holds of a read in every run of it, told by what was sent and answered (RFC 8881, section 18.22; RFC 1813, section 3.3.6).
-use Rattle.std.specs.Prelude.{◌≡◌, ℕ, ◌+◌, Bool, true, false, ◌==◌, List, [], ◌∷◌, ◌++◌, map, Option, Some, None, fold, nat_lt, if◌then◌else◌}
+use Rattle.std.specs.Prelude.{◌≡◌, ℕ, ◌+◌, Bool, false, ◌==◌, List, [], ◌∷◌, ◌++◌, map, Option, Some, None, fold, nat_lt, if◌then◌else◌}
 use Rattle.cluster_model.specs.declared.limits.TheConstants.{MAX_TIMEOUTS}
 use Rattle.cluster_model.specs.declared.ids.Mirror.{Mirror}
 use Rattle.cluster_model.specs.declared.ids.MirrorId.{MirrorId}
 use Rattle.cluster_model.specs.declared.phase.LeftCause.{LeftCause}
 use Rattle.cluster_model.specs.declared.phase.LeftCause.TheVariants.{Error, Timeouts}
 use Rattle.cluster_model.specs.declared.ds_call.Shown.{Shown}
-use Rattle.cluster_model.specs.DsCalls.{DsCallValue, Read, DsReplyValue, Created, Set, Written, Committed, Bytes, NotSync, Failed}
-use Rattle.cluster_model.specs.Fences.{is_out, odd_status}
+use Rattle.cluster_model.specs.DsCalls.{Read, DsReplyValue, Created, Set, Written, Committed, Bytes, NotSync, Failed}
+use Rattle.cluster_model.specs.Fences.{odd_status}
 use Rattle.cluster_model.specs.Phases.{ids_of}
 use Rattle.mds_io.specs.declared.read_end.Failure.{Failure}
 use Rattle.mds_io.specs.declared.read_end.ReadEnd.{ReadEnd}
 use Rattle.mds_io.specs.declared.read_end.ReadEnd.TheVariants as end
-use Rattle.mds_io.specs.Reads.{ReadState, new_read, begun_again, ReadSends, next_sent, ReadAfter, after_reply, after_timeout}
+use Rattle.mds_io.specs.Reads.{ReadState, new_read, begun_again, ReadSends, next_sent, after_reply, after_timeout}
 
 -- ---- runs
 

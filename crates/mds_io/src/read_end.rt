@@ -1,5 +1,7 @@
 //! How a read ends.
 
+ghost use Rattle.std.specs.Prelude.{◌≡◌, ◌<◌, [], ◌∷◌, ◌++◌, length};
+
 use arrayvec::ArrayVec;
 use cluster_model::{LeftCause, MirrorId};
 use ff_xdr::Data;
@@ -24,7 +26,7 @@ impl Default for Failure {
     }
 }
 
-/// The mirrors of one read that did not give the bytes, in order.
+/// The mirrors of one read that did not give the bytes, in order: at most four.
 #[derive(Debug, Drop)]
 pub struct Failures {
     items: ArrayVec<Failure, 4>,
@@ -37,6 +39,42 @@ impl Model for Failures {
     ghost Value = { List Failure };
 
     ghost view = { λ f. f.items.items };
+}
+
+impl Failures {
+    /// No mirror.
+    pub(crate) fn none() -> Failures
+        ensures { result ≡ [] }
+    {
+        Failures {
+            items: ArrayVec::new(),
+        }
+    }
+
+    /// One more, at the end.
+    pub(crate) fn add(&mut self, failure: Failure)
+        requires { length self.old < 4 }
+        ensures { self.new ≡ self.old ++ failure ∷ [] }
+    {
+        self.items.push(failure);
+    }
+
+    /// The same once more.
+    pub(crate) fn copied(&self) -> Failures
+        ensures { result ≡ self.now }
+    {
+        let mut items = ArrayVec::new();
+        // These are at most four, so they fit.
+        let _fits = items.try_extend_from_slice(self.items.as_slice());
+        Failures { items }
+    }
+
+    /// All of them, in order.
+    pub fn as_slice(&self) -> &[Failure]
+        ensures { result.now ≡ self.now }
+    {
+        self.items.as_slice()
+    }
 }
 
 /// How a read ends.

@@ -6,8 +6,8 @@ use part_messages::MessageRows;
 use part_nodes::{ClientRows, DataFileRows, ServerRows};
 use part_runs::{ConfigRows, LineRows, RunRows};
 use part_state::{
-    CbSlotRows, ExtentsRows, FenceRows, FileStateRows, MirrorsRows, RecallRows, SessionsRows,
-    WriterRows,
+    CbSlotRows, ExtentsRows, FenceRows, FileStateRows, MdsReadRows, MdsWriteRows, MirrorsRows, RecallRows,
+    SessionsRows, WriterRows,
 };
 use row_words::{Part, RowFault};
 use std::alloc::Global;
@@ -35,6 +35,8 @@ fn on_state<V: Player>(alloc: Global, kind: &str, player: &mut V) -> Played {
         "extents" => on(player, ExtentsRows::new(alloc)),
         "fence" => on(player, FenceRows::new()),
         "filestate" => on(player, FileStateRows::new()),
+        "mdsread" => on(player, MdsReadRows::new()),
+        "mdswrite" => on(player, MdsWriteRows::new()),
         "mirrors" => on(player, MirrorsRows::new()),
         "recalls" => on(player, RecallRows::new()),
         "sessions" => on(player, SessionsRows::new(alloc)),

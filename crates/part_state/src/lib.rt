@@ -1,11 +1,13 @@
 //! The parts of a metadata server and of a client that keep states, as rows play them: files' states, fences, writers,
-//! places, recalls, sessions and the slot of callbacks.
+//! places, recalls, copies, sessions, the slot of callbacks, and the metadata server's own reads and writes.
 #![tactic(auto)]
 
 mod cb_slot;
 mod extents;
 mod fences;
 mod file_state;
+mod mds_read;
+mod mds_write;
 mod mirrors;
 mod recalls;
 mod report;
@@ -16,6 +18,8 @@ pub use cb_slot::CbSlotRows;
 pub use extents::ExtentsRows;
 pub use fences::FenceRows;
 pub use file_state::FileStateRows;
+pub use mds_read::MdsReadRows;
+pub use mds_write::MdsWriteRows;
 pub use mirrors::MirrorsRows;
 pub use recalls::RecallRows;
 pub use sessions::SessionsRows;
