@@ -6,8 +6,8 @@ use part_messages::MessageRows;
 use part_nodes::{ClientRows, DataFileRows, ServerRows};
 use part_runs::{ConfigRows, LineRows, RunRows};
 use part_state::{
-    CbSlotRows, ExtentsRows, FenceRows, FileStateRows, MdsReadRows, MdsWriteRows, MirrorsRows, RecallRows,
-    SessionsRows, WriterRows,
+    CbSlotRows, CopyRows, ExtentsRows, FenceRows, FileStateRows, MdsReadRows, MdsWriteRows, MirrorsRows,
+    RecallRows, SessionsRows, WriterRows,
 };
 use row_words::{Part, RowFault};
 use std::alloc::Global;
@@ -32,6 +32,7 @@ fn on<P: Part + Drop, V: Player>(player: &mut V, part: P) -> Played {
 fn on_state<V: Player>(alloc: Global, kind: &str, player: &mut V) -> Played {
     match kind {
         "cbslot" => on(player, CbSlotRows::new()),
+        "copy" => on(player, CopyRows::new()),
         "extents" => on(player, ExtentsRows::new(alloc)),
         "fence" => on(player, FenceRows::new()),
         "filestate" => on(player, FileStateRows::new()),

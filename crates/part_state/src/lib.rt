@@ -3,6 +3,7 @@
 #![tactic(auto)]
 
 mod cb_slot;
+mod copies;
 mod extents;
 mod fences;
 mod file_state;
@@ -15,6 +16,7 @@ mod sessions;
 mod writer;
 
 pub use cb_slot::CbSlotRows;
+pub use copies::CopyRows;
 pub use extents::ExtentsRows;
 pub use fences::FenceRows;
 pub use file_state::FileStateRows;

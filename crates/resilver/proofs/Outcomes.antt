@@ -237,8 +237,11 @@ module _ (plan : List Target) (copier : ℕ) (c : CopyState) (notes : List CopyN
       let kept : not (was_lost a.from.server notes) ≡ true = ap not (ap (λ n. was_lost n notes) a.server ∙ sym a.lost ∙ left) in
       record {
         target = a.from;
-        left = (filter (λ (k : Target). not (was_lost k.server notes)) split.0, filter (λ (k : Target). not (was_lost k.server notes)) split.1,
-                ap (λ l. are_left l notes) split.2 ∙ filtered_split (λ (k : Target). not (was_lost k.server notes)) split.0 a.from split.1 kept);
+        left = (
+          filter (λ (k : Target). not (was_lost k.server notes)) split.0,
+          filter (λ (k : Target). not (was_lost k.server notes)) split.1,
+          ap (λ l. are_left l notes) split.2 ∙ filtered_split (λ (k : Target). not (was_lost k.server notes)) split.0 a.from split.1 kept,
+        );
         misses = λ end id on made taken. misses end id (on ∙ a.server) (ap (λ n. was_created id n copier notes) (sym a.name) ∙ made) taken;
       }
 

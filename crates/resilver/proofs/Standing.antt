@@ -329,11 +329,11 @@ module _ (plan : List Target) (copier at : ℕ) (piece : List ℕ) (notes : List
       few = ltb-true (n + 1) MAX_TIMEOUTS less;
       lost = sym left_before ∙ sym be.lost;
       out = λ y so.
-      let same : x ≡ y = out_same x y (Out x (n + 1)) (equal x x refl) so in
-      late_same notes x y same ∙ ap (λ k. late_once (call_out notes k)) (sym same) ∙ ap late_once (a.out x out)
-      ∙ ap (λ (b : Bool). cond {A = Option OutCall} b (Some (target_out copier at piece t)) (cond {A = Option OutCall} (nat_lt (timeouts_of t.stage + 1) MAX_TIMEOUTS) (Some (again (timeouts_of t.stage + 1))) None)) (no_read copier at piece t.name t.made)
-      ∙ ap (λ (s : CallStage). cond {A = Option OutCall} (nat_lt (timeouts_of s + 1) MAX_TIMEOUTS) (Some (again (timeouts_of s + 1))) None) is
-      ∙ ap (λ (b : Bool). cond {A = Option OutCall} b (Some (again (n + 1))) None) less;
+          let same : x ≡ y = out_same x y (Out x (n + 1)) (equal x x refl) so in
+          late_same notes x y same ∙ ap (λ k. late_once (call_out notes k)) (sym same) ∙ ap late_once (a.out x out)
+          ∙ ap (λ (b : Bool). cond {A = Option OutCall} b (Some (target_out copier at piece t)) (cond {A = Option OutCall} (nat_lt (timeouts_of t.stage + 1) MAX_TIMEOUTS) (Some (again (timeouts_of t.stage + 1))) None)) (no_read copier at piece t.name t.made)
+          ∙ ap (λ (s : CallStage). cond {A = Option OutCall} (nat_lt (timeouts_of s + 1) MAX_TIMEOUTS) (Some (again (timeouts_of s + 1))) None) is
+          ∙ ap (λ (b : Bool). cond {A = Option OutCall} b (Some (again (n + 1))) None) less;
       stands = standing_on copier at piece notes (WasLate x ∷ notes) (at_stage t (Out x (n + 1))) be (standing_at copier at piece notes t (Out x (n + 1)) (ap is_over is) refl a.stands);
     }
       where

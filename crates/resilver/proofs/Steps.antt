@@ -75,13 +75,14 @@ call_here c xid ys zs place d new next is within same_ys same_zs does named =
     let written : set xs place (at_stage t (Out xid 0)) ≡ all =
     sym (ap (λ l. refill (length xs) xs (set l place new)) same_zs ∙ refilled xs (set xs place new) (length-set xs place new)
     ∙ ap (set xs place) (does ∙ ap (λ l. at_stage (get_or l place d) (Out xid 0)) same_ys)) in
-    let goes : ℕ → List CopyTarget → DsCallValue → Option CopyCall = λ server l call. Some (record { copy = with_targets c l; server = server; uid = target_caller c.copier t.made; call = call }) in
-    (target_caller c.copier t.made,
-     ap (call_from c xid) is
-     ∙ ap (target_call_at c xid place) (slice_get-get_or xs place d within)
-     ∙ ap (λ l. goes t.server l (target_call c.copier c.at c.piece t.name t.made)) written
-     ∙ ap (λ l. goes (get_or l place d).server all (target_call c.copier c.at c.piece (get_or l place d).name (get_or l place d).made)) (sym same_ys)
-     ∙ ap (goes (get_or ys place d).server all) (named_so c all (get_or ys place d).name (get_or ys place d).made ∙ ap (call_as (with_targets c all)) (sym named)))
+    let goes : ℕ → List CopyTarget → DsCallValue → Option CopyCall = λ server l call. Some (record { copy = with_targets c l; server = server; uid = target_caller c.copier t.made; call = call }) in (
+      target_caller c.copier t.made,
+      ap (call_from c xid) is
+          ∙ ap (target_call_at c xid place) (slice_get-get_or xs place d within)
+          ∙ ap (λ l. goes t.server l (target_call c.copier c.at c.piece t.name t.made)) written
+          ∙ ap (λ l. goes (get_or l place d).server all (target_call c.copier c.at c.piece (get_or l place d).name (get_or l place d).made)) (sym same_ys)
+          ∙ ap (goes (get_or ys place d).server all) (named_so c all (get_or ys place d).name (get_or ys place d).made ∙ ap (call_as (with_targets c all)) (sym named)),
+    )
 
 -- the answer to the READ
 pub read_taken : (c : CopyState) (xid : ℕ) (reply : DsReplyValue) (result : Result CopyStep NoMemory) (new : CopyState)

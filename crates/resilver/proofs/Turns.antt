@@ -335,8 +335,8 @@ module _ (c : CopyState) (notes : List CopyNote) (turn : Turn c notes) where
     read = λ y so. absurd cc;
     asked = λ y so. absurd cc;
     alone = λ y q u at so.
-    let m = mapped_at (to_write bytes) c.targets q u at in
-    absurd (apart (is_out y u.stage) so (ap (λ (k : CopyTarget). is_out y k.stage) (sym m.2) ∙ write_not_out y bytes m.0));
+        let m = mapped_at (to_write bytes) c.targets q u at in
+        absurd (apart (is_out y u.stage) so (ap (λ (k : CopyTarget). is_out y k.stage) (sym m.2) ∙ write_not_out y bytes m.0));
     only = λ y so. read_gone x (Bytes shown eof bytes) out y;
   }
 
@@ -434,8 +434,8 @@ turn_start source plan copier = record {
   read = λ y so. absurd cc;
   asked = λ y so. absurd cc;
   alone = λ y q u at so.
-  let m = mapped_at to_make plan q u at in
-  absurd (apart (is_out y u.stage) so (ap (λ (k : CopyTarget). is_out y k.stage) (sym m.2)));
+      let m = mapped_at to_make plan q u at in
+      absurd (apart (is_out y u.stage) so (ap (λ (k : CopyTarget). is_out y k.stage) (sym m.2)));
   only = λ y so. refl;
 }
 
