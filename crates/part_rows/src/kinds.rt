@@ -6,8 +6,8 @@ use part_messages::MessageRows;
 use part_nodes::{ClientRows, DataFileRows, ServerRows};
 use part_runs::{ConfigRows, LineRows, RunRows};
 use part_state::{
-    CbSlotRows, CopyRows, ExtentsRows, FenceRows, FileStateRows, MdsReadRows, MdsWriteRows, MirrorsRows,
-    RecallRows, SessionsRows, WriterRows,
+    CbSlotRows, CopyRows, ExtentsRows, FenceRows, FileStateRows, MdsReadRows, MdsWriteRows,
+    MirrorsRows, RecallRows, SessionsRows, WriterRows,
 };
 use row_words::{Part, RowFault};
 use std::alloc::Global;

@@ -1,7 +1,7 @@
 //! A copy: `start ID@TICK PLAN CRED`, `next_call XID`, `on_reply XID REPLY`, `on_timeout XID`, `tick`. PLAN is
 //! `SERVER:NAME:REPLACED` with commas between, the last an ID or `-`. Behind each answer stands the outcome.
 
-use cluster_model::{MirrorId, SwappedIn};
+use cluster_model::MirrorId;
 use resilver::{Copy, CopyStep, Target};
 use row_words::{Answer, Part, RowFault, Words};
 use std::alloc::Global;
@@ -127,50 +127,13 @@ fn put_call(
     }
 }
 
-/// Appends a mirror's two numbers to the last word.
-fn push_mirror_id(id: MirrorId, answer: &mut Answer) -> Result<(), RowFault> {
-    answer.push("d")?;
-    answer.push_number(u64::from(id.server))?;
-    answer.push(".")?;
-    answer.push_number(id.fileid)
-}
-
-/// Appends a fresh mirror, its ctime, and the one in whose place it comes to the last word.
-fn push_target(target: SwappedIn, answer: &mut Answer) -> Result<(), RowFault> {
-    push_mirror_id(target.new.id, answer)?;
-    answer.push("@")?;
-    answer.push_number(u64::from(target.new.seen.boot))?;
-    answer.push(".")?;
-    answer.push_number(u64::from(target.new.seen.count))?;
-    answer.push(":")?;
-    match target.old {
-        None => answer.push("-"),
-        Some(old) => push_mirror_id(old, answer),
-    }
-}
-
-/// Fresh mirrors, with commas between them; `-` is none.
-fn put_targets(targets: &[SwappedIn], answer: &mut Answer) -> Result<(), RowFault> {
-    if targets.is_empty() {
-        return answer.word("-");
-    }
-    answer.word("")?;
-    for (place, target) in targets.iter().enumerate() {
-        if place > 0 {
-            answer.push(",")?;
-        }
-        push_target(*target, answer)?;
-    }
-    Ok(())
-}
-
 /// The outcome of a copy.
 fn put_outcome(copy: &Copy, answer: &mut Answer) -> Result<(), RowFault> {
     match copy.outcome() {
         None => answer.word("None"),
         Some(targets) => {
             answer.word("Some")?;
-            put_targets(targets.as_slice(), answer)
+            answer.targets(&targets)
         }
     }
 }
