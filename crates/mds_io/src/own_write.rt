@@ -53,8 +53,8 @@ impl MdsWrite {
                 Ok(MdsWrite { writer })
             }
             WriteStart::NoMemory => Err(NoMemory),
-            // For the checker alone: a new writer has taken nothing that could overlap.
-            WriteStart::Overlap => Err(NoMemory),
+            // a new writer has taken nothing that could overlap
+            WriteStart::Overlap => unreachable!(),
         }
     }
 
