@@ -1,5 +1,5 @@
 -- Recalls of a layout, and what is taken behind them (RFC 8881, sections 12.5.5, 20.3 and 20.9).
-use Rattle.std.specs.Prelude.{◌≡◌, ℕ, List, [], ◌∷◌, ◌++◌, take, Option, Some, None, Ok, ◌⊎◌}
+use Rattle.std.specs.Prelude.{◌≡◌, ℕ, false, List, [], ◌∷◌, ◌++◌, take, Option, Some, None, Ok, ◌⊎◌}
 use Rattle.std.proofs.Common.{inl, inr}
 use Rattle.ff_xdr.specs.Form.{Value, word}
 use Rattle.rpc_record.specs.Calls.{RpcCall, call_at}
