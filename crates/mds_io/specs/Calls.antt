@@ -1,4 +1,4 @@
--- What the calls of a read do, and those of a write of the metadata server.
+-- What the calls of a read do.
 use Rattle.std.specs.Prelude.{◌≡◌, ℕ, Option, Some, None, Result, Ok, Err}
 use Rattle.ff_xdr.specs.declared.error.NoMemory.{NoMemory}
 use Rattle.cluster_model.specs.declared.ids.MirrorId.{MirrorId}
