@@ -34,9 +34,11 @@ fn replaced_of(alloc: Global, word: &str) -> Result<Option<MirrorId>, RowFault> 
 fn target_of(alloc: Global, item: &str) -> Result<Target, RowFault> {
     let (server, rest) = item.split_once(":").ok_or(RowFault::Outside)?;
     let (name, replaced) = rest.split_once(":").ok_or(RowFault::Outside)?;
+    let mut server = Words::of(alloc, server);
+    let mut name = Words::of(alloc, name);
     Ok(Target {
-        server: Words::of(alloc, server).last_number32()?,
-        name: Words::of(alloc, name).last_number64()?,
+        server: server.last_number32()?,
+        name: name.last_number64()?,
         replaced: replaced_of(alloc, replaced)?,
     })
 }

@@ -1,12 +1,11 @@
 -- What one more note leaves as it was for the target on a server.
-use Rattle.std.proofs.Common.{◌≡◌, ◌≢◌, ℕ, ◌+◌, Bool, true, false, cond, List, [], ◌∷◌, ◌++◌, Option, Some, None, refl, sym, ap, subst, ◌∙◌, append-nil}
+use Rattle.std.proofs.Common.{◌≡◌, ℕ, ◌+◌, Bool, true, false, cond, List, [], ◌∷◌, ◌++◌, Option, Some, None, refl, ap, ◌∙◌, append-nil}
 use Rattle.std.specs.Prelude.{◌==◌, ◌&&◌, ◌||◌, not}
 use Rattle.cluster_model.specs.declared.limits.TheConstants.{MAX_TIMEOUTS}
 use Rattle.cluster_model.specs.declared.ids.MirrorId.{MirrorId}
 use Rattle.cluster_model.specs.Content.{Pending}
 use Rattle.cluster_model.specs.DsCalls.{DsCallValue, Create, SetAttr, Write, Commit, Read, DsReplyValue, Created, Set, Written, Committed, Bytes, NotSync, Failed}
-use Rattle.resilver.specs.CopyLaws.{CopyNote, WasSent, WasAnswered, WasLate, HasTicked, OutCall, call_out, is_read, Piece, piece_in, pieces_read, write_of_call, write_in, writes_taken, creates, is_creation, was_created, fails_call, lost_by_answer, lost_by_timeout, was_lost}
-use Rattle.resilver.proofs.Lists.{not_equal, equal, is_equal}
+use Rattle.resilver.specs.CopyLaws.{CopyNote, WasSent, WasAnswered, WasLate, HasTicked, OutCall, call_out, is_read, piece_in, pieces_read, write_of_call, write_in, writes_taken, creates, is_creation, was_created, fails_call, lost_by_answer, lost_by_timeout, was_lost}
 
 -- no call of this server's target is answered, or times out: none, one of another server, or a READ
 pub data IsAway (server : ℕ) (o : Option OutCall) : Type 0 where

@@ -1,12 +1,12 @@
 -- What the notes say of the call that is out under a number, and what one more note changes.
-use Rattle.std.proofs.Common.{◌≡◌, ◌≢◌, ℕ, ◌+◌, Bool, true, false, cond, List, [], ◌∷◌, ◌++◌, length, Option, Some, None, refl, sym, ap, ◌∙◌, subst}
-use Rattle.std.specs.Prelude.{◌==◌, ◌&&◌, ◌||◌, nat_lt}
+use Rattle.std.proofs.Common.{◌≡◌, ◌≢◌, ℕ, ◌+◌, Bool, true, false, cond, List, [], ◌∷◌, Option, Some, None, refl, sym, ap, ◌∙◌}
+use Rattle.std.specs.Prelude.{◌==◌, ◌||◌, nat_lt}
 use Rattle.std.proofs.lemmas.Option.{none-some}
-use Rattle.cluster_model.specs.declared.limits.TheConstants.{MAX_FILE, MAX_TIMEOUTS}
+use Rattle.cluster_model.specs.declared.limits.TheConstants.{MAX_TIMEOUTS}
 use Rattle.cluster_model.specs.declared.ids.Mirror.{Mirror}
 use Rattle.cluster_model.specs.DsCalls.{DsCallValue, Create, SetAttr, Write, Commit, Read, DsReplyValue, Created, Set, Written, Committed, Bytes, NotSync, Failed}
 use Rattle.copy_rule.specs.Copies.{target_call}
-use Rattle.resilver.specs.CopyLaws.{CopyNote, WasSent, WasAnswered, WasLate, HasTicked, OutCall, was_sent, call_out, late_once, is_read, Piece, piece_of_call, piece_in}
+use Rattle.resilver.specs.CopyLaws.{CopyNote, WasSent, WasAnswered, WasLate, HasTicked, OutCall, was_sent, call_out, late_once, is_read, piece_of_call, piece_in}
 use Rattle.resilver.proofs.Lists.{not_equal, equal}
 
 -- a READ is out

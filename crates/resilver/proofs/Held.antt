@@ -1,29 +1,27 @@
 -- In every run of a copy to different servers the notes say of each target what it is.
-use Rattle.std.proofs.Common.{◌≡◌, ◌≢◌, ◌⊎◌, inl, inr, ℕ, ◌+◌, ◌<◌, ◌≤◌, Bool, true, false, cond, List, [], ◌∷◌, ◌++◌, length, map, get_or, Option, Some, None, refl, sym, ap, subst, ◌∙◌, arith}
+use Rattle.std.proofs.Common.{◌≡◌, ◌≢◌, ◌⊎◌, inl, inr, ℕ, ◌+◌, ◌<◌, ◌≤◌, Bool, true, false, cond, List, [], ◌∷◌, length, get_or, Option, Some, None, refl, sym, ap, subst, ◌∙◌, arith}
 use Rattle.std.specs.Prelude.{◌==◌, ◌||◌, nat_lt, slice_get, slice_set, option_map}
-use Rattle.std.specs.List.{list_all, AllPairs}
 use Rattle.std.proofs.lemmas.Bool.{cases_eq, cases_lt}
 use Rattle.std.proofs.lemmas.Option.{same_Some, none-some, slice_get-map, slice_get_within, get_or_from_slice_get}
-use Rattle.cluster_model.specs.declared.limits.TheConstants.{MAX_FILE, MAX_TIMEOUTS, PIECE_SIZE}
+use Rattle.cluster_model.specs.declared.limits.TheConstants.{MAX_TIMEOUTS, PIECE_SIZE}
 use Rattle.cluster_model.specs.declared.ids.MirrorId.{MirrorId}
-use Rattle.cluster_model.specs.declared.ids.Mirror.{Mirror}
 use Rattle.cluster_model.specs.declared.ds_call.Shown.{Shown}
 use Rattle.cluster_model.specs.declared.phase.LeftCause.TheVariants.{Timeouts}
 use Rattle.cluster_model.specs.declared.call_stage.CallStage.{CallStage}
 use Rattle.cluster_model.specs.declared.call_stage.CallStage.TheVariants.{Waits, Out, KeptOut, KeptBack, Done, GivenUp}
-use Rattle.cluster_model.specs.DsCalls.{DsCallValue, Create, Write, Read, DsReplyValue, Bytes}
+use Rattle.cluster_model.specs.DsCalls.{DsCallValue, Read, DsReplyValue, Bytes}
 use Rattle.cluster_model.specs.Fences.{waits, is_out, is_over, stage_at_tick}
 use Rattle.cluster_model.proofs.Elements.{slice_get-set_other, slice_get-set_same}
 use Rattle.copy_rule.specs.declared.copy_target.Target.{Target}
 use Rattle.copy_rule.specs.declared.copy_target.CopyTarget.{CopyTarget}
 use Rattle.copy_rule.specs.Copies.{CopyState, TargetStep, new_copy, to_make, with_target, with_read, with_piece, with_next, have_answered, at_stage, to_write, target_call, target_answered, target_late, target_fails, goes_on_with, is_long}
-use Rattle.resilver.specs.CopyLaws.{CopyMove, CopyNote, WasSent, WasAnswered, WasLate, HasTicked, CopyRun, OutCall, was_sent, call_out, late_once, is_read, Piece, piece_in, pieces_read, was_lost, lost_by_answer, AreOnDifferentServers, copy_run}
+use Rattle.resilver.specs.CopyLaws.{CopyMove, CopyNote, WasSent, WasAnswered, WasLate, HasTicked, OutCall, was_sent, call_out, late_once, piece_in, was_lost, AreOnDifferentServers, copy_run}
 use Rattle.resilver.proofs.Lists.{not_equal, equal, apart, all_at, mapped_at, out_same, over_not_out, waits_not_out, waits_not_over, AfterSet, Here, There, after_set}
-use Rattle.resilver.proofs.Moves.{read_out, NotAtTarget, is_done, Cases, GoesOn, run_keeps}
-use Rattle.resilver.proofs.CallsOut.{not_sent, fresh_other, sent_other, answered_other, answered_same, late_other, late_same, no_read, piece_none}
+use Rattle.resilver.proofs.Moves.{read_out, NotAtTarget, is_done, Cases, run_keeps}
+use Rattle.resilver.proofs.CallsOut.{fresh_other, sent_other, answered_other, answered_same, late_other, late_same, no_read, piece_none}
 use Rattle.resilver.proofs.Turns.{Turn, turn_cases, turn_goes, turn_start, one_read}
 use Rattle.resilver.proofs.Away.{IsAway, NoCall, OfOther, OfRead, LeavesBe, answer_away, be_sent, be_ticked, be_answered, be_late_away}
-use Rattle.resilver.proofs.Standing.{TargetAt, Standing, Unmade, timeouts_of, target_out, target_on, sent_at, answered_at, late_at, piece_at, next_at}
+use Rattle.resilver.proofs.Standing.{TargetAt, Unmade, timeouts_of, target_out, target_on, sent_at, answered_at, late_at, piece_at, next_at}
 
 pub record Held (plan : List Target) (copier : ℕ) (c : CopyState) (notes : List CopyNote) : Type 0 where
   pub copier_is : c.copier ≡ copier

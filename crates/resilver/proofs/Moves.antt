@@ -1,20 +1,17 @@
 -- What a move makes of a copy and its notes: a predicate is kept by every move where it is in each of these cases.
-use Rattle.std.proofs.Common.{◌≡◌, ◌≢◌, ℕ, ◌+◌, Bool, true, false, cond, List, [], ◌∷◌, length, Option, Some, None, refl, sym, ap, subst, ◌∙◌}
-use Rattle.std.specs.Prelude.{◌==◌, ◌&&◌, ◌||◌, not, nat_lt, slice_get, fold}
-use Rattle.std.specs.List.{list_all, position}
+use Rattle.std.proofs.Common.{◌≡◌, ℕ, ◌+◌, Bool, true, false, cond, List, [], ◌∷◌, Option, Some, None, refl, sym, ap, subst}
+use Rattle.std.specs.Prelude.{◌&&◌, not, nat_lt, slice_get, fold}
 use Rattle.std.proofs.lemmas.Bool.{and_parts, cond_both}
-use Rattle.cluster_model.specs.declared.limits.TheConstants.{MAX_FILE, MAX_TIMEOUTS, PIECE_SIZE}
-use Rattle.cluster_model.specs.declared.ids.MirrorId.{MirrorId}
+use Rattle.cluster_model.specs.declared.limits.TheConstants.{MAX_TIMEOUTS, PIECE_SIZE}
 use Rattle.cluster_model.specs.declared.ds_call.Shown.{Shown}
 use Rattle.cluster_model.specs.declared.call_stage.CallStage.{CallStage}
 use Rattle.cluster_model.specs.declared.call_stage.CallStage.TheVariants.{Waits, Out, KeptOut, KeptBack, Done, GivenUp}
 use Rattle.cluster_model.specs.declared.phase.LeftCause.TheVariants.{Error, Timeouts}
-use Rattle.cluster_model.specs.DsCalls.{DsCallValue, Create, SetAttr, Write, Commit, Read, DsReplyValue, Created, Set, Written, Committed, Bytes, NotSync, Failed}
+use Rattle.cluster_model.specs.DsCalls.{Read, DsReplyValue, Created, Set, Written, Committed, Bytes, NotSync, Failed}
 use Rattle.cluster_model.specs.Fences.{waits, is_out, is_over, stage_at_tick, odd_status}
-use Rattle.copy_rule.specs.declared.copy_target.Target.{Target}
 use Rattle.copy_rule.specs.declared.copy_target.CopyTarget.{CopyTarget}
 use Rattle.copy_rule.specs.declared.copy_target.CopyStep.TheVariants.{Waiting}
-use Rattle.copy_rule.specs.Copies.{CopyState, CopyCall, CopyAfter, TargetStep, new_copy, with_target, with_read, with_piece, with_next, goes_on, have_answered, at_stage, target_call, target_call_at, read_call, call_from, waiting_at, next_call, target_of, target_answered, target_late, read_answered, read_late, is_long, source_fails, copy_then, stranger, stepped, step_at, step_from, by_read, on_reply, on_timeout, after_tick}
+use Rattle.copy_rule.specs.Copies.{CopyState, CopyCall, CopyAfter, TargetStep, with_target, with_read, with_piece, with_next, goes_on, have_answered, at_stage, target_call, target_call_at, call_from, waiting_at, next_call, target_of, target_answered, target_late, read_answered, read_late, is_long, source_fails, copy_then, stranger, step_at, step_from, by_read, on_reply, on_timeout}
 use Rattle.resilver.specs.CopyLaws.{CopyMove, SendsOne, TakesReply, TakesTimeout, Ticks, CopyNote, WasSent, WasAnswered, WasLate, HasTicked, CopyRun, OutCall, was_sent, sent_noted, copy_moved, Piece, piece_in}
 use Rattle.resilver.proofs.Lists.{found_at, none_at}
 

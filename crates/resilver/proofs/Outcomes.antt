@@ -1,6 +1,6 @@
 -- An outcome is there just where each target that is left has taken all bytes of the source.
-use Rattle.std.proofs.Common.{◌≡◌, ◌≢◌, ◌⊎◌, inl, inr, ℕ, zero, suc, ◌+◌, ◌-◌, ◌<◌, ◌≤◌, Bool, true, false, cond, List, [], ◌∷◌, ◌++◌, length, map, take, drop, replicate, get_or, Option, Some, None, refl, sym, ap, subst, ◌∙◌, append-nil, append_assoc, length-append, arith}
-use Rattle.std.specs.Prelude.{◌==◌, ◌&&◌, ◌||◌, not, slice_get, fold, filter}
+use Rattle.std.proofs.Common.{◌≡◌, ℕ, zero, suc, ◌+◌, Bool, true, false, cond, List, [], ◌∷◌, ◌++◌, length, map, Option, Some, None, refl, sym, ap, subst, ◌∙◌, append-nil, append_assoc, length-append, arith}
+use Rattle.std.specs.Prelude.{◌&&◌, ◌||◌, not, slice_get, fold, filter}
 use Rattle.std.specs.List.{list_all, flat_map, All, AllByRecursion}
 use Rattle.std.proofs.lemmas.Bool.{and_parts}
 use Rattle.std.proofs.lemmas.Grind.{common_steps}
@@ -17,9 +17,9 @@ use Rattle.copy_rule.specs.declared.copy_target.CopyTarget.{CopyTarget}
 use Rattle.copy_rule.specs.Copies.{CopyState, is_given_up, have_answered, is_none_left, has_outcome, swap_of, swaps_of, outcome}
 use Rattle.resilver.specs.CopyLaws.{CopyMove, CopyNote, Piece, pieces_read, AreInTurn, said_end, bytes_read, write_for, writes_for, shown_by, writes_taken, was_created, was_lost, are_left, HoldsSource, HasOutcome, GoesOn, AreOnDifferentServers, copy_run}
 use Rattle.resilver.proofs.Lists.{apart, all_at}
-use Rattle.resilver.proofs.Turns.{Turn, in_turn_of, said_so}
-use Rattle.resilver.proofs.Standing.{TargetAt, Standing, Unmade, Writing, Holding, Lost, IsMade, is_open, open_over}
-use Rattle.resilver.proofs.Held.{Held, Stands, stands_run}
+use Rattle.resilver.proofs.Turns.{in_turn_of, said_so}
+use Rattle.resilver.proofs.Standing.{TargetAt, Standing, Unmade, Writing, Holding, Lost, open_over}
+use Rattle.resilver.proofs.Held.{Stands, stands_run}
 
 -- ---- lists
 

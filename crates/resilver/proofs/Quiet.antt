@@ -1,5 +1,5 @@
 -- Nothing goes out behind a source that failed, and who calls.
-use Rattle.std.proofs.Common.{◌≡◌, ℕ, ◌+◌, Bool, true, false, cond, List, [], ◌∷◌, Option, Some, None, refl, sym, ap, subst, ◌∙◌}
+use Rattle.std.proofs.Common.{◌≡◌, ℕ, ◌+◌, Bool, true, false, cond, List, Option, Some, None, refl, ap, subst, ◌∙◌}
 use Rattle.std.specs.Prelude.{◌&&◌, nat_lt, slice_get}
 use Rattle.std.specs.List.{list_all, position}
 use Rattle.std.proofs.lemmas.Bool.{cond_both}
@@ -11,7 +11,7 @@ use Rattle.cluster_model.specs.declared.phase.LeftCause.{LeftCause}
 use Rattle.cluster_model.specs.declared.phase.LeftCause.TheVariants.{Error, Timeouts}
 use Rattle.cluster_model.specs.declared.call_stage.CallStage.{CallStage}
 use Rattle.cluster_model.specs.declared.call_stage.CallStage.TheVariants.{Waits, Out, KeptOut, KeptBack, Done, GivenUp}
-use Rattle.cluster_model.specs.DsCalls.{DsCallValue, Read, DsReplyValue, Created, Set, Written, Committed, Bytes, NotSync, Failed}
+use Rattle.cluster_model.specs.DsCalls.{Read, DsReplyValue, Created, Set, Written, Committed, Bytes, NotSync, Failed}
 use Rattle.cluster_model.specs.Fences.{waits, is_out, is_over, odd_status}
 use Rattle.copy_rule.specs.declared.copy_target.Target.{Target}
 use Rattle.copy_rule.specs.declared.copy_target.CopyTarget.{CopyTarget}

@@ -1,25 +1,23 @@
 -- What the notes say of one target of a copy, and what becomes of it.
-use Rattle.std.proofs.Common.{◌≡◌, ◌≢◌, ◌⊎◌, inl, inr, ℕ, ◌+◌, ◌<◌, ◌≤◌, Bool, true, false, cond, List, [], ◌∷◌, ◌++◌, Option, Some, None, refl, sym, ap, subst, ◌∙◌, append-nil, arith}
+use Rattle.std.proofs.Common.{◌≡◌, ℕ, ◌+◌, ◌<◌, Bool, true, false, cond, List, [], ◌∷◌, ◌++◌, Option, Some, None, refl, sym, ap, subst, ◌∙◌, append-nil, arith}
 use Rattle.std.specs.Prelude.{◌==◌, ◌&&◌, ◌||◌, not, nat_lt, slice_get}
-use Rattle.std.specs.List.{flat_map}
-use Rattle.std.proofs.lemmas.Bool.{cond_both, and_parts, ltb-true}
+use Rattle.std.proofs.lemmas.Bool.{ltb-true}
 use Rattle.std.proofs.lemmas.Bool.Decides.{nat_tests}
 use Rattle.std.proofs.lemmas.List.Concat.{flat_map-append}
-use Rattle.std.proofs.lemmas.Option.{same_Some}
 use Rattle.cluster_model.specs.declared.limits.TheConstants.{MAX_TIMEOUTS}
 use Rattle.cluster_model.specs.declared.ids.MirrorId.{MirrorId}
 use Rattle.cluster_model.specs.declared.ids.Mirror.{Mirror}
 use Rattle.cluster_model.specs.declared.ds_call.Shown.{Shown}
-use Rattle.cluster_model.specs.declared.phase.LeftCause.TheVariants.{Error, Timeouts}
+use Rattle.cluster_model.specs.declared.phase.LeftCause.TheVariants.{Timeouts}
 use Rattle.cluster_model.specs.declared.call_stage.CallStage.{CallStage}
 use Rattle.cluster_model.specs.declared.call_stage.CallStage.TheVariants.{Waits, Out, KeptOut, KeptBack, Done, GivenUp}
 use Rattle.cluster_model.specs.Content.{Pending}
-use Rattle.cluster_model.specs.DsCalls.{DsCallValue, Create, Write, Read, DsReplyValue, Created, Set, Written, Committed, Bytes, NotSync, Failed}
+use Rattle.cluster_model.specs.DsCalls.{DsReplyValue, Created, Set, Written, Committed, Bytes, NotSync, Failed}
 use Rattle.cluster_model.specs.Fences.{waits, is_out, is_over}
 use Rattle.copy_rule.specs.declared.copy_target.Target.{Target}
 use Rattle.copy_rule.specs.declared.copy_target.CopyTarget.{CopyTarget}
 use Rattle.copy_rule.specs.Copies.{TargetStep, at_stage, having_made, having_written, seen_then, thrown_away, is_given_up, to_write, stage_for, target_call, target_answered, create_answered, write_answered, target_late, target_fails, goes_on_with}
-use Rattle.resilver.specs.CopyLaws.{CopyNote, WasSent, WasAnswered, WasLate, OutCall, was_sent, call_out, late_once, is_read, Piece, piece_in, pieces_read, write_of_call, write_in, writes_taken, writes_for, write_for, creates, is_creation, was_created, fails_call, lost_by_answer, lost_by_timeout, was_lost}
+use Rattle.resilver.specs.CopyLaws.{CopyNote, WasSent, WasAnswered, WasLate, OutCall, call_out, late_once, is_read, Piece, pieces_read, write_in, writes_taken, writes_for, write_for, is_creation, was_created, fails_call, lost_by_answer, lost_by_timeout, was_lost}
 use Rattle.resilver.proofs.Lists.{equal, is_equal, apart, out_same, over_not_out}
 use Rattle.resilver.proofs.CallsOut.{sent_same, late_same, no_read}
 use Rattle.resilver.proofs.Away.{LeavesBe, be_sent, be_late}

@@ -1,6 +1,6 @@
 -- One target of a copy takes a step.
-use Rattle.std.proofs.Common.{◌≡◌, ℕ, ◌<◌, ◌+◌, Bool, true, false, List, [], ◌++◌, length, map, take, drop, set, get_or, cond, nat_lt, Option, Some, None, refl, sym, ap, ◌∙◌, append-nil, arith}
-use Rattle.std.specs.Prelude.{slice_get, Result, Ok, Err}
+use Rattle.std.proofs.Common.{◌≡◌, ℕ, ◌<◌, ◌+◌, Bool, true, false, List, ◌++◌, length, map, take, drop, set, get_or, cond, nat_lt, Option, Some, None, refl, sym, ap, ◌∙◌, append-nil, arith}
+use Rattle.std.specs.Prelude.{Result, Ok, Err}
 use Rattle.std.specs.List.{position, position_or_len, refill}
 use Rattle.std.proofs.lemmas.Bool.{ltb-true}
 use Rattle.std.proofs.lemmas.List.{length-set, drop_all, take_all, get_or_default}
@@ -13,7 +13,7 @@ use Rattle.cluster_model.specs.Fences.{is_out}
 use Rattle.ff_xdr.specs.declared.error.NoMemory.{NoMemory}
 use Rattle.copy_rule.specs.declared.copy_target.CopyTarget.{CopyTarget}
 use Rattle.copy_rule.specs.declared.copy_target.CopyStep.{CopyStep}
-use Rattle.copy_rule.specs.Copies.{CopyState, CopyCall, CopyAfter, TargetStep, with_target, at_stage, target_call, target_caller, target_call_at, call_from, waiting_at, next_call, target_of, target_answered, step_from, step_at, stepped, copy_then, by_read, read_answered, stranger, on_reply}
+use Rattle.copy_rule.specs.Copies.{CopyState, CopyCall, CopyAfter, TargetStep, at_stage, target_call, target_caller, target_call_at, call_from, waiting_at, target_of, target_answered, step_from, step_at, stepped, copy_then, by_read, read_answered, stranger}
 use Rattle.resilver.specs.declared.call.NextCall.{NextCall}
 use Rattle.resilver.specs.Calls.{TakesAnswer}
 use Rattle.resilver.specs.Sends.{next_for, call_as, SendsNext, TakesRead}

@@ -1,24 +1,23 @@
 -- In every run of a copy its READs are in turn.
-use Rattle.std.proofs.Common.{◌≡◌, ◌≢◌, ◌⊎◌, inl, inr, ℕ, ◌+◌, Bool, true, false, cond, List, [], ◌∷◌, ◌++◌, length, map, Option, Some, None, refl, sym, ap, subst, ◌∙◌, append-nil, append_assoc, arith}
-use Rattle.std.specs.Prelude.{◌==◌, ◌||◌, nat_lt, slice_get, fold}
-use Rattle.std.specs.List.{list_all}
+use Rattle.std.proofs.Common.{◌≡◌, ◌≢◌, ◌⊎◌, inl, inr, ℕ, ◌+◌, Bool, true, false, cond, List, [], ◌∷◌, ◌++◌, length, Option, Some, None, refl, sym, ap, subst, ◌∙◌, append-nil, arith}
+use Rattle.std.specs.Prelude.{◌==◌, ◌||◌, nat_lt, slice_get}
 use Rattle.std.proofs.lemmas.Bool.{cases_eq}
-use Rattle.cluster_model.specs.declared.limits.TheConstants.{MAX_FILE, MAX_TIMEOUTS, PIECE_SIZE}
+use Rattle.cluster_model.specs.declared.limits.TheConstants.{MAX_TIMEOUTS, PIECE_SIZE}
 use Rattle.cluster_model.specs.declared.ids.MirrorId.{MirrorId}
 use Rattle.cluster_model.specs.declared.ids.Mirror.{Mirror}
 use Rattle.cluster_model.specs.declared.ds_call.Shown.{Shown}
 use Rattle.cluster_model.specs.declared.call_stage.CallStage.{CallStage}
 use Rattle.cluster_model.specs.declared.call_stage.CallStage.TheVariants.{Waits, Out, KeptOut, KeptBack, Done, GivenUp}
 use Rattle.cluster_model.specs.declared.phase.LeftCause.TheVariants.{Timeouts}
-use Rattle.cluster_model.specs.DsCalls.{DsCallValue, Create, Write, Read, DsReplyValue, Created, Set, Written, Committed, Bytes, NotSync, Failed}
+use Rattle.cluster_model.specs.DsCalls.{DsCallValue, Read, DsReplyValue, Created, Set, Written, Committed, Bytes, NotSync, Failed}
 use Rattle.cluster_model.specs.Fences.{waits, is_out, is_over, stage_at_tick}
 use Rattle.copy_rule.specs.declared.copy_target.Target.{Target}
 use Rattle.copy_rule.specs.declared.copy_target.CopyTarget.{CopyTarget}
-use Rattle.copy_rule.specs.Copies.{CopyState, TargetStep, new_copy, to_make, with_target, with_read, with_piece, with_next, have_answered, at_stage, is_given_up, to_write, stage_for, target_call, target_answered, create_answered, write_answered, target_late, target_fails, goes_on_with, is_long}
-use Rattle.resilver.specs.CopyLaws.{CopyMove, CopyNote, WasSent, WasAnswered, WasLate, HasTicked, CopyRun, OutCall, was_sent, call_out, late_once, is_read, Piece, piece_in, pieces_read, AreInTurn, copy_run, copy_moved, said_end}
+use Rattle.copy_rule.specs.Copies.{CopyState, TargetStep, new_copy, to_make, with_target, with_read, with_piece, with_next, have_answered, at_stage, is_given_up, to_write, stage_for, target_call, target_answered, target_late, target_fails, goes_on_with, is_long}
+use Rattle.resilver.specs.CopyLaws.{CopyMove, CopyNote, WasSent, WasAnswered, WasLate, HasTicked, OutCall, was_sent, call_out, late_once, Piece, piece_in, pieces_read, AreInTurn, copy_run, said_end}
 use Rattle.resilver.proofs.Lists.{equal, apart, all_at, mapped_at, out_same, over_not_out, waits_not_out, waits_not_over, AfterSet, Here, There, after_set}
 use Rattle.resilver.proofs.Moves.{read_out, NotAtTarget, is_done, Cases, GoesOn, run_keeps}
-use Rattle.resilver.proofs.CallsOut.{reads_out, not_sent, fresh_other, sent_other, sent_same, answered_other, answered_same, late_other, late_same, reads_late, reads_sent, reads_answered, reads_timed_out, no_read, piece_none}
+use Rattle.resilver.proofs.CallsOut.{reads_out, not_sent, sent_same, answered_other, answered_same, late_other, late_same, reads_sent, reads_answered, reads_timed_out, no_read, piece_none}
 
 -- ---- one target
 

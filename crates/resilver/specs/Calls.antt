@@ -1,11 +1,11 @@
 -- What the calls of a copy do.
-use Rattle.std.specs.Prelude.{◌≡◌, ◌≤◌, ℕ, List, length, Option, Some, None, Result, Ok, Err}
+use Rattle.std.specs.Prelude.{◌≡◌, ◌≤◌, ℕ, length, Option, Some, None, Result, Ok, Err}
 use Rattle.cluster_model.specs.declared.limits.TheConstants.{PIECE_SIZE}
 use Rattle.cluster_model.specs.declared.ds_call.DsCall.{DsCall}
 use Rattle.cluster_model.specs.DsCalls.{DsReplyValue, plain_ds_call, data_in}
 use Rattle.ff_xdr.specs.declared.error.NoMemory.{NoMemory}
 use Rattle.copy_rule.specs.declared.copy_target.CopyStep.{CopyStep}
-use Rattle.copy_rule.specs.Copies.{CopyState, CopyCall, next_call, on_reply}
+use Rattle.copy_rule.specs.Copies.{CopyState, next_call, on_reply}
 
 -- the call that goes out under a number, to which server, and the copy then
 abbrev pub SendsCopyCall : CopyState → ℕ → Option (ℕ × DsCall) → CopyState → Type 0

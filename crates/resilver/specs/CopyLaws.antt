@@ -1,17 +1,14 @@
 -- What holds of a copy in every run of it, told by what was sent and answered (RFC 8435, section 8.3; RFC 1813, sections 3.3.6 to 3.3.8).
-use Rattle.std.specs.Prelude.{◌≡◌, ℕ, ◌+◌, ◌≤◌, Bool, true, false, not, ◌==◌, ◌&&◌, ◌||◌, List, [], ◌∷◌, ◌++◌, length, map, filter, Option, Some, None, fold, nat_lt, if◌then◌else◌}
+use Rattle.std.specs.Prelude.{◌≡◌, ℕ, ◌+◌, Bool, true, false, not, ◌==◌, ◌&&◌, ◌||◌, List, [], ◌∷◌, ◌++◌, length, map, filter, Option, Some, None, fold, nat_lt, if◌then◌else◌}
 use Rattle.std.specs.List.{All, AllPairs, flat_map}
-use Rattle.cluster_model.specs.declared.limits.TheConstants.{MAX_FILE, MAX_TIMEOUTS, PIECE_SIZE}
-use Rattle.cluster_model.specs.declared.tick.Tick.{Tick}
+use Rattle.cluster_model.specs.declared.limits.TheConstants.{MAX_FILE, MAX_TIMEOUTS}
 use Rattle.cluster_model.specs.declared.ids.MirrorId.{MirrorId}
 use Rattle.cluster_model.specs.declared.phase.LeftCause.{LeftCause}
-use Rattle.cluster_model.specs.declared.ds_call.Shown.{Shown}
 use Rattle.cluster_model.specs.declared.targets.SwappedIn.{SwappedIn}
 use Rattle.cluster_model.specs.Content.{Pending, overlay}
 use Rattle.cluster_model.specs.DsCalls.{DsCallValue, Create, SetAttr, Write, Commit, Read, DsReplyValue, Created, Set, Written, Committed, Bytes, NotSync, Failed}
 use Rattle.copy_rule.specs.declared.copy_target.Target.{Target}
-use Rattle.copy_rule.specs.declared.copy_target.CopyStep.{CopyStep}
-use Rattle.copy_rule.specs.declared.copy_target.CopyStep.TheVariants.{Stranger, Waiting, SourceFailed, TargetFailed, Done as AllHold}
+use Rattle.copy_rule.specs.declared.copy_target.CopyStep.TheVariants.{SourceFailed}
 use Rattle.copy_rule.specs.Copies.{CopyState, CopyCall, CopyAfter, new_copy, next_call, on_reply, on_timeout, after_tick, outcome}
 
 -- ---- runs
