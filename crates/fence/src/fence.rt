@@ -6,9 +6,9 @@ ghost use Rattle.cluster_model.specs.DsCalls.{plain_ds_reply};
 ghost use Rattle.cluster_model.specs.Fences.{fence_of, waits, is_out, is_over, on_reply, on_timeout, after_tick, without, is_done, at_tick, dropped_if};
 ghost use Rattle.fence.specs.Calls.{SendsNext};
 
-use crate::call::{is_out, is_over, waits};
 use crate::mirror::{answered, at_tick, dropped_if, timed_out, to_fence, with_stage};
 use arrayvec::ArrayVec;
+use call_stage::{is_out, is_over, waits};
 use cluster_model::{CallStage, Cred, DsCall, DsReply, FenceMirror, FenceStep, MirrorId, Mirrors};
 use std::marker::Model;
 

@@ -2,7 +2,6 @@
 //! section 2.2).
 #![tactic(auto)]
 
-mod call;
 mod fence;
 mod laws;
 mod mirror;

@@ -4,7 +4,7 @@ ghost use Rattle.std.specs.Prelude.{◌≡◌};
 ghost use Rattle.cluster_model.specs.DsCalls.{plain_ds_reply};
 ghost use Rattle.cluster_model.specs.Fences.{to_fence, having_seen, acknowledged, failed_by, out_of_sync, answered, timed_out, at_tick, dropped_if, with_stage};
 
-use crate::call::{is_kept, stage_at_tick};
+use call_stage::{is_kept, stage_at_tick};
 use cluster_model::{
     CallStage, Cred, DsReply, FenceMirror, FenceStep, LeftCause, MAX_TIMEOUTS, MAX_UNSYNCED,
     Mirror, MirrorId, SERVERFAULT, Shown,

@@ -2,11 +2,11 @@
 
 ghost use Rattle.std.specs.Prelude.{◌≡◌, ◌<◌, length, OnSome};
 ghost use Rattle.cluster_model.specs.DsCalls.{plain_ds_reply};
-ghost use Rattle.cluster_model.specs.Fences.{waits, is_out};
 ghost use Rattle.mds_io.specs.Reads.{new_read, begun_again, in_turn, end_of, fails, after_timeout};
 ghost use Rattle.mds_io.specs.Calls.{SendsRead, AnswersRead};
 
 use crate::read_end::{Failure, Failures, ReadEnd};
+use call_stage::{is_out, waits};
 use cluster_model::{
     CallStage, DsCall, DsReply, LeftCause, MAX_TIMEOUTS, Mirror, MirrorId, Mirrors, SERVERFAULT,
 };
@@ -162,22 +162,5 @@ impl MdsRead {
         }
         let failures = self.failures.copied();
         Some(ReadEnd::AllFailed { failures })
-    }
-}
-
-/// The READ waits to be sent.
-fn waits(stage: CallStage) -> bool
-    ensures { result ≡ waits stage }
-{
-    matches!(stage, CallStage::Waits)
-}
-
-/// The READ is outstanding under this number.
-fn is_out(xid: u32, stage: CallStage) -> bool
-    ensures { result ≡ is_out xid stage }
-{
-    match stage {
-        CallStage::Out { xid: own, .. } | CallStage::KeptOut { xid: own } => own == xid,
-        _ => false,
     }
 }

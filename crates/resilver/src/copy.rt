@@ -9,10 +9,11 @@ ghost use Rattle.resilver.specs.contracts.copy.Copy.{the_row};
 ghost use Rattle.resilver.specs.Calls.{SendsCopyCall, CarriesFewBytes, TakesAnswer};
 ghost use Rattle.resilver.specs.Sends.{SendsNext, LendsNext, TakesRead};
 
-use crate::call::{NextCall, is_out, is_over, stage_at_tick, waits};
+use crate::call::NextCall;
 use crate::target::{answered, at_stage, next_for, timed_out, to_make};
 use crate::targets::{are_given_up, are_over, outstanding, swaps, waiting, write_all};
 use arrayvec::ArrayVec;
+use call_stage::{is_out, is_over, stage_at_tick, waits};
 use cluster_model::{
     CallStage, Cred, DsCall, DsReply, LeftCause, MAX_FILE, MAX_TIMEOUTS, Mirror, MirrorId,
     PIECE_SIZE, SERVERFAULT, Targets,

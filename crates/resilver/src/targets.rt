@@ -5,8 +5,9 @@ ghost use Rattle.std.specs.List.{list_all, flat_map};
 ghost use Rattle.cluster_model.specs.Fences.{waits, is_out, is_over};
 ghost use Rattle.copy_rule.specs.Copies.{is_given_up, to_write, swap_of};
 
-use crate::call::{is_given_up, is_out, is_over, waits};
+use crate::call::is_given_up;
 use crate::target::to_write;
+use call_stage::{is_out, is_over, waits};
 use cluster_model::{SwappedIn, Targets};
 use copy_rule::CopyTarget;
 

@@ -1,4 +1,4 @@
-//! One call that is sent until it is answered or given up.
+//! What is asked of a stage.
 
 ghost use Rattle.std.specs.Prelude.{◌≡◌};
 ghost use Rattle.cluster_model.specs.Fences.{waits, is_out, is_over, is_kept, stage_at_tick};
