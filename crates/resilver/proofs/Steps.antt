@@ -1,6 +1,6 @@
 -- One target of a copy takes a step.
 use Rattle.std.proofs.Common.{◌≡◌, ℕ, ◌<◌, ◌+◌, Bool, true, false, List, ◌++◌, length, map, take, drop, set, get_or, cond, nat_lt, Option, Some, None, refl, sym, ap, ◌∙◌, append-nil, arith}
-use Rattle.std.specs.Prelude.{Result, Ok, Err}
+use Rattle.std.specs.Prelude.{Result, Ok, Err, OnErr}
 use Rattle.std.specs.List.{position, position_or_len, refill}
 use Rattle.std.proofs.lemmas.Bool.{ltb-true}
 use Rattle.std.proofs.lemmas.List.{length-set, drop_all, take_all, get_or_default}
@@ -16,7 +16,7 @@ use Rattle.copy_rule.specs.declared.copy_target.CopyStep.{CopyStep}
 use Rattle.copy_rule.specs.Copies.{CopyState, CopyCall, CopyAfter, TargetStep, at_stage, target_call, target_caller, target_call_at, call_from, waiting_at, target_of, target_answered, step_from, step_at, stepped, copy_then, by_read, read_answered, stranger}
 use Rattle.resilver.specs.declared.call.NextCall.{NextCall}
 use Rattle.resilver.specs.Calls.{TakesAnswer}
-use Rattle.resilver.specs.Sends.{next_for, call_as, SendsNext, TakesRead}
+use Rattle.resilver.specs.Sends.{next_for, call_as, SendsNext, TakesRead, BringsPiece, AsksForPiece}
 
 abbrev with_targets : CopyState → List CopyTarget → CopyState
 with_targets c targets = record { copier = c.copier; source = c.source; at = c.at; piece = c.piece; ended = c.ended; read = c.read; targets = targets }
@@ -92,3 +92,9 @@ read_taken c xid reply (Ok step) new none out is =
     ∙ ap (λ b. cond b (read_answered c reply) (stranger c)) (sym out)
     ∙ ap (step_from c (λ t. target_answered t reply t.made) (by_read c xid (read_answered c reply))) (sym none)
 read_taken c xid reply (Err e) new none out same = same
+
+-- where memory is wanted for the answer to the READ
+pub asks_so : (c : CopyState) (xid : ℕ) (reply : DsReplyValue) (result : Result CopyStep NoMemory) → target_of c xid ≡ None → is_out xid c.read ≡ true
+    → OnErr result (BringsPiece c reply) → OnErr result (AsksForPiece c xid reply)
+asks_so c xid reply (Ok step) none out brings = tt
+asks_so c xid reply (Err e) none out brings = record { of_none = none; of_read = out; piece = brings }

@@ -1,15 +1,15 @@
--- What goes out next in a copy, before it is lent.
-use Rattle.std.specs.Prelude.{◌≡◌, ℕ, true, Option, Some, None}
+-- What goes out next in a copy, before it is lent, and what memory is wanted for.
+use Rattle.std.specs.Prelude.{◌≡◌, ℕ, true, false, Option, Some, None, Result, Ok, Err}
 use Rattle.cluster_model.specs.declared.limits.TheConstants.{PIECE_SIZE}
 use Rattle.cluster_model.specs.declared.ids.Mirror.{Mirror}
 use Rattle.cluster_model.specs.declared.ds_call.DsCall.{DsCall}
-use Rattle.cluster_model.specs.DsCalls.{DsCallValue, Create, Write, Read, DsReplyValue, plain_ds_call}
+use Rattle.cluster_model.specs.DsCalls.{DsCallValue, Create, Write, Read, DsReplyValue, Created, Set, Written, Committed, Bytes, NotSync, Failed, plain_ds_call}
+use Rattle.cluster_model.specs.Fences.{is_out}
 use Rattle.ff_xdr.specs.declared.error.NoMemory.{NoMemory}
-use Rattle.std.specs.Prelude.{Result, Ok, Err}
 use Rattle.resilver.specs.declared.call.NextCall.{NextCall}
 use Rattle.resilver.specs.declared.call.NextCall.TheVariants.{MakesFile, WritesPiece, ReadsSource}
 use Rattle.copy_rule.specs.declared.copy_target.CopyStep.{CopyStep}
-use Rattle.copy_rule.specs.Copies.{CopyState, next_call, read_answered}
+use Rattle.copy_rule.specs.Copies.{CopyState, next_call, target_of, is_long, read_answered}
 
 abbrev pub next_for : ℕ → Option Mirror → NextCall
 next_for name None = MakesFile name
@@ -37,3 +37,19 @@ LendsNext c (Some (server, next)) (Some (to, call)) = (to ≡ server) × (plain_
 abbrev pub TakesRead : CopyState → DsReplyValue → Result CopyStep NoMemory → CopyState → Type 0
 TakesRead old reply (Ok step) new = record { copy = new; step = step } ≡ read_answered old reply
 TakesRead old reply (Err e) new = new ≡ old
+
+-- it is a piece of the source, and not too long
+abbrev pub BringsPiece : CopyState → DsReplyValue → Type 0
+BringsPiece c (Bytes shown eof bytes) = is_long c bytes ≡ false
+BringsPiece c (Created fileid shown) = ⊥
+BringsPiece c (Set shown) = ⊥
+BringsPiece c (Written shown verifier) = ⊥
+BringsPiece c (Committed shown verifier) = ⊥
+BringsPiece c (NotSync shown) = ⊥
+BringsPiece c (Failed status shown) = ⊥
+
+-- memory is wanted for a piece that answers the READ that is out, and for nothing else
+pub record AsksForPiece (c : CopyState) (xid : ℕ) (reply : DsReplyValue) : Type 0 where
+  pub of_none : target_of c xid ≡ None
+  pub of_read : is_out xid c.read ≡ true
+  pub piece : BringsPiece c reply

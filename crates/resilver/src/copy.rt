@@ -1,13 +1,13 @@
 //! A copy of one file.
 
-ghost use Rattle.std.specs.Prelude.{◌≡◌, ◌≤◌, ⊤, length, None};
+ghost use Rattle.std.specs.Prelude.{◌≡◌, ◌≤◌, ⊤, length, None, OnErr};
 ghost use Rattle.std.specs.Borrow.{sem, follows_so};
 ghost use mathlib.Core.Option.{none};
 ghost use Rattle.cluster_model.specs.DsCalls.{plain_ds_reply, Bytes};
 ghost use Rattle.copy_rule.specs.Copies.{new_copy, has_outcome, goes_on, step_told, copy_then, source_fails, is_long, read_late, outcome, on_timeout, after_tick};
 ghost use Rattle.resilver.specs.contracts.copy.Copy.{the_row};
 ghost use Rattle.resilver.specs.Calls.{SendsCopyCall, CarriesFewBytes, TakesAnswer};
-ghost use Rattle.resilver.specs.Sends.{SendsNext, LendsNext, TakesRead};
+ghost use Rattle.resilver.specs.Sends.{SendsNext, LendsNext, TakesRead, BringsPiece, AsksForPiece};
 
 use crate::call::NextCall;
 use crate::target::{answered, at_stage, next_for, timed_out, to_make};
@@ -130,7 +130,8 @@ impl Copy {
     /// What the answer to the call of this number comes to: `Stranger` where none is outstanding. Takes memory for a piece
     /// that was READ; where memory is wanted, nothing has changed.
     pub fn on_reply(&mut self, xid: u32, reply: &DsReply<'_>) -> Result<CopyStep, NoMemory>
-        ensures { TakesAnswer self.old xid (plain_ds_reply reply.now) result self.new }
+        ensures takes { TakesAnswer self.old xid (plain_ds_reply reply.now) result self.new }
+        ensures memory { OnErr result (AsksForPiece self.old xid (plain_ds_reply reply.now)) }
     {
         if let Some(place) = outstanding(xid, self.targets.as_slice()) {
             let (target, step) = answered(self.targets[place], reply);
@@ -145,7 +146,8 @@ impl Copy {
 
     /// What the answer to the READ comes to.
     fn answer_read(&mut self, reply: &DsReply<'_>) -> Result<CopyStep, NoMemory>
-        ensures { TakesRead self.old (plain_ds_reply reply.now) result self.new }
+        ensures takes { TakesRead self.old (plain_ds_reply reply.now) result self.new }
+        ensures memory { OnErr result (BringsPiece self.old (plain_ds_reply reply.now)) }
     {
         match *reply {
             DsReply::Bytes { eof, bytes, .. } => self.take_piece(eof, bytes),
@@ -158,7 +160,8 @@ impl Copy {
 
     /// The source answered with these bytes, and whether it ends behind them.
     fn take_piece(&mut self, eof: bool, bytes: &[u8]) -> Result<CopyStep, NoMemory>
-        ensures { TakesRead self.old (Bytes None eof bytes.now) result self.new }
+        ensures takes { TakesRead self.old (Bytes None eof bytes.now) result self.new }
+        ensures memory { OnErr result (BringsPiece self.old (Bytes None eof bytes.now)) }
     {
         if self.is_long(bytes) {
             return Ok(self.fail_source(CallStage::KeptBack, LeftCause::Error(SERVERFAULT)));
