@@ -1,11 +1,9 @@
 //! A set of places: `new`, `insert AT COUNT`, `overlaps AT COUNT`, `gaps AT COUNT`.
 
+use cluster_model::MAX_FILE;
 use mirror_writer::Extents;
 use row_words::{Answer, Part, RowFault, Words};
 use std::alloc::Global;
-
-/// The last place of a file and one more.
-const MAX_PLACE: u64 = 67_108_864;
 
 /// A set of places.
 #[derive(Drop)]
@@ -25,7 +23,7 @@ impl ExtentsRows {
 
     /// Adds places, where none of them is in the set and all are of a file.
     fn insert(&mut self, at: u64, count: u64) -> Result<(), RowFault> {
-        if count > MAX_PLACE || at > MAX_PLACE - count || self.extents.overlaps(at, count) {
+        if count > MAX_FILE || at > MAX_FILE - count || self.extents.overlaps(at, count) {
             return Err(RowFault::Outside);
         }
         self.extents.insert(at, count)?;

@@ -1,6 +1,7 @@
 //! A fence: `start MIRRORS CRED`, `next_call XID`, `on_reply XID REPLY`, `on_timeout XID`, `tick`, `drop_mirror ID`. Behind
 //! each answer stands whether it is done.
 
+use crate::steps::put_next;
 use cluster_model::FenceStep;
 use fence::Fence;
 use row_words::{Answer, Part, RowFault, Words};
@@ -43,18 +44,6 @@ fn put_step(step: FenceStep, answer: &mut Answer) -> Result<(), RowFault> {
     }
 }
 
-/// The next call that goes out.
-fn put_next(fence: &mut Fence, xid: u32, answer: &mut Answer) -> Result<(), RowFault> {
-    match fence.next_call(xid) {
-        None => answer.word("None"),
-        Some((id, call)) => {
-            answer.word("Some")?;
-            answer.mirror_id(id)?;
-            answer.ds_call(&call)
-        }
-    }
-}
-
 /// The answer to a call.
 fn put_reply(
     fence: &mut Fence,
@@ -76,7 +65,10 @@ fn put_call(
     answer: &mut Answer,
 ) -> Result<(), RowFault> {
     match name {
-        "next_call" => put_next(fence, words.last_number32()?, answer),
+        "next_call" => {
+            let xid = words.last_number32()?;
+            put_next(fence.next_call(xid), answer)
+        },
         "on_reply" => put_reply(fence, words, answer),
         "on_timeout" => put_step(fence.on_timeout(words.last_number32()?), answer),
         "tick" => {

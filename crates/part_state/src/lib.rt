@@ -13,6 +13,7 @@ mod mirrors;
 mod recalls;
 mod report;
 mod sessions;
+mod steps;
 mod writer;
 
 pub use cb_slot::CbSlotRows;

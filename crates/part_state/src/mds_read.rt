@@ -1,6 +1,7 @@
 //! A read of the metadata server: `start MIRRORS AT COUNT`, `restart MIRRORS`, `next_call XID`, `on_reply XID REPLY`,
 //! `on_timeout XID`.
 
+use crate::steps::put_next;
 use cluster_model::{LeftCause, Mirrors};
 use mds_io::{Failure, MdsRead, ReadEnd};
 use row_words::{Answer, Part, RowFault, Words};
@@ -88,18 +89,6 @@ fn put_end(end: Option<ReadEnd>, answer: &mut Answer) -> Result<(), RowFault> {
     }
 }
 
-/// The next READ that goes out.
-fn put_next(read: &mut MdsRead, xid: u32, answer: &mut Answer) -> Result<(), RowFault> {
-    match read.next_call(xid) {
-        None => answer.word("None"),
-        Some((id, call)) => {
-            answer.word("Some")?;
-            answer.mirror_id(id)?;
-            answer.ds_call(&call)
-        }
-    }
-}
-
 /// The answer to a READ.
 fn put_reply(
     read: &mut MdsRead,
@@ -131,7 +120,10 @@ fn put_call(
             read.restart(mirrors);
             answer.word("Ok")
         }
-        "next_call" => put_next(read, words.last_number32()?, answer),
+        "next_call" => {
+            let xid = words.last_number32()?;
+            put_next(read.next_call(xid), answer)
+        },
         "on_reply" => put_reply(read, words, answer),
         "on_timeout" => put_end(read.on_timeout(words.last_number32()?), answer),
         _ => Err(RowFault::Outside),

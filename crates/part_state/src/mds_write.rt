@@ -1,9 +1,9 @@
 //! A write of the metadata server: `start MIRRORS CRED AT HEX`, `next_call XID`, `on_reply XID REPLY`, `on_timeout XID`.
 //! Behind each answer stands whether it has ended, and then which mirrors failed.
 
+use crate::steps::{put_next, put_writer_step};
 use cluster_model::{MAX_FILE, PIECE_SIZE};
 use mds_io::MdsWrite;
-use mirror_writer::WriterStep;
 use row_words::{Answer, Part, RowFault, Words};
 
 /// The write that is under way.
@@ -36,37 +36,6 @@ fn started(words: &mut Words<'_>) -> Result<MdsWrite, RowFault> {
     Ok(MdsWrite::start(words.alloc(), mirrors, cred, at, &bytes)?)
 }
 
-/// What an answer or a timeout came to.
-fn put_step(step: WriterStep, answer: &mut Answer) -> Result<(), RowFault> {
-    match step {
-        WriterStep::Stranger => answer.word("Stranger"),
-        WriterStep::Waiting => answer.word("Waiting"),
-        WriterStep::Failed { id, cause } => {
-            answer.word("Failed")?;
-            answer.mirror_id(id)?;
-            answer.left_cause(cause)
-        }
-        WriterStep::Fenced { id, status } => {
-            answer.word("Fenced")?;
-            answer.mirror_id(id)?;
-            answer.number(u64::from(status))
-        }
-        WriterStep::Committed => answer.word("Committed"),
-    }
-}
-
-/// The next call that goes out.
-fn put_next(write: &mut MdsWrite, xid: u32, answer: &mut Answer) -> Result<(), RowFault> {
-    match write.next_call(xid) {
-        None => answer.word("None"),
-        Some((id, call)) => {
-            answer.word("Some")?;
-            answer.mirror_id(id)?;
-            answer.ds_call(&call)
-        }
-    }
-}
-
 /// The answer to a call.
 fn put_reply(
     write: &mut MdsWrite,
@@ -77,7 +46,7 @@ fn put_reply(
     let xid = words.number32()?;
     let reply = words.ds_reply(&mut bytes)?;
     words.end()?;
-    put_step(write.on_reply(xid, &reply), answer)
+    put_writer_step(write.on_reply(xid, &reply), answer)
 }
 
 /// Makes a call on a write.
@@ -89,9 +58,12 @@ fn put_call(
 ) -> Result<(), RowFault> {
     match name {
         "start" => answer.word("Ok"),
-        "next_call" => put_next(write, words.last_number32()?, answer),
+        "next_call" => {
+            let xid = words.last_number32()?;
+            put_next(write.next_call(xid), answer)
+        },
         "on_reply" => put_reply(write, words, answer),
-        "on_timeout" => put_step(write.on_timeout(words.last_number32()?), answer),
+        "on_timeout" => put_writer_step(write.on_timeout(words.last_number32()?), answer),
         _ => Err(RowFault::Outside),
     }
 }

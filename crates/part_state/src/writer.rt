@@ -3,15 +3,10 @@
 //! call that is outstanding at the mirror there and its number. Behind each answer stand its report, whether all are committed and whether the rest are, and
 //! for each mirror a digit for each write that was taken: whether it is covered there.
 
-use cluster_model::Mirrors;
-use mirror_writer::{WriteStart, Writer, WriterStep};
+use crate::steps::{put_next, put_writer_step};
+use cluster_model::{MAX_FILE, Mirrors, PIECE_SIZE};
+use mirror_writer::{WriteStart, Writer};
 use row_words::{Answer, Part, RowFault, Words};
-
-/// The last place of a file and one more.
-const MAX_PLACE: u64 = 67_108_864;
-
-/// The most bytes of a write.
-const MAX_WRITE: u64 = 65_536;
 
 /// A writer that is open, the mirrors that it was opened with, and how many writes it took.
 #[derive(Drop)]
@@ -50,37 +45,6 @@ fn opened(words: &mut Words<'_>) -> Result<OpenWriter, RowFault> {
     })
 }
 
-/// What an answer or a timeout came to.
-fn put_step(step: WriterStep, answer: &mut Answer) -> Result<(), RowFault> {
-    match step {
-        WriterStep::Stranger => answer.word("Stranger"),
-        WriterStep::Waiting => answer.word("Waiting"),
-        WriterStep::Failed { id, cause } => {
-            answer.word("Failed")?;
-            answer.mirror_id(id)?;
-            answer.left_cause(cause)
-        }
-        WriterStep::Fenced { id, status } => {
-            answer.word("Fenced")?;
-            answer.mirror_id(id)?;
-            answer.number(u64::from(status))
-        }
-        WriterStep::Committed => answer.word("Committed"),
-    }
-}
-
-/// The next call that goes out.
-fn put_next(writer: &mut Writer, xid: u32, answer: &mut Answer) -> Result<(), RowFault> {
-    match writer.next_call(xid) {
-        None => answer.word("None"),
-        Some((id, call)) => {
-            answer.word("Some")?;
-            answer.mirror_id(id)?;
-            answer.ds_call(&call)
-        }
-    }
-}
-
 /// The answer to a call.
 fn put_reply(
     writer: &mut Writer,
@@ -91,7 +55,7 @@ fn put_reply(
     let xid = words.number32()?;
     let reply = words.ds_reply(&mut bytes)?;
     words.end()?;
-    put_step(writer.on_reply(xid, &reply), answer)
+    put_writer_step(writer.on_reply(xid, &reply), answer)
 }
 
 /// A write of the user, where it has some bytes and not too many, all of them of a file.
@@ -104,7 +68,7 @@ fn put_write(
     let bytes = words.bytes()?;
     words.end()?;
     let count = bytes.len() as u64;
-    if count == 0 || count > MAX_WRITE || at > MAX_PLACE - count {
+    if count == 0 || count > u64::from(PIECE_SIZE) || at > MAX_FILE - count {
         return Err(RowFault::Outside);
     }
     match open.writer.write(at, &bytes) {
@@ -184,9 +148,12 @@ fn put_call(
             open.writer.commit();
             answer.word("Ok")
         }
-        "next_call" => put_next(&mut open.writer, words.last_number32()?, answer),
+        "next_call" => {
+            let xid = words.last_number32()?;
+            put_next(open.writer.next_call(xid), answer)
+        }
         "on_reply" => put_reply(&mut open.writer, words, answer),
-        "on_timeout" => put_step(open.writer.on_timeout(words.last_number32()?), answer),
+        "on_timeout" => put_writer_step(open.writer.on_timeout(words.last_number32()?), answer),
         _ => put_asked(&open.writer, name, words, answer),
     }
 }
