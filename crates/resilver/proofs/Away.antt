@@ -2,10 +2,11 @@
 use Rattle.std.proofs.Common.{◌≡◌, ℕ, ◌+◌, Bool, true, false, cond, List, [], ◌∷◌, ◌++◌, Option, Some, None, refl, ap, ◌∙◌, append-nil}
 use Rattle.std.specs.Prelude.{◌==◌, ◌&&◌, ◌||◌, not}
 use Rattle.cluster_model.specs.declared.limits.TheConstants.{MAX_TIMEOUTS}
+use Rattle.cluster_model.specs.declared.tick.Tick.{Tick}
 use Rattle.cluster_model.specs.declared.ids.MirrorId.{MirrorId}
 use Rattle.cluster_model.specs.Content.{Pending}
 use Rattle.cluster_model.specs.DsCalls.{DsCallValue, Create, SetAttr, Write, Commit, Read, DsReplyValue, Created, Set, Written, Committed, Bytes, NotSync, Failed}
-use Rattle.resilver.specs.CopyLaws.{CopyNote, WasSent, WasAnswered, WasLate, HasTicked, OutCall, call_out, is_read, piece_in, pieces_read, write_of_call, write_in, writes_taken, creates, is_creation, was_created, fails_call, lost_by_answer, lost_by_timeout, was_lost}
+use Rattle.resilver.specs.CopyLaws.{CopyNote, WasSent, WasAnswered, WasLate, HasTicked, OutCall, call_out, is_read, piece_in, pieces_read, write_of_call, write_in, writes_taken, creates, is_creation, was_created, fails_call, lost_by_answer, lost_by_timeout, was_lost, tick_of, is_create, is_write_to, seen_in, later_of, last_seen}
 
 -- no call of this server's target is answered, or times out: none, one of another server, or a READ
 pub data IsAway (server : ℕ) (o : Option OutCall) : Type 0 where
@@ -18,6 +19,7 @@ pub record LeavesBe (copier server : ℕ) (notes new : List CopyNote) : Type 0 w
   pub writes : (id : MirrorId) → id.server ≡ server → writes_taken id new ≡ writes_taken id notes
   pub created : (id : MirrorId) (name : ℕ) → id.server ≡ server → was_created id name copier new ≡ was_created id name copier notes
   pub lost : was_lost server new ≡ was_lost server notes
+  pub seen : (id : MirrorId) → id.server ≡ server → last_seen id new ≡ last_seen id notes
 
 pub and_false : (b : Bool) → (b && false) ≡ false
 and_false true = refl
@@ -116,12 +118,57 @@ timeout_away server o (OfOther k is other) = ap (lost_by_timeout server) is ∙ 
 timeout_away server o (OfRead k is reads) =
     ap (lost_by_timeout server) is ∙ ap (λ b. (k.server == server) && (not b && (k.timeouts + 1 == MAX_TIMEOUTS))) reads ∙ and_false (k.server == server)
 
+read_creates : (call : DsCallValue) → is_read call ≡ true → is_create call ≡ false
+read_creates (Read fileid at count) is = refl
+read_creates (Write fileid at synced bytes) is = absurd cc
+read_creates (Create own owner) is = absurd cc
+read_creates (SetAttr fileid owner guard) is = absurd cc
+read_creates (Commit fileid) is = absurd cc
+
+read_writes : (file : ℕ) (call : DsCallValue) → is_read call ≡ true → is_write_to file call ≡ false
+read_writes file (Read fileid at count) is = refl
+read_writes file (Write fileid at synced bytes) is = absurd cc
+read_writes file (Create own owner) is = absurd cc
+read_writes file (SetAttr fileid owner guard) is = absurd cc
+read_writes file (Commit fileid) is = absurd cc
+
+-- an answer to no CREATE and no WRITE of this file shows nothing of it
+seen_answer : (id : MirrorId) (reply : DsReplyValue) (k : OutCall) → ((fileid : ℕ) → ((k.server == id.server) && ((fileid == id.fileid) && is_create k.call)) ≡ false) → ((k.server == id.server) && is_write_to id.fileid k.call) ≡ false
+    → seen_in id reply (Some k) ≡ None
+seen_answer id (Created fileid shown) k makes writes = ap (λ (b : Bool). cond {A = Option Tick} b (Some shown.seen) None) (makes fileid)
+seen_answer id (Written shown verifier) k makes writes = ap (λ (b : Bool). cond {A = Option Tick} b (tick_of shown) None) writes
+seen_answer id (Set shown) k makes writes = refl
+seen_answer id (Committed shown verifier) k makes writes = refl
+seen_answer id (Bytes shown eof bytes) k makes writes = refl
+seen_answer id (NotSync shown) k makes writes = refl
+seen_answer id (Failed status shown) k makes writes = refl
+
+seen_none : (id : MirrorId) (reply : DsReplyValue) → seen_in id reply None ≡ None
+seen_none id (Created fileid shown) = refl
+seen_none id (Set shown) = refl
+seen_none id (Written shown verifier) = refl
+seen_none id (Committed shown verifier) = refl
+seen_none id (Bytes shown eof bytes) = refl
+seen_none id (NotSync shown) = refl
+seen_none id (Failed status shown) = refl
+
+seen_away : (id : MirrorId) (server : ℕ) (reply : DsReplyValue) (o : Option OutCall) → id.server ≡ server → IsAway server o → seen_in id reply o ≡ None
+seen_away id server reply o same (NoCall is) = ap (seen_in id reply) is ∙ seen_none id reply
+seen_away id server reply o same (OfOther k is other) =
+    let not_here : (k.server == id.server) ≡ false = ap (λ n. k.server == n) same ∙ other in
+    ap (seen_in id reply) is ∙ seen_answer id reply k (λ fileid. ap (λ b. b && ((fileid == id.fileid) && is_create k.call)) not_here) (ap (λ b. b && is_write_to id.fileid k.call) not_here)
+seen_away id server reply o same (OfRead k is reads) =
+    ap (seen_in id reply) is
+    ∙ seen_answer id reply k
+    (λ fileid. ap (λ b. (k.server == id.server) && ((fileid == id.fileid) && b)) (read_creates k.call reads) ∙ ap (λ b. (k.server == id.server) && b) (and_false (fileid == id.fileid)) ∙ and_false (k.server == id.server))
+    (ap (λ b. (k.server == id.server) && b) (read_writes id.fileid k.call reads) ∙ and_false (k.server == id.server))
+
 module _ (copier server : ℕ) (notes : List CopyNote) where
   pub be_sent : (to x : ℕ) (call : DsCallValue) → LeavesBe copier server notes (WasSent to x call ∷ notes)
-  be_sent to x call = record { pieces = refl; writes = λ id same. refl; created = λ id name same. refl; lost = refl }
+  be_sent to x call = record { pieces = refl; writes = λ id same. refl; created = λ id name same. refl; lost = refl; seen = λ id same. refl }
 
   pub be_ticked : LeavesBe copier server notes (HasTicked ∷ notes)
-  be_ticked = record { pieces = refl; writes = λ id same. refl; created = λ id name same. refl; lost = refl }
+  be_ticked = record { pieces = refl; writes = λ id same. refl; created = λ id name same. refl; lost = refl; seen = λ id same. refl }
 
   pub be_answered : (x : ℕ) (reply : DsReplyValue) → IsAway server (call_out notes x) → piece_in reply (call_out notes x) ≡ [] → LeavesBe copier server notes (WasAnswered x reply ∷ notes)
   be_answered x reply away none = record {
@@ -129,10 +176,11 @@ module _ (copier server : ℕ) (notes : List CopyNote) where
     writes = λ id same. ap (λ l. writes_taken id notes ++ l) (write_away id server reply (call_out notes x) same away) ∙ append-nil (writes_taken id notes);
     created = λ id name same. ap (λ b. b || was_created id name copier notes) (creation_away id server name copier reply (call_out notes x) same away);
     lost = ap (λ b. b || was_lost server notes) (answer_away server reply (call_out notes x) away);
+    seen = λ id same. ap (λ (o : Option Tick). later_of o (last_seen id notes)) (seen_away id server reply (call_out notes x) same away);
   }
 
   pub be_late : (x : ℕ) → lost_by_timeout server (call_out notes x) ≡ false → LeavesBe copier server notes (WasLate x ∷ notes)
-  be_late x none = record { pieces = refl; writes = λ id same. refl; created = λ id name same. refl; lost = ap (λ b. b || was_lost server notes) none }
+  be_late x none = record { pieces = refl; writes = λ id same. refl; created = λ id name same. refl; lost = ap (λ b. b || was_lost server notes) none; seen = λ id same. refl }
 
   pub be_late_away : (x : ℕ) → IsAway server (call_out notes x) → LeavesBe copier server notes (WasLate x ∷ notes)
   be_late_away x away = be_late x (timeout_away server (call_out notes x) away)

@@ -123,6 +123,7 @@ module _ (plan : List Target) (copier : ℕ) (c : CopyState) (notes : List CopyN
             made = ap (λ n. was_created m.id n copier notes) a.name ∙ made.created;
             taken = taken;
             shows = ap shown_by taken ∙ shows_from (pieces_read notes) [] (in_turn_of c notes s.turn);
+            seen = made.seen;
           })
 
   -- where all calls are over

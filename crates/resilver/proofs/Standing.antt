@@ -5,6 +5,7 @@ use Rattle.std.proofs.lemmas.Bool.{ltb-true}
 use Rattle.std.proofs.lemmas.Bool.Decides.{nat_tests}
 use Rattle.std.proofs.lemmas.List.Concat.{flat_map-append}
 use Rattle.cluster_model.specs.declared.limits.TheConstants.{MAX_TIMEOUTS}
+use Rattle.cluster_model.specs.declared.tick.Tick.{Tick}
 use Rattle.cluster_model.specs.declared.ids.MirrorId.{MirrorId}
 use Rattle.cluster_model.specs.declared.ids.Mirror.{Mirror}
 use Rattle.cluster_model.specs.declared.ds_call.Shown.{Shown}
@@ -17,7 +18,7 @@ use Rattle.cluster_model.specs.Fences.{waits, is_out, is_over}
 use Rattle.copy_rule.specs.declared.copy_target.Target.{Target}
 use Rattle.copy_rule.specs.declared.copy_target.CopyTarget.{CopyTarget}
 use Rattle.copy_rule.specs.Copies.{TargetStep, at_stage, having_made, having_written, seen_then, thrown_away, is_given_up, to_write, stage_for, target_call, target_answered, create_answered, write_answered, target_late, target_fails, goes_on_with}
-use Rattle.resilver.specs.CopyLaws.{CopyNote, WasSent, WasAnswered, WasLate, OutCall, call_out, late_once, is_read, Piece, pieces_read, write_in, writes_taken, writes_for, write_for, is_creation, was_created, fails_call, lost_by_answer, lost_by_timeout, was_lost}
+use Rattle.resilver.specs.CopyLaws.{CopyNote, WasSent, WasAnswered, WasLate, OutCall, call_out, late_once, is_read, Piece, pieces_read, write_in, writes_taken, writes_for, write_for, is_creation, was_created, fails_call, lost_by_answer, lost_by_timeout, was_lost, tick_of, seen_in, later_of, last_seen}
 use Rattle.resilver.proofs.Lists.{equal, is_equal, apart, out_same, over_not_out}
 use Rattle.resilver.proofs.CallsOut.{sent_same, late_same, no_read}
 use Rattle.resilver.proofs.Away.{LeavesBe, be_sent, be_late}
@@ -31,19 +32,20 @@ is_open KeptBack = false
 is_open Done = false
 is_open GivenUp = false
 
--- this file, and no other of its server, was made under the name
-pub record IsMade (copier server name : ℕ) (notes : List CopyNote) (id : MirrorId) : Type 0 where
-  pub server_is : id.server ≡ server
-  pub created : was_created id name copier notes ≡ true
-  pub only : (other : MirrorId) → other.server ≡ server → was_created other name copier notes ≡ true → other ≡ id
+-- this file, and no other of its server, was made under the name; and its ctime is the one last seen there
+pub record IsMade (copier server name : ℕ) (notes : List CopyNote) (m : Mirror) : Type 0 where
+  pub server_is : m.id.server ≡ server
+  pub created : was_created m.id name copier notes ≡ true
+  pub only : (other : MirrorId) → other.server ≡ server → was_created other name copier notes ≡ true → other ≡ m.id
+  pub seen : last_seen m.id notes ≡ Some m.seen
 
 -- A target waits for its file, or for the answer to the WRITE of the piece in hand; it has taken each piece; or it is lost.
 pub data Standing (copier at : ℕ) (piece : List ℕ) (notes : List CopyNote) (t : CopyTarget) : Type 0 where
   Unmade : is_open t.stage ≡ true → t.made ≡ None → pieces_read notes ≡ []
       → ((id : MirrorId) → id.server ≡ t.server → (writes_taken id notes ≡ []) × (was_created id t.name copier notes ≡ false)) → Standing copier at piece notes t
-  Writing : (m : Mirror) → is_open t.stage ≡ true → t.made ≡ Some m → IsMade copier t.server t.name notes m.id
+  Writing : (m : Mirror) → is_open t.stage ≡ true → t.made ≡ Some m → IsMade copier t.server t.name notes m
       → writes_taken m.id notes ++ record { at = at; bytes = piece } ∷ [] ≡ writes_for (pieces_read notes) → Standing copier at piece notes t
-  Holding : (m : Mirror) → t.stage ≡ Done → t.made ≡ Some m → IsMade copier t.server t.name notes m.id
+  Holding : (m : Mirror) → t.stage ≡ Done → t.made ≡ Some m → IsMade copier t.server t.name notes m
       → writes_taken m.id notes ≡ writes_for (pieces_read notes) → Standing copier at piece notes t
   Lost : t.stage ≡ GivenUp → t.made ≡ None → Standing copier at piece notes t
 
@@ -72,20 +74,21 @@ pub record TargetAt (plan : List Target) (copier at : ℕ) (piece : List ℕ) (n
 
 -- ---- what a note leaves as it was
 
-made_on : (copier server name : ℕ) (notes new : List CopyNote) (id : MirrorId) → LeavesBe copier server notes new → IsMade copier server name notes id → IsMade copier server name new id
-made_on copier server name notes new id be made = record {
+made_on : (copier server name : ℕ) (notes new : List CopyNote) (m : Mirror) → LeavesBe copier server notes new → IsMade copier server name notes m → IsMade copier server name new m
+made_on copier server name notes new m be made = record {
   server_is = made.server_is;
-  created = be.created id name made.server_is ∙ made.created;
+  created = be.created m.id name made.server_is ∙ made.created;
   only = λ other same was. made.only other same (sym (be.created other name same) ∙ was);
+  seen = be.seen m.id made.server_is ∙ made.seen;
 }
 
 pub standing_on : (copier at : ℕ) (piece : List ℕ) (notes new : List CopyNote) (t : CopyTarget) → LeavesBe copier t.server notes new → Standing copier at piece notes t → Standing copier at piece new t
 standing_on copier at piece notes new t be (Unmade open' none nothing untouched) =
     Unmade open' none (be.pieces ∙ nothing) (λ id same. let p = untouched id same in (be.writes id same ∙ p.0, be.created id t.name same ∙ p.1))
 standing_on copier at piece notes new t be (Writing m open' is made taken) =
-    Writing m open' is (made_on copier t.server t.name notes new m.id be made) (ap (λ l. l ++ record { at = at; bytes = piece } ∷ []) (be.writes m.id made.server_is) ∙ taken ∙ ap writes_for (sym be.pieces))
+    Writing m open' is (made_on copier t.server t.name notes new m be made) (ap (λ l. l ++ record { at = at; bytes = piece } ∷ []) (be.writes m.id made.server_is) ∙ taken ∙ ap writes_for (sym be.pieces))
 standing_on copier at piece notes new t be (Holding m over is made taken) =
-    Holding m over is (made_on copier t.server t.name notes new m.id be made) (be.writes m.id made.server_is ∙ taken ∙ ap writes_for (sym be.pieces))
+    Holding m over is (made_on copier t.server t.name notes new m be made) (be.writes m.id made.server_is ∙ taken ∙ ap writes_for (sym be.pieces))
 standing_on copier at piece notes new t be (Lost over none) = Lost over none
 
 pub target_on : (plan : List Target) (copier at : ℕ) (piece : List ℕ) (notes new : List CopyNote) (place : ℕ) (t : CopyTarget) → LeavesBe copier t.server notes new
@@ -147,6 +150,10 @@ both : (a b : Bool) → a ≡ true → b ≡ true → (a && (b && true)) ≡ tru
 both true true p q = refl
 both false b p q = absurd cc
 both true false p q = absurd cc
+
+two : (a b : Bool) → a ≡ true → b ≡ true → (a && b) ≡ true
+two true b p q = q
+two false b p q = absurd cc
 
 second_of : (a b c e : Bool) → e ≡ false → ((a && (b && c)) || e) ≡ true → b ≡ true
 second_of true true c e none is = refl
@@ -231,6 +238,9 @@ module _ (plan : List Target) (copier at : ℕ) (piece : List ℕ) (notes : List
             server_is = refl;
             created = makes id ∙ four (t.server == t.server) (fileid == fileid) (t.name == t.name) (copier == copier) (was_created id t.name copier notes) (equal t.server t.server refl) (equal fileid fileid refl) (equal t.name t.name refl) (equal copier copier refl);
             only = λ other same was. named other same (second_of (t.server == other.server) (fileid == other.fileid) ((t.name == t.name) && (copier == copier)) (was_created other t.name copier notes) (untouched other same).1 (sym (makes other) ∙ was));
+            seen =
+                ap (λ (o : Option OutCall). later_of (seen_in id (Created fileid shown) o) (last_seen id notes)) (its_call None none)
+                ∙ ap (λ (b : Bool). later_of (cond {A = Option Tick} b (Some shown.seen) None) (last_seen id notes)) (both (t.server == t.server) (fileid == fileid) (equal t.server t.server refl) (equal fileid fileid refl));
           })
           (append-nil (writes_taken id notes) ∙ (untouched id refl).0 ∙ sym (ap writes_for (append-nil (pieces_read notes) ∙ nothing)));
     }
@@ -257,7 +267,7 @@ module _ (plan : List Target) (copier at : ℕ) (piece : List ℕ) (notes : List
     create_at (Failed status shown) none nothing untouched = fails_at (Failed status shown) (fails_so None (Failed status shown) true none refl)
 
     -- a WRITE to it was answered
-    written_at : (shown : Option Shown) (verifier : ℕ) (m : Mirror) → t.made ≡ Some m → IsMade copier t.server t.name notes m.id
+    written_at : (shown : Option Shown) (verifier : ℕ) (m : Mirror) → t.made ≡ Some m → IsMade copier t.server t.name notes m
         → writes_taken m.id notes ++ record { at = at; bytes = piece } ∷ [] ≡ writes_for (pieces_read notes) → TargetAt plan copier at piece (WasAnswered x (Written shown verifier) ∷ notes) place (having_written t shown)
     written_at shown verifier m is made taken = record {
       from = a.from;
@@ -268,14 +278,20 @@ module _ (plan : List Target) (copier at : ℕ) (piece : List ℕ) (notes : List
       few = omega arith;
       lost = sym (stays_left (Written shown verifier) (fails_so (Some m) (Written shown verifier) false is refl));
       out = λ y so. absurd cc;
-      stands = by_shown shown;
+      stands = by_shown shown refl;
     }
       where
         new : List CopyNote
         new = WasAnswered x (Written shown verifier) ∷ notes
 
-        still : IsMade copier t.server t.name (WasAnswered x (Written shown verifier) ∷ notes) m.id
-        still = record { server_is = made.server_is; created = made.created; only = made.only }
+        -- what the answer shows of it
+        sees : last_seen m.id (WasAnswered x (Written shown verifier) ∷ notes) ≡ later_of (tick_of shown) (last_seen m.id notes)
+        sees =
+            ap (λ (o : Option OutCall). later_of (seen_in m.id (Written shown verifier) o) (last_seen m.id notes)) (its_call (Some m) is)
+            ∙ ap (λ (b : Bool). later_of (cond {A = Option Tick} b (tick_of shown) None) (last_seen m.id notes)) (two (t.server == m.id.server) (m.id.fileid == m.id.fileid) (equal t.server m.id.server (sym made.server_is)) (equal m.id.fileid m.id.fileid refl))
+
+        still : (tick : Tick) → last_seen m.id (WasAnswered x (Written shown verifier) ∷ notes) ≡ Some tick → IsMade copier t.server t.name (WasAnswered x (Written shown verifier) ∷ notes) (record { id = m.id; seen = tick })
+        still tick seen = record { server_is = made.server_is; created = made.created; only = made.only; seen = seen }
 
         takes : writes_taken m.id (WasAnswered x (Written shown verifier) ∷ notes) ≡ writes_for (pieces_read (WasAnswered x (Written shown verifier) ∷ notes))
         takes =
@@ -284,11 +300,11 @@ module _ (plan : List Target) (copier at : ℕ) (piece : List ℕ) (notes : List
             ∙ taken
             ∙ ap writes_for (sym (append-nil (pieces_read notes)))
 
-        by_shown : (s : Option Shown) → Standing copier at piece (WasAnswered x (Written shown verifier) ∷ notes) (having_written t s)
-        by_shown None = Holding m refl (ap (λ o. seen_then o None) is) still takes
-        by_shown (Some s) = Holding (record { id = m.id; seen = s.seen }) refl (ap (λ o. seen_then o (Some s)) is) still takes
+        by_shown : (s : Option Shown) → shown ≡ s → Standing copier at piece (WasAnswered x (Written shown verifier) ∷ notes) (having_written t s)
+        by_shown None at = Holding m refl (ap (λ o. seen_then o None) is) (still m.seen (sees ∙ ap (λ (o : Option Shown). later_of (tick_of o) (last_seen m.id notes)) at ∙ made.seen)) takes
+        by_shown (Some s) at = Holding (record { id = m.id; seen = s.seen }) refl (ap (λ o. seen_then o (Some s)) is) (still s.seen (sees ∙ ap (λ (o : Option Shown). later_of (tick_of o) (last_seen m.id notes)) at)) takes
 
-    write_at : (reply : DsReplyValue) (m : Mirror) → t.made ≡ Some m → IsMade copier t.server t.name notes m.id
+    write_at : (reply : DsReplyValue) (m : Mirror) → t.made ≡ Some m → IsMade copier t.server t.name notes m
         → writes_taken m.id notes ++ record { at = at; bytes = piece } ∷ [] ≡ writes_for (pieces_read notes) → TargetAt plan copier at piece (WasAnswered x reply ∷ notes) place (write_answered t reply).target
     write_at (Written shown verifier) m is made taken = written_at shown verifier m is made taken
     write_at (Created fileid shown) m is made taken = fails_at (Created fileid shown) (fails_so (Some m) (Created fileid shown) true is refl)
@@ -411,7 +427,7 @@ module _ (plan : List Target) (copier at : ℕ) (piece : List ℕ) (notes : List
       stands = Lost is none;
     }
 
-    takes_piece : (m : Mirror) (l : List ℕ) → l ≡ bytes → t.stage ≡ Done → t.made ≡ Some m → IsMade copier t.server t.name notes m.id → writes_taken m.id notes ≡ writes_for (pieces_read notes)
+    takes_piece : (m : Mirror) (l : List ℕ) → l ≡ bytes → t.stage ≡ Done → t.made ≡ Some m → IsMade copier t.server t.name notes m → writes_taken m.id notes ≡ writes_for (pieces_read notes)
         → TargetAt plan copier at bytes (WasAnswered x (Bytes shown eof bytes) ∷ notes) place (at_stage t (stage_for l))
     takes_piece m l are done is made taken = record {
       from = a.from;
@@ -440,8 +456,8 @@ module _ (plan : List Target) (copier at : ℕ) (piece : List ℕ) (notes : List
         p : List ℕ → Piece
         p k = record { at = at; bytes = k; eof = eof }
 
-        still : IsMade copier t.server t.name (WasAnswered x (Bytes shown eof bytes) ∷ notes) m.id
-        still = record { server_is = made.server_is; created = made.created; only = made.only }
+        still : IsMade copier t.server t.name (WasAnswered x (Bytes shown eof bytes) ∷ notes) m
+        still = record { server_is = made.server_is; created = made.created; only = made.only; seen = made.seen }
 
         -- the WRITEs for what was READ
         wanted : writes_for (pieces_read (WasAnswered x (Bytes shown eof bytes) ∷ notes)) ≡ writes_for (pieces_read notes) ++ (write_for (p bytes) bytes ++ [])

@@ -2,7 +2,9 @@
 use Rattle.std.specs.Prelude.{◌≡◌, ℕ, ◌+◌, Bool, true, false, not, ◌==◌, ◌&&◌, ◌||◌, List, [], ◌∷◌, ◌++◌, length, map, filter, Option, Some, None, fold, nat_lt, if◌then◌else◌}
 use Rattle.std.specs.List.{All, AllPairs, flat_map}
 use Rattle.cluster_model.specs.declared.limits.TheConstants.{MAX_FILE, MAX_TIMEOUTS}
+use Rattle.cluster_model.specs.declared.tick.Tick.{Tick}
 use Rattle.cluster_model.specs.declared.ids.MirrorId.{MirrorId}
+use Rattle.cluster_model.specs.declared.ds_call.Shown.{Shown}
 use Rattle.cluster_model.specs.declared.phase.LeftCause.{LeftCause}
 use Rattle.cluster_model.specs.declared.targets.SwappedIn.{SwappedIn}
 use Rattle.cluster_model.specs.Content.{Pending, overlay}
@@ -160,6 +162,49 @@ was_created id name copier (WasAnswered xid reply ∷ before) = is_creation id n
 was_created id name copier (WasLate xid ∷ before) = was_created id name copier before
 was_created id name copier (HasTicked ∷ before) = was_created id name copier before
 
+-- ---- the ctime last seen
+
+abbrev pub tick_of : Option Shown → Option Tick
+tick_of None = None
+tick_of (Some shown) = Some shown.seen
+
+abbrev pub is_create : DsCallValue → Bool
+is_create (Create name owner) = true
+is_create (SetAttr fileid owner guard) = false
+is_create (Write fileid at synced bytes) = false
+is_create (Commit fileid) = false
+is_create (Read fileid at count) = false
+
+abbrev pub is_write_to : ℕ → DsCallValue → Bool
+is_write_to file (Write fileid at synced bytes) = fileid == file
+is_write_to file (Create name owner) = false
+is_write_to file (SetAttr fileid owner guard) = false
+is_write_to file (Commit fileid) = false
+is_write_to file (Read fileid at count) = false
+
+-- what an OK answer to the CREATE of a file, or to a WRITE to it, shows
+abbrev pub seen_in : MirrorId → DsReplyValue → Option OutCall → Option Tick
+seen_in id (Created fileid shown) (Some o) = if (o.server == id.server) && ((fileid == id.fileid) && is_create o.call) then Some shown.seen else None
+seen_in id (Created fileid shown) None = None
+seen_in id (Written shown verifier) (Some o) = if (o.server == id.server) && is_write_to id.fileid o.call then tick_of shown else None
+seen_in id (Written shown verifier) None = None
+seen_in id (Set shown) o = None
+seen_in id (Committed shown verifier) o = None
+seen_in id (Bytes shown eof bytes) o = None
+seen_in id (NotSync shown) o = None
+seen_in id (Failed status shown) o = None
+
+abbrev pub later_of : Option Tick → Option Tick → Option Tick
+later_of None before = before
+later_of (Some tick) before = Some tick
+
+abbrev pub last_seen : MirrorId → List CopyNote → Option Tick
+last_seen id [] = None
+last_seen id (WasSent server xid call ∷ before) = last_seen id before
+last_seen id (WasAnswered xid reply ∷ before) = later_of (seen_in id reply (call_out before xid)) (last_seen id before)
+last_seen id (WasLate xid ∷ before) = last_seen id before
+last_seen id (HasTicked ∷ before) = last_seen id before
+
 -- ---- the promises
 
 -- Each piece stands where the one before it ends, from 0 on, and behind the one that ends the source none was read.
@@ -188,7 +233,7 @@ abbrev pub shown_by : List Pending → List ℕ
 shown_by writes = fold (λ bytes w. overlay bytes w.at w.bytes) [] writes
 
 -- A mirror that is swapped in was made by a CREATE of the plan, on its server, and has taken each piece that was read, in order, so it
--- shows the source's bytes.
+-- shows the source's bytes; and its ctime is the one last seen there.
 pub record HoldsSource (plan : List Target) (copier : ℕ) (notes : List CopyNote) (t : SwappedIn) : Type 0 where
   pub target : Target
   pub planned : (before behind : List Target) × (plan ≡ before ++ target ∷ behind)
@@ -197,6 +242,7 @@ pub record HoldsSource (plan : List Target) (copier : ℕ) (notes : List CopyNot
   pub made : was_created t.new.id target.name copier notes ≡ true
   pub taken : writes_taken t.new.id notes ≡ writes_for (pieces_read notes)
   pub shows : shown_by (writes_taken t.new.id notes) ≡ bytes_read (pieces_read notes)
+  pub seen : last_seen t.new.id notes ≡ Some t.new.seen
 
 -- ---- which targets are left
 
