@@ -2,8 +2,8 @@
 //! `set TICK OWNER GROUP MODE ATIME MTIME`, where `-` stays, and a time is `-`, `now` or a tick, and `restart PIECES`. Behind
 //! each answer stand the size, the owner, the group, the mode, and the times of the last access, write and change.
 
-use cluster_model::{Changes, NewTime};
-use data_file::{DataFile, MAX_FILE};
+use cluster_model::{Changes, MAX_FILE, NewTime};
+use data_file::DataFile;
 use row_words::{Answer, Part, RowFault, Words};
 use std::alloc::Global;
 

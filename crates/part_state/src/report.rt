@@ -6,6 +6,11 @@ use ff_xdr::{Out, Wire};
 use layout_report::report_of;
 use row_words::{Answer, RowFault, Words, number32};
 
+/// A count of things in a body.
+fn count(n: usize) -> Result<u32, RowFault> {
+    u32::try_from(n).ok().ok_or(RowFault::Outside)
+}
+
 /// Appends what went wrong at a device.
 fn put_device_error(words: &Words<'_>, item: &str, out: &mut Out) -> Result<(), RowFault> {
     let (device, rest) = item.split_once(":").ok_or(RowFault::Outside)?;
@@ -25,7 +30,7 @@ fn put_io_error(words: &Words<'_>, word: &str, out: &mut Out) -> Result<(), RowF
         out.number32(0)?;
         return Ok(());
     }
-    out.number32(word.split(',').count() as u32)?;
+    out.number32(count(word.split(',').count())?)?;
     for item in word.split(',') {
         put_device_error(words, item, out)?;
     }
@@ -38,7 +43,7 @@ fn put_body(words: &Words<'_>, parts: &str, out: &mut Out) -> Result<(), RowFaul
         out.number64(0)?;
         return Ok(());
     }
-    out.number32(parts.split(' ').count() as u32)?;
+    out.number32(count(parts.split(' ').count())?)?;
     for word in parts.split(' ') {
         put_io_error(words, word, out)?;
     }
