@@ -27,7 +27,7 @@ use Rattle.client_laws.proofs.Orders.{in_more}
 use Rattle.client_laws.proofs.Later.{numbers_later, all_replied_later, under_later, granted_later, there_later, mirror_later, under_uid_later, every_append, taken_later, not_taken_later, given_later, return_later}
 use Rattle.client_laws.proofs.Splits.{StandsBefore, IsLast, split_last}
 use Rattle.client_laws.proofs.SlotKept.{SlotStands}
-use Rattle.client_laws.proofs.RecallGoes.{IsEnding, ending_is, callback_so}
+use Rattle.client_laws.proofs.RecallGoes.{IsEnding, IsRecalled, ending_is, callback_so}
 use Rattle.client_laws.proofs.Stands.{Stands, LayoutStands, AskFits, AskOut, IfThere, QuietItem, reported_of}
 
 -- ---- the queue leaves a layout that is being given back as it is
@@ -106,7 +106,7 @@ bytes_of input = []
 
 -- a recall that this reply answers OK was of this record
 pub replied_so : (h : List HistoryItem) (c : ClientValue) (bytes : List ℕ) (now : ℕ) (k : CbReply) (entries : List Entry) (state : List ℕ) → SlotStands h c.tie → callback_of (call_at bytes) c ≡ Some k
-    → WasRecalled ((h ++ Hears (Recorded Mds bytes now) ∷ []) ++ entered entries) k.reply state → IsEnding k.client.layout
+    → WasRecalled ((h ++ Hears (Recorded Mds bytes now) ∷ []) ++ entered entries) k.reply state → IsRecalled k.client.layout state
 replied_so h c bytes now k entries state slot is r =
     let same : ◌≡◌ {A = LastHeard} (record { earlier = h; input = Recorded Mds bytes now }) (record { earlier = r.earlier; input = Recorded Mds r.bytes r.now }) =
     same_Some _ _ (sym (ap last_heard (append_assoc h (Hears (Recorded Mds bytes now) ∷ []) (entered entries)) ∙ heard_last h (Recorded Mds bytes now) entries) ∙ r.last) in
