@@ -1,8 +1,7 @@
 -- What becomes of a client's layout in each event.
 use Rattle.std.proofs.Common.{◌≡◌, ℕ, Bool, true, false, List, [], ◌∷◌, ◌++◌, Option, Some, None, Result, Ok, Err, refl, sym, ap, subst, ◌∙◌, inl, inr}
 use Rattle.std.specs.Prelude.{◌==◌, ◌&&◌, ◌||◌, if◌then◌else◌}
-use Rattle.std.proofs.lemmas.List.{append_assoc, map-append}
-use Rattle.std.proofs.lemmas.Option.{none-some, same_Some}
+use Rattle.std.proofs.lemmas.List.{map-append}
 use Rattle.ff_xdr.specs.declared.error.XdrError.{XdrError}
 use Rattle.rpc_record.specs.Calls.{call_at}
 use Rattle.rpc_record.specs.Replies.{RpcReply, reply_at}
@@ -29,8 +28,7 @@ use Rattle.mds_calls.specs.declared.ask.MdsAsk.{MdsAsk}
 use Rattle.mds_calls.specs.declared.ask.MdsAsk.TheVariants as ask
 use Rattle.mds_calls.specs.declared.reply.SlotReport.{SlotReport}
 use Rattle.mds_calls.specs.declared.reply.SlotReport.TheVariants.{Taken, Uncached, Delayed, Unknown}
-use Rattle.mds_calls.specs.MdsCalls.{MdsCallValue, OnSlot}
-use Rattle.mds_calls.specs.MdsCalls as slot
+use Rattle.mds_calls.specs.MdsCalls.{MdsCallValue}
 use Rattle.mds_calls.specs.MdsReplies.{MdsAnswerValue, Client, Session, Complete, Opened, Granted, Devices, Written, Bytes, Returned, Renewed, Refused, MdsReplyValue, reply_of_ask}
 use Rattle.client_state.specs.declared.stage.LayoutStage.{LayoutStage}
 use Rattle.client_state.specs.declared.stage.LayoutStage.TheVariants.{Writing, Ending, Deferred, Returning}
@@ -41,17 +39,17 @@ use Rattle.client_state.specs.declared.tie.Tie.{Tie}
 use Rattle.client_state.specs.declared.tie.Tie.TheVariants.{NoClient, HasClient, HasSession}
 use Rattle.client_state.specs.ClientStates.{ClientValue, ClientRun, unmoved, as_new, is_layout_return}
 use Rattle.client_state.specs.ClientQueue.{with_layout, with_writer, ending, is_writing, revoked_layout, lost_mirrors}
-use Rattle.client_state.specs.ClientSends.{CallsMds, RepeatsToMds, RepliesToMds, ClientStep, sends_none, and_then, run_then}
+use Rattle.client_state.specs.ClientSends.{CallsMds, RepeatsToMds, ClientStep, sends_none, and_then, run_then}
 use Rattle.client_calls.specs.ClientCalls.{asks, may_ask, ends_event}
 use Rattle.client_answers.specs.ClientMirrors.{is_commit, tells_covered, with_failed, mirror_failed, after_step, has_writer, answered_out, ds_answered_by, ds_answered, late_out, ds_timed_out_by, ds_timed_out}
-use Rattle.client_answers.specs.ClientAnswers.{moved_tie, next_on_slot, completed_tie, fresh_session, new_layout, learns_devices, layout_returned, head_refused, has_session, deferred, defers, after_refusal, refused_otherwise, is_for_later, asks_later, session_lost, refused_by_mds, by_answer, delayed, mds_answered}
+use Rattle.client_answers.specs.ClientAnswers.{moved_tie, next_on_slot, completed_tie, new_layout, learns_devices, layout_returned, head_refused, has_session, deferred, defers, after_refusal, refused_otherwise, is_for_later, asks_later, session_lost, refused_by_mds, by_answer, delayed, mds_answered}
 use Rattle.client_callbacks.specs.Callbacks.{CbReply, callback_of}
-use Rattle.mirror_client.specs.ClientRule.{unless_left, with_request, mds_replied, ds_replied, mds_timed_out, timed_out_to, stage_after_tick, layout_at_tick, client_at_tick, resends_late, is_stale_tie, renews, ticks_on, rogue_write, mirror_of_place, strays, found_reply, found_call, record_from}
+use Rattle.mirror_client.specs.ClientRule.{unless_left, with_request, mds_replied, mds_timed_out, timed_out_to, stage_after_tick, layout_at_tick, client_at_tick, resends_late, is_stale_tie, renews, ticks_on, rogue_write, mirror_of_place, strays, found_reply, found_call, record_from}
 use Rattle.client_laws.specs.ClientHistory.{ClientInput, Requested, Recorded, TimeoutOf, Ticked, LeftProtocol, Strayed, input_step, HistoryItem, Enters, Sends, entered, HasItem}
 use Rattle.client_laws.specs.RecallLaws.{WasGivenBack}
 use Rattle.client_laws.proofs.Orders.{in_more}
 use Rattle.client_laws.proofs.GrantFacts.{granted_kind, returned_kind, client_kind}
-use Rattle.client_laws.proofs.Steady.{SameLayout, Follows, follows_same, follows_then, ends_same, KindTied, kind_of, TiedOf, Tied, Steady, steady_same, steady_then, tied_steady, steady_layout, CallsTied, asks_tied, ends_tied}
+use Rattle.client_laws.proofs.Steady.{SameLayout, Follows, follows_same, follows_then, ends_same, KindTied, kind_of, TiedOf, Tied, Steady, steady_same, tied_steady, steady_layout, CallsTied, asks_tied, ends_tied}
 use Rattle.client_laws.proofs.CallbackSteady.{callback_steady}
 use Rattle.client_laws.proofs.Stands.{Stands, AskFits, AskOut, GetsLayout, GivesLayout, ReturnOut, IfThere}
 

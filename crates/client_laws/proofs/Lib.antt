@@ -18,6 +18,7 @@ mod Orders
 mod Places
 mod QueueGoes
 mod RecallGoes
+mod RecalledGo
 mod Replied
 mod Runs
 mod Silent

@@ -120,7 +120,7 @@ abbrev reply_of : HistoryItem → RpcReply → RpcReply
 reply_of (Sends (RepliesToMds reply)) other = reply
 reply_of item other = other
 
-same_reply : (a b : RpcReply) → Sends (RepliesToMds a) ≡ Sends (RepliesToMds b) → a ≡ b
+pub same_reply : (a b : RpcReply) → Sends (RepliesToMds a) ≡ Sends (RepliesToMds b) → a ≡ b
 same_reply a b is = ap (λ i. reply_of i a) is
 
 module _ (h : List HistoryItem) (reply : RpcReply) where

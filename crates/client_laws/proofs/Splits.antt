@@ -15,7 +15,7 @@ pub record StandsBefore (xs items : List HistoryItem) (r : HistoryItem) : Type 0
   pub behind : List HistoryItem
   pub split : xs ≡ items ++ r ∷ behind
 
-there : (a b : List HistoryItem) (r : HistoryItem) → HasItem (a ++ r ∷ b) r
+pub there : (a b : List HistoryItem) (r : HistoryItem) → HasItem (a ++ r ∷ b) r
 there [] b r = inl (refl, tt)
 there (x ∷ a) b r = inr (there a b r)
 
