@@ -22,11 +22,11 @@ use Rattle.mirror_client.specs.ClientRule.{answers_callback, found_call, client_
 use Rattle.client_laws.specs.ClientHistory.{ClientInput, Recorded, input_step, HistoryItem, Hears, Enters, Sends, entered, sent, items_of, client_history, client_after, HasItem}
 use Rattle.client_laws.specs.RecallLaws.{IsCallback, AsksBack, LastHeard, heard_behind, last_heard, WasRecalled, WasGivenBack, IsGoing, HasGone, WasReturned, WasLost, GoesStill, RecalledGoes}
 use Rattle.client_laws.proofs.Orders.{in_more}
-use Rattle.client_laws.proofs.Splits.{not_empty, there}
+use Rattle.client_laws.proofs.Splits.{not_empty, there, tail_of, head_of, IsIn, IsBehind, split_either}
 use Rattle.client_laws.proofs.SlotKept.{HeardCallback, SlotStands, slot_later}
 use Rattle.client_laws.proofs.SlotSteps.{input_slot}
 use Rattle.client_laws.proofs.RecallGoes.{IsRecalled, callback_so}
-use Rattle.client_laws.proofs.Replied.{same_reply}
+use Rattle.client_laws.proofs.Replied.{same_reply, heard_last}
 use Rattle.client_laws.proofs.Goes.{StepGoes}
 use Rattle.client_laws.proofs.Events.{input_goes}
 use Rattle.client_laws.proofs.Steady.{Follows, Tied, tied_steady, CallsTied, ends_tied}
@@ -35,36 +35,7 @@ use Rattle.client_laws.proofs.LayoutSteps.{Becomes, Stays, IsLost, IsGone, StepM
 use Rattle.client_laws.proofs.Runs.{fresh_stands, fresh_slot}
 use Rattle.client_laws.proofs.Stands.{Every, Stands, IfThere, MuteSend}
 
--- ---- a list that is split in two ways
-
-abbrev tail_of : List HistoryItem → List HistoryItem
-tail_of [] = []
-tail_of (x ∷ xs) = xs
-
-abbrev head_of : HistoryItem → List HistoryItem → HistoryItem
-head_of other [] = other
-head_of other (x ∷ xs) = x
-
--- it stands in the first part
-record IsIn (xs more items behind : List HistoryItem) (r : HistoryItem) : Type 0 where
-  pub left : List HistoryItem
-  pub split : xs ≡ items ++ r ∷ left
-  pub rest : behind ≡ left ++ more
-
--- or in the second
-record IsBehind (xs more items behind : List HistoryItem) (r : HistoryItem) : Type 0 where
-  pub mid : List HistoryItem
-  pub items_are : items ≡ xs ++ mid
-  pub split : more ≡ mid ++ r ∷ behind
-
-further_in : (x y : HistoryItem) (xs more items behind : List HistoryItem) (r : HistoryItem) → x ≡ y → IsIn xs more items behind r ⊎ IsBehind xs more items behind r → IsIn (x ∷ xs) more (y ∷ items) behind r ⊎ IsBehind (x ∷ xs) more (y ∷ items) behind r
-further_in x y xs more items behind r same (inl i) = inl (record { left = i.left; split = ap (λ k. k ∷ xs) same ∙ ap (λ l. y ∷ l) i.split; rest = i.rest })
-further_in x y xs more items behind r same (inr b) = inr (record { mid = b.mid; items_are = ap (λ k. k ∷ items) (sym same) ∙ ap (λ l. x ∷ l) b.items_are; split = b.split })
-
-split_either : (xs more items behind : List HistoryItem) (r : HistoryItem) → xs ++ more ≡ items ++ r ∷ behind → IsIn xs more items behind r ⊎ IsBehind xs more items behind r
-split_either [] more items behind r is = inr (record { mid = items; items_are = refl; split = is })
-split_either (x ∷ xs) more [] behind r is = inl (record { left = xs; split = ap (λ k. k ∷ xs) (ap (head_of x) is); rest = sym (ap tail_of is) })
-split_either (x ∷ xs) more (y ∷ items) behind r is = further_in x y xs more items behind r (ap (head_of x) is) (split_either xs more items behind r (ap tail_of is))
+-- ---- items
 
 in_behind : (xs ys : List HistoryItem) (x : HistoryItem) → HasItem ys x → HasItem (xs ++ ys) x
 in_behind [] ys x i = i
@@ -146,10 +117,6 @@ none_sent (s ∷ sends) (x ∷ mid) rest is = subst (λ k. heard_behind k (last_
 none_behind : (entries : List Entry) (mid : List HistoryItem) → last_heard mid ≡ None → last_heard (entered entries ++ mid) ≡ None
 none_behind [] mid none = none
 none_behind (e ∷ entries) mid none = ap (heard_behind (Enters e)) (none_behind entries mid none)
-
-heard_last : (h : List HistoryItem) (input : ClientInput) (items : List HistoryItem) → last_heard items ≡ None → last_heard (h ++ Hears input ∷ items) ≡ Some (record { earlier = h; input = input })
-heard_last [] input items none = ap (heard_behind (Hears input)) none
-heard_last (x ∷ h) input items none = ap (heard_behind x) (heard_last h input items none)
 
 no_entry : (entries : List Entry) (s : ClientSend) → HasItem (entered entries) (Sends s) → ⊥
 no_entry [] s i = i

@@ -96,9 +96,9 @@ none_heard : (entries : List Entry) → last_heard (entered entries) ≡ None
 none_heard [] = refl
 none_heard (e ∷ entries) = ap (heard_behind (Enters e)) (none_heard entries)
 
-pub heard_last : (h : List HistoryItem) (input : ClientInput) (entries : List Entry) → last_heard (h ++ (Hears input ∷ entered entries)) ≡ Some (record { earlier = h; input = input })
-heard_last [] input entries = ap (heard_behind (Hears input)) (none_heard entries)
-heard_last (x ∷ h) input entries = ap (heard_behind x) (heard_last h input entries)
+pub heard_last : (h : List HistoryItem) (input : ClientInput) (items : List HistoryItem) → last_heard items ≡ None → last_heard (h ++ Hears input ∷ items) ≡ Some (record { earlier = h; input = input })
+heard_last [] input items none = ap (heard_behind (Hears input)) none
+heard_last (x ∷ h) input items none = ap (heard_behind x) (heard_last h input items none)
 
 abbrev bytes_of : ClientInput → List ℕ
 bytes_of (Recorded from bytes now) = bytes
@@ -109,7 +109,7 @@ pub replied_so : (h : List HistoryItem) (c : ClientValue) (bytes : List ℕ) (no
     → WasRecalled ((h ++ Hears (Recorded Mds bytes now) ∷ []) ++ entered entries) k.reply state → IsRecalled k.client.layout state
 replied_so h c bytes now k entries state slot is r =
     let same : ◌≡◌ {A = LastHeard} (record { earlier = h; input = Recorded Mds bytes now }) (record { earlier = r.earlier; input = Recorded Mds r.bytes r.now }) =
-    same_Some _ _ (sym (ap last_heard (append_assoc h (Hears (Recorded Mds bytes now) ∷ []) (entered entries)) ∙ heard_last h (Recorded Mds bytes now) entries) ∙ r.last) in
+    same_Some _ _ (sym (ap last_heard (append_assoc h (Hears (Recorded Mds bytes now) ∷ []) (entered entries)) ∙ heard_last h (Recorded Mds bytes now) (entered entries) (none_heard entries)) ∙ r.last) in
     let its_bytes : bytes ≡ r.bytes = ap (λ (x : LastHeard). bytes_of x.input) same in
     callback_so h c r.bytes k state r.session r.number slot (subst (λ b. callback_of (call_at b) c ≡ Some k) its_bytes is) r.callback r.asks
     (λ heard. r.new heard.bytes heard.now (subst (λ e. HasItem e (Hears (Recorded Mds heard.bytes heard.now))) (ap (λ (x : LastHeard). x.earlier) same) heard.there) heard.callback) r.ok
