@@ -1,6 +1,6 @@
 -- What comes to a client, and what it does then.
 use Rattle.client_laws.proofs.Replied.{ending_queue, replied_so, stands_replied}
-use Rattle.client_laws.proofs.RecallGoes.{IsEnding}
+use Rattle.client_laws.proofs.RecallGoes.{IsEnding, recalled_ending}
 use Rattle.client_laws.proofs.SlotKept.{SlotStands}
 use Rattle.client_laws.proofs.Orders.{in_end}
 use Rattle.client_laws.proofs.Held.{HeldLayout, held_of, queue_holds}
@@ -119,7 +119,7 @@ call_found_goes h c s slot bytes now (Some k) is =
     first_sends past (record { client = k.client; entries = [] }) (RepliesToMds k.reply ∷ [])
     (record {
       right = λ entries d stands held. ((tt, tt, tt, tt, tt, tt), tt);
-      stands = λ entries d stands ends. stands_replied (past ++ entered entries) k.reply d stands (λ state r. ends (replied_so h c bytes now k entries state slot is r));
+      stands = λ entries d stands ends. stands_replied (past ++ entered entries) k.reply d stands (λ state r. ends (recalled_ending k.client.layout state (replied_so h c bytes now k entries state slot is r)));
     }) (run_unmoved past k.client (callback_stands past (call_at bytes) c k is (stands_later h (Hears (Recorded Mds bytes now) ∷ []) c (tt, tt) s)))
 
 record_goes : (h : List HistoryItem) (c : ClientValue) (s : Stands h c) (slot : SlotStands h c.tie) (from : NodeId) (bytes : List ℕ) (now : ℕ) → StepGoes (h ++ Hears (Recorded from bytes now) ∷ []) (record_from from bytes now c)

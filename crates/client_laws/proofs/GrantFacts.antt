@@ -23,7 +23,7 @@ use Rattle.mds_file_calls.specs.LayoutGrants.{granted_mirror_of, mirrors_under, 
 use Rattle.mds_file_calls.specs.FileResults.{put_fh_ok, stateid_of, one_layout, layout_get_ok, layout_get_results, open_results, device_info_results, write_results, read_results, layout_return_results}
 use Rattle.mds_calls.specs.declared.ask.MdsAsk.{MdsAsk}
 use Rattle.mds_calls.specs.declared.ask.MdsAsk.TheVariants as ask
-use Rattle.mds_calls.specs.MdsReplies.{MdsAnswerValue, Granted, Returned, Refused, answer_if, answer_where, results_of_ask, compound_answer, compound_reply, reply_of_ask, odd_mds_reply}
+use Rattle.mds_calls.specs.MdsReplies.{MdsAnswerValue, Client, Granted, Returned, Refused, answer_if, answer_where, results_of_ask, compound_answer, compound_reply, reply_of_ask, odd_mds_reply}
 use Rattle.client_laws.proofs.Stands.{IfThere}
 
 -- ---- a result of one operation
@@ -83,10 +83,11 @@ results_have (s ∷ (p ∷ (l ∷ (k ∷ rest)))) = tt
 
 -- ---- which compound an answer is to
 
--- a layout is granted by a LAYOUTGET alone, and returned by a LAYOUTRETURN
+-- a layout is granted by a LAYOUTGET alone, and returned by a LAYOUTRETURN; a client is made by an EXCHANGE_ID
 abbrev Fits : MdsAsk → MdsAnswerValue → Type 0
 Fits kind (Granted g) = (kind ≡ ask.LayoutGet) × (are_mirrors g.mirrors ≡ true)
 Fits kind Returned = kind ≡ ask.LayoutReturn
+Fits kind (Client clientid sequence) = kind ≡ ask.ExchangeId
 Fits kind answer = Unit {0}
 
 where_fits : {A : Type 0} (kind : MdsAsk) (answer : A → MdsAnswerValue) → ((a : A) → Fits kind (answer a)) → (o : Option A) → Fits kind (answer_where answer o)
@@ -102,7 +103,7 @@ granted_fits None has = tt
 granted_fits (Some g) has = (refl, has)
 
 results_fit : (kind : MdsAsk) (results : List (Value resop4)) → Fits kind (results_of_ask kind results)
-results_fit ask.ExchangeId results = where_fits ask.ExchangeId _ (λ c. tt) (exchange_id_results results)
+results_fit ask.ExchangeId results = where_fits ask.ExchangeId _ (λ c. refl) (exchange_id_results results)
 results_fit ask.CreateSession results = where_fits ask.CreateSession _ (λ c. tt) (create_session_results results)
 results_fit ask.ReclaimComplete results = if_fits ask.ReclaimComplete _ tt (reclaim_complete_results results)
 results_fit ask.Open results = where_fits ask.Open _ (λ c. tt) (open_results results)
@@ -146,3 +147,6 @@ granted_few kind reply g is = few_mirrors g.mirrors (subst (Fits kind) is (reply
 
 pub returned_kind : (kind : MdsAsk) (reply : RpcReply) → (reply_of_ask kind reply).answer ≡ Returned → kind ≡ ask.LayoutReturn
 returned_kind kind reply is = subst (Fits kind) is (reply_fits kind reply)
+
+pub client_kind : (kind : MdsAsk) (reply : RpcReply) (clientid sequence : ℕ) → (reply_of_ask kind reply).answer ≡ Client clientid sequence → kind ≡ ask.ExchangeId
+client_kind kind reply clientid sequence is = subst (Fits kind) is (reply_fits kind reply)

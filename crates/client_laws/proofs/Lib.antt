@@ -1,4 +1,5 @@
 mod CallbackGoes
+mod CallbackSteady
 mod CallsOut
 mod CompoundOut
 mod Counting
@@ -8,6 +9,7 @@ mod Goes
 mod GrantFacts
 mod Held
 mod LayoutMoves
+mod LayoutSteps
 mod Later
 mod MdsGoes
 mod MirrorMoves
@@ -16,6 +18,7 @@ mod Orders
 mod Places
 mod QueueGoes
 mod RecallGoes
+mod RecalledGo
 mod Replied
 mod Runs
 mod Silent
@@ -23,6 +26,7 @@ mod SlotKept
 mod SlotSteps
 mod Splits
 mod Stands
+mod Steady
 mod Tells
 mod TieKept
 mod WriterMoves

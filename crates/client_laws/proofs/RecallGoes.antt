@@ -1,5 +1,5 @@
 -- A recall that is answered OK leaves a layout that is being given back.
-use Rattle.std.proofs.Common.{◌≡◌, ℕ, Bool, true, false, List, [], ◌∷◌, ◌++◌, take, Option, Some, None, Result, Ok, refl, sym, ap, subst, ◌∙◌, inl, inr, arith}
+use Rattle.std.proofs.Common.{◌≡◌, ℕ, Bool, true, false, List, [], ◌∷◌, ◌++◌, take, Option, Some, None, Result, Ok, refl, sym, ap, subst, ◌∙◌, inl, inr, ◌⊎◌, arith}
 use Rattle.std.specs.Prelude.{◌==◌, ◌+◌, ◌*◌, nat_lt, bytes_eq, if◌then◌else◌}
 use Rattle.std.proofs.lemmas.Option.{same_Some}
 use Rattle.std.proofs.lemmas.Bool.{eqb-true}
@@ -9,6 +9,7 @@ use Rattle.ff_xdr.specs.Form.{Value, word}
 use Rattle.rpc_record.specs.declared.call.CallFault.{CallFault}
 use Rattle.rpc_record.specs.Calls.{RpcCall, call_at}
 use Rattle.rpc_record.specs.Replies.{proc_unavail, prog_unavail, prog_mismatch}
+use Rattle.nfs4_types.specs.declared.stateid.Stateid.{Stateid}
 use Rattle.nfs4_types.specs.declared.status.Stat4.{Stat4}
 use Rattle.nfs4_types.specs.declared.status.Stat4.TheVariants as stat
 use Rattle.nfs4_types.specs.Status.{stat4_number}
@@ -55,54 +56,80 @@ ending_is l = record { held = ending l; there = refl; stage = ends_so l }
 not_both : false ≡ true → ⊥
 not_both e = absurd cc
 
+-- the layout of this state is there, and is being given back
+pub record IsRecalled (layout : Option Layout) (state : List ℕ) : Type 0 where
+  pub held : Layout
+  pub there : layout ≡ Some held
+  pub its_state : held.stateid.other ≡ state
+  pub stage : is_writing held.stage ≡ false
+
+pub recalled_ending : (layout : Option Layout) (state : List ℕ) → IsRecalled layout state → IsEnding layout
+recalled_ending layout state r = record { held = r.held; there = r.there; stage = r.stage }
+
+ending_recalled : (l : Layout) (state : List ℕ) → l.stateid.other ≡ state → IsRecalled (Some (ending l)) state
+ending_recalled l state its = record { held = ending l; there = refl; its_state = ap (λ (k : Stateid). k.other) (same_stateid l.stage) ∙ its; stage = ends_so l }
+  where
+    same_stateid : (stage : LayoutStage) → (ends_layout l stage).stateid ≡ l.stateid
+    same_stateid Writing = refl
+    same_stateid Ending = refl
+    same_stateid Deferred = refl
+    same_stateid Returning = refl
+
 -- ---- the operations
 
-recalled_keeps : (layout : Option Layout) (state : Option (List ℕ)) (c : ClientValue) → IsEnding c.layout → IsEnding (recall_of layout state c).client.layout
-recalled_keeps None state c e = e
-recalled_keeps (Some l) state c e = by_test (is_state_of state l.stateid)
+recalled_keeps : (layout : Option Layout) (asked : Option (List ℕ)) (c : ClientValue) (state : List ℕ) → c.layout ≡ layout → IsRecalled c.layout state → IsRecalled (recall_of layout asked c).client.layout state
+recalled_keeps None asked c state at e = e
+recalled_keeps (Some l) asked c state at e = by_test (is_state_of asked l.stateid)
   where
     by_test : (b : Bool)
-        → (let r : Recall = if b then record { status = stat.Ok; client = with_layout c (ending l) } else record { status = stat.NoMatchingLayout; client = c } in IsEnding r.client.layout)
-    by_test true = ending_is l
+        → (let r : Recall = if b then record { status = stat.Ok; client = with_layout c (ending l) } else record { status = stat.NoMatchingLayout; client = c } in IsRecalled r.client.layout state)
+    by_test true = ending_recalled l state (ap (λ (k : Layout). k.stateid.other) (sym (same_Some e.held l (sym e.there ∙ at))) ∙ e.its_state)
     by_test false = e
 
-recalled_so : (layout : Option Layout) (state : Option (List ℕ)) (c : ClientValue) → is_ok (recall_of layout state c).status ≡ true → IsEnding (recall_of layout state c).client.layout
+recalled_so : (layout : Option Layout) (state : List ℕ) (c : ClientValue) → is_ok (recall_of layout (Some state) c).status ≡ true → IsRecalled (recall_of layout (Some state) c).client.layout state
 recalled_so None state c ok = absurd (not_both ok)
-recalled_so (Some l) state c ok = by_test (is_state_of state l.stateid) ok
+recalled_so (Some l) state c ok = by_test (bytes_eq state l.stateid.other) refl ok
   where
-    by_test : (b : Bool)
-        → (let r : Recall = if b then record { status = stat.Ok; client = with_layout c (ending l) } else record { status = stat.NoMatchingLayout; client = c } in is_ok r.status ≡ true → IsEnding r.client.layout)
-    by_test true ok = ending_is l
-    by_test false ok = absurd (not_both ok)
+    by_test : (b : Bool) → bytes_eq state l.stateid.other ≡ b
+        → (let r : Recall = if b then record { status = stat.Ok; client = with_layout c (ending l) } else record { status = stat.NoMatchingLayout; client = c } in is_ok r.status ≡ true → IsRecalled r.client.layout state)
+    by_test true same ok = ending_recalled l state (sym ((bytes_eq-Decides state l.stateid.other).0 same))
+    by_test false same ok = absurd (not_both ok)
 
-step_keeps : (r : Recall) (next : ClientValue → CbJudged) → IsEnding r.client.layout → ((d : ClientValue) → IsEnding d.layout → IsEnding (next d).client.layout) → IsEnding (recall_step r next).client.layout
-step_keeps r next e further = by_test (is_ok r.status)
+step_keeps : (r : Recall) (next : ClientValue → CbJudged) (state : List ℕ) → IsRecalled r.client.layout state → ((d : ClientValue) → IsRecalled d.layout state → IsRecalled (next d).client.layout state) → IsRecalled (recall_step r next).client.layout state
+step_keeps r next state e further = by_test (is_ok r.status)
   where
     by_test : (b : Bool)
-        → (let j : CbJudged = if b then behind_result (cb_recall_result r.status) (next r.client) else leaves (refused_result r.status (cb_recall_result r.status)) r.client in IsEnding j.client.layout)
+        → (let j : CbJudged = if b then behind_result (cb_recall_result r.status) (next r.client) else leaves (refused_result r.status (cb_recall_result r.status)) r.client in IsRecalled j.client.layout state)
     by_test true = further r.client e
     by_test false = e
 
-behind_keeps : (ops : List (Value cb_argop4)) (st : Stop) (c : ClientValue) → IsEnding c.layout → IsEnding (cb_behind ops st c).client.layout
-behind_keeps [] st c e = e
-behind_keeps (inl (kind, (iomode, (changed, recall))) ∷ ops) st c e =
-    step_keeps (recall_of c.layout (recalled_state recall) c) (λ d. cb_behind ops st d) (recalled_keeps c.layout (recalled_state recall) c e) (λ d. behind_keeps ops st d)
-behind_keeps (inr (inl sequence) ∷ ops) st c e = e
-behind_keeps (inr (inr v) ∷ ops) st c e = absurd v
+behind_keeps : (ops : List (Value cb_argop4)) (st : Stop) (c : ClientValue) (state : List ℕ) → IsRecalled c.layout state → IsRecalled (cb_behind ops st c).client.layout state
+behind_keeps [] st c state e = e
+behind_keeps (inl (kind, (iomode, (changed, recall))) ∷ ops) st c state e =
+    step_keeps (recall_of c.layout (recalled_state recall) c) (λ d. cb_behind ops st d) state (recalled_keeps c.layout (recalled_state recall) c state refl e) (λ d. behind_keeps ops st d state)
+behind_keeps (inr (inl sequence) ∷ ops) st c state e = e
+behind_keeps (inr (inr v) ∷ ops) st c state e = absurd v
 
-step_so : (r : Recall) (next : ClientValue → CbJudged) → (is_ok r.status ≡ true → IsEnding r.client.layout) → ((d : ClientValue) → IsEnding d.layout → IsEnding (next d).client.layout) → is_ok (recall_step r next).status ≡ true
-    → IsEnding (recall_step r next).client.layout
-step_so r next so further = by_test (is_ok r.status) refl
+step_so : (r : Recall) (next : ClientValue → CbJudged) (state : List ℕ) → (is_ok r.status ≡ true → is_ok (next r.client).status ≡ true → IsRecalled (next r.client).client.layout state) → is_ok (recall_step r next).status ≡ true
+    → IsRecalled (recall_step r next).client.layout state
+step_so r next state further = by_test (is_ok r.status) refl
   where
     by_test : (b : Bool) → is_ok r.status ≡ b
-        → (let j : CbJudged = if b then behind_result (cb_recall_result r.status) (next r.client) else leaves (refused_result r.status (cb_recall_result r.status)) r.client in is_ok j.status ≡ true → IsEnding j.client.layout)
-    by_test true is ok = further r.client (so is)
+        → (let j : CbJudged = if b then behind_result (cb_recall_result r.status) (next r.client) else leaves (refused_result r.status (cb_recall_result r.status)) r.client in is_ok j.status ≡ true → IsRecalled j.client.layout state)
+    by_test true is ok = further is ok
     by_test false is ok = absurd (not_both (sym is ∙ ok))
 
-behind_so : (ops : List (Value cb_argop4)) (st : Stop) (c : ClientValue) (state : List ℕ) → AsksBack ops state → is_ok (cb_behind ops st c).status ≡ true → IsEnding (cb_behind ops st c).client.layout
+behind_so : (ops : List (Value cb_argop4)) (st : Stop) (c : ClientValue) (state : List ℕ) → AsksBack ops state → is_ok (cb_behind ops st c).status ≡ true → IsRecalled (cb_behind ops st c).client.layout state
 behind_so [] st c state asks ok = absurd asks
 behind_so (inl (kind, (iomode, (changed, recall))) ∷ ops) st c state asks ok =
-    step_so (recall_of c.layout (recalled_state recall) c) (λ d. cb_behind ops st d) (recalled_so c.layout (recalled_state recall) c) (λ d. behind_keeps ops st d) ok
+    step_so (recall_of c.layout (recalled_state recall) c) (λ d. cb_behind ops st d) state (by_asks (λ d later. behind_so ops st d state later) asks) ok
+  where
+    by_asks : ((d : ClientValue) → AsksBack ops state → is_ok (cb_behind ops st d).status ≡ true → IsRecalled (cb_behind ops st d).client.layout state) → (recalled_state recall ≡ Some state) ⊎ AsksBack ops state → is_ok (recall_of c.layout (recalled_state recall) c).status ≡ true → is_ok (cb_behind ops st (recall_of c.layout (recalled_state recall) c).client).status ≡ true
+        → IsRecalled (cb_behind ops st (recall_of c.layout (recalled_state recall) c).client).client.layout state
+    by_asks further (inl its) is more =
+        behind_keeps ops st (recall_of c.layout (recalled_state recall) c).client state
+        (subst (λ (o : Option (List ℕ)). is_ok (recall_of c.layout o c).status ≡ true → IsRecalled (recall_of c.layout o c).client.layout state) (sym its) (recalled_so c.layout state c) is)
+    by_asks further (inr later) is more = further (recall_of c.layout (recalled_state recall) c).client later more
 behind_so (inr (inl sequence) ∷ ops) st c state asks ok = absurd (not_both ok)
 behind_so (inr (inr v) ∷ ops) st c state asks ok = absurd v
 
@@ -127,10 +154,10 @@ again_so slot number status is = by_test (number == slot.last) refl is
     by_test true at is = by_kept slot.kept refl (eqb-true number slot.last at) is
     by_test false at is = absurd (by_next (number == sequence_after slot.last) is)
 
-judged_if : (b : Bool) (x y : CbJudged) → (b ≡ true → is_ok x.status ≡ true → IsEnding x.client.layout) → (is_ok y.status ≡ true → IsEnding y.client.layout)
-    → (let j : CbJudged = if b then x else y in is_ok j.status ≡ true → IsEnding j.client.layout)
-judged_if true x y first second = first refl
-judged_if false x y first second = second
+judged_if : (state : List ℕ) (b : Bool) (x y : CbJudged) → (b ≡ true → is_ok x.status ≡ true → IsRecalled x.client.layout state) → (is_ok y.status ≡ true → IsRecalled y.client.layout state)
+    → (let j : CbJudged = if b then x else y in is_ok j.status ≡ true → IsRecalled j.client.layout state)
+judged_if state true x y first second = first refl
+judged_if state false x y first second = second
 
 module _ (h : List HistoryItem) (c : ClientValue) (slot : SlotStands h c.tie) (state : List ℕ) where
   -- it was not heard before
@@ -138,7 +165,7 @@ module _ (h : List HistoryItem) (c : ClientValue) (slot : SlotStands h c.tie) (s
   IsFirst ops = (session : List ℕ) (number : ℕ) → sequence_of ops ≡ Some (session, number) → HeardCallback h session number → ⊥
 
   begun_so : (s : OwnSession) (number : ℕ) (begin : CbBegin) (ops : List (Value cb_argop4)) (st : Stop) → c.tie ≡ HasSession s → cb_begin s.callbacks number ≡ begin → (HeardCallback h s.id.0 number → ⊥) → AsksBack ops state
-      → is_ok (cb_begun s number begin ops st c).status ≡ true → IsEnding (cb_begun s number begin ops st c).client.layout
+      → is_ok (cb_begun s number begin ops st c).status ≡ true → IsRecalled (cb_begun s number begin ops st c).client.layout state
   begun_so s number New ops st at is first asks ok = behind_so ops st c state asks ok
   begun_so s number (Again status) ops st at is first asks ok =
       let again : IsAgain s.callbacks number status = again_so s.callbacks number status is in
@@ -146,17 +173,17 @@ module _ (h : List HistoryItem) (c : ClientValue) (slot : SlotStands h c.tie) (s
   begun_so s number Misordered ops st at is first asks ok = absurd (not_both ok)
 
   session_so : (tie : Tie) (args : Value cb_sequence4_args) (ops : List (Value cb_argop4)) (st : Stop) → c.tie ≡ tie → IsFirst (inr (inl args) ∷ ops) → AsksBack ops state
-      → is_ok (cb_in_session tie args ops st c).status ≡ true → IsEnding (cb_in_session tie args ops st c).client.layout
+      → is_ok (cb_in_session tie args ops st c).status ≡ true → IsRecalled (cb_in_session tie args ops st c).client.layout state
   session_so (HasSession s) (session, (number, (place, rest))) ops st at first asks =
-      judged_if (bytes_eq session s.id.0) _ (leaves (sequence_refused stat.BadSession) c)
-      (λ same. judged_if (place == 0) (cb_begun s number (cb_begin s.callbacks number) ops st c) (leaves (sequence_refused stat.BadSlot) c)
+      judged_if state (bytes_eq session s.id.0) _ (leaves (sequence_refused stat.BadSession) c)
+      (λ same. judged_if state (place == 0) (cb_begun s number (cb_begin s.callbacks number) ops st c) (leaves (sequence_refused stat.BadSlot) c)
       (λ zero. begun_so s number (cb_begin s.callbacks number) ops st at refl (λ heard. first session number refl (subst (λ k. HeardCallback h k number) (sym ((bytes_eq-Decides session s.id.0).0 same)) heard)) asks)
       (λ ok. absurd (not_both ok)))
       (λ ok. absurd (not_both ok))
   session_so NoClient args ops st at first asks = λ ok. absurd (not_both ok)
   session_so (HasClient clientid sequence) args ops st at first asks = λ ok. absurd (not_both ok)
 
-  first_so : (ops : List (Value cb_argop4)) (st : Stop) → IsFirst ops → AsksBack ops state → is_ok (cb_first ops st c).status ≡ true → IsEnding (cb_first ops st c).client.layout
+  first_so : (ops : List (Value cb_argop4)) (st : Stop) → IsFirst ops → AsksBack ops state → is_ok (cb_first ops st c).status ≡ true → IsRecalled (cb_first ops st c).client.layout state
   first_so [] st first asks ok = absurd asks
   first_so (inl recall ∷ ops) st first asks ok = absurd (not_both ok)
   first_so (inr (inl sequence) ∷ ops) st first asks ok = session_so c.tie sequence ops st refl first asks ok
@@ -177,24 +204,24 @@ no_word : take 4 [] ≡ word 0 → ⊥
 unfolding word first_word
 no_word is = omega (arith, ap first_word is)
 
-answer_if : (b : Bool) (x y : CbAnswer) → (take 4 x.results ≡ word 0 → IsEnding x.client.layout) → (take 4 y.results ≡ word 0 → IsEnding y.client.layout)
-    → (let a : CbAnswer = if b then x else y in take 4 a.results ≡ word 0 → IsEnding a.client.layout)
-answer_if true x y first second = first
-answer_if false x y first second = second
+answer_if : (state : List ℕ) (b : Bool) (x y : CbAnswer) → (take 4 x.results ≡ word 0 → IsRecalled x.client.layout state) → (take 4 y.results ≡ word 0 → IsRecalled y.client.layout state)
+    → (let a : CbAnswer = if b then x else y in take 4 a.results ≡ word 0 → IsRecalled a.client.layout state)
+answer_if state true x y first second = first
+answer_if state false x y first second = second
 
 judged_ok : (tag : List ℕ) (j : CbJudged) → take 4 (cb_results tag j).results ≡ word 0 → is_ok j.status ≡ true
 judged_ok tag j is = ok_status j.status _ is
 
 walked_so : (h : List HistoryItem) (c : ClientValue) (slot : SlotStands h c.tie) (state : List ℕ) (cb : CbCompoundValue) (rest : Option ℕ) → IsFirst h c slot state cb.ops.values → AsksBack cb.ops.values state
-    → take 4 (cb_walked cb rest c).results ≡ word 0 → IsEnding (cb_walked cb rest c).client.layout
+    → take 4 (cb_walked cb rest c).results ≡ word 0 → IsRecalled (cb_walked cb rest c).client.layout state
 walked_so h c slot state cb (Some rest) first asks ok = absurd (no_word ok)
 walked_so h c slot state cb None first asks ok = first_so h c slot state cb.ops.values cb.ops.stop first asks (judged_ok cb.tag (cb_first cb.ops.values cb.ops.stop c) ok)
 
 compound_so : (h : List HistoryItem) (c : ClientValue) (slot : SlotStands h c.tie) (state : List ℕ) (cb : CbCompoundValue) → IsFirst h c slot state cb.ops.values → AsksBack cb.ops.values state
-    → take 4 (cb_compound_answer (Ok cb) c).results ≡ word 0 → IsEnding (cb_compound_answer (Ok cb) c).client.layout
+    → take 4 (cb_compound_answer (Ok cb) c).results ≡ word 0 → IsRecalled (cb_compound_answer (Ok cb) c).client.layout state
 compound_so h c slot state cb first asks =
-    answer_if (cb.minorversion == 1) _ (cb_results cb.tag (leaves (given stat.MinorVersMismatch []) c))
-    (answer_if (nat_lt 16 cb.count) (cb_results cb.tag (leaves (given stat.TooManyOps []) c)) (cb_walked cb (rest_of_stop cb.ops.stop) c)
+    answer_if state (cb.minorversion == 1) _ (cb_results cb.tag (leaves (given stat.MinorVersMismatch []) c))
+    (answer_if state (nat_lt 16 cb.count) (cb_results cb.tag (leaves (given stat.TooManyOps []) c)) (cb_walked cb (rest_of_stop cb.ops.stop) c)
     (λ ok. absurd (not_both (judged_ok cb.tag (leaves (given stat.TooManyOps []) c) ok))) (walked_so h c slot state cb (rest_of_stop cb.ops.stop) first asks))
     (λ ok. absurd (not_both (judged_ok cb.tag (leaves (given stat.MinorVersMismatch []) c) ok)))
 
@@ -203,20 +230,20 @@ null_none [] c ok = no_word ok
 null_none (b ∷ bs) c ok = no_word ok
 
 call_so : (h : List HistoryItem) (c : ClientValue) (slot : SlotStands h c.tie) (state : List ℕ) (call : RpcCall) (cb : CbCompoundValue) → cb_compound_at call.args ≡ Ok cb → IsFirst h c slot state cb.ops.values → AsksBack cb.ops.values state
-    → take 4 (cb_call_answer call c).results ≡ word 0 → IsEnding (cb_call_answer call c).client.layout
+    → take 4 (cb_call_answer call c).results ≡ word 0 → IsRecalled (cb_call_answer call c).client.layout state
 call_so h c slot state call cb compound first asks =
-    answer_if (call.program == 1073741824) _ (cb_refused prog_unavail c)
-    (answer_if (call.version == 1) (cb_procedure_answer call c) (cb_refused (prog_mismatch 1 1) c)
-    (answer_if (call.procedure == 0) (cb_null_answer call.args c) _ (λ ok. absurd (null_none call.args c ok))
-    (answer_if (call.procedure == 1) (cb_compound_answer (cb_compound_at call.args) c) (cb_refused proc_unavail c)
-    (subst (λ (r : Result CbCompoundValue XdrError). take 4 (cb_compound_answer r c).results ≡ word 0 → IsEnding (cb_compound_answer r c).client.layout) (sym compound) (compound_so h c slot state cb first asks)) (λ ok. absurd (no_word ok))))
+    answer_if state (call.program == 1073741824) _ (cb_refused prog_unavail c)
+    (answer_if state (call.version == 1) (cb_procedure_answer call c) (cb_refused (prog_mismatch 1 1) c)
+    (answer_if state (call.procedure == 0) (cb_null_answer call.args c) _ (λ ok. absurd (null_none call.args c ok))
+    (answer_if state (call.procedure == 1) (cb_compound_answer (cb_compound_at call.args) c) (cb_refused proc_unavail c)
+    (subst (λ (r : Result CbCompoundValue XdrError). take 4 (cb_compound_answer r c).results ≡ word 0 → IsRecalled (cb_compound_answer r c).client.layout state) (sym compound) (compound_so h c slot state cb first asks)) (λ ok. absurd (no_word ok))))
     (λ ok. absurd (no_word ok))) (λ ok. absurd (no_word ok))
 
--- A callback that was not heard before and is answered OK, where it asks a layout back, leaves one that is being given back.
+-- A callback that was not heard before and is answered OK, where it asks a layout back, leaves that one, which is being given back.
 pub callback_so : (h : List HistoryItem) (c : ClientValue) (bytes : List ℕ) (k : CbReply) (state session : List ℕ) (number : ℕ) → SlotStands h c.tie → callback_of (call_at bytes) c ≡ Some k → (i : IsCallback bytes session number)
-    → AsksBack i.cb.ops.values state → (HeardCallback h session number → ⊥) → take 4 k.reply.results ≡ word 0 → IsEnding k.client.layout
+    → AsksBack i.cb.ops.values state → (HeardCallback h session number → ⊥) → take 4 k.reply.results ≡ word 0 → IsRecalled k.client.layout state
 callback_so h c bytes k state session number slot is i asks first ok =
-    subst (λ (x : CbReply). take 4 x.reply.results ≡ word 0 → IsEnding x.client.layout) its (call_so h c slot state i.call i.cb i.compound its_first asks) ok
+    subst (λ (x : CbReply). take 4 x.reply.results ≡ word 0 → IsRecalled x.client.layout state) its (call_so h c slot state i.call i.cb i.compound its_first asks) ok
   where
     its : cb_reply i.call.xid (cb_call_answer i.call c) ≡ k
     its = same_Some _ k (ap (λ (r : Result RpcCall CallFault). callback_of r c) (sym i.call_is) ∙ is)

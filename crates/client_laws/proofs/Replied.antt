@@ -27,7 +27,7 @@ use Rattle.client_laws.proofs.Orders.{in_more}
 use Rattle.client_laws.proofs.Later.{numbers_later, all_replied_later, under_later, granted_later, there_later, mirror_later, under_uid_later, every_append, taken_later, not_taken_later, given_later, return_later}
 use Rattle.client_laws.proofs.Splits.{StandsBefore, IsLast, split_last}
 use Rattle.client_laws.proofs.SlotKept.{SlotStands}
-use Rattle.client_laws.proofs.RecallGoes.{IsEnding, ending_is, callback_so}
+use Rattle.client_laws.proofs.RecallGoes.{IsEnding, IsRecalled, ending_is, callback_so}
 use Rattle.client_laws.proofs.Stands.{Stands, LayoutStands, AskFits, AskOut, IfThere, QuietItem, reported_of}
 
 -- ---- the queue leaves a layout that is being given back as it is
@@ -96,9 +96,9 @@ none_heard : (entries : List Entry) → last_heard (entered entries) ≡ None
 none_heard [] = refl
 none_heard (e ∷ entries) = ap (heard_behind (Enters e)) (none_heard entries)
 
-pub heard_last : (h : List HistoryItem) (input : ClientInput) (entries : List Entry) → last_heard (h ++ (Hears input ∷ entered entries)) ≡ Some (record { earlier = h; input = input })
-heard_last [] input entries = ap (heard_behind (Hears input)) (none_heard entries)
-heard_last (x ∷ h) input entries = ap (heard_behind x) (heard_last h input entries)
+pub heard_last : (h : List HistoryItem) (input : ClientInput) (items : List HistoryItem) → last_heard items ≡ None → last_heard (h ++ Hears input ∷ items) ≡ Some (record { earlier = h; input = input })
+heard_last [] input items none = ap (heard_behind (Hears input)) none
+heard_last (x ∷ h) input items none = ap (heard_behind x) (heard_last h input items none)
 
 abbrev bytes_of : ClientInput → List ℕ
 bytes_of (Recorded from bytes now) = bytes
@@ -106,10 +106,10 @@ bytes_of input = []
 
 -- a recall that this reply answers OK was of this record
 pub replied_so : (h : List HistoryItem) (c : ClientValue) (bytes : List ℕ) (now : ℕ) (k : CbReply) (entries : List Entry) (state : List ℕ) → SlotStands h c.tie → callback_of (call_at bytes) c ≡ Some k
-    → WasRecalled ((h ++ Hears (Recorded Mds bytes now) ∷ []) ++ entered entries) k.reply state → IsEnding k.client.layout
+    → WasRecalled ((h ++ Hears (Recorded Mds bytes now) ∷ []) ++ entered entries) k.reply state → IsRecalled k.client.layout state
 replied_so h c bytes now k entries state slot is r =
     let same : ◌≡◌ {A = LastHeard} (record { earlier = h; input = Recorded Mds bytes now }) (record { earlier = r.earlier; input = Recorded Mds r.bytes r.now }) =
-    same_Some _ _ (sym (ap last_heard (append_assoc h (Hears (Recorded Mds bytes now) ∷ []) (entered entries)) ∙ heard_last h (Recorded Mds bytes now) entries) ∙ r.last) in
+    same_Some _ _ (sym (ap last_heard (append_assoc h (Hears (Recorded Mds bytes now) ∷ []) (entered entries)) ∙ heard_last h (Recorded Mds bytes now) (entered entries) (none_heard entries)) ∙ r.last) in
     let its_bytes : bytes ≡ r.bytes = ap (λ (x : LastHeard). bytes_of x.input) same in
     callback_so h c r.bytes k state r.session r.number slot (subst (λ b. callback_of (call_at b) c ≡ Some k) its_bytes is) r.callback r.asks
     (λ heard. r.new heard.bytes heard.now (subst (λ e. HasItem e (Hears (Recorded Mds heard.bytes heard.now))) (ap (λ (x : LastHeard). x.earlier) same) heard.there) heard.callback) r.ok
@@ -120,7 +120,7 @@ abbrev reply_of : HistoryItem → RpcReply → RpcReply
 reply_of (Sends (RepliesToMds reply)) other = reply
 reply_of item other = other
 
-same_reply : (a b : RpcReply) → Sends (RepliesToMds a) ≡ Sends (RepliesToMds b) → a ≡ b
+pub same_reply : (a b : RpcReply) → Sends (RepliesToMds a) ≡ Sends (RepliesToMds b) → a ≡ b
 same_reply a b is = ap (λ i. reply_of i a) is
 
 module _ (h : List HistoryItem) (reply : RpcReply) where

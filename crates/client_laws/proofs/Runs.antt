@@ -13,7 +13,7 @@ use Rattle.client_laws.proofs.Goes.{IsRight, StepGoes}
 use Rattle.client_laws.proofs.Events.{input_goes}
 use Rattle.client_laws.proofs.Stands.{Stands}
 
-fresh_stands : (number verifier first_xid : ℕ) → Stands [] (fresh_client number verifier first_xid)
+pub fresh_stands : (number verifier first_xid : ℕ) → Stands [] (fresh_client number verifier first_xid)
 fresh_stands number verifier first_xid = record {
   numbers = record { below = λ s xid i is some. absurd i; once = λ s t xid i j is same. absurd i };
   replied = λ xid caller call i. absurd i;
@@ -24,6 +24,9 @@ fresh_stands number verifier first_xid = record {
   gets_again = λ is. refl;
   returns_again = λ is. tt;
 }
+
+pub fresh_slot : (number verifier first_xid : ℕ) → SlotStands [] (fresh_client number verifier first_xid).tie
+fresh_slot number verifier first_xid k status is kept = absurd (none-some k is)
 
 run_goes : (inputs : List ClientInput) (h : List HistoryItem) (c : ClientValue) → Stands h c → SlotStands h c.tie → Each IsRight h (client_history c inputs)
 run_goes [] h c s slot = tt
@@ -40,7 +43,7 @@ run_goes (input ∷ inputs) h c s slot =
 
 module _ (P : List HistoryItem → HistoryItem → Type 0) (one : (past : List HistoryItem) (item : HistoryItem) → IsRight past item → P past item) where
   in_each : InEachRun P
-  in_each number verifier first_xid inputs = each_weaker IsRight P one [] (client_history (fresh_client number verifier first_xid) inputs) (run_goes inputs [] (fresh_client number verifier first_xid) (fresh_stands number verifier first_xid) (λ k status is kept. absurd (none-some k is)))
+  in_each number verifier first_xid inputs = each_weaker IsRight P one [] (client_history (fresh_client number verifier first_xid) inputs) (run_goes inputs [] (fresh_client number verifier first_xid) (fresh_stands number verifier first_xid) (fresh_slot number verifier first_xid))
 
 pub alone : InEachRun SendsAlone
 alone = in_each SendsAlone (λ past item is. is.0)

@@ -45,7 +45,7 @@ use Rattle.client_state.specs.ClientSends.{ClientStep, sends_none}
 use Rattle.client_calls.specs.ClientCalls.{asks, may_ask, ends_event}
 use Rattle.client_answers.specs.ClientMirrors.{is_commit, has_writer, late_out, ds_timed_out_by, ds_answered}
 use Rattle.client_answers.specs.ClientAnswers.{moved_tie, completed_tie, next_on_slot, learns_devices, layout_returned, head_refused, has_session, defers, after_refusal, refused_otherwise, is_for_later, asks_later, session_lost, refused_by_mds, by_answer, without_asked, mds_answered}
-use Rattle.client_callbacks.specs.Callbacks.{CbJudged, CbAnswer, CbReply, cb_behind, cb_begun, cb_in_session, cb_first, cb_walked, cb_compound_answer, cb_null_answer, cb_procedure_answer, cb_call_answer, cb_results, cb_refused, callback_of, leaves, sequence_refused, given, recall_status, kept_of_recall}
+use Rattle.client_callbacks.specs.Callbacks.{CbJudged, CbAnswer, CbReply, cb_begun, cb_in_session, cb_first, cb_walked, cb_compound_answer, cb_null_answer, cb_procedure_answer, cb_call_answer, cb_results, cb_refused, callback_of, leaves, sequence_refused, given, recall_status, kept_of_recall}
 use Rattle.mirror_client.specs.ClientRule.{unless_left, mds_replied, found_reply, found_call, record_from, mds_timed_out, timed_out_to, client_at_tick, resends_late, is_stale_tie, renews, ticks_on, with_request, rogue_write, mirror_of_place, strays}
 use Rattle.client_laws.specs.ClientHistory.{ClientInput, Requested, Recorded, TimeoutOf, Ticked, LeftProtocol, Strayed, input_step, HistoryItem, Hears}
 use Rattle.client_laws.specs.RecallLaws.{sequence_of}

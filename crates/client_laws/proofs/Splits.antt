@@ -2,11 +2,11 @@
 use Rattle.std.proofs.Common.{◌≡◌, List, [], ◌∷◌, ◌++◌, refl, sym, ap, subst, ◌∙◌, inl, inr, ◌⊎◌}
 use Rattle.client_laws.specs.ClientHistory.{HistoryItem, HasItem}
 
-abbrev tail_of : List HistoryItem → List HistoryItem
+abbrev pub tail_of : List HistoryItem → List HistoryItem
 tail_of [] = []
 tail_of (x ∷ xs) = xs
 
-abbrev head_of : HistoryItem → List HistoryItem → HistoryItem
+abbrev pub head_of : HistoryItem → List HistoryItem → HistoryItem
 head_of other [] = other
 head_of other (x ∷ xs) = x
 
@@ -15,7 +15,7 @@ pub record StandsBefore (xs items : List HistoryItem) (r : HistoryItem) : Type 0
   pub behind : List HistoryItem
   pub split : xs ≡ items ++ r ∷ behind
 
-there : (a b : List HistoryItem) (r : HistoryItem) → HasItem (a ++ r ∷ b) r
+pub there : (a b : List HistoryItem) (r : HistoryItem) → HasItem (a ++ r ∷ b) r
 there [] b r = inl (refl, tt)
 there (x ∷ a) b r = inr (there a b r)
 
@@ -48,3 +48,24 @@ split_last [] [] behind r last is = inr (record { items_are = refl; last_is = sy
 split_last [] (y ∷ items) behind r last is = absurd (not_empty items behind r (ap tail_of is))
 split_last (x ∷ xs) [] behind r last is = inl (at_head x xs (last ∷ []) behind r is)
 split_last (x ∷ xs) (y ∷ items) behind r last is = further_last x y xs items r last (ap (head_of x) is) (split_last xs items behind r last (ap tail_of is))
+
+-- it stands in the first part of a list, with what is left of that part behind it
+pub record IsIn (xs more items behind : List HistoryItem) (r : HistoryItem) : Type 0 where
+  pub left : List HistoryItem
+  pub split : xs ≡ items ++ r ∷ left
+  pub rest : behind ≡ left ++ more
+
+-- or in the second, behind the whole first part
+pub record IsBehind (xs more items behind : List HistoryItem) (r : HistoryItem) : Type 0 where
+  pub mid : List HistoryItem
+  pub items_are : items ≡ xs ++ mid
+  pub split : more ≡ mid ++ r ∷ behind
+
+further_in : (x y : HistoryItem) (xs more items behind : List HistoryItem) (r : HistoryItem) → x ≡ y → IsIn xs more items behind r ⊎ IsBehind xs more items behind r → IsIn (x ∷ xs) more (y ∷ items) behind r ⊎ IsBehind (x ∷ xs) more (y ∷ items) behind r
+further_in x y xs more items behind r same (inl i) = inl (record { left = i.left; split = ap (λ k. k ∷ xs) same ∙ ap (λ l. y ∷ l) i.split; rest = i.rest })
+further_in x y xs more items behind r same (inr b) = inr (record { mid = b.mid; items_are = ap (λ k. k ∷ items) (sym same) ∙ ap (λ l. x ∷ l) b.items_are; split = b.split })
+
+pub split_either : (xs more items behind : List HistoryItem) (r : HistoryItem) → xs ++ more ≡ items ++ r ∷ behind → IsIn xs more items behind r ⊎ IsBehind xs more items behind r
+split_either [] more items behind r is = inr (record { mid = items; items_are = refl; split = is })
+split_either (x ∷ xs) more [] behind r is = inl (record { left = xs; split = ap (λ k. k ∷ xs) (ap (head_of x) is); rest = sym (ap tail_of is) })
+split_either (x ∷ xs) more (y ∷ items) behind r is = further_in x y xs more items behind r (ap (head_of x) is) (split_either xs more items behind r (ap tail_of is))

@@ -2,7 +2,7 @@
 #![tactic(auto)]
 
 ghost use Rattle.client_laws.specs.ClientRunLaws.{InEachRun, SendsAlone, TellsCommitted, ReturnsCommitted, KeepsSilent, WritesApart};
-ghost use Rattle.client_laws.specs.RecallLaws.{KeepsRecalled};
+ghost use Rattle.client_laws.specs.RecallLaws.{KeepsRecalled, RecalledGoes};
 
 /// In every run of a client, whatever bytes come to it:
 ///
@@ -12,7 +12,10 @@ ghost use Rattle.client_laws.specs.RecallLaws.{KeepsRecalled};
 ///   sent and accepted that reported each of the other mirrors, where the write was covered at the rest when it was sent
 ///   (RFC 1813, section 3.3.21; RFC 8435, section 5);
 /// - a LAYOUTRETURN goes out only where its layout was granted and not taken away since, and each write that was taken
-///   under it is so covered at each mirror that it does not report (RFC 8435, sections 6 and 9).
+///   under it is so covered at each mirror that it does not report (RFC 8435, sections 6 and 9);
+/// - once a recall of a layout was answered OK, under a session and a number that no callback had before, at every later
+///   moment a LAYOUTRETURN of it was sent, or the user was answered since that it was taken away, or the client has it
+///   still and takes no write under it (RFC 8881, sections 12.5.5 and 20.3).
 ///
 /// And where no two LAYOUTGETs were granted one uid (RFC 8435, section 2.2):
 ///
@@ -29,4 +32,5 @@ pub fn client_run_law()
     ensures silent { InEachRun KeepsSilent }
     ensures once { InEachRun WritesApart }
     ensures recalled { InEachRun KeepsRecalled }
+    ensures goes { RecalledGoes }
 {}
