@@ -1,0 +1,13 @@
+pub mod Orders
+pub mod Stateids
+pub mod PutFh
+pub mod Lookup
+pub mod Opens
+pub mod Close
+pub mod Commit
+pub mod Reads
+pub mod Writes
+pub mod LayoutGets
+pub mod LayoutReturns
+pub mod LayoutCommit
+pub mod GetDeviceInfo

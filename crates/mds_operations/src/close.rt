@@ -1,0 +1,22 @@
+//! CLOSE: an open ends (RFC 8881, section 18.2).
+
+ghost use Rattle.mds_operations.specs.Orders.{Takes, file_of};
+ghost use Rattle.mds_operations.specs.Close.{close_order};
+
+use crate::{Named, Object};
+use cluster_model::FileId;
+use nfs4_types::Stat4;
+
+/// The file whose open ends, where the stateid names this at it.
+///
+/// # Errors
+/// NOFILEHANDLE, BAD_STATEID where the stateid does not name the client's open of the file, in this order.
+pub fn try_close(current: Option<Object>, named: Named) -> Result<FileId, Stat4>
+    ensures { Takes (close_order current named) (file_of current) result }
+{
+    match (current, named) {
+        (None, _) => Err(Stat4::NoFileHandle),
+        (Some(Object::File(file)), Named::Open) => Ok(file),
+        _ => Err(Stat4::BadStateid),
+    }
+}

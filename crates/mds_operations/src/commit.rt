@@ -1,0 +1,22 @@
+//! COMMIT: what was written is to be on stable storage (RFC 8881, section 18.3).
+
+ghost use Rattle.mds_operations.specs.Orders.{Takes, file_of};
+ghost use Rattle.mds_operations.specs.Commit.{commit_order};
+
+use crate::Object;
+use cluster_model::FileId;
+use nfs4_types::Stat4;
+
+/// The file. Each WRITE was stable when it was answered, so nothing is left to do.
+///
+/// # Errors
+/// NOFILEHANDLE, ISDIR at the root, in this order.
+pub fn try_commit(current: Option<Object>) -> Result<FileId, Stat4>
+    ensures { Takes (commit_order current) (file_of current) result }
+{
+    match current {
+        None => Err(Stat4::NoFileHandle),
+        Some(Object::Root) => Err(Stat4::IsDir),
+        Some(Object::File(file)) => Ok(file),
+    }
+}
