@@ -2,6 +2,7 @@
 
 use part_calls::{DevicesRows, DsCallsRows, FramesRows, MdsCallsRows};
 use part_entries::EntryRows;
+use part_mds::OperationRows;
 use part_messages::MessageRows;
 use part_nodes::{ClientRows, DataFileRows, ServerRows};
 use part_runs::{ConfigRows, LineRows, RunRows};
@@ -68,6 +69,7 @@ fn on_messages<V: Player>(alloc: Global, kind: &str, player: &mut V) -> Played {
         "frames" => on(player, FramesRows::new(alloc)),
         "mdscalls" => on(player, MdsCallsRows),
         "message" => on(player, MessageRows),
+        "operations" => on(player, OperationRows),
         _ => None,
     }
 }
