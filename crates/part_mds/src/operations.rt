@@ -15,6 +15,7 @@ use mds_operations::{
 use row_words::{Answer, Part, RowFault, Words};
 
 /// Operations, each by itself.
+#[derive(Drop)]
 pub struct OperationRows;
 
 /// Whether an OPEN makes its file.
