@@ -1,0 +1,6 @@
+//! What clients have open at the metadata server, and the stateids of it (RFC 8881, sections 8.2, 18.2 and 18.16).
+#![tactic(auto)]
+
+mod open;
+
+pub use open::{MAX_OPENS, Open, OpenFault};

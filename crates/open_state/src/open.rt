@@ -1,0 +1,34 @@
+//! One open.
+
+use cluster_model::FileId;
+use ff_xdr::NoMemory;
+use thiserror::Error;
+
+/// The most files that a client has open at a time.
+pub const MAX_OPENS: usize = 64;
+
+/// The last number of an open, and the last seqid of a stateid.
+pub const LAST_NUMBER: u32 = 4_294_967_295;
+
+/// A file that a client has open (RFC 8881, sections 8.2.1 and 18.16).
+#[derive(Clone, Copy, Debug, PartialEq, Eq)]
+pub struct Open {
+    pub file: FileId,
+    /// Of all the server's opens, from 1; none is given twice.
+    pub number: u32,
+    /// That of its stateid as it was given last: 1 at first, and 1 again behind 4,294,967,295 (section 8.2.2).
+    pub seqid: u32,
+}
+
+/// Why a file is not opened. Nothing has changed then.
+#[derive(Clone, Copy, Debug, PartialEq, Eq, Error)]
+pub enum OpenFault {
+    /// The client has `MAX_OPENS` others open.
+    #[error("the client has too many files open")]
+    TooMany,
+    /// The server has given the last number.
+    #[error("the numbers of opens are spent")]
+    Spent,
+    #[error(transparent)]
+    NoMemory(#[from] NoMemory),
+}
