@@ -1,0 +1,4 @@
+mod OfClients
+mod Values
+mod Finds
+mod Came

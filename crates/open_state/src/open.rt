@@ -1,7 +1,11 @@
 //! One open.
 
+ghost use Rattle.std.specs.Prelude.{◌≡◌};
+ghost use Rattle.open_state.specs.Opens.{again, next_seqid, stateid_of, is_named_by};
+
 use cluster_model::FileId;
 use ff_xdr::NoMemory;
+use nfs4_types::{Stateid, open_stateid};
 use thiserror::Error;
 
 /// The most files that a client has open at a time.
@@ -18,6 +22,42 @@ pub struct Open {
     pub number: u32,
     /// That of its stateid as it was given last: 1 at first, and 1 again behind 4,294,967,295 (section 8.2.2).
     pub seqid: u32,
+}
+
+impl Open {
+    /// Its stateid: which state it is are the file, 0, and the number (section 8.2.2).
+    pub fn stateid(self) -> Stateid
+        ensures { result ≡ stateid_of self }
+    {
+        Stateid {
+            seqid: self.seqid,
+            ..open_stateid(self.file.0, self.number)
+        }
+    }
+
+    /// A stateid names this open, whatever its seqid is.
+    pub fn is_named_by(self, stateid: Stateid) -> bool
+        ensures { result ≡ is_named_by stateid self }
+    {
+        stateid.other == open_stateid(self.file.0, self.number).other
+    }
+
+    /// The same with its next seqid.
+    pub(crate) fn again(self) -> Open
+        ensures { result ≡ again self }
+    {
+        Open {
+            seqid: next_seqid(self.seqid),
+            ..self
+        }
+    }
+}
+
+/// The seqid behind one: 1 again behind the last (section 8.2.2).
+fn next_seqid(seqid: u32) -> u32
+    ensures { result ≡ next_seqid seqid }
+{
+    if seqid == LAST_NUMBER { 1 } else { seqid + 1 }
 }
 
 /// Why a file is not opened. Nothing has changed then.
