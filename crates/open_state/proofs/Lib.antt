@@ -2,3 +2,5 @@ mod OfClients
 mod Values
 mod Finds
 mod Came
+mod Notes
+mod Runs

@@ -1,11 +1,11 @@
 -- The lists of all clients, by what a map of them says.
-use Rattle.std.proofs.Common.{◌≡◌, ◌⊎◌, inl, inr, ℕ, ◌+◌, ◌<◌, Bool, true, false, cond, eqb, nat_eq, List, [], ◌∷◌, ◌++◌, length, map, take, drop, set, get_or, Option, Some, None, refl, sym, ap, ◌∙◌, arith}
+use Rattle.std.proofs.Common.{◌≡◌, ℕ, ◌+◌, ◌<◌, Bool, true, false, cond, eqb, nat_eq, List, [], ◌∷◌, ◌++◌, length, map, take, drop, set, get_or, Option, Some, None, refl, sym, ap, ◌∙◌, arith}
 use Rattle.std.specs.Map.{lookup, set_value}
 use Rattle.std.specs.Option.{unwrap_or}
-use Rattle.std.proofs.lemmas.Bool.{eq-eqb, ne_eqb, eqb-true, eqb-false, cases_Bool, both_ways, cond-true, cond-false}
+use Rattle.std.proofs.lemmas.Bool.{eq-eqb, ne_eqb, eqb-true, eqb-false, cond-true, cond-false}
 use Rattle.std.proofs.lemmas.List.{get_or_default}
 use Rattle.std.proofs.lemmas.List.Edits.{map_over_more}
-use Rattle.std.proofs.lemmas.Option.{same_Some, none-some}
+use Rattle.std.proofs.lemmas.Option.{same_Some}
 use Rattle.open_state.specs.declared.open.Open.{Open}
 use Rattle.open_state.specs.Opens.{opens_in}
 use Rattle.open_state.specs.Calls.{Becomes}
@@ -41,9 +41,9 @@ pub becomes : (old new : List (ℕ × List Open)) (client : ℕ) (opens : List O
 becomes old new client opens now updates is = record {
   its = found new client ∙ ap (λ o. unwrap_or o []) (updates client ∙ cond-true (eqb client client) now (lookup (nat_eq client) old) (eq-eqb client client refl)) ∙ is;
   others = λ other apart.
-    found new other
-    ∙ ap (λ o. unwrap_or o []) (updates other ∙ cond-false (eqb client other) now (lookup (nat_eq other) old) (turned client other ∙ apart))
-    ∙ sym (found old other);
+      found new other
+      ∙ ap (λ o. unwrap_or o []) (updates other ∙ cond-false (eqb client other) now (lookup (nat_eq other) old) (turned client other ∙ apart))
+      ∙ sym (found old other);
 }
 
 -- what is written over the same changes nothing

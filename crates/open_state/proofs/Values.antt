@@ -1,5 +1,5 @@
 -- What the calls owe, by what was done to the lists of all clients.
-use Rattle.std.proofs.Common.{◌≡◌, ℕ, ◌+◌, ◌<◌, ◌≤◌, Bool, true, false, not, cond, eqb, nat_lt, List, [], ◌∷◌, ◌++◌, length, map, filter, Option, Some, None, Ok, Err, refl, sym, ap, subst, ◌∙◌}
+use Rattle.std.proofs.Common.{◌≡◌, ℕ, ◌+◌, ◌<◌, ◌≤◌, Bool, true, false, not, cond, eqb, List, [], ◌∷◌, ◌++◌, length, map, filter, Some, None, Ok, Err, refl, sym, ap, subst, ◌∙◌}
 use Rattle.std.specs.Prelude.{find}
 use Rattle.std.specs.Option.{option_map}
 use Rattle.std.proofs.lemmas.Bool.{lt-ltb, le-ltb, eq-eqb, ne_eqb}
@@ -8,7 +8,7 @@ use Rattle.cluster_model.specs.declared.ids.FileId.{FileId}
 use Rattle.ff_xdr.specs.declared.error.NoMemory.{NoMemory as Wanted}
 use Rattle.open_state.specs.declared.open.Open.{Open}
 use Rattle.open_state.specs.declared.open.OpenFault.TheVariants.{TooMany, Spent, NoMemory}
-use Rattle.open_state.specs.Opens.{OpensValue, opens_of, open_of, is_of, again, in_place, fault_at, open_fault, given, opens_with, last_with, HasOpens, Opens, Gives, Refuses, Wants, Closes, EndsClient}
+use Rattle.open_state.specs.Opens.{OpensValue, opens_of, open_of, is_of, again, in_place, fault_at, open_fault, given, opens_with, last_with, HasOpens, Opens, Gives, Wants, Closes}
 use Rattle.open_state.specs.Calls.{Becomes, is_other}
 
 pub has_opens : (old new : OpensValue) (client : ℕ) (opens : List Open) → Becomes old.clients client opens new.clients → HasOpens old client opens new

@@ -1,5 +1,5 @@
 -- What clients have open: OPEN, CLOSE, and a client's end (RFC 8881, sections 8.2, 18.2 and 18.16).
-use Rattle.std.specs.Prelude.{◌≡◌, ℕ, ◌+◌, Bool, true, false, not, ◌==◌, List, [], ◌∷◌, ◌++◌, length, filter, find, map, Option, Some, None, Result, Ok, Err, nat_lt, if◌then◌else◌, bytes_eq}
+use Rattle.std.specs.Prelude.{◌≡◌, ℕ, ◌+◌, Bool, false, not, ◌==◌, List, [], ◌∷◌, ◌++◌, length, filter, find, map, Option, Some, None, Result, Ok, Err, nat_lt, if◌then◌else◌, bytes_eq}
 use Rattle.std.specs.Option.{option_map}
 use Rattle.cluster_model.specs.declared.ids.FileId.{FileId}
 use Rattle.nfs4_types.specs.declared.stateid.Stateid.{Stateid}

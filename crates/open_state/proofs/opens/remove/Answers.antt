@@ -1,7 +1,7 @@
-use Rattle.std.proofs.Common.{◌≡◌, [], filter, Some, refl, sym, ap, ◌∙◌}
+use Rattle.std.proofs.Common.{filter, Some, refl, sym, ap, ◌∙◌}
 use Rattle.std.specs.Prelude.{is_some}
 use Rattle.open_state.specs.Calls.{is_other}
-use Rattle.open_state.proofs.OfClients.{found_some, found_none, becomes, none_becomes}
+use Rattle.open_state.proofs.OfClients.{found_some, becomes, none_becomes}
 use Rattle.open_state.proofs.opens.remove.Goals as goal
 
 pub returns-in-Some : goal.returns-in-Some

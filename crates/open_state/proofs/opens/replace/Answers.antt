@@ -1,7 +1,7 @@
-use Rattle.std.proofs.Common.{◌≡◌, [], map, Some, refl, sym, ap, ◌∙◌}
+use Rattle.std.proofs.Common.{map, Some, refl, sym, ap, ◌∙◌}
 use Rattle.std.specs.Prelude.{is_some}
 use Rattle.open_state.specs.Opens.{in_place}
-use Rattle.open_state.proofs.OfClients.{found_some, found_none, becomes, none_becomes}
+use Rattle.open_state.proofs.OfClients.{found_some, becomes, none_becomes}
 use Rattle.open_state.proofs.opens.replace.Goals as goal
 
 pub returns-in-Some : goal.returns-in-Some

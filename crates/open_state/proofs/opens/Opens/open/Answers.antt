@@ -1,5 +1,5 @@
-use Rattle.std.proofs.Common.{refl, sym, subst, ◌∙◌, arith, ◌≤◌, ◌<◌, length}
-use Rattle.open_state.specs.Opens.{Opens, opens_in, Refuses}
+use Rattle.std.proofs.Common.{refl, sym, ◌∙◌, arith, ◌≤◌, ◌<◌, length}
+use Rattle.open_state.specs.Opens.{opens_in, Refuses}
 use Rattle.open_state.specs.declared.open.OpenFault.TheVariants.{TooMany, Spent}
 use Rattle.open_state.proofs.Values.{opened_again, opened_new, too_many, spent, wanted}
 use Rattle.open_state.proofs.opens.Opens.open.Goals as goal
