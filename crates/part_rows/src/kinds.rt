@@ -7,7 +7,7 @@ use part_nodes::{ClientRows, DataFileRows, ServerRows};
 use part_runs::{ConfigRows, LineRows, RunRows};
 use part_state::{
     CbSlotRows, CopyRows, ExtentsRows, FenceRows, FileStateRows, MdsReadRows, MdsWriteRows,
-    MirrorsRows, RecallRows, SessionsRows, WriterRows,
+    MirrorsRows, OpensRows, RecallRows, SessionsRows, WriterRows,
 };
 use row_words::{Part, RowFault};
 use std::alloc::Global;
@@ -39,6 +39,7 @@ fn on_state<V: Player>(alloc: Global, kind: &str, player: &mut V) -> Played {
         "mdsread" => on(player, MdsReadRows::new()),
         "mdswrite" => on(player, MdsWriteRows::new()),
         "mirrors" => on(player, MirrorsRows::new()),
+        "opens" => on(player, OpensRows::new()),
         "recalls" => on(player, RecallRows::new()),
         "sessions" => on(player, SessionsRows::new(alloc)),
         "writer" => on(player, WriterRows::new()),

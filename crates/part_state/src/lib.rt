@@ -1,5 +1,5 @@
 //! The parts of a metadata server and of a client that keep states, as rows play them: files' states, fences, writers,
-//! places, recalls, copies, sessions, the slot of callbacks, and the metadata server's own reads and writes.
+//! places, recalls, opens, copies, sessions, the slot of callbacks, and the metadata server's own reads and writes.
 #![tactic(auto)]
 
 mod cb_slot;
@@ -10,6 +10,7 @@ mod file_state;
 mod mds_read;
 mod mds_write;
 mod mirrors;
+mod opens;
 mod recalls;
 mod report;
 mod sessions;
@@ -24,6 +25,7 @@ pub use file_state::FileStateRows;
 pub use mds_read::MdsReadRows;
 pub use mds_write::MdsWriteRows;
 pub use mirrors::MirrorsRows;
+pub use opens::OpensRows;
 pub use recalls::RecallRows;
 pub use sessions::SessionsRows;
 pub use writer::WriterRows;
