@@ -1,8 +1,10 @@
-//! The parts of the metadata server that stand on messages, as rows play them.
+//! What clients have open, and the operations on files, as rows play them.
 #![tactic(auto)]
 
 mod layouts;
+mod opens;
 mod operations;
 mod said;
 
+pub use opens::OpensRows;
 pub use operations::OperationRows;

@@ -1,6 +1,6 @@
 //! The metadata server's operations, each told what it finds: `put_fh HEX FILES`, `current OBJECT`, `lookup OBJECT NAME FOUND`,
 //! `open OBJECT NAME ACCESS HOW FOUND OPENS MAKES`, `close OBJECT NAMED`, `read OBJECT NAMED COUNT KEPT PHASE`,
-//! `write OBJECT NAMED OFFSET LENGTH PHASE UIDS`, `commit OBJECT`, `state_named SEQID OTHER FILE NUMBER UID`, and those on
+//! `write OBJECT NAMED OFFSET LENGTH PHASE UIDS`, `commit OBJECT`, `state_named STATEID FILE NUMBER UID`, and those on
 //! layouts and devices. An OBJECT is `-`, `root` or a file.
 
 use crate::layouts::put_layout_call;

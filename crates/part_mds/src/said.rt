@@ -34,11 +34,25 @@ pub fn named(words: &mut Words<'_>) -> Result<Named, RowFault> {
     }
 }
 
-/// A stateid, as its seqid and its twelve bytes.
+/// A stateid, as 32 digits, those of its seqid first.
 pub fn stateid(words: &mut Words<'_>) -> Result<Stateid, RowFault> {
-    let seqid = words.number32()?;
-    let other = words.sized::<12>()?;
-    Ok(Stateid { seqid, other })
+    let bytes = words.sized::<16>()?;
+    let mut seqid = [0; 4];
+    seqid[..].copy_from_slice(&bytes[..4]);
+    let mut other = [0; 12];
+    other[..].copy_from_slice(&bytes[4..]);
+    Ok(Stateid {
+        seqid: u32::from_be_bytes(seqid),
+        other,
+    })
+}
+
+/// The same in an answer.
+pub fn put_stateid(stateid: Stateid, answer: &mut Answer) -> Result<(), RowFault> {
+    let mut bytes = [0; 16];
+    bytes[..4].copy_from_slice(&stateid.seqid.to_be_bytes());
+    bytes[4..].copy_from_slice(&stateid.other);
+    answer.bytes(&bytes)
 }
 
 /// A uid, or `-`.

@@ -2,7 +2,7 @@
 
 use part_calls::{DevicesRows, DsCallsRows, FramesRows, MdsCallsRows};
 use part_entries::EntryRows;
-use part_mds::OperationRows;
+use part_mds::{OpensRows, OperationRows};
 use part_messages::MessageRows;
 use part_nodes::{ClientRows, DataFileRows, ServerRows};
 use part_runs::{ConfigRows, LineRows, RunRows};
@@ -40,6 +40,7 @@ fn on_state<V: Player>(alloc: Global, kind: &str, player: &mut V) -> Played {
         "mdsread" => on(player, MdsReadRows::new()),
         "mdswrite" => on(player, MdsWriteRows::new()),
         "mirrors" => on(player, MirrorsRows::new()),
+        "opens" => on(player, OpensRows::new()),
         "recalls" => on(player, RecallRows::new()),
         "sessions" => on(player, SessionsRows::new(alloc)),
         "writer" => on(player, WriterRows::new()),

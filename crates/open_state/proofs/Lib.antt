@@ -1,0 +1,6 @@
+mod OfClients
+mod Values
+mod Finds
+mod Came
+mod Notes
+mod Runs
