@@ -1,5 +1,6 @@
 pub mod Orders
 pub mod Stateids
+pub mod Attributes
 pub mod PutFh
 pub mod Lookup
 pub mod Opens

@@ -2,6 +2,7 @@
 //! Each function is told what the operation finds, and answers what it is done to.
 #![tactic(auto)]
 
+mod attributes;
 mod close;
 mod commit;
 mod get_device_info;
@@ -16,6 +17,9 @@ mod put_fh;
 mod read;
 mod write;
 
+pub use attributes::{
+    AskedAttributes, Attributes, DIRECTORY, FIRST_WORD, LEASE_TIME, REGULAR, SECOND_WORD,
+};
 pub use close::try_close;
 pub use commit::try_commit;
 pub use get_device_info::{DeviceInfo, try_get_device_info};

@@ -1,6 +1,6 @@
 //! The metadata server's operations, each told what it finds: `put_fh HEX FILES`, `current OBJECT`, `lookup OBJECT NAME FOUND`,
 //! `open OBJECT NAME ACCESS HOW FOUND OPENS MAKES`, `close OBJECT NAMED`, `read OBJECT NAMED COUNT KEPT PHASE`,
-//! `write OBJECT NAMED OFFSET LENGTH PHASE UIDS`, `commit OBJECT`, `state_named STATEID FILE NUMBER UID`, and those on
+//! `write OBJECT NAMED OFFSET LENGTH PHASE UIDS`, `commit OBJECT`, `getattr OBJECT CHANGE SIZE WORD WORD`, `state_named STATEID FILE NUMBER UID`, and those on
 //! layouts and devices. An OBJECT is `-`, `root` or a file.
 
 use crate::layouts::put_layout_call;
@@ -8,9 +8,10 @@ use crate::said::{
     current, file, named, phase, put_file, put_named, put_object, put_refusal, stateid, uid,
 };
 use cluster_model::FileId;
+use ff_xdr::Out;
 use mds_operations::{
-    Creation, OpenFound, OpenStep, ReadAsk, WriteAsk, current_object, state_named, try_close,
-    try_commit, try_lookup, try_open, try_put_fh, try_read, try_write,
+    AskedAttributes, Attributes, Creation, OpenFound, OpenStep, ReadAsk, WriteAsk, current_object,
+    state_named, try_close, try_commit, try_lookup, try_open, try_put_fh, try_read, try_write,
 };
 use row_words::{Answer, Part, RowFault, Words};
 
@@ -111,6 +112,27 @@ fn put_close(words: &mut Words<'_>, answer: &mut Answer) -> Result<(), RowFault>
     put_file(try_close(at, named), answer)
 }
 
+/// GETATTR: the words of the bitmap, and the values.
+fn put_getattr(words: &mut Words<'_>, answer: &mut Answer) -> Result<(), RowFault> {
+    let object = current(words)?.ok_or(RowFault::Outside)?;
+    let change = words.number64()?;
+    let size = words.number64()?;
+    let first = words.number32()?;
+    let asked = AskedAttributes::of(first, words.last_number32()?);
+    let mut out = Out::new(words.alloc());
+    asked.put(
+        Attributes {
+            object,
+            change,
+            size,
+        },
+        &mut out,
+    )?;
+    answer.number(u64::from(asked.first_word()))?;
+    answer.number(u64::from(asked.second_word()))?;
+    answer.bytes(out.bytes())
+}
+
 impl Part for OperationRows {
     fn call(&mut self, words: &mut Words<'_>, answer: &mut Answer) -> Result<(), RowFault> {
         match words.word()? {
@@ -121,6 +143,7 @@ impl Part for OperationRows {
             "read" => put_read(words, answer),
             "write" => put_write(words, answer),
             "state_named" => put_state_named(words, answer),
+            "getattr" => put_getattr(words, answer),
             "current" => {
                 let at = current(words)?;
                 words.end()?;
