@@ -86,11 +86,7 @@ fn put_opened(opened: Result<Open, OpenFault>, answer: &mut Answer) -> Result<()
 }
 
 /// Whether a stateid names the open that stands.
-fn put_named(
-    opens: &Opens,
-    words: &mut Words<'_>,
-    answer: &mut Answer,
-) -> Result<(), RowFault> {
+fn put_named(opens: &Opens, words: &mut Words<'_>, answer: &mut Answer) -> Result<(), RowFault> {
     let (client, file) = client_and_file(words)?;
     let stateid = last_stateid(words)?;
     match opens.open_of(client, file) {
