@@ -81,6 +81,16 @@ begins = record {
 -- ---- OPEN
 
 module _ (old new : OpensValue) (notes : List OpenNote) (client : ℕ) (file : FileId) (o : Open) (good : Good old notes) where
+  -- an open that stands behind this one is it, or stood before
+  sound_with : 1 ≤ o.seqid → o.seqid ≤ 4294967295 → (c : ℕ) (f : FileId) (x : Open) → ((client ≡ c) × (o.file ≡ f) × (o ≡ x)) ⊎ (standing c f notes ≡ Some x) → IsSound c f (WasOpened client o ∷ notes) x
+  sound_with low high c f x (inl now) = record {
+    given = sym (λ i. was_given (now.0 i) (now.1 i) (now.2 i).number (WasOpened client o ∷ notes)) ∙ is_given client o notes;
+    low = subst (λ (y : Open). 1 ≤ y.seqid) now.2 low;
+    high = subst (λ (y : Open). y.seqid ≤ 4294967295) now.2 high;
+  }
+  sound_with low high c f x (inr stood) =
+      let s = good.sound c f x stood in record { given = still_given c f x.number client o notes s.given; low = s.low; high = s.high }
+
   opened_before : (was : Open) → open_of old client file ≡ Some was → o ≡ again was → HasOpens old client (map (in_place o) (opens_of old client)) new → new.last ≡ old.last → Good new (WasOpened client o ∷ notes)
   opened_before was is does has same =
       let own : was.file ≡ file = same_file file was (passes (is_of file) (opens_of old client) was is) in
@@ -118,15 +128,6 @@ module _ (old new : OpensValue) (notes : List OpenNote) (client : ℕ) (file : F
       earlier : was_given client o.file o.number notes ≡ true → (c : ℕ) (f : FileId) (n : ℕ) → ((client ≡ c) × (o.file ≡ f) × (o.number ≡ n)) ⊎ (was_given c f n notes ≡ true) → was_given c f n notes ≡ true
       earlier its c f n (inl now) = sym (λ i. was_given (now.0 i) (now.1 i) (now.2 i) notes) ∙ its
       earlier its c f n (inr given) = given
-
-      sound_with : 1 ≤ o.seqid → o.seqid ≤ 4294967295 → (c : ℕ) (f : FileId) (x : Open) → ((client ≡ c) × (o.file ≡ f) × (o ≡ x)) ⊎ (standing c f notes ≡ Some x) → IsSound c f (WasOpened client o ∷ notes) x
-      sound_with low high c f x (inl now) = record {
-        given = sym (λ i. was_given (now.0 i) (now.1 i) (now.2 i).number (WasOpened client o ∷ notes)) ∙ is_given client o notes;
-        low = subst (λ (y : Open). 1 ≤ y.seqid) now.2 low;
-        high = subst (λ (y : Open). y.seqid ≤ 4294967295) now.2 high;
-      }
-      sound_with low high c f x (inr stood) =
-          let s = good.sound c f x stood in record { given = still_given c f x.number client o notes s.given; low = s.low; high = s.high }
 
   opened_new : open_of old client file ≡ None → length (opens_of old client) < 64 → (old.last ≡ 4294967295 → ⊥) → o ≡ record { file = file; number = old.last + 1; seqid = 1 }
       → HasOpens old client (opens_of old client ++ o ∷ []) new → new.last ≡ old.last + 1 → Good new (WasOpened client o ∷ notes)
@@ -166,15 +167,6 @@ module _ (old new : OpensValue) (notes : List OpenNote) (client : ℕ) (file : F
       apart_with number c d f g n (inl one) (inr given) = let k = good.known d g n given in absurd (omega (arith, k.1, one.2, number))
       apart_with number c d f g n (inr given) (inl other) = let k = good.known c f n given in absurd (omega (arith, k.1, other.2, number))
       apart_with number c d f g n (inr one) (inr other) = good.apart c d f g n one other
-
-      sound_with : 1 ≤ o.seqid → o.seqid ≤ 4294967295 → (c : ℕ) (f : FileId) (x : Open) → ((client ≡ c) × (o.file ≡ f) × (o ≡ x)) ⊎ (standing c f notes ≡ Some x) → IsSound c f (WasOpened client o ∷ notes) x
-      sound_with low high c f x (inl now) = record {
-        given = sym (λ i. was_given (now.0 i) (now.1 i) (now.2 i).number (WasOpened client o ∷ notes)) ∙ is_given client o notes;
-        low = subst (λ (y : Open). 1 ≤ y.seqid) now.2 low;
-        high = subst (λ (y : Open). y.seqid ≤ 4294967295) now.2 high;
-      }
-      sound_with low high c f x (inr stood) =
-          let s = good.sound c f x stood in record { given = still_given c f x.number client o notes s.given; low = s.low; high = s.high }
 
   pub opened : Came old client file o new → Good new (WasOpened client o ∷ notes)
   opened (AsBefore was is does has same) = opened_before was is does has same

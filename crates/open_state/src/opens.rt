@@ -80,10 +80,7 @@ impl Opens {
         if sought(&self.clients, client, file).is_some() {
             return true;
         }
-        if count(&self.clients, client) >= MAX_OPENS {
-            return false;
-        }
-        self.last != LAST_NUMBER
+        count(&self.clients, client) < MAX_OPENS && self.last != LAST_NUMBER
     }
 
     /// A client's open of a file.
