@@ -1,0 +1,3 @@
+mod MakingLemmas
+mod RowLemmas
+mod Steps

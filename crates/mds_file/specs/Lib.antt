@@ -1,1 +1,3 @@
+pub mod Calls
 pub mod Inputs
+pub mod Makings
