@@ -1,3 +1,3 @@
+mod CreationSteps
 mod MakingLemmas
 mod RowLemmas
-mod Steps

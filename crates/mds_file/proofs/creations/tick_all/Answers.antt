@@ -1,6 +1,6 @@
 use Rattle.cluster_model.specs.Fences.{stage_at_tick}
 use Rattle.file_rule.specs.MdsFiles.{in_stage}
-use Rattle.mds_file.proofs.Steps.{next_done}
+use Rattle.mds_file.proofs.CreationSteps.{next_done}
 use Rattle.mds_file.proofs.creations.tick_all.Goals as goal
 
 pub loop-item-preserved : goal.loop-item-preserved

@@ -5,7 +5,7 @@ use Rattle.cluster_model.specs.Fences.{waits}
 use Rattle.file_rule.specs.MdsFiles.{in_stage}
 use Rattle.mds_file.specs.Makings.{AreCreations}
 use Rattle.mds_file.proofs.MakingLemmas.{sent_ok}
-use Rattle.mds_file.proofs.Steps.{place_within, place_passes, set_here, sent_here}
+use Rattle.mds_file.proofs.CreationSteps.{place_within, place_passes, set_here, sent_here}
 use Rattle.mds_file.proofs.creations.Creations.next_call.Goals as goal
 
 pub invariant_of-self : goal.invariant_of-self

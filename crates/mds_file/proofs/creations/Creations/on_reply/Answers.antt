@@ -4,7 +4,7 @@ use Rattle.cluster_model.specs.DsCalls.{plain_ds_reply}
 use Rattle.cluster_model.specs.Fences.{is_out}
 use Rattle.mds_file.specs.Makings.{AreCreations, answered_with}
 use Rattle.mds_file.proofs.MakingLemmas.{answer_ok}
-use Rattle.mds_file.proofs.Steps.{place_within, place_passes, set_with, put_with}
+use Rattle.mds_file.proofs.CreationSteps.{place_within, place_passes, set_with, put_with}
 use Rattle.mds_file.proofs.creations.Creations.on_reply.Goals as goal
 
 pub invariant_of-self : goal.invariant_of-self

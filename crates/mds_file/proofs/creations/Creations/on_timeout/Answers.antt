@@ -3,7 +3,7 @@ use Rattle.std.specs.List.{position}
 use Rattle.cluster_model.specs.Fences.{is_out}
 use Rattle.mds_file.specs.Makings.{AreCreations, late_with}
 use Rattle.mds_file.proofs.MakingLemmas.{late_ok}
-use Rattle.mds_file.proofs.Steps.{place_within, place_passes, set_with, put_with}
+use Rattle.mds_file.proofs.CreationSteps.{place_within, place_passes, set_with, put_with}
 use Rattle.mds_file.proofs.creations.Creations.on_timeout.Goals as goal
 
 pub invariant_of-self : goal.invariant_of-self

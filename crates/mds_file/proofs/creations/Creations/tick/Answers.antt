@@ -4,7 +4,7 @@ use Rattle.cluster_model.specs.Fences.{stage_at_tick}
 use Rattle.file_rule.specs.MdsFiles.{in_stage}
 use Rattle.mds_file.specs.Makings.{AreCreations}
 use Rattle.mds_file.proofs.MakingLemmas.{tick_ok}
-use Rattle.mds_file.proofs.Steps.{refilled}
+use Rattle.mds_file.proofs.CreationSteps.{refilled}
 use Rattle.mds_file.proofs.creations.Creations.tick.Goals as goal
 
 pub invariant_of-self : goal.invariant_of-self
