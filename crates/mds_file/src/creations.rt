@@ -71,6 +71,7 @@ impl Creations {
     pub fn on_reply(&mut self, xid: u32, reply: &DsReply<'_>) -> bool
         ensures known { result ≡ is_some (creation_of self.old xid) }
         ensures answered { self.new ≡ answered_at self.old (plain_ds_reply reply.now) (creation_of self.old xid) }
+        ensures size { length self.new.items ≡ length self.old.items }
     {
         let Some(place) = outstanding(xid, self.items.as_slice()) else {
             return false;
@@ -84,6 +85,7 @@ impl Creations {
     pub fn on_timeout(&mut self, xid: u32) -> bool
         ensures known { result ≡ is_some (creation_of self.old xid) }
         ensures late { self.new ≡ late_at self.old (creation_of self.old xid) }
+        ensures size { length self.new.items ≡ length self.old.items }
     {
         let Some(place) = outstanding(xid, self.items.as_slice()) else {
             return false;

@@ -1,11 +1,12 @@
 //! What each input of the table of phases does to a file.
 
 ghost use Rattle.std.specs.Prelude.{◌≡◌, ◌-◌, ◌<◌, ◌≤◌, Ok};
-ghost use Rattle.file_rule.specs.FilePhases.{phase, end_of_uids};
+ghost use Rattle.file_rule.specs.FilePhases.{phase};
 ghost use Rattle.file_rule.specs.FilePhases as input;
 ghost use Rattle.mds_file.specs.Inputs.{HasFresh, StepsAs};
 
 use crate::activity::Activity;
+use crate::fresh::uids_left;
 use crate::mds_file::MdsFile;
 use crate::rows::{ask, finish_own, revoke, take_back};
 use crate::stage::stage_at_tick;
@@ -15,14 +16,6 @@ use cluster_model::{
 use fence::Fence;
 use ff_xdr::{Data, NoMemory};
 use file_rule::Fresh;
-
-/// The last uid is 4,294,967,293: how many are left from this one on.
-fn uids_left(fresh: &Fresh) -> u32
-    requires { HasFresh fresh.now }
-    ensures { result ≡ end_of_uids - fresh.now.uid }
-{
-    4_294_967_294 - fresh.uid
-}
 
 impl MdsFile {
     /// A client asks for a layout for writing.
