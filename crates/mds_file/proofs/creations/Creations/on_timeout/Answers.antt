@@ -1,4 +1,4 @@
-use Rattle.std.proofs.Common.{◌≡◌, sym, ap, subst, ◌∙◌}
+use Rattle.std.proofs.Common.{sym, ap, subst, ◌∙◌}
 use Rattle.std.specs.List.{position}
 use Rattle.cluster_model.specs.Fences.{is_out}
 use Rattle.mds_file.specs.Makings.{AreCreations, late_with}

@@ -1,4 +1,4 @@
-use Rattle.std.proofs.Common.{◌≡◌, length, sym, ap, subst, ◌∙◌, map}
+use Rattle.std.proofs.Common.{length, sym, ap, subst, ◌∙◌, map}
 use Rattle.std.proofs.lemmas.List.{length-map}
 use Rattle.cluster_model.specs.Fences.{stage_at_tick}
 use Rattle.file_rule.specs.MdsFiles.{in_stage}

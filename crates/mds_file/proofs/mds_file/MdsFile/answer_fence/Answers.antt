@@ -1,4 +1,4 @@
-use Rattle.std.proofs.Common.{◌≡◌, sym, ap, ◌∙◌}
+use Rattle.std.proofs.Common.{sym, ap, ◌∙◌}
 use Rattle.cluster_model.specs.DsCalls.{plain_ds_reply}
 use Rattle.file_rule.specs.MdsFiles.{MdsFile}
 use Rattle.mds_file.specs.Activities.{plain_activity, seen_at_id}
