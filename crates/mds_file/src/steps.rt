@@ -1,4 +1,5 @@
-//! What each input of the table of phases does to a file.
+//! What each input of the table of phases does to a file. Each step is handed what may be drawn and the entries, also where it
+//! draws and enters nothing, so that all have one form of contract.
 
 ghost use Rattle.std.specs.Prelude.{◌≡◌, ◌-◌, ◌<◌, ◌≤◌, Ok};
 ghost use Rattle.file_rule.specs.FilePhases.{phase};
