@@ -1,0 +1,5 @@
+mod AnswerLemmas
+mod CreationSteps
+mod MakingLemmas
+mod PlanLemmas
+mod RowLemmas

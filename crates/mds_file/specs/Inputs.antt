@@ -6,7 +6,7 @@ use Rattle.cluster_model.specs.DsCalls.{plain_ds_call, plain_ds_reply}
 use Rattle.ff_xdr.specs.declared.error.NoMemory.{NoMemory}
 use Rattle.file_rule.specs.declared.fresh.Fresh.{Fresh}
 use Rattle.file_rule.specs.MdsFiles.{MdsFile, FileStep}
-use Rattle.file_rule.specs.FilePhases.{FileInput as Input, AsksLayout, OwnWrite, Recall, Returns, Revokes, OwnEnds, Resilver, Answers, TimesOut, Ticks, Sees, end_of_uids, CallOut, call_out}
+use Rattle.file_rule.specs.FilePhases.{FileInput as Input, AsksLayout, OwnWrite, Recall, Returns, Revokes, OwnEnds, Resilver, Answers, TimesOut, Ticks, Sees, end_of_uids, call_out}
 use Rattle.mds_file.specs.declared.input.FileInput.{FileInput}
 use Rattle.mds_file.specs.declared.input.FileInput.TheVariants as given
 

@@ -1,1 +1,4 @@
+pub mod Activities
+pub mod Calls
 pub mod Inputs
+pub mod Makings
