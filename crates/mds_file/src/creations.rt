@@ -11,8 +11,8 @@ ghost use Rattle.file_rule.specs.MdsFiles.{in_stage, all_made, standing, creatio
 ghost use Rattle.file_rule.specs.FilePhases.{creations_at, all_at_tick, creation_is_out};
 ghost use Rattle.mds_file.specs.Makings.{are_different, SendsCreate, answered_with, late_with, answered_at, late_at};
 
-use crate::stage::{is_given_up, is_out, is_over, stage_at_tick, waits};
 use arrayvec::ArrayVec;
+use call_stage::{is_out, is_over, stage_at_tick, waits};
 use cluster_model::{CallStage, Cred, DsReply, MAX_TIMEOUTS, Mirror, MirrorId, Mirrors};
 use file_rule::Creation;
 use std::marker::Model;
@@ -271,4 +271,11 @@ fn at_tick(creation: Creation) -> Creation
     ensures { result ≡ in_stage creation (stage_at_tick creation.stage) }
 {
     in_stage(creation, stage_at_tick(creation.stage))
+}
+
+/// It was given up.
+fn is_given_up(stage: CallStage) -> bool
+    ensures { result ≡ is_given_up stage }
+{
+    matches!(stage, CallStage::GivenUp)
 }

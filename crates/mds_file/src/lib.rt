@@ -10,7 +10,6 @@ mod mds_file;
 mod plan;
 mod rows;
 mod settling;
-mod stage;
 mod steps;
 
 pub use fresh::has_fresh;

@@ -16,7 +16,7 @@ use crate::answers::room_for_ids;
 use crate::mds_file::MdsFile;
 use crate::plan::plan_of;
 use crate::rows::{lose, settle};
-use crate::stage::is_out;
+use call_stage::is_out;
 use cluster_model::{
     CallStage, CopyKind, Cred, DsReply, Entry, FileId, LeftCause, MAX_TIMEOUTS, MirrorId, Phase,
     SERVERFAULT, Shown,

@@ -10,7 +10,7 @@ use crate::activity::Activity;
 use crate::fresh::uids_left;
 use crate::mds_file::MdsFile;
 use crate::rows::{ask, finish_own, revoke, take_back};
-use crate::stage::stage_at_tick;
+use call_stage::stage_at_tick;
 use cluster_model::{
     CallStage, CopyKind, Cred, EndCause, Entry, FileId, LeftCause, MirrorId, NodeId, Reported, Tick,
 };
