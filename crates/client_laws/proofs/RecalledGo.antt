@@ -20,7 +20,7 @@ use Rattle.client_calls.specs.ClientCalls.{ends_event}
 use Rattle.client_callbacks.specs.Callbacks.{CbReply, cb_reply, cb_call_answer, callback_of}
 use Rattle.mirror_client.specs.ClientRule.{answers_callback, found_call, client_recorded}
 use Rattle.client_laws.specs.ClientHistory.{ClientInput, Recorded, input_step, HistoryItem, Hears, Enters, Sends, entered, sent, items_of, client_history, client_after, HasItem}
-use Rattle.client_laws.specs.RecallLaws.{IsCallback, AsksBack, LastHeard, heard_behind, last_heard, WasRecalled, WasGivenBack, IsGoing, HasGone, WasReturned, WasLost, GoesStill, RecalledGoes}
+use Rattle.client_laws.specs.RecallLaws.{IsCallback, AsksBack, LastHeard, heard_behind, last_heard, WasRecalled, WasGivenBack, IsGoing, LayoutHasGone, WasReturned, WasLost, GoesStill, RecalledGoes}
 use Rattle.client_laws.proofs.Orders.{in_more}
 use Rattle.client_laws.proofs.Splits.{not_empty, there, tail_of, head_of, IsIn, IsBehind, split_either}
 use Rattle.client_laws.proofs.SlotKept.{HeardCallback, SlotStands, slot_later}
@@ -84,28 +84,28 @@ given_later h more state g = record {
   sent = in_more (Sends (CallsMds g.xid g.name (OnSlot g.session g.sequence (slot.LayoutReturn g.file g.stateid g.failed))) ∷ []) h more g.sent;
 }
 
-gone_next : (h behind : List HistoryItem) (c : ClientValue) (input : ClientInput) (state : List ℕ) → StepMoves h c (input_step input c) → HasGone h behind c state
-    → HasGone (h ++ items_of input (input_step input c)) (behind ++ items_of input (input_step input c)) (input_step input c).client state
+gone_next : (h behind : List HistoryItem) (c : ClientValue) (input : ClientInput) (state : List ℕ) → StepMoves h c (input_step input c) → LayoutHasGone h behind c state
+    → LayoutHasGone (h ++ items_of input (input_step input c)) (behind ++ items_of input (input_step input c)) (input_step input c).client state
 gone_next h behind c input state m (WasReturned g) = WasReturned (given_later h (items_of input (input_step input c)) state g)
 gone_next h behind c input state m (WasLost client i) = WasLost client (in_more (Enters (Answer client (answer.Failed failing.Revoked)) ∷ []) behind (items_of input (input_step input c)) i)
 gone_next h behind c input state m (GoesStill g) = by_what m.becomes
   where
-    by_what : Becomes h c.layout (input_step input c).client.layout (input_step input c).entries → HasGone (h ++ items_of input (input_step input c)) (behind ++ items_of input (input_step input c)) (input_step input c).client state
+    by_what : Becomes h c.layout (input_step input c).client.layout (input_step input c).entries → LayoutHasGone (h ++ items_of input (input_step input c)) (behind ++ items_of input (input_step input c)) (input_step input c).client state
     by_what (Stays follows) = GoesStill (going_on c (input_step input c).client state follows g)
     by_what (IsLost client i) =
         WasLost client (in_behind behind (items_of input (input_step input c)) (Enters (Answer client (answer.Failed failing.Revoked))) (inr (in_more (Enters (Answer client (answer.Failed failing.Revoked)) ∷ []) (entered (input_step input c).entries) (sent (input_step input c).sends) i)))
     by_what (IsGone gone) =
         WasReturned (given_later h (items_of input (input_step input c)) state (subst (WasGivenBack h) g.its_state (subst (λ (o : Option Layout). IfThere o (λ l. WasGivenBack h l.stateid.other)) g.there gone)))
 
-goes_on : (inputs : List ClientInput) (h behind : List HistoryItem) (c : ClientValue) (state : List ℕ) → AllStand h c → HasGone h behind c state → HasGone (h ++ client_history c inputs) (behind ++ client_history c inputs) (client_after c inputs) state
-goes_on [] h behind c state a g = subst (λ l. HasGone l (behind ++ []) c state) (sym (append-nil h)) (subst (λ l. HasGone h l c state) (sym (append-nil behind)) g)
+goes_on : (inputs : List ClientInput) (h behind : List HistoryItem) (c : ClientValue) (state : List ℕ) → AllStand h c → LayoutHasGone h behind c state → LayoutHasGone (h ++ client_history c inputs) (behind ++ client_history c inputs) (client_after c inputs) state
+goes_on [] h behind c state a g = subst (λ l. LayoutHasGone l (behind ++ []) c state) (sym (append-nil h)) (subst (λ l. LayoutHasGone h l c state) (sym (append-nil behind)) g)
 goes_on (input ∷ inputs) h behind c state a g =
     let items : List HistoryItem = items_of input (input_step input c) in
     let d : ClientValue = (input_step input c).client in
     let more : List HistoryItem = client_history d inputs in
-    let next : HasGone ((h ++ items) ++ more) ((behind ++ items) ++ more) (client_after d inputs) state =
+    let next : LayoutHasGone ((h ++ items) ++ more) ((behind ++ items) ++ more) (client_after d inputs) state =
     goes_on inputs (h ++ items) (behind ++ items) d state (next_stands h c input a) (gone_next h behind c input state (input_moves h c input a.stands a.tied) g) in
-    subst (λ l. HasGone l (behind ++ (items ++ more)) (client_after d inputs) state) (append_assoc h items more) (subst (λ l. HasGone ((h ++ items) ++ more) l (client_after d inputs) state) (append_assoc behind items more) next)
+    subst (λ l. LayoutHasGone l (behind ++ (items ++ more)) (client_after d inputs) state) (append_assoc h items more) (subst (λ l. LayoutHasGone ((h ++ items) ++ more) l (client_after d inputs) state) (append_assoc behind items more) next)
 
 -- ---- the reply
 
@@ -221,7 +221,7 @@ answered_within h c input (x ∷ before) left reply state a is r = by_place (spl
         (subst (λ l. WasRecalled (h ++ Hears input ∷ l) reply state) b.items_are (subst (λ k. WasRecalled (h ++ k ∷ before) reply state) (sym (ap (head_of x) is)) r))
 
 recalled_in : (inputs : List ClientInput) (h : List HistoryItem) (c : ClientValue) (before behind : List HistoryItem) (reply : RpcReply) (state : List ℕ) → AllStand h c
-    → client_history c inputs ≡ before ++ Sends (RepliesToMds reply) ∷ behind → WasRecalled (h ++ before) reply state → HasGone (h ++ client_history c inputs) behind (client_after c inputs) state
+    → client_history c inputs ≡ before ++ Sends (RepliesToMds reply) ∷ behind → WasRecalled (h ++ before) reply state → LayoutHasGone (h ++ client_history c inputs) behind (client_after c inputs) state
 recalled_in [] h c before behind reply state a is r = absurd (not_empty before behind (Sends (RepliesToMds reply)) is)
 recalled_in (input ∷ inputs) h c before behind reply state a is r =
     by_place (λ mid split its. recalled_in inputs (h ++ items_of input (input_step input c)) (input_step input c).client mid behind reply state (next_stands h c input a) split its)
@@ -233,15 +233,15 @@ recalled_in (input ∷ inputs) h c before behind reply state a is r =
     more : List HistoryItem
     more = client_history (input_step input c).client inputs
 
-    by_place : ((mid : List HistoryItem) → more ≡ mid ++ Sends (RepliesToMds reply) ∷ behind → WasRecalled ((h ++ items) ++ mid) reply state → HasGone ((h ++ items) ++ more) behind (client_after (input_step input c).client inputs) state)
-        → IsIn items more before behind (Sends (RepliesToMds reply)) ⊎ IsBehind items more before behind (Sends (RepliesToMds reply)) → HasGone (h ++ (items ++ more)) behind (client_after (input_step input c).client inputs) state
+    by_place : ((mid : List HistoryItem) → more ≡ mid ++ Sends (RepliesToMds reply) ∷ behind → WasRecalled ((h ++ items) ++ mid) reply state → LayoutHasGone ((h ++ items) ++ more) behind (client_after (input_step input c).client inputs) state)
+        → IsIn items more before behind (Sends (RepliesToMds reply)) ⊎ IsBehind items more before behind (Sends (RepliesToMds reply)) → LayoutHasGone (h ++ (items ++ more)) behind (client_after (input_step input c).client inputs) state
     by_place further (inl i) =
         let going : IsGoing (input_step input c).client state = answered_within h c input before i.left reply state a i.split r in
-        let later : HasGone ((h ++ items) ++ more) (i.left ++ more) (client_after (input_step input c).client inputs) state =
+        let later : LayoutHasGone ((h ++ items) ++ more) (i.left ++ more) (client_after (input_step input c).client inputs) state =
         goes_on inputs (h ++ items) i.left (input_step input c).client state (next_stands h c input a) (GoesStill going) in
-        subst (λ l. HasGone l behind (client_after (input_step input c).client inputs) state) (append_assoc h items more) (subst (λ l. HasGone ((h ++ items) ++ more) l (client_after (input_step input c).client inputs) state) (sym i.rest) later)
+        subst (λ l. LayoutHasGone l behind (client_after (input_step input c).client inputs) state) (append_assoc h items more) (subst (λ l. LayoutHasGone ((h ++ items) ++ more) l (client_after (input_step input c).client inputs) state) (sym i.rest) later)
     by_place further (inr b) =
-        subst (λ l. HasGone l behind (client_after (input_step input c).client inputs) state) (append_assoc h items more)
+        subst (λ l. LayoutHasGone l behind (client_after (input_step input c).client inputs) state) (append_assoc h items more)
         (further b.mid b.split (subst (λ l. WasRecalled l reply state) (sym (append_assoc h items b.mid)) (subst (λ l. WasRecalled (h ++ l) reply state) b.items_are r)))
 
 fresh_all : (number verifier first_xid : ℕ) → AllStand [] (fresh_client number verifier first_xid)

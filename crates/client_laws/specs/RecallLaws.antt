@@ -123,11 +123,11 @@ pub record IsGoing (c : ClientValue) (state : List ℕ) : Type 0 where
   pub stage : is_writing layout.stage ≡ false
 
 -- what has become of it, by all that came and by what came behind the recall
-pub data HasGone (past behind : List HistoryItem) (c : ClientValue) (state : List ℕ) : Type 0 where
-  WasReturned : WasGivenBack past state → HasGone past behind c state
+pub data LayoutHasGone (past behind : List HistoryItem) (c : ClientValue) (state : List ℕ) : Type 0 where
+  WasReturned : WasGivenBack past state → LayoutHasGone past behind c state
   -- the user was answered since that it was taken away
-  WasLost : (client : ℕ) → HasItem behind (Enters (Answer client (answer.Failed failing.Revoked))) → HasGone past behind c state
-  GoesStill : IsGoing c state → HasGone past behind c state
+  WasLost : (client : ℕ) → HasItem behind (Enters (Answer client (answer.Failed failing.Revoked))) → LayoutHasGone past behind c state
+  GoesStill : IsGoing c state → LayoutHasGone past behind c state
 
 -- At every moment behind a recall that was answered OK the layout was given back, was found lost, or is held still with no write taken
 -- under it (RFC 8881, section 20.3).
@@ -135,4 +135,4 @@ abbrev pub RecalledGoes : Type 0
 RecalledGoes =
     (number verifier first_xid : ℕ) (inputs : List ClientInput) (before behind : List HistoryItem) (reply : RpcReply) (state : List ℕ)
     → client_history (fresh_client number verifier first_xid) inputs ≡ before ++ Sends (RepliesToMds reply) ∷ behind → WasRecalled before reply state
-    → HasGone (client_history (fresh_client number verifier first_xid) inputs) behind (client_after (fresh_client number verifier first_xid) inputs) state
+    → LayoutHasGone (client_history (fresh_client number verifier first_xid) inputs) behind (client_after (fresh_client number verifier first_xid) inputs) state

@@ -26,7 +26,7 @@ pub record HasRow (s : PhaseStep) (old : List Entry) (layout : LayoutState) (new
   pub entries : new ≡ old ++ s.entries
 
 -- nothing came of it
-pub record HasNone (old : LayoutState) (entries : List Entry) (layout : LayoutState) (new : List Entry) : Type 0 where
+pub record ChangesNothing (old : LayoutState) (entries : List Entry) (layout : LayoutState) (new : List Entry) : Type 0 where
   pub same : layout ≡ old
   pub entries_same : new ≡ entries
 
@@ -39,9 +39,9 @@ is_free (Fencing next end) = false
 is_free (Settling copies) = false
 is_free (Copying copier copies) = false
 
-abbrev pub Asks : FileId → NodeId → ℕ → LayoutState → List Entry → Bool → LayoutState → List Entry → Type 0
-Asks file holder uids_left old entries true new entries' = (is_free old.phase ≡ true) × (grant_fault old holder uids_left ≡ None) × HasRow (granted file old holder) entries new entries'
-Asks file holder uids_left old entries false new entries' = ((is_free old.phase ≡ true) → (fault : _) × (grant_fault old holder uids_left ≡ Some fault)) × HasNone old entries new entries'
+abbrev pub AsksForGrant : FileId → NodeId → ℕ → LayoutState → List Entry → Bool → LayoutState → List Entry → Type 0
+AsksForGrant file holder uids_left old entries true new entries' = (is_free old.phase ≡ true) × (grant_fault old holder uids_left ≡ None) × HasRow (granted file old holder) entries new entries'
+AsksForGrant file holder uids_left old entries false new entries' = ((is_free old.phase ≡ true) → (fault : _) × (grant_fault old holder uids_left ≡ Some fault)) × ChangesNothing old entries new entries'
 
 abbrev pub is_all_reported : EndCause → Bool
 is_all_reported Returned = false
@@ -59,11 +59,11 @@ ends_with file cred left cause = (if is_all_reported cause then [] else left) ++
 
 abbrev pub TakesBack : FileId → ℕ → Cred → List Bool → Cred → LayoutState → List Entry → Bool → LayoutState → List Entry → Type 0
 TakesBack file client claimed places next old entries true new entries' = (return_fault old (Client client) claimed ≡ None) × HasRow (returned file old places next) entries new entries'
-TakesBack file client claimed places next old entries false new entries' = ((fault : _) × (return_fault old (Client client) claimed ≡ Some fault)) × HasNone old entries new entries'
+TakesBack file client claimed places next old entries false new entries' = ((fault : _) × (return_fault old (Client client) claimed ≡ Some fault)) × ChangesNothing old entries new entries'
 
 abbrev pub LosesMirror : FileId → MirrorId → LeftCause → LayoutState → List Entry → Bool → LayoutState → List Entry → Type 0
 LosesMirror file id cause old entries true new entries' = (is_last_live old.live ≡ false) × HasRow (mirror_left file old id cause) entries new entries'
-LosesMirror file id cause old entries false new entries' = (is_last_live old.live ≡ true) × HasNone old entries new entries'
+LosesMirror file id cause old entries false new entries' = (is_last_live old.live ≡ true) × ChangesNothing old entries new entries'
 
 -- the entry of a file that is free
 abbrev pub free_entry : FileId → List Mirror → Phase → List Entry

@@ -37,6 +37,6 @@ StepsAs s old fresh entries (Ok done) new fresh' entries' = (new ≡ s.file) × 
 StepsAs s old fresh entries (Err e) new fresh' entries' = (new ≡ old) × (fresh' ≡ fresh) × (entries' ≡ entries)
 
 -- the next call that goes out under a number, to which server and by which uid, and the file then
-abbrev pub SendsCall : MdsFile → ℕ → Option (ℕ × (ℕ × DsCall)) → MdsFile → Type 0
-SendsCall old xid None new = (call_out old xid ≡ None) × (new ≡ old)
-SendsCall old xid (Some (server, (uid, call))) new = call_out old xid ≡ Some (record { file = new; server = server; uid = uid; call = plain_ds_call call })
+abbrev pub SendsFileCall : MdsFile → ℕ → Option (ℕ × (ℕ × DsCall)) → MdsFile → Type 0
+SendsFileCall old xid None new = (call_out old xid ≡ None) × (new ≡ old)
+SendsFileCall old xid (Some (server, (uid, call))) new = call_out old xid ≡ Some (record { file = new; server = server; uid = uid; call = plain_ds_call call })

@@ -8,7 +8,7 @@ ghost use Rattle.cluster_model.specs.declared.entry.Entry.TheVariants as entry;
 ghost use Rattle.cluster_model.specs.Nodes.{is_mds};
 ghost use Rattle.cluster_model.specs.Phases.{phase_of, holder_of, is_clean, ids_of, left_entries, reported_cause, revoked, own_done, made, fence_done, settled_row, swapped_entries, copied, can_swap_all};
 ghost use Rattle.layout_state.specs.Returns.{may_lose};
-ghost use Rattle.mds_file.specs.Calls.{HasRow, Asks, TakesBack, ends_with, is_all_reported, LosesMirror, free_entry};
+ghost use Rattle.mds_file.specs.Calls.{HasRow, AsksForGrant, TakesBack, ends_with, is_all_reported, LosesMirror, free_entry};
 
 use cluster_model::{
     CopyKind, Cred, EndCause, Entry, FileId, LeftCause, Mirror, MirrorId, MirrorIds, Mirrors,
@@ -42,7 +42,7 @@ pub fn ask(
     entries: &mut Vec<Entry>,
 ) -> bool
     requires room { vec_len entries.old + 1 ≤ vec_capacity entries.old }
-    ensures asks { Asks file holder uids_left layout.old entries.old.items result layout.new entries.new.items }
+    ensures asks { AsksForGrant file holder uids_left layout.old entries.old.items result layout.new entries.new.items }
     ensures len { vec_len entries.new ≤ vec_len entries.old + 1 }
     ensures capacity { vec_capacity entries.new ≡ vec_capacity entries.old }
 {

@@ -8,7 +8,7 @@ use Rattle.std.proofs.lemmas.List.Edits.{map_over_more}
 use Rattle.std.proofs.lemmas.Option.{same_Some}
 use Rattle.open_state.specs.declared.open.Open.{Open}
 use Rattle.open_state.specs.Opens.{opens_in}
-use Rattle.open_state.specs.Calls.{Becomes}
+use Rattle.open_state.specs.Calls.{OpensBecome}
 
 pub turned : (a b : ℕ) → eqb a b ≡ eqb b a
 turned a b = by_case (eqb a b) refl
@@ -37,7 +37,7 @@ found_none es client is = found es client ∙ ap (λ o. unwrap_or o []) (sym is)
 
 -- a change of the map is one of the lists
 pub becomes : (old new : List (ℕ × List Open)) (client : ℕ) (opens : List Open) (now : Option (List Open))
-    → ((q : ℕ) → lookup (nat_eq q) new ≡ cond (nat_eq client q) now (lookup (nat_eq q) old)) → unwrap_or now [] ≡ opens → Becomes old client opens new
+    → ((q : ℕ) → lookup (nat_eq q) new ≡ cond (nat_eq client q) now (lookup (nat_eq q) old)) → unwrap_or now [] ≡ opens → OpensBecome old client opens new
 becomes old new client opens now updates is = record {
   its = found new client ∙ ap (λ o. unwrap_or o []) (updates client ∙ cond-true (eqb client client) now (lookup (nat_eq client) old) (eq-eqb client client refl)) ∙ is;
   others = λ other apart.
@@ -69,7 +69,7 @@ next_done {X} f xs ys i d new within same so_far does =
     ap (set ys i) does ∙ map_over_more f xs ys i x within so_far (get_or_default ys i d x (omega (arith, within, same)))
 
 -- what is done to no list leaves none
-pub none_becomes : (old new : List (ℕ × List Open)) (client : ℕ) (f : List Open → List Open) → new ≡ old → None ≡ lookup (nat_eq client) old → f [] ≡ [] → Becomes old client (f (opens_in old client)) new
+pub none_becomes : (old new : List (ℕ × List Open)) (client : ℕ) (f : List Open → List Open) → new ≡ old → None ≡ lookup (nat_eq client) old → f [] ≡ [] → OpensBecome old client (f (opens_in old client)) new
 none_becomes old new client f same none empty = record {
   its = ap (λ es. opens_in es client) same ∙ found_none old client none ∙ sym empty ∙ ap f (sym (found_none old client none));
   others = λ other apart. ap (λ es. opens_in es other) same;

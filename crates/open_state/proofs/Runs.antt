@@ -7,7 +7,7 @@ use Rattle.std.proofs.lemmas.List.{length-append, length-map}
 use Rattle.std.proofs.lemmas.Option.{same_Some, none-some}
 use Rattle.cluster_model.specs.declared.ids.FileId.{FileId}
 use Rattle.open_state.specs.declared.open.Open.{Open}
-use Rattle.open_state.specs.Opens.{OpensValue, opens_of, open_of, is_of, again, next_seqid, in_place, HasOpens, Closes, EndsClient}
+use Rattle.open_state.specs.Opens.{OpensValue, opens_of, open_of, is_of, again, next_seqid, in_place, HasOpens, ClosesOpen, EndsClient}
 use Rattle.open_state.specs.Calls.{is_other}
 use Rattle.open_state.specs.OpensLaws.{OpenNote, WasOpened, WasClosed, HasEnded, IsRun, Begins, HasOpened, WasRefused, HasClosed, HadNone, Ended, standing, was_given, stands_as}
 use Rattle.open_state.proofs.Finds.{same_file, passes, length_kept, put_here, put_other, push_here, push_other, cut_here, cut_other}
@@ -183,7 +183,7 @@ unmapped None is = refl
 unmapped (Some was) is = absurd (none-some (again was) is)
 
 module _ (old new : OpensValue) (notes : List OpenNote) (client : ℕ) (good : Good old notes) where
-  pub closed : (file : FileId) (o : Open) → Closes old client file (Some o) new → Good new (WasClosed client o ∷ notes)
+  pub closed : (file : FileId) (o : Open) → ClosesOpen old client file (Some o) new → Good new (WasClosed client o ∷ notes)
   closed file o did =
       let w = mapped (open_of old client file) o did.told in
       let own : w.0.file ≡ file = same_file file w.0 (passes (is_of file) (opens_of old client) w.0 w.1) in
@@ -202,7 +202,7 @@ module _ (old new : OpensValue) (notes : List OpenNote) (client : ℕ) (good : G
         head = tt;
       }
 
-  pub had_none : (file : FileId) → Closes old client file None new → Good new notes
+  pub had_none : (file : FileId) → ClosesOpen old client file None new → Good new notes
   had_none file did =
       let none : open_of old client file ≡ None = unmapped (open_of old client file) did.told in
       let its : opens_of new client ≡ opens_of old client = did.has.its ∙ all_kept file (opens_of old client) none in

@@ -8,10 +8,10 @@ use Rattle.cluster_model.specs.declared.ids.FileId.{FileId}
 use Rattle.ff_xdr.specs.declared.error.NoMemory.{NoMemory as Wanted}
 use Rattle.open_state.specs.declared.open.Open.{Open}
 use Rattle.open_state.specs.declared.open.OpenFault.TheVariants.{TooMany, Spent, NoMemory}
-use Rattle.open_state.specs.Opens.{OpensValue, opens_of, open_of, is_of, again, in_place, fault_at, open_fault, given, opens_with, last_with, HasOpens, Opens, Gives, Wants, Closes}
-use Rattle.open_state.specs.Calls.{Becomes, is_other}
+use Rattle.open_state.specs.Opens.{OpensValue, opens_of, open_of, is_of, again, in_place, fault_at, open_fault, given, opens_with, last_with, HasOpens, Opens, Gives, Wants, ClosesOpen}
+use Rattle.open_state.specs.Calls.{OpensBecome, is_other}
 
-pub has_opens : (old new : OpensValue) (client : ℕ) (opens : List Open) → Becomes old.clients client opens new.clients → HasOpens old client opens new
+pub has_opens : (old new : OpensValue) (client : ℕ) (opens : List Open) → OpensBecome old.clients client opens new.clients → HasOpens old client opens new
 has_opens old new client opens b = record { its = b.its; others = b.others }
 
 -- where no open is of a file, all are kept
@@ -28,7 +28,7 @@ all_kept file (x ∷ xs) none = by_case (is_of file x) refl (all_kept file xs)
 -- ---- OPEN
 
 pub opened_again : (old new : OpensValue) (client : ℕ) (file : FileId) (was o : Open) → open_of old client file ≡ Some was → o ≡ again was
-    → Becomes old.clients client (map (in_place o) (opens_of old client)) new.clients → new.last ≡ old.last → Opens old client file (Ok o) new
+    → OpensBecome old.clients client (map (in_place o) (opens_of old client)) new.clients → new.last ≡ old.last → Opens old client file (Ok o) new
 opened_again old new client file was o is does b same =
     let opens = opens_of old client in
     let it : given (open_of old client file) file old.last ≡ o = ap (λ x. given x file old.last) is ∙ sym does in
@@ -40,7 +40,7 @@ opened_again old new client file was o is does b same =
     (same ∙ sym (ap (λ x. last_with x old.last) is)))
 
 pub opened_new : (old new : OpensValue) (client : ℕ) (file : FileId) → open_of old client file ≡ None → length (opens_of old client) < 64 → (old.last ≡ 4294967295 → ⊥)
-    → Becomes old.clients client (opens_of old client ++ record { file = file; number = old.last + 1; seqid = 1 } ∷ []) new.clients → new.last ≡ old.last + 1
+    → OpensBecome old.clients client (opens_of old client ++ record { file = file; number = old.last + 1; seqid = 1 } ∷ []) new.clients → new.last ≡ old.last + 1
     → Opens old client file (Ok (record { file = file; number = old.last + 1; seqid = 1 })) new
 opened_new old new client file is few left b more =
     let opens = opens_of old client in
@@ -71,7 +71,7 @@ wanted old client file e lists same =
 
 -- ---- CLOSE
 
-pub closed_none : (old : OpensValue) (client : ℕ) (file : FileId) → open_of old client file ≡ None → Closes old client file None old
+pub closed_none : (old : OpensValue) (client : ℕ) (file : FileId) → open_of old client file ≡ None → ClosesOpen old client file None old
 closed_none old client file is = record {
   told = sym (ap (option_map again) is);
   has = record { its = sym (all_kept file (opens_of old client) is); others = λ other apart. refl };
@@ -79,7 +79,7 @@ closed_none old client file is = record {
 }
 
 pub closed_one : (old new : OpensValue) (client : ℕ) (file : FileId) (was o : Open) → open_of old client file ≡ Some was → o ≡ again was
-    → Becomes old.clients client (filter (is_other file) (opens_of old client)) new.clients → new.last ≡ old.last → Closes old client file (Some o) new
+    → OpensBecome old.clients client (filter (is_other file) (opens_of old client)) new.clients → new.last ≡ old.last → ClosesOpen old client file (Some o) new
 closed_one old new client file was o is does b same = record {
   told = ap Some does ∙ sym (ap (option_map again) is);
   has = record { its = b.its; others = b.others };

@@ -8,6 +8,6 @@ abbrev pub is_other : FileId → Open → Bool
 is_other file o = not (is_of file o)
 
 -- of the lists of all clients, this client's is this one now, and the others' are as before
-pub record Becomes (old : List (ℕ × List Open)) (client : ℕ) (opens : List Open) (new : List (ℕ × List Open)) : Type 0 where
+pub record OpensBecome (old : List (ℕ × List Open)) (client : ℕ) (opens : List Open) (new : List (ℕ × List Open)) : Type 0 where
   pub its : opens_in new client ≡ opens
   pub others : (other : ℕ) → (other == client) ≡ false → opens_in new other ≡ opens_in old other

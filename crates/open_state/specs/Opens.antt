@@ -88,7 +88,7 @@ pub data Opens (old : OpensValue) (client : ℕ) (file : FileId) : Result Open O
 -- ---- CLOSE, and a client's end
 
 -- the open ends, and is given with its next seqid
-pub record Closes (old : OpensValue) (client : ℕ) (file : FileId) (result : Option Open) (new : OpensValue) : Type 0 where
+pub record ClosesOpen (old : OpensValue) (client : ℕ) (file : FileId) (result : Option Open) (new : OpensValue) : Type 0 where
   pub told : result ≡ option_map again (open_of old client file)
   pub has : HasOpens old client (filter (λ o. not (is_of file o)) (opens_of old client)) new
   pub last : new.last ≡ old.last

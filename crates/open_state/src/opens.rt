@@ -1,8 +1,8 @@
 //! What all clients have open.
 
 ghost use Rattle.std.specs.Prelude.{◌≡◌, [], ◌∷◌, ◌++◌, map, filter, find, not, is_some, length, OnOk, OnErr};
-ghost use Rattle.open_state.specs.Opens.{Opens as OpensFile, Closes, EndsClient, open_of, open_fault, opens_in, is_of, in_place};
-ghost use Rattle.open_state.specs.Calls.{Becomes, is_other};
+ghost use Rattle.open_state.specs.Opens.{Opens as OpensFile, ClosesOpen, EndsClient, open_of, open_fault, opens_in, is_of, in_place};
+ghost use Rattle.open_state.specs.Calls.{OpensBecome, is_other};
 
 use crate::client_opens::ClientOpens;
 use crate::open::{LAST_NUMBER, MAX_OPENS, Open, OpenFault};
@@ -93,7 +93,7 @@ impl Opens {
     /// A CLOSE of this file by this client: its open ends, and is given with its next seqid; `None` where it has none. Takes
     /// no memory.
     pub fn close(&mut self, client: u64, file: FileId) -> Option<Open>
-        ensures { Closes self.old client file result self.new }
+        ensures { ClosesOpen self.old client file result self.new }
     {
         let was = sought(&self.clients, client, file)?;
         remove(&mut self.clients, client, file);
@@ -127,7 +127,7 @@ fn sought(clients: &IndexMap<u64, ClientOpens>, client: u64, file: FileId) -> Op
 
 /// A client has one more open. At an error nothing has changed.
 fn add(clients: &mut IndexMap<u64, ClientOpens>, client: u64, newest: Open) -> Result<(), NoMemory>
-    ensures ok { OnOk result (Becomes clients.old.entries client (opens_in clients.old.entries client ++ newest ∷ []) clients.new.entries) }
+    ensures ok { OnOk result (OpensBecome clients.old.entries client (opens_in clients.old.entries client ++ newest ∷ []) clients.new.entries) }
     ensures err { OnErr result (clients.new.entries ≡ clients.old.entries) }
 {
     if let Some(opens) = clients.get_mut(&client) {
@@ -140,7 +140,7 @@ fn add(clients: &mut IndexMap<u64, ClientOpens>, client: u64, newest: Open) -> R
 
 /// A client's open stands where one of its file stood.
 fn replace(clients: &mut IndexMap<u64, ClientOpens>, client: u64, given: Open)
-    ensures { Becomes clients.old.entries client (map (in_place given) (opens_in clients.old.entries client)) clients.new.entries }
+    ensures { OpensBecome clients.old.entries client (map (in_place given) (opens_in clients.old.entries client)) clients.new.entries }
 {
     if let Some(opens) = clients.get_mut(&client) {
         opens.replace(given);
@@ -149,7 +149,7 @@ fn replace(clients: &mut IndexMap<u64, ClientOpens>, client: u64, given: Open)
 
 /// A client's open of a file is gone.
 fn remove(clients: &mut IndexMap<u64, ClientOpens>, client: u64, file: FileId)
-    ensures { Becomes clients.old.entries client (filter (is_other file) (opens_in clients.old.entries client)) clients.new.entries }
+    ensures { OpensBecome clients.old.entries client (filter (is_other file) (opens_in clients.old.entries client)) clients.new.entries }
 {
     if let Some(opens) = clients.get_mut(&client) {
         opens.remove(file);

@@ -17,7 +17,7 @@ use Rattle.recall.specs.declared.entry.Entry.{Entry}
 use Rattle.recall.specs.declared.entry.Ended.TheVariants.{Grant}
 use Rattle.recall.specs.Recalls.{is_out, is_out_as, may_go, has_one_out, waits, at_stage, at_tick, grant_of, has_expired, RecallSends, sent_at, sent_from, next_sent, out_at, RecallsAfter, answered, late, step_at, step_from, after_reply, after_timeout, RecallsTick, without, without_found, told_found, after_tick}
 use Rattle.recall.specs.Calls.{SendsRecall}
-use Rattle.recall.specs.Entries.{grant_in, recalls_of, is_out_to, is_ready, held_as, goes_on, IsStanding}
+use Rattle.recall.specs.Entries.{grant_in, recalls_of, is_out_to, is_ready, held_as, goes_on, IsRecallTable}
 use Rattle.recall.proofs.Firsts.{passes, none_found, first_there}
 use Rattle.recall.proofs.Standing.{ready_in, position_in, at_place, put_in, sent_stands, found_in}
 use Rattle.recall.proofs.Statuses.{StatusKind, Agrees, HasNone, Else, kind_of}
@@ -27,13 +27,13 @@ use Rattle.recall.proofs.Statuses.{StatusKind, Agrees, HasNone, Else, kind_of}
 abbrev pub sent_to : RecallCall → List Recall → Option RecallSends
 sent_to call recalls = Some (record { recalls = recalls; call = call })
 
-pub sends_none : (es : List Entry) (recalls : List Recall) (xid : ℕ) → IsStanding es → recalls_of es ≡ recalls → position is_ready es ≡ None → next_sent recalls xid ≡ None
+pub sends_none : (es : List Entry) (recalls : List Recall) (xid : ℕ) → IsRecallTable es → recalls_of es ≡ recalls → position is_ready es ≡ None → next_sent recalls xid ≡ None
 sends_none es recalls xid stands seen none = subst (λ (rs : List Recall). next_sent rs xid ≡ None) seen (ap (sent_from (recalls_of es) xid) (sym (ready_in es stands) ∙ none))
 
 pub sends_nothing : (recalls : List Recall) (xid : ℕ) (result : Option RecallCall) → result ≡ None → next_sent recalls xid ≡ None → SendsRecall recalls xid result recalls
 sends_nothing recalls xid result is none = subst (λ (o : Option RecallCall). SendsRecall recalls xid o recalls) (sym is) (none, refl)
 
-module _ (es : List Entry) (stands : IsStanding es) (place : ℕ) (e : Entry) (xid : ℕ) (found : position is_ready es ≡ Some place) (is : e ≡ get_or es place e) where
+module _ (es : List Entry) (stands : IsRecallTable es) (place : ℕ) (e : Entry) (xid : ℕ) (found : position is_ready es ≡ Some place) (is : e ≡ get_or es place e) where
   sent_at_place : slice_get (recalls_of es) place ≡ Some e.recall
   sent_at_place = at_place es place e (first_there is_ready es place found).within ∙ ap (λ (x : Entry). Some x.recall) (sym is)
 
@@ -54,8 +54,8 @@ module _ (es : List Entry) (stands : IsStanding es) (place : ℕ) (e : Entry) (x
   abbrev new_entries : List Entry
   new_entries = map (held_as e.recall.client (Some (grant_of e.recall))) (set es place (record { recall = at_stage (Out xid 0) e.recall; held_by = Some (grant_of e.recall) }))
 
-  pub sends_stands : (new : List Entry) → new ≡ new_entries → IsStanding new
-  sends_stands new does = subst (λ (l : List Entry). IsStanding l) (sym does) (sent_stands es stands place e.recall sent_at_place (Out xid 0) refl none_out)
+  pub sends_stands : (new : List Entry) → new ≡ new_entries → IsRecallTable new
+  sends_stands new does = subst (λ (l : List Entry). IsRecallTable l) (sym does) (sent_stands es stands place e.recall sent_at_place (Out xid 0) refl none_out)
 
   pub sends_it : (recalls : List Recall) (new : List Entry) → recalls_of es ≡ recalls → new ≡ new_entries
       → next_sent recalls xid ≡ Some (record { recalls = recalls_of new; call = record { file = e.recall.file; cred = e.recall.cred; client = e.recall.client; xid = xid } })

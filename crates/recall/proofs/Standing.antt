@@ -12,7 +12,7 @@ use Rattle.recall.specs.declared.recall.RecallStage.{RecallStage}
 use Rattle.recall.specs.declared.entry.Entry.{Entry}
 use Rattle.recall.specs.declared.entry.Ended.{Ended}
 use Rattle.recall.specs.Recalls.{at_stage, at_tick, is_out, waits, grant_of, may_go, is_before, with_recall}
-use Rattle.recall.specs.Entries.{recall_in, grant_in, recalls_of, is_out_to, holder, is_free, is_ready, ticked, held_as, goes_on, goes_on_in, unless_ended, released, entries_after, IsAtMostOne, IsHeld, IsStanding}
+use Rattle.recall.specs.Entries.{recall_in, grant_in, recalls_of, is_out_to, holder, is_free, is_ready, ticked, held_as, goes_on, goes_on_in, unless_ended, released, entries_after, IsAtMostOne, IsHeld, IsRecallTable}
 use Rattle.recall.proofs.Inserted.{inserted, each_inserted}
 use Rattle.recall.proofs.Outs.{free_is, holder_sent, holder_rests, holder_stays, alone_sent, alone_rests, alone_stays, holder_left, alone_left, holder_at_tick, alone_at_tick, holder_asked, alone_asked}
 
@@ -53,7 +53,7 @@ each_ready : (recalls : List Recall) (es : List Entry) → AllByRecursion (IsHel
 each_ready recalls [] each = tt
 each_ready recalls (e ∷ es) each = (ap (λ b. waits e.recall.stage && b) (ap is_free each.0 ∙ free_is recalls e.recall.client), each_ready recalls es each.1)
 
-pub ready_in : (es : List Entry) → IsStanding es → position is_ready es ≡ position (may_go (recalls_of es)) (recalls_of es)
+pub ready_in : (es : List Entry) → IsRecallTable es → position is_ready es ≡ position (may_go (recalls_of es)) (recalls_of es)
 ready_in es stands = position_by is_ready (may_go (recalls_of es)) es (each_ready (recalls_of es) es stands.held)
 
 pub at_place : (es : List Entry) (place : ℕ) (d : Entry) → place < length es → slice_get (recalls_of es) place ≡ Some (get_or es place d).recall
@@ -97,11 +97,11 @@ module _ (old new : List Recall) (client : ℕ) (grant : Option (FileId × Cred)
   marks_put (x ∷ es) (suc place) e own each = (mark x (λ other. each.0), marks_put es place e own each.1)
 
 -- a callback goes out
-module _ (es : List Entry) (stands : IsStanding es) (place : ℕ) (r : Recall) (at : slice_get (recalls_of es) place ≡ Some r) (s : RecallStage) where
+module _ (es : List Entry) (stands : IsRecallTable es) (place : ℕ) (r : Recall) (at : slice_get (recalls_of es) place ≡ Some r) (s : RecallStage) where
   put_stands : (held_by grant : Option (FileId × Cred))
       → ((own : ℕ) → holder (set (recalls_of es) place (at_stage s r)) own ≡ cond (eqb own r.client) grant (holder (recalls_of es) own))
       → ((own : ℕ) → IsAtMostOne (is_out_to own) (set (recalls_of es) place (at_stage s r)))
-      → IsStanding (map (held_as r.client grant) (set es place (record { recall = at_stage s r; held_by = held_by })))
+      → IsRecallTable (map (held_as r.client grant) (set es place (record { recall = at_stage s r; held_by = held_by })))
   put_stands held_by grant now alone =
       let e : Entry = record { recall = at_stage s r; held_by = held_by } in
       let same : set (recalls_of es) place (at_stage s r) ≡ recalls_of (map (held_as r.client grant) (set es place e)) = sym (put_in r.client grant es place e) in
@@ -112,10 +112,10 @@ module _ (es : List Entry) (stands : IsStanding es) (place : ℕ) (r : Recall) (
       }
 
   pub sent_stands : is_out s ≡ true → find (is_out_to r.client) (recalls_of es) ≡ None
-      → IsStanding (map (held_as r.client (Some (grant_of r))) (set es place (record { recall = at_stage s r; held_by = Some (grant_of r) })))
+      → IsRecallTable (map (held_as r.client (Some (grant_of r))) (set es place (record { recall = at_stage s r; held_by = Some (grant_of r) })))
   sent_stands out none = put_stands (Some (grant_of r)) (Some (grant_of r)) (holder_sent (recalls_of es) place r at s out none) (alone_sent (recalls_of es) place r at s none stands.alone)
 
-  pub rest_stands : is_out s ≡ false → is_out r.stage ≡ true → IsStanding (map (held_as r.client None) (set es place (record { recall = at_stage s r; held_by = None })))
+  pub rest_stands : is_out s ≡ false → is_out r.stage ≡ true → IsRecallTable (map (held_as r.client None) (set es place (record { recall = at_stage s r; held_by = None })))
   rest_stands rests out = put_stands None None (holder_rests (recalls_of es) place r at s rests out (stands.alone r.client)) (alone_rests (recalls_of es) place r at s rests stands.alone)
 
 -- each entry stays marked as it was
@@ -134,8 +134,8 @@ each_set P (x ∷ es) zero e each this = (this, each.1)
 each_set P (x ∷ es) (suc place) e each this = (each.0, each_set P es place e each.1 this)
 
 -- a callback that is out stays out
-pub late_stands : (es : List Entry) → IsStanding es → (place : ℕ) (e : Entry) → place < length es → e ≡ get_or es place e → (s : RecallStage) → is_out s ≡ is_out e.recall.stage
-    → IsStanding (set es place (record { recall = at_stage s e.recall; held_by = e.held_by }))
+pub late_stands : (es : List Entry) → IsRecallTable es → (place : ℕ) (e : Entry) → place < length es → e ≡ get_or es place e → (s : RecallStage) → is_out s ≡ is_out e.recall.stage
+    → IsRecallTable (set es place (record { recall = at_stage s e.recall; held_by = e.held_by }))
 late_stands es stands place e within is s same =
     let at : slice_get (recalls_of es) place ≡ Some e.recall = at_place es place e within ∙ ap (λ (x : Entry). Some x.recall) (sym is) in
     let new : Entry = record { recall = at_stage s e.recall; held_by = e.held_by } in
@@ -167,7 +167,7 @@ each_left ended old new now (e ∷ es) each = by_case (goes_on ended e.recall) (
     by_case true rest = (ap (unless_ended ended) each.0 ∙ sym (now e.recall.client), rest)
     by_case false rest = rest
 
-pub left_stands : (ended : Ended) (es : List Entry) → IsStanding es → IsStanding (entries_after ended es)
+pub left_stands : (ended : Ended) (es : List Entry) → IsRecallTable es → IsRecallTable (entries_after ended es)
 left_stands ended es stands =
     let shown = sym (left_in ended es) in
     record {
@@ -186,7 +186,7 @@ each_ticked : (rs : List Recall) (es : List Entry) → AllByRecursion (IsHeld rs
 each_ticked rs [] each = tt
 each_ticked rs (e ∷ es) each = (each.0, each_ticked rs es each.1)
 
-pub ticked_stands : (es : List Entry) → IsStanding es → IsStanding (map ticked es)
+pub ticked_stands : (es : List Entry) → IsRecallTable es → IsRecallTable (map ticked es)
 ticked_stands es stands =
     let shown = sym (ticked_in es) in
     record {
@@ -197,8 +197,8 @@ ticked_stands es stands =
 
 -- ---- one more
 
-pub asked_stands : (e : Entry) (es : List Entry) → IsStanding es → is_out e.recall.stage ≡ false → e.held_by ≡ holder (recalls_of es) e.recall.client
-    → IsStanding (insert es (position_or_len (λ x. is_before e.recall x.recall) es) e)
+pub asked_stands : (e : Entry) (es : List Entry) → IsRecallTable es → is_out e.recall.stage ≡ false → e.held_by ≡ holder (recalls_of es) e.recall.client
+    → IsRecallTable (insert es (position_or_len (λ x. is_before e.recall x.recall) es) e)
 asked_stands e es stands rests held =
     let place = position_or_len (λ x. is_before e.recall x.recall) es in
     let rs : List Recall = with_recall e.recall (recalls_of es) in

@@ -72,6 +72,6 @@ IsAtMostOne test (x ∷ xs) = (test x ≡ true → find test xs ≡ None) × IsA
 abbrev pub IsHeld : List Recall → Entry → Type 0
 IsHeld recalls e = e.held_by ≡ holder recalls e.recall.client
 
-pub record IsStanding (entries : List Entry) : Type 0 where
+pub record IsRecallTable (entries : List Entry) : Type 0 where
   pub held : AllByRecursion (IsHeld (recalls_of entries)) entries
   pub alone : (client : ℕ) → IsAtMostOne (is_out_to client) (recalls_of entries)

@@ -30,11 +30,11 @@ impl Model for Recalls {
 
     ghost Value = { List Recall };
 
-    ghost use Rattle.recall.specs.Entries.{recalls_of, IsStanding};
+    ghost use Rattle.recall.specs.Entries.{recalls_of, IsRecallTable};
 
     ghost view = { λ s. recalls_of s.entries.items };
 
-    ghost invariant = { λ s. IsStanding s.entries.items };
+    ghost invariant = { λ s. IsRecallTable s.entries.items };
 }
 
 impl Recalls {

@@ -6,13 +6,13 @@ use Rattle.cluster_model.specs.declared.tick.Tick.{Tick}
 use Rattle.cluster_model.specs.declared.ids.MirrorId.{MirrorId}
 use Rattle.cluster_model.specs.Content.{Pending}
 use Rattle.cluster_model.specs.DsCalls.{DsCallValue, Create, SetAttr, Write, Commit, Read, DsReplyValue, Created, Set, Written, Committed, Bytes, NotSync, Failed}
-use Rattle.resilver.specs.CopyLaws.{CopyNote, WasSent, WasAnswered, WasLate, HasTicked, OutCall, call_out, is_read, piece_in, pieces_read, write_of_call, write_in, writes_taken, creates, is_creation, was_created, fails_call, lost_by_answer, lost_by_timeout, was_lost, tick_of, is_create, is_write_to, seen_in, later_of, last_seen}
+use Rattle.resilver.specs.CopyLaws.{CopyNote, WasSent, WasAnswered, WasLate, HasTicked, CopyCallOut, call_out, is_read, piece_in, pieces_read, write_of_call, write_in, writes_taken, creates, is_creation, was_created, fails_call, lost_by_answer, lost_by_timeout, was_lost, tick_of, is_create, is_write_to, seen_in, later_of, last_seen}
 
 -- no call of this server's target is answered, or times out: none, one of another server, or a READ
-pub data IsAway (server : ℕ) (o : Option OutCall) : Type 0 where
+pub data IsAway (server : ℕ) (o : Option CopyCallOut) : Type 0 where
   NoCall : o ≡ None → IsAway server o
-  OfOther : (k : OutCall) → o ≡ Some k → (k.server == server) ≡ false → IsAway server o
-  OfRead : (k : OutCall) → o ≡ Some k → is_read k.call ≡ true → IsAway server o
+  OfOther : (k : CopyCallOut) → o ≡ Some k → (k.server == server) ≡ false → IsAway server o
+  OfRead : (k : CopyCallOut) → o ≡ Some k → is_read k.call ≡ true → IsAway server o
 
 pub record LeavesBe (copier server : ℕ) (notes new : List CopyNote) : Type 0 where
   pub pieces : pieces_read new ≡ pieces_read notes
@@ -35,7 +35,7 @@ write_none id (NotSync shown) = refl
 write_none id (Failed status shown) = refl
 
 -- of an answer to no WRITE of this server's
-write_answer : (id : MirrorId) (reply : DsReplyValue) (k : OutCall) → write_of_call id k.server k.call ≡ [] → write_in id reply (Some k) ≡ []
+write_answer : (id : MirrorId) (reply : DsReplyValue) (k : CopyCallOut) → write_of_call id k.server k.call ≡ [] → write_in id reply (Some k) ≡ []
 write_answer id (Written shown verifier) k none = none
 write_answer id (Created fileid shown) k none = refl
 write_answer id (Set shown) k none = refl
@@ -58,7 +58,7 @@ write_read id server (Create name owner) is = absurd cc
 write_read id server (SetAttr fileid owner guard) is = absurd cc
 write_read id server (Commit fileid) is = absurd cc
 
-pub write_away : (id : MirrorId) (server : ℕ) (reply : DsReplyValue) (o : Option OutCall) → id.server ≡ server → IsAway server o → write_in id reply o ≡ []
+pub write_away : (id : MirrorId) (server : ℕ) (reply : DsReplyValue) (o : Option CopyCallOut) → id.server ≡ server → IsAway server o → write_in id reply o ≡ []
 write_away id server reply o same (NoCall is) = ap (write_in id reply) is ∙ write_none id reply
 write_away id server reply o same (OfOther k is other) = ap (write_in id reply) is ∙ write_answer id reply k (write_other id k.server k.call (ap (λ n. k.server == n) same ∙ other))
 write_away id server reply o same (OfRead k is reads) = ap (write_in id reply) is ∙ write_answer id reply k (write_read id k.server k.call reads)
@@ -72,7 +72,7 @@ creation_none id name copier (Bytes shown eof bytes) = refl
 creation_none id name copier (NotSync shown) = refl
 creation_none id name copier (Failed status shown) = refl
 
-creation_answer : (id : MirrorId) (name copier : ℕ) (reply : DsReplyValue) (k : OutCall) → ((fileid : ℕ) → ((k.server == id.server) && ((fileid == id.fileid) && creates name copier k.call)) ≡ false)
+creation_answer : (id : MirrorId) (name copier : ℕ) (reply : DsReplyValue) (k : CopyCallOut) → ((fileid : ℕ) → ((k.server == id.server) && ((fileid == id.fileid) && creates name copier k.call)) ≡ false)
     → is_creation id name copier reply (Some k) ≡ false
 creation_answer id name copier (Created fileid shown) k none = none fileid
 creation_answer id name copier (Set shown) k none = refl
@@ -89,7 +89,7 @@ creates_none name copier (Create own owner) is = absurd cc
 creates_none name copier (SetAttr fileid owner guard) is = absurd cc
 creates_none name copier (Commit fileid) is = absurd cc
 
-creation_away : (id : MirrorId) (server name copier : ℕ) (reply : DsReplyValue) (o : Option OutCall) → id.server ≡ server → IsAway server o → is_creation id name copier reply o ≡ false
+creation_away : (id : MirrorId) (server name copier : ℕ) (reply : DsReplyValue) (o : Option CopyCallOut) → id.server ≡ server → IsAway server o → is_creation id name copier reply o ≡ false
 creation_away id server name copier reply o same (NoCall is) = ap (is_creation id name copier reply) is ∙ creation_none id name copier reply
 creation_away id server name copier reply o same (OfOther k is other) =
     ap (is_creation id name copier reply) is
@@ -107,12 +107,12 @@ fails_none (Create own owner) reply is = absurd cc
 fails_none (SetAttr fileid owner guard) reply is = absurd cc
 fails_none (Commit fileid) reply is = absurd cc
 
-pub answer_away : (server : ℕ) (reply : DsReplyValue) (o : Option OutCall) → IsAway server o → lost_by_answer server reply o ≡ false
+pub answer_away : (server : ℕ) (reply : DsReplyValue) (o : Option CopyCallOut) → IsAway server o → lost_by_answer server reply o ≡ false
 answer_away server reply o (NoCall is) = ap (lost_by_answer server reply) is
 answer_away server reply o (OfOther k is other) = ap (lost_by_answer server reply) is ∙ ap (λ b. b && fails_call k.call reply) other
 answer_away server reply o (OfRead k is reads) = ap (lost_by_answer server reply) is ∙ ap (λ b. (k.server == server) && b) (fails_none k.call reply reads) ∙ and_false (k.server == server)
 
-timeout_away : (server : ℕ) (o : Option OutCall) → IsAway server o → lost_by_timeout server o ≡ false
+timeout_away : (server : ℕ) (o : Option CopyCallOut) → IsAway server o → lost_by_timeout server o ≡ false
 timeout_away server o (NoCall is) = ap (lost_by_timeout server) is
 timeout_away server o (OfOther k is other) = ap (lost_by_timeout server) is ∙ ap (λ b. b && (not (is_read k.call) && (k.timeouts + 1 == MAX_TIMEOUTS))) other
 timeout_away server o (OfRead k is reads) =
@@ -133,7 +133,7 @@ read_writes file (SetAttr fileid owner guard) is = absurd cc
 read_writes file (Commit fileid) is = absurd cc
 
 -- an answer to no CREATE and no WRITE of this file shows nothing of it
-seen_answer : (id : MirrorId) (reply : DsReplyValue) (k : OutCall) → ((fileid : ℕ) → ((k.server == id.server) && ((fileid == id.fileid) && is_create k.call)) ≡ false) → ((k.server == id.server) && is_write_to id.fileid k.call) ≡ false
+seen_answer : (id : MirrorId) (reply : DsReplyValue) (k : CopyCallOut) → ((fileid : ℕ) → ((k.server == id.server) && ((fileid == id.fileid) && is_create k.call)) ≡ false) → ((k.server == id.server) && is_write_to id.fileid k.call) ≡ false
     → seen_in id reply (Some k) ≡ None
 seen_answer id (Created fileid shown) k makes writes = ap (λ (b : Bool). cond {A = Option Tick} b (Some shown.seen) None) (makes fileid)
 seen_answer id (Written shown verifier) k makes writes = ap (λ (b : Bool). cond {A = Option Tick} b (tick_of shown) None) writes
@@ -152,7 +152,7 @@ seen_none id (Bytes shown eof bytes) = refl
 seen_none id (NotSync shown) = refl
 seen_none id (Failed status shown) = refl
 
-seen_away : (id : MirrorId) (server : ℕ) (reply : DsReplyValue) (o : Option OutCall) → id.server ≡ server → IsAway server o → seen_in id reply o ≡ None
+seen_away : (id : MirrorId) (server : ℕ) (reply : DsReplyValue) (o : Option CopyCallOut) → id.server ≡ server → IsAway server o → seen_in id reply o ≡ None
 seen_away id server reply o same (NoCall is) = ap (seen_in id reply) is ∙ seen_none id reply
 seen_away id server reply o same (OfOther k is other) =
     let not_here : (k.server == id.server) ≡ false = ap (λ n. k.server == n) same ∙ other in

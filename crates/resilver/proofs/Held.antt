@@ -15,7 +15,7 @@ use Rattle.cluster_model.proofs.Elements.{slice_get-set_other, slice_get-set_sam
 use Rattle.copy_rule.specs.declared.copy_target.Target.{Target}
 use Rattle.copy_rule.specs.declared.copy_target.CopyTarget.{CopyTarget}
 use Rattle.copy_rule.specs.Copies.{CopyState, TargetStep, new_copy, to_make, with_target, with_read, with_piece, with_next, have_answered, at_stage, to_write, target_call, target_answered, target_late, target_fails, goes_on_with, is_long}
-use Rattle.resilver.specs.CopyLaws.{CopyMove, CopyNote, WasSent, WasAnswered, WasLate, HasTicked, OutCall, was_sent, call_out, late_once, piece_in, was_lost, AreOnDifferentServers, copy_run}
+use Rattle.resilver.specs.CopyLaws.{CopyMove, CopyNote, WasSent, WasAnswered, WasLate, HasTicked, CopyCallOut, was_sent, call_out, late_once, piece_in, was_lost, AreTargetsApart, copy_run}
 use Rattle.resilver.proofs.Lists.{not_equal, equal, apart, all_at, mapped_at, out_same, over_not_out, waits_not_out, waits_not_over, AfterSet, Here, There, after_set}
 use Rattle.resilver.proofs.Moves.{read_out, NotAtTarget, is_done, Cases, run_keeps}
 use Rattle.resilver.proofs.CallsOut.{fresh_other, sent_other, answered_other, answered_same, late_other, late_same, no_read, piece_none}
@@ -30,7 +30,7 @@ pub record Held (plan : List Target) (copier : ℕ) (c : CopyState) (notes : Lis
   -- no other call is out
   pub only : (y : ℕ) → is_out y c.read ≡ false → NotAtTarget c y → call_out notes y ≡ None
 
-pub different_at : (plan : List Target) (p q : ℕ) (a b : Target) → AreOnDifferentServers plan → p ≢ q → slice_get plan p ≡ Some a → slice_get plan q ≡ Some b → a.server ≢ b.server
+pub different_at : (plan : List Target) (p q : ℕ) (a b : Target) → AreTargetsApart plan → p ≢ q → slice_get plan p ≡ Some a → slice_get plan q ≡ Some b → a.server ≢ b.server
 different_at plan p q a b different other at_p at_q same = by_order (cases_lt p q)
   where
     first : get_or plan p a ≡ a
@@ -51,11 +51,11 @@ late_gone x copier at piece t (Out own n) is out gone = by_count (nat_lt (n + 1)
         → late_once (Some (target_out copier at piece t)) ≡ None
     by_count true less gone = absurd (apart (is_out x t.stage) out (ap (is_out x) is ∙ gone))
     by_count false more gone =
-        ap (λ (b : Bool). cond {A = Option OutCall} b (Some (target_out copier at piece t)) (cond {A = Option OutCall} (nat_lt (timeouts_of t.stage + 1) MAX_TIMEOUTS) (Some (again (timeouts_of t.stage + 1))) None)) (no_read copier at piece t.name t.made)
-        ∙ ap (λ (k : CallStage). cond {A = Option OutCall} (nat_lt (timeouts_of k + 1) MAX_TIMEOUTS) (Some (again (timeouts_of k + 1))) None) is
-        ∙ ap (λ (b : Bool). cond {A = Option OutCall} b (Some (again (n + 1))) None) more
+        ap (λ (b : Bool). cond {A = Option CopyCallOut} b (Some (target_out copier at piece t)) (cond {A = Option CopyCallOut} (nat_lt (timeouts_of t.stage + 1) MAX_TIMEOUTS) (Some (again (timeouts_of t.stage + 1))) None)) (no_read copier at piece t.name t.made)
+        ∙ ap (λ (k : CallStage). cond {A = Option CopyCallOut} (nat_lt (timeouts_of k + 1) MAX_TIMEOUTS) (Some (again (timeouts_of k + 1))) None) is
+        ∙ ap (λ (b : Bool). cond {A = Option CopyCallOut} b (Some (again (n + 1))) None) more
       where
-        again : ℕ → OutCall
+        again : ℕ → CopyCallOut
         again k = record { server = t.server; call = target_call copier at piece t.name t.made; timeouts = k }
 late_gone x copier at piece t (KeptOut own) is out gone = absurd (apart (is_out x t.stage) out gone)
 late_gone x copier at piece t Waits is out gone = absurd (apart (is_out x t.stage) out gone)
@@ -63,7 +63,7 @@ late_gone x copier at piece t KeptBack is out gone = absurd (apart (is_out x t.s
 late_gone x copier at piece t Done is out gone = absurd (apart (is_out x t.stage) out gone)
 late_gone x copier at piece t GivenUp is out gone = absurd (apart (is_out x t.stage) out gone)
 
-module _ (plan : List Target) (copier : ℕ) (different : AreOnDifferentServers plan) (c : CopyState) (notes : List CopyNote) (turn : Turn c notes) (held : Held plan copier c notes) where
+module _ (plan : List Target) (copier : ℕ) (different : AreTargetsApart plan) (c : CopyState) (notes : List CopyNote) (turn : Turn c notes) (held : Held plan copier c notes) where
   -- two targets are on different servers
   servers : (p q : ℕ) (t u : CopyTarget) → p ≢ q → slice_get c.targets p ≡ Some t → slice_get c.targets q ≡ Some u → t.server ≢ u.server
   servers p q t u other at_p at_q same =
@@ -75,7 +75,7 @@ module _ (plan : List Target) (copier : ℕ) (different : AreOnDifferentServers 
   numbers : (p q x y : ℕ) (t u : CopyTarget) → p ≢ q → slice_get c.targets p ≡ Some t → slice_get c.targets q ≡ Some u → is_out x t.stage ≡ true → is_out y u.stage ≡ true → x ≢ y
   numbers p q x y t u other at_p at_q out_x out_y same =
       servers p q t u other at_p at_q
-      (ap (λ (o : OutCall). o.server) (same_Some (target_out c.copier c.at c.piece t) (target_out c.copier c.at c.piece u)
+      (ap (λ (o : CopyCallOut). o.server) (same_Some (target_out c.copier c.at c.piece t) (target_out c.copier c.at c.piece u)
       (sym ((held.at p t at_p).out x out_x) ∙ ap (call_out notes) same ∙ (held.at q u at_q).out y out_y)))
 
   put : (place : ℕ) (t new : CopyTarget) (noted : List CopyNote) → slice_get c.targets place ≡ Some t → TargetAt plan c.copier c.at c.piece noted place new
@@ -288,7 +288,7 @@ pub record Stands (plan : List Target) (copier : ℕ) (c : CopyState) (notes : L
   pub turn : Turn c notes
   pub held : Held plan copier c notes
 
-stands_cases : (plan : List Target) (copier : ℕ) → AreOnDifferentServers plan → (c : CopyState) (notes : List CopyNote) → Stands plan copier c notes → Cases (Stands plan copier) c notes
+stands_cases : (plan : List Target) (copier : ℕ) → AreTargetsApart plan → (c : CopyState) (notes : List CopyNote) → Stands plan copier c notes → Cases (Stands plan copier) c notes
 stands_cases plan copier different c notes s =
     let turns = turn_cases c notes s.turn in
     record {
@@ -335,7 +335,7 @@ stands_start source plan copier = record {
     by_none q None is none = is
     by_none q (Some t) is none = absurd cc
 
-pub stands_run : (source : MirrorId) (plan : List Target) (copier : ℕ) (moves : List CopyMove) → AreOnDifferentServers plan
+pub stands_run : (source : MirrorId) (plan : List Target) (copier : ℕ) (moves : List CopyMove) → AreTargetsApart plan
     → Stands plan copier (copy_run source plan copier moves).copy (copy_run source plan copier moves).notes
 stands_run source plan copier moves different =
     run_keeps (Stands plan copier) (stands_cases plan copier different)

@@ -12,11 +12,11 @@ use Rattle.cluster_model.specs.Fences.{waits, is_out, is_over, stage_at_tick, od
 use Rattle.copy_rule.specs.declared.copy_target.CopyTarget.{CopyTarget}
 use Rattle.copy_rule.specs.declared.copy_target.CopyStep.TheVariants.{Waiting}
 use Rattle.copy_rule.specs.Copies.{CopyState, CopyCall, CopyAfter, TargetStep, with_target, with_read, with_piece, with_next, goes_on, have_answered, at_stage, target_call, target_call_at, call_from, waiting_at, next_call, target_of, target_answered, target_late, read_answered, read_late, is_long, source_fails, copy_then, stranger, step_at, step_from, by_read, on_reply, on_timeout}
-use Rattle.resilver.specs.CopyLaws.{CopyMove, SendsOne, TakesReply, TakesTimeout, Ticks, CopyNote, WasSent, WasAnswered, WasLate, HasTicked, CopyRun, OutCall, was_sent, sent_noted, copy_moved, Piece, piece_in}
+use Rattle.resilver.specs.CopyLaws.{CopyMove, SendsOne, TakesReply, TakesTimeout, Ticks, CopyNote, WasSent, WasAnswered, WasLate, HasTicked, CopyRun, CopyCallOut, was_sent, sent_noted, copy_moved, Piece, piece_in}
 use Rattle.resilver.proofs.Lists.{found_at, none_at}
 
 -- the READ that is out
-abbrev pub read_out : CopyState → OutCall
+abbrev pub read_out : CopyState → CopyCallOut
 read_out c = record { server = c.source.server; call = Read c.source.fileid c.at PIECE_SIZE; timeouts = 0 }
 
 -- no call to a target has this number
@@ -52,14 +52,14 @@ pub record Cases (P : CopyState → List CopyNote → Type 0) (c : CopyState) (n
   pub ticked : P (with_read c (stage_at_tick c.read)) (HasTicked ∷ notes)
 
 -- it is kept where the next piece is to be read
-abbrev pub GoesOn : (P : CopyState → List CopyNote → Type 0) → Type 0
-GoesOn P = (c : CopyState) (notes : List CopyNote) → is_over c.read ≡ true → c.ended ≡ false → have_answered c ≡ true → P c notes → P (with_next c) notes
+abbrev pub IsUnfinished : (P : CopyState → List CopyNote → Type 0) → Type 0
+IsUnfinished P = (c : CopyState) (notes : List CopyNote) → is_over c.read ≡ true → c.ended ≡ false → have_answered c ≡ true → P c notes → P (with_next c) notes
 
 not_false : (b : Bool) → not b ≡ true → b ≡ false
 not_false false is = refl
 not_false true is = absurd cc
 
-module _ (P : CopyState → List CopyNote → Type 0) (cases : (c : CopyState) (notes : List CopyNote) → P c notes → Cases P c notes) (next : GoesOn P) where
+module _ (P : CopyState → List CopyNote → Type 0) (cases : (c : CopyState) (notes : List CopyNote) → P c notes → Cases P c notes) (next : IsUnfinished P) where
   goes : (c : CopyState) (notes : List CopyNote) → P c notes → P (goes_on c) notes
   goes c notes p =
       cond_both (is_over c.read && not c.ended && have_answered c) (with_next c) c (λ (new : CopyState). P new notes)

@@ -15,7 +15,7 @@ use Rattle.cluster_model.specs.Fences.{is_over}
 use Rattle.copy_rule.specs.declared.copy_target.Target.{Target}
 use Rattle.copy_rule.specs.declared.copy_target.CopyTarget.{CopyTarget}
 use Rattle.copy_rule.specs.Copies.{CopyState, is_given_up, have_answered, is_none_left, has_outcome, swap_of, swaps_of, outcome}
-use Rattle.resilver.specs.CopyLaws.{CopyMove, CopyNote, Piece, pieces_read, AreInTurn, said_end, bytes_read, write_for, writes_for, shown_by, writes_taken, was_created, was_lost, are_left, HoldsSource, HasOutcome, GoesOn, AreOnDifferentServers, copy_run}
+use Rattle.resilver.specs.CopyLaws.{CopyMove, CopyNote, Piece, pieces_read, AreInTurn, said_end, bytes_read, write_for, writes_for, shown_by, writes_taken, was_created, was_lost, are_left, HoldsSource, HasOutcome, IsUnfinished, AreTargetsApart, copy_run}
 use Rattle.resilver.proofs.Lists.{apart, all_at}
 use Rattle.resilver.proofs.Turns.{in_turn_of, said_so}
 use Rattle.resilver.proofs.Standing.{TargetAt, Standing, Unmade, Writing, Holding, Lost, open_over}
@@ -214,7 +214,7 @@ outcome_holds plan copier c notes s is = by_left (is_none_left c) refl is
         let both = and_parts c.ended (have_answered c) so in
         holds both.1 (λ some. said_so c notes s.turn ∙ both.0)
 
-pub outcomes : (source : MirrorId) (plan : List Target) (copier : ℕ) (moves : List CopyMove) (targets : List SwappedIn) → AreOnDifferentServers plan
+pub outcomes : (source : MirrorId) (plan : List Target) (copier : ℕ) (moves : List CopyMove) (targets : List SwappedIn) → AreTargetsApart plan
     → outcome (copy_run source plan copier moves).copy ≡ Some targets → HasOutcome plan copier (copy_run source plan copier moves).notes targets
 outcomes source plan copier moves targets different is = by_end (has_outcome (copy_run source plan copier moves).copy) refl is
   where
@@ -231,7 +231,7 @@ module _ (plan : List Target) (copier : ℕ) (c : CopyState) (notes : List CopyN
   -- this target is left, and what it misses
   goes_at : (place : ℕ) (t : CopyTarget) → slice_get c.targets place ≡ Some t → is_given_up t.stage ≡ false
       → (said_end (pieces_read notes) ≡ true → (id : MirrorId) → id.server ≡ t.server → was_created id t.name copier notes ≡ true → writes_taken id notes ≡ writes_for (pieces_read notes) → ⊥)
-      → GoesOn plan copier notes
+      → IsUnfinished plan copier notes
   goes_at place t there left misses =
       let a = target_there plan copier c notes s place t there in
       let split = split_at plan place a.from a.planned in
@@ -269,7 +269,7 @@ module _ (plan : List Target) (copier : ℕ) (c : CopyState) (notes : List CopyN
   over_if_lost Done is = refl
   over_if_lost GivenUp is = absurd cc
 
-  going_on : has_outcome c ≡ false → GoesOn plan copier notes
+  going_on : has_outcome c ≡ false → IsUnfinished plan copier notes
   going_on is = by_answered (have_answered c) refl
     where
       none_false : (a b : Bool) → (a || b) ≡ false → (a ≡ false) × (b ≡ false)
@@ -285,7 +285,7 @@ module _ (plan : List Target) (copier : ℕ) (c : CopyState) (notes : List CopyN
       not_ended true true is so = absurd cc
       not_ended true false is so = absurd cc
 
-      by_answered : (b : Bool) → have_answered c ≡ b → GoesOn plan copier notes
+      by_answered : (b : Bool) → have_answered c ≡ b → IsUnfinished plan copier notes
       by_answered true all =
           let left = some_fails (λ (t : CopyTarget). is_given_up t.stage) c.targets parts.0 in
           goes_at left.0 left.1 left.2 left.3
@@ -294,8 +294,8 @@ module _ (plan : List Target) (copier : ℕ) (c : CopyState) (notes : List CopyN
           let going = some_fails (λ (t : CopyTarget). is_over t.stage) c.targets some in
           goes_at going.0 going.1 going.2 (over_if_lost going.1.stage going.3) (λ end. misses_one going.0 going.1 going.2 going.3)
 
-pub goes_on : (source : MirrorId) (plan : List Target) (copier : ℕ) (moves : List CopyMove) → AreOnDifferentServers plan
-    → outcome (copy_run source plan copier moves).copy ≡ None → GoesOn plan copier (copy_run source plan copier moves).notes
+pub goes_on : (source : MirrorId) (plan : List Target) (copier : ℕ) (moves : List CopyMove) → AreTargetsApart plan
+    → outcome (copy_run source plan copier moves).copy ≡ None → IsUnfinished plan copier (copy_run source plan copier moves).notes
 goes_on source plan copier moves different is =
     going_on plan copier (copy_run source plan copier moves).copy (copy_run source plan copier moves).notes (stands_run source plan copier moves different) (by_end (has_outcome (copy_run source plan copier moves).copy) is)
   where

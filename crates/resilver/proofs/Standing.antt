@@ -18,7 +18,7 @@ use Rattle.cluster_model.specs.Fences.{waits, is_out, is_over}
 use Rattle.copy_rule.specs.declared.copy_target.Target.{Target}
 use Rattle.copy_rule.specs.declared.copy_target.CopyTarget.{CopyTarget}
 use Rattle.copy_rule.specs.Copies.{TargetStep, at_stage, having_made, having_written, seen_then, thrown_away, is_given_up, to_write, stage_for, target_call, target_answered, create_answered, write_answered, target_late, target_fails, goes_on_with}
-use Rattle.resilver.specs.CopyLaws.{CopyNote, WasSent, WasAnswered, WasLate, OutCall, call_out, late_once, is_read, Piece, pieces_read, write_in, writes_taken, writes_for, write_for, is_creation, was_created, fails_call, lost_by_answer, lost_by_timeout, was_lost, tick_of, seen_in, later_of, last_seen}
+use Rattle.resilver.specs.CopyLaws.{CopyNote, WasSent, WasAnswered, WasLate, CopyCallOut, call_out, late_once, is_read, Piece, pieces_read, write_in, writes_taken, writes_for, write_for, is_creation, was_created, fails_call, lost_by_answer, lost_by_timeout, was_lost, tick_of, seen_in, later_of, last_seen}
 use Rattle.resilver.proofs.Lists.{equal, is_equal, apart, out_same, over_not_out}
 use Rattle.resilver.proofs.CallsOut.{sent_same, late_same, no_read}
 use Rattle.resilver.proofs.Away.{LeavesBe, be_sent, be_late}
@@ -58,7 +58,7 @@ timeouts_of Done = 0
 timeouts_of GivenUp = 0
 
 -- the call that is out at a target
-abbrev pub target_out : ℕ → ℕ → List ℕ → CopyTarget → OutCall
+abbrev pub target_out : ℕ → ℕ → List ℕ → CopyTarget → CopyCallOut
 target_out copier at piece t = record { server = t.server; call = target_call copier at piece t.name t.made; timeouts = timeouts_of t.stage }
 
 pub record TargetAt (plan : List Target) (copier at : ℕ) (piece : List ℕ) (notes : List CopyNote) (place : ℕ) (t : CopyTarget) : Type 0 where
@@ -200,14 +200,14 @@ module _ (plan : List Target) (copier at : ℕ) (piece : List ℕ) (notes : List
     fails_at : (reply : DsReplyValue) → fails_call (target_call copier at piece t.name t.made) reply ≡ true → TargetAt plan copier at piece (WasAnswered x reply ∷ notes) place (thrown_away t)
     fails_at reply fails =
         thrown_at (WasAnswered x reply ∷ notes)
-        (ap (λ (o : Option OutCall). lost_by_answer t.server reply o || was_lost t.server notes) (a.out x out)
+        (ap (λ (o : Option CopyCallOut). lost_by_answer t.server reply o || was_lost t.server notes) (a.out x out)
         ∙ ap (λ b. (b && fails_call (target_call copier at piece t.name t.made) reply) || was_lost t.server notes) (equal t.server t.server refl)
         ∙ ap (λ b. b || was_lost t.server notes) fails)
 
     -- it is not lost by an answer that was wanted
     stays_left : (reply : DsReplyValue) → fails_call (target_call copier at piece t.name t.made) reply ≡ false → was_lost t.server (WasAnswered x reply ∷ notes) ≡ false
     stays_left reply fails =
-        ap (λ (o : Option OutCall). lost_by_answer t.server reply o || was_lost t.server notes) (a.out x out)
+        ap (λ (o : Option CopyCallOut). lost_by_answer t.server reply o || was_lost t.server notes) (a.out x out)
         ∙ ap (λ b. (b && fails_call (target_call copier at piece t.name t.made) reply) || was_lost t.server notes) (equal t.server t.server refl)
         ∙ ap (λ b. b || was_lost t.server notes) fails
         ∙ left_before
@@ -239,7 +239,7 @@ module _ (plan : List Target) (copier at : ℕ) (piece : List ℕ) (notes : List
             created = makes id ∙ four (t.server == t.server) (fileid == fileid) (t.name == t.name) (copier == copier) (was_created id t.name copier notes) (equal t.server t.server refl) (equal fileid fileid refl) (equal t.name t.name refl) (equal copier copier refl);
             only = λ other same was. named other same (second_of (t.server == other.server) (fileid == other.fileid) ((t.name == t.name) && (copier == copier)) (was_created other t.name copier notes) (untouched other same).1 (sym (makes other) ∙ was));
             seen =
-                ap (λ (o : Option OutCall). later_of (seen_in id (Created fileid shown) o) (last_seen id notes)) (its_call None none)
+                ap (λ (o : Option CopyCallOut). later_of (seen_in id (Created fileid shown) o) (last_seen id notes)) (its_call None none)
                 ∙ ap (λ (b : Bool). later_of (cond {A = Option Tick} b (Some shown.seen) None) (last_seen id notes)) (both (t.server == t.server) (fileid == fileid) (equal t.server t.server refl) (equal fileid fileid refl));
           })
           (append-nil (writes_taken id notes) ∙ (untouched id refl).0 ∙ sym (ap writes_for (append-nil (pieces_read notes) ∙ nothing)));
@@ -250,7 +250,7 @@ module _ (plan : List Target) (copier at : ℕ) (piece : List ℕ) (notes : List
 
         makes : (other : MirrorId) → was_created other t.name copier (WasAnswered x (Created fileid shown) ∷ notes)
             ≡ (((t.server == other.server) && ((fileid == other.fileid) && ((t.name == t.name) && (copier == copier)))) || was_created other t.name copier notes)
-        makes other = ap (λ (o : Option OutCall). is_creation other t.name copier (Created fileid shown) o || was_created other t.name copier notes) (its_call None none)
+        makes other = ap (λ (o : Option CopyCallOut). is_creation other t.name copier (Created fileid shown) o || was_created other t.name copier notes) (its_call None none)
 
         named : (other : MirrorId) → other.server ≡ t.server → (fileid == other.fileid) ≡ true → other ≡ id
         named other same is = ap (λ n. record { server = other.server; fileid = n }) (sym (is_equal fileid other.fileid is)) ∙ ap (λ n. record { server = n; fileid = fileid }) same
@@ -287,7 +287,7 @@ module _ (plan : List Target) (copier at : ℕ) (piece : List ℕ) (notes : List
         -- what the answer shows of it
         sees : last_seen m.id (WasAnswered x (Written shown verifier) ∷ notes) ≡ later_of (tick_of shown) (last_seen m.id notes)
         sees =
-            ap (λ (o : Option OutCall). later_of (seen_in m.id (Written shown verifier) o) (last_seen m.id notes)) (its_call (Some m) is)
+            ap (λ (o : Option CopyCallOut). later_of (seen_in m.id (Written shown verifier) o) (last_seen m.id notes)) (its_call (Some m) is)
             ∙ ap (λ (b : Bool). later_of (cond {A = Option Tick} b (tick_of shown) None) (last_seen m.id notes)) (two (t.server == m.id.server) (m.id.fileid == m.id.fileid) (equal t.server m.id.server (sym made.server_is)) (equal m.id.fileid m.id.fileid refl))
 
         still : (tick : Tick) → last_seen m.id (WasAnswered x (Written shown verifier) ∷ notes) ≡ Some tick → IsMade copier t.server t.name (WasAnswered x (Written shown verifier) ∷ notes) (record { id = m.id; seen = tick })
@@ -295,7 +295,7 @@ module _ (plan : List Target) (copier at : ℕ) (piece : List ℕ) (notes : List
 
         takes : writes_taken m.id (WasAnswered x (Written shown verifier) ∷ notes) ≡ writes_for (pieces_read (WasAnswered x (Written shown verifier) ∷ notes))
         takes =
-            ap (λ (o : Option OutCall). writes_taken m.id notes ++ write_in m.id (Written shown verifier) o) (its_call (Some m) is)
+            ap (λ (o : Option CopyCallOut). writes_taken m.id notes ++ write_in m.id (Written shown verifier) o) (its_call (Some m) is)
             ∙ ap (λ (b : Bool). writes_taken m.id notes ++ cond {A = List Pending} b (record { at = at; bytes = piece } ∷ []) []) (both (t.server == m.id.server) (m.id.fileid == m.id.fileid) (equal t.server m.id.server (sym made.server_is)) (equal m.id.fileid m.id.fileid refl))
             ∙ taken
             ∙ ap writes_for (sym (append-nil (pieces_read notes)))
@@ -345,13 +345,13 @@ module _ (plan : List Target) (copier at : ℕ) (piece : List ℕ) (notes : List
       out = λ y so.
           let same : x ≡ y = out_same x y (Out x (n + 1)) (equal x x refl) so in
           late_same notes x y same ∙ ap (λ k. late_once (call_out notes k)) (sym same) ∙ ap late_once (a.out x out)
-          ∙ ap (λ (b : Bool). cond {A = Option OutCall} b (Some (target_out copier at piece t)) (cond {A = Option OutCall} (nat_lt (timeouts_of t.stage + 1) MAX_TIMEOUTS) (Some (again (timeouts_of t.stage + 1))) None)) (no_read copier at piece t.name t.made)
-          ∙ ap (λ (s : CallStage). cond {A = Option OutCall} (nat_lt (timeouts_of s + 1) MAX_TIMEOUTS) (Some (again (timeouts_of s + 1))) None) is
-          ∙ ap (λ (b : Bool). cond {A = Option OutCall} b (Some (again (n + 1))) None) less;
+          ∙ ap (λ (b : Bool). cond {A = Option CopyCallOut} b (Some (target_out copier at piece t)) (cond {A = Option CopyCallOut} (nat_lt (timeouts_of t.stage + 1) MAX_TIMEOUTS) (Some (again (timeouts_of t.stage + 1))) None)) (no_read copier at piece t.name t.made)
+          ∙ ap (λ (s : CallStage). cond {A = Option CopyCallOut} (nat_lt (timeouts_of s + 1) MAX_TIMEOUTS) (Some (again (timeouts_of s + 1))) None) is
+          ∙ ap (λ (b : Bool). cond {A = Option CopyCallOut} b (Some (again (n + 1))) None) less;
       stands = standing_on copier at piece notes (WasLate x ∷ notes) (at_stage t (Out x (n + 1))) be (standing_at copier at piece notes t (Out x (n + 1)) (ap is_over is) refl a.stands);
     }
       where
-        again : ℕ → OutCall
+        again : ℕ → CopyCallOut
         again k = record { server = t.server; call = target_call copier at piece t.name t.made; timeouts = k }
 
         be : LeavesBe copier t.server notes (WasLate x ∷ notes)

@@ -14,9 +14,9 @@ use Rattle.cluster_model.specs.Fences.{waits, is_out, is_over, stage_at_tick}
 use Rattle.copy_rule.specs.declared.copy_target.Target.{Target}
 use Rattle.copy_rule.specs.declared.copy_target.CopyTarget.{CopyTarget}
 use Rattle.copy_rule.specs.Copies.{CopyState, TargetStep, new_copy, to_make, with_target, with_read, with_piece, with_next, have_answered, at_stage, is_given_up, to_write, stage_for, target_call, target_answered, target_late, target_fails, goes_on_with, is_long}
-use Rattle.resilver.specs.CopyLaws.{CopyMove, CopyNote, WasSent, WasAnswered, WasLate, HasTicked, OutCall, was_sent, call_out, late_once, Piece, piece_in, pieces_read, AreInTurn, copy_run, said_end}
+use Rattle.resilver.specs.CopyLaws.{CopyMove, CopyNote, WasSent, WasAnswered, WasLate, HasTicked, CopyCallOut, was_sent, call_out, late_once, Piece, piece_in, pieces_read, AreInTurn, copy_run, said_end}
 use Rattle.resilver.proofs.Lists.{equal, apart, all_at, mapped_at, out_same, over_not_out, waits_not_out, waits_not_over, AfterSet, Here, There, after_set}
-use Rattle.resilver.proofs.Moves.{read_out, NotAtTarget, is_done, Cases, GoesOn, run_keeps}
+use Rattle.resilver.proofs.Moves.{read_out, NotAtTarget, is_done, Cases, IsUnfinished, run_keeps}
 use Rattle.resilver.proofs.CallsOut.{reads_out, not_sent, sent_same, answered_other, answered_same, late_other, late_same, reads_sent, reads_answered, reads_timed_out, no_read, piece_none}
 
 -- ---- one target
@@ -272,7 +272,7 @@ module _ (c : CopyState) (notes : List CopyNote) (turn : Turn c notes) where
       (λ y was. ap (λ b. (x == y) || b) was ∙ or_true (x == y))
       (λ y out. (sent_same notes c.source.server x y (Read c.source.fileid c.at PIECE_SIZE) (out_same x y (Out x 0) (equal x x refl) out), all))
       (λ y q u at out. absurd (apart (is_out y u.stage) out (over_not_out y u.stage (all_at (λ k. is_over k.stage) c.targets q u all at))))
-      (λ y away. ap (λ (b : Bool). reads_out (cond {A = Option OutCall} b (Some (read_out c)) (call_out notes y))) away ∙ turn.only y (waits_not_out y c.read waiting))
+      (λ y away. ap (λ (b : Bool). reads_out (cond {A = Option CopyCallOut} b (Some (read_out c)) (call_out notes y))) away ∙ turn.only y (waits_not_out y c.read waiting))
 
   -- the READ that was answered is out no longer
   read_gone : (x : ℕ) (reply : DsReplyValue) → is_out x c.read ≡ true → (y : ℕ) → reads_out (call_out (WasAnswered x reply ∷ notes) y) ≡ false
@@ -320,7 +320,7 @@ module _ (c : CopyState) (notes : List CopyNote) (turn : Turn c notes) where
   pub one_read : (x : ℕ) (shown : Option Shown) (eof : Bool) (bytes : List ℕ) → is_out x c.read ≡ true → is_long c bytes ≡ false
       → pieces_read (WasAnswered x (Bytes shown eof bytes) ∷ notes) ≡ pieces_read notes ++ record { at = c.at; bytes = bytes; eof = eof } ∷ []
   one_read x shown eof bytes out fits =
-      ap (λ (o : Option OutCall). pieces_read notes ++ piece_in (Bytes shown eof bytes) o) (turn.read x out)
+      ap (λ (o : Option CopyCallOut). pieces_read notes ++ piece_in (Bytes shown eof bytes) o) (turn.read x out)
       ∙ ap (λ (b : Bool). pieces_read notes ++ cond {A = List Piece} b [] (record { at = c.at; bytes = bytes; eof = eof } ∷ [])) fits
 
   turn_piece : (x : ℕ) (shown : Option Shown) (eof : Bool) (bytes : List ℕ) → NotAtTarget c x → is_out x c.read ≡ true → is_long c bytes ≡ false
@@ -420,7 +420,7 @@ turn_cases c notes turn = record {
   ticked = turn_ticked c notes turn;
 }
 
-pub turn_goes : GoesOn Turn
+pub turn_goes : IsUnfinished Turn
 turn_goes c notes over open' all turn = turn_next c notes turn over open' all
 
 pub turn_start : (source : MirrorId) (plan : List Target) (copier : ℕ) → Turn (new_copy source plan copier) []

@@ -14,9 +14,9 @@ SendsCopyCall old xid (Some (server, call)) new =
     (uid : ℕ) × (next_call old xid ≡ Some (record { copy = new; server = server; uid = uid; call = plain_ds_call call }))
 
 -- the bytes of a WRITE that is lent are at most a piece's
-abbrev pub CarriesFewBytes : Option (ℕ × DsCall) → Type 0
-CarriesFewBytes None = Unit {0}
-CarriesFewBytes (Some (server, call)) = length (data_in (plain_ds_call call)) ≤ PIECE_SIZE
+abbrev pub LendsOnePiece : Option (ℕ × DsCall) → Type 0
+LendsOnePiece None = Unit {0}
+LendsOnePiece (Some (server, call)) = length (data_in (plain_ds_call call)) ≤ PIECE_SIZE
 
 -- an answer, unless memory is wanted for a piece; nothing has changed then
 abbrev pub TakesAnswer : CopyState → ℕ → DsReplyValue → Result CopyStep NoMemory → CopyState → Type 0

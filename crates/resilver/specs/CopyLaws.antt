@@ -58,7 +58,7 @@ copy_run source plan copier moves = fold copy_moved (record { copy = new_copy so
 -- ---- what the notes tell
 
 -- a call that is out, and how often it has timed out
-pub record OutCall : Type 0 where
+pub record CopyCallOut : Type 0 where
   pub server : ℕ
   pub call : DsCallValue
   pub timeouts : ℕ
@@ -71,14 +71,14 @@ is_read (SetAttr fileid owner guard) = false
 is_read (Write fileid at synced bytes) = false
 is_read (Commit fileid) = false
 
-abbrev pub late_once : Option OutCall → Option OutCall
+abbrev pub late_once : Option CopyCallOut → Option CopyCallOut
 late_once None = None
 late_once (Some o) =
     if is_read o.call then Some o
     else (if nat_lt (o.timeouts + 1) MAX_TIMEOUTS then Some (record { server = o.server; call = o.call; timeouts = o.timeouts + 1 }) else None)
 
 -- the call that is out under a number
-abbrev pub call_out : List CopyNote → ℕ → Option OutCall
+abbrev pub call_out : List CopyNote → ℕ → Option CopyCallOut
 call_out [] xid = None
 call_out (WasSent server own call ∷ before) xid = if own == xid then Some (record { server = server; call = call; timeouts = 0 }) else call_out before xid
 call_out (WasAnswered own reply ∷ before) xid = if own == xid then None else call_out before xid
@@ -102,7 +102,7 @@ piece_of_call (SetAttr fileid owner guard) bytes eof = []
 piece_of_call (Write fileid at synced written) bytes eof = []
 piece_of_call (Commit fileid) bytes eof = []
 
-abbrev pub piece_in : DsReplyValue → Option OutCall → List Piece
+abbrev pub piece_in : DsReplyValue → Option CopyCallOut → List Piece
 piece_in (Bytes shown eof bytes) (Some o) = piece_of_call o.call bytes eof
 piece_in (Bytes shown eof bytes) None = []
 piece_in (Created fileid shown) o = []
@@ -128,7 +128,7 @@ write_of_call id server (SetAttr fileid owner guard) = []
 write_of_call id server (Commit fileid) = []
 write_of_call id server (Read fileid at count) = []
 
-abbrev pub write_in : MirrorId → DsReplyValue → Option OutCall → List Pending
+abbrev pub write_in : MirrorId → DsReplyValue → Option CopyCallOut → List Pending
 write_in id (Written shown verifier) (Some o) = write_of_call id o.server o.call
 write_in id (Written shown verifier) None = []
 write_in id (Created fileid shown) o = []
@@ -151,7 +151,7 @@ abbrev pub creates : ℕ → ℕ → DsCallValue → Bool
 creates name copier (Create own owner) = (own == name) && (owner == copier)
 creates name copier call = false
 
-abbrev pub is_creation : MirrorId → ℕ → ℕ → DsReplyValue → Option OutCall → Bool
+abbrev pub is_creation : MirrorId → ℕ → ℕ → DsReplyValue → Option CopyCallOut → Bool
 is_creation id name copier (Created fileid shown) (Some o) = (o.server == id.server) && ((fileid == id.fileid) && creates name copier o.call)
 is_creation id name copier reply o = false
 
@@ -183,7 +183,7 @@ is_write_to file (Commit fileid) = false
 is_write_to file (Read fileid at count) = false
 
 -- what an OK answer to the CREATE of a file, or to a WRITE to it, shows
-abbrev pub seen_in : MirrorId → DsReplyValue → Option OutCall → Option Tick
+abbrev pub seen_in : MirrorId → DsReplyValue → Option CopyCallOut → Option Tick
 seen_in id (Created fileid shown) (Some o) = if (o.server == id.server) && ((fileid == id.fileid) && is_create o.call) then Some shown.seen else None
 seen_in id (Created fileid shown) None = None
 seen_in id (Written shown verifier) (Some o) = if (o.server == id.server) && is_write_to id.fileid o.call then tick_of shown else None
@@ -256,11 +256,11 @@ fails_call (SetAttr fileid owner guard) reply = false
 fails_call (Commit fileid) reply = false
 fails_call (Read fileid at count) reply = false
 
-abbrev pub lost_by_answer : ℕ → DsReplyValue → Option OutCall → Bool
+abbrev pub lost_by_answer : ℕ → DsReplyValue → Option CopyCallOut → Bool
 lost_by_answer server reply None = false
 lost_by_answer server reply (Some o) = (o.server == server) && fails_call o.call reply
 
-abbrev pub lost_by_timeout : ℕ → Option OutCall → Bool
+abbrev pub lost_by_timeout : ℕ → Option CopyCallOut → Bool
 lost_by_timeout server None = false
 lost_by_timeout server (Some o) = (o.server == server) && (not (is_read o.call) && (o.timeouts + 1 == MAX_TIMEOUTS))
 
@@ -282,15 +282,15 @@ pub record HasOutcome (plan : List Target) (copier : ℕ) (notes : List CopyNote
   pub hold : All (HoldsSource plan copier notes) targets
 
 -- No outcome: a target is left, and the source has not said end or this target has not taken each piece.
-pub record GoesOn (plan : List Target) (copier : ℕ) (notes : List CopyNote) : Type 0 where
+pub record IsUnfinished (plan : List Target) (copier : ℕ) (notes : List CopyNote) : Type 0 where
   pub target : Target
   pub left : (before behind : List Target) × (are_left plan notes ≡ before ++ target ∷ behind)
   pub misses : said_end (pieces_read notes) ≡ true → (id : MirrorId) → id.server ≡ target.server → was_created id target.name copier notes ≡ true
       → writes_taken id notes ≡ writes_for (pieces_read notes) → ⊥
 
 -- no two targets are on one server
-abbrev pub AreOnDifferentServers : List Target → Type 0
-AreOnDifferentServers plan = AllPairs (λ a b. a.server ≡ b.server → ⊥) plan
+abbrev pub AreTargetsApart : List Target → Type 0
+AreTargetsApart plan = AllPairs (λ a b. a.server ≡ b.server → ⊥) plan
 
 -- nothing goes out behind a source that failed until the next tick
 abbrev pub IsQuiet : CopyAfter → Type 0
@@ -306,10 +306,10 @@ caller_of copier (Read fileid at count) = 0
 
 pub record CopyLaw : Type 0 where
   pub in_turn : (source : MirrorId) (plan : List Target) (copier : ℕ) (moves : List CopyMove) → AreInTurn 0 (pieces_read (copy_run source plan copier moves).notes)
-  pub outcomes : (source : MirrorId) (plan : List Target) (copier : ℕ) (moves : List CopyMove) (targets : List SwappedIn) → AreOnDifferentServers plan
+  pub outcomes : (source : MirrorId) (plan : List Target) (copier : ℕ) (moves : List CopyMove) (targets : List SwappedIn) → AreTargetsApart plan
       → outcome (copy_run source plan copier moves).copy ≡ Some targets → HasOutcome plan copier (copy_run source plan copier moves).notes targets
-  pub goes_on : (source : MirrorId) (plan : List Target) (copier : ℕ) (moves : List CopyMove) → AreOnDifferentServers plan
-      → outcome (copy_run source plan copier moves).copy ≡ None → GoesOn plan copier (copy_run source plan copier moves).notes
+  pub goes_on : (source : MirrorId) (plan : List Target) (copier : ℕ) (moves : List CopyMove) → AreTargetsApart plan
+      → outcome (copy_run source plan copier moves).copy ≡ None → IsUnfinished plan copier (copy_run source plan copier moves).notes
   pub quiet_reply : (source : MirrorId) (plan : List Target) (copier : ℕ) (moves : List CopyMove) (xid : ℕ) (reply : DsReplyValue) → IsQuiet (on_reply (copy_run source plan copier moves).copy xid reply)
   pub quiet_timeout : (source : MirrorId) (plan : List Target) (copier : ℕ) (moves : List CopyMove) (xid : ℕ) → IsQuiet (on_timeout (copy_run source plan copier moves).copy xid)
   pub callers : (c : CopyState) (xid : ℕ) (call : CopyCall) → next_call c xid ≡ Some call → call.uid ≡ caller_of c.copier call.call

@@ -22,9 +22,9 @@ call_as c (WritesPiece fileid) = Write fileid c.at true c.piece
 call_as c ReadsSource = Read c.source.fileid c.at PIECE_SIZE
 
 -- what goes out under a number, to which server, and the copy then, which lends it
-abbrev pub SendsNext : CopyState → ℕ → Option (ℕ × NextCall) → CopyState → Type 0
-SendsNext old xid None new = (next_call old xid ≡ None) × (new ≡ old)
-SendsNext old xid (Some (server, next)) new =
+abbrev pub SendsBeforeLent : CopyState → ℕ → Option (ℕ × NextCall) → CopyState → Type 0
+SendsBeforeLent old xid None new = (next_call old xid ≡ None) × (new ≡ old)
+SendsBeforeLent old xid (Some (server, next)) new =
     (uid : ℕ) × (next_call old xid ≡ Some (record { copy = new; server = server; uid = uid; call = call_as new next }))
 
 -- the same call as it is sent

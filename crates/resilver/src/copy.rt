@@ -6,8 +6,8 @@ ghost use mathlib.Core.Option.{none};
 ghost use Rattle.cluster_model.specs.DsCalls.{plain_ds_reply, Bytes};
 ghost use Rattle.copy_rule.specs.Copies.{new_copy, has_outcome, goes_on, step_told, copy_then, source_fails, is_long, read_late, outcome, on_timeout, after_tick};
 ghost use Rattle.resilver.specs.contracts.copy.Copy.{the_row};
-ghost use Rattle.resilver.specs.Calls.{SendsCopyCall, CarriesFewBytes, TakesAnswer};
-ghost use Rattle.resilver.specs.Sends.{SendsNext, LendsNext, TakesRead, BringsPiece, AsksForPiece};
+ghost use Rattle.resilver.specs.Calls.{SendsCopyCall, LendsOnePiece, TakesAnswer};
+ghost use Rattle.resilver.specs.Sends.{SendsBeforeLent, LendsNext, TakesRead, BringsPiece, AsksForPiece};
 
 use crate::call::NextCall;
 use crate::target::{answered, at_stage, next_for, timed_out, to_make};
@@ -77,7 +77,7 @@ impl Copy {
     /// waits. The first target to which a call waits comes first; the source is READ once every target that is left has
     /// answered. No call of this number is outstanding before. Takes no memory.
     pub fn next_call(&mut self, xid: u32) -> Option<(u32, DsCall<'_>)>
-        ensures few { CarriesFewBytes result }
+        ensures few { LendsOnePiece result }
         ensures* sends { sem 𝓛 (follows_so the_row the_row self.entry.ghost_name none (λ _ _. ⊤) (λ new. SendsCopyCall self.old xid result new)) }
     {
         let next = self.send_next(xid);
@@ -86,7 +86,7 @@ impl Copy {
 
     /// What goes out next, and to which server. It is outstanding from now on.
     fn send_next(&mut self, xid: u32) -> Option<(u32, NextCall)>
-        ensures { SendsNext self.old xid result self.new }
+        ensures { SendsBeforeLent self.old xid result self.new }
     {
         let out = CallStage::Out { xid, timeouts: 0 };
         if let Some(place) = waiting(self.targets.as_slice()) {
@@ -103,7 +103,7 @@ impl Copy {
 
     /// The call that goes to a server, if one does.
     fn lend(&self, next: Option<(u32, NextCall)>) -> Option<(u32, DsCall<'_>)>
-        ensures few { CarriesFewBytes result }
+        ensures few { LendsOnePiece result }
         ensures lends { LendsNext self.now next result }
     {
         let (server, next) = next?;

@@ -3,7 +3,7 @@ use Rattle.std.specs.Prelude.{is_some}
 use Rattle.std.proofs.lemmas.Result.{on_ok_weaker, on_err_weaker}
 use Rattle.open_state.specs.declared.open.Open.{Open}
 use Rattle.open_state.specs.Opens.{opens_in}
-use Rattle.open_state.specs.Calls.{Becomes}
+use Rattle.open_state.specs.Calls.{OpensBecome}
 use Rattle.open_state.proofs.OfClients.{found_some, found_none, becomes, set_same}
 use Rattle.open_state.proofs.opens.add.Goals as goal
 
@@ -25,6 +25,6 @@ pub returns-clause-ok : goal.returns-clause-ok
 returns-clause-ok c =
     let es = c.args.clients.now.entries in
     let all = opens_in es c.args.client ++ c.args.newest ∷ [] in
-    subst (λ l. Becomes l c.args.client all c.insert.new.self.entries) (ap (λ m. m.entries) c.get_mut.follows.holds-at-none)
+    subst (λ l. OpensBecome l c.args.client all c.insert.new.self.entries) (ap (λ m. m.entries) c.get_mut.follows.holds-at-none)
     (becomes _ c.insert.new.self.entries c.args.client all (Some c.in_ok-opens.opens) c.in_ok-insert.ensures.updates.0
     (c.in_ok-opens.ensures ∙ ap (λ (l : List Open). l ++ c.args.newest ∷ []) (sym (found_none es c.args.client c.in_default.ensures.value))))

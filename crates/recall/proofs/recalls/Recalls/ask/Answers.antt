@@ -3,7 +3,7 @@ use Rattle.std.specs.Prelude.{insert}
 use Rattle.recall.specs.declared.recall.Recall.{Recall}
 use Rattle.recall.specs.declared.entry.Entry.{Entry}
 use Rattle.recall.specs.Recalls.{new_recall, with_recall}
-use Rattle.recall.specs.Entries.{recalls_of, IsStanding}
+use Rattle.recall.specs.Entries.{recalls_of, IsRecallTable}
 use Rattle.recall.proofs.Inserted.{inserted}
 use Rattle.recall.proofs.Standing.{asked_stands}
 use Rattle.recall.proofs.Asked.{is_known, holder_is, place_is, was_ok}
@@ -20,7 +20,7 @@ invariant_of-self-2 c =
     let e : Entry = record { recall = r; held_by = c.holder-held_by.result } in
     let held = holder_is c.args.client items _ c.holder-held_by.result c.as_slice-2.ensures.value c.holder-held_by.ensures in
     let place = place_is r items _ c.place_for-place.result c.as_slice-3.ensures.value c.place_for-place.ensures.exact in
-    subst (λ (l : List Entry). IsStanding l) (sym (was_ok c.insert.result c.in_default.not-Err c.insert.ensures.ok ∙ ap (λ k. insert items k e) place))
+    subst (λ (l : List Entry). IsRecallTable l) (sym (was_ok c.insert.result c.in_default.not-Err c.insert.ensures.ok ∙ ap (λ k. insert items k e) place))
     (asked_stands e items c.self.invariant refl held)
 
 pub returns : goal.returns
