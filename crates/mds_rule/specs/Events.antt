@@ -1,0 +1,112 @@
+-- What a metadata server does in each event. It has three parts: what came is taken, and what it brought runs as far as it goes; then calls
+-- go out.
+use Rattle.std.specs.Prelude.{ℕ, zero, suc, Bool, true, false, not, ◌==◌, ◌&&◌, List, [], ◌∷◌, ◌++◌, length, Option, Some, None, if◌then◌else◌}
+use Rattle.std.specs.Option.{option_to_list}
+use Rattle.std.specs.List.{find, range_with_len, flat_map}
+use Rattle.rpc_record.specs.Replies.{RpcReply, reply_bytes}
+use Rattle.cluster_model.specs.declared.ids.NodeId.{NodeId}
+use Rattle.cluster_model.specs.declared.ids.NodeId.TheVariants.{Mds, Server}
+use Rattle.cluster_model.specs.declared.ids.FileId.{FileId}
+use Rattle.cluster_model.specs.declared.ids.Cred.{Cred}
+use Rattle.cluster_model.specs.declared.phase.EndCause.TheVariants.{Lease, Recalled}
+use Rattle.cluster_model.specs.declared.entry.Entry.TheVariants.{TimedOut}
+use Rattle.cluster_model.specs.Nodes.{is_node}
+use Rattle.file_rule.specs.FilePhases.{Revokes, Resilver, Ticks}
+use Rattle.nfs4_compound.specs.Compounds.{CompoundValue}
+use Rattle.nfs4_session.specs.Clients.{ClientState}
+use Rattle.nfs4_session.specs.Ends.{has_ended, without_client}
+use Rattle.recall.specs.Recalls.{RecallsTick, after_tick}
+use Rattle.ds_calls.specs.GivenReplies.{reply_of_call}
+use Rattle.recall_calls.specs.RecallAnswers.{recall_status}
+use Rattle.mds_receive.specs.MdsReceive.{IncomingValue, PassedOver, IsReply, IsAnswered, IsCompound, incoming_of}
+use Rattle.mds_rule.specs.MdsStates.{ServedFile, OutCall, Caller, ForFile, ForRead, ForWrite, ForRecall, MdsSend, Answers, MdsValue, MdsStep, sends_none, enters, and_then, served, numbered}
+use Rattle.mds_rule.specs.ServedFiles.{takes_input, asks_back, ends_client}
+use Rattle.mds_rule.specs.Compounds.{runs_compound}
+use Rattle.mds_rule.specs.Answers.{is_awaited, takes_answer, timed_out_for}
+use Rattle.mds_rule.specs.Goes.{each, calls_out, kept_number}
+
+-- ---- records
+
+abbrev pub takes_compound : ℕ → MdsValue → NodeId → ℕ → CompoundValue → MdsStep
+takes_compound now m node xid v = and_then (runs_compound now m node xid v) (calls_out [])
+
+abbrev pub takes_reply : ℕ → MdsValue → NodeId → RpcReply → MdsStep
+takes_reply now m node reply = and_then (takes_answer now m node reply.xid (λ call. reply_of_call call reply) (recall_status reply.stat reply.results)) (calls_out [])
+
+-- what is answered at once
+abbrev pub answers_with : MdsValue → NodeId → List ℕ → MdsStep
+answers_with m node bytes = record { mds = m; entries = []; sends = Answers node bytes ∷ [] }
+
+abbrev pub takes_incoming : ℕ → MdsValue → NodeId → IncomingValue → MdsStep
+takes_incoming now m node PassedOver = sends_none m
+takes_incoming now m node (IsReply reply) = takes_reply now m node reply
+takes_incoming now m node (IsAnswered bytes) = answers_with m node bytes
+takes_incoming now m node (IsCompound xid v) = takes_compound now m node xid v
+
+abbrev pub takes_record : ℕ → MdsValue → NodeId → List ℕ → MdsStep
+takes_record now m node bytes = takes_incoming now m node (incoming_of bytes)
+
+-- ---- a timeout: of the call to this node that was sent first, of those that are awaited
+
+abbrev pub is_outstanding_to : MdsValue → NodeId → OutCall → Bool
+is_outstanding_to m node call = is_node call.node node && is_awaited m call
+
+-- its record goes out again, where it is still awaited and is not kept until the next tick
+abbrev pub is_kept : Option ℕ → ℕ → Bool
+is_kept None xid = false
+is_kept (Some kept) xid = kept == xid
+
+abbrev pub kept_of : Option ServedFile → Option ℕ
+kept_of None = None
+kept_of (Some s) = kept_number s.file
+
+abbrev pub is_kept_by : MdsValue → ℕ → Caller → Bool
+is_kept_by m xid (ForFile file) = is_kept (kept_of (served m file)) xid
+is_kept_by m xid other = false
+
+abbrev pub goes_again : OutCall → MdsValue → MdsStep
+goes_again call m = if is_awaited m call && not (is_kept_by m call.xid call.caller) then record { mds = m; entries = []; sends = call.sent ∷ [] } else sends_none m
+
+abbrev pub times_out : ℕ → MdsValue → Option OutCall → MdsStep
+times_out now m None = sends_none m
+times_out now m (Some call) = enters (TimedOut Mds call.xid ∷ []) (and_then (and_then (timed_out_for now m call.xid call.caller) (goes_again call)) (calls_out []))
+
+abbrev pub takes_timeout : ℕ → MdsValue → NodeId → MdsStep
+takes_timeout now m node = times_out now m (find (is_outstanding_to m node) m.calls)
+
+-- ---- a tick: leases, recalls, what waited for it
+
+abbrev pub lease_ends : MdsValue → Option ClientState → (MdsValue → MdsStep) → MdsStep
+lease_ends m None next = sends_none m
+lease_ends m (Some c) next = and_then (ends_client (record m { sessions = without_client m.sessions c.id }) c.id Lease) next
+
+-- in the order in which the clients came
+abbrev pub leases_end : ℕ → ℕ → MdsValue → MdsStep
+leases_end now zero m = sends_none m
+leases_end now (suc n) m = lease_ends m (find (has_ended now) m.sessions.clients) (leases_end now n)
+
+abbrev pub recall_expires : MdsValue → Option (FileId × Cred) → (MdsValue → MdsStep) → MdsStep
+recall_expires m None next = sends_none m
+recall_expires m (Some grant) next = and_then (takes_input m grant.0 (Revokes Recalled)) next
+
+-- in the order of the files
+abbrev pub recalls_expire : ℕ → ℕ → MdsValue → MdsStep
+recalls_expire now zero m = sends_none (record m { recalls = (after_tick m.recalls now).recalls })
+recalls_expire now (suc n) m = recall_expires (record m { recalls = (after_tick m.recalls now).recalls }) (after_tick m.recalls now).expired (recalls_expire now n)
+
+abbrev pub kept_numbers : MdsValue → List ℕ
+kept_numbers m = flat_map (λ (s : ServedFile). option_to_list (kept_number s.file)) m.files
+
+abbrev pub files_tick : MdsValue → MdsStep
+files_tick m = and_then (each (λ n k. takes_input k (numbered n) Ticks) (range_with_len 1 (length m.files)) m) (calls_out (kept_numbers m))
+
+abbrev pub takes_tick : ℕ → MdsValue → MdsStep
+takes_tick now m = and_then (and_then (leases_end now (length m.sessions.clients) m) (λ n. recalls_expire now (length n.recalls) n)) files_tick
+
+-- ---- what the cluster's administrator asks
+
+abbrev pub takes_recall : ℕ → MdsValue → FileId → MdsStep
+takes_recall now m file = and_then (asks_back m file now) (calls_out [])
+
+abbrev pub takes_resilver : MdsValue → FileId → MdsStep
+takes_resilver m file = and_then (takes_input m file Resilver) (calls_out [])

@@ -1,0 +1,12 @@
+pub mod MdsStates
+pub mod OpSteps
+pub mod ServedFiles
+pub mod SessionOps
+pub mod FileOps
+pub mod LayoutOps
+pub mod Compounds
+pub mod Answers
+pub mod Goes
+pub mod Events
+pub mod MdsTurns
+pub mod Conversations

@@ -1,0 +1,18 @@
+//! Conversations that are worked out by hand.
+
+ghost use Rattle.std.specs.Prelude.{◌≡◌};
+ghost use Rattle.mds_rule.specs.MdsTurns.{shown_in};
+ghost use Rattle.mds_rule.specs.Conversations.{fresh_mds, opened_mds, opening, opening_shown, period, period_shown, reading, reading_shown, writing, writing_shown, held_mds, reporting, reporting_shown, lease_ending, lease_ending_shown, recalling, recalling_shown};
+
+/// Conversations with a metadata server that are worked out by hand: a client that opens a file; a period of writing, from
+/// its grant to the end of its fence; a READ that one mirror fails; a WRITE through the metadata server; a return with a
+/// report; a lease that ends, with a mirror that is silent; a recall that expires, and the copy behind its fence.
+pub fn worked_conversations()
+    ensures opening { shown_in fresh_mds opening ≡ opening_shown }
+    ensures period { shown_in opened_mds period ≡ period_shown }
+    ensures reading { shown_in opened_mds reading ≡ reading_shown }
+    ensures writing { shown_in opened_mds writing ≡ writing_shown }
+    ensures reporting { shown_in held_mds reporting ≡ reporting_shown }
+    ensures lease_ending { shown_in held_mds lease_ending ≡ lease_ending_shown }
+    ensures recalling { shown_in held_mds recalling ≡ recalling_shown }
+{}
