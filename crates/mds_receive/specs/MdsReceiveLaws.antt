@@ -1,0 +1,30 @@
+-- The laws of records that come to the metadata server.
+use Rattle.std.specs.Prelude.{◌≡◌, ℕ, ◌^◌, ◌<◌, List, Ok}
+use Rattle.ff_xdr.specs.Form.{Fits}
+use Rattle.rpc_record.specs.Rpc.{OpaqueAuth}
+use Rattle.rpc_record.specs.Calls.{RpcCall, call_body, body_value, call_bytes, word_of}
+use Rattle.rpc_record.specs.Replies.{RpcReply, auth_none, reply_bytes}
+use Rattle.mds_receive.specs.MdsReceive.{IsAnswered, incoming_of}
+
+-- What goes back is a reply without a verifier under the number of the record, and the record is a call: its second word is 0.
+pub record IsUnderNumber (bytes reply : List ℕ) : Type 0 where
+  pub said : RpcReply
+  pub spelled : reply ≡ reply_bytes said
+  pub number : said.xid ≡ word_of bytes 0
+  pub verf : said.verf ≡ auth_none
+  pub of_call : word_of bytes 4 ≡ 0
+
+abbrev pub IsAnsweredByNumber : List ℕ → List ℕ → Type 0
+IsAnsweredByNumber bytes reply = incoming_of bytes ≡ IsAnswered reply → IsUnderNumber bytes reply
+
+-- the same call by another caller
+abbrev pub called_by : RpcCall → OpaqueAuth → RpcCall
+called_by c cred = record c { cred = cred }
+
+-- a call that has a record
+abbrev pub HasCallRecord : RpcCall → Type 0
+HasCallRecord c = (c.xid < 2 ^ 32) × Fits call_body (body_value c)
+
+-- Calls that differ in their credential alone come to the same.
+abbrev pub IsBlindToCaller : RpcCall → OpaqueAuth → Type 0
+IsBlindToCaller c cred = HasCallRecord c → HasCallRecord (called_by c cred) → incoming_of (call_bytes (called_by c cred)) ≡ incoming_of (call_bytes c)

@@ -1,0 +1,17 @@
+//! The laws of records that come to the metadata server.
+
+ghost use Rattle.std.specs.Prelude.{ℕ, List};
+ghost use Rattle.rpc_record.specs.Calls.{RpcCall};
+ghost use Rattle.rpc_record.specs.Rpc.{OpaqueAuth};
+ghost use Rattle.mds_receive.specs.MdsReceiveLaws.{IsAnsweredByNumber, IsBlindToCaller};
+
+use rpc_record::every_message;
+
+/// The laws of the definition by which `receive_record` judges. What goes back at once is a reply without a verifier
+/// under the number of the record, which is a call. Who calls makes no difference.
+pub fn receive_law()
+    ensures numbered { (bytes reply : List ℕ) → IsAnsweredByNumber bytes reply }
+    ensures blind { (call : RpcCall) (cred : OpaqueAuth) → IsBlindToCaller call cred }
+{
+    every_message();
+}
