@@ -22,7 +22,7 @@ pub const MAX_OPS: u32 = 16;
 
 /// The form of the operations is gone over; bytes behind the last are no arguments.
 fn walk<'a>(alloc: Global, xid: u32, compound: Compound<'a>) -> Result<Incoming<'a>, NoMemory>
-    ensures { ComesTo result (walked xid compound (rest_of_stop compound.ops.stop)) }
+    ensures { ComesTo result (walked xid compound.entry (rest_of_stop compound.entry.ops.stop)) }
 {
     if compound.rest().is_some() {
         return answer(alloc, xid, ReplyBody::GarbageArgs);
@@ -33,7 +33,7 @@ fn walk<'a>(alloc: Global, xid: u32, compound: Compound<'a>) -> Result<Incoming<
 /// The minor version is judged first, then how many operations there are to be.
 fn count_ops<'a>(alloc: Global, xid: u32, compound: Compound<'a>) -> Result<Incoming<'a>, NoMemory>
     requires { length compound.tag ≤ 1024 }
-    ensures { ComesTo result (counted xid compound) }
+    ensures { ComesTo result (counted xid compound.entry) }
 {
     if compound.minorversion() != MINOR_VERSION {
         return refuse_compound(alloc, xid, Stat4::MinorVersMismatch, compound.tag());
