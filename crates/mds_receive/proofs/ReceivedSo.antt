@@ -18,7 +18,7 @@ use Rattle.nfs4_types.specs.Status.{stat4_number}
 use Rattle.ff_xdr.specs.Form.{spelling}
 use Rattle.nfs4_compound.specs.Compounds.{CompoundValue, compound_at, compound4_res}
 use Rattle.nfs4_compound.specs.Operations.{rest_of_stop}
-use Rattle.mds_receive.specs.MdsReceive.{IncomingValue, PassedOver, IsReply, IsAnswered, IsCompound, bare_reply, answers, refuses, refuses_compound, walked, counted, with_head, asks_null, asked, dispatched, of_reply, with_call}
+use Rattle.mds_receive.specs.MdsReceive.{IncomingValue, IsAnswered, IsCompound, bare_reply, answers, refuses, refuses_compound, walked, counted, with_head, asks_null, asked, dispatched, of_reply, with_call}
 use Rattle.mds_receive.specs.MdsReceiveLaws.{IsUnderNumber, IsAnsweredByNumber, called_by, IsBlindToCaller}
 
 -- ---- a reply under a number

@@ -1,8 +1,7 @@
 -- Arguments that are read whole are a compound of exactly these operations, and a call with them is taken as this compound.
-use Rattle.std.proofs.Common.{◌≡◌, ℕ, zero, suc, ◌+◌, ◌≤◌, true, false, not, cond, eqb, ltb, List, [], ◌∷◌, length, Option, None, Result, Ok, Err, refl, sym, ap, subst, ◌∙◌, arith}
+use Rattle.std.proofs.Common.{◌≡◌, ℕ, zero, suc, true, false, not, cond, eqb, ltb, List, [], ◌∷◌, length, Option, None, Result, Ok, Err, refl, sym, ap, subst, ◌∙◌}
 use Rattle.std.proofs.lemmas.Bool.{le-ltb}
 use Rattle.std.specs.Int.{w32}
-use Rattle.ff_xdr.specs.declared.error.XdrError.{XdrError}
 use Rattle.ff_xdr.specs.declared.error.XdrWhy.TheVariants.{TooLong, Rest}
 use Rattle.ff_xdr.specs.Form.{Form, Number32, Pair, Array, Value}
 use Rattle.ff_xdr.specs.Reading.{Read, ◌>>=◌, number_at, length_at, many_at, reading, rest_of, whole}
