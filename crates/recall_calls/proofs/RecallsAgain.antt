@@ -1,5 +1,5 @@
 -- The records of recalls are read again, and told apart; the reply that says a status comes to it.
-use Rattle.std.proofs.Common.{◌≡◌, ℕ, ◌+◌, ◌^◌, ◌<◌, false, cond, ltb, List, [], ◌∷◌, length, Result, Ok, refl, sym, ap, subst, ◌∙◌, arith, append-nil, inl, inr}
+use Rattle.std.proofs.Common.{◌≡◌, ℕ, ◌+◌, false, ltb, List, [], length, Result, Ok, refl, sym, ap, subst, ◌∙◌, arith, append-nil}
 use Rattle.std.specs.Prelude.{IsTrue}
 use Rattle.std.proofs.lemmas.Bool.{le-ltb}
 use Rattle.ff_xdr.specs.declared.error.XdrError.{XdrError}
@@ -8,13 +8,13 @@ use Rattle.ff_xdr.specs.Reading.{Read, reading, whole}
 use Rattle.ff_xdr.proofs.Again.{again}
 use Rattle.rpc_record.specs.declared.call.CallFault.{CallFault}
 use Rattle.rpc_record.specs.Calls.{RpcCall, call_at}
-use Rattle.rpc_record.specs.Replies.{RpcReply, success}
+use Rattle.rpc_record.specs.Replies.{RpcReply}
 use Rattle.rpc_record.specs.Laws.{IsCallReadAgain, IsReplyReadAgain}
 use Rattle.nfs4_compound.specs.CbArgs.{cb_argop4}
 use Rattle.nfs4_compound.specs.CbResults.{cb_resop4}
 use Rattle.nfs4_compound.specs.Compounds.{cb_compound4_args, cb_compound4_res}
 use Rattle.recall_calls.specs.RecallCalls.{recall_args, recall_ops}
-use Rattle.recall_calls.specs.RecallAnswers.{compound_status, bears_out, odd_recall, read_status, recall_status, settles}
+use Rattle.recall_calls.specs.RecallAnswers.{compound_status, read_status, settles}
 use Rattle.recall_calls.specs.RecallCallLaws.{RecallMessage, message_rpc_call, IsRecallUnderstood, AreRecallsApart, SaysStatus, SaysOk, SaysNoLayout, SaysOther, recall_reply, IsStatusTold}
 
 -- ---- a value that is all the bytes

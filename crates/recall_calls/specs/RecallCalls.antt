@@ -31,17 +31,12 @@ recall_ops call file stateid = cb_sequence_op call.session call.sequence ∷ lay
 unfoldable pub recall_args : List (Value cb_argop4) → List ℕ
 recall_args ops = spelling cb_compound4_args ([], (1, (0, ops)))
 
--- CB_COMPOUND 1 of the client's program, version 1, by AUTH_NONE
+-- CB_COMPOUND 1 of a client's program, version 1, by AUTH_NONE
+abbrev pub callback_call : (xid program : ℕ) → List ℕ → RpcCall
+callback_call xid program args = record { xid = xid; program = program; version = 1; procedure = 1; cred = auth_none; verf = auth_none; args = args }
+
 abbrev pub recall_rpc_call : ℕ → BackCall → FileId → Stateid → RpcCall
-recall_rpc_call xid call file stateid = record {
-  xid = xid;
-  program = call.program;
-  version = 1;
-  procedure = 1;
-  cred = auth_none;
-  verf = auth_none;
-  args = recall_args (recall_ops call file stateid);
-}
+recall_rpc_call xid call file stateid = callback_call xid call.program (recall_args (recall_ops call file stateid))
 
 abbrev pub recall_bytes : ℕ → BackCall → FileId → Stateid → List ℕ
 recall_bytes xid call file stateid = call_bytes (recall_rpc_call xid call file stateid)

@@ -2,7 +2,8 @@
 
 ghost use Rattle.std.specs.Prelude.{◌≡◌, IfOk};
 ghost use Rattle.ff_xdr.specs.Calls.{Puts};
-ghost use Rattle.recall_calls.specs.RecallCalls.{recall_args, recall_ops, recall_bytes};
+ghost use Rattle.rpc_record.specs.Calls.{call_bytes};
+ghost use Rattle.recall_calls.specs.RecallCalls.{recall_args, recall_ops, callback_call, recall_bytes};
 
 use crate::ops::{cb_sequence_op, layout_recall_op};
 use cluster_model::FileId;
@@ -33,9 +34,31 @@ fn put_args(call: &BackCall, file: FileId, stateid: Stateid, out: &mut Out) -> R
     put_cb_compound("", MINOR_VERSION, 0, &[sequence, recall], out)
 }
 
+/// The record of a CB_COMPOUND with these arguments (RFC 5531, section 9). Nobody calls (AUTH_NONE).
+fn compound_record(alloc: Global, xid: u32, program: u32, args: &[u8]) -> Result<Data, NoMemory>
+    ensures { IfOk result (λ bytes. bytes ≡ call_bytes (callback_call xid program args.now)) }
+{
+    let nobody = Auth {
+        flavor: AUTH_NONE,
+        body: &[],
+    };
+    let call = Call {
+        xid,
+        program,
+        version: CALLBACK_VERSION,
+        procedure: CB_COMPOUND,
+        cred: nobody,
+        verf: nobody,
+        args,
+    };
+    let mut out = Out::new(alloc);
+    call.write(&mut out)?;
+    Ok(Data::from_vec(out.into_bytes()))
+}
+
 /// The record that asks a client for the layout of a file (RFC 8881, section 20.3): a CB_COMPOUND under this number, to
 /// the program and in the session that `call` names, of CB_SEQUENCE on slot 0 and CB_LAYOUTRECALL of all bytes for
-/// reading and writing, under the layout's stateid. Nobody calls (AUTH_NONE).
+/// reading and writing, under the layout's stateid.
 pub fn recall_record(
     alloc: Global,
     xid: u32,
@@ -45,23 +68,8 @@ pub fn recall_record(
 ) -> Result<Data, NoMemory>
     ensures { IfOk result (λ bytes. bytes ≡ recall_bytes xid call.now file stateid) }
 {
-    let mut args = Out::new(alloc);
-    put_args(call, file, stateid, &mut args)?;
-    let args = args.into_bytes();
-    let nobody = Auth {
-        flavor: AUTH_NONE,
-        body: &[],
-    };
-    let call = Call {
-        xid,
-        program: call.program,
-        version: CALLBACK_VERSION,
-        procedure: CB_COMPOUND,
-        cred: nobody,
-        verf: nobody,
-        args: &args,
-    };
     let mut out = Out::new(alloc);
-    call.write(&mut out)?;
-    Ok(Data::from_vec(out.into_bytes()))
+    put_args(call, file, stateid, &mut out)?;
+    let args = out.into_bytes();
+    compound_record(alloc, xid, call.program, &args)
 }
