@@ -3,6 +3,7 @@
 use part_calls::{DevicesRows, DsCallsRows, FramesRows, MdsCallsRows};
 use part_entries::EntryRows;
 use part_mds::{OpensRows, OperationRows};
+use part_mds_bytes::{MdsReceiveRows, RecallCallsRows};
 use part_messages::MessageRows;
 use part_nodes::{ClientRows, DataFileRows, ServerRows};
 use part_runs::{ConfigRows, LineRows, RunRows};
@@ -69,8 +70,10 @@ fn on_messages<V: Player>(alloc: Global, kind: &str, player: &mut V) -> Played {
         "entry" => on(player, EntryRows),
         "frames" => on(player, FramesRows::new(alloc)),
         "mdscalls" => on(player, MdsCallsRows),
+        "mdsreceive" => on(player, MdsReceiveRows),
         "message" => on(player, MessageRows),
         "operations" => on(player, OperationRows),
+        "recallcalls" => on(player, RecallCallsRows),
         _ => None,
     }
 }

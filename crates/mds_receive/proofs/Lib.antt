@@ -1,0 +1,3 @@
+pub mod ReceivedSo
+pub mod TagWithin
+pub mod WholeCompounds

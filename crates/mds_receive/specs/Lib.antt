@@ -1,0 +1,3 @@
+pub mod MdsReceive
+pub mod PlainIncoming
+pub mod MdsReceiveLaws

@@ -1,0 +1,3 @@
+pub mod RecallCalls
+pub mod RecallAnswers
+pub mod RecallCallLaws
