@@ -1,0 +1,71 @@
+-- The bodies of layouts and of devices, and the results that bear them (RFC 8435, sections 4.1 and 5.1; RFC 8881, sections 18.40
+-- and 18.43).
+use Rattle.std.specs.Prelude.{ℕ, ◌-◌, ◌^◌, false, List, [], ◌∷◌, codes, decimal, length, map, replicate}
+use Rattle.std.proofs.Common.{inl}
+use Rattle.ff_xdr.specs.Form.{Value, spelling}
+use Rattle.ff_xdr.specs.Arms.{arm}
+use Rattle.nfs4_types.specs.declared.stateid.Stateid.{Stateid}
+use Rattle.nfs4_types.specs.Handles.{file_handle_of}
+use Rattle.nfs4_types.specs.Ids.{device_id_of}
+use Rattle.nfs4_types.specs.Stateids.{stateid4_value}
+use Rattle.nfs4_file_ops.specs.GetDeviceInfo.{getdeviceinfo4_ok}
+use Rattle.nfs4_file_ops.specs.Layout4.{layout4}
+use Rattle.nfs4_compound.specs.Results.{resop4}
+use Rattle.ff_layout.specs.DataServer.{ff_data_server4}
+use Rattle.ff_layout.specs.Mirror.{ff_mirror4}
+use Rattle.ff_layout.specs.Layout.{ff_layout4}
+use Rattle.device_addr.specs.Device.{ff_device_addr4}
+use Rattle.device_addr.specs.Universal.{AddressValue, address_text}
+use Rattle.cluster_model.specs.declared.ids.Mirror.{Mirror}
+use Rattle.mds_operations.specs.declared.layout_get.TheConstants.{FLEX_FILES, IOMODE_RW}
+use Rattle.granted_layouts.specs.declared.granted_layout.TheConstants.{NO_LAYOUTCOMMIT, STRIPE_UNIT}
+use Rattle.granted_layouts.specs.declared.granted_device.TheConstants.{TRANSFER_SIZE}
+
+-- ---- layouts (RFC 8435, section 5.1)
+
+-- A mirror is on one data server, of efficiency 1; the stateid says nothing to NFSv3, the handle is the file's number there, and the
+-- user and the group are the uid.
+abbrev pub server_under : ℕ → Mirror → Value ff_data_server4
+server_under uid m = ((device_id_of m.id.server).0, (1, ((0, replicate 12 0), (file_handle_of m.id.fileid ∷ [], (decimal uid, decimal uid)))))
+
+abbrev pub mirror_under : ℕ → Mirror → Value ff_mirror4
+mirror_under uid m = server_under uid m ∷ []
+
+-- the body; there is no LAYOUTCOMMIT, and no statistics are to be reported
+abbrev pub layout_under : ℕ → List Mirror → Value ff_layout4
+layout_under uid mirrors = (STRIPE_UNIT, (map (mirror_under uid) mirrors, (NO_LAYOUTCOMMIT, 0)))
+
+abbrev pub layout_body : ℕ → List Mirror → List ℕ
+layout_body uid mirrors = spelling ff_layout4 (layout_under uid mirrors)
+
+-- the layout of a whole file, for reading and writing (RFC 8881, section 3.3.17)
+abbrev pub whole_layout : List ℕ → Value layout4
+whole_layout body = (0, (2 ^ 64 - 1, (IOMODE_RW, (FLEX_FILES, body))))
+
+-- how long it is
+abbrev pub layout_length : ℕ → List Mirror → ℕ
+layout_length uid mirrors = length (spelling layout4 (whole_layout (layout_body uid mirrors)))
+
+-- a LAYOUTGET to which layouts were granted; a CLOSE does not return them (RFC 8881, section 18.43)
+abbrev pub layout_result : Stateid → List (Value layout4) → Value resop4
+layout_result stateid layouts = arm 50 resop4 (inl (false, (stateid4_value stateid, layouts)))
+
+-- ---- devices (RFC 8435, section 4.1)
+
+-- one address over TCP (RFC 5665), and NFSv3 with reads and writes of at most 65,536 bytes, loosely coupled
+abbrev pub device_at_address : AddressValue → Value ff_device_addr4
+device_at_address address = ((codes "tcp", address_text address) ∷ [], (3, (0, (TRANSFER_SIZE, (TRANSFER_SIZE, false)))) ∷ [])
+
+abbrev pub device_body : AddressValue → List ℕ
+device_body address = spelling ff_device_addr4 (device_at_address address)
+
+-- what a GETDEVICEINFO that is OK says; no notification is given (RFC 8881, section 18.40)
+abbrev pub device_info : List ℕ → Value getdeviceinfo4_ok
+device_info body = (FLEX_FILES, (body, []))
+
+-- how long these fields are
+abbrev pub device_info_length : AddressValue → ℕ
+device_info_length address = length (spelling getdeviceinfo4_ok (device_info (device_body address)))
+
+abbrev pub device_info_result : List ℕ → Value resop4
+device_info_result body = arm 47 resop4 (inl (device_info body))
