@@ -11,7 +11,7 @@ use std::alloc::Global;
 /// The record of a reply that accepts the call under this number, with a verifier that says nothing, and has these bytes as
 /// the results of its success (RFC 5531, section 9). Takes memory.
 pub fn success_record(alloc: Global, xid: u32, results: &[u8]) -> Result<Vec<u8>, NoMemory>
-    ensures { IfOk result (λ record. record.items ≡ reply_bytes (success_reply xid results.now)) }
+    ensures { IfOk result (λ bytes. bytes.items ≡ reply_bytes (success_reply xid results.now)) }
 {
     let verf = Auth {
         flavor: AUTH_NONE,

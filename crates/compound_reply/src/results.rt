@@ -75,8 +75,9 @@ impl Results {
         requires { length tag.now ≤ 1024 }
         ensures { IfOk result (λ bytes. bytes.items ≡ spelling compound4_res (stat4_number status, (tag.now, self.now))) }
     {
+        let count = self.len();
         let mut out = Out::new(self.alloc);
-        (status, Tag4 { text: tag }, self.count).put(&mut out)?;
+        (status, Tag4 { text: tag }, count).put(&mut out)?;
         out.raw(self.bytes.bytes())?;
         Ok(out.into_bytes())
     }

@@ -42,8 +42,16 @@ version_text = word 3 ++ (word 0 ++ (word 65536 ++ (word 65536 ++ word 0)))
 
 version_size : length version_text ≡ 20
 version_size =
-    omega (arith, length-append (word 3) (word 0 ++ (word 65536 ++ (word 65536 ++ word 0))), length-append (word 0) (word 65536 ++ (word 65536 ++ word 0)), length-append (word 65536) (word 65536 ++ word 0),
-    length-append (word 65536) (word 0), length-word 3, length-word 0, length-word 65536)
+    omega (
+      arith,
+      length-append (word 3) (word 0 ++ (word 65536 ++ (word 65536 ++ word 0))),
+      length-append (word 0) (word 65536 ++ (word 65536 ++ word 0)),
+      length-append (word 65536) (word 65536 ++ word 0),
+      length-append (word 65536) (word 0),
+      length-word 3,
+      length-word 0,
+      length-word 65536,
+    )
 
 abbrev addresses_text : List ℕ → List ℕ
 addresses_text text = (word 3 ++ padded (codes "tcp")) ++ (word (length text) ++ padded text)
@@ -56,8 +64,17 @@ body_size a =
     let text = address_text a in
     let addresses = word 1 ++ (addresses_text text ++ []) in
     let versions = word 1 ++ (version_text ++ []) in
-    omega (arith, length-append addresses versions, length-append (word 1) (addresses_text text ++ []), length-append (addresses_text text) [], length-append (word 1) (version_text ++ []), length-append version_text [],
-    length-word 1, version_size, addresses_size text)
+    omega (
+      arith,
+      length-append addresses versions,
+      length-append (word 1) (addresses_text text ++ []),
+      length-append (addresses_text text) [],
+      length-append (word 1) (version_text ++ []),
+      length-append version_text [],
+      length-word 1,
+      version_size,
+      addresses_size text,
+    )
 
 info_size : (body : List ℕ) → length (spelling getdeviceinfo4_ok (device_info body)) ≡ 12 + (length body + 3) / 4 * 4
 info_size body =

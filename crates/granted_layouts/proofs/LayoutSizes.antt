@@ -86,14 +86,34 @@ pub body_size : (uid : ℕ) (ms : List Mirror) → length (layout_body uid ms) �
 body_size uid ms =
     let mirrors = count_text uid ms ++ mirrors_text uid ms in
     let hints = word 1 ++ word 0 in
-    omega (arith, length-append (long 65536) (mirrors ++ hints), length-long 65536, length-append mirrors hints, length-append (count_text uid ms) (mirrors_text uid ms), length-word (length (map (mirror_under uid) ms)),
-    length-append (word 1) (word 0), length-word 1, length-word 0, mirrors_size uid ms)
+    omega (
+      arith,
+      length-append (long 65536) (mirrors ++ hints),
+      length-long 65536,
+      length-append mirrors hints,
+      length-append (count_text uid ms) (mirrors_text uid ms),
+      length-word (length (map (mirror_under uid) ms)),
+      length-append (word 1) (word 0),
+      length-word 1,
+      length-word 0,
+      mirrors_size uid ms,
+    )
 
 whole_size : (body : List ℕ) → length (spelling layout4 (whole_layout body)) ≡ 28 + (length body + 3) / 4 * 4
 whole_size body =
     let content = word (length body) ++ padded body in
-    omega (arith, length-append (long 0) (long 18446744073709551615 ++ (word 2 ++ (word 4 ++ content))), length-append (long 18446744073709551615) (word 2 ++ (word 4 ++ content)),
-    length-append (word 2) (word 4 ++ content), length-append (word 4) content, length-long 0, length-long 18446744073709551615, length-word 2, length-word 4, opaque_size body)
+    omega (
+      arith,
+      length-append (long 0) (long 18446744073709551615 ++ (word 2 ++ (word 4 ++ content))),
+      length-append (long 18446744073709551615) (word 2 ++ (word 4 ++ content)),
+      length-append (word 2) (word 4 ++ content),
+      length-append (word 4) content,
+      length-long 0,
+      length-long 18446744073709551615,
+      length-word 2,
+      length-word 4,
+      opaque_size body,
+    )
 
 by_count : (uid : ℕ) (ms : List Mirror) → length ms ≤ 4 → 20 + total uid ms ≡ 20 + length ms * (56 + 2 * user_size uid)
 by_count uid [] few = refl

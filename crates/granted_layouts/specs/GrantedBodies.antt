@@ -3,14 +3,13 @@
 use Rattle.std.specs.Prelude.{ℕ, ◌-◌, ◌^◌, false, List, [], ◌∷◌, codes, decimal, length, map, replicate}
 use Rattle.std.proofs.Common.{inl}
 use Rattle.ff_xdr.specs.Form.{Value, spelling}
-use Rattle.ff_xdr.specs.Arms.{arm}
 use Rattle.nfs4_types.specs.declared.stateid.Stateid.{Stateid}
 use Rattle.nfs4_types.specs.Handles.{file_handle_of}
 use Rattle.nfs4_types.specs.Ids.{device_id_of}
 use Rattle.nfs4_types.specs.Stateids.{stateid4_value}
-use Rattle.nfs4_file_ops.specs.GetDeviceInfo.{getdeviceinfo4_ok}
+use Rattle.nfs4_file_ops.specs.GetDeviceInfo.{getdeviceinfo4_ok, getdeviceinfo4_res}
 use Rattle.nfs4_file_ops.specs.Layout4.{layout4}
-use Rattle.nfs4_compound.specs.Results.{resop4}
+use Rattle.nfs4_file_ops.specs.LayoutGet.{layoutget4_res}
 use Rattle.ff_layout.specs.DataServer.{ff_data_server4}
 use Rattle.ff_layout.specs.Mirror.{ff_mirror4}
 use Rattle.ff_layout.specs.Layout.{ff_layout4}
@@ -47,8 +46,8 @@ abbrev pub layout_length : ℕ → List Mirror → ℕ
 layout_length uid mirrors = length (spelling layout4 (whole_layout (layout_body uid mirrors)))
 
 -- a LAYOUTGET to which layouts were granted; a CLOSE does not return them (RFC 8881, section 18.43)
-abbrev pub layout_result : Stateid → List (Value layout4) → Value resop4
-layout_result stateid layouts = arm 50 resop4 (inl (false, (stateid4_value stateid, layouts)))
+abbrev pub layout_result : Stateid → List (Value layout4) → Value layoutget4_res
+layout_result stateid layouts = inl (false, (stateid4_value stateid, layouts))
 
 -- ---- devices (RFC 8435, section 4.1)
 
@@ -67,5 +66,5 @@ device_info body = (FLEX_FILES, (body, []))
 abbrev pub device_info_length : AddressValue → ℕ
 device_info_length address = length (spelling getdeviceinfo4_ok (device_info (device_body address)))
 
-abbrev pub device_info_result : List ℕ → Value resop4
-device_info_result body = arm 47 resop4 (inl (device_info body))
+abbrev pub device_info_result : List ℕ → Value getdeviceinfo4_res
+device_info_result body = inl (device_info body)

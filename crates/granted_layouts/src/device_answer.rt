@@ -2,7 +2,7 @@
 
 ghost use Rattle.std.specs.Prelude.{◌≡◌, ◌<◌, ◌≤◌, ◌^◌, decimal, length};
 ghost use Rattle.ff_xdr.specs.Form.{Fits};
-ghost use Rattle.nfs4_compound.specs.Results.{resop4, op_res_value};
+ghost use Rattle.nfs4_file_ops.specs.GetDeviceInfo.{getdeviceinfo4_res, getdeviceinfo4_res_value};
 ghost use Rattle.device_addr.specs.Universal.{address_text, address_value};
 ghost use Rattle.granted_layouts.specs.GrantedBodies.{device_info_length, device_info_result};
 
@@ -10,7 +10,6 @@ use device_addr::NetAddr;
 use ff_xdr::Items;
 use itoa::Buffer;
 use mds_operations::FLEX_FILES;
-use nfs4_compound::OpRes;
 use nfs4_file_ops::{GetDeviceInfoOk, GetDeviceInfoRes};
 use nfs4_types::{Bitmap, OpaqueBody};
 
@@ -43,16 +42,16 @@ pub fn device_info_size(address: &NetAddr) -> u32
 }
 
 /// The result of a GETDEVICEINFO with this body, which is empty where none was asked for; no notification is given.
-pub fn device_info_result<'a>(body: &'a [u8]) -> OpRes<'a>
+pub fn device_info_result(body: &[u8]) -> GetDeviceInfoRes<'_>
     requires { length body.now < 2 ^ 32 }
-    ensures value { op_res_value result ≡ device_info_result body.now }
-    ensures fits { Fits resop4 (op_res_value result) }
+    ensures value { getdeviceinfo4_res_value result ≡ device_info_result body.now }
+    ensures fits { Fits getdeviceinfo4_res (getdeviceinfo4_res_value result) }
 {
-    OpRes::GetDeviceInfo(GetDeviceInfoRes::Done(GetDeviceInfoOk {
+    GetDeviceInfoRes::Done(GetDeviceInfoOk {
         layout_type: FLEX_FILES,
         body: OpaqueBody { bytes: body },
         notification: Bitmap {
             words: Items::made(&[]),
         },
-    }))
+    })
 }

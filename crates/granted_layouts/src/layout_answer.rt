@@ -5,14 +5,13 @@ ghost use Rattle.std.specs.List.{AllByRecursion};
 ghost use Rattle.ff_xdr.specs.Form.{Fits};
 ghost use Rattle.cluster_model.specs.declared.ids.Mirror.{Mirror};
 ghost use Rattle.nfs4_file_ops.specs.Layout4.{layout4, layout4_value};
-ghost use Rattle.nfs4_compound.specs.Results.{resop4, op_res_value};
+ghost use Rattle.nfs4_file_ops.specs.LayoutGet.{layoutget4_res, layoutget4_res_value};
 ghost use Rattle.granted_layouts.specs.GrantedBodies.{layout_length, layout_result, whole_layout};
 
 use cluster_model::Cred;
 use ff_xdr::{Array, Items};
 use itoa::Buffer;
 use mds_operations::{FLEX_FILES, IOMODE_RW};
-use nfs4_compound::OpRes;
 use nfs4_file_ops::{Layout4, LayoutGetOk, LayoutGetRes};
 use nfs4_types::{OpaqueBody, Stateid};
 
@@ -44,17 +43,17 @@ pub fn whole_layout(body: &[u8]) -> Layout4<'_>
 }
 
 /// The result of a LAYOUTGET to which these layouts are granted; a CLOSE does not return them.
-pub fn layout_result<'a>(stateid: Stateid, layouts: &'a [Layout4<'a>]) -> OpRes<'a>
+pub fn layout_result<'a>(stateid: Stateid, layouts: &'a [Layout4<'a>]) -> LayoutGetRes<'a>
     requires few { length layouts.now < 2 ^ 32 }
     requires fit { AllByRecursion (Fits layout4) (map layout4_value layouts.now) }
-    ensures value { op_res_value result ≡ layout_result stateid (map layout4_value layouts.now) }
-    ensures fits { Fits resop4 (op_res_value result) }
+    ensures value { layoutget4_res_value result ≡ layout_result stateid (map layout4_value layouts.now) }
+    ensures fits { Fits layoutget4_res (layoutget4_res_value result) }
 {
-    OpRes::LayoutGet(LayoutGetRes::Done(LayoutGetOk {
+    LayoutGetRes::Done(LayoutGetOk {
         return_on_close: false,
         stateid,
         layouts: Array {
             items: Items::made(layouts),
         },
-    }))
+    })
 }

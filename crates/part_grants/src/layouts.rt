@@ -69,7 +69,7 @@ fn put_layout_result(words: &mut Words<'_>, answer: &mut Answer) -> Result<(), R
     let stateid = Stateid::from_bytes(&stateid).ok().ok_or(RowFault::Outside)?;
     let body = body(words)?;
     let layouts = [whole_layout(body.as_slice())];
-    put_result(&layout_result(stateid, &layouts), answer)
+    put_result(&OpRes::LayoutGet(layout_result(stateid, &layouts)), answer)
 }
 
 impl Part for LayoutsRows {
@@ -89,7 +89,7 @@ impl Part for LayoutsRows {
             }
             "device_result" => {
                 let body = body(words)?;
-                put_result(&device_info_result(body.as_slice()), answer)
+                put_result(&OpRes::GetDeviceInfo(device_info_result(body.as_slice())), answer)
             }
             _ => Err(RowFault::Outside),
         }
