@@ -33,6 +33,9 @@ user_size uid = 4 + (length (decimal uid) + 3) / 4 * 4
 abbrev device_text : ℕ → List ℕ
 device_text server = replicate 8 0 ++ long server
 
+pub device_bytes : (server : ℕ) → length (device_text server) ≡ 16
+device_bytes server = omega (arith, length-append (replicate 8 0) (long server), length-long server, length-replicate {A = ℕ} 8 0)
+
 device_size : (server : ℕ) → length (padded (device_text server)) ≡ 16
 device_size server = omega (arith, padded_size (device_text server), length-append (replicate 8 0) (long server), length-long server, length-replicate {A = ℕ} 8 0)
 
@@ -116,7 +119,7 @@ whole_size body =
     )
 
 by_count : (uid : ℕ) (ms : List Mirror) → length ms ≤ 4 → 20 + total uid ms ≡ 20 + length ms * (56 + 2 * user_size uid)
-by_count uid [] few = refl
+by_count uid [] few = omega arith
 by_count uid (a ∷ []) few = omega arith
 by_count uid (a ∷ b ∷ []) few = omega arith
 by_count uid (a ∷ b ∷ c ∷ []) few = omega arith
@@ -124,7 +127,7 @@ by_count uid (a ∷ b ∷ c ∷ d ∷ []) few = omega arith
 by_count uid (a ∷ b ∷ c ∷ d ∷ e ∷ rest) few = absurd (omega arith)
 
 in_fours : (uid : ℕ) (ms : List Mirror) → length ms ≤ 4 → (20 + total uid ms + 3) / 4 * 4 ≡ 20 + total uid ms
-in_fours uid [] few = refl
+in_fours uid [] few = omega arith
 in_fours uid (a ∷ []) few = omega arith
 in_fours uid (a ∷ b ∷ []) few = omega arith
 in_fours uid (a ∷ b ∷ c ∷ []) few = omega arith

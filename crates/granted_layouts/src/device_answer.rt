@@ -23,7 +23,7 @@ fn decimal_len(byte: u8) -> u32
 }
 
 /// How long the text of an address is, 11 to 23 bytes.
-fn text_len(address: &NetAddr) -> u32
+pub fn text_len(address: &NetAddr) -> u32
     ensures length { result ≡ length (address_text (address_value address.now)) }
     ensures bound { result ≤ 23 }
 {

@@ -4,9 +4,9 @@ ghost use Rattle.std.specs.Prelude.{◌≡◌, IfOk};
 ghost use Rattle.device_addr.specs.Universal.{address_value};
 ghost use Rattle.granted_layouts.specs.GrantedBodies.{device_body};
 
+use crate::device_answer::text_len;
 use device_addr::{FfVersion, NetAddr, print_universal};
 use ff_xdr::{Data, NoMemory, Out, Wire};
-use nfs4_types::FreeText;
 use std::alloc::Global;
 
 /// The most bytes of one READ and of one WRITE to a data server.
@@ -26,8 +26,10 @@ pub fn device_body(alloc: Global, address: &NetAddr) -> Result<Data, NoMemory>
         tightly_coupled: false,
     };
     let mut out = Out::new(alloc);
-    (1u32, FreeText { text: "tcp" }).put(&mut out)?;
-    out.opaque(text.bytes())?;
+    out.number32(1)?;
+    out.opaque(b"tcp")?;
+    out.number32(text_len(address))?;
+    out.fixed(text.bytes())?;
     (1u32, version).put(&mut out)?;
     Ok(Data::from_vec(out.into_bytes()))
 }
