@@ -89,7 +89,10 @@ impl Part for LayoutsRows {
             }
             "device_result" => {
                 let body = body(words)?;
-                put_result(&OpRes::GetDeviceInfo(device_info_result(body.as_slice())), answer)
+                put_result(
+                    &OpRes::GetDeviceInfo(device_info_result(body.as_slice())),
+                    answer,
+                )
             }
             _ => Err(RowFault::Outside),
         }
