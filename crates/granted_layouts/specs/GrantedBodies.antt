@@ -17,8 +17,6 @@ use Rattle.device_addr.specs.Device.{ff_device_addr4}
 use Rattle.device_addr.specs.Universal.{AddressValue, address_text}
 use Rattle.cluster_model.specs.declared.ids.Mirror.{Mirror}
 use Rattle.mds_operations.specs.declared.layout_get.TheConstants.{FLEX_FILES, IOMODE_RW}
-use Rattle.granted_layouts.specs.declared.granted_layout.TheConstants.{NO_LAYOUTCOMMIT, STRIPE_UNIT}
-use Rattle.granted_layouts.specs.declared.granted_device.TheConstants.{TRANSFER_SIZE}
 
 -- ---- layouts (RFC 8435, section 5.1)
 
@@ -30,9 +28,9 @@ server_under uid m = ((device_id_of m.id.server).0, (1, ((0, replicate 12 0), (f
 abbrev pub mirror_under : ℕ → Mirror → Value ff_mirror4
 mirror_under uid m = server_under uid m ∷ []
 
--- the body; there is no LAYOUTCOMMIT, and no statistics are to be reported
+-- the body: the stripe unit is 65,536, the flags are 1 for no LAYOUTCOMMIT, and the hint is 0, as no statistics are to be reported
 abbrev pub layout_under : ℕ → List Mirror → Value ff_layout4
-layout_under uid mirrors = (STRIPE_UNIT, (map (mirror_under uid) mirrors, (NO_LAYOUTCOMMIT, 0)))
+layout_under uid mirrors = (65536, (map (mirror_under uid) mirrors, (1, 0)))
 
 abbrev pub layout_body : ℕ → List Mirror → List ℕ
 layout_body uid mirrors = spelling ff_layout4 (layout_under uid mirrors)
@@ -53,7 +51,7 @@ layout_result stateid layouts = inl (false, (stateid4_value stateid, layouts))
 
 -- one address over TCP (RFC 5665), and NFSv3 with reads and writes of at most 65,536 bytes, loosely coupled
 abbrev pub device_at_address : AddressValue → Value ff_device_addr4
-device_at_address address = ((codes "tcp", address_text address) ∷ [], (3, (0, (TRANSFER_SIZE, (TRANSFER_SIZE, false)))) ∷ [])
+device_at_address address = ((codes "tcp", address_text address) ∷ [], (3, (0, (65536, (65536, false)))) ∷ [])
 
 abbrev pub device_body : AddressValue → List ℕ
 device_body address = spelling ff_device_addr4 (device_at_address address)

@@ -5,7 +5,7 @@ use Rattle.std.specs.Int.{w64, from_be_bytes}
 use Rattle.std.specs.List.{AllByRecursion, list_any}
 use Rattle.std.specs.Str.{is_utf8}
 use Rattle.std.proofs.Math.Seq.{drop-append-add}
-use Rattle.std.proofs.lemmas.Bool.{le-ltb, le-leb, eq-eqb, and_parts}
+use Rattle.std.proofs.lemmas.Bool.{le-ltb, le-leb, leb-true, eq-eqb, and_parts}
 use Rattle.std.proofs.lemmas.Fmt.{IsAscii-decimal, length-decimal-le}
 use Rattle.std.proofs.lemmas.List.{length-map, length-replicate}
 use Rattle.std.proofs.lemmas.Nat.{from_be_bytes-to_be_bytes_8}
@@ -64,7 +64,7 @@ mirrors_fit uid [] small = tt
 mirrors_fit uid (m ∷ ms) small = ((omega arith, (server_fits uid m small, tt)), mirrors_fit uid ms small)
 
 few_of_mirrors : (ms : List Mirror) → are_mirrors ms ≡ true → length ms ≤ 4
-few_of_mirrors ms proper = search
+few_of_mirrors ms proper = leb-true (length ms) 4 (and_parts (nat_le (length ms) 4) (are_on_different_servers ms) proper).0
 
 layout_fits : (uid : ℕ) (ms : List Mirror) → uid < 2 ^ 32 → are_mirrors ms ≡ true → Fits ff_layout4 (layout_under uid ms)
 layout_fits uid ms small proper =
