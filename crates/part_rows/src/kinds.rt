@@ -2,6 +2,7 @@
 
 use part_calls::{DevicesRows, DsCallsRows, FramesRows, MdsCallsRows};
 use part_entries::EntryRows;
+use part_grants::{LayoutsRows, ResultsRows};
 use part_mds::{OpensRows, OperationRows};
 use part_mds_bytes::{MdsReceiveRows, RecallCallsRows};
 use part_messages::MessageRows;
@@ -69,11 +70,13 @@ fn on_messages<V: Player>(alloc: Global, kind: &str, player: &mut V) -> Played {
         "dscalls" => on(player, DsCallsRows),
         "entry" => on(player, EntryRows),
         "frames" => on(player, FramesRows::new(alloc)),
+        "layouts" => on(player, LayoutsRows),
         "mdscalls" => on(player, MdsCallsRows),
         "mdsreceive" => on(player, MdsReceiveRows),
         "message" => on(player, MessageRows),
         "operations" => on(player, OperationRows),
         "recallcalls" => on(player, RecallCallsRows),
+        "results" => on(player, ResultsRows::new()),
         _ => None,
     }
 }

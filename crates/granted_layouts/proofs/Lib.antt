@@ -1,0 +1,3 @@
+pub mod LayoutSizes
+pub mod DeviceSizes
+pub mod Bodies
