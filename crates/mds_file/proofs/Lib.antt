@@ -1,5 +1,1 @@
 mod AnswerLemmas
-mod CreationSteps
-mod MakingLemmas
-mod PlanLemmas
-mod RowLemmas

@@ -2,12 +2,12 @@
 
 ghost use Rattle.std.specs.Prelude.{◌≡◌, ◌≤◌, ℕ, true, length};
 ghost use Rattle.file_rule.specs.FilePhases.{new_mds_file};
-ghost use Rattle.mds_file.specs.Makings.{are_different};
+ghost use Rattle.mds_creations.specs.Makings.{are_different};
 
-use crate::activity::Activity;
-use crate::creations::Creations;
 use cluster_model::Cred;
 use layout_state::FileState;
+use mds_activity::Activity;
+use mds_creations::Creations;
 use std::alloc::Global;
 use std::marker::Model;
 
@@ -21,7 +21,7 @@ pub struct MdsFile {
 
 impl Model for MdsFile {
     ghost use Rattle.file_rule.specs.MdsFiles.{MdsFile};
-    ghost use Rattle.mds_file.specs.Activities.{plain_activity, IsMdsFile};
+    ghost use Rattle.mds_activity.specs.Activities.{plain_activity, IsMdsFile};
 
     ghost Value = { MdsFile };
 
