@@ -1,19 +1,18 @@
 -- The calls of a file that go out, and those that are outstanding.
-use Rattle.std.specs.Prelude.{◌≡◌, ℕ, Bool, true, false, ◌&&◌, List, [], ◌∷◌, Option, Some, None, if◌then◌else◌}
+use Rattle.std.specs.Prelude.{◌≡◌, ℕ, Bool, true, List, [], ◌∷◌, Option, Some, None, if◌then◌else◌}
 use Rattle.cluster_model.specs.declared.ids.Mirror.{Mirror}
 use Rattle.cluster_model.specs.declared.call_stage.CallStage.{CallStage}
 use Rattle.cluster_model.specs.DsCalls.{DsCallValue, Create, SetAttr, Write, Commit, Read}
-use Rattle.cluster_model.specs.Fences.{waits, is_out}
+use Rattle.cluster_model.specs.Fences.{waits}
 use Rattle.cluster_model.specs.declared.limits.TheConstants.{PIECE_SIZE}
 use Rattle.cluster_model.specs.declared.layout_state.LayoutState.{LayoutState}
-use Rattle.copy_rule.specs.Copies.{is_outstanding}
 use Rattle.resilver.specs.declared.call.NextCall.{NextCall}
 use Rattle.resilver.specs.declared.call.NextCall.TheVariants.{MakesFile, WritesPiece, ReadsSource}
 use Rattle.mds_activity.specs.declared.activity.Activity.{Activity as CodeActivity}
 use Rattle.mds_activity.specs.Activities.{plain_activity}
 use Rattle.call_stage.specs.KeptCalls.{kept_out_to}
 use Rattle.file_rule.specs.MdsFiles.{Activity, Idle, Makes, Fences, Settles, Copies, MdsFile}
-use Rattle.file_rule.specs.FilePhases.{call_out, creation_is_out, first_is_on}
+use Rattle.file_rule.specs.FilePhases.{call_out}
 use Rattle.fence.specs.Calls as fence
 use Rattle.resilver.specs.Calls as copy
 use Rattle.mds_creations.specs.Makings as making
@@ -63,15 +62,6 @@ abbrev pub kind_of : NextCall → FileCallKind
 kind_of (MakesFile name owner) = sent.Create name owner
 kind_of (WritesPiece fileid) = sent.WritePiece fileid
 kind_of (ReadsSource fileid at) = sent.Read fileid at PIECE_SIZE
-
--- ---- which calls are outstanding
-
-abbrev pub is_out_in : List Mirror → ℕ → ℕ → Activity → Bool
-is_out_in live server xid Idle = false
-is_out_in live server xid (Makes all) = creation_is_out all server xid
-is_out_in live server xid (Fences f) = fence.is_outstanding f server xid
-is_out_in live server xid (Settles stage) = is_out xid stage && first_is_on live server
-is_out_in live server xid (Copies c) = is_outstanding c server xid
 
 -- ---- to which servers calls wait
 

@@ -9,7 +9,7 @@ use Rattle.cluster_model.specs.Phases.{is_source, is_one_of, is_last_live, but_f
 use Rattle.copy_rule.specs.declared.copy_target.CopyTarget.{CopyTarget}
 use Rattle.copy_rule.specs.declared.copy_target.CopyStep.{CopyStep}
 use Rattle.copy_rule.specs.declared.copy_target.CopyStep.TheVariants.{Stranger, Waiting, SourceFailed, TargetFailed, Done}
-use Rattle.copy_rule.specs.Copies.{CopyState, is_given_up}
+use Rattle.copy_rule.specs.Copies.{is_given_up}
 use Rattle.mds_creations.specs.Makings.{are_different}
 
 -- A mirror on this server may come in: in the place of one that is live there and not the first, or where none is live there.
@@ -54,9 +54,9 @@ abbrev pub may_leave : List Mirror → List CopyTarget → Option MirrorId → T
 may_leave live targets None = Unit {0}
 may_leave live targets (Some id) = MayLeave live targets id
 
-abbrev pub LosesTarget : List Mirror → CopyState → CopyStep → Type 0
-LosesTarget live c Stranger = Unit {0}
-LosesTarget live c Waiting = Unit {0}
-LosesTarget live c (SourceFailed cause) = Unit {0}
-LosesTarget live c (TargetFailed server replaced cause) = may_leave live c.targets replaced
-LosesTarget live c Done = Unit {0}
+abbrev pub LosesTarget : List Mirror → List CopyTarget → CopyStep → Type 0
+LosesTarget live targets Stranger = Unit {0}
+LosesTarget live targets Waiting = Unit {0}
+LosesTarget live targets (SourceFailed cause) = Unit {0}
+LosesTarget live targets (TargetFailed server replaced cause) = may_leave live targets replaced
+LosesTarget live targets Done = Unit {0}

@@ -1,9 +1,12 @@
 //! What the answers to the calls of a copy bring.
 
-ghost use Rattle.std.specs.Prelude.{◌≡◌, ◌≤◌, ◌+◌, [], true, length};
+ghost use Rattle.std.specs.Prelude.{◌≡◌, ◌≤◌, ◌+◌, [], true, length, IfOk};
 ghost use Rattle.std.specs.Vec.{vec_len, vec_capacity};
 ghost use Rattle.cluster_model.specs.declared.layout_state.LayoutPhase.TheVariants as phase;
 ghost use Rattle.cluster_model.specs.Phases.{can_swap_all, mirror_left};
+ghost use Rattle.cluster_model.specs.DsCalls.{plain_ds_reply};
+ghost use Rattle.copy_rule.specs.Copies.{on_timeout};
+ghost use Rattle.resilver.specs.Calls.{TakesAnswer};
 ghost use Rattle.file_rule.specs.MdsFiles.{Copies, source_left, copied_by, copied_on, copy_stepped};
 ghost use Rattle.mds_activity.specs.Activities.{Took, TookDrawing, FitsPhase, IsCopying};
 ghost use Rattle.mds_activity.specs.Targets.{MayLeave, LosesTarget};
@@ -11,12 +14,46 @@ ghost use Rattle.mds_rows.specs.Draws.{HasFresh};
 ghost use Rattle.mds_rows.specs.Rows.{HasRow};
 
 use crate::activity::Activity;
-use cluster_model::{CallStage, CopyKind, Cred, Entry, FileId, LeftCause, MirrorId, Targets};
+use cluster_model::{CallStage, CopyKind, Cred, DsReply, Entry, FileId, LeftCause, MirrorId, Targets};
 use fence::Fence;
+use ff_xdr::NoMemory;
 use file_rule::Fresh;
 use layout_state::FileState;
 use mds_rows::{lose, swap_in};
 use resilver::{Copy, CopyStep};
+
+/// What the answer to the call of this number comes to; where memory is wanted nothing has changed.
+pub fn take_reply(
+    layout: FileState,
+    copier: Cred,
+    copies: CopyKind,
+    copy: &mut Copy,
+    xid: u32,
+    reply: &DsReply<'_>,
+) -> Result<CopyStep, NoMemory>
+    requires { IsCopying layout copier copies copy.old }
+    ensures takes { TakesAnswer copy.old xid (plain_ds_reply reply.now) result copy.new }
+    ensures copying { IsCopying layout copier copies copy.new }
+    ensures loses { IfOk result (λ step. LosesTarget layout.live copy.new.targets step) }
+{
+    copy.on_reply(xid, reply)
+}
+
+/// What a timeout of the call of this number comes to.
+pub fn take_timeout(
+    layout: FileState,
+    copier: Cred,
+    copies: CopyKind,
+    copy: &mut Copy,
+    xid: u32,
+) -> CopyStep
+    requires { IsCopying layout copier copies copy.old }
+    ensures takes { record { copy = copy.new; step = result } ≡ on_timeout copy.old xid }
+    ensures copying { IsCopying layout copier copies copy.new }
+    ensures loses { LosesTarget layout.live copy.new.targets result }
+{
+    copy.on_timeout(xid)
+}
 
 /// What comes of a step of the copy.
 pub fn step_copy(
@@ -32,7 +69,7 @@ pub fn step_copy(
 ) -> Activity
     requires drawn { HasFresh fresh.old }
     requires copying { IsCopying layout.old copier copies copy }
-    requires loses { LosesTarget layout.old.live copy step }
+    requires loses { LosesTarget layout.old.live copy.targets step }
     requires empty { room.items ≡ [] }
     requires four { 4 ≤ vec_capacity room }
     requires room { vec_len entries.old + 5 ≤ vec_capacity entries.old }

@@ -4,9 +4,9 @@ ghost use Rattle.std.specs.Prelude.{◌≡◌, [], length, if◌then◌else◌};
 ghost use Rattle.cluster_model.specs.DsCalls.{plain_ds_call};
 ghost use Rattle.cluster_model.specs.Fences.{waits};
 ghost use Rattle.file_rule.specs.MdsFiles.{Makes, Fences, Settles, Copies};
-ghost use Rattle.file_rule.specs.FilePhases.{first_is_on};
+ghost use Rattle.file_rule.specs.FilePhases.{first_is_on, is_outstanding};
 ghost use Rattle.mds_activity.specs.Activities.{plain_activity, FitsPhase};
-ghost use Rattle.mds_activity.specs.FileCalls.{call_as, file_with, SendsFileCall, kind_of, servers_by, first_server, is_out_in, kept_by, kept_commit};
+ghost use Rattle.mds_activity.specs.FileCalls.{call_as, file_with, SendsFileCall, kind_of, servers_by, first_server, kept_by, kept_commit};
 ghost use Rattle.mds_activity.specs.Targets.{CanAllComeIn};
 ghost use Rattle.mds_activity.specs.declared.sending.FileCallKind.TheVariants as kind;
 
@@ -113,14 +113,14 @@ impl Activity {
     }
 
     /// A call of this number is outstanding to this server.
-    pub fn is_outstanding(&self, live: Mirrors, server: u32, xid: u32) -> bool
-        ensures { result ≡ is_out_in live server xid (plain_activity self.now) }
+    pub fn is_outstanding(&self, layout: FileState, server: u32, xid: u32) -> bool
+        ensures { result ≡ is_outstanding (file_with layout self.now) server xid }
     {
         match self {
             Activity::Idle => false,
             Activity::Makes(all) => all.is_outstanding(server, xid),
             Activity::Fences(fence) => fence.is_outstanding(server, xid),
-            Activity::Settles { stage, .. } => is_out(xid, *stage) && first_is_on(live, server),
+            Activity::Settles { stage, .. } => is_out(xid, *stage) && first_is_on(layout.live(), server),
             Activity::Copies { copy, .. } => copy.is_outstanding(server, xid),
         }
     }

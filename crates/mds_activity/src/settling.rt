@@ -1,19 +1,22 @@
 //! What the answers to the COMMIT of a source bring.
 
-ghost use Rattle.std.specs.Prelude.{◌≡◌, ◌≤◌, ◌+◌, [], if◌then◌else◌};
+ghost use Rattle.std.specs.Prelude.{◌≡◌, ◌≤◌, ◌+◌, [], length, map, if◌then◌else◌};
 ghost use Rattle.std.specs.Vec.{vec_len, vec_capacity};
 ghost use Rattle.cluster_model.specs.declared.layout_state.LayoutPhase.TheVariants as phase;
 ghost use Rattle.cluster_model.specs.declared.call_stage.CallStage.TheVariants as stage;
 ghost use Rattle.cluster_model.specs.DsCalls.{plain_ds_reply};
-ghost use Rattle.file_rule.specs.MdsFiles.{shown_by_commit, seen_at_source, settled};
-ghost use Rattle.mds_activity.specs.Activities.{LosesSource, TookDrawing, FitsPhase, commit_failed};
+ghost use Rattle.copy_rule.specs.Copies.{to_make, new_copy};
+ghost use Rattle.file_rule.specs.MdsFiles.{Copies, shown_by_commit, seen_at_source, settled};
+ghost use Rattle.mds_activity.specs.Activities.{plain_activity, LosesSource, TookDrawing, FitsPhase, commit_failed};
+ghost use Rattle.mds_activity.specs.Targets.{CanAllComeIn};
 ghost use Rattle.mds_rows.specs.Draws.{HasFresh};
 
 use crate::activity::Activity;
 use cluster_model::{
-    CallStage, CopyKind, Cred, DsReply, Entry, FileId, LeftCause, MirrorId, Phase, SERVERFAULT,
-    Shown,
+    CallStage, CopyKind, Cred, DsReply, Entry, FileId, LeftCause, Mirror, MirrorId, Phase,
+    SERVERFAULT, Shown,
 };
+use copy_rule::Target;
 use file_rule::Fresh;
 use layout_state::FileState;
 use mds_rows::{lose, plan_of, settle};
@@ -93,10 +96,28 @@ pub fn begin_copy(
     }
     fresh.uid += 1;
     fresh.name += plan.len() as u64;
+    copy_from(alloc, *layout, copies, copier, source, plan.as_slice())
+}
+
+/// The copy from this mirror, by this user, to the targets of a plan.
+fn copy_from(
+    alloc: Global,
+    layout: FileState,
+    copies: CopyKind,
+    copier: Cred,
+    source: Mirror,
+    plan: &[Target],
+) -> Activity
+    requires few { length plan.now ≤ 4 }
+    requires copying { layout.phase ≡ phase.Copying copier copies }
+    requires fit { CanAllComeIn layout.live (map to_make plan.now) }
+    ensures copy { plain_activity result ≡ Copies (new_copy source.id plan.now copier.0) }
+    ensures fits { FitsPhase layout result }
+{
     Activity::Copies {
         copier,
         copies,
-        copy: Copy::start(alloc, source, plan.as_slice(), copier),
+        copy: Copy::start(alloc, source, plan, copier),
     }
 }
 

@@ -2,10 +2,12 @@
 #![tactic(auto)]
 
 mod answers;
+mod copying;
 mod input;
 mod mds_file;
 mod settling;
 mod steps;
+mod taking;
 
 pub use input::FileInput;
 pub use mds_activity::{FileCall, FileCallKind};

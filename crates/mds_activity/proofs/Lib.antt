@@ -1,0 +1,6 @@
+mod CopyFits
+mod FenceLemmas
+mod PlanFits
+mod StepLemmas
+mod Swaps
+mod TargetFits
