@@ -12,7 +12,7 @@ use Rattle.mds_activity.specs.declared.activity.Activity.{Activity as CodeActivi
 use Rattle.mds_activity.specs.Activities.{plain_activity}
 use Rattle.call_stage.specs.KeptCalls.{kept_out_to}
 use Rattle.file_rule.specs.MdsFiles.{Activity, Idle, Makes, Fences, Settles, Copies, MdsFile}
-use Rattle.file_rule.specs.FilePhases.{call_out}
+use Rattle.file_rule.specs.FilePhases.{CallOut, call_out}
 use Rattle.fence.specs.Calls as fence
 use Rattle.resilver.specs.Calls as copy
 use Rattle.mds_creations.specs.Makings as making
@@ -80,6 +80,13 @@ servers_by live (Copies c) = copy.servers_waiting c
 -- in the order in which they go out, one after the other
 abbrev pub servers_waiting : MdsFile → List ℕ
 servers_waiting f = servers_by f.layout.live f.activity
+
+-- the first of them is that of the next call, and there is none where no call waits
+abbrev pub GoesFirst : Option CallOut → List ℕ → Type 0
+GoesFirst None [] = Unit {0}
+GoesFirst None (n ∷ servers) = ⊥
+GoesFirst (Some c) [] = ⊥
+GoesFirst (Some c) (n ∷ servers) = c.server ≡ n
 
 -- ---- which call is kept outstanding until the next tick, by its server and number
 
