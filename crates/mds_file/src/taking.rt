@@ -28,7 +28,7 @@ impl MdsFile {
         entries: &mut Vec<Entry>,
     ) -> Result<(), NoMemory>
         requires { HasFresh fresh.old }
-        ensures { StepsAs (phase file self.old (plain_input input) fresh.old) self.old fresh.old entries.old.items result self.new fresh.new entries.new.items }
+        ensures { StepsAs (phase file self.old (plain_input input.entry) fresh.old) self.old fresh.old entries.old.items result self.new fresh.new entries.new.items }
     {
         match input {
             FileInput::AsksLayout { client } => self.ask(file, client, fresh, entries),
