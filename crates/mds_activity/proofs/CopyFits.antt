@@ -94,7 +94,7 @@ module _ (live : List Mirror) (owner : ℕ) where
   read_well c (Committed shown verifier) h = source_well c KeptBack (Error odd_status) h
   read_well c (Bytes shown eof bytes) h =
       cond_both (is_long c bytes) (source_fails c KeptBack (Error odd_status)) (copy_then (with_piece c eof bytes) Waiting) (CopyWell live owner) (λ yes. source_well c KeptBack (Error odd_status) h)
-          (λ other. then_well (with_piece c eof bytes) Waiting (record { owned = h.owned; fit = all_write live bytes c.targets h.fit }) tt)
+      (λ other. then_well (with_piece c eof bytes) Waiting (record { owned = h.owned; fit = all_write live bytes c.targets h.fit }) tt)
   read_well c (NotSync shown) h = source_well c KeptBack (Error odd_status) h
   read_well c (Failed status shown) h = source_well c KeptBack (Error status) h
 
@@ -102,7 +102,7 @@ module _ (live : List Mirror) (owner : ℕ) where
   read_late_well c Waits h = strange_well c h
   read_late_well c (Out xid timeouts) h =
       cond_both (nat_lt (timeouts + 1) MAX_TIMEOUTS) (record { copy = with_read c (Out xid (timeouts + 1)); step = Waiting }) (source_fails c (KeptOut xid) Timeouts) (CopyWell live owner)
-          (λ yes. record { copy = record { owned = h.owned; fit = h.fit }; loses = tt }) (λ other. source_well c (KeptOut xid) Timeouts h)
+      (λ yes. record { copy = record { owned = h.owned; fit = h.fit }; loses = tt }) (λ other. source_well c (KeptOut xid) Timeouts h)
   read_late_well c (KeptOut xid) h = record { copy = h; loses = tt }
   read_late_well c KeptBack h = strange_well c h
   read_late_well c Done h = strange_well c h

@@ -243,7 +243,7 @@ module _ (live : List Mirror) (targets : List CopyTarget) (place : ℕ) (t : Cop
   late_by (Out xid timeouts) is =
       let left : is_given_up t.stage ≡ false = ap is_given_up is in
       cond_both (nat_lt (timeouts + 1) MAX_TIMEOUTS) (goes_on_with (at_stage t (Out xid (timeouts + 1)))) (target_fails t Timeouts) (StepsWell live targets place)
-          (λ yes. goes_well (at_stage t (Out xid (timeouts + 1))) (to_stage t (Out xid (timeouts + 1)) left refl)) (λ other. fails_well Timeouts left)
+      (λ yes. goes_well (at_stage t (Out xid (timeouts + 1))) (to_stage t (Out xid (timeouts + 1)) left refl)) (λ other. fails_well Timeouts left)
   late_by (KeptOut xid) is = goes_well t (stays t)
   late_by KeptBack is = goes_well t (stays t)
   late_by Done is = goes_well t (stays t)

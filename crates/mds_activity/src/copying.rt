@@ -14,7 +14,9 @@ ghost use Rattle.mds_rows.specs.Draws.{HasFresh};
 ghost use Rattle.mds_rows.specs.Rows.{HasRow};
 
 use crate::activity::Activity;
-use cluster_model::{CallStage, CopyKind, Cred, DsReply, Entry, FileId, LeftCause, MirrorId, Targets};
+use cluster_model::{
+    CallStage, CopyKind, Cred, DsReply, Entry, FileId, LeftCause, MirrorId, Targets,
+};
 use fence::Fence;
 use ff_xdr::NoMemory;
 use file_rule::Fresh;
@@ -92,9 +94,7 @@ pub fn step_copy(
             ..
         } => {
             lose_replaced(file, layout, copier, copies, &copy, id, cause, entries);
-            go_on_copying(
-                file, layout, copier, copies, copy, room, fresh, entries,
-            )
+            go_on_copying(file, layout, copier, copies, copy, room, fresh, entries)
         }
         CopyStep::TargetFailed { replaced: None, .. } | CopyStep::Done => go_on_copying(
             file, layout, copier, copies, copy, room, fresh, entries,
@@ -119,10 +119,18 @@ fn fail_source(
     ensures wanted { layout.new.wanted ≡ layout.old.wanted }
 {
     let Some(source) = layout.live().get(0) else {
-        return Activity::Copies { copier, copies, copy };
+        return Activity::Copies {
+            copier,
+            copies,
+            copy,
+        };
     };
     if !lose(file, layout, source.id, cause, entries) {
-        return Activity::Copies { copier, copies, copy };
+        return Activity::Copies {
+            copier,
+            copies,
+            copy,
+        };
     }
     Activity::Settles {
         copies,
@@ -174,7 +182,11 @@ fn go_on_copying(
     ensures wanted { layout.new.wanted ≡ layout.old.wanted }
 {
     let Some(targets) = copy.outcome() else {
-        return Activity::Copies { copier, copies, copy };
+        return Activity::Copies {
+            copier,
+            copies,
+            copy,
+        };
     };
     finish_copy(file, layout, copier, copies, &targets, room, fresh, entries)
 }

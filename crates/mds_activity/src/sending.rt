@@ -32,7 +32,10 @@ pub struct FileCall {
 #[derive(Clone, Copy, Debug, PartialEq, Eq)]
 pub enum FileCallKind {
     /// The CREATE of the file under the name of this number, for this owner.
-    Create { name: u64, owner: Cred },
+    Create {
+        name: u64,
+        owner: Cred,
+    },
     /// The SETATTR of owner and group, where the ctime is the guard.
     SetAttr {
         fileid: u64,
@@ -40,11 +43,19 @@ pub enum FileCallKind {
         guard: Tick,
     },
     /// The COMMIT of the whole file.
-    Commit { fileid: u64 },
+    Commit {
+        fileid: u64,
+    },
     /// The READ of at most `count` bytes from the byte `at` on.
-    Read { fileid: u64, at: u64, count: u32 },
+    Read {
+        fileid: u64,
+        at: u64,
+        count: u32,
+    },
     /// The FILE_SYNC WRITE of the piece in hand to this file.
-    WritePiece { fileid: u64 },
+    WritePiece {
+        fileid: u64,
+    },
 }
 
 impl Activity {
@@ -120,7 +131,8 @@ impl Activity {
             Activity::Idle => false,
             Activity::Makes(all) => all.is_outstanding(server, xid),
             Activity::Fences(fence) => fence.is_outstanding(server, xid),
-            Activity::Settles { stage, .. } => is_out(xid, *stage) && first_is_on(layout.live(), server),
+            Activity::Settles { stage, .. } => is_out(xid, *stage)
+                && first_is_on(layout.live(), server),
             Activity::Copies { copy, .. } => copy.is_outstanding(server, xid),
         }
     }

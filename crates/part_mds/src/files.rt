@@ -35,12 +35,7 @@ impl FileRows {
 }
 
 /// A new file at the first servers.
-fn made(
-    alloc: Global,
-    first: Cred,
-    name: u64,
-    count: u32,
-) -> Result<MdsFile, RowFault> {
+fn made(alloc: Global, first: Cred, name: u64, count: u32) -> Result<MdsFile, RowFault> {
     match count {
         1 => Ok(MdsFile::new(alloc, first, name, &[1])),
         2 => Ok(MdsFile::new(alloc, first, name, &[1, 2])),

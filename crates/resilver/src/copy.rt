@@ -11,7 +11,9 @@ ghost use Rattle.resilver.specs.Sends.{SendsNext, call_as, TakesRead, BringsPiec
 
 use crate::call::{NextCall, SentCall, caller_for};
 use crate::target::{answered, at_stage, next_for, timed_out, to_make};
-use crate::targets::{are_given_up, are_over, is_out_to, outstanding, servers_of_waiting, swaps, waiting, write_all};
+use crate::targets::{
+    are_given_up, are_over, is_out_to, outstanding, servers_of_waiting, swaps, waiting, write_all,
+};
 use arrayvec::ArrayVec;
 use call_stage::{is_out, is_over, kept_out_to, stage_at_tick, waits};
 use cluster_model::{
