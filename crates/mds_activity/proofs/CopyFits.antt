@@ -1,6 +1,6 @@
 -- That the targets of a copy can still come in behind each step of it.
-use Rattle.std.proofs.Common.{◌≡◌, ℕ, zero, suc, ◌+◌, Bool, true, false, eqb, cond, List, [], ◌∷◌, length, map, set, Option, Some, None, refl, sym, ap, subst, ◌∙◌, ◌<◌, get_or}
-use Rattle.std.specs.Prelude.{slice_get, slice_set, ◌||◌, ◌&&◌, nat_lt, not}
+use Rattle.std.proofs.Common.{◌≡◌, ℕ, zero, suc, ◌+◌, Bool, true, false, cond, List, [], ◌∷◌, Option, Some, None, refl, sym, ap, subst, ◌∙◌, get_or}
+use Rattle.std.specs.Prelude.{slice_get, ◌&&◌, nat_lt, not}
 use Rattle.std.specs.List.{position}
 use Rattle.std.proofs.lemmas.Bool.{cond_both}
 use Rattle.std.proofs.lemmas.Option.{same_Some}
@@ -29,7 +29,7 @@ use Rattle.resilver.specs.declared.call.SentCall.{SentCall}
 use Rattle.resilver.specs.Calls.{TakesAnswer}
 use Rattle.resilver.specs.Sends.{SendsNext, call_as}
 use Rattle.mds_activity.specs.Activities.{IsCopying}
-use Rattle.mds_activity.specs.Targets.{CanAllComeIn, LosesTarget, may_leave}
+use Rattle.mds_activity.specs.Targets.{CanAllComeIn, LosesTarget}
 use Rattle.mds_activity.proofs.Swaps.{all_swap}
 use Rattle.mds_activity.proofs.TargetFits.{StepsWell, answered_well, late_well, all_write, sent_goes, set_fit}
 

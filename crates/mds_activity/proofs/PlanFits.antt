@@ -1,5 +1,5 @@
 -- That the targets of a plan can come into the live list.
-use Rattle.std.proofs.Common.{◌≡◌, ℕ, zero, suc, ◌≤◌, ◌+◌, ◌-◌, Bool, true, false, not, eqb, cond, List, [], ◌∷◌, length, map, filter, take, drop, Option, Some, None, refl, sym, ap, subst, ◌∙◌, arith}
+use Rattle.std.proofs.Common.{◌≡◌, ℕ, zero, suc, ◌≤◌, ◌+◌, ◌-◌, Bool, true, false, not, eqb, cond, List, [], ◌∷◌, length, map, filter, take, drop, refl, sym, ap, subst, ◌∙◌, arith}
 use Rattle.std.specs.Prelude.{◌==◌, ◌||◌, ◌&&◌}
 use Rattle.std.specs.List.{list_any, list_all, range_with_len}
 use Rattle.std.proofs.lemmas.Bool.{and_parts, eq-eqb, leb-true, ne_eqb}
@@ -13,7 +13,7 @@ use Rattle.cluster_model.specs.Mirrors.{has_server, are_on_different_servers, ar
 use Rattle.cluster_model.specs.declared.ids.FileId.{FileId}
 use Rattle.cluster_model.specs.declared.ids.Cred.{Cred}
 use Rattle.cluster_model.specs.declared.layout_state.LayoutPhase.TheVariants.{Copying}
-use Rattle.cluster_model.specs.Phases.{is_source, is_one_of, PhaseStep, has_targets, with_phase, freed, settled_row}
+use Rattle.cluster_model.specs.Phases.{is_one_of, PhaseStep, has_targets, with_phase, freed, settled_row}
 use Rattle.copy_rule.specs.declared.copy_target.Target.{Target}
 use Rattle.copy_rule.specs.Copies.{to_make}
 use Rattle.file_rule.specs.declared.fresh.Fresh.{Fresh}

@@ -1,5 +1,5 @@
 -- What steps leave, joined.
-use Rattle.std.proofs.Common.{◌≡◌, ℕ, ◌+◌, List, ◌++◌, Some, sym, ap, subst, ◌∙◌, arith, append_assoc}
+use Rattle.std.proofs.Common.{◌≡◌, ◌+◌, List, ◌++◌, Some, ap, subst, ◌∙◌, arith, append_assoc}
 use Rattle.cluster_model.specs.declared.ids.FileId.{FileId}
 use Rattle.cluster_model.specs.declared.ids.MirrorId.{MirrorId}
 use Rattle.cluster_model.specs.declared.entry.Entry.{Entry}
@@ -8,11 +8,11 @@ use Rattle.cluster_model.specs.declared.layout_state.LayoutState.{LayoutState}
 use Rattle.cluster_model.specs.Phases.{mirror_left}
 use Rattle.copy_rule.specs.Copies.{CopyState}
 use Rattle.file_rule.specs.declared.fresh.Fresh.{Fresh}
-use Rattle.file_rule.specs.MdsFiles.{MdsFile, FileStep, copied_on, target_left}
+use Rattle.file_rule.specs.MdsFiles.{FileStep, copied_on, target_left}
 use Rattle.mds_rows.specs.Draws.{drawn}
 use Rattle.mds_rows.specs.Rows.{HasRow}
 use Rattle.mds_activity.specs.declared.activity.Activity.{Activity as CodeActivity}
-use Rattle.mds_activity.specs.Activities.{plain_activity, Took, TookDrawing}
+use Rattle.mds_activity.specs.Activities.{Took, TookDrawing}
 
 -- a step that draws nothing
 none_drawn : (fresh : Fresh) (s : FileStep) → s.uids ≡ 0 → s.names ≡ 0 → fresh ≡ drawn fresh s

@@ -1,5 +1,5 @@
 -- Which targets of a copy can come into a live list behind a change of it, and that all of them can come in.
-use Rattle.std.proofs.Common.{◌≡◌, ℕ, ◌≤◌, ◌<◌, ◌+◌, Bool, true, false, not, eqb, cond, List, [], ◌∷◌, ◌++◌, length, map, filter, Option, Some, None, refl, sym, ap, subst, ◌∙◌, arith}
+use Rattle.std.proofs.Common.{◌≡◌, ℕ, ◌≤◌, ◌<◌, ◌+◌, Bool, true, false, not, eqb, cond, List, [], ◌∷◌, ◌++◌, length, map, Option, Some, None, refl, sym, ap, ◌∙◌, arith}
 use Rattle.std.specs.Prelude.{◌==◌, ◌||◌, ◌&&◌, is_some}
 use Rattle.std.specs.List.{list_any, list_all, flat_map}
 use Rattle.std.proofs.lemmas.Bool.{and_parts, eq-eqb, eqb-true, lt-ltb}
@@ -7,13 +7,11 @@ use Rattle.std.proofs.lemmas.List.{length-map}
 use Rattle.cluster_model.specs.declared.tick.Tick.{Tick}
 use Rattle.cluster_model.specs.declared.ids.Mirror.{Mirror}
 use Rattle.cluster_model.specs.declared.ids.MirrorId.{MirrorId}
-use Rattle.cluster_model.specs.declared.targets.SwappedIn.{SwappedIn}
 use Rattle.cluster_model.specs.Journal.{is_mirror}
-use Rattle.cluster_model.specs.Mirrors.{has_server, can_add}
+use Rattle.cluster_model.specs.Mirrors.{has_server}
 use Rattle.cluster_model.specs.Phases.{seen_if, seen_at, is_source, is_one_of, but_for, put_if, in_place, can_swap, can_swap_all}
 use Rattle.copy_rule.specs.declared.copy_target.CopyTarget.{CopyTarget}
 use Rattle.copy_rule.specs.Copies.{is_given_up, swap_of}
-use Rattle.mds_creations.specs.Makings.{are_different}
 use Rattle.mds_activity.specs.Targets.{has_place, is_on, can_come_in, one_if_added, count_added, target_servers, CanAllComeIn}
 
 pub both : (a b : Bool) → a ≡ true → b ≡ true → (a && b) ≡ true

@@ -1,5 +1,5 @@
 -- That the targets of a copy can still come in behind a step of one of them.
-use Rattle.std.proofs.Common.{◌≡◌, ℕ, zero, suc, ◌≤◌, ◌+◌, Bool, true, false, not, eqb, cond, List, [], ◌∷◌, length, map, set, Option, Some, None, refl, sym, ap, subst, ◌∙◌, arith}
+use Rattle.std.proofs.Common.{◌≡◌, ℕ, zero, suc, ◌+◌, Bool, true, false, not, eqb, cond, List, [], ◌∷◌, length, map, set, Option, Some, None, refl, sym, ap, subst, ◌∙◌, arith}
 use Rattle.std.specs.Prelude.{slice_get, ◌==◌, ◌||◌, ◌&&◌, is_some, nat_lt}
 use Rattle.std.specs.List.{list_any, list_all}
 use Rattle.std.proofs.lemmas.Bool.{and_parts, eq-eqb, eqb-true, le-ltb, cond_both}
@@ -19,7 +19,7 @@ use Rattle.cluster_model.specs.Phases.{is_source, is_one_of, is_last_live, but_f
 use Rattle.copy_rule.specs.declared.copy_target.CopyTarget.{CopyTarget}
 use Rattle.copy_rule.specs.Copies.{is_given_up, at_stage, having_made, having_written, seen_then, thrown_away, TargetStep, goes_on_with, target_fails, create_answered, write_answered, target_answered, target_late, stage_for, to_write}
 use Rattle.mds_creations.specs.Makings.{are_different}
-use Rattle.mds_activity.specs.Targets.{has_place, is_on, can_come_in, one_if_added, count_added, target_servers, CanAllComeIn, MayLeave, may_leave, LosesTarget}
+use Rattle.mds_activity.specs.Targets.{has_place, is_on, can_come_in, one_if_added, count_added, target_servers, CanAllComeIn, may_leave, LosesTarget}
 use Rattle.mds_activity.proofs.Swaps.{both, other_way, not_true, but_server, passes_off, still_fit, left_alike, left_shorter, off_behind}
 
 -- a target goes on as another one of its server, which can come in where it could

@@ -3,7 +3,6 @@ use Rattle.std.specs.Prelude.{◌≡◌, ◌≤◌, ℕ, ◌+◌, Bool, true, fa
 use Rattle.std.specs.List.{list_all}
 use Rattle.cluster_model.specs.declared.ids.Mirror.{Mirror}
 use Rattle.cluster_model.specs.declared.ids.MirrorId.{MirrorId}
-use Rattle.cluster_model.specs.declared.phase.LeftCause.{LeftCause}
 use Rattle.cluster_model.specs.Mirrors.{has_server}
 use Rattle.cluster_model.specs.Phases.{is_source, is_one_of, is_last_live, but_for}
 use Rattle.copy_rule.specs.declared.copy_target.CopyTarget.{CopyTarget}

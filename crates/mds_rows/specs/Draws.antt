@@ -1,5 +1,5 @@
 -- What a step of a file draws.
-use Rattle.std.specs.Prelude.{◌<◌, ℕ, ◌+◌, ◌^◌}
+use Rattle.std.specs.Prelude.{◌<◌, ◌+◌, ◌^◌}
 use Rattle.file_rule.specs.declared.fresh.Fresh.{Fresh}
 use Rattle.file_rule.specs.MdsFiles.{FileStep}
 use Rattle.file_rule.specs.FilePhases.{end_of_uids}
