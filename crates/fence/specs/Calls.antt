@@ -22,16 +22,16 @@ SendsSet old xid (Some s) new = next_call old xid ≡ Some (record { fence = new
 -- ---- what is under way
 
 -- the mirror whose SETATTR is outstanding under a number
-abbrev pub id_of : Option FenceMirror → Option MirrorId
-id_of None = None
-id_of (Some m) = Some m.id
+abbrev pub fenced_id : Option FenceMirror → Option MirrorId
+fenced_id None = None
+fenced_id (Some m) = Some m.id
 
-abbrev pub id_at : FenceState → Option ℕ → Option MirrorId
-id_at f None = None
-id_at f (Some place) = id_of (slice_get f.mirrors place)
+abbrev pub mirror_id_at : FenceState → Option ℕ → Option MirrorId
+mirror_id_at f None = None
+mirror_id_at f (Some place) = fenced_id (slice_get f.mirrors place)
 
 abbrev pub mirror_out : FenceState → ℕ → Option MirrorId
-mirror_out f xid = id_at f (outstanding_at f xid)
+mirror_out f xid = mirror_id_at f (outstanding_at f xid)
 
 -- a SETATTR of this number is outstanding to this server
 abbrev pub is_outstanding : FenceState → ℕ → ℕ → Bool
@@ -42,9 +42,9 @@ abbrev pub servers_waiting : FenceState → List ℕ
 servers_waiting f = map (λ m. m.id.server) (filter (λ m. waits m.stage) f.mirrors)
 
 -- the first that is kept outstanding until the next tick, by its server and number
-abbrev pub kept_of : Option FenceMirror → Option (ℕ × ℕ)
-kept_of None = None
-kept_of (Some m) = kept_out_to m.id.server m.stage
+abbrev pub kept_set : Option FenceMirror → Option (ℕ × ℕ)
+kept_set None = None
+kept_set (Some m) = kept_out_to m.id.server m.stage
 
 abbrev pub kept_out : FenceState → Option (ℕ × ℕ)
-kept_out f = kept_of (find (λ m. is_kept_out m.stage) f.mirrors)
+kept_out f = kept_set (find (λ m. is_kept_out m.stage) f.mirrors)

@@ -27,7 +27,7 @@ use Rattle.cluster_model.specs.Phases.{can_swap_all}
 use Rattle.copy_rule.specs.Copies.{swaps_of, outcome}
 use Rattle.resilver.specs.declared.call.SentCall.{SentCall}
 use Rattle.resilver.specs.Calls.{TakesAnswer}
-use Rattle.resilver.specs.Sends.{SendsNext, call_as}
+use Rattle.resilver.specs.Sends.{SendsBeforeLent, call_as}
 use Rattle.mds_activity.specs.Activities.{IsCopying}
 use Rattle.mds_activity.specs.Targets.{CanAllComeIn, LosesTarget}
 use Rattle.mds_activity.proofs.Swaps.{all_swap}
@@ -176,7 +176,7 @@ late_copy s copier copies old xid step new is takes = copying_of s copier copies
 pub late_loses : (s : LayoutState) (copier : Cred) (copies : CopyKind) (old : CopyState) (xid : ℕ) (step : CopyStep) (new : CopyState) → IsCopying s copier copies old → ◌≡◌ {A = CopyAfter} (record { copy = new; step = step }) (on_timeout old xid) → LosesTarget s.live new.targets step
 late_loses s copier copies old xid step new is takes = (subst (CopyWell s.live copier.0) (sym takes) (late_copy_well s.live copier.0 old xid (fits_of s copier copies old is))).loses
 
-pub sent_copy_fit : (live : List Mirror) (old : CopyState) (xid : ℕ) (sent : Option SentCall) (new : CopyState) → SendsNext old xid sent new → CanAllComeIn live old.targets → CanAllComeIn live new.targets
+pub sent_copy_fit : (live : List Mirror) (old : CopyState) (xid : ℕ) (sent : Option SentCall) (new : CopyState) → SendsBeforeLent old xid sent new → CanAllComeIn live old.targets → CanAllComeIn live new.targets
 sent_copy_fit live old xid None new sends h = subst (λ (k : CopyState). CanAllComeIn live k.targets) (sym sends.1) h
 sent_copy_fit live old xid (Some s) new sends h = sent_fit live old xid (record { copy = new; server = s.server; uid = s.uid; call = call_as new s.call }) sends h
 

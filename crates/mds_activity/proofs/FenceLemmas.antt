@@ -10,17 +10,17 @@ use Rattle.cluster_model.specs.declared.fence_mirror.FenceStep.{FenceStep}
 use Rattle.cluster_model.specs.declared.layout_state.LayoutState.{LayoutState}
 use Rattle.cluster_model.specs.DsCalls.{DsReplyValue}
 use Rattle.cluster_model.specs.Fences.{FenceState, FenceAfter, on_reply, outstanding_at}
-use Rattle.fence.specs.Calls.{id_of, id_at, mirror_out}
+use Rattle.fence.specs.Calls.{fenced_id, mirror_id_at, mirror_out}
 use Rattle.file_rule.specs.MdsFiles.{FileStep, seen_by, mirror_at, shown_by_set, fence_stepped, fence_answered}
 use Rattle.mds_activity.specs.declared.activity.Activity.{Activity as CodeActivity}
 use Rattle.mds_activity.specs.Activities.{seen_at_id, Took}
 
-seen_by_id : (layout : LayoutState) (m : Option FenceMirror) (shown : Option Shown) → seen_at_id layout (id_of m) shown ≡ seen_by layout m shown
+seen_by_id : (layout : LayoutState) (m : Option FenceMirror) (shown : Option Shown) → seen_at_id layout (fenced_id m) shown ≡ seen_by layout m shown
 seen_by_id layout None shown = refl
 seen_by_id layout (Some m) None = refl
 seen_by_id layout (Some m) (Some shown) = refl
 
-seen_by_place : (layout : LayoutState) (fence : FenceState) (place : Option ℕ) (shown : Option Shown) → seen_at_id layout (id_at fence place) shown ≡ seen_by layout (mirror_at fence place) shown
+seen_by_place : (layout : LayoutState) (fence : FenceState) (place : Option ℕ) (shown : Option Shown) → seen_at_id layout (mirror_id_at fence place) shown ≡ seen_by layout (mirror_at fence place) shown
 seen_by_place layout fence None shown = refl
 seen_by_place layout fence (Some place) shown = seen_by_id layout (slice_get fence.mirrors place) shown
 

@@ -12,7 +12,7 @@ use Rattle.cluster_model.specs.Mirrors.{has_server}
 use Rattle.cluster_model.specs.Phases.{seen_if, seen_at, is_source, is_one_of, but_for, put_if, in_place, can_swap, can_swap_all}
 use Rattle.copy_rule.specs.declared.copy_target.CopyTarget.{CopyTarget}
 use Rattle.copy_rule.specs.Copies.{is_given_up, swap_of}
-use Rattle.mds_activity.specs.Targets.{has_place, is_on, can_come_in, one_if_added, count_added, target_servers, CanAllComeIn}
+use Rattle.mds_activity.specs.Targets.{can_stand, is_made_on, can_come_in, one_if_added, count_added, target_servers, CanAllComeIn}
 
 pub both : (a b : Bool) → a ≡ true → b ≡ true → (a && b) ≡ true
 both true b h k = k
@@ -37,7 +37,7 @@ pub record Alike (p : ℕ → Bool) (live live' : List Mirror) : Type 0 where
   pub source : (id : MirrorId) → p id.server ≡ true → is_source id live' ≡ is_source id live
   pub one_of : (id : MirrorId) → p id.server ≡ true → is_one_of id live' ≡ is_one_of id live
 
-place_alike : (p : ℕ → Bool) (live live' : List Mirror) → Alike p live live' → (server : ℕ) (replaced : Option MirrorId) → p server ≡ true → has_place live server replaced ≡ true → has_place live' server replaced ≡ true
+place_alike : (p : ℕ → Bool) (live live' : List Mirror) → Alike p live live' → (server : ℕ) (replaced : Option MirrorId) → p server ≡ true → can_stand live server replaced ≡ true → can_stand live' server replaced ≡ true
 place_alike p live live' alike server None h k = ap not (alike.servers server h) ∙ k
 place_alike p live live' alike server (Some old) h k =
     let parts = and_parts _ _ k in
@@ -52,7 +52,7 @@ passes_off p t = is_given_up t.stage || p t.server
 fits_alike : (p : ℕ → Bool) (live live' : List Mirror) → Alike p live live' → (t : CopyTarget) → passes_off p t ≡ true → can_come_in live t ≡ true → can_come_in live' t ≡ true
 fits_alike p live live' alike t off fit = by_test (is_given_up t.stage) off fit
   where
-    by_test : (b : Bool) → (b || p t.server) ≡ true → cond b (not (is_some t.made)) (is_on t.server t.made && has_place live t.server t.replaced) ≡ true → cond b (not (is_some t.made)) (is_on t.server t.made && has_place live' t.server t.replaced) ≡ true
+    by_test : (b : Bool) → (b || p t.server) ≡ true → cond b (not (is_some t.made)) (is_made_on t.server t.made && can_stand live t.server t.replaced) ≡ true → cond b (not (is_some t.made)) (is_made_on t.server t.made && can_stand live' t.server t.replaced) ≡ true
     by_test true h k = k
     by_test false h k = let parts = and_parts _ _ k in both _ _ parts.0 (place_alike p live live' alike t.server t.replaced h parts.1)
 
@@ -220,7 +220,7 @@ module _ (t : CopyTarget) (targets : List CopyTarget) (live : List Mirror) (h : 
   off_here : (m : Mirror) → m.id.server ≡ t.server → list_all (passes_off (but_server m.id.server)) targets ≡ true
   off_here m on = off_behind m.id.server targets (ap (λ (n : ℕ). list_any (λ k. k == n) (target_servers targets)) on ∙ not_true _ (and_parts _ _ h.apart).0)
 
-  by_place : (m : Mirror) (replaced : Option MirrorId) → m.id.server ≡ t.server → has_place live t.server replaced ≡ true → length live + (one_if_added replaced + count_added targets) ≤ 4
+  by_place : (m : Mirror) (replaced : Option MirrorId) → m.id.server ≡ t.server → can_stand live t.server replaced ≡ true → length live + (one_if_added replaced + count_added targets) ≤ 4
       → (can_swap (record { new = m; old = t.replaced }) replaced live && can_swap_all (flat_map (λ x. swap_of x x.made) targets) (in_place (record { new = m; old = t.replaced }) replaced live)) ≡ true
   by_place m None on place room =
       let few : length live < 4 = omega (arith, room) in
@@ -233,7 +233,7 @@ module _ (t : CopyTarget) (targets : List CopyTarget) (live : List Mirror) (h : 
       let count : length (map (put_if old m) live) ≡ length live = length-map live (put_if old m) in
       both _ _ (both _ _ (eq-eqb m.id.server old.server same) parts.1) (behind (map (put_if old m) live) (still_fit (but_server m.id.server) live (map (put_if old m) live) targets (put_alike old m live same) (off_here m on) (omega (arith, room, count)) (tail_fits live t targets h)))
 
-  by_made : (made : Option Mirror) → cond (is_given_up t.stage) (not (is_some made)) (is_on t.server made && has_place live t.server t.replaced) ≡ true → can_swap_all (swap_of t made ++ flat_map (λ x. swap_of x x.made) targets) live ≡ true
+  by_made : (made : Option Mirror) → cond (is_given_up t.stage) (not (is_some made)) (is_made_on t.server made && can_stand live t.server t.replaced) ≡ true → can_swap_all (swap_of t made ++ flat_map (λ x. swap_of x x.made) targets) live ≡ true
   by_made None fit = behind live (tail_fits live t targets h)
   by_made (Some m) fit =
       let parts = left_parts (is_given_up t.stage) _ _ fit in

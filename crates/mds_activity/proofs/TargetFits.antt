@@ -19,7 +19,7 @@ use Rattle.cluster_model.specs.Phases.{is_source, is_one_of, is_last_live, but_f
 use Rattle.copy_rule.specs.declared.copy_target.CopyTarget.{CopyTarget}
 use Rattle.copy_rule.specs.Copies.{is_given_up, at_stage, having_made, having_written, seen_then, thrown_away, TargetStep, goes_on_with, target_fails, create_answered, write_answered, target_answered, target_late, stage_for, to_write}
 use Rattle.mds_creations.specs.Makings.{are_different}
-use Rattle.mds_activity.specs.Targets.{has_place, is_on, can_come_in, one_if_added, count_added, target_servers, CanAllComeIn, may_leave, LosesTarget}
+use Rattle.mds_activity.specs.Targets.{can_stand, is_made_on, can_come_in, one_if_added, count_added, target_servers, CanAllComeIn, may_leave, LosesTarget}
 use Rattle.mds_activity.proofs.Swaps.{both, other_way, not_true, but_server, passes_off, still_fit, left_alike, left_shorter, off_behind}
 
 -- a target goes on as another one of its server, which can come in where it could
@@ -100,14 +100,14 @@ waits_is_left Done e = refl
 waits_is_left GivenUp e = absurd cc
 
 -- what holds of a target that is left
-pub of_left : (live : List Mirror) (t : CopyTarget) → is_given_up t.stage ≡ false → can_come_in live t ≡ true → (is_on t.server t.made ≡ true) × (has_place live t.server t.replaced ≡ true)
-of_left live t left fit = and_parts _ _ (ap (λ b. cond b (not (is_some t.made)) (is_on t.server t.made && has_place live t.server t.replaced)) (sym left) ∙ fit)
+pub of_left : (live : List Mirror) (t : CopyTarget) → is_given_up t.stage ≡ false → can_come_in live t ≡ true → (is_made_on t.server t.made ≡ true) × (can_stand live t.server t.replaced ≡ true)
+of_left live t left fit = and_parts _ _ (ap (λ b. cond b (not (is_some t.made)) (is_made_on t.server t.made && can_stand live t.server t.replaced)) (sym left) ∙ fit)
 
 to_stage : (t : CopyTarget) (stage : CallStage) → is_given_up t.stage ≡ false → is_given_up stage ≡ false → Goes t (at_stage t stage)
 to_stage t stage left new = record {
   server = refl;
   replaced = refl;
-  fits = λ live fit. ap (λ b. cond b (not (is_some t.made)) (is_on t.server t.made && has_place live t.server t.replaced)) (new ∙ sym left) ∙ fit;
+  fits = λ live fit. ap (λ b. cond b (not (is_some t.made)) (is_made_on t.server t.made && can_stand live t.server t.replaced)) (new ∙ sym left) ∙ fit;
 }
 
 pub sent_goes : (t : CopyTarget) (xid : ℕ) → waits t.stage ≡ true → Goes t (at_stage t (Out xid 0))
@@ -122,7 +122,7 @@ thrown_goes t = record { server = refl; replaced = refl; fits = λ live fit. ref
 made_goes : (t : CopyTarget) (fileid : ℕ) (shown : Shown) → is_given_up t.stage ≡ false → Goes t (having_made t fileid shown.seen)
 made_goes t fileid shown left = record { server = refl; replaced = refl; fits = λ live fit. both _ _ (eq-eqb t.server t.server refl) (of_left live t left fit).1 }
 
-on_seen : (server : ℕ) (made : Option Mirror) (shown : Option Shown) → is_on server made ≡ true → is_on server (seen_then made shown) ≡ true
+on_seen : (server : ℕ) (made : Option Mirror) (shown : Option Shown) → is_made_on server made ≡ true → is_made_on server (seen_then made shown) ≡ true
 on_seen server None shown h = refl
 on_seen server (Some m) None h = h
 on_seen server (Some m) (Some shown) h = h
@@ -182,7 +182,7 @@ fit_at live (x ∷ targets) (suc place) t e fit = fit_at live targets place t e 
 pub thrown_leaves : (live : List Mirror) (targets : List CopyTarget) (place : ℕ) (t : CopyTarget) → slice_get targets place ≡ Some t → is_given_up t.stage ≡ false → CanAllComeIn live targets → may_leave live (set targets place (thrown_away t)) t.replaced
 thrown_leaves live targets place t e left h = by_replaced t.replaced (of_left live t left (fit_at live targets place t e h.fit)).1
   where
-    by_replaced : (replaced : Option MirrorId) → has_place live t.server replaced ≡ true → may_leave live (set targets place (thrown_away t)) replaced
+    by_replaced : (replaced : Option MirrorId) → can_stand live t.server replaced ≡ true → may_leave live (set targets place (thrown_away t)) replaced
     by_replaced None at = tt
     by_replaced (Some id) at =
         let parts = and_parts _ _ at in

@@ -23,30 +23,30 @@ use Rattle.mds_activity.specs.declared.sending.FileCallKind.TheVariants as sent
 -- ---- which call it is
 
 -- the piece in hand and its place; without a copy none
-abbrev pub piece_of : Activity → List ℕ
-piece_of Idle = []
-piece_of (Makes all) = []
-piece_of (Fences fence) = []
-piece_of (Settles stage) = []
-piece_of (Copies c) = c.piece
+abbrev pub piece_in_hand : Activity → List ℕ
+piece_in_hand Idle = []
+piece_in_hand (Makes all) = []
+piece_in_hand (Fences fence) = []
+piece_in_hand (Settles stage) = []
+piece_in_hand (Copies c) = c.piece
 
-abbrev pub place_of : Activity → ℕ
-place_of Idle = 0
-place_of (Makes all) = 0
-place_of (Fences fence) = 0
-place_of (Settles stage) = 0
-place_of (Copies c) = c.at
+abbrev pub piece_place : Activity → ℕ
+piece_place Idle = 0
+piece_place (Makes all) = 0
+piece_place (Fences fence) = 0
+piece_place (Settles stage) = 0
+piece_place (Copies c) = c.at
 
-abbrev pub call_as : Activity → FileCallKind → DsCallValue
-call_as a (sent.Create name owner) = Create name owner.0
-call_as a (sent.SetAttr fileid owner guard) = SetAttr fileid owner.0 guard
-call_as a (sent.Commit fileid) = Commit fileid
-call_as a (sent.Read fileid at count) = Read fileid at count
-call_as a (sent.WritePiece fileid) = Write fileid (place_of a) true (piece_of a)
+abbrev pub call_by : Activity → FileCallKind → DsCallValue
+call_by a (sent.Create name owner) = Create name owner.0
+call_by a (sent.SetAttr fileid owner guard) = SetAttr fileid owner.0 guard
+call_by a (sent.Commit fileid) = Commit fileid
+call_by a (sent.Read fileid at count) = Read fileid at count
+call_by a (sent.WritePiece fileid) = Write fileid (piece_place a) true (piece_in_hand a)
 
 -- the call of a file that a value stands for, as the file is then
 abbrev pub call_of : MdsFile → FileCall → DsCallValue
-call_of f c = call_as f.activity c.call
+call_of f c = call_by f.activity c.call
 
 -- the next call goes out under a number, and the file then; or none does, and nothing changes
 abbrev pub SendsFileCall : MdsFile → ℕ → Option FileCall → MdsFile → Type 0
@@ -58,10 +58,10 @@ abbrev pub file_with : LayoutState → CodeActivity → MdsFile
 file_with layout activity = record { layout = layout; activity = plain_activity activity }
 
 -- a call of a copy as one of its file's
-abbrev pub kind_of : NextCall → FileCallKind
-kind_of (MakesFile name owner) = sent.Create name owner
-kind_of (WritesPiece fileid) = sent.WritePiece fileid
-kind_of (ReadsSource fileid at) = sent.Read fileid at PIECE_SIZE
+abbrev pub as_file_call : NextCall → FileCallKind
+as_file_call (MakesFile name owner) = sent.Create name owner
+as_file_call (WritesPiece fileid) = sent.WritePiece fileid
+as_file_call (ReadsSource fileid at) = sent.Read fileid at PIECE_SIZE
 
 -- ---- to which servers calls wait
 

@@ -12,17 +12,17 @@ use Rattle.copy_rule.specs.Copies.{is_given_up}
 use Rattle.mds_creations.specs.Makings.{are_different}
 
 -- A mirror on this server may come in: in the place of one that is live there and not the first, or where none is live there.
-abbrev pub has_place : List Mirror → ℕ → Option MirrorId → Bool
-has_place live server None = not (has_server live server)
-has_place live server (Some old) = (server == old.server) && (not (is_source old live) && is_one_of old live)
+abbrev pub can_stand : List Mirror → ℕ → Option MirrorId → Bool
+can_stand live server None = not (has_server live server)
+can_stand live server (Some old) = (server == old.server) && (not (is_source old live) && is_one_of old live)
 
-abbrev pub is_on : ℕ → Option Mirror → Bool
-is_on server None = true
-is_on server (Some m) = m.id.server == server
+abbrev pub is_made_on : ℕ → Option Mirror → Bool
+is_made_on server None = true
+is_made_on server (Some m) = m.id.server == server
 
 -- a target that is left can come in, on its server; one that was thrown away has no file
 abbrev pub can_come_in : List Mirror → CopyTarget → Bool
-can_come_in live t = if is_given_up t.stage then not (is_some t.made) else (is_on t.server t.made && has_place live t.server t.replaced)
+can_come_in live t = if is_given_up t.stage then not (is_some t.made) else (is_made_on t.server t.made && can_stand live t.server t.replaced)
 
 -- how many of them join the others
 abbrev pub one_if_added : Option MirrorId → ℕ

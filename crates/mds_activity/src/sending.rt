@@ -6,7 +6,7 @@ ghost use Rattle.cluster_model.specs.Fences.{waits};
 ghost use Rattle.file_rule.specs.MdsFiles.{Makes, Fences, Settles, Copies};
 ghost use Rattle.file_rule.specs.FilePhases.{first_is_on, is_outstanding};
 ghost use Rattle.mds_activity.specs.Activities.{plain_activity, FitsPhase};
-ghost use Rattle.mds_activity.specs.FileCalls.{call_as, file_with, SendsFileCall, kind_of, servers_by, first_server, kept_by, kept_commit};
+ghost use Rattle.mds_activity.specs.FileCalls.{call_by, file_with, SendsFileCall, as_file_call, servers_by, first_server, kept_by, kept_commit};
 ghost use Rattle.mds_activity.specs.Targets.{CanAllComeIn};
 ghost use Rattle.mds_activity.specs.declared.sending.FileCallKind.TheVariants as kind;
 
@@ -76,7 +76,7 @@ impl Activity {
 
     /// This call, as it is sent.
     pub fn lend(&self, call: FileCallKind) -> DsCall<'_>
-        ensures { plain_ds_call result ≡ call_as (plain_activity self.now) call }
+        ensures { plain_ds_call result ≡ call_by (plain_activity self.now) call }
     {
         match call {
             FileCallKind::Create { name, owner } => DsCall::Create { name, owner },
@@ -97,7 +97,7 @@ impl Activity {
 
     /// The WRITE of the piece in hand; without a copy one of no bytes.
     fn lend_piece(&self, fileid: u64) -> DsCall<'_>
-        ensures { plain_ds_call result ≡ call_as (plain_activity self.now) (kind.WritePiece fileid) }
+        ensures { plain_ds_call result ≡ call_by (plain_activity self.now) (kind.WritePiece fileid) }
     {
         match self {
             Activity::Copies { copy, .. } => copy.lend(NextCall::WritesPiece { fileid }),
@@ -208,13 +208,13 @@ fn send_copy(copy: &mut Copy, layout: FileState, xid: u32) -> Option<FileCall>
     Some(FileCall {
         server: sent.server,
         uid: sent.uid,
-        call: kind_of(sent.call),
+        call: as_file_call(sent.call),
     })
 }
 
 /// The call of a copy as one of its file's.
-fn kind_of(call: NextCall) -> FileCallKind
-    ensures { result ≡ kind_of call }
+fn as_file_call(call: NextCall) -> FileCallKind
+    ensures { result ≡ as_file_call call }
 {
     match call {
         NextCall::MakesFile { name, owner } => FileCallKind::Create { name, owner },

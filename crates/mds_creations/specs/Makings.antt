@@ -107,9 +107,9 @@ abbrev pub servers_waiting : Creations → List ℕ
 servers_waiting all = map (λ c. c.server) (filter (λ c. waits c.stage) all.items)
 
 -- the first that is kept outstanding until the next tick, by its server and number
-abbrev pub kept_of : Option Creation → Option (ℕ × ℕ)
-kept_of None = None
-kept_of (Some c) = kept_out_to c.server c.stage
+abbrev pub kept_create : Option Creation → Option (ℕ × ℕ)
+kept_create None = None
+kept_create (Some c) = kept_out_to c.server c.stage
 
 abbrev pub kept_out : Creations → Option (ℕ × ℕ)
-kept_out all = kept_of (find (λ c. is_kept_out c.stage) all.items)
+kept_out all = kept_create (find (λ c. is_kept_out c.stage) all.items)

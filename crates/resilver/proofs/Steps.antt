@@ -16,7 +16,7 @@ use Rattle.copy_rule.specs.declared.copy_target.CopyStep.{CopyStep}
 use Rattle.copy_rule.specs.Copies.{CopyState, CopyCall, CopyAfter, TargetStep, at_stage, target_call, target_caller, target_call_at, call_from, waiting_at, target_of, target_answered, step_from, step_at, stepped, copy_then, by_read, read_answered, stranger}
 use Rattle.resilver.specs.declared.call.NextCall.{NextCall}
 use Rattle.resilver.specs.Calls.{TakesAnswer}
-use Rattle.resilver.specs.Sends.{next_for, call_as, caller_for, SendsNext, TakesRead, BringsPiece, AsksForPiece}
+use Rattle.resilver.specs.Sends.{next_for, call_as, caller_for, SendsBeforeLent, TakesRead, BringsPiece, AsksForPiece}
 
 abbrev with_targets : CopyState → List CopyTarget → CopyState
 with_targets c targets = record { copier = c.copier; source = c.source; at = c.at; piece = c.piece; ended = c.ended; read = c.read; targets = targets }
@@ -72,7 +72,7 @@ sent_by copier name (Some m) = refl
 pub call_here : (c : CopyState) (xid : ℕ) (ys zs : List CopyTarget) (place : ℕ) (d new : CopyTarget) (next : NextCall) (uid : ℕ)
     → waiting_at c ≡ Some place → place < length c.targets → ys ≡ c.targets → zs ≡ c.targets → new ≡ at_stage (get_or ys place d) (Out xid 0)
     → next ≡ next_for c.copier (get_or ys place d).name (get_or ys place d).made → uid ≡ caller_for c.copier next
-    → SendsNext c xid (Some (record { server = (get_or ys place d).server; uid = uid; call = next })) (with_targets c (refill (length c.targets) c.targets (set zs place new)))
+    → SendsBeforeLent c xid (Some (record { server = (get_or ys place d).server; uid = uid; call = next })) (with_targets c (refill (length c.targets) c.targets (set zs place new)))
 call_here c xid ys zs place d new next uid is within same_ys same_zs does named by =
     let xs : List CopyTarget = c.targets in
     let t : CopyTarget = get_or xs place d in

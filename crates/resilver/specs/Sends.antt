@@ -22,9 +22,9 @@ call_as c (WritesPiece fileid) = Write fileid c.at true c.piece
 call_as c (ReadsSource fileid at) = Read fileid at PIECE_SIZE
 
 -- what goes out under a number, to which server and by which uid, and the copy then, which lends it
-abbrev pub SendsNext : CopyState → ℕ → Option SentCall → CopyState → Type 0
-SendsNext old xid None new = (next_call old xid ≡ None) × (new ≡ old)
-SendsNext old xid (Some s) new = next_call old xid ≡ Some (record { copy = new; server = s.server; uid = s.uid; call = call_as new s.call })
+abbrev pub SendsBeforeLent : CopyState → ℕ → Option SentCall → CopyState → Type 0
+SendsBeforeLent old xid None new = (next_call old xid ≡ None) × (new ≡ old)
+SendsBeforeLent old xid (Some s) new = next_call old xid ≡ Some (record { copy = new; server = s.server; uid = s.uid; call = call_as new s.call })
 
 -- by which uid
 abbrev pub caller_for : ℕ → NextCall → ℕ

@@ -7,7 +7,7 @@ ghost use Rattle.cluster_model.specs.DsCalls.{plain_ds_call, plain_ds_reply, dat
 ghost use Rattle.copy_rule.specs.Copies.{new_copy, has_outcome, goes_on, step_told, copy_then, source_fails, is_long, read_late, outcome, on_timeout, after_tick, is_outstanding};
 ghost use Rattle.resilver.specs.contracts.copy.Copy.{the_row};
 ghost use Rattle.resilver.specs.Calls.{SendsCopyCall, LendsOnePiece, TakesAnswer, is_read_due, servers_waiting, kept_out};
-ghost use Rattle.resilver.specs.Sends.{SendsNext, call_as, TakesRead, BringsPiece, AsksForPiece};
+ghost use Rattle.resilver.specs.Sends.{SendsBeforeLent, call_as, TakesRead, BringsPiece, AsksForPiece};
 
 use crate::call::{NextCall, SentCall, caller_for};
 use crate::target::{answered, at_stage, next_for, timed_out, to_make};
@@ -88,7 +88,7 @@ impl Copy {
 
     /// The same, with the call that is to be lent then. Takes no memory.
     pub fn send_next(&mut self, xid: u32) -> Option<SentCall>
-        ensures { SendsNext self.old xid result self.new }
+        ensures { SendsBeforeLent self.old xid result self.new }
     {
         let out = CallStage::Out { xid, timeouts: 0 };
         if let Some(place) = waiting(self.targets.as_slice()) {
