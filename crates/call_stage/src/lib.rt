@@ -3,4 +3,4 @@
 
 mod stage;
 
-pub use stage::{is_kept, is_out, is_over, stage_at_tick, waits};
+pub use stage::{is_kept, is_kept_out, is_out, is_over, kept_out_to, stage_at_tick, waits};

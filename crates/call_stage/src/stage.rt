@@ -2,6 +2,7 @@
 
 ghost use Rattle.std.specs.Prelude.{◌≡◌};
 ghost use Rattle.cluster_model.specs.Fences.{waits, is_out, is_over, is_kept, stage_at_tick};
+ghost use Rattle.call_stage.specs.KeptCalls.{is_kept_out, kept_out_to};
 
 use cluster_model::CallStage;
 
@@ -44,5 +45,22 @@ pub fn stage_at_tick(stage: CallStage) -> CallStage
         CallStage::KeptOut { xid } => CallStage::Out { xid, timeouts: 0 },
         CallStage::KeptBack => CallStage::Waits,
         other => other,
+    }
+}
+
+/// It is outstanding, and waits for the next tick.
+pub fn is_kept_out(stage: CallStage) -> bool
+    ensures { result ≡ is_kept_out stage }
+{
+    matches!(stage, CallStage::KeptOut { .. })
+}
+
+/// A call to this server that is kept outstanding until the next tick, by the server and its number.
+pub fn kept_out_to(server: u32, stage: CallStage) -> Option<(u32, u32)>
+    ensures { result ≡ kept_out_to server stage }
+{
+    match stage {
+        CallStage::KeptOut { xid } => Some((server, xid)),
+        _ => None,
     }
 }

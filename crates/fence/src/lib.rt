@@ -7,5 +7,5 @@ mod laws;
 mod mirror;
 
 pub use cluster_model::FenceStep;
-pub use fence::Fence;
+pub use fence::{Fence, FenceSet};
 pub use laws::fence_history;

@@ -1,5 +1,0 @@
-mod AnswerLemmas
-mod CreationSteps
-mod MakingLemmas
-mod PlanLemmas
-mod RowLemmas

@@ -1,4 +1,1 @@
-pub mod Activities
-pub mod Calls
 pub mod Inputs
-pub mod Makings

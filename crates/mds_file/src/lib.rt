@@ -1,17 +1,15 @@
 //! One file at the metadata server, with the calls that it has under way.
 #![tactic(auto)]
 
-mod activity;
 mod answers;
-mod creations;
-mod fresh;
+mod copying;
 mod input;
 mod mds_file;
-mod plan;
-mod rows;
 mod settling;
 mod steps;
+mod taking;
 
-pub use fresh::has_fresh;
 pub use input::FileInput;
+pub use mds_activity::{FileCall, FileCallKind};
 pub use mds_file::MdsFile;
+pub use mds_rows::has_fresh;

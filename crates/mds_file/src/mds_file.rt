@@ -1,13 +1,16 @@
 //! One file at the metadata server.
 
 ghost use Rattle.std.specs.Prelude.{◌≡◌, ◌≤◌, ℕ, true, length};
-ghost use Rattle.file_rule.specs.FilePhases.{new_mds_file};
-ghost use Rattle.mds_file.specs.Makings.{are_different};
+ghost use Rattle.cluster_model.specs.DsCalls.{plain_ds_call};
+ghost use Rattle.file_rule.specs.FilePhases.{new_mds_file, is_outstanding};
+ghost use Rattle.mds_activity.specs.FileCalls.{SendsFileCall, call_of, servers_waiting, kept_out};
+ghost use Rattle.mds_creations.specs.Makings.{are_different};
 
-use crate::activity::Activity;
-use crate::creations::Creations;
-use cluster_model::Cred;
+use arrayvec::ArrayVec;
+use cluster_model::{Cred, DsCall};
 use layout_state::FileState;
+use mds_activity::{Activity, FileCall};
+use mds_creations::Creations;
 use std::alloc::Global;
 use std::marker::Model;
 
@@ -21,7 +24,7 @@ pub struct MdsFile {
 
 impl Model for MdsFile {
     ghost use Rattle.file_rule.specs.MdsFiles.{MdsFile};
-    ghost use Rattle.mds_file.specs.Activities.{plain_activity, IsMdsFile};
+    ghost use Rattle.mds_activity.specs.Activities.{plain_activity, IsMdsFile};
 
     ghost Value = { MdsFile };
 
@@ -51,5 +54,47 @@ impl MdsFile {
         ensures { result ≡ self.now.layout }
     {
         self.layout
+    }
+
+    /// The servers to which calls wait, in the order in which they go out: the first is that of the next call. Takes no
+    /// memory.
+    pub fn waiting_servers(&self) -> ArrayVec<u32, 4>
+        ensures { result.items ≡ servers_waiting self.now }
+    {
+        let live = self.layout.live();
+        self.activity.waiting_servers(live)
+    }
+
+    /// The call that goes out next is outstanding from now on under this number, of which none is outstanding; `None` where
+    /// none waits, and nothing changes. Takes no memory.
+    pub fn send_next(&mut self, xid: u32) -> Option<FileCall>
+        ensures { SendsFileCall self.old xid result self.new }
+    {
+        let layout = self.layout;
+        self.activity.send_next(layout, xid)
+    }
+
+    /// That call, lent. Changes nothing.
+    pub fn lend(&self, call: FileCall) -> DsCall<'_>
+        ensures { plain_ds_call result ≡ call_of self.now call }
+    {
+        self.activity.lend(call.call)
+    }
+
+    /// A call of this number is outstanding to this server.
+    pub fn is_outstanding(&self, server: u32, xid: u32) -> bool
+        ensures { result ≡ is_outstanding self.now server xid }
+    {
+        let layout = self.layout;
+        self.activity.is_outstanding(layout, server, xid)
+    }
+
+    /// The call that is kept outstanding until the next tick, by its server and number: at the tick its record is sent
+    /// again.
+    pub fn kept_out(&self) -> Option<(u32, u32)>
+        ensures { result ≡ kept_out self.now }
+    {
+        let live = self.layout.live();
+        self.activity.kept_out(live)
     }
 }

@@ -4,12 +4,10 @@
 ghost use Rattle.std.specs.Prelude.{◌≡◌, ◌-◌, ◌<◌, ◌≤◌, Ok};
 ghost use Rattle.file_rule.specs.FilePhases.{phase};
 ghost use Rattle.file_rule.specs.FilePhases as input;
-ghost use Rattle.mds_file.specs.Inputs.{HasFresh, StepsAs};
+ghost use Rattle.mds_rows.specs.Draws.{HasFresh};
+ghost use Rattle.mds_file.specs.Inputs.{StepsAs};
 
-use crate::activity::Activity;
-use crate::fresh::uids_left;
 use crate::mds_file::MdsFile;
-use crate::rows::{ask, finish_own, revoke, take_back};
 use call_stage::stage_at_tick;
 use cluster_model::{
     CallStage, CopyKind, Cred, EndCause, Entry, FileId, LeftCause, MirrorId, NodeId, Reported, Tick,
@@ -17,6 +15,8 @@ use cluster_model::{
 use fence::Fence;
 use ff_xdr::{Data, NoMemory};
 use file_rule::Fresh;
+use mds_activity::Activity;
+use mds_rows::{ask, finish_own, revoke, take_back, uids_left};
 
 impl MdsFile {
     /// A client asks for a layout for writing.

@@ -3,7 +3,7 @@
 use part_calls::{DevicesRows, DsCallsRows, FramesRows, MdsCallsRows};
 use part_entries::EntryRows;
 use part_grants::{LayoutsRows, ResultsRows};
-use part_mds::{OpensRows, OperationRows};
+use part_mds::{FileRows, OpensRows, OperationRows};
 use part_mds_bytes::{MdsReceiveRows, RecallCallsRows};
 use part_messages::MessageRows;
 use part_nodes::{ClientRows, DataFileRows, ServerRows};
@@ -38,6 +38,7 @@ fn on_state<V: Player>(alloc: Global, kind: &str, player: &mut V) -> Played {
         "copy" => on(player, CopyRows::new()),
         "extents" => on(player, ExtentsRows::new(alloc)),
         "fence" => on(player, FenceRows::new()),
+        "file" => on(player, FileRows::new()),
         "filestate" => on(player, FileStateRows::new()),
         "mdsread" => on(player, MdsReadRows::new()),
         "mdswrite" => on(player, MdsWriteRows::new()),

@@ -18,7 +18,8 @@ use Rattle.copy_rule.specs.declared.copy_target.CopyTarget.{CopyTarget}
 use Rattle.copy_rule.specs.declared.copy_target.CopyStep.{CopyStep}
 use Rattle.copy_rule.specs.declared.copy_target.CopyStep.TheVariants.{Stranger, Waiting, SourceFailed, TargetFailed, Done as AllHold}
 use Rattle.copy_rule.specs.Copies.{CopyState, CopyCall, CopyAfter, TargetStep, with_target, with_read, with_piece, have_answered, has_outcome, step_told, copy_then, at_stage, target_call, target_caller, target_call_at, call_from, waiting_at, next_call, target_of, target_answered, target_late, target_fails, goes_on_with, read_answered, read_late, is_long, source_fails, stranger, stepped, step_at, step_from, by_read, on_reply, on_timeout}
-use Rattle.resilver.specs.CopyLaws.{CopyMove, CopyNote, IsQuiet, caller_of, copy_run}
+use Rattle.resilver.specs.Calls.{caller_of}
+use Rattle.resilver.specs.CopyLaws.{CopyMove, CopyNote, IsQuiet, copy_run}
 use Rattle.resilver.proofs.Lists.{apart, all_at, found_at, waits_not_over}
 use Rattle.resilver.proofs.Turns.{Turn, turn_run}
 

@@ -16,7 +16,7 @@ use Rattle.copy_rule.specs.declared.copy_target.CopyStep.{CopyStep}
 use Rattle.copy_rule.specs.Copies.{CopyState, CopyCall, CopyAfter, TargetStep, at_stage, target_call, target_caller, target_call_at, call_from, waiting_at, target_of, target_answered, step_from, step_at, stepped, copy_then, by_read, read_answered, stranger}
 use Rattle.resilver.specs.declared.call.NextCall.{NextCall}
 use Rattle.resilver.specs.Calls.{TakesAnswer}
-use Rattle.resilver.specs.Sends.{next_for, call_as, SendsBeforeLent, TakesRead, BringsPiece, AsksForPiece}
+use Rattle.resilver.specs.Sends.{next_for, call_as, caller_for, SendsBeforeLent, TakesRead, BringsPiece, AsksForPiece}
 
 abbrev with_targets : CopyState → List CopyTarget → CopyState
 with_targets c targets = record { copier = c.copier; source = c.source; at = c.at; piece = c.piece; ended = c.ended; read = c.read; targets = targets }
@@ -59,30 +59,35 @@ next_done f xs ys i d new within same so_far does =
     ap (set ys i) does ∙ map_over_more f xs ys i x within so_far (get_or_default ys i d x (omega (arith, within, same)))
 
 -- the call of a target, as it is named
-named_so : (c : CopyState) (targets : List CopyTarget) (name : ℕ) (made : Option Mirror) → target_call c.copier c.at c.piece name made ≡ call_as (with_targets c targets) (next_for name made)
+named_so : (c : CopyState) (targets : List CopyTarget) (name : ℕ) (made : Option Mirror) → target_call c.copier c.at c.piece name made ≡ call_as (with_targets c targets) (next_for c.copier name made)
 named_so c targets name None = refl
 named_so c targets name (Some m) = refl
 
+-- by whom it is sent
+sent_by : (copier name : ℕ) (made : Option Mirror) → target_caller copier made ≡ caller_for copier (next_for copier name made)
+sent_by copier name None = refl
+sent_by copier name (Some m) = refl
+
 -- the call to the target that is found goes out
-pub call_here : (c : CopyState) (xid : ℕ) (ys zs : List CopyTarget) (place : ℕ) (d new : CopyTarget) (next : NextCall)
+pub call_here : (c : CopyState) (xid : ℕ) (ys zs : List CopyTarget) (place : ℕ) (d new : CopyTarget) (next : NextCall) (uid : ℕ)
     → waiting_at c ≡ Some place → place < length c.targets → ys ≡ c.targets → zs ≡ c.targets → new ≡ at_stage (get_or ys place d) (Out xid 0)
-    → next ≡ next_for (get_or ys place d).name (get_or ys place d).made
-    → SendsBeforeLent c xid (Some ((get_or ys place d).server, next)) (with_targets c (refill (length c.targets) c.targets (set zs place new)))
-call_here c xid ys zs place d new next is within same_ys same_zs does named =
+    → next ≡ next_for c.copier (get_or ys place d).name (get_or ys place d).made → uid ≡ caller_for c.copier next
+    → SendsBeforeLent c xid (Some (record { server = (get_or ys place d).server; uid = uid; call = next })) (with_targets c (refill (length c.targets) c.targets (set zs place new)))
+call_here c xid ys zs place d new next uid is within same_ys same_zs does named by =
     let xs : List CopyTarget = c.targets in
     let t : CopyTarget = get_or xs place d in
     let all : List CopyTarget = refill (length xs) xs (set zs place new) in
     let written : set xs place (at_stage t (Out xid 0)) ≡ all =
     sym (ap (λ l. refill (length xs) xs (set l place new)) same_zs ∙ refilled xs (set xs place new) (length-set xs place new)
     ∙ ap (set xs place) (does ∙ ap (λ l. at_stage (get_or l place d) (Out xid 0)) same_ys)) in
-    let goes : ℕ → List CopyTarget → DsCallValue → Option CopyCall = λ server l call. Some (record { copy = with_targets c l; server = server; uid = target_caller c.copier t.made; call = call }) in (
-      target_caller c.copier t.made,
-      ap (call_from c xid) is
-          ∙ ap (target_call_at c xid place) (slice_get-get_or xs place d within)
-          ∙ ap (λ l. goes t.server l (target_call c.copier c.at c.piece t.name t.made)) written
-          ∙ ap (λ l. goes (get_or l place d).server all (target_call c.copier c.at c.piece (get_or l place d).name (get_or l place d).made)) (sym same_ys)
-          ∙ ap (goes (get_or ys place d).server all) (named_so c all (get_or ys place d).name (get_or ys place d).made ∙ ap (call_as (with_targets c all)) (sym named)),
-    )
+    let goes : ℕ → ℕ → List CopyTarget → DsCallValue → Option CopyCall = λ server uid l call. Some (record { copy = with_targets c l; server = server; uid = uid; call = call }) in
+    let u : CopyTarget = get_or ys place d in
+    ap (call_from c xid) is
+    ∙ ap (target_call_at c xid place) (slice_get-get_or xs place d within)
+    ∙ ap (λ l. goes t.server (target_caller c.copier t.made) l (target_call c.copier c.at c.piece t.name t.made)) written
+    ∙ ap (λ l. goes (get_or l place d).server (target_caller c.copier (get_or l place d).made) all (target_call c.copier c.at c.piece (get_or l place d).name (get_or l place d).made)) (sym same_ys)
+    ∙ ap (goes u.server (target_caller c.copier u.made) all) (named_so c all u.name u.made ∙ ap (call_as (with_targets c all)) (sym named))
+    ∙ ap (λ n. goes u.server n all (call_as (with_targets c all) next)) (sent_by c.copier u.name u.made ∙ ap (caller_for c.copier) (sym named) ∙ sym by)
 
 -- the answer to the READ
 pub read_taken : (c : CopyState) (xid : ℕ) (reply : DsReplyValue) (result : Result CopyStep NoMemory) (new : CopyState)

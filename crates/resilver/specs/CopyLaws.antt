@@ -12,6 +12,7 @@ use Rattle.cluster_model.specs.DsCalls.{DsCallValue, Create, SetAttr, Write, Com
 use Rattle.copy_rule.specs.declared.copy_target.Target.{Target}
 use Rattle.copy_rule.specs.declared.copy_target.CopyStep.TheVariants.{SourceFailed}
 use Rattle.copy_rule.specs.Copies.{CopyState, CopyCall, CopyAfter, new_copy, next_call, on_reply, on_timeout, after_tick, outcome}
+use Rattle.resilver.specs.Calls.{caller_of}
 
 -- ---- runs
 
@@ -295,14 +296,6 @@ AreTargetsApart plan = AllPairs (λ a b. a.server ≡ b.server → ⊥) plan
 -- nothing goes out behind a source that failed until the next tick
 abbrev pub IsQuiet : CopyAfter → Type 0
 IsQuiet a = (cause : LeftCause) → a.step ≡ SourceFailed cause → (xid : ℕ) → next_call a.copy xid ≡ None
-
--- uid 0 makes files and reads; the copy's own uid writes
-abbrev pub caller_of : ℕ → DsCallValue → ℕ
-caller_of copier (Write fileid at synced bytes) = copier
-caller_of copier (Create name owner) = 0
-caller_of copier (SetAttr fileid owner guard) = 0
-caller_of copier (Commit fileid) = 0
-caller_of copier (Read fileid at count) = 0
 
 pub record CopyLaw : Type 0 where
   pub in_turn : (source : MirrorId) (plan : List Target) (copier : ℕ) (moves : List CopyMove) → AreInTurn 0 (pieces_read (copy_run source plan copier moves).notes)

@@ -2,36 +2,35 @@
 use Rattle.std.specs.Prelude.{◌≡◌, ℕ, true, false, Option, Some, None, Result, Ok, Err}
 use Rattle.cluster_model.specs.declared.limits.TheConstants.{PIECE_SIZE}
 use Rattle.cluster_model.specs.declared.ids.Mirror.{Mirror}
-use Rattle.cluster_model.specs.declared.ds_call.DsCall.{DsCall}
-use Rattle.cluster_model.specs.DsCalls.{DsCallValue, Create, Write, Read, DsReplyValue, Created, Set, Written, Committed, Bytes, NotSync, Failed, plain_ds_call}
+use Rattle.cluster_model.specs.DsCalls.{DsCallValue, Create, Write, Read, DsReplyValue, Created, Set, Written, Committed, Bytes, NotSync, Failed}
 use Rattle.cluster_model.specs.Fences.{is_out}
 use Rattle.ff_xdr.specs.declared.error.NoMemory.{NoMemory}
 use Rattle.resilver.specs.declared.call.NextCall.{NextCall}
+use Rattle.resilver.specs.declared.call.SentCall.{SentCall}
 use Rattle.resilver.specs.declared.call.NextCall.TheVariants.{MakesFile, WritesPiece, ReadsSource}
 use Rattle.copy_rule.specs.declared.copy_target.CopyStep.{CopyStep}
 use Rattle.copy_rule.specs.Copies.{CopyState, next_call, target_of, is_long, read_answered}
 
-abbrev pub next_for : ℕ → Option Mirror → NextCall
-next_for name None = MakesFile name
-next_for name (Some m) = WritesPiece m.id.fileid
+abbrev pub next_for : ℕ → ℕ → Option Mirror → NextCall
+next_for copier name None = MakesFile name (record { 0 = copier })
+next_for copier name (Some m) = WritesPiece m.id.fileid
 
 -- the call
 abbrev pub call_as : CopyState → NextCall → DsCallValue
-call_as c (MakesFile name) = Create name c.copier
+call_as c (MakesFile name owner) = Create name owner.0
 call_as c (WritesPiece fileid) = Write fileid c.at true c.piece
-call_as c ReadsSource = Read c.source.fileid c.at PIECE_SIZE
+call_as c (ReadsSource fileid at) = Read fileid at PIECE_SIZE
 
--- what goes out under a number, to which server, and the copy then, which lends it
-abbrev pub SendsBeforeLent : CopyState → ℕ → Option (ℕ × NextCall) → CopyState → Type 0
+-- what goes out under a number, to which server and by which uid, and the copy then, which lends it
+abbrev pub SendsBeforeLent : CopyState → ℕ → Option SentCall → CopyState → Type 0
 SendsBeforeLent old xid None new = (next_call old xid ≡ None) × (new ≡ old)
-SendsBeforeLent old xid (Some (server, next)) new =
-    (uid : ℕ) × (next_call old xid ≡ Some (record { copy = new; server = server; uid = uid; call = call_as new next }))
+SendsBeforeLent old xid (Some s) new = next_call old xid ≡ Some (record { copy = new; server = s.server; uid = s.uid; call = call_as new s.call })
 
--- the same call as it is sent
-abbrev pub LendsNext : CopyState → Option (ℕ × NextCall) → Option (ℕ × DsCall) → Type 0
-LendsNext c None lent = lent ≡ None
-LendsNext c (Some (server, next)) None = ⊥
-LendsNext c (Some (server, next)) (Some (to, call)) = (to ≡ server) × (plain_ds_call call ≡ call_as c next)
+-- by which uid
+abbrev pub caller_for : ℕ → NextCall → ℕ
+caller_for copier (MakesFile name owner) = 0
+caller_for copier (WritesPiece fileid) = copier
+caller_for copier (ReadsSource fileid at) = 0
 
 -- an answer to the READ, unless memory is wanted for its piece; nothing has changed then
 abbrev pub TakesRead : CopyState → DsReplyValue → Result CopyStep NoMemory → CopyState → Type 0

@@ -3,17 +3,19 @@
 ghost use Rattle.std.specs.Prelude.{◌≡◌, ◌≤◌, ⊤, length, None, OnErr};
 ghost use Rattle.std.specs.Borrow.{sem, follows_so};
 ghost use mathlib.Core.Option.{none};
-ghost use Rattle.cluster_model.specs.DsCalls.{plain_ds_reply, Bytes};
-ghost use Rattle.copy_rule.specs.Copies.{new_copy, has_outcome, goes_on, step_told, copy_then, source_fails, is_long, read_late, outcome, on_timeout, after_tick};
+ghost use Rattle.cluster_model.specs.DsCalls.{plain_ds_call, plain_ds_reply, data_in, Bytes};
+ghost use Rattle.copy_rule.specs.Copies.{new_copy, has_outcome, goes_on, step_told, copy_then, source_fails, is_long, read_late, outcome, on_timeout, after_tick, is_outstanding};
 ghost use Rattle.resilver.specs.contracts.copy.Copy.{the_row};
-ghost use Rattle.resilver.specs.Calls.{SendsCopyCall, LendsOnePiece, TakesAnswer};
-ghost use Rattle.resilver.specs.Sends.{SendsBeforeLent, LendsNext, TakesRead, BringsPiece, AsksForPiece};
+ghost use Rattle.resilver.specs.Calls.{SendsCopyCall, LendsOnePiece, TakesAnswer, is_read_due, servers_waiting, kept_out};
+ghost use Rattle.resilver.specs.Sends.{SendsBeforeLent, call_as, TakesRead, BringsPiece, AsksForPiece};
 
-use crate::call::NextCall;
+use crate::call::{NextCall, SentCall, caller_for};
 use crate::target::{answered, at_stage, next_for, timed_out, to_make};
-use crate::targets::{are_given_up, are_over, outstanding, swaps, waiting, write_all};
+use crate::targets::{
+    are_given_up, are_over, is_out_to, outstanding, servers_of_waiting, swaps, waiting, write_all,
+};
 use arrayvec::ArrayVec;
-use call_stage::{is_out, is_over, stage_at_tick, waits};
+use call_stage::{is_out, is_over, kept_out_to, stage_at_tick, waits};
 use cluster_model::{
     CallStage, Cred, DsCall, DsReply, LeftCause, MAX_FILE, MAX_TIMEOUTS, Mirror, MirrorId,
     PIECE_SIZE, SERVERFAULT, Targets,
@@ -80,51 +82,94 @@ impl Copy {
         ensures few { LendsOnePiece result }
         ensures* sends { sem 𝓛 (follows_so the_row the_row self.entry.ghost_name none (λ _ _. ⊤) (λ new. SendsCopyCall self.old xid result new)) }
     {
-        let next = self.send_next(xid);
-        self.lend(next)
+        let sent = self.send_next(xid)?;
+        Some((sent.server, self.lend(sent.call)))
     }
 
-    /// What goes out next, and to which server. It is outstanding from now on.
-    fn send_next(&mut self, xid: u32) -> Option<(u32, NextCall)>
+    /// The same, with the call that is to be lent then. Takes no memory.
+    pub fn send_next(&mut self, xid: u32) -> Option<SentCall>
         ensures { SendsBeforeLent self.old xid result self.new }
     {
         let out = CallStage::Out { xid, timeouts: 0 };
         if let Some(place) = waiting(self.targets.as_slice()) {
             let target = self.targets[place];
             self.targets[place] = at_stage(target, out);
-            return Some((target.server, next_for(target)));
+            let call = next_for(self.copier, target);
+            return Some(SentCall {
+                server: target.server,
+                uid: caller_for(self.copier, call),
+                call,
+            });
         }
-        if waits(self.read) && are_over(self.targets.as_slice()) {
+        if self.is_read_due() {
             self.read = out;
-            return Some((self.source.server, NextCall::ReadsSource));
+            return Some(SentCall {
+                server: self.source.server,
+                uid: 0,
+                call: NextCall::ReadsSource {
+                    fileid: self.source.fileid,
+                    at: self.at,
+                },
+            });
         }
         None
     }
 
-    /// The call that goes to a server, if one does.
-    fn lend(&self, next: Option<(u32, NextCall)>) -> Option<(u32, DsCall<'_>)>
-        ensures few { LendsOnePiece result }
-        ensures lends { LendsNext self.now next result }
+    /// This call, as the copy stands.
+    pub fn lend(&self, call: NextCall) -> DsCall<'_>
+        ensures few { length (data_in (plain_ds_call result)) ≤ PIECE_SIZE }
+        ensures lends { plain_ds_call result ≡ call_as self.now call }
     {
-        let (server, next) = next?;
-        let call = match next {
-            NextCall::MakesFile { name } => DsCall::Create {
-                name,
-                owner: self.copier,
-            },
+        match call {
+            NextCall::MakesFile { name, owner } => DsCall::Create { name, owner },
             NextCall::WritesPiece { fileid } => DsCall::Write {
                 fileid,
                 at: self.at,
                 synced: true,
                 bytes: self.piece.bytes(),
             },
-            NextCall::ReadsSource => DsCall::Read {
-                fileid: self.source.fileid,
-                at: self.at,
+            NextCall::ReadsSource { fileid, at } => DsCall::Read {
+                fileid,
+                at,
                 count: PIECE_SIZE,
             },
-        };
-        Some((server, call))
+        }
+    }
+
+    /// The READ of the source waits, and every target that is left has answered.
+    fn is_read_due(&self) -> bool
+        ensures { result ≡ is_read_due self.now }
+    {
+        waits(self.read) && are_over(self.targets.as_slice())
+    }
+
+    /// The servers to which a call waits, in order: the first is that of the next call. Takes no memory.
+    pub fn waiting_servers(&self) -> ArrayVec<u32, 4>
+        ensures { result.items ≡ servers_waiting self.now }
+    {
+        if let Some(_) = waiting(self.targets.as_slice()) {
+            return servers_of_waiting(self.targets.as_slice());
+        }
+        let mut servers = ArrayVec::new();
+        if self.is_read_due() {
+            servers.push(self.source.server);
+        }
+        servers
+    }
+
+    /// A call of this number is outstanding to this server.
+    pub fn is_outstanding(&self, server: u32, xid: u32) -> bool
+        ensures { result ≡ is_outstanding self.now server xid }
+    {
+        is_out_to(server, xid, self.targets.as_slice())
+            || (self.source.server == server && is_out(xid, self.read))
+    }
+
+    /// The READ that is kept outstanding until the next tick, by its server and number.
+    pub fn kept_out(&self) -> Option<(u32, u32)>
+        ensures { result ≡ kept_out self.now }
+    {
+        kept_out_to(self.source.server, self.read)
     }
 
     /// What the answer to the call of this number comes to: `Stranger` where none is outstanding. Takes memory for a piece

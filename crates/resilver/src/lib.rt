@@ -7,6 +7,7 @@ mod laws;
 mod target;
 mod targets;
 
+pub use call::{NextCall, SentCall};
 pub use copy::Copy;
 pub use copy_rule::{CopyStep, CopyTarget, Target};
 pub use laws::copy_law;

@@ -7,7 +7,7 @@ ghost use Rattle.resilver.specs.Sends.{next_for};
 
 use crate::call::{NextCall, is_given_up};
 use cluster_model::{
-    CallStage, DsReply, LeftCause, MAX_TIMEOUTS, Mirror, MirrorId, SERVERFAULT, Shown, Tick,
+    CallStage, Cred, DsReply, LeftCause, MAX_TIMEOUTS, Mirror, MirrorId, SERVERFAULT, Shown, Tick,
 };
 use copy_rule::{CopyStep, CopyTarget, Target};
 
@@ -32,11 +32,14 @@ pub fn at_stage(target: CopyTarget, stage: CallStage) -> CopyTarget
 }
 
 /// What goes to it next: its CREATE, and once it is made the piece in hand.
-pub fn next_for(target: CopyTarget) -> NextCall
-    ensures { result ≡ next_for target.name target.made }
+pub fn next_for(copier: Cred, target: CopyTarget) -> NextCall
+    ensures { result ≡ next_for copier.0 target.name target.made }
 {
     match target.made {
-        None => NextCall::MakesFile { name: target.name },
+        None => NextCall::MakesFile {
+            name: target.name,
+            owner: copier,
+        },
         Some(mirror) => NextCall::WritesPiece {
             fileid: mirror.id.fileid,
         },

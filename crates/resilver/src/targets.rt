@@ -1,12 +1,13 @@
 //! The targets of a copy.
 
-ghost use Rattle.std.specs.Prelude.{◌≡◌, ◌≤◌, ◌<◌, ◌++◌, length, map, position};
-ghost use Rattle.std.specs.List.{list_all, flat_map};
+ghost use Rattle.std.specs.Prelude.{◌≡◌, ◌≤◌, ◌<◌, ◌++◌, ◌==◌, ◌&&◌, length, map, filter, position};
+ghost use Rattle.std.specs.List.{list_all, list_any, flat_map};
 ghost use Rattle.cluster_model.specs.Fences.{waits, is_out, is_over};
 ghost use Rattle.copy_rule.specs.Copies.{is_given_up, to_write, swap_of};
 
 use crate::call::is_given_up;
 use crate::target::to_write;
+use arrayvec::ArrayVec;
 use call_stage::{is_out, is_over, waits};
 use cluster_model::{SwappedIn, Targets};
 use copy_rule::CopyTarget;
@@ -33,6 +34,32 @@ pub fn outstanding(xid: u32, targets: &[CopyTarget]) -> Option<usize>
         }
     }
     None
+}
+
+/// One of them is outstanding to this server under this number.
+pub fn is_out_to(server: u32, xid: u32, targets: &[CopyTarget]) -> bool
+    ensures { result ≡ list_any (λ t. t.server == server && is_out xid t.stage) targets.now }
+{
+    for target in targets {
+        if target.server == server && is_out(xid, target.stage) {
+            return true;
+        }
+    }
+    false
+}
+
+/// The servers of the targets to which a call waits.
+pub fn servers_of_waiting(targets: &[CopyTarget]) -> ArrayVec<u32, 4>
+    requires few { length targets.now ≤ 4 }
+    ensures { result.items ≡ map (λ t. t.server) (filter (λ t. waits t.stage) targets.now) }
+{
+    let mut servers = ArrayVec::new();
+    for target in targets {
+        if waits(target.stage) {
+            servers.push(target.server);
+        }
+    }
+    servers
 }
 
 /// Each call is over.

@@ -11,5 +11,5 @@ returns-in-Some c =
     let s : CopyState = record { copier = k.copier.0; source = k.source; at = k.at; piece = k.piece; ended = k.ended; read = k.read; targets = k.targets.items } in
     let place = c.in-Some.place in
     let found = sym (ap (position (λ t. waits t.stage)) c.as_slice.ensures.value) ∙ sym c.waiting.ensures ∙ c.in-Some.is in
-    rw (← c.self.view_is) (call_here s c.args.xid c.deref.result.now c.deref_mut.result.now place _ c.at_stage.result c.next_for.result
-    found (place_within _ k.targets.items place found) c.deref.ensures.0 c.deref_mut.ensures.value c.at_stage.ensures c.next_for.ensures)
+    rw (← c.self.view_is) (call_here s c.args.xid c.deref.result.now c.deref_mut.result.now place _ c.at_stage.result c.next_for-call.result c.caller_for.result
+    found (place_within _ k.targets.items place found) c.deref.ensures.0 c.deref_mut.ensures.value c.at_stage.ensures c.next_for-call.ensures c.caller_for.ensures)

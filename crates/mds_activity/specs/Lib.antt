@@ -1,0 +1,3 @@
+pub mod Activities
+pub mod FileCalls
+pub mod Targets

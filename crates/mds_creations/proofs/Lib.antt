@@ -1,0 +1,2 @@
+mod CreationSteps
+mod MakingLemmas
