@@ -4,7 +4,7 @@ use Rattle.std.specs.Prelude.{ℕ, Bool, true, false, ◌==◌, ◌||◌, List, 
 use Rattle.std.proofs.Common.{inl}
 use Rattle.ff_xdr.specs.Form.{Value, spelling, arm_of}
 use Rattle.ff_xdr.specs.Arms.{arm, by_arm}
-use Rattle.rpc_record.specs.Replies.{RpcReply, auth_none, success}
+use Rattle.compound_reply.specs.Replied.{success_reply}
 use Rattle.cluster_model.specs.declared.ids.NodeId.{NodeId}
 use Rattle.nfs4_types.specs.declared.sequence.Sequence.{Sequence}
 use Rattle.nfs4_types.specs.declared.status.Stat4.{Stat4}
@@ -105,9 +105,6 @@ operates now m c op = if has_session m c.slot then operate now m c op else refus
 
 abbrev pub compound_bytes : CompoundRun → Stat4 → List ℕ
 compound_bytes c status = spelling compound4_res (stat4_number status, (c.tag, c.results))
-
-abbrev pub success_reply : ℕ → List ℕ → RpcReply
-success_reply xid results = record { xid = xid; verf = auth_none; stat = success; results = results }
 
 -- the slot keeps it, where it is still there
 abbrev pub kept_in_slot : SessionsState → Option SlotPass → List ℕ → SessionsState

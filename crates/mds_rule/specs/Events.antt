@@ -1,6 +1,6 @@
 -- What a metadata server does in each event. It has three parts: what came is taken, and what it brought runs as far as it goes; then calls
 -- go out.
-use Rattle.std.specs.Prelude.{ℕ, zero, suc, Bool, true, false, not, ◌==◌, ◌&&◌, List, [], ◌∷◌, ◌++◌, length, Option, Some, None, if◌then◌else◌}
+use Rattle.std.specs.Prelude.{ℕ, zero, suc, Bool, true, false, not, ◌==◌, ◌&&◌, List, [], ◌∷◌, ◌++◌, length, map, Option, Some, None, if◌then◌else◌}
 use Rattle.std.specs.Option.{option_to_list}
 use Rattle.std.specs.List.{find, range_with_len, flat_map}
 use Rattle.rpc_record.specs.Replies.{RpcReply, reply_bytes}
@@ -18,12 +18,13 @@ use Rattle.nfs4_session.specs.Ends.{has_ended, without_client}
 use Rattle.recall.specs.Recalls.{RecallsTick, after_tick}
 use Rattle.ds_calls.specs.GivenReplies.{reply_of_call}
 use Rattle.recall_calls.specs.RecallAnswers.{recall_status}
+use Rattle.mds_activity.specs.FileCalls.{kept_out}
 use Rattle.mds_receive.specs.MdsReceive.{IncomingValue, PassedOver, IsReply, IsAnswered, IsCompound, incoming_of}
 use Rattle.mds_rule.specs.MdsStates.{ServedFile, OutCall, Caller, ForFile, ForRead, ForWrite, ForRecall, MdsSend, Answers, MdsValue, MdsStep, sends_none, enters, and_then, served, numbered}
 use Rattle.mds_rule.specs.ServedFiles.{takes_input, asks_back, ends_client}
 use Rattle.mds_rule.specs.Compounds.{runs_compound}
 use Rattle.mds_rule.specs.Answers.{is_awaited, takes_answer, timed_out_for}
-use Rattle.mds_rule.specs.Goes.{each, calls_out, kept_number}
+use Rattle.mds_rule.specs.Goes.{each, calls_out}
 
 -- ---- records
 
@@ -52,13 +53,13 @@ abbrev pub is_outstanding_to : MdsValue → NodeId → OutCall → Bool
 is_outstanding_to m node call = is_node call.node node && is_awaited m call
 
 -- its record goes out again, where it is still awaited and is not kept until the next tick
-abbrev pub is_kept : Option ℕ → ℕ → Bool
+abbrev pub is_kept : Option (ℕ × ℕ) → ℕ → Bool
 is_kept None xid = false
-is_kept (Some kept) xid = kept == xid
+is_kept (Some kept) xid = kept.1 == xid
 
-abbrev pub kept_of : Option ServedFile → Option ℕ
+abbrev pub kept_of : Option ServedFile → Option (ℕ × ℕ)
 kept_of None = None
-kept_of (Some s) = kept_number s.file
+kept_of (Some s) = kept_out s.file
 
 abbrev pub is_kept_by : MdsValue → ℕ → Caller → Bool
 is_kept_by m xid (ForFile file) = is_kept (kept_of (served m file)) xid
@@ -95,7 +96,7 @@ recalls_expire now zero m = sends_none (record m { recalls = (after_tick m.recal
 recalls_expire now (suc n) m = recall_expires (record m { recalls = (after_tick m.recalls now).recalls }) (after_tick m.recalls now).expired (recalls_expire now n)
 
 abbrev pub kept_numbers : MdsValue → List ℕ
-kept_numbers m = flat_map (λ (s : ServedFile). option_to_list (kept_number s.file)) m.files
+kept_numbers m = map (λ (kept : ℕ × ℕ). kept.1) (flat_map (λ (s : ServedFile). option_to_list (kept_out s.file)) m.files)
 
 abbrev pub files_tick : MdsValue → MdsStep
 files_tick m = and_then (each (λ n k. takes_input k (numbered n) Ticks) (range_with_len 1 (length m.files)) m) (calls_out (kept_numbers m))

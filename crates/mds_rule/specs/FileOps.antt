@@ -2,9 +2,9 @@
 -- is refused by the order of its statuses, or comes to what stands here.
 use Rattle.std.specs.Prelude.{ℕ, ◌+◌, ◌-◌, ◌%◌, Bool, true, false, not, ◌==◌, ◌&&◌, List, [], ◌∷◌, ◌++◌, length, map, filter, Option, Some, None, is_some, is_none, nat_lt, take, if◌then◌else◌, slice_get, get_or}
 use Rattle.std.specs.Option.{option_map}
-use Rattle.std.specs.List.{sum_by, range_with_len}
+use Rattle.std.specs.List.{range_with_len}
 use Rattle.std.proofs.Common.{inl, inr}
-use Rattle.ff_xdr.specs.Form.{Value, spelling}
+use Rattle.ff_xdr.specs.Form.{Value}
 use Rattle.ff_xdr.specs.Arms.{arm, by_arm}
 use Rattle.cluster_model.specs.declared.ids.FileId.{FileId}
 use Rattle.cluster_model.specs.declared.ids.Cred.{Cred}
@@ -27,6 +27,7 @@ use Rattle.nfs4_file_ops.specs.Open.{open4_args}
 use Rattle.nfs4_file_ops.specs.Read.{read4_args}
 use Rattle.nfs4_file_ops.specs.Write.{write4_args}
 use Rattle.nfs4_compound.specs.Results.{resop4}
+use Rattle.compound_reply.specs.Replied.{results_text}
 use Rattle.nfs4_session.specs.declared.begin.SlotPass.{SlotPass}
 use Rattle.nfs4_session.specs.Clients.{client_in}
 use Rattle.open_state.specs.declared.open.Open.{Open}
@@ -247,7 +248,7 @@ runs_commit m c = by_order m c 5 (commit_order c.current) (gives m c (arm 5 reso
 
 -- the bytes of the results before it, where the reply is to be kept
 abbrev pub kept_so_far : CompoundRun → Option ℕ
-kept_so_far c = if c.is_kept then Some (sum_by (λ result. length (spelling resop4 result)) c.results) else None
+kept_so_far c = if c.is_kept then Some (length (results_text c.results)) else None
 
 abbrev pub read_ask : MdsValue → CompoundRun → Value read4_args → ReadAsk
 read_ask m c (stateid, (offset, count)) = record { named = named_in m c (stateid_in stateid); count = count; kept = kept_so_far c; phase = phase_now m c }

@@ -7,12 +7,7 @@ use Rattle.cluster_model.specs.declared.ids.NodeId.{NodeId}
 use Rattle.cluster_model.specs.declared.ids.NodeId.TheVariants.{Mds, Server}
 use Rattle.cluster_model.specs.declared.ids.FileId.{FileId}
 use Rattle.cluster_model.specs.declared.ids.Mirror.{Mirror}
-use Rattle.cluster_model.specs.declared.call_stage.CallStage.{CallStage}
-use Rattle.cluster_model.specs.declared.call_stage.CallStage.TheVariants as stage
-use Rattle.cluster_model.specs.declared.fence_mirror.FenceMirror.{FenceMirror}
 use Rattle.cluster_model.specs.DsCalls.{DsCallValue}
-use Rattle.file_rule.specs.declared.creation.Creation.{Creation}
-use Rattle.file_rule.specs.MdsFiles.{Activity, Idle, Makes, Fences, Settles, Copies, MdsFile}
 use Rattle.file_rule.specs.FilePhases.{CallOut, call_out}
 use Rattle.mds_io.specs.Reads.{ReadSends, in_turn}
 use Rattle.mds_io.specs.Reads as read
@@ -164,31 +159,3 @@ file_calls again n m =
 
 abbrev pub calls_out : List ℕ → MdsValue → MdsStep
 calls_out again m = each (file_calls again) (range_with_len 1 (length m.files)) m
-
--- ---- the call of a file that is kept until the next tick
-
-abbrev pub kept_stage : CallStage → Option ℕ
-kept_stage (stage.KeptOut xid) = Some xid
-kept_stage other = None
-
-abbrev pub or_else : Option ℕ → Option ℕ → Option ℕ
-or_else (Some xid) rest = Some xid
-or_else None rest = rest
-
-abbrev pub kept_creation : List Creation → Option ℕ
-kept_creation [] = None
-kept_creation (c ∷ items) = or_else (kept_stage c.stage) (kept_creation items)
-
-abbrev pub kept_mirror : List FenceMirror → Option ℕ
-kept_mirror [] = None
-kept_mirror (m ∷ mirrors) = or_else (kept_stage m.stage) (kept_mirror mirrors)
-
-abbrev pub kept_in : Activity → Option ℕ
-kept_in Idle = None
-kept_in (Makes all) = kept_creation all.items
-kept_in (Fences fence) = kept_mirror fence.mirrors
-kept_in (Settles stage) = kept_stage stage
-kept_in (Copies c) = kept_stage c.read
-
-abbrev pub kept_number : MdsFile → Option ℕ
-kept_number f = kept_in f.activity

@@ -12,7 +12,7 @@ use Rattle.nfs4_compound.specs.Args.{argop4}
 use Rattle.nfs4_compound.specs.Results.{resop4}
 use Rattle.nfs4_compound.specs.Compounds.{CompoundValue, compound4_res}
 use Rattle.mds_rule.specs.MdsStates.{MdsSend, Replies, MdsValue, MdsStep, and_then, numbered}
-use Rattle.mds_rule.specs.Compounds.{success_reply}
+use Rattle.compound_reply.specs.Replied.{success_reply}
 use Rattle.mds_rule.specs.Answers.{takes_answer}
 use Rattle.mds_rule.specs.Goes.{calls_out}
 use Rattle.mds_rule.specs.Events.{takes_compound, takes_timeout, takes_tick, takes_recall, takes_resilver}

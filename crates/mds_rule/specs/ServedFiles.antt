@@ -18,6 +18,7 @@ use Rattle.cluster_model.specs.declared.layout_state.LayoutPhase.TheVariants.{Ma
 use Rattle.cluster_model.specs.Phases.{holder_of}
 use Rattle.file_rule.specs.declared.fresh.Fresh.{Fresh}
 use Rattle.file_rule.specs.MdsFiles.{FileStep}
+use Rattle.mds_rows.specs.Draws.{drawn}
 use Rattle.file_rule.specs.FilePhases.{FileInput, AsksLayout, Recall as ToRecall, Revokes, phase, end_of_uids}
 use Rattle.layout_state.specs.Grants.{holder_to_recall}
 use Rattle.mds_io.specs.Reads.{begun_again}
@@ -30,9 +31,6 @@ use Rattle.mds_rule.specs.MdsStates.{ServedFile, WaitingRead, MdsValue, MdsStep,
 -- what one input may draw is there: a uid, and a number of a name for each of four targets
 abbrev pub has_fresh : Fresh → Bool
 has_fresh fresh = nat_lt fresh.uid end_of_uids && nat_lt (fresh.name + 4) (2 ^ 64)
-
-abbrev pub drawn : Fresh → FileStep → Fresh
-drawn fresh s = record { uid = fresh.uid + s.uids; name = fresh.name + s.names; servers = fresh.servers }
 
 abbrev pub is_of_period : Entry → Bool
 is_of_period (entry.Granted file cred holder) = true
