@@ -1,0 +1,2 @@
+pub mod MdsRuns
+pub mod MdsRunLaws
