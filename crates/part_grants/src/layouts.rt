@@ -2,6 +2,8 @@
 //! LAYOUTGET with this body; `device ADDRESS`, the body of a device's address, and `device_size ADDRESS`; `device_result HEX`, the
 //! result of a GETDEVICEINFO with this body. An ADDRESS is a universal one, as `127.0.0.1.8.1`.
 
+ghost use Rattle.std.specs.Prelude.{◌<◌, ◌^◌, length, IfOk};
+
 use device_addr::{NetAddr, parse_universal};
 use ff_xdr::{Out, Wire};
 use granted_layouts::{
@@ -27,7 +29,9 @@ fn put_result(res: &OpRes<'_>, answer: &mut Answer) -> Result<(), RowFault> {
 }
 
 /// A body, which is shorter than 2^32 bytes.
-fn body(words: &mut Words<'_>) -> Result<Vec<u8>, RowFault> {
+fn body(words: &mut Words<'_>) -> Result<Vec<u8>, RowFault>
+    ensures { IfOk result (λ bytes. length bytes.items < 2 ^ 32) }
+{
     let bytes = words.bytes()?;
     words.end()?;
     if bytes.len() > u32::MAX as usize {
