@@ -367,3 +367,56 @@ recalling_shown =
     ∷ shows [] []
     ∷ shows (entry.Fenced file1 (uid 65538) (uid 65539) (m1 ∷ m2_copied ∷ []) ∷ entry.Free file1 (m1 ∷ m2_copied ∷ []) ∷ []) []
     ∷ []
+
+-- ---- who holds a file
+
+-- A second client holds it. The first, which asks for it behind the same node as before and then behind the holder's, is denied both times;
+-- the recall goes to the holder's session.
+abbrev other_opened : List (ℕ × MdsTurn)
+other_opened =
+    (1, Runs c2 1 (exchange (codes "c2") ∷ []))
+    ∷ (1, Runs c2 2 (create id2 ∷ []))
+    ∷ (1, Runs c2 3 (sequence session2 1 ∷ put_root ∷ open_name name_a ∷ layout_get (open_stateid_of 1 2) ∷ []))
+    ∷ []
+
+abbrev pub other_holds_mds : MdsValue
+other_holds_mds = behind opened_mds other_opened
+
+abbrev pub denying : List (ℕ × MdsTurn)
+denying =
+    (2, Runs c1 4 (sequence session1 2 ∷ put_fh 1 ∷ layout_get open1 ∷ []))
+    ∷ (2, Runs c2 4 (sequence session1 3 ∷ put_fh 1 ∷ layout_get open1 ∷ []))
+    ∷ (2, IsTold c2 3 10060)
+    ∷ []
+
+abbrev pub denying_shown : List MdsShown
+denying_shown =
+    shows (entry.Later file1 phase.Held ∷ []) (replied c1 4 10058 (sequenced session1 2 ∷ put_fh_done ∷ try_later ∷ []) ∷ CallsBack 3 (record { session = session2; node = c2; program = 1073741824; sequence = 1 }) file1 (layout_stateid_of 1 65536 1) ∷ [])
+    ∷ shows (entry.Later file1 phase.Held ∷ []) (replied c2 4 10058 (sequenced session1 3 ∷ put_fh_done ∷ try_later ∷ []) ∷ [])
+    ∷ shows (entry.Ended file1 (uid 65536) cause.NoLayout ∷ []) (CallsServer 1 4 0 (SetAttr 2 65537 (tick 1)) ∷ CallsServer 2 5 0 (SetAttr 2 65537 (tick 1)) ∷ [])
+    ∷ []
+
+-- ---- where the mirrors of a file are
+
+-- The second file of three data servers has its two mirrors from the second server on, and the third's go round.
+abbrev pub three_servers : MdsValue
+three_servers = new_mds (address 2049 ∷ address 2050 ∷ address 2051 ∷ []) 2
+
+abbrev pub placing : List (ℕ × MdsTurn)
+placing =
+    (0, Runs c1 1 (exchange (codes "c1") ∷ []))
+    ∷ (0, Runs c1 2 (create id1 ∷ []))
+    ∷ (0, Runs c1 3 (sequence session1 1 ∷ put_root ∷ open_name (97 ∷ []) ∷ put_root ∷ open_name (98 ∷ []) ∷ put_root ∷ open_name (99 ∷ []) ∷ []))
+    ∷ []
+
+abbrev pub placing_shown : List MdsShown
+placing_shown =
+    shows [] (replied c1 1 0 (exchanged id1 ∷ []) ∷ [])
+    ∷ shows [] (replied c1 2 0 (created session1 ∷ []) ∷ [])
+    ∷ shows []
+    (replied c1 3 0 (sequenced session1 1 ∷ put_root_done ∷ open_done 1 1 ∷ put_root_done ∷ open_done 2 2 ∷ put_root_done ∷ open_done 3 3 ∷ [])
+    ∷ CallsServer 1 1 0 (Create 1 65536) ∷ CallsServer 2 2 0 (Create 1 65536)
+    ∷ CallsServer 2 3 0 (Create 2 65537) ∷ CallsServer 3 4 0 (Create 2 65537)
+    ∷ CallsServer 3 5 0 (Create 3 65538) ∷ CallsServer 1 6 0 (Create 3 65538)
+    ∷ [])
+    ∷ []

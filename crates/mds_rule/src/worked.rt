@@ -2,11 +2,12 @@
 
 ghost use Rattle.std.specs.Prelude.{◌≡◌};
 ghost use Rattle.mds_rule.specs.MdsTurns.{shown_in};
-ghost use Rattle.mds_rule.specs.Conversations.{fresh_mds, opened_mds, opening, opening_shown, period, period_shown, reading, reading_shown, writing, writing_shown, held_mds, reporting, reporting_shown, lease_ending, lease_ending_shown, recalling, recalling_shown};
+ghost use Rattle.mds_rule.specs.Conversations.{fresh_mds, opened_mds, opening, opening_shown, period, period_shown, reading, reading_shown, writing, writing_shown, held_mds, reporting, reporting_shown, lease_ending, lease_ending_shown, recalling, recalling_shown, other_holds_mds, denying, denying_shown, three_servers, placing, placing_shown};
 
 /// Conversations with a metadata server that are worked out by hand: a client that opens a file; a period of writing, from
 /// its grant to the end of its fence; a READ that one mirror fails; a WRITE through the metadata server; a return with a
-/// report; a lease that ends, with a mirror that is silent; a recall that expires, and the copy behind its fence.
+/// report; a lease that ends, with a mirror that is silent; a recall that expires, and the copy behind its fence;
+/// a layout that another client has; where the mirrors of files are.
 pub fn worked_conversations()
     ensures opening { shown_in fresh_mds opening ≡ opening_shown }
     ensures period { shown_in opened_mds period ≡ period_shown }
@@ -15,4 +16,6 @@ pub fn worked_conversations()
     ensures reporting { shown_in held_mds reporting ≡ reporting_shown }
     ensures lease_ending { shown_in held_mds lease_ending ≡ lease_ending_shown }
     ensures recalling { shown_in held_mds recalling ≡ recalling_shown }
+    ensures denying { shown_in other_holds_mds denying ≡ denying_shown }
+    ensures placing { shown_in three_servers placing ≡ placing_shown }
 {}

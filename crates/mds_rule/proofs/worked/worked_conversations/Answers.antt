@@ -33,3 +33,11 @@ returns-clause-lease_ending c = refl
 pub returns-clause-recalling : goal.returns-clause-recalling
 unfolding long word is_utf8 chars encode padded pad_len digits number_at length_at fixed_at opaque_at
 returns-clause-recalling c = refl
+
+pub returns-clause-denying : goal.returns-clause-denying
+unfolding long word is_utf8 chars encode padded pad_len digits number_at length_at fixed_at opaque_at
+returns-clause-denying c = refl
+
+pub returns-clause-placing : goal.returns-clause-placing
+unfolding long word is_utf8 chars encode padded pad_len digits number_at length_at fixed_at opaque_at
+returns-clause-placing c = refl
