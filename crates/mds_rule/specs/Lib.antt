@@ -8,5 +8,7 @@ pub mod Compounds
 pub mod Answers
 pub mod Goes
 pub mod Events
+pub mod Spelled
 pub mod MdsTurns
 pub mod Conversations
+pub mod WorkedRecords

@@ -2,6 +2,7 @@
 
 ghost use Rattle.std.specs.Prelude.{◌≡◌};
 ghost use Rattle.mds_rule.specs.MdsTurns.{shown_in};
+ghost use Rattle.mds_rule.specs.WorkedRecords.{heard, back_to, null_call, null_reply, third_procedure, no_procedure, empty_compound, empty_result, lost_session, bad_session, write_sent, write_record};
 ghost use Rattle.mds_rule.specs.Conversations.{fresh_mds, opened_mds, opening, opening_shown, period, period_shown, reading, reading_shown, writing, writing_shown, held_mds, reporting, reporting_shown, lease_ending, lease_ending_shown, recalling, recalling_shown, other_holds_mds, denying, denying_shown, three_servers, placing, placing_shown};
 
 /// Conversations with a metadata server that are worked out by hand: a client that opens a file; a period of writing, from
@@ -18,4 +19,14 @@ pub fn worked_conversations()
     ensures recalling { shown_in held_mds recalling ≡ recalling_shown }
     ensures denying { shown_in other_holds_mds denying ≡ denying_shown }
     ensures placing { shown_in three_servers placing ≡ placing_shown }
+{}
+
+/// Records that are worked out byte by byte: NULL, a procedure that there is not, a compound without operations, and one of
+/// a session that there is not; a WRITE that goes out (RFC 8881, sections 16.1, 16.2 and 18.46).
+pub fn worked_records()
+    ensures null { heard null_call ≡ back_to null_reply }
+    ensures procedure { heard third_procedure ≡ back_to no_procedure }
+    ensures empty { heard empty_compound ≡ back_to empty_result }
+    ensures session { heard lost_session ≡ back_to bad_session }
+    ensures write { write_sent ≡ write_record }
 {}
