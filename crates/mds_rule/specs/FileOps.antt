@@ -1,6 +1,6 @@
 -- The operations on names, opens and bytes (RFC 8881, sections 18.2, 18.3, 18.7, 18.8, 18.13, 18.16, 18.19, 18.21, 18.22 and 18.32): each
 -- is refused by the order of its statuses, or comes to what stands here.
-use Rattle.std.specs.Prelude.{ℕ, ◌+◌, ◌-◌, ◌%◌, Bool, true, false, not, ◌==◌, ◌&&◌, List, [], ◌∷◌, ◌++◌, length, map, filter, Option, Some, None, is_some, is_none, nat_lt, take, if◌then◌else◌, slice_get, get_or}
+use Rattle.std.specs.Prelude.{ℕ, ◌+◌, ◌-◌, ◌%◌, Bool, true, false, not, ◌==◌, ◌&&◌, List, [], ◌∷◌, ◌++◌, length, map, Option, Some, None, is_some, is_none, nat_lt, take, if◌then◌else◌, slice_get, get_or}
 use Rattle.std.specs.Option.{option_map}
 use Rattle.std.specs.List.{range_with_len}
 use Rattle.std.proofs.Common.{inl, inr}
@@ -31,9 +31,7 @@ use Rattle.compound_reply.specs.Replied.{results_text}
 use Rattle.nfs4_session.specs.declared.begin.SlotPass.{SlotPass}
 use Rattle.nfs4_session.specs.Clients.{client_in}
 use Rattle.open_state.specs.declared.open.Open.{Open}
-use Rattle.open_state.specs.declared.open.OpenFault.{OpenFault}
-use Rattle.open_state.specs.declared.open.TheConstants.{LAST_NUMBER, MAX_OPENS}
-use Rattle.open_state.specs.Opens.{OpensValue, opens_of, open_of, open_fault, fault_at, given, opens_with, last_with, again, is_of, stateid_of}
+use Rattle.open_state.specs.Opens.{opens_of, open_of, open_fault, fault_at, given, again, opened, closed, stateid_of}
 use Rattle.mds_operations.specs.declared.object.Object.{Object}
 use Rattle.mds_operations.specs.declared.object.Object.TheVariants.{Root, File}
 use Rattle.mds_operations.specs.declared.named.Named.{Named}
@@ -191,17 +189,6 @@ can_open m client (Some file) = is_none (open_fault m.opens client file)
 abbrev pub creation_in : Value openflag4 → Creation
 creation_in how = by_arm openflag4 ((λ nothing. NoCreate), ((λ create. by_arm createhow4 ((λ attributes. Unchecked), ((λ attributes. Guarded), tt)) create), tt)) how
 
--- the client's opens, in the place of those that it had, or behind all
-abbrev pub put_opens : ℕ → List Open → List (ℕ × List Open) → List (ℕ × List Open)
-put_opens client opens [] = (client, opens) ∷ []
-put_opens client opens (pair ∷ rest) = if pair.0 == client then (client, opens) ∷ rest else pair ∷ put_opens client opens rest
-
-abbrev pub opened : OpensValue → ℕ → FileId → OpensValue
-opened s client file = record {
-  clients = put_opens client (opens_with (open_of s client file) (given (open_of s client file) file s.last) (opens_of s client)) s.clients;
-  last = last_with (open_of s client file) s.last;
-}
-
 abbrev pub open_result : Open → Value resop4
 open_result o = arm 18 resop4 (inl (stateid4_value (stateid_of o), (true, (0, (0, (0, ([], inl tt)))))))
 
@@ -225,9 +212,6 @@ abbrev pub runs_open : MdsValue → CompoundRun → Value open4_args → OpStep
 runs_open m c (seqid, (access, (deny, (clientid, (owner, (how, claim)))))) = open_named m c access (creation_in how) (name_in claim) (file_named m (name_in claim))
 
 -- ---- CLOSE 4
-
-abbrev pub closed : OpensValue → ℕ → FileId → OpensValue
-closed s client file = record { clients = put_opens client (filter (λ o. not (is_of file o)) (opens_of s client)) s.clients; last = s.last }
 
 abbrev pub closes : MdsValue → CompoundRun → FileId → Option Open → OpStep
 closes m c file None = refuses m c 4 stat.BadStateid

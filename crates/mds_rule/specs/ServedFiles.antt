@@ -23,7 +23,7 @@ use Rattle.file_rule.specs.FilePhases.{FileInput, AsksLayout, Recall as ToRecall
 use Rattle.layout_state.specs.Grants.{holder_to_recall}
 use Rattle.mds_io.specs.Reads.{begun_again}
 use Rattle.recall.specs.Recalls.{is_under_way, new_recall, with_recall, without_file}
-use Rattle.open_state.specs.declared.open.Open.{Open}
+use Rattle.open_state.specs.Opens.{ended}
 use Rattle.mds_rule.specs.MdsStates.{ServedFile, WaitingRead, MdsValue, MdsStep, sends_none, and_then, served, with_served, numbered, is_size_of}
 
 -- ---- one input
@@ -131,12 +131,9 @@ abbrev pub ends_periods : MdsValue → ℕ → EndCause → MdsStep
 ends_periods m client end = in_turn (λ n file. takes_input n file (Revokes end)) (held_from client 1 m.files) m
 
 -- its opens end too, and what it reclaimed is forgotten
-abbrev pub without_opens : ℕ → List (ℕ × List Open) → List (ℕ × List Open)
-without_opens client opens = filter (λ pair. not (pair.0 == client)) opens
-
 abbrev pub forgotten : ℕ → MdsValue → MdsValue
 forgotten client m = record m {
-  opens = record { clients = without_opens client m.opens.clients; last = m.opens.last };
+  opens = ended m.opens client;
   reclaimed = filter (λ id. not (id == client)) m.reclaimed;
 }
 

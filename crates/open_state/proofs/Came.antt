@@ -5,7 +5,9 @@ use Rattle.cluster_model.specs.declared.ids.FileId.{FileId}
 use Rattle.open_state.specs.declared.open.Open.{Open}
 use Rattle.open_state.specs.declared.open.OpenFault.{OpenFault}
 use Rattle.open_state.specs.declared.open.OpenFault.TheVariants.{TooMany, Spent}
-use Rattle.open_state.specs.Opens.{OpensValue, opens_of, open_of, again, in_place, fault_at, given, opens_with, last_with, HasOpens, Opens, Gives, Refuses, Wants}
+use Rattle.open_state.specs.Opens.{OpensValue, opens_of, open_of, again, in_place, fault_at, given, opens_with, last_with, Opens, Gives, Refuses, Wants}
+use Rattle.open_state.specs.OneClient.{HasOpens}
+use Rattle.open_state.proofs.OneClient.{opened_has}
 
 pub data Came (old : OpensValue) (client : ℕ) (file : FileId) (o : Open) (new : OpensValue) : Type 0 where
   AsBefore : (was : Open) → open_of old client file ≡ Some was → o ≡ again was → HasOpens old client (map (in_place o) (opens_of old client)) new → new.last ≡ old.last → Came old client file o new
@@ -31,11 +33,11 @@ came_at old client file o new None is none has last does =
     AsNew is (ltb-true _ _ free.0) (eqb-false _ _ free.1) (sym does) (subst (λ (x : Open). HasOpens old client (opens_of old client ++ x ∷ []) new) does has) last
 
 pub came : (old : OpensValue) (client : ℕ) (file : FileId) (r : Result Open OpenFault) (new : OpensValue) → Opens old client file r new → (o : Open) → r ≡ Ok o → Came old client file o new
-came old client file r new (Gives n none has last) o is = came_at old client file o new (open_of old client file) refl none has last (same_ok _ o _ refl is)
+came old client file r new (Gives none) o is = came_at old client file o new (open_of old client file) refl none (opened_has old client file) refl (same_ok _ o _ refl is)
 came old client file r new (Refuses fault why) o is = absurd (cc (is))
 came old client file r new (Wants e) o is = absurd (cc (is))
 
 pub stayed : (old : OpensValue) (client : ℕ) (file : FileId) (r : Result Open OpenFault) (new : OpensValue) → Opens old client file r new → (fault : OpenFault) → r ≡ Err fault → new ≡ old
-stayed old client file r new (Gives n none has last) fault is = absurd (cc (is))
+stayed old client file r new (Gives none) fault is = absurd (cc (is))
 stayed old client file r new (Refuses f why) fault is = refl
 stayed old client file r new (Wants e) fault is = refl

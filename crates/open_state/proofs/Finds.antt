@@ -7,8 +7,7 @@ use Rattle.std.proofs.lemmas.List.Folds.{find-append}
 use Rattle.std.proofs.lemmas.Option.{same_Some, none-some}
 use Rattle.cluster_model.specs.declared.ids.FileId.{FileId}
 use Rattle.open_state.specs.declared.open.Open.{Open}
-use Rattle.open_state.specs.Opens.{is_of, in_place}
-use Rattle.open_state.specs.Calls.{is_other}
+use Rattle.open_state.specs.Opens.{is_of, is_other, in_place}
 
 pub same_file : (file : FileId) (o : Open) → is_of file o ≡ true → o.file ≡ file
 same_file file o is = let make : ℕ → FileId = λ n. record { 0 = n } in ap make (eqb-true o.file.0 file.0 is)

@@ -1,4 +1,5 @@
 mod OfClients
+mod OneClient
 mod Values
 mod Finds
 mod Came

@@ -5,7 +5,8 @@ use Rattle.std.proofs.lemmas.Bool.{eq-eqb, eqb-true, and_parts, and_from, and_le
 use Rattle.std.proofs.lemmas.Option.{same_Some, none-some}
 use Rattle.cluster_model.specs.declared.ids.FileId.{FileId}
 use Rattle.open_state.specs.declared.open.Open.{Open}
-use Rattle.open_state.specs.Opens.{OpensValue, opens_of, open_of, is_of, HasOpens}
+use Rattle.open_state.specs.Opens.{OpensValue, opens_of, open_of, is_of}
+use Rattle.open_state.specs.OneClient.{HasOpens}
 use Rattle.open_state.specs.OpensLaws.{OpenNote, WasOpened, standing, was_given, stands_as}
 use Rattle.open_state.proofs.OfClients.{turned}
 use Rattle.open_state.proofs.Finds.{same_file, is_own}

@@ -7,11 +7,12 @@ use Rattle.std.proofs.lemmas.List.{length-append, length-map}
 use Rattle.std.proofs.lemmas.Option.{same_Some, none-some}
 use Rattle.cluster_model.specs.declared.ids.FileId.{FileId}
 use Rattle.open_state.specs.declared.open.Open.{Open}
-use Rattle.open_state.specs.Opens.{OpensValue, opens_of, open_of, is_of, again, next_seqid, in_place, HasOpens, ClosesOpen, EndsClient}
-use Rattle.open_state.specs.Calls.{is_other}
+use Rattle.open_state.specs.Opens.{OpensValue, opens_of, open_of, is_of, again, next_seqid, in_place, is_other, ClosesOpen, ended as value_ended}
+use Rattle.open_state.specs.OneClient.{HasOpens}
 use Rattle.open_state.specs.OpensLaws.{OpenNote, WasOpened, WasClosed, HasEnded, IsRun, Begins, HasOpened, WasRefused, HasClosed, HadNone, Ended, standing, was_given, stands_as}
 use Rattle.open_state.proofs.Finds.{same_file, passes, length_kept, put_here, put_other, push_here, push_other, cut_here, cut_other}
 use Rattle.open_state.proofs.Values.{all_kept}
+use Rattle.open_state.proofs.OneClient.{closes_has, ends_has}
 use Rattle.open_state.proofs.Came.{Came, AsBefore, AsNew, came, stayed}
 use Rattle.open_state.proofs.Notes.{shown, always, was_or_is, is_given, still_given, stands_or_is, stood, stands_so}
 
@@ -188,15 +189,17 @@ module _ (old new : OpensValue) (notes : List OpenNote) (client : ℕ) (good : G
       let w = mapped (open_of old client file) o did.told in
       let own : w.0.file ≡ file = same_file file w.0 (passes (is_of file) (opens_of old client) w.0 w.1) in
       let its : o.file ≡ file = ap (λ (x : Open). x.file) w.2 ∙ own in
-      let has : HasOpens old client (filter (is_other o.file) (opens_of old client)) new = subst (λ (f : FileId). HasOpens old client (filter (is_other f) (opens_of old client)) new) (sym its) did.has in
+      let has : HasOpens old client (filter (is_other o.file) (opens_of old client)) new =
+      subst (λ (f : FileId). HasOpens old client (filter (is_other f) (opens_of old client)) new) (sym its) (closes_has old new client file (Some o) did) in
+      let last : new.last ≡ old.last = ap (λ (s : OpensValue). s.last) did.leaves in
       record {
         stands = shown old new notes client None (λ f. is_of f o) (filter (is_other o.file) (opens_of old client)) has
             (λ f this. subst (λ (g : FileId). find (is_of g) (filter (is_other o.file) (opens_of old client)) ≡ None) (same_file f o this) (cut_here o.file (opens_of old client)))
             (λ f other. cut_other o f (opens_of old client) other)
             good.stands;
         few = few_with old new client _ has good.few (omega (arith, length_kept (is_other o.file) (opens_of old client), good.few client));
-        last = omega (arith, did.last, good.last);
-        known = λ c f n given. let k = good.known c f n given in (k.0, omega (arith, k.1, did.last));
+        last = omega (arith, last, good.last);
+        known = λ c f n given. let k = good.known c f n given in (k.0, omega (arith, k.1, last));
         apart = good.apart;
         sound = λ c f x now. let s = good.sound c f x (stood _ (standing c f notes) x now) in record { given = s.given; low = s.low; high = s.high };
         head = tt;
@@ -205,12 +208,14 @@ module _ (old new : OpensValue) (notes : List OpenNote) (client : ℕ) (good : G
   pub had_none : (file : FileId) → ClosesOpen old client file None new → Good new notes
   had_none file did =
       let none : open_of old client file ≡ None = unmapped (open_of old client file) did.told in
-      let its : opens_of new client ≡ opens_of old client = did.has.its ∙ all_kept file (opens_of old client) none in
+      let has = closes_has old new client file None did in
+      let last : new.last ≡ old.last = ap (λ (s : OpensValue). s.last) did.leaves in
+      let its : opens_of new client ≡ opens_of old client = has.its ∙ all_kept file (opens_of old client) none in
       record {
-        stands = λ c f. ap (find (is_of f)) (same_at its did.has.others c (eqb c client) refl) ∙ good.stands c f;
-        few = λ c. omega (arith, ap length (same_at its did.has.others c (eqb c client) refl), good.few c);
-        last = omega (arith, did.last, good.last);
-        known = λ c f n given. let k = good.known c f n given in (k.0, omega (arith, k.1, did.last));
+        stands = λ c f. ap (find (is_of f)) (same_at its has.others c (eqb c client) refl) ∙ good.stands c f;
+        few = λ c. omega (arith, ap length (same_at its has.others c (eqb c client) refl), good.few c);
+        last = omega (arith, last, good.last);
+        known = λ c f n given. let k = good.known c f n given in (k.0, omega (arith, k.1, last));
         apart = good.apart;
         sound = good.sound;
         head = good.head;
@@ -220,16 +225,19 @@ module _ (old new : OpensValue) (notes : List OpenNote) (client : ℕ) (good : G
       same_at its others c true same = ap (opens_of new) (eqb-true c client same) ∙ its ∙ ap (opens_of old) (sym (eqb-true c client same))
       same_at its others c false other = others c other
 
-  pub ended : EndsClient old client new → Good new (HasEnded client ∷ notes)
-  ended did = record {
-    stands = λ c f. shown old new notes client None (λ g. true) [] did.has (λ g this. refl) (λ g other. absurd (cc (other))) good.stands c f ∙ ap (λ b. cond b None (standing c f notes)) (always (eqb client c));
-    few = few_with old new client [] did.has good.few (omega arith);
-    last = omega (arith, did.last, good.last);
-    known = λ c f n given. let k = good.known c f n given in (k.0, omega (arith, k.1, did.last));
-    apart = good.apart;
-    sound = λ c f x now. let s = good.sound c f x (stood (eqb client c) (standing c f notes) x now) in record { given = s.given; low = s.low; high = s.high };
-    head = tt;
-  }
+  pub ended : new ≡ value_ended old client → Good new (HasEnded client ∷ notes)
+  ended did =
+      let has = ends_has old new client did in
+      let last : new.last ≡ old.last = ap (λ (s : OpensValue). s.last) did in
+      record {
+        stands = λ c f. shown old new notes client None (λ g. true) [] has (λ g this. refl) (λ g other. absurd (cc (other))) good.stands c f ∙ ap (λ b. cond b None (standing c f notes)) (always (eqb client c));
+        few = few_with old new client [] has good.few (omega arith);
+        last = omega (arith, last, good.last);
+        known = λ c f n given. let k = good.known c f n given in (k.0, omega (arith, k.1, last));
+        apart = good.apart;
+        sound = λ c f x now. let s = good.sound c f x (stood (eqb client c) (standing c f notes) x now) in record { given = s.given; low = s.low; high = s.high };
+        head = tt;
+      }
 
 pub good : (s : OpensValue) (notes : List OpenNote) → IsRun s notes → Good s notes
 good s notes Begins = begins

@@ -1,3 +1,3 @@
 pub mod Opens
-pub mod Calls
+pub mod OneClient
 pub mod OpensLaws

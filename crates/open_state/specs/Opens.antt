@@ -1,5 +1,5 @@
 -- What clients have open: OPEN, CLOSE, and a client's end (RFC 8881, sections 8.2, 18.2 and 18.16).
-use Rattle.std.specs.Prelude.{◌≡◌, ℕ, ◌+◌, Bool, false, not, ◌==◌, List, [], ◌∷◌, ◌++◌, length, filter, find, map, Option, Some, None, Result, Ok, Err, nat_lt, if◌then◌else◌, bytes_eq}
+use Rattle.std.specs.Prelude.{◌≡◌, ℕ, ◌+◌, Bool, not, ◌==◌, List, [], ◌∷◌, ◌++◌, length, filter, find, map, Option, Some, None, Result, Ok, Err, nat_lt, if◌then◌else◌, bytes_eq}
 use Rattle.std.specs.Option.{option_map}
 use Rattle.cluster_model.specs.declared.ids.FileId.{FileId}
 use Rattle.nfs4_types.specs.declared.stateid.Stateid.{Stateid}
@@ -9,7 +9,8 @@ use Rattle.open_state.specs.declared.open.Open.{Open}
 use Rattle.open_state.specs.declared.open.OpenFault.{OpenFault}
 use Rattle.open_state.specs.declared.open.OpenFault.TheVariants.{TooMany, Spent, NoMemory}
 
--- the opens of each client that has any, and the last number that was given, 0 before any
+-- the opens of each client that has opened a file and has not ended since, in the order in which the clients did so first, and the
+-- last number that was given, 0 before any
 pub record OpensValue : Type 0 where
   pub clients : List (ℕ × List Open)
   pub last : ℕ
@@ -25,9 +26,28 @@ opens_of s client = opens_in s.clients client
 abbrev pub is_of : FileId → Open → Bool
 is_of file o = o.file.0 == file.0
 
+abbrev pub is_other : FileId → Open → Bool
+is_other file o = not (is_of file o)
+
 -- a client's open of a file
 abbrev pub open_of : OpensValue → ℕ → FileId → Option Open
 open_of s client file = find (is_of file) (opens_of s client)
+
+-- ---- one client's opens among those of all
+
+-- in the place of those that it had, or behind all
+abbrev pub put_opens : ℕ → List Open → List (ℕ × List Open) → List (ℕ × List Open)
+put_opens client opens [] = (client, opens) ∷ []
+put_opens client opens (pair ∷ rest) = if pair.0 == client then (client, opens) ∷ rest else pair ∷ put_opens client opens rest
+
+-- in the place of those that it had; a client that has no place gets none
+abbrev pub set_opens : ℕ → List Open → List (ℕ × List Open) → List (ℕ × List Open)
+set_opens client opens [] = []
+set_opens client opens (pair ∷ rest) = if pair.0 == client then (client, opens) ∷ rest else pair ∷ set_opens client opens rest
+
+-- taken out; the others keep their order
+abbrev pub without_opens : ℕ → List (ℕ × List Open) → List (ℕ × List Open)
+without_opens client clients = filter (λ pair. not (pair.0 == client)) clients
 
 -- ---- its stateid
 
@@ -71,28 +91,29 @@ abbrev pub last_with : Option Open → ℕ → ℕ
 last_with (Some was) last = last
 last_with None last = last + 1
 
--- one client's opens have become these; no other's have changed
-pub record HasOpens (old : OpensValue) (client : ℕ) (opens : List Open) (new : OpensValue) : Type 0 where
-  pub its : opens_of new client ≡ opens
-  pub others : (other : ℕ) → (other == client) ≡ false → opens_of new other ≡ opens_of old other
+-- a client's open, where it has one, comes again in its place; else the file is behind the client's others
+abbrev pub opened : OpensValue → ℕ → FileId → OpensValue
+opened s client file = record {
+  clients = put_opens client (opens_with (open_of s client file) (given (open_of s client file) file s.last) (opens_of s client)) s.clients;
+  last = last_with (open_of s client file) s.last;
+}
 
 -- what an OPEN of this file by this client came to; a fault changes nothing
 pub data Opens (old : OpensValue) (client : ℕ) (file : FileId) : Result Open OpenFault → OpensValue → Type 0 where
-  Gives : (new : OpensValue) → open_fault old client file ≡ None
-      → HasOpens old client (opens_with (open_of old client file) (given (open_of old client file) file old.last) (opens_of old client)) new
-      → new.last ≡ last_with (open_of old client file) old.last
-      → Opens old client file (Ok (given (open_of old client file) file old.last)) new
+  Gives : open_fault old client file ≡ None → Opens old client file (Ok (given (open_of old client file) file old.last)) (opened old client file)
   Refuses : (fault : OpenFault) → open_fault old client file ≡ Some fault → Opens old client file (Err fault) old
   Wants : (e : Rattle.ff_xdr.specs.declared.NoMemory.NoMemory) → Opens old client file (Err (NoMemory e)) old
 
 -- ---- CLOSE, and a client's end
 
+-- a client that has closed its last file keeps its place
+abbrev pub closed : OpensValue → ℕ → FileId → OpensValue
+closed s client file = record { clients = set_opens client (filter (is_other file) (opens_of s client)) s.clients; last = s.last }
+
 -- the open ends, and is given with its next seqid
 pub record ClosesOpen (old : OpensValue) (client : ℕ) (file : FileId) (result : Option Open) (new : OpensValue) : Type 0 where
   pub told : result ≡ option_map again (open_of old client file)
-  pub has : HasOpens old client (filter (λ o. not (is_of file o)) (opens_of old client)) new
-  pub last : new.last ≡ old.last
+  pub leaves : new ≡ closed old client file
 
-pub record EndsClient (old : OpensValue) (client : ℕ) (new : OpensValue) : Type 0 where
-  pub has : HasOpens old client [] new
-  pub last : new.last ≡ old.last
+abbrev pub ended : OpensValue → ℕ → OpensValue
+ended s client = record { clients = without_opens client s.clients; last = s.last }

@@ -4,7 +4,7 @@ use Rattle.cluster_model.specs.declared.ids.FileId.{FileId}
 use Rattle.open_state.specs.declared.open.TheConstants.{MAX_OPENS}
 use Rattle.open_state.specs.declared.open.Open.{Open}
 use Rattle.open_state.specs.declared.open.OpenFault.{OpenFault}
-use Rattle.open_state.specs.Opens.{OpensValue, opens_of, open_of, is_of, Opens, ClosesOpen, EndsClient}
+use Rattle.open_state.specs.Opens.{OpensValue, opens_of, open_of, is_of, Opens, ClosesOpen, ended}
 
 -- what came to pass, as it is seen outside
 pub data OpenNote : Type 0 where
@@ -19,7 +19,7 @@ pub data IsRun : OpensValue → List OpenNote → Type 0 where
   WasRefused : (old new : OpensValue) (notes : List OpenNote) (client : ℕ) (file : FileId) (fault : OpenFault) → IsRun old notes → Opens old client file (Err fault) new → IsRun new notes
   HasClosed : (old new : OpensValue) (notes : List OpenNote) (client : ℕ) (file : FileId) (o : Open) → IsRun old notes → ClosesOpen old client file (Some o) new → IsRun new (WasClosed client o ∷ notes)
   HadNone : (old new : OpensValue) (notes : List OpenNote) (client : ℕ) (file : FileId) → IsRun old notes → ClosesOpen old client file None new → IsRun new notes
-  Ended : (old new : OpensValue) (notes : List OpenNote) (client : ℕ) → IsRun old notes → EndsClient old client new → IsRun new (HasEnded client ∷ notes)
+  Ended : (old new : OpensValue) (notes : List OpenNote) (client : ℕ) → IsRun old notes → new ≡ ended old client → IsRun new (HasEnded client ∷ notes)
 
 -- what the latest note of a client and a file leaves open
 abbrev pub standing : ℕ → FileId → List OpenNote → Option Open

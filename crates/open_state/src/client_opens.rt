@@ -1,8 +1,7 @@
 //! What one client has open.
 
 ghost use Rattle.std.specs.Prelude.{◌≡◌, ◌++◌, [], ◌∷◌, length, map, filter, find, IfOk, OnOk, OnErr};
-ghost use Rattle.open_state.specs.Opens.{is_of, in_place};
-ghost use Rattle.open_state.specs.Calls.{is_other};
+ghost use Rattle.open_state.specs.Opens.{is_of, is_other, in_place};
 
 use crate::open::Open;
 use cluster_model::FileId;

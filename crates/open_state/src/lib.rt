@@ -6,6 +6,6 @@ mod laws;
 mod open;
 mod opens;
 
-pub use laws::opens_law;
+pub use laws::{one_client_law, opens_law};
 pub use open::{MAX_OPENS, Open, OpenFault};
 pub use opens::Opens;

@@ -1,8 +1,7 @@
 //! What all clients have open.
 
 ghost use Rattle.std.specs.Prelude.{◌≡◌, [], ◌∷◌, ◌++◌, map, filter, find, not, is_some, length, OnOk, OnErr};
-ghost use Rattle.open_state.specs.Opens.{Opens as OpensFile, ClosesOpen, EndsClient, open_of, open_fault, opens_in, is_of, in_place};
-ghost use Rattle.open_state.specs.Calls.{OpensBecome, is_other};
+ghost use Rattle.open_state.specs.Opens.{Opens as OpensFile, ClosesOpen, ended, open_of, open_fault, opens_in, put_opens, set_opens, is_of, is_other, in_place};
 
 use crate::client_opens::ClientOpens;
 use crate::open::{LAST_NUMBER, MAX_OPENS, Open, OpenFault};
@@ -13,7 +12,7 @@ use std::alloc::Global;
 use std::marker::Model;
 
 /// What clients have open at the metadata server (RFC 8881, sections 8.2.1, 18.2 and 18.16): at most `MAX_OPENS` files a
-/// client, each once. A number is never given twice. A call costs by the opens of its one client.
+/// client, each once. A number is never given twice. A call costs by the opens of its one client, but for the client's end.
 #[derive(Drop)]
 pub struct Opens {
     clients: IndexMap<u64, ClientOpens>,
@@ -90,8 +89,8 @@ impl Opens {
         sought(&self.clients, client, file)
     }
 
-    /// A CLOSE of this file by this client: its open ends, and is given with its next seqid; `None` where it has none. Takes
-    /// no memory.
+    /// A CLOSE of this file by this client: its open ends, and is given with its next seqid; `None` where it has none. A client
+    /// that has closed its last file keeps its place among the others. Takes no memory.
     pub fn close(&mut self, client: u64, file: FileId) -> Option<Open>
         ensures { ClosesOpen self.old client file result self.new }
     {
@@ -100,11 +99,12 @@ impl Opens {
         Some(was.again())
     }
 
-    /// The client is gone, and what it had open with it. Takes no memory.
+    /// The client is gone, and what it had open with it; the others keep their order, so it costs by the number of clients.
+    /// Takes no memory.
     pub fn end(&mut self, client: u64)
-        ensures { EndsClient self.old client self.new }
+        ensures { self.new ≡ ended self.old client }
     {
-        self.clients.swap_remove(&client);
+        self.clients.shift_remove(&client);
     }
 }
 
@@ -127,7 +127,7 @@ fn sought(clients: &IndexMap<u64, ClientOpens>, client: u64, file: FileId) -> Op
 
 /// A client has one more open. At an error nothing has changed.
 fn add(clients: &mut IndexMap<u64, ClientOpens>, client: u64, newest: Open) -> Result<(), NoMemory>
-    ensures ok { OnOk result (OpensBecome clients.old.entries client (opens_in clients.old.entries client ++ newest ∷ []) clients.new.entries) }
+    ensures ok { OnOk result (clients.new.entries ≡ put_opens client (opens_in clients.old.entries client ++ newest ∷ []) clients.old.entries) }
     ensures err { OnErr result (clients.new.entries ≡ clients.old.entries) }
 {
     if let Some(opens) = clients.get_mut(&client) {
@@ -140,7 +140,7 @@ fn add(clients: &mut IndexMap<u64, ClientOpens>, client: u64, newest: Open) -> R
 
 /// A client's open stands where one of its file stood.
 fn replace(clients: &mut IndexMap<u64, ClientOpens>, client: u64, given: Open)
-    ensures { OpensBecome clients.old.entries client (map (in_place given) (opens_in clients.old.entries client)) clients.new.entries }
+    ensures { clients.new.entries ≡ set_opens client (map (in_place given) (opens_in clients.old.entries client)) clients.old.entries }
 {
     if let Some(opens) = clients.get_mut(&client) {
         opens.replace(given);
@@ -149,7 +149,7 @@ fn replace(clients: &mut IndexMap<u64, ClientOpens>, client: u64, given: Open)
 
 /// A client's open of a file is gone.
 fn remove(clients: &mut IndexMap<u64, ClientOpens>, client: u64, file: FileId)
-    ensures { OpensBecome clients.old.entries client (filter (is_other file) (opens_in clients.old.entries client)) clients.new.entries }
+    ensures { clients.new.entries ≡ set_opens client (filter (is_other file) (opens_in clients.old.entries client)) clients.old.entries }
 {
     if let Some(opens) = clients.get_mut(&client) {
         opens.remove(file);

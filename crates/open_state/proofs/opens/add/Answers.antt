@@ -1,10 +1,9 @@
-use Rattle.std.proofs.Common.{[], ◌∷◌, ◌++◌, List, Some, nat_eq, sym, ap, subst, ◌∙◌}
-use Rattle.std.specs.Prelude.{is_some}
+use Rattle.std.proofs.Common.{[], ◌∷◌, ◌++◌, List, nat_eq, sym, ap, ◌∙◌}
 use Rattle.std.proofs.lemmas.Result.{on_ok_weaker, on_err_weaker}
+use Rattle.indexmap.specs.IndexMap.{insert_entry}
 use Rattle.open_state.specs.declared.open.Open.{Open}
-use Rattle.open_state.specs.Opens.{opens_in}
-use Rattle.open_state.specs.Calls.{OpensBecome}
-use Rattle.open_state.proofs.OfClients.{found_some, found_none, becomes, set_same}
+use Rattle.open_state.specs.Opens.{put_opens}
+use Rattle.open_state.proofs.OfClients.{found_some, found_none, set_is, put_is, put_set, set_same}
 use Rattle.open_state.proofs.opens.add.Goals as goal
 
 pub returns-in-Some-clause-ok : goal.returns-in-Some-clause-ok
@@ -12,8 +11,11 @@ returns-in-Some-clause-ok c =
     let es = c.args.clients.now.entries in
     let w = c.get_mut.follows.holds c.push.new.self in
     on_ok_weaker c.push.result
-    (λ pushed. becomes es _ c.args.client _ (Some c.push.new.self) (w.3 (sym (ap is_some c.in-Some.ensures.value))).0
-    (pushed ∙ ap (λ (l : List Open). l ++ c.args.newest ∷ []) (sym (found_some es c.args.client c.in-Some.opens.now c.in-Some.ensures.value))))
+    (λ pushed.
+    w.0
+    ∙ set_is c.args.client c.push.new.self es
+    ∙ sym (put_set c.args.client c.push.new.self es c.in-Some.opens.now c.in-Some.ensures.value)
+    ∙ ap (λ (l : List Open). put_opens c.args.client l es) (pushed ∙ ap (λ (l : List Open). l ++ c.args.newest ∷ []) (sym (found_some es c.args.client c.in-Some.opens.now c.in-Some.ensures.value))))
     c.push.ensures.ok
 
 pub returns-in-Some-clause-err : goal.returns-in-Some-clause-err
@@ -24,7 +26,7 @@ returns-in-Some-clause-err c =
 pub returns-clause-ok : goal.returns-clause-ok
 returns-clause-ok c =
     let es = c.args.clients.now.entries in
-    let all = opens_in es c.args.client ++ c.args.newest ∷ [] in
-    subst (λ l. OpensBecome l c.args.client all c.insert.new.self.entries) (ap (λ m. m.entries) c.get_mut.follows.holds-at-none)
-    (becomes _ c.insert.new.self.entries c.args.client all (Some c.in_ok-opens.opens) c.in_ok-insert.ensures.updates.0
-    (c.in_ok-opens.ensures ∙ ap (λ (l : List Open). l ++ c.args.newest ∷ []) (sym (found_none es c.args.client c.in_default.ensures.value))))
+    c.in_ok-insert.ensures.entries
+    ∙ ap (λ m. insert_entry nat_eq m.entries c.args.client c.in_ok-opens.opens) c.get_mut.follows.holds-at-none
+    ∙ put_is c.args.client c.in_ok-opens.opens es
+    ∙ ap (λ (l : List Open). put_opens c.args.client l es) (c.in_ok-opens.ensures ∙ ap (λ (l : List Open). l ++ c.args.newest ∷ []) (sym (found_none es c.args.client c.in_default.ensures.value)))

@@ -1,6 +1,6 @@
 use Rattle.std.proofs.Common.{rules, filter, ap, ◌∙◌}
 use Rattle.std.proofs.lemmas.Fn.{filter_same}
-use Rattle.open_state.specs.Calls.{is_other}
+use Rattle.open_state.specs.Opens.{is_other}
 use Rattle.open_state.proofs.client_opens.ClientOpens.remove.Goals as goal
 
 pub returns : goal.returns

@@ -1,4 +1,4 @@
-use Rattle.std.proofs.Common.{refl, sym, ◌∙◌}
+use Rattle.std.proofs.Common.{sym, ◌∙◌}
 use Rattle.open_state.proofs.Values.{closed_none, closed_one}
 use Rattle.open_state.proofs.opens.Opens.close.Goals as goal
 
@@ -8,4 +8,4 @@ returns-in_err-was c =
 
 pub returns : goal.returns
 returns c =
-    rw (← c.self.view_is) (closed_one _ _ c.args.client c.args.file c.in_ok-was.was' c.again.result (sym c.sought.ensures ∙ c.in_ok-was.was) c.again.ensures c.remove.ensures refl)
+    rw (← c.self.view_is) (closed_one _ c.args.client c.args.file c.in_ok-was.was' c.again.result _ (sym c.sought.ensures ∙ c.in_ok-was.was) c.again.ensures c.remove.ensures)

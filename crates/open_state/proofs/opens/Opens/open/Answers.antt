@@ -1,4 +1,4 @@
-use Rattle.std.proofs.Common.{refl, sym, ◌∙◌, arith, ◌≤◌, ◌<◌, length}
+use Rattle.std.proofs.Common.{sym, ◌∙◌, arith, ◌≤◌, ◌<◌, length}
 use Rattle.open_state.specs.Opens.{opens_in, Refuses}
 use Rattle.open_state.specs.declared.open.OpenFault.TheVariants.{TooMany, Spent}
 use Rattle.open_state.proofs.Values.{opened_again, opened_new, too_many, spent, wanted}
@@ -6,7 +6,7 @@ use Rattle.open_state.proofs.opens.Opens.open.Goals as goal
 
 pub returns-in-Some : goal.returns-in-Some
 returns-in-Some c =
-    rw (← c.self.view_is) (opened_again _ _ c.args.client c.args.file c.in-Some.was c.again-again.result (sym c.sought.ensures ∙ c.in-Some.is) c.again-again.ensures c.replace.ensures refl)
+    rw (← c.self.view_is) (opened_again _ c.args.client c.args.file c.in-Some.was c.again-again.result _ (sym c.sought.ensures ∙ c.in-Some.is) c.again-again.ensures c.replace.ensures)
 
 pub returns-then-count-ge-MAX_OPENS : goal.returns-then-count-ge-MAX_OPENS
 returns-then-count-ge-MAX_OPENS c =
@@ -24,4 +24,4 @@ returns-in-Err c = rw (← c.self.view_is) (wanted _ c.args.client c.args.file c
 pub returns : goal.returns
 returns c =
     let few : length (opens_in c.self.inside.clients.entries c.args.client) < 64 = omega (arith, c.count.ensures, c.if-count-ge-MAX_OPENS.false) in
-    rw (← c.self.view_is) (opened_new _ _ c.args.client c.args.file (sym c.sought.ensures ∙ c.in_default.is) few c.if-self.false c.in_default-add.ensures.ok refl)
+    rw (← c.self.view_is) (opened_new _ c.args.client c.args.file _ (sym c.sought.ensures ∙ c.in_default.is) few c.if-self.false c.in_default-add.ensures.ok)
