@@ -26,11 +26,12 @@ use Rattle.nfs4_session.specs.Clients.{session_id}
 use Rattle.nfs4_session.specs.declared.back.BackCall.{BackCall}
 use Rattle.nfs4_compound.specs.Args.{argop4}
 use Rattle.nfs4_compound.specs.Results.{resop4}
+use Rattle.nfs4_compound.specs.Behind.{behind_arms}
 use Rattle.ff_layout.specs.ReturnBody.{ff_layoutreturn4}
 use Rattle.device_addr.specs.Universal.{AddressValue}
 use Rattle.granted_layouts.specs.GrantedBodies.{layout_body, whole_layout, layout_result}
 use Rattle.mds_rule.specs.MdsStates.{MdsSend, CallsServer, CallsBack, MdsValue, new_mds, numbered}
-use Rattle.mds_rule.specs.MdsTurns.{MdsTurn, Runs, Gets, IsTold, TimesOut, Ticks, IsToRecall, IsToResilver, MdsShown, behind, shown_in, replied, shows}
+use Rattle.mds_rule.specs.MdsTurns.{MdsTurn, Runs, RunsUpTo, Gets, IsTold, TimesOut, Ticks, IsToRecall, IsToResilver, MdsShown, behind, shown_in, replied, shows}
 
 -- ---- what is spoken of
 
@@ -419,4 +420,144 @@ placing_shown =
     ∷ CallsServer 2 3 0 (Create 2 65537) ∷ CallsServer 3 4 0 (Create 2 65537)
     ∷ CallsServer 3 5 0 (Create 3 65538) ∷ CallsServer 1 6 0 (Create 3 65538)
     ∷ [])
+
+-- ---- two clients, one after the other
+
+-- The second client is made known, opens the file and asks for its layout, which is recalled. The holder gives it back; the second client
+-- is denied once more while the file is fenced, and is granted it behind that.
+abbrev pub taking_turns : List (ℕ × MdsTurn)
+taking_turns =
+    (1, Runs c2 1 (exchange (codes "c2") ∷ []))
+    ∷ (1, Runs c2 2 (create id2 ∷ []))
+    ∷ (1, Runs c2 3 (sequence session2 1 ∷ put_root ∷ open_name name_a ∷ layout_get (open_stateid_of 1 2) ∷ []))
+    ∷ (1, IsTold c1 3 0)
+    ∷ (2, Runs c1 5 (sequence session1 3 ∷ put_fh 1 ∷ layout_return 65536 ∷ []))
+    ∷ (2, Runs c2 4 (sequence session2 2 ∷ put_fh 1 ∷ layout_get (open_stateid_of 1 2) ∷ []))
+    ∷ (2, Gets 1 4 (Set None))
+    ∷ (2, Gets 2 5 (Set None))
+    ∷ (3, Runs c2 5 (sequence session2 3 ∷ put_fh 1 ∷ layout_get (open_stateid_of 1 2) ∷ []))
+    ∷ []
+
+abbrev pub taking_turns_shown : List MdsShown
+taking_turns_shown =
+    shows [] (replied c2 1 0 (exchanged id2 ∷ []) ∷ [])
+    ∷ shows [] (replied c2 2 0 (created session2 ∷ []) ∷ [])
+    ∷ shows (entry.Later file1 phase.Held ∷ []) (replied c2 3 10058 (sequenced session2 1 ∷ put_root_done ∷ open_done 1 2 ∷ try_later ∷ []) ∷ recall_of_holder 3 ∷ [])
+    ∷ shows [] []
+    ∷ shows (entry.Ended file1 (uid 65536) cause.Returned ∷ []) (replied c1 5 0 (sequenced session1 3 ∷ put_fh_done ∷ return_done ∷ []) ∷ CallsServer 1 4 0 (SetAttr 2 65537 (tick 1)) ∷ CallsServer 2 5 0 (SetAttr 2 65537 (tick 1)) ∷ [])
+    ∷ shows (entry.Later file1 phase.Fencing ∷ []) (replied c2 4 10058 (sequenced session2 2 ∷ put_fh_done ∷ try_later ∷ []) ∷ [])
+    ∷ shows [] []
+    ∷ shows (entry.Fenced file1 (uid 65536) (uid 65537) (m1 ∷ m2 ∷ []) ∷ entry.Free file1 (m1 ∷ m2 ∷ []) ∷ []) []
+    ∷ shows (entry.Granted file1 (uid 65537) c2 ∷ []) (replied c2 5 0 (sequenced session2 3 ∷ put_fh_done ∷ layout_done 65537 1 (at m1 1 ∷ at m2 1 ∷ []) ∷ []) ∷ [])
+    ∷ []
+
+-- While a client holds the file another's WRITE through the metadata server is to come later, and the layout is recalled. The holder has no such layout, which ends its period; while the file is fenced a WRITE is still to come later.
+abbrev write_later : Value resop4
+write_later = arm 38 resop4 (inr 10008)
+
+abbrev pub writing_while_held : List (ℕ × MdsTurn)
+writing_while_held =
+    (1, Runs c2 1 (exchange (codes "c2") ∷ []))
+    ∷ (1, Runs c2 2 (create id2 ∷ []))
+    ∷ (1, Runs c2 3 (sequence session2 1 ∷ put_root ∷ open_name name_a ∷ write (open_stateid_of 1 2) 0 (66 ∷ []) ∷ get_fh ∷ []))
+    ∷ (1, IsTold c1 3 10060)
+    ∷ (1, Runs c2 4 (sequence session2 2 ∷ put_fh 1 ∷ write (open_stateid_of 1 2) 0 (66 ∷ []) ∷ []))
+    ∷ (1, Gets 1 4 (Set None))
+    ∷ (1, Gets 2 5 (Set None))
+    ∷ []
+
+abbrev pub writing_while_held_shown : List MdsShown
+writing_while_held_shown =
+    shows [] (replied c2 1 0 (exchanged id2 ∷ []) ∷ [])
+    ∷ shows [] (replied c2 2 0 (created session2 ∷ []) ∷ [])
+    ∷ shows [] (replied c2 3 10008 (sequenced session2 1 ∷ put_root_done ∷ open_done 1 2 ∷ write_later ∷ []) ∷ recall_of_holder 3 ∷ [])
+    ∷ shows (entry.Ended file1 (uid 65536) cause.NoLayout ∷ []) (CallsServer 1 4 0 (SetAttr 2 65537 (tick 1)) ∷ CallsServer 2 5 0 (SetAttr 2 65537 (tick 1)) ∷ [])
+    ∷ shows [] (replied c2 4 10008 (sequenced session2 2 ∷ put_fh_done ∷ write_later ∷ []) ∷ [])
+    ∷ shows [] []
+    ∷ shows (entry.Fenced file1 (uid 65536) (uid 65537) (m1 ∷ m2 ∷ []) ∷ []) (CallsServer 1 6 0 (Commit 2) ∷ [])
+    ∷ []
+
+-- ---- a client that restarts, gives all back, or is gone
+
+-- The holder comes again with another verifier. Its period ends with the session that it makes; its old session and its open are gone.
+abbrev exchange_behind_restart : Value argop4
+exchange_behind_restart = arm 42 argop4 (2, (codes "c1", (0, (inl tt, []))))
+
+abbrev pub restarting : List (ℕ × MdsTurn)
+restarting =
+    (2, Runs c1 5 (exchange_behind_restart ∷ []))
+    ∷ (2, Runs c1 6 (create id2 ∷ []))
+    ∷ (2, Runs c1 7 (sequence session1 3 ∷ []))
+    ∷ (2, Runs c1 8 (sequence session2 1 ∷ put_fh 1 ∷ layout_get open1 ∷ []))
+    ∷ (2, Gets 1 3 (Set None))
+    ∷ (2, Gets 2 4 (Set None))
+    ∷ []
+
+abbrev pub restarting_shown : List MdsShown
+restarting_shown =
+    shows [] (replied c1 5 0 (exchanged id2 ∷ []) ∷ [])
+    ∷ shows (entry.Ended file1 (uid 65536) cause.ClientGone ∷ []) (replied c1 6 0 (created session2 ∷ []) ∷ CallsServer 1 3 0 (SetAttr 2 65537 (tick 1)) ∷ CallsServer 2 4 0 (SetAttr 2 65537 (tick 1)) ∷ [])
+    ∷ shows [] (replied c1 7 10052 (arm 53 resop4 (inr 10052) ∷ []) ∷ [])
+    ∷ shows [] (replied c1 8 10025 (sequenced session2 1 ∷ put_fh_done ∷ arm 50 resop4 (inr (inr 10025)) ∷ []) ∷ [])
+    ∷ shows [] []
+    ∷ shows (entry.Fenced file1 (uid 65536) (uid 65537) (m1 ∷ m2 ∷ []) ∷ []) (CallsServer 1 5 0 (Commit 2) ∷ [])
+    ∷ []
+
+-- A LAYOUTRETURN of all that the client has ends its period, which is none that it vouches for. Again, it does nothing.
+abbrev layout_return_all : Value argop4
+layout_return_all = arm 51 argop4 (false, (4, (2, inr (inr (inl tt)))))
+
+abbrev pub returning_all : List (ℕ × MdsTurn)
+returning_all =
+    (2, Runs c1 5 (sequence session1 3 ∷ layout_return_all ∷ []))
+    ∷ (2, Runs c1 6 (sequence session1 4 ∷ layout_return_all ∷ []))
+    ∷ (2, Gets 1 3 (Set None))
+    ∷ (2, Gets 2 4 (Set None))
+    ∷ []
+
+abbrev pub returning_all_shown : List MdsShown
+returning_all_shown =
+    shows (entry.Ended file1 (uid 65536) cause.ReturnedAll ∷ []) (replied c1 5 0 (sequenced session1 3 ∷ return_done ∷ []) ∷ CallsServer 1 3 0 (SetAttr 2 65537 (tick 1)) ∷ CallsServer 2 4 0 (SetAttr 2 65537 (tick 1)) ∷ [])
+    ∷ shows [] (replied c1 6 0 (sequenced session1 4 ∷ return_done ∷ []) ∷ [])
+    ∷ shows [] []
+    ∷ shows (entry.Fenced file1 (uid 65536) (uid 65537) (m1 ∷ m2 ∷ []) ∷ []) (CallsServer 1 5 0 (Commit 2) ∷ [])
+    ∷ []
+
+-- A READ waits while the lease of its client ends. It is answered still, and the operation behind it has no session.
+abbrev pub reading_past_the_lease : List (ℕ × MdsTurn)
+reading_past_the_lease =
+    (1, Runs c1 4 (unkept_sequence session1 2 ∷ put_fh 1 ∷ read open1 0 2 ∷ get_fh ∷ get_fh ∷ []))
+    ∷ (92, Ticks)
+    ∷ (92, Gets 1 3 (Bytes (Some (showing 65536 1 2)) true (65 ∷ 66 ∷ [])))
+    ∷ []
+
+abbrev pub reading_past_the_lease_shown : List MdsShown
+reading_past_the_lease_shown =
+    shows [] (CallsServer 1 3 0 (Read 2 0 2) ∷ [])
+    ∷ shows [] []
+    ∷ shows (entry.ReadAnswer file1 0 (65 ∷ 66 ∷ []) ∷ []) (replied c1 4 10052 (sequenced session1 2 ∷ put_fh_done ∷ read_done (65 ∷ 66 ∷ []) ∷ arm 10 resop4 (inr 10052) ∷ []) ∷ [])
+    ∷ []
+
+-- ---- operations that stand where they may not, and those that there are not
+
+-- SEQUENCE elsewhere than first; EXCHANGE_ID that is not alone; PUTROOTFH without a SEQUENCE; READDIR 26, which is not built, behind
+-- others and first; and a number that no operation has.
+abbrev pub misplacing : List (ℕ × MdsTurn)
+misplacing =
+    (1, Runs c1 4 (sequence session1 2 ∷ put_root ∷ sequence session1 3 ∷ get_fh ∷ []))
+    ∷ (1, Runs c1 5 (exchange (codes "c1") ∷ put_root ∷ []))
+    ∷ (1, Runs c1 6 (put_root ∷ get_fh ∷ []))
+    ∷ (1, RunsUpTo c1 7 (sequence session1 3 ∷ put_root ∷ []) 26)
+    ∷ (1, RunsUpTo c1 8 [] 26)
+    ∷ (1, RunsUpTo c1 9 (sequence session1 4 ∷ []) 59)
+    ∷ []
+
+abbrev pub misplacing_shown : List MdsShown
+misplacing_shown =
+    shows [] (replied c1 4 10064 (sequenced session1 2 ∷ put_root_done ∷ arm 53 resop4 (inr 10064) ∷ []) ∷ [])
+    ∷ shows [] (replied c1 5 10081 (arm 42 resop4 (inr 10081) ∷ []) ∷ [])
+    ∷ shows [] (replied c1 6 10071 (arm 24 resop4 (inr 10071) ∷ []) ∷ [])
+    ∷ shows [] (replied c1 7 10004 (sequenced session1 3 ∷ put_root_done ∷ behind_arms resop4 (26, 10004) ∷ []) ∷ [])
+    ∷ shows [] (replied c1 8 10004 (behind_arms resop4 (26, 10004) ∷ []) ∷ [])
+    ∷ shows [] (replied c1 9 10044 (sequenced session1 4 ∷ behind_arms resop4 (10044, 10044) ∷ []) ∷ [])
     ∷ []

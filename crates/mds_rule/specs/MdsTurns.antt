@@ -1,5 +1,5 @@
 -- Turns of a conversation with a metadata server, by the values of what comes, and what each shows.
-use Rattle.std.specs.Prelude.{ℕ, true, List, [], ◌∷◌, length, replicate, Option, Some, None, codes}
+use Rattle.std.specs.Prelude.{ℕ, ◌+◌, true, List, [], ◌∷◌, length, replicate, Option, Some, None, codes}
 use Rattle.std.proofs.Common.{inl}
 use Rattle.ff_xdr.specs.Form.{Value, spelling, long}
 use Rattle.ff_xdr.specs.Arms.{arm}
@@ -20,6 +20,8 @@ use Rattle.mds_rule.specs.Events.{takes_compound, takes_timeout, takes_tick, tak
 pub data MdsTurn : Type 0 where
   -- a compound of these operations
   Runs : (node : NodeId) (xid : ℕ) (ops : List (Value argop4)) → MdsTurn
+  -- a compound of these operations, and behind them one with this number, which is not built
+  RunsUpTo : (node : NodeId) (xid : ℕ) (ops : List (Value argop4)) (number : ℕ) → MdsTurn
   -- a data server's answer to the call of this number
   Gets : (server xid : ℕ) (reply : DsReplyValue) → MdsTurn
   -- the status that a callback is answered with
@@ -36,8 +38,12 @@ pub record MdsShown : Type 0 where
 abbrev pub compound_of : List (Value argop4) → CompoundValue
 compound_of ops = record { tag = []; minorversion = 1; count = length ops; ops = record { values = ops; stop = stop.End None } }
 
+abbrev pub compound_up_to : List (Value argop4) → ℕ → CompoundValue
+compound_up_to ops number = record { tag = []; minorversion = 1; count = length ops + 1; ops = record { values = ops; stop = stop.Unread number } }
+
 abbrev pub after_turn : ℕ → MdsValue → MdsTurn → MdsStep
 after_turn now m (Runs node xid ops) = takes_compound now m node xid (compound_of ops)
+after_turn now m (RunsUpTo node xid ops number) = takes_compound now m node xid (compound_up_to ops number)
 after_turn now m (Gets server xid reply) = and_then (takes_answer now m (Server server) xid (λ call. reply) 0) (calls_out [])
 after_turn now m (IsTold node xid status) = and_then (takes_answer now m node xid (λ call. Set None) status) (calls_out [])
 after_turn now m (TimesOut node) = takes_timeout now m node

@@ -3,4 +3,4 @@
 
 mod worked;
 
-pub use worked::{worked_conversations, worked_records};
+pub use worked::{more_conversations, worked_conversations, worked_records};

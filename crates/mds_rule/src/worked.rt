@@ -3,7 +3,7 @@
 ghost use Rattle.std.specs.Prelude.{◌≡◌};
 ghost use Rattle.mds_rule.specs.MdsTurns.{shown_in};
 ghost use Rattle.mds_rule.specs.WorkedRecords.{heard, back_to, null_call, null_reply, third_procedure, no_procedure, empty_compound, empty_result, lost_session, bad_session, write_sent, write_record};
-ghost use Rattle.mds_rule.specs.Conversations.{fresh_mds, opened_mds, opening, opening_shown, period, period_shown, reading, reading_shown, writing, writing_shown, held_mds, reporting, reporting_shown, lease_ending, lease_ending_shown, recalling, recalling_shown, other_holds_mds, denying, denying_shown, three_servers, placing, placing_shown};
+ghost use Rattle.mds_rule.specs.Conversations.{fresh_mds, opened_mds, opening, opening_shown, period, period_shown, reading, reading_shown, writing, writing_shown, held_mds, reporting, reporting_shown, lease_ending, lease_ending_shown, recalling, recalling_shown, other_holds_mds, denying, denying_shown, three_servers, placing, placing_shown, taking_turns, taking_turns_shown, writing_while_held, writing_while_held_shown, restarting, restarting_shown, returning_all, returning_all_shown, reading_past_the_lease, reading_past_the_lease_shown, misplacing, misplacing_shown};
 
 /// Conversations with a metadata server that are worked out by hand: a client that opens a file; a period of writing, from
 /// its grant to the end of its fence; a READ that one mirror fails; a WRITE through the metadata server; a return with a
@@ -29,4 +29,16 @@ pub fn worked_records()
     ensures empty { heard empty_compound ≡ back_to empty_result }
     ensures session { heard lost_session ≡ back_to bad_session }
     ensures write { write_sent ≡ write_record }
+{}
+
+/// More of them: two clients, one after the other; a WRITE while a client holds the file; a client that restarts, one that
+/// gives all back, and one whose lease ends while it waits for a READ; operations that stand where they may not, and those
+/// that there are not.
+pub fn more_conversations()
+    ensures taking_turns { shown_in held_mds taking_turns ≡ taking_turns_shown }
+    ensures writing_while_held { shown_in held_mds writing_while_held ≡ writing_while_held_shown }
+    ensures restarting { shown_in held_mds restarting ≡ restarting_shown }
+    ensures returning_all { shown_in held_mds returning_all ≡ returning_all_shown }
+    ensures reading_past_the_lease { shown_in opened_mds reading_past_the_lease ≡ reading_past_the_lease_shown }
+    ensures misplacing { shown_in opened_mds misplacing ≡ misplacing_shown }
 {}
