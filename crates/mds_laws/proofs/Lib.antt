@@ -1,0 +1,9 @@
+mod Lists
+mod Keeping
+mod ServedWalk
+mod OpsWalk
+mod WriterKept
+mod CompoundWalk
+mod GoesWalk
+mod Numbers
+mod FileUids
