@@ -3,6 +3,7 @@ use Rattle.std.proofs.Common.{◌≡◌, ◌≤◌, ℕ, ◌+◌, Bool, true, fa
 use Rattle.std.specs.Prelude.{◌==◌, ◌&&◌, not, nat_lt, slice_get, slice_set, map, is_some, if◌then◌else◌}
 use Rattle.std.specs.List.{list_all}
 use Rattle.std.proofs.lemmas.Bool.{cond_both}
+use Rattle.cluster_model.specs.declared.limits.TheConstants.{MAX_TIMEOUTS}
 use Rattle.cluster_model.specs.declared.ids.NodeId.{NodeId}
 use Rattle.cluster_model.specs.declared.ids.NodeId.TheVariants.{Mds, Server, Client}
 use Rattle.cluster_model.specs.declared.ids.FileId.{FileId}
@@ -16,6 +17,7 @@ use Rattle.cluster_model.specs.declared.ds_call.Shown.{Shown}
 use Rattle.cluster_model.specs.declared.call_stage.CallStage.{CallStage}
 use Rattle.cluster_model.specs.declared.call_stage.CallStage.TheVariants.{Waits, Out, KeptOut, KeptBack, Done, GivenUp}
 use Rattle.cluster_model.specs.declared.entry.Entry.{Entry}
+use Rattle.cluster_model.specs.declared.entry.Entry.TheVariants as entry
 use Rattle.cluster_model.specs.declared.fence_mirror.FenceMirror.{FenceMirror}
 use Rattle.cluster_model.specs.declared.fence_mirror.FenceStep.{FenceStep}
 use Rattle.cluster_model.specs.declared.fence_mirror.FenceStep.TheVariants.{Stranger, Acked, Again, Failed as HasFailed}
@@ -141,7 +143,7 @@ module _ (c : CopyState) where
   late_same : (s : CallStage) → Same (read_late c s)
   late_same Waits = refl
   late_same (Out xid timeouts) =
-      cond_both (nat_lt (timeouts + 1) Rattle.cluster_model.specs.declared.limits.TheConstants.MAX_TIMEOUTS) (record { copy = with_read c (Out xid (timeouts + 1)); step = copy_step.Waiting }) (source_fails c (KeptOut xid) Timeouts) Same (λ is. refl) (λ off. refl)
+      cond_both (nat_lt (timeouts + 1) MAX_TIMEOUTS) (record { copy = with_read c (Out xid (timeouts + 1)); step = copy_step.Waiting }) (source_fails c (KeptOut xid) Timeouts) Same (λ is. refl) (λ off. refl)
   late_same (KeptOut xid) = refl
   late_same KeptBack = refl
   late_same Done = refl
@@ -298,7 +300,7 @@ module _ (file : FileId) (fresh : Fresh) (drawn : 65536 ≤ fresh.uid) where
   settling_late_fits : (layout : LayoutState) (s : CallStage) → LayoutFits layout → StepFits (settling_timed_out file layout s)
   settling_late_fits layout Waits i = record { layout_fits = i; calls = tt }
   settling_late_fits layout (Out xid timeouts) i =
-      cond_both (nat_lt (timeouts + 1) Rattle.cluster_model.specs.declared.limits.TheConstants.MAX_TIMEOUTS) (stays layout (Settles (Out xid (timeouts + 1)))) (source_left file layout layout.live Timeouts (Settles (KeptOut xid))) StepFits
+      cond_both (nat_lt (timeouts + 1) MAX_TIMEOUTS) (stays layout (Settles (Out xid (timeouts + 1)))) (source_left file layout layout.live Timeouts (Settles (KeptOut xid))) StepFits
       (λ is. record { layout_fits = i; calls = tt }) (λ off. leaves_fits layout layout.live Timeouts (Settles (KeptOut xid)) tt i)
   settling_late_fits layout (KeptOut xid) i = record { layout_fits = i; calls = tt }
   settling_late_fits layout KeptBack i = record { layout_fits = i; calls = tt }
@@ -363,13 +365,15 @@ module _ (file : FileId) (fresh : Fresh) (drawn : 65536 ≤ fresh.uid) where
 
   pub phase_fits : (f : MdsFile) (input : FileInput) → FileFits f → FileFits (phase file f input fresh).file
   phase_fits f (AsksLayout client) i = asked_fits f (Client client) [] f.layout.phase i
-  phase_fits f (OwnWrite at bytes) i = asked_fits f Mds _ f.layout.phase i
+  phase_fits f (OwnWrite at bytes) i = asked_fits f Mds (entry.Sent file f.layout.cred at bytes ∷ []) f.layout.phase i
   phase_fits f Recall i =
       held_fits f (by_client f (recalled_row f)) f.layout.phase (client_fits f (recalled_row f) (λ n. record { layout_fits = record { cred = i.layout_fits.cred; phase = tt }; calls = i.calls }) i) i
   phase_fits f (Returns client claimed places) i =
       held_fits f (by_client f (returned_row file f client claimed places fresh)) f.layout.phase (client_fits f (returned_row file f client claimed places fresh) (λ n. returned_fits f client claimed places n i) i) i
   phase_fits f (Revokes cause) i = held_fits f (by_client f (λ client. revoked_row file f cause fresh)) f.layout.phase (client_fits f (λ client. revoked_row file f cause fresh) (λ n. revoked_fits f cause i) i) i
-  phase_fits f (OwnEnds causes at bytes) i = held_fits f (by_mds f (own_row file f causes _ fresh)) f.layout.phase (mds_fits f (own_row file f causes _ fresh) (own_fits f causes _ i) i) i
+  phase_fits f (OwnEnds causes at bytes) i =
+      let told : Entry = entry.Told file f.layout.cred at bytes in
+      held_fits f (by_mds f (own_row file f causes told fresh)) f.layout.phase (mds_fits f (own_row file f causes told fresh) (own_fits f causes told i) i) i
   phase_fits f Resilver i = resilver_fits f f.layout.phase i
   phase_fits f (Answers xid reply) i = answered_fits f xid reply f.activity i.calls i
   phase_fits f (TimesOut xid) i = late_fits f xid f.activity i.calls i

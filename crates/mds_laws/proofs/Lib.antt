@@ -7,3 +7,6 @@ mod CompoundWalk
 mod GoesWalk
 mod Numbers
 mod FileUids
+mod Uids
+mod FileGrants
+mod Grants

@@ -1,6 +1,6 @@
 -- What stands in a list, and what holds of each of its elements behind those before it.
-use Rattle.std.proofs.Common.{◌≡◌, ℕ, Bool, true, false, cond, List, [], ◌∷◌, ◌++◌, Option, Some, None, refl, sym, ap, subst, ◌∙◌, inl, inr, ◌⊎◌}
-use Rattle.std.specs.Prelude.{filter}
+use Rattle.std.proofs.Common.{◌≡◌, ℕ, zero, suc, Bool, true, false, cond, List, [], ◌∷◌, ◌++◌, Option, Some, None, refl, sym, ap, subst, ◌∙◌, inl, inr, ◌⊎◌}
+use Rattle.std.specs.Prelude.{filter, slice_get, slice_set}
 use Rattle.std.specs.List.{find}
 use Rattle.std.proofs.lemmas.Bool.{cond_both}
 use Rattle.std.proofs.lemmas.List.{append_assoc, append-nil}
@@ -76,3 +76,32 @@ each_join {A = A} P past (x ∷ xs) ys each more = (each.0, each_join P (past ++
 pub each_at : {A : Type 0} (P : List A → A → Type 0) (past before after : List A) (x : A) → EachOf P past (before ++ x ∷ after) → P (past ++ before) x
 each_at {A = A} P past [] after x each = subst (λ (l : List A). P l x) (sym (append-nil past)) each.0
 each_at {A = A} P past (y ∷ before) after x each = subst (λ (l : List A). P l x) (append_assoc past (y ∷ []) before) (each_at P (past ++ y ∷ []) before after x each.1)
+
+-- ---- each element is so
+
+abbrev pub AllOf : {A : Type 0} → (A → Type 0) → List A → Type 0
+AllOf P [] = Unit {0}
+AllOf P (x ∷ xs) = P x × AllOf P xs
+
+pub all_push : {A : Type 0} (P : A → Type 0) (xs : List A) (x : A) → AllOf P xs → P x → AllOf P (xs ++ x ∷ [])
+all_push P [] x all is = (is, tt)
+all_push P (y ∷ ys) x all is = (all.0, all_push P ys x all.1 is)
+
+pub all_in : {A : Type 0} (P : A → Type 0) (xs : List A) (x : A) → AllOf P xs → In x xs → P x
+all_in P [] x all inside = absurd inside
+all_in P (y ∷ ys) x all (inl is) = subst P (sym is) all.0
+all_in P (y ∷ ys) x all (inr inside) = all_in P ys x all.1 inside
+
+pub all_set : {A : Type 0} (P : A → Type 0) (xs : List A) (place : ℕ) (x : A) → AllOf P xs → P x → AllOf P (slice_set xs place x)
+all_set P [] place x all is = tt
+all_set P (y ∷ ys) zero x all is = (is, all.1)
+all_set P (y ∷ ys) (suc place) x all is = (all.0, all_set P ys place x all.1 is)
+
+pub all_got : {A : Type 0} (P : A → Type 0) (xs : List A) (place : ℕ) (x : A) → AllOf P xs → slice_get xs place ≡ Some x → P x
+all_got P [] place x all is = absurd cc
+all_got P (y ∷ ys) zero x all is = subst P (same_Some y x is) all.0
+all_got P (y ∷ ys) (suc place) x all is = all_got P ys place x all.1 is
+
+pub all_split : {A : Type 0} (P : A → Type 0) (before after : List A) (x : A) → AllOf P (before ++ x ∷ after) → P x
+all_split P [] after x all = all.0
+all_split P (y ∷ before) after x all = all_split P before after x all.1
