@@ -1,11 +1,11 @@
 -- Compounds, and what comes of answers and timeouts, keep what is kept in each case.
-use Rattle.std.proofs.Common.{◌≡◌, ℕ, ◌+◌, Bool, true, false, cond, List, [], ◌∷◌, ◌++◌, length, Option, Some, None, refl, sym, ap, subst, ◌∙◌, inl, inr, ◌⊎◌}
-use Rattle.std.specs.Prelude.{not, ◌==◌, is_some, slice_get, slice_set, remove, drop, position, map, if◌then◌else◌}
+use Rattle.std.proofs.Common.{◌≡◌, ℕ, ◌+◌, Bool, true, false, List, [], ◌∷◌, ◌++◌, length, Option, Some, None, refl, sym, subst, inr}
+use Rattle.std.specs.Prelude.{not, ◌==◌, is_some, slice_get, remove, drop, position, map}
 use Rattle.std.specs.List.{find, list_all}
 use Rattle.std.proofs.lemmas.Bool.{cond_both}
 use Rattle.std.proofs.lemmas.List.{append_assoc, append-nil}
 use Rattle.ff_xdr.specs.Form.{Value, arm_of}
-use Rattle.ff_xdr.specs.Arms.{arm, by_arm, of_each_arm}
+use Rattle.ff_xdr.specs.Arms.{of_each_arm}
 use Rattle.compound_reply.specs.Replied.{success_reply}
 use Rattle.cluster_model.specs.declared.ids.NodeId.{NodeId}
 use Rattle.cluster_model.specs.declared.ids.FileId.{FileId}
@@ -13,8 +13,7 @@ use Rattle.cluster_model.specs.declared.phase.EndCause.TheVariants.{Recalled, No
 use Rattle.cluster_model.specs.declared.ds_call.Shown.{Shown}
 use Rattle.cluster_model.specs.declared.entry.Entry.{Entry}
 use Rattle.cluster_model.specs.declared.entry.Entry.TheVariants as entry
-use Rattle.cluster_model.specs.DsCalls.{DsCallValue, DsReplyValue, Created, Set, Written, Committed, Bytes, NotSync, Failed}
-use Rattle.file_rule.specs.MdsFiles.{MdsFile}
+use Rattle.cluster_model.specs.DsCalls.{DsCallValue, DsReplyValue}
 use Rattle.file_rule.specs.FilePhases.{Answers, TimesOut, OwnEnds, Revokes, Sees}
 use Rattle.mds_io.specs.declared.read_end.Failure.{Failure}
 use Rattle.mds_io.specs.declared.read_end.ReadEnd.{ReadEnd}
@@ -31,7 +30,6 @@ use Rattle.nfs4_types.specs.Sequences.{sequence4_args}
 use Rattle.nfs4_compound.specs.declared.stop.Stop.{Stop}
 use Rattle.nfs4_compound.specs.declared.stop.Stop.TheVariants as stop
 use Rattle.nfs4_compound.specs.Args.{argop4}
-use Rattle.nfs4_compound.specs.Results.{resop4}
 use Rattle.nfs4_compound.specs.Compounds.{CompoundValue}
 use Rattle.nfs4_session.specs.Slots.{SlotAnswer, TakesEffect, Repeats, Refuses}
 use Rattle.nfs4_session.specs.Requests.{request_answer, after_request}
@@ -41,12 +39,12 @@ use Rattle.recall.specs.declared.recall.Outcome.TheVariants as outcome
 use Rattle.recall.specs.Recalls.{RecallsAfter}
 use Rattle.recall.specs.Recalls as recalls
 use Rattle.mds_rule.specs.MdsStates as mds
-use Rattle.mds_rule.specs.MdsStates.{CompoundRun, WaitingRead, WaitingWrite, ServedFile, MdsSend, CallsServer, CallsBack, Replies, Caller, ForFile, ForRead, ForWrite, ForRecall, OutCall, MdsValue, MdsStep, sends_none, enters, and_then, served, with_served}
+use Rattle.mds_rule.specs.MdsStates.{CompoundRun, WaitingRead, WaitingWrite, ServedFile, MdsSend, CallsServer, CallsBack, Replies, Caller, ForFile, ForRead, ForWrite, ForRecall, OutCall, MdsValue, MdsStep, sends_none, and_then, served, with_served}
 use Rattle.mds_rule.specs.OpSteps.{OpStep, Goes, Ends, Waits, with_result, refuses, refused_as, unread, stopped, is_operation_number}
 use Rattle.mds_rule.specs.ServedFiles.{takes_input}
-use Rattle.mds_rule.specs.Compounds.{operate, has_session, operates, compound_bytes, kept_in_slot, finishes, op_then, with_ops, runs, sequence_in, in_slot, sequenced, begins_sequence, sequence_of, may_stand_alone, first_alone, first_by, first_of, new_run, runs_compound}
-use Rattle.mds_rule.specs.Answers.{is_awaited, is_call_to, without_call, sized, fileid_of, shown_by, sees_in, sees_size, resumes, is_done_as, has_failed_as, failed_entry, failed_entries, read_result, without_read, read_ends, read_after, read_at, read_from, read_of, steps_read, is_read_out, write_answer, write_over, write_ends, write_after, write_of, write_in, steps_write, with_failed, causes_of, sees_ctime, recall_end, recall_outcome, recalls_after, server_answered, answered_as, answers_found, takes_answer, timed_out_for}
-use Rattle.mds_laws.proofs.Keeping.{Becomes, Enters, Keeps, KeepsOp, Silent, Cases, IsCredOf, IsWriteOf, then_keeps, none_keeps, same, becomes_keeps, enters_keeps, no_entries, stays, becomes_silent, silent_same, silent_keeps}
+use Rattle.mds_rule.specs.Compounds.{operate, has_session, operates, compound_bytes, kept_in_slot, finishes, op_then, with_ops, runs, sequence_in, in_slot, sequenced, sequence_of, may_stand_alone, first_alone, first_by, first_of, new_run, runs_compound}
+use Rattle.mds_rule.specs.Answers.{is_awaited, is_call_to, without_call, sized, fileid_of, shown_by, sees_in, sees_size, resumes, is_done_as, has_failed_as, failed_entry, failed_entries, read_result, without_read, read_ends, read_at, read_from, read_of, steps_read, is_read_out, write_answer, write_ends, write_of, write_in, steps_write, with_failed, causes_of, sees_ctime, recall_end, recall_outcome, recalls_after, server_answered, answered_as, answers_found, takes_answer, timed_out_for}
+use Rattle.mds_laws.proofs.Keeping.{Becomes, Enters, Keeps, KeepsOp, Cases, IsCredOf, IsWriteOf, then_keeps, none_keeps, same, becomes_keeps, enters_keeps, no_entries, stays, becomes_silent, silent_keeps}
 use Rattle.mds_laws.proofs.ServedWalk.{takes, sessions_become, recalls_become, exchanges, creates, binds, destroys_session, destroys_client, reclaims_all}
 use Rattle.mds_laws.proofs.OpsWalk.{old_write, puts_fh, gets_fh, looks_up, gets_attr, opens, closes_file, commits, reads, writes, layout_gets, layout_returns, layout_commits, device_infos}
 use Rattle.mds_laws.proofs.WriterKept.{answer_cred, timeout_cred}

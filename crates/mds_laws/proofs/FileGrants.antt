@@ -1,6 +1,6 @@
 -- What the entries of one input of the table of phases tell of the file: it is granted where it stands free.
-use Rattle.std.proofs.Common.{◌≡◌, ℕ, ◌+◌, Bool, true, false, cond, List, [], ◌∷◌, ◌++◌, length, Option, Some, None, refl, sym, ap, subst, ◌∙◌, inl, inr, ◌⊎◌}
-use Rattle.std.specs.Prelude.{◌==◌, ◌&&◌, not, nat_lt, slice_get, slice_set, map, is_some, if◌then◌else◌}
+use Rattle.std.proofs.Common.{◌≡◌, ℕ, ◌+◌, Bool, true, false, cond, List, [], ◌∷◌, ◌++◌, length, Option, Some, None, refl, sym, ap, subst}
+use Rattle.std.specs.Prelude.{◌==◌, ◌&&◌, nat_lt, slice_get, map, is_some, if◌then◌else◌}
 use Rattle.std.specs.List.{list_all}
 use Rattle.std.proofs.lemmas.Bool.{cond_both}
 use Rattle.cluster_model.specs.declared.limits.TheConstants.{MAX_TIMEOUTS}
@@ -11,7 +11,7 @@ use Rattle.cluster_model.specs.declared.ids.Cred.{Cred}
 use Rattle.cluster_model.specs.declared.ids.Mirror.{Mirror}
 use Rattle.cluster_model.specs.declared.ids.MirrorId.{MirrorId}
 use Rattle.cluster_model.specs.declared.phase.EndCause.{EndCause}
-use Rattle.cluster_model.specs.declared.phase.EndCause.TheVariants.{Returned, Own, AllReported}
+use Rattle.cluster_model.specs.declared.phase.EndCause.TheVariants.{Returned, Own}
 use Rattle.cluster_model.specs.declared.phase.LeftCause.{LeftCause}
 use Rattle.cluster_model.specs.declared.phase.LeftCause.TheVariants.{Error, Timeouts}
 use Rattle.cluster_model.specs.declared.ds_call.Shown.{Shown}
@@ -25,13 +25,12 @@ use Rattle.cluster_model.specs.declared.fence_mirror.FenceStep.TheVariants.{Stra
 use Rattle.cluster_model.specs.declared.layout_state.LayoutState.{LayoutState}
 use Rattle.cluster_model.specs.declared.layout_state.LayoutPhase.{LayoutPhase}
 use Rattle.cluster_model.specs.declared.layout_state.LayoutPhase.TheVariants.{Making, Free, Held, Fencing, Settling, Copying}
-use Rattle.cluster_model.specs.declared.layout_state.FenceEnd.{FenceEnd}
 use Rattle.cluster_model.specs.declared.layout_state.FenceEnd.TheVariants.{Clean, Dirty, Copied}
 use Rattle.cluster_model.specs.declared.layout_state.CopyKind.{CopyKind}
 use Rattle.cluster_model.specs.declared.targets.SwappedIn.{SwappedIn}
 use Rattle.cluster_model.specs.DsCalls.{DsReplyValue, Created, Set, Written, Committed, Bytes, NotSync, Failed}
 use Rattle.cluster_model.specs.Fences.{waits, is_out, is_over, odd_status, FenceState, FenceCall, next_call, outstanding_at, on_reply, on_timeout, without, is_done}
-use Rattle.cluster_model.specs.Phases.{is_last_live, with_phase, is_clean, unreported, is_source, ids_of, left_entries, reported_cause, end_entries, PhaseStep, freed, made, granted, left_with, returned, revoked, phase_without, mirror_left, fenced_to, fence_entries, free_entries, fence_done, has_targets, settled_row, swapped_entries, resilvered}
+use Rattle.cluster_model.specs.Phases.{is_last_live, with_phase, is_clean, unreported, is_source, left_entries, reported_cause, end_entries, PhaseStep, freed, made, granted, left_with, returned, revoked, phase_without, mirror_left, fenced_to, fence_entries, fence_done, has_targets, swapped_entries, resilvered}
 use Rattle.copy_rule.specs.declared.copy_target.CopyStep.{CopyStep}
 use Rattle.copy_rule.specs.declared.copy_target.CopyStep.TheVariants as copy_step
 use Rattle.copy_rule.specs.Copies.{CopyState, CopyCall, has_outcome, swaps_of}

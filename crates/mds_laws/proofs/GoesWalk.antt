@@ -1,13 +1,10 @@
 -- The calls that go out, and so each event and each run, keep what is kept in each case.
-use Rattle.std.proofs.Common.{◌≡◌, ℕ, zero, suc, ◌+◌, Bool, true, false, cond, List, [], ◌∷◌, ◌++◌, length, Option, Some, None, refl, sym, ap, subst, ◌∙◌, inl, inr, ◌⊎◌}
-use Rattle.std.specs.Prelude.{not, ◌==◌, ◌&&◌, slice_get, slice_set, map, filter, if◌then◌else◌}
+use Rattle.std.proofs.Common.{◌≡◌, ℕ, zero, suc, ◌+◌, Bool, true, List, [], ◌∷◌, ◌++◌, length, Option, Some, None, refl, sym, subst, inl, inr}
+use Rattle.std.specs.Prelude.{not, ◌==◌, ◌&&◌, slice_get, slice_set, map, filter}
 use Rattle.std.specs.Option.{option_map}
 use Rattle.std.specs.List.{find, range_with_len}
 use Rattle.std.proofs.lemmas.Bool.{cond_both, and_parts}
 use Rattle.std.proofs.lemmas.List.{append_assoc, append-nil}
-use Rattle.std.proofs.lemmas.Option.{same_Some, none-some}
-use Rattle.rpc_record.specs.Replies.{RpcReply}
-use Rattle.device_addr.specs.Universal.{AddressValue}
 use Rattle.cluster_model.specs.declared.ids.NodeId.{NodeId}
 use Rattle.cluster_model.specs.declared.ids.NodeId.TheVariants.{Mds}
 use Rattle.cluster_model.specs.declared.ids.FileId.{FileId}
@@ -22,7 +19,6 @@ use Rattle.mds_io.specs.Reads.{ReadSends}
 use Rattle.mds_io.specs.Reads as read
 use Rattle.mirror_writer.specs.Writers.{WriterSends}
 use Rattle.mirror_writer.specs.Writers as writer
-use Rattle.nfs4_compound.specs.Compounds.{CompoundValue}
 use Rattle.nfs4_session.specs.Clients.{ClientState, SessionState, has_id, change_first, with_clients}
 use Rattle.nfs4_session.specs.Bindings.{last_session, back_call, client_called_back}
 use Rattle.nfs4_session.specs.Ends.{has_ended, without_client}
@@ -30,14 +26,14 @@ use Rattle.nfs4_types.specs.Stateids.{layout_stateid_of}
 use Rattle.recall.specs.declared.recall.RecallCall.{RecallCall}
 use Rattle.recall.specs.Recalls.{RecallSends, next_sent, after_tick}
 use Rattle.mds_receive.specs.MdsReceive.{IncomingValue, PassedOver, IsReply, IsAnswered, IsCompound, incoming_of}
-use Rattle.mds_rule.specs.MdsStates.{WaitingRead, WaitingWrite, ServedFile, MdsSend, CallsServer, CallsBack, Replies, Answers, OutCall, Caller, ForFile, ForRead, ForWrite, ForRecall, MdsValue, MdsStep, sends_none, enters, and_then, served, with_served, numbered}
+use Rattle.mds_rule.specs.MdsStates.{WaitingRead, WaitingWrite, ServedFile, MdsSend, Answers, OutCall, ForRead, MdsValue, MdsStep, sends_none, and_then, served, numbered}
 use Rattle.mds_rule.specs.ServedFiles.{takes_input, asks_back, ends_client}
 use Rattle.mds_rule.specs.Compounds.{runs_compound}
 use Rattle.mds_rule.specs.Answers.{is_awaited, takes_answer, timed_out_for}
 use Rattle.mds_rule.specs.Goes.{calls_server, OwnCall, own_of_file, own_of_write, own_by, place_of, own_call_at, own_next, has_xids, own_calls, read_goes, read_call, read_call_in, each, read_count, read_calls, stateid_seqid, calls_back, recall_goes, recall_call, is_again, repeats, place_calls, file_calls, calls_out}
-use Rattle.mds_rule.specs.Events.{takes_compound, takes_reply, answers_with, takes_incoming, takes_record, is_outstanding_to, is_kept_by, goes_again, times_out, takes_timeout, lease_ends, leases_end, recall_expires, recalls_expire, kept_numbers, files_tick, takes_tick, takes_recall, takes_resilver}
-use Rattle.mds_laws.specs.MdsRuns.{MdsInput, MdsEvent, Hears, IsTimedOut, Ticks as IsTick, RecallsFile, Resilvers, by_input, after_event, run_from, mds_run}
-use Rattle.mds_laws.proofs.Keeping.{Becomes, Keeps, KeepsBehind, Silent, Cases, IsCredOf, IsWriteOf, then_keeps, none_keeps, same, becomes_keeps, enters_keeps, stays, silent_keeps, then_behind, behind_then, enters_behind}
+use Rattle.mds_rule.specs.Events.{takes_incoming, is_outstanding_to, is_kept_by, goes_again, times_out, takes_timeout, lease_ends, leases_end, recall_expires, recalls_expire, kept_numbers, files_tick, takes_tick}
+use Rattle.mds_laws.specs.MdsRuns.{MdsInput, MdsEvent, Hears, IsTimedOut, Ticks as IsTick, RecallsFile, Resilvers, by_input, after_event, run_from}
+use Rattle.mds_laws.proofs.Keeping.{Keeps, KeepsBehind, Cases, then_keeps, none_keeps, same, becomes_keeps, silent_keeps, then_behind, behind_then, enters_behind}
 use Rattle.mds_laws.proofs.Lists.{In, found_in}
 use Rattle.mds_laws.proofs.ServedWalk.{takes, asks, client_ends, sessions_become, recalls_become}
 use Rattle.mds_laws.proofs.OpsWalk.{old_write}

@@ -17,7 +17,7 @@ use Rattle.nfs4_session.specs.declared.back.BackCall.{BackCall}
 use Rattle.nfs4_session.specs.Clients.{SessionsState}
 use Rattle.recall.specs.declared.recall.Recall.{Recall}
 use Rattle.open_state.specs.Opens.{OpensValue}
-use Rattle.mds_rule.specs.MdsStates.{CompoundRun, WaitingWrite, ServedFile, MdsSend, CallsServer, CallsBack, Replies, Answers, Caller, ForFile, ForRead, ForWrite, ForRecall, OutCall, MdsValue, MdsStep, sends_none, enters, and_then, served, with_served}
+use Rattle.mds_rule.specs.MdsStates.{WaitingWrite, ServedFile, MdsSend, CallsBack, Replies, Answers, ForFile, ForRead, ForWrite, ForRecall, OutCall, MdsValue, MdsStep, sends_none, enters, and_then, served, with_served}
 use Rattle.mds_rule.specs.OpSteps.{OpStep, Goes, Ends, Waits}
 use Rattle.mds_rule.specs.ServedFiles.{has_fresh, stepped}
 use Rattle.mds_rule.specs.FileOps.{with_new_file}

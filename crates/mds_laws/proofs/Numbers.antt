@@ -1,27 +1,26 @@
 -- Each call has a number of its own, above those of all calls before it, or is one that went out before.
-use Rattle.std.proofs.Common.{◌≡◌, ◌<◌, ◌≤◌, ℕ, ◌+◌, Bool, true, false, cond, List, [], ◌∷◌, ◌++◌, Option, Some, None, refl, sym, ap, subst, ◌∙◌, inl, inr, ◌⊎◌, arith}
-use Rattle.std.specs.Prelude.{not, ◌==◌, if◌then◌else◌}
+use Rattle.std.proofs.Common.{◌≡◌, ℕ, ◌+◌, Bool, true, false, cond, List, [], ◌∷◌, ◌++◌, Option, Some, None, refl, sym, subst, ◌∙◌, inl, inr, ◌⊎◌, arith}
+use Rattle.std.specs.Prelude.{not, ◌==◌}
 use Rattle.std.specs.List.{list_any}
 use Rattle.std.proofs.lemmas.Bool.{cond_both}
 use Rattle.std.proofs.lemmas.Option.{same_Some, none-some}
-use Rattle.rpc_record.specs.Replies.{RpcReply}
 use Rattle.device_addr.specs.Universal.{AddressValue}
 use Rattle.cluster_model.specs.declared.ids.NodeId.{NodeId}
 use Rattle.cluster_model.specs.declared.ids.NodeId.TheVariants.{Server}
 use Rattle.cluster_model.specs.declared.ids.FileId.{FileId}
 use Rattle.cluster_model.specs.declared.entry.Entry.{Entry}
-use Rattle.file_rule.specs.FilePhases.{FileInput, phase}
+use Rattle.file_rule.specs.FilePhases.{phase}
 use Rattle.file_rule.specs.MdsFiles.{FileStep}
 use Rattle.mds_rows.specs.Draws.{drawn}
 use Rattle.recall.specs.Recalls.{without_file}
-use Rattle.mds_rule.specs.MdsStates.{ServedFile, MdsSend, CallsServer, CallsBack, Replies, Answers, Caller, ForFile, ForRead, ForWrite, ForRecall, OutCall, MdsValue, MdsStep, served, with_served, new_mds}
-use Rattle.mds_rule.specs.ServedFiles.{is_end, file_behind, recalls_behind, stepped}
+use Rattle.mds_rule.specs.MdsStates.{ServedFile, MdsSend, CallsServer, CallsBack, Replies, Answers, ForFile, ForRead, ForWrite, ForRecall, OutCall, MdsValue, with_served, new_mds}
+use Rattle.mds_rule.specs.ServedFiles.{is_end, file_behind, stepped}
 use Rattle.mds_rule.specs.Answers.{is_call_to, without_call}
-use Rattle.mds_rule.specs.Goes.{xid_after, has_xids}
-use Rattle.mds_laws.specs.MdsRuns.{MdsEvent, run_from, mds_run}
+use Rattle.mds_rule.specs.Goes.{xid_after}
+use Rattle.mds_laws.specs.MdsRuns.{MdsEvent}
 use Rattle.mds_laws.specs.MdsRunLaws.{number_sent, IsBelow, AreBelow, IsNewOrAgain, IsNew, IsAgain, NumbersCalls}
 use Rattle.mds_laws.proofs.Lists.{In, in_more, in_last, in_pushed, in_filtered, Split, split_in, EachOf, each_push, each_at}
-use Rattle.mds_laws.proofs.Keeping.{Keeps, Cases, none_keeps, no_entries}
+use Rattle.mds_laws.proofs.Keeping.{Cases}
 use Rattle.mds_laws.proofs.GoesWalk.{in_each_run}
 
 -- ---- the calls that were sent

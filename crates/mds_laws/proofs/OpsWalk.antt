@@ -1,19 +1,18 @@
 -- Each operation on files and layouts keeps what is kept in each case.
-use Rattle.std.proofs.Common.{◌≡◌, ℕ, ◌+◌, Bool, true, false, cond, List, [], ◌∷◌, ◌++◌, length, Option, Some, None, refl, sym, ap, subst, ◌∙◌, inl, inr, ◌⊎◌}
-use Rattle.std.specs.Prelude.{◌-◌, ◌==◌, is_some, get_or, slice_get, slice_set, if◌then◌else◌}
+use Rattle.std.proofs.Common.{◌≡◌, ℕ, ◌+◌, Bool, true, false, cond, List, [], ◌∷◌, length, Option, Some, None, refl, sym, subst, inl, inr}
+use Rattle.std.specs.Prelude.{◌-◌, ◌==◌, is_some, slice_get, slice_set}
 use Rattle.std.specs.List.{list_any}
 use Rattle.std.proofs.lemmas.Bool.{cond_both}
-use Rattle.ff_xdr.specs.Form.{Value, long}
+use Rattle.ff_xdr.specs.Form.{Value}
 use Rattle.ff_xdr.specs.Arms.{arm, by_arm, of_each_arm}
 use Rattle.cluster_model.specs.declared.ids.NodeId.{NodeId}
 use Rattle.cluster_model.specs.declared.ids.NodeId.TheVariants.{Mds, Server, Client}
 use Rattle.cluster_model.specs.declared.ids.FileId.{FileId}
-use Rattle.cluster_model.specs.declared.ids.Cred.{Cred}
 use Rattle.cluster_model.specs.declared.phase.EndCause.TheVariants.{ReturnedAll}
 use Rattle.cluster_model.specs.declared.phase.Phase.{Phase}
 use Rattle.cluster_model.specs.declared.entry.Entry.{Entry}
 use Rattle.cluster_model.specs.declared.entry.Entry.TheVariants as entry
-use Rattle.cluster_model.specs.Phases.{phase_of, holder_of}
+use Rattle.cluster_model.specs.Phases.{holder_of}
 use Rattle.device_addr.specs.Universal.{AddressValue}
 use Rattle.cluster_model.proofs.Elements.{slice_get-set_same}
 use Rattle.recall.specs.Recalls.{without_file}
@@ -22,7 +21,6 @@ use Rattle.file_rule.specs.MdsFiles.{MdsFile, FileStep}
 use Rattle.file_rule.specs.FilePhases.{OwnWrite, AsksLayout, Returns, phase}
 use Rattle.ff_layout.specs.IoError.{ff_ioerr4}
 use Rattle.layout_report.specs.Reports.{report_of}
-use Rattle.layout_state.specs.declared.grant.GrantFault.{GrantFault}
 use Rattle.nfs4_types.specs.declared.status.Stat4.{Stat4}
 use Rattle.nfs4_types.specs.declared.status.Stat4.TheVariants as stat
 use Rattle.nfs4_file_ops.specs.Close.{close4_args}
@@ -33,12 +31,10 @@ use Rattle.nfs4_file_ops.specs.GetDeviceInfo.{getdeviceinfo4_args}
 use Rattle.nfs4_file_ops.specs.LayoutCommit.{layoutcommit4_args}
 use Rattle.nfs4_file_ops.specs.LayoutGet.{layoutget4_args}
 use Rattle.nfs4_file_ops.specs.LayoutReturn.{layoutreturn4, layoutreturn_file4, layoutreturn4_args}
-use Rattle.nfs4_file_ops.specs.declared.layout_get.LayoutGetArgs.{LayoutGetArgs}
 use Rattle.open_state.specs.declared.open.Open.{Open}
 use Rattle.open_state.specs.Opens.{OpensValue, open_of}
 use Rattle.mds_operations.specs.declared.object.Object.{Object}
-use Rattle.mds_operations.specs.declared.object.Object.TheVariants.{Root, File}
-use Rattle.mds_operations.specs.declared.open.Creation.{Creation}
+use Rattle.mds_operations.specs.declared.object.Object.TheVariants.{File}
 use Rattle.mds_operations.specs.declared.layout_get.LayoutGetFound.{LayoutGetFound}
 use Rattle.mds_operations.specs.Orders.{refusal}
 use Rattle.nfs4_compound.specs.Results.{resop4}
@@ -50,13 +46,13 @@ use Rattle.mds_operations.specs.Writes.{write_order}
 use Rattle.mds_operations.specs.LayoutGets.{layout_get_order}
 use Rattle.mds_operations.specs.GetDeviceInfo.{device_info_order}
 use Rattle.mds_operations.specs.PutFh.{put_fh_order, object_of}
-use Rattle.mds_rule.specs.MdsStates.{CompoundRun, WaitingRead, WaitingWrite, ServedFile, MdsSend, MdsValue, MdsStep, sends_none, and_then, served, with_served, numbered, file_named}
-use Rattle.mds_rule.specs.OpSteps.{OpStep, Goes, Ends, Waits, with_result, at_object, gives, refuses, refused_or, by_order}
+use Rattle.mds_rule.specs.MdsStates.{CompoundRun, WaitingWrite, ServedFile, MdsSend, MdsValue, MdsStep, sends_none, served, with_served, numbered, file_named}
+use Rattle.mds_rule.specs.OpSteps.{OpStep, with_result, at_object, gives, refused_or}
 use Rattle.mds_rule.specs.ServedFiles.{has_fresh, is_end, file_behind, stepped, input_at, takes_input, asks_back, ends_periods}
 use Rattle.mds_rule.specs.SessionOps.{goes_with}
-use Rattle.mds_rule.specs.FileOps.{client_of, current_file, file_or_none, stateid_in, named_in, write_verifier, put_object, runs_put_fh, runs_put_root_fh, get_object, runs_get_fh, runs_lookup, get_attributes, runs_get_attr, with_new_file, opened, opens_file, opens_or_makes, open_named, runs_open, creation_in, name_in, closed, closes, runs_close, runs_commit, reads_at, reads_file, runs_read, piece_of, with_write, writes_at, begins_write, writes_file, ends_by, write_refused, runs_write, write_ask, is_delay}
-use Rattle.mds_rule.specs.LayoutOps.{no_stateid, layout_asked, layout_found, with_holder, grants_as, granted_in, grants_to, is_granted, try_later, phase_behind, later_by, layout_answer, layout_by, runs_layout_get, is_try_later, errors_of, client_number, return_by, returns_file, file_return, returns_all, runs_layout_return, runs_layout_commit, device_from, device_size, device_answer, device_by, runs_get_device_info}
-use Rattle.mds_laws.proofs.Keeping.{Becomes, Enters, Keeps, KeepsOp, Silent, Cases, IsCredOf, IsWriteOf, no_entries, stays, enters_then, enters_becomes, silent_same}
+use Rattle.mds_rule.specs.FileOps.{client_of, current_file, file_or_none, stateid_in, named_in, write_verifier, put_object, runs_put_fh, get_object, runs_get_fh, runs_lookup, get_attributes, runs_get_attr, with_new_file, opened, opens_or_makes, runs_open, name_in, closed, closes, runs_close, runs_commit, reads_at, runs_read, piece_of, with_write, writes_at, writes_file, ends_by, write_refused, runs_write, write_ask, is_delay}
+use Rattle.mds_rule.specs.LayoutOps.{no_stateid, layout_asked, layout_found, with_holder, granted_in, grants_to, is_granted, phase_behind, later_by, layout_answer, runs_layout_get, is_try_later, errors_of, client_number, return_by, returns_file, file_return, returns_all, runs_layout_return, runs_layout_commit, device_from, device_size, device_answer, runs_get_device_info}
+use Rattle.mds_laws.proofs.Keeping.{Becomes, KeepsOp, Cases, IsWriteOf, no_entries, stays, enters_then, enters_becomes}
 use Rattle.mds_laws.proofs.ServedWalk.{takes, asks, periods, refused}
 
 -- a write that goes on

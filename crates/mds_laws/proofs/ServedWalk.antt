@@ -1,5 +1,5 @@
 -- Each part of an event that is about inputs of the table of phases, clients and sessions keeps what is kept in each case.
-use Rattle.std.proofs.Common.{◌≡◌, ℕ, Bool, true, false, List, [], ◌∷◌, ◌++◌, Option, Some, None, refl, sym, ap, subst, ◌∙◌, inl, inr, ◌⊎◌}
+use Rattle.std.proofs.Common.{◌≡◌, ℕ, List, [], ◌∷◌, Option, Some, None, refl, inl}
 use Rattle.std.specs.Prelude.{is_some, nat_eq}
 use Rattle.std.specs.List.{find, list_any}
 use Rattle.std.proofs.lemmas.Bool.{cond_both}
@@ -29,11 +29,11 @@ use Rattle.nfs4_session.specs.CreateSessions.{CreateSessionCase, create_session_
 use Rattle.nfs4_session.specs.Bindings.{after_binding}
 use Rattle.nfs4_session.specs.Ends.{without_session, without_client, destroy_client_fault}
 use Rattle.recall.specs.Recalls.{is_under_way, new_recall, with_recall}
-use Rattle.mds_rule.specs.MdsStates.{CompoundRun, WaitingWrite, ServedFile, MdsSend, MdsValue, MdsStep, sends_none, and_then, served, with_served}
-use Rattle.mds_rule.specs.OpSteps.{OpStep, Goes, Ends, with_result, gives, refuses, refused_or}
+use Rattle.mds_rule.specs.MdsStates.{CompoundRun, ServedFile, MdsSend, MdsValue, MdsStep, sends_none, served}
+use Rattle.mds_rule.specs.OpSteps.{OpStep, Goes, with_result, refuses, refused_or}
 use Rattle.mds_rule.specs.ServedFiles.{has_fresh, stepped, input_at, takes_input, with_new_recall, recall_by, recall_at, asks_back, held_from, in_turn, ends_periods, forgotten, ends_client}
-use Rattle.mds_rule.specs.SessionOps.{with_exchange, exchange_in, runs_exchange, gone_with, goes_with, with_session, with_create, create_in, runs_create, on_session, runs_bind, runs_destroy_session, runs_destroy_client, reclaims}
-use Rattle.mds_laws.proofs.Keeping.{Becomes, Enters, Keeps, KeepsOp, Silent, Cases, no_entries, stays, silent_then, silent_none, silent_same, becomes_silent}
+use Rattle.mds_rule.specs.SessionOps.{with_exchange, runs_exchange, gone_with, with_session, with_create, runs_create, on_session, runs_bind, runs_destroy_session, runs_destroy_client, reclaims}
+use Rattle.mds_laws.proofs.Keeping.{Becomes, KeepsOp, Silent, Cases, no_entries, stays, silent_then, silent_none, silent_same, becomes_silent}
 
 module _ (I : MdsValue → List Entry → List MdsSend → Type 0) (k : Cases I) where
   -- ---- one input

@@ -1,32 +1,30 @@
 -- CREATEs, SETATTRs and READs go out by uid 0, WRITEs by a uid that was drawn.
-use Rattle.std.proofs.Common.{◌≡◌, ◌≤◌, ℕ, zero, suc, ◌+◌, ◌-◌, Bool, true, false, cond, List, [], ◌∷◌, ◌++◌, length, Option, Some, None, refl, sym, ap, subst, ◌∙◌, inl, inr, ◌⊎◌, arith}
-use Rattle.std.specs.Prelude.{not, ◌==◌, slice_get, slice_set}
+use Rattle.std.proofs.Common.{◌≡◌, ◌≤◌, ℕ, ◌+◌, ◌-◌, List, [], ◌∷◌, ◌++◌, Option, Some, None, sym, subst, inl, inr, arith}
+use Rattle.std.specs.Prelude.{slice_set}
 use Rattle.std.specs.List.{list_any}
 use Rattle.std.proofs.lemmas.Bool.{cond_both}
-use Rattle.std.proofs.lemmas.Option.{same_Some, none-some}
 use Rattle.device_addr.specs.Universal.{AddressValue}
-use Rattle.cluster_model.specs.declared.ids.NodeId.{NodeId}
 use Rattle.cluster_model.specs.declared.ids.NodeId.TheVariants.{Server}
 use Rattle.cluster_model.specs.declared.ids.FileId.{FileId}
 use Rattle.cluster_model.specs.declared.entry.Entry.{Entry}
 use Rattle.cluster_model.specs.DsCalls.{DsCallValue}
-use Rattle.file_rule.specs.FilePhases.{FileInput, phase, CallOut, call_out}
-use Rattle.file_rule.specs.MdsFiles.{MdsFile, FileStep}
+use Rattle.file_rule.specs.FilePhases.{phase, CallOut, call_out}
+use Rattle.file_rule.specs.MdsFiles.{FileStep}
 use Rattle.mds_rows.specs.Draws.{drawn}
 use Rattle.mirror_writer.specs.Writers.{WriterSends}
 use Rattle.mirror_writer.specs.Writers as writer
 use Rattle.recall.specs.Recalls.{without_file}
-use Rattle.mds_rule.specs.MdsStates.{WaitingWrite, ServedFile, MdsSend, CallsServer, CallsBack, Replies, Answers, Caller, ForFile, ForRead, ForWrite, ForRecall, OutCall, MdsValue, MdsStep, served, with_served, new_mds}
+use Rattle.mds_rule.specs.MdsStates.{WaitingWrite, ServedFile, MdsSend, CallsServer, CallsBack, Replies, Answers, Caller, ForFile, ForRead, ForWrite, ForRecall, OutCall, MdsValue, served, with_served, new_mds}
 use Rattle.mds_rule.specs.ServedFiles.{is_end, file_behind, stepped}
 use Rattle.mds_rule.specs.FileOps.{with_new_file}
-use Rattle.mds_laws.specs.MdsRuns.{MdsEvent, run_from, mds_run}
+use Rattle.mds_laws.specs.MdsRuns.{MdsEvent}
 use Rattle.mds_laws.specs.MdsRunLaws.{IsUidOf, IsByItsUid, CallsByUids}
-use Rattle.mds_laws.proofs.Lists.{In, AllOf, all_push, all_in, all_set, all_got, all_split}
+use Rattle.mds_laws.proofs.Lists.{AllOf, all_push, all_in, all_set, all_got, all_split}
 use Rattle.mds_laws.proofs.Keeping.{Cases, IsCredOf, IsWriteOf}
 use Rattle.mds_laws.proofs.OpsWalk.{place_served}
 use Rattle.mds_laws.proofs.GoesWalk.{in_each_run}
 use Rattle.mds_laws.proofs.WriterKept.{sends_of}
-use Rattle.mds_laws.proofs.FileUids.{LayoutFits, FileFits, phase_fits, out_fits}
+use Rattle.mds_laws.proofs.FileUids.{FileFits, phase_fits, out_fits}
 use Rattle.mds_laws.proofs.Numbers.{WereSent, sent_more, sent_push, sent_without}
 
 abbrev WriteFits : Option WaitingWrite → Type 0

@@ -1,14 +1,14 @@
 -- A writer keeps its uid, and its calls are WRITEs and COMMITs; a read's calls are READs.
-use Rattle.std.proofs.Common.{◌≡◌, ◌≤◌, ℕ, ◌+◌, Bool, true, false, cond, List, [], ◌∷◌, ◌++◌, Option, Some, None, refl, sym, ap, subst}
-use Rattle.std.specs.Prelude.{◌==◌, ◌||◌, slice_get, slice_set}
+use Rattle.std.proofs.Common.{◌≡◌, ◌≤◌, ℕ, ◌+◌, false, Option, Some, None, refl, subst}
+use Rattle.std.specs.Prelude.{◌==◌, ◌||◌, slice_get}
 use Rattle.std.proofs.lemmas.Bool.{cond_both}
 use Rattle.cluster_model.specs.declared.ids.Mirror.{Mirror}
 use Rattle.cluster_model.specs.declared.phase.LeftCause.TheVariants.{Error, Timeouts}
-use Rattle.cluster_model.specs.DsCalls.{DsCallValue, Write, Commit, Read, DsReplyValue, Created, Set, Written, Committed, Bytes, NotSync, Failed}
+use Rattle.cluster_model.specs.DsCalls.{DsReplyValue, Created, Set, Written, Committed, Bytes, NotSync, Failed}
 use Rattle.cluster_model.specs.Fences.{waits, odd_status}
 use Rattle.mds_io.specs.Reads.{ReadState, ReadSends, in_turn}
 use Rattle.mds_io.specs.Reads as read
-use Rattle.mds_io.specs.OwnWrites.{told_by, after_own_reply}
+use Rattle.mds_io.specs.OwnWrites.{after_own_reply}
 use Rattle.mirror_writer.specs.declared.call.TakenWrite.{TakenWrite}
 use Rattle.mirror_writer.specs.declared.call.WriterCall.{WriterCall}
 use Rattle.mirror_writer.specs.declared.call.WriterCall.TheVariants.{NoCall, OutWrite, OutCommit}
@@ -16,7 +16,7 @@ use Rattle.mirror_writer.specs.declared.call.NextCall.{NextCall}
 use Rattle.mirror_writer.specs.declared.call.NextCall.TheVariants.{SendsWrite, SendsCommit}
 use Rattle.mirror_writer.specs.declared.mirror.TheConstants.{ACCES, STALE}
 use Rattle.mirror_writer.specs.declared.step.WriterStep.TheVariants as step
-use Rattle.mirror_writer.specs.Writers.{WriterMirror, WriterValue, WriterAfter, WriterSends, next_place, next_at, call_for, write_of_taken, sends_as, sends_next, sends_to, sends_at, next_sent, mirror_of_call, with_writer_mirror, with_writer_call, fails, is_fenced_by, refused_by, write_answered, with_commit, after_commit, commit_answered, call_answered, mirror_answered, answered_at, after_reply, open_committed, timed_out_as, call_timed_out, mirror_timed_out, timed_out_at, after_timeout}
+use Rattle.mirror_writer.specs.Writers.{WriterMirror, WriterValue, WriterAfter, WriterSends, next_place, next_at, call_for, write_of_taken, sends_as, sends_next, sends_to, sends_at, next_sent, mirror_of_call, with_writer_mirror, with_writer_call, fails, is_fenced_by, refused_by, write_answered, with_commit, commit_answered, call_answered, mirror_answered, answered_at, after_reply, open_committed, timed_out_as, call_timed_out, mirror_timed_out, timed_out_at, after_timeout}
 use Rattle.mds_laws.specs.MdsRunLaws.{IsUidOf}
 
 module _ (w : WriterValue) where

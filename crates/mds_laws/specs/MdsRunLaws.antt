@@ -1,15 +1,11 @@
 -- What holds of every run of a metadata server, told by what it was sent, what it sent and what it entered.
 use Rattle.std.specs.Prelude.{◌≡◌, ◌<◌, ◌≤◌, ℕ, Bool, true, false, ◌==◌, List, [], ◌∷◌, ◌++◌, Option, Some, None, if◌then◌else◌}
-use Rattle.cluster_model.specs.declared.ids.NodeId.{NodeId}
 use Rattle.cluster_model.specs.declared.entry.Entry.{Entry}
 use Rattle.cluster_model.specs.declared.entry.Entry.TheVariants as entry
 use Rattle.cluster_model.specs.DsCalls.{DsCallValue, Create, SetAttr, Write, Commit, Read}
-use Rattle.rpc_record.specs.Replies.{RpcReply}
 use Rattle.device_addr.specs.Universal.{AddressValue}
-use Rattle.nfs4_compound.specs.Compounds.{CompoundValue}
-use Rattle.mds_receive.specs.MdsReceive.{incoming_of, IsCompound}
 use Rattle.mds_rule.specs.MdsStates.{MdsSend, CallsServer, CallsBack, Replies, Answers}
-use Rattle.mds_laws.specs.MdsRuns.{MdsInput, MdsEvent, Hears, mds_run}
+use Rattle.mds_laws.specs.MdsRuns.{MdsEvent, mds_run}
 
 -- ---- the numbers of its calls
 
