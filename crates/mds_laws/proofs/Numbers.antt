@@ -1,8 +1,9 @@
 -- Each call has a number of its own, above those of all calls before it, or is one that went out before.
-use Rattle.std.proofs.Common.{◌≡◌, ℕ, ◌+◌, Bool, true, false, cond, List, [], ◌∷◌, ◌++◌, Option, Some, None, refl, sym, subst, ◌∙◌, inl, inr, ◌⊎◌, arith}
+use Rattle.std.proofs.Common.{◌≡◌, ◌≤◌, ℕ, zero, suc, ◌+◌, Bool, true, false, cond, List, [], ◌∷◌, ◌++◌, Option, Some, None, refl, sym, subst, ◌∙◌, inl, inr, ◌⊎◌, arith}
 use Rattle.std.specs.Prelude.{not, ◌==◌}
 use Rattle.std.specs.List.{list_any}
 use Rattle.std.proofs.lemmas.Bool.{cond_both}
+use Rattle.std.proofs.lemmas.Bool.Decides.{nat_tests}
 use Rattle.std.proofs.lemmas.Option.{same_Some, none-some}
 use Rattle.device_addr.specs.Universal.{AddressValue}
 use Rattle.cluster_model.specs.declared.ids.NodeId.{NodeId}
@@ -18,8 +19,8 @@ use Rattle.mds_rule.specs.ServedFiles.{is_end, file_behind, stepped}
 use Rattle.mds_rule.specs.Answers.{is_call_to, without_call}
 use Rattle.mds_rule.specs.Goes.{xid_after}
 use Rattle.mds_laws.specs.MdsRuns.{MdsEvent}
-use Rattle.mds_laws.specs.MdsRunLaws.{number_sent, IsBelow, AreBelow, IsNewOrAgain, IsNew, IsAgain, NumbersCalls}
-use Rattle.mds_laws.proofs.Lists.{In, in_more, in_last, in_pushed, in_filtered, Split, split_in, EachOf, each_push, each_at}
+use Rattle.mds_laws.specs.MdsRunLaws.{number_sent, IsBelow, AreBelow, IsNewOrAgain, IsNew, IsAgain, NumbersCalls, FitsNumber, NumbersFit}
+use Rattle.mds_laws.proofs.Lists.{In, in_more, in_last, in_pushed, in_filtered, Split, split_in, EachOf, each_push, each_at, AllOf, all_push, all_in, all_split}
 use Rattle.mds_laws.proofs.Keeping.{Cases}
 use Rattle.mds_laws.proofs.GoesWalk.{in_each_run}
 
@@ -72,10 +73,23 @@ after_below next ss all = by_last (next == 4294967295)
     by_last true has = absurd cc
     by_last false has = all
 
+abbrev HasWord : MdsSend → Type 0
+HasWord s = FitsNumber (number_sent s)
+
+positive : (n : ℕ) → not (n == 0) ≡ true → 1 ≤ n
+positive zero has = absurd cc
+positive (suc n) has = omega arith
+
+after_fits : (next : ℕ) → next ≤ 4294967295 → xid_after next ≤ 4294967295
+after_fits next fits =
+    cond_both (next == 4294967295) 0 (next + 1) (λ (n : ℕ). n ≤ 4294967295) (λ is. omega arith) (λ off. grind (arith, nat_tests, off, fits))
+
 pub record Numbered (next : ℕ) (calls : List OutCall) (ss : List MdsSend) : Type 0 where
   pub each : EachOf IsNumbered [] ss
   pub below : not (next == 0) ≡ true → AreBelow next ss
   pub were : WereSent calls ss
+  pub fits : next ≤ 4294967295
+  pub words : AllOf HasWord ss
 
 abbrev IsSo : MdsValue → List Entry → List MdsSend → Type 0
 IsSo m es ss = Numbered m.next_xid m.calls ss
@@ -85,6 +99,8 @@ plain next calls ss s none i = record {
   each = each_push IsNumbered [] ss s i.each (λ xid is. absurd (none-some xid (sym none ∙ is)));
   below = λ has. all_push next ss s (i.below has) (subst (IsBelow next) (sym none) tt);
   were = sent_more calls ss s i.were;
+  fits = i.fits;
+  words = all_push HasWord ss s i.words (subst FitsNumber (sym none) tt);
 }
 
 called : (next : ℕ) (calls : List OutCall) (ss : List MdsSend) (call : OutCall) → not (next == 0) ≡ true → number_sent call.sent ≡ Some next → Numbered next calls ss
@@ -93,6 +109,8 @@ called next calls ss call has number i = record {
   each = each_push IsNumbered [] ss call.sent i.each (λ xid is. subst (IsNewOrAgain ss call.sent) (same_Some next xid (sym number ∙ is)) (IsNew (i.below has)));
   below = after_below next (ss ++ call.sent ∷ []) (all_push (next + 1) ss call.sent (all_more next ss (i.below has)) (subst (IsBelow (next + 1)) (sym number) (omega arith)));
   were = sent_push calls ss call i.were;
+  fits = after_fits next i.fits;
+  words = all_push HasWord ss call.sent i.words (subst FitsNumber (sym number) (positive next has, i.fits));
 }
 
 inputs : (m : MdsValue) (file : FileId) (s : ServedFile) (step : FileStep) (es : List Entry) (ss : List MdsSend) → IsSo m es ss → IsSo (stepped m file s step).mds (es ++ step.entries) ss
@@ -117,8 +135,8 @@ cases = record {
       called m.next_xid m.calls ss (record { node = Server server; xid = m.next_xid; caller = ForRead file; sent = CallsServer server m.next_xid 0 call }) has refl i;
   calls_back = λ m node back file stateid has es ss i.
       called m.next_xid m.calls ss (record { node = node; xid = m.next_xid; caller = ForRecall; sent = CallsBack m.next_xid back file stateid }) has refl i;
-  skips = λ m has es ss i. record { each = i.each; below = after_below m.next_xid ss (all_more m.next_xid ss (i.below has)); were = i.were };
-  forgets = λ m node xid es ss i. record { each = i.each; below = i.below; were = sent_without node xid m.calls ss i.were };
+  skips = λ m has es ss i. record { each = i.each; below = after_below m.next_xid ss (all_more m.next_xid ss (i.below has)); were = i.were; fits = after_fits m.next_xid i.fits; words = i.words };
+  forgets = λ m node xid es ss i. record { each = i.each; below = i.below; were = sent_without node xid m.calls ss i.were; fits = i.fits; words = i.words };
   was = λ m es ss i. i.were;
   again = λ m s es ss i inside. again m.next_xid m.calls ss s inside i;
 }
@@ -130,11 +148,17 @@ cases = record {
           each = each_push IsNumbered [] ss s i.each (λ xid is. IsAgain split.front split.behind split.is);
           below = λ has. all_push next ss s (i.below has) (in_below next ss s (i.below has) inside);
           were = sent_more calls ss s i.were;
+          fits = i.fits;
+          words = all_push HasWord ss s i.words (all_in HasWord ss s i.words inside);
         }
 
 begun : (servers : List AddressValue) (mirrors : ℕ) → IsSo (new_mds servers mirrors) [] []
-begun servers mirrors = record { each = tt; below = λ has. tt; were = λ call inside. absurd inside }
+begun servers mirrors = record { each = tt; below = λ has. tt; were = λ call inside. absurd inside; fits = omega arith; words = tt }
 
 pub numbers_calls : (servers : List AddressValue) (mirrors : ℕ) (events : List MdsEvent) → NumbersCalls servers mirrors events
 numbers_calls servers mirrors events before after s xid is number =
     each_at IsNumbered [] before after s (subst (EachOf IsNumbered []) is (in_each_run IsSo cases (new_mds servers mirrors) events (begun servers mirrors)).each) xid number
+
+pub numbers_fit : (servers : List AddressValue) (mirrors : ℕ) (events : List MdsEvent) → NumbersFit servers mirrors events
+numbers_fit servers mirrors events before after s is =
+    all_split HasWord before after s (subst (AllOf HasWord) is (in_each_run IsSo cases (new_mds servers mirrors) events (begun servers mirrors)).words)

@@ -33,6 +33,14 @@ abbrev pub NumbersCalls : List AddressValue → ℕ → List MdsEvent → Type 0
 NumbersCalls servers mirrors events =
     (before after : List MdsSend) (s : MdsSend) (xid : ℕ) → (mds_run servers mirrors events).sends ≡ before ++ s ∷ after → number_sent s ≡ Some xid → IsNewOrAgain before s xid
 
+-- The number of a call is one of 32 bits, and not 0: behind the last, no new call goes out.
+abbrev pub FitsNumber : Option ℕ → Type 0
+FitsNumber None = Unit {0}
+FitsNumber (Some xid) = (1 ≤ xid) × (xid ≤ 4294967295)
+
+abbrev pub NumbersFit : List AddressValue → ℕ → List MdsEvent → Type 0
+NumbersFit servers mirrors events = (before after : List MdsSend) (s : MdsSend) → (mds_run servers mirrors events).sends ≡ before ++ s ∷ after → FitsNumber (number_sent s)
+
 -- ---- under which uid its calls go out
 
 -- CREATE, SETATTR and READ by uid 0, a WRITE by a uid that was drawn, which are 65,536 and above
