@@ -52,13 +52,13 @@ below_more : (next : ℕ) (o : Option ℕ) → IsBelow next o → IsBelow (next 
 below_more next None is = tt
 below_more next (Some n) is = omega (arith, is)
 
-all_more : (next : ℕ) (ss : List MdsSend) → AreBelow next ss → AreBelow (next + 1) ss
-all_more next [] all = tt
-all_more next (s ∷ ss) all = (below_more next (number_sent s) all.0, all_more next ss all.1)
+below_all : (next : ℕ) (ss : List MdsSend) → AreBelow next ss → AreBelow (next + 1) ss
+below_all next [] all = tt
+below_all next (s ∷ ss) all = (below_more next (number_sent s) all.0, below_all next ss all.1)
 
-all_push : (next : ℕ) (ss : List MdsSend) (s : MdsSend) → AreBelow next ss → IsBelow next (number_sent s) → AreBelow next (ss ++ s ∷ [])
-all_push next [] s all is = (is, tt)
-all_push next (x ∷ ss) s all is = (all.0, all_push next ss s all.1 is)
+below_push : (next : ℕ) (ss : List MdsSend) (s : MdsSend) → AreBelow next ss → IsBelow next (number_sent s) → AreBelow next (ss ++ s ∷ [])
+below_push next [] s all is = (is, tt)
+below_push next (x ∷ ss) s all is = (all.0, below_push next ss s all.1 is)
 
 in_below : (next : ℕ) (ss : List MdsSend) (s : MdsSend) → AreBelow next ss → In s ss → IsBelow next (number_sent s)
 in_below next [] s all inside = absurd inside
@@ -97,7 +97,7 @@ IsSo m es ss = Numbered m.next_xid m.calls ss
 plain : (next : ℕ) (calls : List OutCall) (ss : List MdsSend) (s : MdsSend) → number_sent s ≡ None → Numbered next calls ss → Numbered next calls (ss ++ s ∷ [])
 plain next calls ss s none i = record {
   each = each_push IsNumbered [] ss s i.each (λ xid is. absurd (none-some xid (sym none ∙ is)));
-  below = λ has. all_push next ss s (i.below has) (subst (IsBelow next) (sym none) tt);
+  below = λ has. below_push next ss s (i.below has) (subst (IsBelow next) (sym none) tt);
   were = sent_more calls ss s i.were;
   fits = i.fits;
   words = all_push HasWord ss s i.words (subst FitsNumber (sym none) tt);
@@ -107,7 +107,7 @@ called : (next : ℕ) (calls : List OutCall) (ss : List MdsSend) (call : OutCall
     → Numbered (xid_after next) (calls ++ call ∷ []) (ss ++ call.sent ∷ [])
 called next calls ss call has number i = record {
   each = each_push IsNumbered [] ss call.sent i.each (λ xid is. subst (IsNewOrAgain ss call.sent) (same_Some next xid (sym number ∙ is)) (IsNew (i.below has)));
-  below = after_below next (ss ++ call.sent ∷ []) (all_push (next + 1) ss call.sent (all_more next ss (i.below has)) (subst (IsBelow (next + 1)) (sym number) (omega arith)));
+  below = after_below next (ss ++ call.sent ∷ []) (below_push (next + 1) ss call.sent (below_all next ss (i.below has)) (subst (IsBelow (next + 1)) (sym number) (omega arith)));
   were = sent_push calls ss call i.were;
   fits = after_fits next i.fits;
   words = all_push HasWord ss call.sent i.words (subst FitsNumber (sym number) (positive next has, i.fits));
@@ -135,7 +135,7 @@ cases = record {
       called m.next_xid m.calls ss (record { node = Server server; xid = m.next_xid; caller = ForRead file; sent = CallsServer server m.next_xid 0 call }) has refl i;
   calls_back = λ m node back file stateid has es ss i.
       called m.next_xid m.calls ss (record { node = node; xid = m.next_xid; caller = ForRecall; sent = CallsBack m.next_xid back file stateid }) has refl i;
-  skips = λ m has es ss i. record { each = i.each; below = after_below m.next_xid ss (all_more m.next_xid ss (i.below has)); were = i.were; fits = after_fits m.next_xid i.fits; words = i.words };
+  skips = λ m has es ss i. record { each = i.each; below = after_below m.next_xid ss (below_all m.next_xid ss (i.below has)); were = i.were; fits = after_fits m.next_xid i.fits; words = i.words };
   forgets = λ m node xid es ss i. record { each = i.each; below = i.below; were = sent_without node xid m.calls ss i.were; fits = i.fits; words = i.words };
   was = λ m es ss i. i.were;
   again = λ m s es ss i inside. again m.next_xid m.calls ss s inside i;
@@ -146,7 +146,7 @@ cases = record {
         let split : Split s ss = split_in s ss inside in
         record {
           each = each_push IsNumbered [] ss s i.each (λ xid is. IsAgain split.front split.behind split.is);
-          below = λ has. all_push next ss s (i.below has) (in_below next ss s (i.below has) inside);
+          below = λ has. below_push next ss s (i.below has) (in_below next ss s (i.below has) inside);
           were = sent_more calls ss s i.were;
           fits = i.fits;
           words = all_push HasWord ss s i.words (all_in HasWord ss s i.words inside);
