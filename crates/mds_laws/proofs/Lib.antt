@@ -1,0 +1,12 @@
+mod Lists
+mod Keeping
+mod ServedWalk
+mod OpsWalk
+mod WriterKept
+mod CompoundWalk
+mod GoesWalk
+mod Numbers
+mod FileUids
+mod Uids
+mod FileGrants
+mod Grants

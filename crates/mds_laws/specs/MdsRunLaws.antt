@@ -1,15 +1,11 @@
 -- What holds of every run of a metadata server, told by what it was sent, what it sent and what it entered.
 use Rattle.std.specs.Prelude.{◌≡◌, ◌<◌, ◌≤◌, ℕ, Bool, true, false, ◌==◌, List, [], ◌∷◌, ◌++◌, Option, Some, None, if◌then◌else◌}
-use Rattle.cluster_model.specs.declared.ids.NodeId.{NodeId}
 use Rattle.cluster_model.specs.declared.entry.Entry.{Entry}
 use Rattle.cluster_model.specs.declared.entry.Entry.TheVariants as entry
 use Rattle.cluster_model.specs.DsCalls.{DsCallValue, Create, SetAttr, Write, Commit, Read}
-use Rattle.rpc_record.specs.Replies.{RpcReply}
 use Rattle.device_addr.specs.Universal.{AddressValue}
-use Rattle.nfs4_compound.specs.Compounds.{CompoundValue}
-use Rattle.mds_receive.specs.MdsReceive.{incoming_of, IsCompound}
 use Rattle.mds_rule.specs.MdsStates.{MdsSend, CallsServer, CallsBack, Replies, Answers}
-use Rattle.mds_laws.specs.MdsRuns.{MdsInput, MdsEvent, Hears, mds_run}
+use Rattle.mds_laws.specs.MdsRuns.{MdsEvent, mds_run}
 
 -- ---- the numbers of its calls
 
@@ -36,6 +32,14 @@ pub data IsNewOrAgain (before : List MdsSend) (s : MdsSend) (xid : ℕ) : Type 0
 abbrev pub NumbersCalls : List AddressValue → ℕ → List MdsEvent → Type 0
 NumbersCalls servers mirrors events =
     (before after : List MdsSend) (s : MdsSend) (xid : ℕ) → (mds_run servers mirrors events).sends ≡ before ++ s ∷ after → number_sent s ≡ Some xid → IsNewOrAgain before s xid
+
+-- The number of a call is one of 32 bits, and not 0: behind the last, no new call goes out.
+abbrev pub FitsNumber : Option ℕ → Type 0
+FitsNumber None = Unit {0}
+FitsNumber (Some xid) = (1 ≤ xid) × (xid ≤ 4294967295)
+
+abbrev pub NumbersFit : List AddressValue → ℕ → List MdsEvent → Type 0
+NumbersFit servers mirrors events = (before after : List MdsSend) (s : MdsSend) → (mds_run servers mirrors events).sends ≡ before ++ s ∷ after → FitsNumber (number_sent s)
 
 -- ---- under which uid its calls go out
 

@@ -2,9 +2,8 @@
 use Rattle.std.specs.Prelude.{ℕ, List, [], ◌∷◌}
 use Rattle.cluster_model.specs.declared.ids.NodeId.{NodeId}
 use Rattle.cluster_model.specs.declared.ids.FileId.{FileId}
-use Rattle.cluster_model.specs.declared.entry.Entry.{Entry}
 use Rattle.device_addr.specs.Universal.{AddressValue}
-use Rattle.mds_rule.specs.MdsStates.{MdsSend, MdsValue, MdsStep, sends_none, and_then, new_mds}
+use Rattle.mds_rule.specs.MdsStates.{MdsValue, MdsStep, sends_none, and_then, new_mds}
 use Rattle.mds_rule.specs.Events.{takes_record, takes_timeout, takes_tick, takes_recall, takes_resilver}
 
 -- what comes to it

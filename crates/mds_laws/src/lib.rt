@@ -4,9 +4,20 @@
 ghost use Rattle.std.specs.Prelude.{ℕ, List};
 ghost use Rattle.device_addr.specs.Universal.{AddressValue};
 ghost use Rattle.mds_laws.specs.MdsRuns.{MdsEvent};
-ghost use Rattle.mds_laws.specs.MdsRunLaws.{NumbersCalls};
+ghost use Rattle.mds_laws.specs.MdsRunLaws.{NumbersCalls, NumbersFit, CallsByUids, GrantsFreeFiles};
 
-/// What holds of every run of a metadata server, whatever comes, in whatever order.
+/// What holds of every run of a metadata server, whatever bytes come, in whatever order:
+///
+/// - each call that goes out has a number above those of all calls before it, or went out before, the same again
+///   (RFC 5531, section 9);
+/// - each of these numbers is from 1 to 4,294,967,295: behind the last, no new call goes out;
+/// - a CREATE, a SETATTR and a READ go out by uid 0, a WRITE by a uid that was drawn, which are 65,536 and above, new or
+///   repeated (RFC 8435, section 2.2);
+/// - a file is granted only where the last that was entered of how it stands is that it is free: never while it is made
+///   or held, nor before the fence behind a period is done (RFC 8435, section 2.2).
 pub fn mds_run_law()
     ensures numbers { (servers : List AddressValue) (mirrors : ℕ) (events : List MdsEvent) → NumbersCalls servers mirrors events }
+    ensures words { (servers : List AddressValue) (mirrors : ℕ) (events : List MdsEvent) → NumbersFit servers mirrors events }
+    ensures uids { (servers : List AddressValue) (mirrors : ℕ) (events : List MdsEvent) → CallsByUids servers mirrors events }
+    ensures grants { (servers : List AddressValue) (mirrors : ℕ) (events : List MdsEvent) → GrantsFreeFiles servers mirrors events }
 {}

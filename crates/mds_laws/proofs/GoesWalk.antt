@@ -1,0 +1,237 @@
+-- The calls that go out, and so each event and each run, keep what is kept in each case.
+use Rattle.std.proofs.Common.{◌≡◌, ℕ, zero, suc, ◌+◌, Bool, true, List, [], ◌∷◌, ◌++◌, length, Option, Some, None, refl, sym, subst, inl, inr}
+use Rattle.std.specs.Prelude.{not, ◌==◌, ◌&&◌, slice_get, slice_set, map, filter}
+use Rattle.std.specs.Option.{option_map}
+use Rattle.std.specs.List.{find, range_with_len}
+use Rattle.std.proofs.lemmas.Bool.{cond_both, and_parts}
+use Rattle.std.proofs.lemmas.List.{append_assoc, append-nil}
+use Rattle.cluster_model.specs.declared.ids.NodeId.{NodeId}
+use Rattle.cluster_model.specs.declared.ids.NodeId.TheVariants.{Mds}
+use Rattle.cluster_model.specs.declared.ids.FileId.{FileId}
+use Rattle.cluster_model.specs.declared.ids.Cred.{Cred}
+use Rattle.cluster_model.specs.declared.phase.EndCause.TheVariants.{Lease, Recalled}
+use Rattle.cluster_model.specs.declared.entry.Entry.{Entry}
+use Rattle.cluster_model.specs.declared.entry.Entry.TheVariants as entry
+use Rattle.file_rule.specs.FilePhases.{CallOut, call_out, Revokes, Resilver, Ticks}
+use Rattle.ds_calls.specs.GivenReplies.{reply_of_call}
+use Rattle.recall_calls.specs.RecallAnswers.{recall_status}
+use Rattle.mds_io.specs.Reads.{ReadSends}
+use Rattle.mds_io.specs.Reads as read
+use Rattle.mirror_writer.specs.Writers.{WriterSends}
+use Rattle.mirror_writer.specs.Writers as writer
+use Rattle.nfs4_session.specs.Clients.{ClientState, SessionState, has_id, change_first, with_clients}
+use Rattle.nfs4_session.specs.Bindings.{last_session, back_call, client_called_back}
+use Rattle.nfs4_session.specs.Ends.{has_ended, without_client}
+use Rattle.nfs4_types.specs.Stateids.{layout_stateid_of}
+use Rattle.recall.specs.declared.recall.RecallCall.{RecallCall}
+use Rattle.recall.specs.Recalls.{RecallSends, next_sent, after_tick}
+use Rattle.mds_receive.specs.MdsReceive.{IncomingValue, PassedOver, IsReply, IsAnswered, IsCompound, incoming_of}
+use Rattle.mds_rule.specs.MdsStates.{WaitingRead, WaitingWrite, ServedFile, MdsSend, Answers, OutCall, ForRead, MdsValue, MdsStep, sends_none, and_then, served, numbered}
+use Rattle.mds_rule.specs.ServedFiles.{takes_input, asks_back, ends_client}
+use Rattle.mds_rule.specs.Compounds.{runs_compound}
+use Rattle.mds_rule.specs.Answers.{is_awaited, takes_answer, timed_out_for}
+use Rattle.mds_rule.specs.Goes.{calls_server, OwnCall, own_of_file, own_of_write, own_by, place_of, own_call_at, own_next, has_xids, own_calls, read_goes, read_call, read_call_in, each, read_count, read_calls, stateid_seqid, calls_back, recall_goes, recall_call, is_again, repeats, place_calls, file_calls, calls_out}
+use Rattle.mds_rule.specs.Events.{takes_incoming, is_outstanding_to, is_kept_by, goes_again, times_out, takes_timeout, lease_ends, leases_end, recall_expires, recalls_expire, kept_numbers, files_tick, takes_tick}
+use Rattle.mds_laws.specs.MdsRuns.{MdsInput, MdsEvent, Hears, IsTimedOut, Ticks as IsTick, RecallsFile, Resilvers, by_input, after_event, run_from}
+use Rattle.mds_laws.proofs.Keeping.{Keeps, KeepsBehind, Cases, then_keeps, none_keeps, same, becomes_keeps, silent_keeps, then_behind, behind_then, enters_behind}
+use Rattle.mds_laws.proofs.Lists.{In, found_in}
+use Rattle.mds_laws.proofs.ServedWalk.{takes, asks, client_ends, sessions_become, recalls_become}
+use Rattle.mds_laws.proofs.OpsWalk.{old_write}
+use Rattle.mds_laws.proofs.WriterKept.{read_of}
+use Rattle.mds_laws.proofs.CompoundWalk.{compound_walk, answer_walk, timeout_walk}
+
+module _ (I : MdsValue → List Entry → List MdsSend → Type 0) (k : Cases I) where
+  each_walk : {A : Type 0} (step : A → MdsValue → MdsStep) → ((a : A) (m : MdsValue) → Keeps I m (step a m)) → (list : List A) (m : MdsValue) → Keeps I m (each step list m)
+  each_walk step all [] m = same I m
+  each_walk step all (a ∷ list) m = then_keeps I m (step a m) (λ n. each step list n) (all a m) (λ n. each_walk step all list n)
+
+  -- ---- a file's own calls
+
+  own_call_walk : (m : MdsValue) (file : FileId) (place : ℕ) (next : MdsValue → MdsStep) → ((n : MdsValue) → Keeps I n (next n)) → (c : OwnCall)
+      → Keeps I m (calls_server m file c.served c.caller c.server c.uid c.call) → Keeps I m (own_call_at m file place next (Some c))
+  own_call_walk m file place next all c q =
+      cond_both (place_of c.served c.server == place) (and_then (calls_server m file c.served c.caller c.server c.uid c.call) next) (sends_none m) (λ (s : MdsStep). Keeps I m s)
+      (λ is. then_keeps I m (calls_server m file c.served c.caller c.server c.uid c.call) next q all) (λ off. same I m)
+
+  own_file_walk : (m : MdsValue) (file : FileId) (place : ℕ) (next : MdsValue → MdsStep) → ((n : MdsValue) → Keeps I n (next n)) → has_xids m ≡ true → (s : ServedFile) → served m file ≡ Some s
+      → (o : Option CallOut) → call_out s.file m.next_xid ≡ o → Keeps I m (own_call_at m file place next (option_map (own_of_file file s) o))
+  own_file_walk m file place next all has s is None its = same I m
+  own_file_walk m file place next all has s is (Some c) its = own_call_walk m file place next all (own_of_file file s c) (k.calls_file m file s c is has its)
+
+  own_write_walk : (m : MdsValue) (file : FileId) (place : ℕ) (next : MdsValue → MdsStep) → ((n : MdsValue) → Keeps I n (next n)) → has_xids m ≡ true → (s : ServedFile) → served m file ≡ Some s
+      → (w : WaitingWrite) → s.write ≡ Some w → (o : Option WriterSends) → writer.next_sent w.writer m.next_xid ≡ o → Keeps I m (own_call_at m file place next (option_map (own_of_write file s w) o))
+  own_write_walk m file place next all has s is w waits None its = same I m
+  own_write_walk m file place next all has s is w waits (Some c) its = own_call_walk m file place next all (own_of_write file s w c) (k.calls_write m file s w c is has waits its)
+
+  own_by_walk : (m : MdsValue) (file : FileId) (place : ℕ) (next : MdsValue → MdsStep) → ((n : MdsValue) → Keeps I n (next n)) → has_xids m ≡ true → (s : ServedFile) → served m file ≡ Some s
+      → (o : Option WaitingWrite) → s.write ≡ o → Keeps I m (own_call_at m file place next (own_by file s m.next_xid o))
+  own_by_walk m file place next all has s is None its = own_file_walk m file place next all has s is (call_out s.file m.next_xid) refl
+  own_by_walk m file place next all has s is (Some w) its = own_write_walk m file place next all has s is w its (writer.next_sent w.writer m.next_xid) refl
+
+  own_next_walk : (m : MdsValue) (file : FileId) (place : ℕ) (next : MdsValue → MdsStep) → ((n : MdsValue) → Keeps I n (next n)) → has_xids m ≡ true → (o : Option ServedFile) → served m file ≡ o
+      → Keeps I m (own_next m file place next o)
+  own_next_walk m file place next all has None is = same I m
+  own_next_walk m file place next all has (Some s) is = own_by_walk m file place next all has s is s.write refl
+
+  own_walk : (n : ℕ) (file : FileId) (place : ℕ) (m : MdsValue) → Keeps I m (own_calls n file place m)
+  own_walk zero file place m = same I m
+  own_walk (suc n) file place m =
+      cond_both (has_xids m) (own_next m file place (own_calls n file place) (served m file)) (sends_none m) (λ (s : MdsStep). Keeps I m s)
+      (λ has. own_next_walk m file place (own_calls n file place) (λ x. own_walk n file place x) has (served m file) refl) (λ off. same I m)
+
+  -- ---- READs
+
+  read_goes_walk : (m : MdsValue) (file : FileId) (s : ServedFile) → served m file ≡ Some s → (n place : ℕ) (r : WaitingRead) (o : Option ReadSends) → read.next_sent r.read m.next_xid ≡ o
+      → Keeps I m (read_goes m file s n place r o)
+  read_goes_walk m file s is n place r None its = same I m
+  read_goes_walk m file s is n place r (Some sent) its =
+      let t : ServedFile = record s { reads = slice_set s.reads n (record { compound = r.compound; read = sent.read }) } in
+      cond_both ((place_of s sent.id.server == place) && has_xids m) (calls_server m file t (ForRead file) sent.id.server 0 sent.call) (sends_none m) (λ (x : MdsStep). Keeps I m x)
+      (λ both. k.calls_read m file s t sent.id.server sent.call is (and_parts (place_of s sent.id.server == place) (has_xids m) both).1 refl (old_write s.file s.write) (read_of r.read m.next_xid sent its))
+      (λ off. same I m)
+
+  read_call_walk : (m : MdsValue) (file : FileId) (s : ServedFile) → served m file ≡ Some s → (n place : ℕ) (o : Option WaitingRead) → Keeps I m (read_call m file s n place o)
+  read_call_walk m file s is n place None = same I m
+  read_call_walk m file s is n place (Some r) = read_goes_walk m file s is n place r (read.next_sent r.read m.next_xid) refl
+
+  read_in_walk : (file : FileId) (place n : ℕ) (m : MdsValue) (o : Option ServedFile) → served m file ≡ o → Keeps I m (read_call_in file place n m o)
+  read_in_walk file place n m None is = same I m
+  read_in_walk file place n m (Some s) is = read_call_walk m file s is n place (slice_get s.reads n)
+
+  reads_walk : (file : FileId) (place : ℕ) (m : MdsValue) → Keeps I m (read_calls file place m)
+  reads_walk file place m = each_walk (λ n x. read_call_in file place n x (served x file)) (λ n x. read_in_walk file place n x (served x file) refl) (range_with_len 0 (read_count (served m file))) m
+
+  -- ---- recalls
+
+  back_walk : (m : MdsValue) (call : RecallCall) → has_xids m ≡ true → (o : Option SessionState) → Keeps I m (calls_back m call o)
+  back_walk m call has None = none_keeps I m _ (k.skips m has)
+  back_walk m call has (Some session) =
+      let back = back_call call.client session in
+      let n : MdsValue = record m { sessions = with_clients m.sessions (change_first (has_id call.client) (client_called_back session.number) m.sessions.clients) } in
+      becomes_keeps I m n (calls_back m call (Some session)) (sessions_become I k m (with_clients m.sessions (change_first (has_id call.client) (client_called_back session.number) m.sessions.clients)))
+      (k.calls_back n back.node back call.file (layout_stateid_of call.file.0 call.cred.0 (stateid_seqid (served m call.file))) has)
+
+  recall_goes_walk : (m : MdsValue) (file : FileId) → has_xids m ≡ true → (o : Option RecallSends) → Keeps I m (recall_goes m file o)
+  recall_goes_walk m file has None = same I m
+  recall_goes_walk m file has (Some sent) =
+      let n : MdsValue = record m { recalls = sent.recalls } in
+      cond_both (sent.call.file.0 == file.0) (calls_back n sent.call (last_session (find (has_id sent.call.client) m.sessions.clients))) (sends_none m) (λ (s : MdsStep). Keeps I m s)
+      (λ is.
+      becomes_keeps I m n (calls_back n sent.call (last_session (find (has_id sent.call.client) m.sessions.clients))) (recalls_become I k m sent.recalls)
+      (back_walk n sent.call has (last_session (find (has_id sent.call.client) m.sessions.clients))))
+      (λ off. same I m)
+
+  recall_walk : (file : FileId) (m : MdsValue) → Keeps I m (recall_call file m)
+  recall_walk file m = cond_both (has_xids m) (recall_goes m file (next_sent m.recalls m.next_xid)) (sends_none m) (λ (s : MdsStep). Keeps I m s) (λ has. recall_goes_walk m file has (next_sent m.recalls m.next_xid)) (λ off. same I m)
+
+  -- ---- what goes out again
+
+  repeat_all : (m : MdsValue) (test : OutCall → Bool) (calls : List OutCall) → ((call : OutCall) → In call calls → In call m.calls) → (es : List Entry) (ss : List MdsSend) → I m es ss
+      → I m es (ss ++ map (λ (call : OutCall). call.sent) (filter test calls))
+  repeat_all m test [] all es ss i = subst (λ (l : List MdsSend). I m es l) (sym (append-nil ss)) i
+  repeat_all m test (call ∷ calls) all es ss i =
+      cond_both (test call) (call ∷ filter test calls) (filter test calls) (λ (l : List OutCall). I m es (ss ++ map (λ (c : OutCall). c.sent) l))
+      (λ is.
+      subst (λ (l : List MdsSend). I m es l) (append_assoc ss (call.sent ∷ []) (map (λ (c : OutCall). c.sent) (filter test calls)))
+      (repeat_all m test calls (λ c inside. all c (inr inside)) es (ss ++ call.sent ∷ []) (k.again m call.sent es ss i (k.was m es ss i call (all call (inl refl))))))
+      (λ off. repeat_all m test calls (λ c inside. all c (inr inside)) es ss i)
+
+  repeats_walk : (again : List ℕ) (file : FileId) (m : MdsValue) → Keeps I m (repeats again file m)
+  repeats_walk again file m es ss i =
+      subst (λ (l : List Entry). I m l (ss ++ (repeats again file m).sends)) (sym (append-nil es)) (repeat_all m (is_again file again) m.calls (λ call inside. inside) es ss i)
+
+  -- ---- all of them
+
+  place_walk : (file : FileId) (place : ℕ) (m : MdsValue) → Keeps I m (place_calls file place m)
+  place_walk file place m = then_keeps I m (own_calls 4 file place m) (read_calls file place) (own_walk 4 file place m) (λ n. reads_walk file place n)
+
+  file_walk : (again : List ℕ) (n : ℕ) (m : MdsValue) → Keeps I m (file_calls again n m)
+  file_walk again n m =
+      then_keeps I m (and_then (recall_call (numbered n) m) (repeats again (numbered n))) (each (place_calls (numbered n)) (0 ∷ 1 ∷ 2 ∷ 3 ∷ 4 ∷ []))
+      (then_keeps I m (recall_call (numbered n) m) (repeats again (numbered n)) (recall_walk (numbered n) m) (λ x. repeats_walk again (numbered n) x))
+      (λ x. each_walk (place_calls (numbered n)) (λ place y. place_walk (numbered n) place y) (0 ∷ 1 ∷ 2 ∷ 3 ∷ 4 ∷ []) x)
+
+  out_walk : (again : List ℕ) (m : MdsValue) → Keeps I m (calls_out again m)
+  out_walk again m = each_walk (file_calls again) (λ n x. file_walk again n x) (range_with_len 1 (length m.files)) m
+
+  -- ---- events
+
+  incoming_walk : (now : ℕ) (m : MdsValue) (node : NodeId) (v : IncomingValue) → Keeps I m (takes_incoming now m node v)
+  incoming_walk now m node PassedOver = same I m
+  incoming_walk now m node (IsReply reply) =
+      then_keeps I m (takes_answer now m node reply.xid (λ call. reply_of_call call reply) (recall_status reply.stat reply.results)) (calls_out [])
+      (answer_walk I k now m node reply.xid (λ call. reply_of_call call reply) (recall_status reply.stat reply.results)) (λ n. out_walk [] n)
+  incoming_walk now m node (IsAnswered bytes) = λ es ss i. subst (λ (l : List Entry). I m l (ss ++ Answers node bytes ∷ [])) (sym (append-nil es)) (k.answers m node bytes es ss i)
+  incoming_walk now m node (IsCompound xid v) = then_keeps I m (runs_compound now m node xid v) (calls_out []) (compound_walk I k now m node xid v) (λ n. out_walk [] n)
+
+  again_walk : (call : OutCall) (m : MdsValue) → KeepsBehind I call.sent m (goes_again call m)
+  again_walk call m =
+      cond_both (is_awaited m call && not (is_kept_by m call.xid call.caller)) (record { mds = m; entries = []; sends = call.sent ∷ [] }) (sends_none m) (λ (s : MdsStep). KeepsBehind I call.sent m s)
+      (λ is. λ es ss was i. subst (λ (l : List Entry). I m l (ss ++ call.sent ∷ [])) (sym (append-nil es)) (k.again m call.sent es ss i was)) (λ off. λ es ss was i. same I m es ss i)
+
+  late_walk : (now : ℕ) (m : MdsValue) (call : OutCall) → In call m.calls → Keeps I m (times_out now m (Some call))
+  late_walk now m call inside es ss i =
+      let timed : MdsStep = timed_out_for now m call.xid call.caller in
+      let again : MdsStep = and_then timed (goes_again call) in
+      enters_behind I call.sent m m (entry.TimedOut Mds call.xid ∷ []) (and_then again (calls_out [])) (k.notes m (entry.TimedOut Mds call.xid) refl)
+      (behind_then I call.sent m again (calls_out []) (then_behind I call.sent m timed (goes_again call) (timeout_walk I k now m call.xid call.caller) (λ n. again_walk call n)) (λ n. out_walk [] n))
+      es ss (k.was m es ss i call inside) i
+
+  times_walk : (now : ℕ) (m : MdsValue) (o : Option OutCall) → ((call : OutCall) → o ≡ Some call → In call m.calls) → Keeps I m (times_out now m o)
+  times_walk now m None inside = same I m
+  times_walk now m (Some call) inside = late_walk now m call (inside call refl)
+
+  timeouts_walk : (now : ℕ) (m : MdsValue) (node : NodeId) → Keeps I m (takes_timeout now m node)
+  timeouts_walk now m node = times_walk now m (find (is_outstanding_to m node) m.calls) (λ call is. found_in (is_outstanding_to m node) m.calls call is)
+
+  lease_walk : (m : MdsValue) (o : Option ClientState) (next : MdsValue → MdsStep) → ((n : MdsValue) → Keeps I n (next n)) → Keeps I m (lease_ends m o next)
+  lease_walk m None next all = same I m
+  lease_walk m (Some c) next all =
+      let n : MdsValue = record m { sessions = without_client m.sessions c.id } in
+      then_keeps I m (ends_client n c.id Lease) next
+      (becomes_keeps I m n (ends_client n c.id Lease) (sessions_become I k m (without_client m.sessions c.id)) (silent_keeps I n (ends_client n c.id Lease) (client_ends I k n c.id Lease))) all
+
+  leases_walk : (now n : ℕ) (m : MdsValue) → Keeps I m (leases_end now n m)
+  leases_walk now zero m = same I m
+  leases_walk now (suc n) m = lease_walk m (find (has_ended now) m.sessions.clients) (leases_end now n) (λ x. leases_walk now n x)
+
+  expires_walk : (m : MdsValue) (o : Option (FileId × Cred)) (next : MdsValue → MdsStep) → ((n : MdsValue) → Keeps I n (next n)) → Keeps I m (recall_expires m o next)
+  expires_walk m None next all = same I m
+  expires_walk m (Some grant) next all =
+      then_keeps I m (takes_input m grant.0 (Revokes Recalled)) next (silent_keeps I m (takes_input m grant.0 (Revokes Recalled)) (takes I k m grant.0 (Revokes Recalled))) all
+
+  recalls_walk : (now n : ℕ) (m : MdsValue) → Keeps I m (recalls_expire now n m)
+  recalls_walk now zero m = none_keeps I m (record m { recalls = (after_tick m.recalls now).recalls }) (recalls_become I k m (after_tick m.recalls now).recalls)
+  recalls_walk now (suc n) m =
+      let x : MdsValue = record m { recalls = (after_tick m.recalls now).recalls } in
+      becomes_keeps I m x (recall_expires x (after_tick m.recalls now).expired (recalls_expire now n)) (recalls_become I k m (after_tick m.recalls now).recalls)
+      (expires_walk x (after_tick m.recalls now).expired (recalls_expire now n) (λ y. recalls_walk now n y))
+
+  files_walk : (m : MdsValue) → Keeps I m (files_tick m)
+  files_walk m =
+      let all : MdsStep = each (λ n x. takes_input x (numbered n) Ticks) (range_with_len 1 (length m.files)) m in
+      then_keeps I m all (calls_out (kept_numbers m))
+      (each_walk (λ n x. takes_input x (numbered n) Ticks) (λ n x. silent_keeps I x (takes_input x (numbered n) Ticks) (takes I k x (numbered n) Ticks)) (range_with_len 1 (length m.files)) m) (λ n. out_walk (kept_numbers m) n)
+
+  tick_walk : (now : ℕ) (m : MdsValue) → Keeps I m (takes_tick now m)
+  tick_walk now m =
+      let leases : MdsStep = leases_end now (length m.sessions.clients) m in
+      then_keeps I m (and_then leases (λ n. recalls_expire now (length n.recalls) n)) files_tick
+      (then_keeps I m leases (λ n. recalls_expire now (length n.recalls) n) (leases_walk now (length m.sessions.clients) m) (λ n. recalls_walk now (length n.recalls) n)) (λ n. files_walk n)
+
+  input_walk : (now : ℕ) (input : MdsInput) (m : MdsValue) → Keeps I m (by_input now input m)
+  input_walk now (Hears from bytes) m = incoming_walk now m from (incoming_of bytes)
+  input_walk now (IsTimedOut to) m = timeouts_walk now m to
+  input_walk now IsTick m = tick_walk now m
+  input_walk now (RecallsFile file) m = then_keeps I m (asks_back m file now) (calls_out []) (silent_keeps I m (asks_back m file now) (asks I k m file now)) (λ n. out_walk [] n)
+  input_walk now (Resilvers file) m =
+      then_keeps I m (takes_input m file Resilver) (calls_out []) (silent_keeps I m (takes_input m file Resilver) (takes I k m file Resilver)) (λ n. out_walk [] n)
+
+  run_walk : (events : List MdsEvent) (m : MdsValue) → Keeps I m (run_from m events)
+  run_walk [] m = same I m
+  run_walk (e ∷ events) m = then_keeps I m (after_event e m) (λ n. run_from n events) (input_walk e.now e.input m) (λ n. run_walk events n)
+
+  -- ---- it holds behind every run where it holds of a new server
+
+  pub in_each_run : (m : MdsValue) (events : List MdsEvent) → I m [] [] → I (run_from m events).mds (run_from m events).entries (run_from m events).sends
+  in_each_run m events i = run_walk events m [] [] i

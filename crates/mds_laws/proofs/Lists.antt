@@ -1,0 +1,107 @@
+-- What stands in a list, and what holds of each of its elements behind those before it.
+use Rattle.std.proofs.Common.{◌≡◌, ℕ, zero, suc, Bool, true, false, cond, List, [], ◌∷◌, ◌++◌, Some, refl, sym, ap, subst, inl, inr, ◌⊎◌}
+use Rattle.std.specs.Prelude.{filter, slice_get, slice_set}
+use Rattle.std.specs.List.{find}
+use Rattle.std.proofs.lemmas.Bool.{cond_both}
+use Rattle.std.proofs.lemmas.List.{append_assoc, append-nil}
+use Rattle.std.proofs.lemmas.Option.{same_Some, none-some}
+
+-- ---- it stands in the list
+
+abbrev pub In : {A : Type 0} → A → List A → Type 0
+In x [] = ⊥
+In x (y ∷ ys) = (x ≡ y) ⊎ In x ys
+
+pub in_more : {A : Type 0} (x : A) (xs more : List A) → In x xs → In x (xs ++ more)
+in_more x [] more inside = absurd inside
+in_more x (y ∷ ys) more (inl is) = inl is
+in_more x (y ∷ ys) more (inr inside) = inr (in_more x ys more inside)
+
+pub in_last : {A : Type 0} (x : A) (xs : List A) → In x (xs ++ x ∷ [])
+in_last x [] = inl refl
+in_last x (y ∷ ys) = inr (in_last x ys)
+
+-- of a list with one more element: an old one, or the new one
+pub in_pushed : {A : Type 0} (x y : A) (xs : List A) → In x (xs ++ y ∷ []) → In x xs ⊎ (x ≡ y)
+in_pushed x y [] (inl is) = inr is
+in_pushed x y [] (inr inside) = absurd inside
+in_pushed x y (z ∷ zs) (inl is) = inl (inl is)
+in_pushed x y (z ∷ zs) (inr inside) = further (in_pushed x y zs inside)
+  where
+    further : In x zs ⊎ (x ≡ y) → In x (z ∷ zs) ⊎ (x ≡ y)
+    further (inl old) = inl (inr old)
+    further (inr new) = inr new
+
+pub in_filtered : {A : Type 0} (test : A → Bool) (x : A) (xs : List A) → In x (filter test xs) → In x xs
+in_filtered test x [] inside = absurd inside
+in_filtered {A = A} test x (y ∷ ys) inside =
+    cond_both (test y) (y ∷ filter test ys) (filter test ys) (λ (l : List A). In x l → In x (y ∷ ys)) (λ is. kept (in_filtered test x ys)) (λ off. λ its. inr (in_filtered test x ys its)) inside
+  where
+    kept : (In x (filter test ys) → In x ys) → In x (y ∷ filter test ys) → In x (y ∷ ys)
+    kept more (inl is) = inl is
+    kept more (inr its) = inr (more its)
+
+pub found_in : {A : Type 0} (test : A → Bool) (xs : List A) (x : A) → find test xs ≡ Some x → In x xs
+found_in test [] x is = absurd (none-some x is)
+found_in {A = A} test (y ∷ xs) x is = by_test (test y) is (found_in test xs x)
+  where
+    by_test : (b : Bool) → cond b (Some y) (find test xs) ≡ Some x → (find test xs ≡ Some x → In x xs) → In x (y ∷ xs)
+    by_test true its more = inl (sym (same_Some y x its))
+    by_test false its more = inr (more its)
+
+pub record Split {A : Type 0} (x : A) (xs : List A) : Type 0 where
+  pub front : List A
+  pub behind : List A
+  pub is : xs ≡ front ++ x ∷ behind
+
+pub split_in : {A : Type 0} (x : A) (xs : List A) → In x xs → Split x xs
+split_in x [] inside = absurd inside
+split_in x (y ∷ ys) (inl is) = record { front = []; behind = ys; is = ap (λ z. z ∷ ys) (sym is) }
+split_in x (y ∷ ys) (inr inside) = let s : Split x ys = split_in x ys inside in record { front = y ∷ s.front; behind = s.behind; is = ap (λ l. y ∷ l) s.is }
+
+-- ---- each element is so, behind those before it
+
+abbrev pub EachOf : {A : Type 0} → (List A → A → Type 0) → List A → List A → Type 0
+EachOf P past [] = Unit {0}
+EachOf P past (x ∷ xs) = P past x × EachOf P (past ++ x ∷ []) xs
+
+pub each_push : {A : Type 0} (P : List A → A → Type 0) (past xs : List A) (x : A) → EachOf P past xs → P (past ++ xs) x → EachOf P past (xs ++ x ∷ [])
+each_push {A = A} P past [] x each now = (subst (λ (l : List A). P l x) (append-nil past) now, tt)
+each_push {A = A} P past (y ∷ xs) x each now = (each.0, each_push P (past ++ y ∷ []) xs x each.1 (subst (λ (l : List A). P l x) (sym (append_assoc past (y ∷ []) xs)) now))
+
+pub each_join : {A : Type 0} (P : List A → A → Type 0) (past xs ys : List A) → EachOf P past xs → EachOf P (past ++ xs) ys → EachOf P past (xs ++ ys)
+each_join {A = A} P past [] ys each more = subst (λ (l : List A). EachOf P l ys) (append-nil past) more
+each_join {A = A} P past (x ∷ xs) ys each more = (each.0, each_join P (past ++ x ∷ []) xs ys each.1 (subst (λ (l : List A). EachOf P l ys) (sym (append_assoc past (x ∷ []) xs)) more))
+
+pub each_at : {A : Type 0} (P : List A → A → Type 0) (past before after : List A) (x : A) → EachOf P past (before ++ x ∷ after) → P (past ++ before) x
+each_at {A = A} P past [] after x each = subst (λ (l : List A). P l x) (sym (append-nil past)) each.0
+each_at {A = A} P past (y ∷ before) after x each = subst (λ (l : List A). P l x) (append_assoc past (y ∷ []) before) (each_at P (past ++ y ∷ []) before after x each.1)
+
+-- ---- each element is so
+
+abbrev pub AllOf : {A : Type 0} → (A → Type 0) → List A → Type 0
+AllOf P [] = Unit {0}
+AllOf P (x ∷ xs) = P x × AllOf P xs
+
+pub all_push : {A : Type 0} (P : A → Type 0) (xs : List A) (x : A) → AllOf P xs → P x → AllOf P (xs ++ x ∷ [])
+all_push P [] x all is = (is, tt)
+all_push P (y ∷ ys) x all is = (all.0, all_push P ys x all.1 is)
+
+pub all_in : {A : Type 0} (P : A → Type 0) (xs : List A) (x : A) → AllOf P xs → In x xs → P x
+all_in P [] x all inside = absurd inside
+all_in P (y ∷ ys) x all (inl is) = subst P (sym is) all.0
+all_in P (y ∷ ys) x all (inr inside) = all_in P ys x all.1 inside
+
+pub all_set : {A : Type 0} (P : A → Type 0) (xs : List A) (place : ℕ) (x : A) → AllOf P xs → P x → AllOf P (slice_set xs place x)
+all_set P [] place x all is = tt
+all_set P (y ∷ ys) zero x all is = (is, all.1)
+all_set P (y ∷ ys) (suc place) x all is = (all.0, all_set P ys place x all.1 is)
+
+pub all_got : {A : Type 0} (P : A → Type 0) (xs : List A) (place : ℕ) (x : A) → AllOf P xs → slice_get xs place ≡ Some x → P x
+all_got P [] place x all is = absurd cc
+all_got P (y ∷ ys) zero x all is = subst P (same_Some y x is) all.0
+all_got P (y ∷ ys) (suc place) x all is = all_got P ys place x all.1 is
+
+pub all_split : {A : Type 0} (P : A → Type 0) (before after : List A) (x : A) → AllOf P (before ++ x ∷ after) → P x
+all_split P [] after x all = all.0
+all_split P (y ∷ before) after x all = all_split P before after x all.1

@@ -1,0 +1,236 @@
+-- Each operation on files and layouts keeps what is kept in each case.
+use Rattle.std.proofs.Common.{◌≡◌, ℕ, ◌+◌, Bool, true, false, cond, List, [], ◌∷◌, length, Option, Some, None, refl, sym, subst, inl, inr}
+use Rattle.std.specs.Prelude.{◌-◌, ◌==◌, is_some, slice_get, slice_set}
+use Rattle.std.specs.List.{list_any}
+use Rattle.std.proofs.lemmas.Bool.{cond_both}
+use Rattle.ff_xdr.specs.Form.{Value}
+use Rattle.ff_xdr.specs.Arms.{arm, by_arm, of_each_arm}
+use Rattle.cluster_model.specs.declared.ids.NodeId.{NodeId}
+use Rattle.cluster_model.specs.declared.ids.NodeId.TheVariants.{Mds, Server, Client}
+use Rattle.cluster_model.specs.declared.ids.FileId.{FileId}
+use Rattle.cluster_model.specs.declared.phase.EndCause.TheVariants.{ReturnedAll}
+use Rattle.cluster_model.specs.declared.phase.Phase.{Phase}
+use Rattle.cluster_model.specs.declared.entry.Entry.{Entry}
+use Rattle.cluster_model.specs.declared.entry.Entry.TheVariants as entry
+use Rattle.cluster_model.specs.Phases.{holder_of}
+use Rattle.device_addr.specs.Universal.{AddressValue}
+use Rattle.cluster_model.proofs.Elements.{slice_get-set_same}
+use Rattle.recall.specs.Recalls.{without_file}
+use Rattle.mds_rows.specs.Draws.{drawn}
+use Rattle.file_rule.specs.MdsFiles.{MdsFile, FileStep}
+use Rattle.file_rule.specs.FilePhases.{OwnWrite, AsksLayout, Returns, phase}
+use Rattle.ff_layout.specs.IoError.{ff_ioerr4}
+use Rattle.layout_report.specs.Reports.{report_of}
+use Rattle.nfs4_types.specs.declared.status.Stat4.{Stat4}
+use Rattle.nfs4_types.specs.declared.status.Stat4.TheVariants as stat
+use Rattle.nfs4_file_ops.specs.Close.{close4_args}
+use Rattle.nfs4_file_ops.specs.Open.{open4_args}
+use Rattle.nfs4_file_ops.specs.Read.{read4_args}
+use Rattle.nfs4_file_ops.specs.Write.{write4_args}
+use Rattle.nfs4_file_ops.specs.GetDeviceInfo.{getdeviceinfo4_args}
+use Rattle.nfs4_file_ops.specs.LayoutCommit.{layoutcommit4_args}
+use Rattle.nfs4_file_ops.specs.LayoutGet.{layoutget4_args}
+use Rattle.nfs4_file_ops.specs.LayoutReturn.{layoutreturn4, layoutreturn_file4, layoutreturn4_args}
+use Rattle.open_state.specs.declared.open.Open.{Open}
+use Rattle.open_state.specs.Opens.{OpensValue, open_of}
+use Rattle.mds_operations.specs.declared.object.Object.{Object}
+use Rattle.mds_operations.specs.declared.object.Object.TheVariants.{File}
+use Rattle.mds_operations.specs.declared.layout_get.LayoutGetFound.{LayoutGetFound}
+use Rattle.mds_operations.specs.Orders.{refusal}
+use Rattle.nfs4_compound.specs.Results.{resop4}
+use Rattle.mds_operations.specs.Lookup.{lookup_order}
+use Rattle.mds_operations.specs.Commit.{commit_order}
+use Rattle.mds_operations.specs.LayoutReturns.{layout_return_all_order}
+use Rattle.mds_operations.specs.LayoutCommit.{layout_commit_order}
+use Rattle.mds_operations.specs.Writes.{write_order}
+use Rattle.mds_operations.specs.LayoutGets.{layout_get_order}
+use Rattle.mds_operations.specs.GetDeviceInfo.{device_info_order}
+use Rattle.mds_operations.specs.PutFh.{put_fh_order, object_of}
+use Rattle.mds_rule.specs.MdsStates.{CompoundRun, WaitingWrite, ServedFile, MdsSend, MdsValue, MdsStep, sends_none, served, with_served, numbered, file_named}
+use Rattle.mds_rule.specs.OpSteps.{OpStep, with_result, at_object, gives, refused_or}
+use Rattle.mds_rule.specs.ServedFiles.{has_fresh, is_end, file_behind, stepped, input_at, takes_input, asks_back, ends_periods}
+use Rattle.mds_rule.specs.SessionOps.{goes_with}
+use Rattle.mds_rule.specs.FileOps.{client_of, current_file, file_or_none, stateid_in, named_in, write_verifier, put_object, runs_put_fh, get_object, runs_get_fh, runs_lookup, get_attributes, runs_get_attr, with_new_file, opened, opens_or_makes, runs_open, name_in, closed, closes, runs_close, runs_commit, reads_at, runs_read, piece_of, with_write, writes_at, writes_file, ends_by, write_refused, runs_write, write_ask, is_delay}
+use Rattle.mds_rule.specs.LayoutOps.{no_stateid, layout_asked, layout_found, with_holder, granted_in, grants_to, is_granted, phase_behind, later_by, layout_answer, runs_layout_get, is_try_later, errors_of, client_number, return_by, returns_file, file_return, returns_all, runs_layout_return, runs_layout_commit, device_from, device_size, device_answer, runs_get_device_info}
+use Rattle.mds_laws.proofs.Keeping.{Becomes, KeepsOp, Cases, IsWriteOf, no_entries, stays, enters_then, enters_becomes}
+use Rattle.mds_laws.proofs.ServedWalk.{takes, asks, periods, refused}
+
+-- a write that goes on
+pub old_write : (file : MdsFile) (o : Option WaitingWrite) → IsWriteOf file o o
+old_write file None = tt
+old_write file (Some w) = inr refl
+
+-- ---- a file that is served
+
+served_at : (b : Bool) (x : Option ServedFile) (s : ServedFile) → cond b None x ≡ Some s → (b ≡ false) × (x ≡ Some s)
+served_at true x s is = absurd cc
+served_at false x s is = (refl, is)
+
+pub place_served : (m : MdsValue) (file : FileId) (s : ServedFile) → served m file ≡ Some s → ((file.0 == 0) ≡ false) × (slice_get m.files (file.0 - 1) ≡ Some s)
+place_served m file s is = served_at (file.0 == 0) (slice_get m.files (file.0 - 1)) s is
+
+pub served_put : (m : MdsValue) (file : FileId) (s t : ServedFile) → served m file ≡ Some s → served (with_served m file t) file ≡ Some t
+served_put m file s t is =
+    let at = place_served m file s is in
+    subst (λ (b : Bool). cond b None (slice_get (slice_set m.files (file.0 - 1) t) (file.0 - 1)) ≡ Some t) (sym at.0) (slice_get-set_same m.files (file.0 - 1) s t at.1)
+
+pub served_stepped : (m : MdsValue) (file : FileId) (s : ServedFile) (step : FileStep) → served m file ≡ Some s → served (stepped m file s step).mds file ≡ Some (file_behind s step)
+served_stepped m file s step is =
+    let n : MdsValue = with_served (record m { fresh = drawn m.fresh step }) file (file_behind s step) in
+    cond_both (list_any is_end step.entries) (record n { recalls = without_file file n.recalls }) n (λ (x : MdsValue). served x file ≡ Some (file_behind s step))
+    (λ end. served_put (record m { fresh = drawn m.fresh step }) file s (file_behind s step) is) (λ other. served_put (record m { fresh = drawn m.fresh step }) file s (file_behind s step) is)
+
+module _ (I : MdsValue → List Entry → List MdsSend → Type 0) (k : Cases I) where
+  -- ---- names and opens
+
+  object_put : (m : MdsValue) (c : CompoundRun) (o : Option Object) → KeepsOp I m (put_object m c o)
+  object_put m c None = stays I m
+  object_put m c (Some object) = stays I m
+
+  pub puts_fh : (m : MdsValue) (c : CompoundRun) (handle : List ℕ) → KeepsOp I m (runs_put_fh m c handle)
+  puts_fh m c handle = refused I k m c 22 (refusal (put_fh_order handle (length m.files))) _ (object_put m c (object_of handle))
+
+  object_got : (m : MdsValue) (c : CompoundRun) (o : Option Object) → KeepsOp I m (get_object m c o)
+  object_got m c None = stays I m
+  object_got m c (Some object) = stays I m
+
+  pub gets_fh : (m : MdsValue) (c : CompoundRun) → KeepsOp I m (runs_get_fh m c)
+  gets_fh m c = object_got m c c.current
+
+  pub looks_up : (m : MdsValue) (c : CompoundRun) (name : List ℕ) → KeepsOp I m (runs_lookup m c name)
+  looks_up m c name =
+      refused I k m c 15 (refusal (lookup_order c.current name (file_named m name))) (gives m (at_object c (File (file_or_none (file_named m name)))) (arm 15 resop4 (inl tt))) (stays I m)
+
+  attributes_got : (m : MdsValue) (c : CompoundRun) (words : List ℕ) (o : Option Object) → KeepsOp I m (get_attributes m c words o)
+  attributes_got m c words None = stays I m
+  attributes_got m c words (Some object) = stays I m
+
+  pub gets_attr : (m : MdsValue) (c : CompoundRun) (words : List ℕ) → KeepsOp I m (runs_get_attr m c words)
+  gets_attr m c words = attributes_got m c words c.current
+
+  opens_become : (m : MdsValue) (opens : OpensValue) → Becomes I m (record m { opens = opens })
+  opens_become m opens = k.quiet m m.sessions opens m.reclaimed m.recalls
+
+  open_walk : (m : MdsValue) (c : CompoundRun) (name : List ℕ) (o : Option FileId) → KeepsOp I m (opens_or_makes m c name o)
+  open_walk m c name (Some file) = no_entries I m (record m { opens = opened m.opens (client_of c) file }) (opens_become m (opened m.opens (client_of c) file))
+  open_walk m c name None =
+      no_entries I m (record (with_new_file m name) { opens = opened m.opens (client_of c) (numbered (length m.files + 1)) })
+      (λ es ss i. opens_become (with_new_file m name) (opened m.opens (client_of c) (numbered (length m.files + 1))) es ss (k.makes m name es ss i))
+
+  pub opens : (m : MdsValue) (c : CompoundRun) (args : Value open4_args) → KeepsOp I m (runs_open m c args)
+  opens m c (seqid, (access, (deny, (clientid, (owner, (how, claim)))))) = refused I k m c 18 _ _ (open_walk m c (name_in claim) (file_named m (name_in claim)))
+
+  close_walk : (m : MdsValue) (c : CompoundRun) (file : FileId) (o : Option Open) → KeepsOp I m (closes m c file o)
+  close_walk m c file None = stays I m
+  close_walk m c file (Some o) = no_entries I m (record m { opens = closed m.opens (client_of c) file }) (opens_become m (closed m.opens (client_of c) file))
+
+  pub closes_file : (m : MdsValue) (c : CompoundRun) (args : Value close4_args) → KeepsOp I m (runs_close m c args)
+  closes_file m c (seqid, stateid) = refused I k m c 4 _ _ (close_walk m c (current_file c) (open_of m.opens (client_of c) (current_file c)))
+
+  pub commits : (m : MdsValue) (c : CompoundRun) → KeepsOp I m (runs_commit m c)
+  commits m c = refused I k m c 5 (refusal (commit_order c.current)) (gives m c (arm 5 resop4 (inl write_verifier))) (stays I m)
+
+  -- ---- bytes
+
+  read_walk : (m : MdsValue) (c : CompoundRun) (file : FileId) (at count : ℕ) (o : Option ServedFile) → served m file ≡ o → KeepsOp I m (reads_at m c file at count o)
+  read_walk m c file at count None is = stays I m
+  read_walk m c file at count (Some s) is = no_entries I m _ (k.puts m file s _ is refl (old_write s.file s.write))
+
+  pub reads : (m : MdsValue) (c : CompoundRun) (args : Value read4_args) → KeepsOp I m (runs_read m c args)
+  reads m c (stateid, (offset, count)) = refused I k m c 25 _ _ (read_walk m c (current_file c) offset (piece_of count) (served m (current_file c)) refl)
+
+  write_begun : (m : MdsValue) (c : CompoundRun) (file : FileId) (at : ℕ) (bytes : List ℕ) (o : Option ServedFile) → served m file ≡ o → Becomes I m (writes_at m c file at bytes o)
+  write_begun m c file at bytes None is = λ es ss i. i
+  write_begun m c file at bytes (Some s) is = k.puts m file s (with_write c at bytes s) is refl (inl refl)
+
+  write_walk : (m : MdsValue) (c : CompoundRun) (args : Value write4_args) → KeepsOp I m (writes_file m c args)
+  write_walk m c (stateid, (offset, (stable, []))) = stays I m
+  write_walk m c (stateid, (offset, (stable, (b ∷ bytes)))) =
+      let s : MdsStep = takes_input m (current_file c) (OwnWrite offset (b ∷ bytes)) in
+      enters_becomes I m s.mds (writes_at s.mds c (current_file c) offset (b ∷ bytes) (served s.mds (current_file c))) s.entries (takes I k m (current_file c) (OwnWrite offset (b ∷ bytes))).enters
+      (write_begun s.mds c (current_file c) offset (b ∷ bytes) (served s.mds (current_file c)) refl)
+
+  pub writes : (m : MdsValue) (c : CompoundRun) (now : ℕ) (args : Value write4_args) → KeepsOp I m (runs_write m c now args)
+  writes m c now args = by_status (refusal (write_order c.current (write_ask m c args)))
+    where
+      by_status : (status : Option Stat4) → KeepsOp I m (write_refused m c now args status)
+      by_status status =
+          cond_both (is_delay status) (ends_by (asks_back m (current_file c) now) c 38 stat.Delay) (refused_or m c 38 status (writes_file m c args)) (λ (x : OpStep). KeepsOp I m x)
+          (λ is. (asks I k m (current_file c) now).enters) (λ off. refused I k m c 38 status (writes_file m c args) (write_walk m c args))
+
+  -- ---- layouts
+
+  grant_again : (m : MdsValue) (c : CompoundRun) (file : FileId) (again : Bool) (o : Option ServedFile) → served m file ≡ o → KeepsOp I m (granted_in (sends_none m) c file again o)
+  grant_again m c file again None is = stays I m
+  grant_again m c file again (Some s) is = no_entries I m (with_served m file (with_holder (client_of c) again s)) (k.puts m file s (with_holder (client_of c) again s) is refl (old_write s.file s.write))
+
+  -- the file is there still behind the input
+  grant_walk : (m : MdsValue) (c : CompoundRun) (file : FileId) (n : ℕ) (o : Option ServedFile) → served m file ≡ o
+      → KeepsOp I m (granted_in (input_at m file (AsksLayout n) o) c file false (served (input_at m file (AsksLayout n) o).mds file))
+  grant_walk m c file n None is = grant_again m c file false (served m file) refl
+  grant_walk m c file n (Some s) is =
+      cond_both (has_fresh m.fresh) (stepped m file s step) (sends_none m) (λ (x : MdsStep). KeepsOp I m (granted_in x c file false (served x.mds file)))
+      (λ fresh.
+      subst (λ (o : Option ServedFile). KeepsOp I m (granted_in (stepped m file s step) c file false o)) (sym (served_stepped m file s step is))
+      (enters_becomes I m (stepped m file s step).mds (with_served (stepped m file s step).mds file (with_holder (client_of c) false (file_behind s step))) step.entries
+      (k.inputs m file s (AsksLayout n) is fresh)
+      (k.puts (stepped m file s step).mds file (file_behind s step) (with_holder (client_of c) false (file_behind s step)) (served_stepped m file s step is) refl (old_write step.file s.write))))
+      (λ off. grant_again m c file false (served m file) refl)
+    where
+      step : FileStep
+      step = phase file s.file (AsksLayout n) m.fresh
+
+  grants_walk : (m : MdsValue) (c : CompoundRun) (file : FileId) (again : Bool) (node : NodeId) → KeepsOp I m (grants_to m c file again node)
+  grants_walk m c file true node = grant_again m c file true (served m file) refl
+  grants_walk m c file false Mds = stays I m
+  grants_walk m c file false (Server n) = stays I m
+  grants_walk m c file false (Client n) = grant_walk m c file n (served m file) refl
+
+  later_walk : (m : MdsValue) (c : CompoundRun) (now : ℕ) (p : Option Phase) → KeepsOp I m (later_by m c now p)
+  later_walk m c now None = stays I m
+  later_walk m c now (Some p) =
+      let s : MdsStep = asks_back m (current_file c) now in
+      enters_then I m m s.mds (entry.Later (current_file c) p ∷ []) s.entries (k.notes m (entry.Later (current_file c) p) refl) (asks I k m (current_file c) now).enters
+
+  pub layout_gets : (m : MdsValue) (c : CompoundRun) (now : ℕ) (args : Value layoutget4_args) → KeepsOp I m (runs_layout_get m c now args)
+  layout_gets m c now args = by_found (layout_found m c (layout_asked args)) (refusal (layout_get_order c.current (layout_asked args) (layout_found m c (layout_asked args))))
+    where
+      by_found : (found : LayoutGetFound) (status : Option Stat4) → KeepsOp I m (layout_answer m c now found status)
+      by_found found status =
+          cond_both (is_try_later status) (later_by m c now (phase_behind found.fault)) (refused_or m c 50 status (grants_to m c (current_file c) (is_granted (served m (current_file c))) c.node)) (λ (x : OpStep). KeepsOp I m x)
+          (λ is. later_walk m c now (phase_behind found.fault))
+          (λ off. refused I k m c 50 status (grants_to m c (current_file c) (is_granted (served m (current_file c))) c.node) (grants_walk m c (current_file c) (is_granted (served m (current_file c))) c.node))
+
+  return_walk : (m : MdsValue) (c : CompoundRun) (file : FileId) (errors : List (Value ff_ioerr4)) (o : Option ServedFile) → KeepsOp I m (return_by m c file errors o)
+  return_walk m c file errors None = stays I m
+  return_walk m c file errors (Some s) = (takes I k m file (Returns (client_number (holder_of s.file.layout.phase)) s.file.layout.cred (report_of errors s.file.layout.live))).enters
+
+  returns_walk : (m : MdsValue) (c : CompoundRun) (o : Option (List (Value ff_ioerr4))) → KeepsOp I m (returns_file m c o)
+  returns_walk m c None = stays I m
+  returns_walk m c (Some errors) = return_walk m c (current_file c) errors (served m (current_file c))
+
+  file_walk : (m : MdsValue) (c : CompoundRun) (reclaim : Bool) (layout_type : ℕ) (args : Value layoutreturn_file4) → KeepsOp I m (file_return m c reclaim layout_type args)
+  file_walk m c reclaim layout_type (offset, (length, (stateid, body))) = refused I k m c 51 _ _ (returns_walk m c (errors_of body))
+
+  all_walk : (m : MdsValue) (c : CompoundRun) (reclaim : Bool) (layout_type : ℕ) → KeepsOp I m (returns_all m c reclaim layout_type)
+  all_walk m c reclaim layout_type =
+      refused I k m c 51 (refusal (layout_return_all_order layout_type reclaim)) (goes_with (ends_periods m (client_of c) ReturnedAll) (with_result c no_stateid)) (periods I k m (client_of c) ReturnedAll).enters
+
+  pub layout_returns : (m : MdsValue) (c : CompoundRun) (args : Value layoutreturn4_args) → KeepsOp I m (runs_layout_return m c args)
+  layout_returns m c (reclaim, (layout_type, (iomode, kind))) =
+      of_each_arm layoutreturn4
+      (λ (v : Value layoutreturn4).
+      KeepsOp I m (by_arm layoutreturn4 ((λ file. file_return m c reclaim layout_type file), ((λ fsid. returns_all m c reclaim layout_type), ((λ all. returns_all m c reclaim layout_type), tt))) v))
+      ((λ file. file_walk m c reclaim layout_type file), ((λ fsid. all_walk m c reclaim layout_type), ((λ all. all_walk m c reclaim layout_type), tt))) kind
+
+  pub layout_commits : (m : MdsValue) (c : CompoundRun) (args : Value layoutcommit4_args) → KeepsOp I m (runs_layout_commit m c args)
+  layout_commits m c (offset, (length, (reclaim, (stateid, rest)))) =
+      refused I k m c 49 (refusal (layout_commit_order c.current (named_in m c (stateid_in stateid)))) (gives m c (arm 49 resop4 (inl None))) (stays I m)
+
+  pub device_infos : (m : MdsValue) (c : CompoundRun) (args : Value getdeviceinfo4_args) → KeepsOp I m (runs_get_device_info m c args)
+  device_infos m c (device, (layout_type, (maxcount, notify))) = by_status (device_from 1 m.servers device) (refusal (device_info_order layout_type (is_some (device_from 1 m.servers device)) maxcount (device_size (device_from 1 m.servers device))))
+    where
+      by_status : (found : Option AddressValue) (status : Option Stat4) → KeepsOp I m (device_answer m c maxcount found status)
+      by_status found None = stays I m
+      by_status found (Some stat.TooSmall) = stays I m
+      by_status found (Some status) = stays I m
