@@ -39,11 +39,11 @@ use Rattle.recall.specs.declared.recall.Outcome.TheVariants as outcome
 use Rattle.recall.specs.Recalls.{RecallsAfter}
 use Rattle.recall.specs.Recalls as recalls
 use Rattle.mds_rule.specs.MdsStates as mds
-use Rattle.mds_rule.specs.MdsStates.{CompoundRun, WaitingRead, WaitingWrite, ServedFile, MdsSend, CallsServer, CallsBack, Replies, Caller, ForFile, ForRead, ForWrite, ForRecall, OutCall, MdsValue, MdsStep, sends_none, and_then, served, with_served}
+use Rattle.mds_rule.specs.MdsStates.{CompoundRun, WaitingRead, WaitingWrite, ServedFile, MdsSend, CallsServer, CallsBack, Replies, Waiter, ForFile, ForRead, ForWrite, ForRecall, AwaitedCall, MdsValue, MdsStep, sends_none, and_then, served, with_served}
 use Rattle.mds_rule.specs.OpSteps.{OpStep, Goes, Ends, Waits, with_result, refuses, refused_as, unread, stopped, is_operation_number}
 use Rattle.mds_rule.specs.ServedFiles.{takes_input}
-use Rattle.mds_rule.specs.Compounds.{operate, has_session, operates, compound_bytes, kept_in_slot, finishes, op_then, with_ops, runs, sequence_in, in_slot, sequenced, sequence_of, may_stand_alone, first_alone, first_by, first_of, new_run, runs_compound}
-use Rattle.mds_rule.specs.Answers.{is_awaited, is_call_to, without_call, sized, fileid_of, shown_by, sees_in, sees_size, resumes, is_done_as, has_failed_as, failed_entry, failed_entries, read_result, without_read, read_ends, read_at, read_from, read_of, steps_read, is_read_out, write_answer, write_ends, write_of, write_in, steps_write, with_failed, causes_of, sees_ctime, recall_end, recall_outcome, recalls_after, server_answered, answered_as, answers_found, takes_answer, timed_out_for}
+use Rattle.mds_rule.specs.Compounds.{operate, has_session, operates, compound_bytes, kept_in_slot, finishes, op_then, with_ops, runs, sequence_in, in_slot, sequenced, sequence_of, may_stand_alone, first_alone, first_by, first_operation, new_run, runs_compound}
+use Rattle.mds_rule.specs.Answers.{is_awaited, is_call_to, without_call, sized, fileid_of, attributes_shown, sees_in, sees_size, resumes, is_done_as, has_failed_as, failed_entry, failed_entries, read_result, without_read, read_ends, read_step_at, read_from, read_of, steps_read, is_read_out, write_answer, write_ends, write_of, write_in, steps_write, with_failed, failures_by_place, sees_ctime, recall_end, recall_outcome, recalls_after, server_answered, answered_as, answers_found, takes_answer, timed_out_for}
 use Rattle.mds_laws.proofs.Keeping.{Becomes, Enters, Keeps, KeepsOp, Cases, IsCredOf, IsWriteOf, then_keeps, none_keeps, same, becomes_keeps, enters_keeps, no_entries, stays, becomes_silent, silent_keeps}
 use Rattle.mds_laws.proofs.ServedWalk.{takes, sessions_become, recalls_become, exchanges, creates, binds, destroys_session, destroys_client, reclaims_all}
 use Rattle.mds_laws.proofs.OpsWalk.{old_write, puts_fh, gets_fh, looks_up, gets_attr, opens, closes_file, commits, reads, writes, layout_gets, layout_returns, layout_commits, device_infos}
@@ -168,7 +168,7 @@ module _ (I : MdsValue → List Entry → List MdsSend → Type 0) (k : Cases I)
       (λ one. op_walk m (operate now m (with_ops c ops) op) (λ n d. runs now ops n d) (operate_walk now m (with_ops c ops) op) (λ n d. run_walk now ops n d)))
       (λ off. op_walk m (refuses m c (arm_of argop4 op) stat.OpNotInSession) (λ n d. sends_none n) (stays I m) (λ n d. same I n))
 
-  ops_walk : (now : ℕ) (m : MdsValue) (c : CompoundRun) (count : ℕ) (ops : List (Value argop4)) → Keeps I m (first_of now m c count ops)
+  ops_walk : (now : ℕ) (m : MdsValue) (c : CompoundRun) (count : ℕ) (ops : List (Value argop4)) → Keeps I m (first_operation now m c count ops)
   ops_walk now m c count [] = run_walk now [] m c
   ops_walk now m c count (op ∷ ops) = first_walk now m c count op ops (sequence_of op)
 
@@ -189,7 +189,7 @@ module _ (I : MdsValue → List Entry → List MdsSend → Type 0) (k : Cases I)
 
   sees_walk : (m : MdsValue) (file : FileId) (server : ℕ) (call : DsCallValue) (reply : DsReplyValue) (o : Option ServedFile) → served m file ≡ o → Becomes I m (sees_in m file server call reply o)
   sees_walk m file server call reply None is = λ es ss i. i
-  sees_walk m file server call reply (Some s) is = size_walk m file server s is (fileid_of call reply) (shown_by reply)
+  sees_walk m file server call reply (Some s) is = size_walk m file server s is (fileid_of call reply) (attributes_shown reply)
 
   sees : (m : MdsValue) (file : FileId) (server : ℕ) (call : DsCallValue) (reply : DsReplyValue) → Becomes I m (sees_size m file server call reply)
   sees m file server call reply = sees_walk m file server call reply (served m file) refl
@@ -212,7 +212,7 @@ module _ (I : MdsValue → List Entry → List MdsSend → Type 0) (k : Cases I)
       enters_keeps I m m (entry.ReadAnswer file 5 [] ∷ []) (resumes now q r.compound.ops) (k.notes m (entry.ReadAnswer file 5 []) refl)
       (resume_walk now m q r.compound.ops (no_entries I m (without_read m file s place) (k.puts m file s (record s { reads = remove s.reads place }) is refl (old_write s.file s.write))))
 
-  read_at_walk : (now : ℕ) (m : MdsValue) (file : FileId) (s : ServedFile) → served m file ≡ Some s → (step : ReadState → ReadAfter) (place : ℕ) (o : Option WaitingRead) → Keeps I m (read_at now m file s step place o)
+  read_at_walk : (now : ℕ) (m : MdsValue) (file : FileId) (s : ServedFile) → served m file ≡ Some s → (step : ReadState → ReadAfter) (place : ℕ) (o : Option WaitingRead) → Keeps I m (read_step_at now m file s step place o)
   read_at_walk now m file s is step place None = same I m
   read_at_walk now m file s is step place (Some r) =
       let after : ReadAfter = step r.read in
@@ -240,7 +240,7 @@ module _ (I : MdsValue → List Entry → List MdsSend → Type 0) (k : Cases I)
   write_end_walk now m file s is w its None = none_keeps I m (with_served m file (record s { write = Some w })) (k.puts m file s (record s { write = Some w }) is refl its)
   write_end_walk now m file s is w its (Some places) =
       let n : MdsValue = with_served m file (record s { write = None }) in
-      let causes = causes_of w.failures s.file.layout.live in
+      let causes = failures_by_place w.failures s.file.layout.live in
       let x : MdsStep = takes_input n file (OwnEnds causes w.at w.bytes) in
       enters_keeps I m x.mds x.entries (resumes now (write_answer x.mds w.compound (length w.bytes) (list_all (λ cause. is_some cause) causes)) w.compound.ops)
       (becomes_silent I m n x (k.puts m file s (record s { write = None }) is refl tt) (takes I k n file (OwnEnds causes w.at w.bytes)))
@@ -279,7 +279,7 @@ module _ (I : MdsValue → List Entry → List MdsSend → Type 0) (k : Cases I)
 
   -- ---- an answer, and a timeout
 
-  server_walk : (now : ℕ) (m : MdsValue) (server xid : ℕ) (call : DsCallValue) (reply : DsReplyValue) (caller : Caller) → Keeps I m (server_answered now m server xid call reply caller)
+  server_walk : (now : ℕ) (m : MdsValue) (server xid : ℕ) (call : DsCallValue) (reply : DsReplyValue) (caller : Waiter) → Keeps I m (server_answered now m server xid call reply caller)
   server_walk now m server xid call reply (ForFile file) =
       becomes_keeps I m (sees_size m file server call reply) (takes_input (sees_size m file server call reply) file (Answers xid reply)) (sees m file server call reply)
       (silent_keeps I (sees_size m file server call reply) _ (takes I k (sees_size m file server call reply) file (Answers xid reply)))
@@ -288,18 +288,18 @@ module _ (I : MdsValue → List Entry → List MdsSend → Type 0) (k : Cases I)
       (read_steps now (sees_size m file server call reply) file xid (λ r. read.after_reply r xid reply))
   server_walk now m server xid call reply (ForWrite file) =
       let n : MdsValue = sees_size m file server call reply in
-      becomes_keeps I m n (and_then (sees_ctime n file server (fileid_of call reply) (shown_by reply)) (λ x. steps_write now x file (λ w. after_own_reply w xid reply))) (sees m file server call reply)
-      (then_keeps I n (sees_ctime n file server (fileid_of call reply) (shown_by reply)) (λ x. steps_write now x file (λ w. after_own_reply w xid reply)) (ctime_walk n file server (fileid_of call reply) (shown_by reply))
+      becomes_keeps I m n (and_then (sees_ctime n file server (fileid_of call reply) (attributes_shown reply)) (λ x. steps_write now x file (λ w. after_own_reply w xid reply))) (sees m file server call reply)
+      (then_keeps I n (sees_ctime n file server (fileid_of call reply) (attributes_shown reply)) (λ x. steps_write now x file (λ w. after_own_reply w xid reply)) (ctime_walk n file server (fileid_of call reply) (attributes_shown reply))
       (λ x. write_steps now x file (λ w. after_own_reply w xid reply) (λ w. answer_cred w xid reply)))
   server_walk now m server xid call reply ForRecall = same I m
 
-  answered_walk : (now : ℕ) (m : MdsValue) (xid : ℕ) (reply : DsCallValue → DsReplyValue) (status : ℕ) (caller : Caller) (sent : MdsSend) → Keeps I m (answered_as now m xid reply status caller sent)
+  answered_walk : (now : ℕ) (m : MdsValue) (xid : ℕ) (reply : DsCallValue → DsReplyValue) (status : ℕ) (caller : Waiter) (sent : MdsSend) → Keeps I m (answered_as now m xid reply status caller sent)
   answered_walk now m xid reply status caller (CallsServer server own uid call) = server_walk now m server xid call (reply call) caller
   answered_walk now m xid reply status caller (CallsBack own back file stateid) = recalls_walk m (recalls.after_reply m.recalls xid (recall_end status))
   answered_walk now m xid reply status caller (Replies node other) = same I m
   answered_walk now m xid reply status caller (mds.Answers node bytes) = same I m
 
-  found_walk : (now : ℕ) (m : MdsValue) (node : NodeId) (xid : ℕ) (reply : DsCallValue → DsReplyValue) (status : ℕ) (o : Option OutCall) → Keeps I m (answers_found now m node xid reply status o)
+  found_walk : (now : ℕ) (m : MdsValue) (node : NodeId) (xid : ℕ) (reply : DsCallValue → DsReplyValue) (status : ℕ) (o : Option AwaitedCall) → Keeps I m (answers_found now m node xid reply status o)
   found_walk now m node xid reply status None = same I m
   found_walk now m node xid reply status (Some call) =
       let n : MdsValue = record m { calls = without_call node xid m.calls } in
@@ -310,7 +310,7 @@ module _ (I : MdsValue → List Entry → List MdsSend → Type 0) (k : Cases I)
   pub answer_walk : (now : ℕ) (m : MdsValue) (node : NodeId) (xid : ℕ) (reply : DsCallValue → DsReplyValue) (status : ℕ) → Keeps I m (takes_answer now m node xid reply status)
   answer_walk now m node xid reply status = found_walk now m node xid reply status (find (is_call_to node xid) m.calls)
 
-  pub timeout_walk : (now : ℕ) (m : MdsValue) (xid : ℕ) (caller : Caller) → Keeps I m (timed_out_for now m xid caller)
+  pub timeout_walk : (now : ℕ) (m : MdsValue) (xid : ℕ) (caller : Waiter) → Keeps I m (timed_out_for now m xid caller)
   timeout_walk now m xid (ForFile file) = silent_keeps I m _ (takes I k m file (TimesOut xid))
   timeout_walk now m xid (ForRead file) = read_steps now m file xid (λ r. read.after_timeout r xid)
   timeout_walk now m xid (ForWrite file) = write_steps now m file (λ w. writer.after_timeout w xid) (λ w. timeout_cred w xid)

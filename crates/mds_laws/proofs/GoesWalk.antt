@@ -26,7 +26,7 @@ use Rattle.nfs4_types.specs.Stateids.{layout_stateid_of}
 use Rattle.recall.specs.declared.recall.RecallCall.{RecallCall}
 use Rattle.recall.specs.Recalls.{RecallSends, next_sent, after_tick}
 use Rattle.mds_receive.specs.MdsReceive.{IncomingValue, PassedOver, IsReply, IsAnswered, IsCompound, incoming_of}
-use Rattle.mds_rule.specs.MdsStates.{WaitingRead, WaitingWrite, ServedFile, MdsSend, Answers, OutCall, ForRead, MdsValue, MdsStep, sends_none, and_then, served, numbered}
+use Rattle.mds_rule.specs.MdsStates.{WaitingRead, WaitingWrite, ServedFile, MdsSend, Answers, AwaitedCall, ForRead, MdsValue, MdsStep, sends_none, and_then, served, numbered}
 use Rattle.mds_rule.specs.ServedFiles.{takes_input, asks_back, ends_client}
 use Rattle.mds_rule.specs.Compounds.{runs_compound}
 use Rattle.mds_rule.specs.Answers.{is_awaited, takes_answer, timed_out_for}
@@ -126,13 +126,13 @@ module _ (I : MdsValue → List Entry → List MdsSend → Type 0) (k : Cases I)
 
   -- ---- what goes out again
 
-  repeat_all : (m : MdsValue) (test : OutCall → Bool) (calls : List OutCall) → ((call : OutCall) → In call calls → In call m.calls) → (es : List Entry) (ss : List MdsSend) → I m es ss
-      → I m es (ss ++ map (λ (call : OutCall). call.sent) (filter test calls))
+  repeat_all : (m : MdsValue) (test : AwaitedCall → Bool) (calls : List AwaitedCall) → ((call : AwaitedCall) → In call calls → In call m.calls) → (es : List Entry) (ss : List MdsSend) → I m es ss
+      → I m es (ss ++ map (λ (call : AwaitedCall). call.sent) (filter test calls))
   repeat_all m test [] all es ss i = subst (λ (l : List MdsSend). I m es l) (sym (append-nil ss)) i
   repeat_all m test (call ∷ calls) all es ss i =
-      cond_both (test call) (call ∷ filter test calls) (filter test calls) (λ (l : List OutCall). I m es (ss ++ map (λ (c : OutCall). c.sent) l))
+      cond_both (test call) (call ∷ filter test calls) (filter test calls) (λ (l : List AwaitedCall). I m es (ss ++ map (λ (c : AwaitedCall). c.sent) l))
       (λ is.
-      subst (λ (l : List MdsSend). I m es l) (append_assoc ss (call.sent ∷ []) (map (λ (c : OutCall). c.sent) (filter test calls)))
+      subst (λ (l : List MdsSend). I m es l) (append_assoc ss (call.sent ∷ []) (map (λ (c : AwaitedCall). c.sent) (filter test calls)))
       (repeat_all m test calls (λ c inside. all c (inr inside)) es (ss ++ call.sent ∷ []) (k.again m call.sent es ss i (k.was m es ss i call (all call (inl refl))))))
       (λ off. repeat_all m test calls (λ c inside. all c (inr inside)) es ss i)
 
@@ -164,12 +164,12 @@ module _ (I : MdsValue → List Entry → List MdsSend → Type 0) (k : Cases I)
   incoming_walk now m node (IsAnswered bytes) = λ es ss i. subst (λ (l : List Entry). I m l (ss ++ Answers node bytes ∷ [])) (sym (append-nil es)) (k.answers m node bytes es ss i)
   incoming_walk now m node (IsCompound xid v) = then_keeps I m (runs_compound now m node xid v) (calls_out []) (compound_walk I k now m node xid v) (λ n. out_walk [] n)
 
-  again_walk : (call : OutCall) (m : MdsValue) → KeepsBehind I call.sent m (goes_again call m)
+  again_walk : (call : AwaitedCall) (m : MdsValue) → KeepsBehind I call.sent m (goes_again call m)
   again_walk call m =
       cond_both (is_awaited m call && not (is_kept_by m call.xid call.caller)) (record { mds = m; entries = []; sends = call.sent ∷ [] }) (sends_none m) (λ (s : MdsStep). KeepsBehind I call.sent m s)
       (λ is. λ es ss was i. subst (λ (l : List Entry). I m l (ss ++ call.sent ∷ [])) (sym (append-nil es)) (k.again m call.sent es ss i was)) (λ off. λ es ss was i. same I m es ss i)
 
-  late_walk : (now : ℕ) (m : MdsValue) (call : OutCall) → In call m.calls → Keeps I m (times_out now m (Some call))
+  late_walk : (now : ℕ) (m : MdsValue) (call : AwaitedCall) → In call m.calls → Keeps I m (times_out now m (Some call))
   late_walk now m call inside es ss i =
       let timed : MdsStep = timed_out_for now m call.xid call.caller in
       let again : MdsStep = and_then timed (goes_again call) in
@@ -177,7 +177,7 @@ module _ (I : MdsValue → List Entry → List MdsSend → Type 0) (k : Cases I)
       (behind_then I call.sent m again (calls_out []) (then_behind I call.sent m timed (goes_again call) (timeout_walk I k now m call.xid call.caller) (λ n. again_walk call n)) (λ n. out_walk [] n))
       es ss (k.was m es ss i call inside) i
 
-  times_walk : (now : ℕ) (m : MdsValue) (o : Option OutCall) → ((call : OutCall) → o ≡ Some call → In call m.calls) → Keeps I m (times_out now m o)
+  times_walk : (now : ℕ) (m : MdsValue) (o : Option AwaitedCall) → ((call : AwaitedCall) → o ≡ Some call → In call m.calls) → Keeps I m (times_out now m o)
   times_walk now m None inside = same I m
   times_walk now m (Some call) inside = late_walk now m call (inside call refl)
 

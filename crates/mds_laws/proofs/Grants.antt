@@ -17,8 +17,8 @@ use Rattle.file_rule.specs.FilePhases.{FileInput, new_mds_file, phase}
 use Rattle.file_rule.specs.MdsFiles.{MdsFile, FileStep}
 use Rattle.mds_rows.specs.Draws.{drawn}
 use Rattle.recall.specs.Recalls.{without_file}
-use Rattle.mds_rule.specs.MdsStates.{ServedFile, MdsSend, CallsServer, CallsBack, Replies, Answers, ForFile, ForRead, ForWrite, ForRecall, OutCall, MdsValue, served, with_served, new_mds}
-use Rattle.mds_rule.specs.ServedFiles.{is_end, file_behind, stepped}
+use Rattle.mds_rule.specs.MdsStates.{ServedFile, MdsSend, CallsServer, CallsBack, Replies, Answers, ForFile, ForRead, ForWrite, ForRecall, AwaitedCall, MdsValue, served, with_served, new_mds}
+use Rattle.mds_rule.specs.ServedFiles.{is_period_end, file_behind, file_stepped}
 use Rattle.mds_rule.specs.FileOps.{servers_of, new_served, with_new_file}
 use Rattle.mds_laws.specs.MdsRuns.{MdsEvent}
 use Rattle.mds_laws.specs.MdsRunLaws.{stands_if, stands_by, stands_free, IsOfFree, GrantsFreeFiles}
@@ -90,7 +90,7 @@ quiet_free past e is = tt
 abbrev AreFree : List ServedFile → List Entry → Type 0
 AreFree files es = (place : ℕ) (s : ServedFile) → slice_get files place ≡ Some s → is_free s.file.layout.phase ≡ true → stands_free (place + 1) false es ≡ true
 
-record Stands (files : List ServedFile) (calls : List OutCall) (es : List Entry) (ss : List MdsSend) : Type 0 where
+record Stands (files : List ServedFile) (calls : List AwaitedCall) (es : List Entry) (ss : List MdsSend) : Type 0 where
   pub free : AreFree files es
   pub each : EachOf IsOfFree [] es
   pub were : WereSent calls ss
@@ -121,7 +121,7 @@ puts m file s t at same es free =
     let there = place_served m file s at in
     free_set m.files es es (file.0 - 1) s t there.1 free (λ n apart. refl) (λ is. free (file.0 - 1) s there.1 (ap (λ (f : MdsFile). is_free f.layout.phase) (sym same) ∙ is))
 
-called : (m : MdsValue) (file : FileId) (s t : ServedFile) (call : OutCall) → served m file ≡ Some s → is_free t.file.layout.phase ≡ is_free s.file.layout.phase → (es : List Entry) (ss : List MdsSend) → IsSo m es ss
+called : (m : MdsValue) (file : FileId) (s t : ServedFile) (call : AwaitedCall) → served m file ≡ Some s → is_free t.file.layout.phase ≡ is_free s.file.layout.phase → (es : List Entry) (ss : List MdsSend) → IsSo m es ss
     → Stands (slice_set m.files (file.0 - 1) t) (m.calls ++ call ∷ []) (es ++ []) (ss ++ call.sent ∷ [])
 called m file s t call at same es ss i =
     let there = place_served m file s at in
@@ -129,7 +129,7 @@ called m file s t call at same es ss i =
     subst (λ (l : List Entry). Stands (slice_set m.files (file.0 - 1) t) (m.calls ++ call ∷ []) l (ss ++ call.sent ∷ [])) (sym (append-nil es)) (record { free = new; each = i.each; were = sent_push m.calls ss call i.were })
 
 inputs : (m : MdsValue) (file : FileId) (s : ServedFile) (input : FileInput) → served m file ≡ Some s → (es : List Entry) (ss : List MdsSend) → IsSo m es ss
-    → IsSo (stepped m file s (phase file s.file input m.fresh)).mds (es ++ (phase file s.file input m.fresh).entries) ss
+    → IsSo (file_stepped m file s (phase file s.file input m.fresh)).mds (es ++ (phase file s.file input m.fresh).entries) ss
 inputs m file s input at es ss i =
     let step : FileStep = phase file s.file input m.fresh in
     let n : MdsValue = with_served (record m { fresh = drawn m.fresh step }) file (file_behind s step) in
@@ -146,7 +146,7 @@ inputs m file s input at es ss i =
       each = each_join IsOfFree [] es step.entries i.each (each_run file es step.entries (is_free step.file.layout.phase) tells);
       were = i.were;
     } in
-    cond_both (list_any is_end step.entries) (record n { recalls = without_file file n.recalls }) n (λ (x : MdsValue). Stands x.files x.calls (es ++ step.entries) ss) (λ end. new) (λ other. new)
+    cond_both (list_any is_period_end step.entries) (record n { recalls = without_file file n.recalls }) n (λ (x : MdsValue). Stands x.files x.calls (es ++ step.entries) ss) (λ end. new) (λ other. new)
 
 -- a new file is being made
 makes : (m : MdsValue) (name : List ℕ) (es : List Entry) (ss : List MdsSend) → IsSo m es ss → IsSo (with_new_file m name) es ss
@@ -157,17 +157,17 @@ makes m name es ss i = record { free = λ place s got is. by_place place s (push
     by_place place s (New at its) is = absurd (not_free (sym (ap (λ (x : ServedFile). is_free x.file.layout.phase) its) ∙ is))
 
 -- what says nothing of files
-notes : (files : List ServedFile) (calls : List OutCall) (e : Entry) → is_quiet e ≡ true → (es : List Entry) (ss : List MdsSend) → Stands files calls es ss → Stands files calls (es ++ e ∷ []) ss
+notes : (files : List ServedFile) (calls : List AwaitedCall) (e : Entry) → is_quiet e ≡ true → (es : List Entry) (ss : List MdsSend) → Stands files calls es ss → Stands files calls (es ++ e ∷ []) ss
 notes files calls e quiet es ss i = record {
   free = λ place s got is. stands_append (place + 1) false es (e ∷ []) ∙ quiet_stands (place + 1) (stands_free (place + 1) false es) e quiet ∙ i.free place s got is;
   each = each_push IsOfFree [] es e i.each (quiet_free es e quiet);
   were = i.were;
 }
 
-sends : (files : List ServedFile) (calls : List OutCall) (es : List Entry) (ss : List MdsSend) (s : MdsSend) → Stands files calls es ss → Stands files calls es (ss ++ s ∷ [])
+sends : (files : List ServedFile) (calls : List AwaitedCall) (es : List Entry) (ss : List MdsSend) (s : MdsSend) → Stands files calls es ss → Stands files calls es (ss ++ s ∷ [])
 sends files calls es ss s i = record { free = i.free; each = i.each; were = sent_more calls ss s i.were }
 
-called_back : (files : List ServedFile) (calls : List OutCall) (call : OutCall) (es : List Entry) (ss : List MdsSend) → Stands files calls es ss → Stands files (calls ++ call ∷ []) (es ++ []) (ss ++ call.sent ∷ [])
+called_back : (files : List ServedFile) (calls : List AwaitedCall) (call : AwaitedCall) (es : List Entry) (ss : List MdsSend) → Stands files calls es ss → Stands files (calls ++ call ∷ []) (es ++ []) (ss ++ call.sent ∷ [])
 called_back files calls call es ss i =
     subst (λ (l : List Entry). Stands files (calls ++ call ∷ []) l (ss ++ call.sent ∷ [])) (sym (append-nil es)) (record { free = i.free; each = i.each; were = sent_push calls ss call i.were })
 

@@ -17,9 +17,9 @@ use Rattle.nfs4_session.specs.declared.back.BackCall.{BackCall}
 use Rattle.nfs4_session.specs.Clients.{SessionsState}
 use Rattle.recall.specs.declared.recall.Recall.{Recall}
 use Rattle.open_state.specs.Opens.{OpensValue}
-use Rattle.mds_rule.specs.MdsStates.{WaitingWrite, ServedFile, MdsSend, CallsBack, Replies, Answers, ForFile, ForRead, ForWrite, ForRecall, OutCall, MdsValue, MdsStep, sends_none, enters, and_then, served, with_served}
+use Rattle.mds_rule.specs.MdsStates.{WaitingWrite, ServedFile, MdsSend, CallsBack, Replies, Answers, ForFile, ForRead, ForWrite, ForRecall, AwaitedCall, MdsValue, MdsStep, sends_none, enters, and_then, served, with_served}
 use Rattle.mds_rule.specs.OpSteps.{OpStep, Goes, Ends, Waits}
-use Rattle.mds_rule.specs.ServedFiles.{has_fresh, stepped}
+use Rattle.mds_rule.specs.ServedFiles.{has_fresh, file_stepped}
 use Rattle.mds_rule.specs.FileOps.{with_new_file}
 use Rattle.mds_rule.specs.Answers.{without_call}
 use Rattle.mds_rule.specs.Goes.{xid_after, calls_as, calls_server, has_xids}
@@ -81,7 +81,7 @@ pub record Cases (I : MdsValue → List Entry → List MdsSend → Type 0) : Typ
       → Becomes I m (with_served m file t)
   -- an input of the table of phases, and a new file
   pub inputs : (m : MdsValue) (file : FileId) (s : ServedFile) (input : FileInput) → served m file ≡ Some s → has_fresh m.fresh ≡ true
-      → Enters I m (stepped m file s (phase file s.file input m.fresh)).mds (phase file s.file input m.fresh).entries
+      → Enters I m (file_stepped m file s (phase file s.file input m.fresh)).mds (phase file s.file input m.fresh).entries
   pub makes : (m : MdsValue) (name : List ℕ) → Becomes I m (with_new_file m name)
   -- a call goes out
   pub calls_file : (m : MdsValue) (file : FileId) (s : ServedFile) (c : CallOut) → served m file ≡ Some s → has_xids m ≡ true → call_out s.file m.next_xid ≡ Some c
@@ -97,7 +97,7 @@ pub record Cases (I : MdsValue → List Entry → List MdsSend → Type 0) : Typ
   pub skips : (m : MdsValue) → has_xids m ≡ true → Becomes I m (record m { next_xid = xid_after m.next_xid })
   -- a call is forgotten, or goes out again
   pub forgets : (m : MdsValue) (node : NodeId) (xid : ℕ) → Becomes I m (record m { calls = without_call node xid m.calls })
-  pub was : (m : MdsValue) (es : List Entry) (ss : List MdsSend) → I m es ss → (call : OutCall) → In call m.calls → In call.sent ss
+  pub was : (m : MdsValue) (es : List Entry) (ss : List MdsSend) → I m es ss → (call : AwaitedCall) → In call m.calls → In call.sent ss
   pub again : (m : MdsValue) (s : MdsSend) (es : List Entry) (ss : List MdsSend) → I m es ss → In s ss → I m es (ss ++ s ∷ [])
 
 -- ---- how steps join

@@ -14,8 +14,8 @@ use Rattle.file_rule.specs.FilePhases.{phase}
 use Rattle.file_rule.specs.MdsFiles.{FileStep}
 use Rattle.mds_rows.specs.Draws.{drawn}
 use Rattle.recall.specs.Recalls.{without_file}
-use Rattle.mds_rule.specs.MdsStates.{ServedFile, MdsSend, CallsServer, CallsBack, Replies, Answers, ForFile, ForRead, ForWrite, ForRecall, OutCall, MdsValue, with_served, new_mds}
-use Rattle.mds_rule.specs.ServedFiles.{is_end, file_behind, stepped}
+use Rattle.mds_rule.specs.MdsStates.{ServedFile, MdsSend, CallsServer, CallsBack, Replies, Answers, ForFile, ForRead, ForWrite, ForRecall, AwaitedCall, MdsValue, with_served, new_mds}
+use Rattle.mds_rule.specs.ServedFiles.{is_period_end, file_behind, file_stepped}
 use Rattle.mds_rule.specs.Answers.{is_call_to, without_call}
 use Rattle.mds_rule.specs.Goes.{xid_after}
 use Rattle.mds_laws.specs.MdsRuns.{MdsEvent}
@@ -27,21 +27,21 @@ use Rattle.mds_laws.proofs.GoesWalk.{in_each_run}
 -- ---- the calls that were sent
 
 -- each was sent before
-abbrev pub WereSent : List OutCall → List MdsSend → Type 0
-WereSent calls ss = (call : OutCall) → In call calls → In call.sent ss
+abbrev pub WereSent : List AwaitedCall → List MdsSend → Type 0
+WereSent calls ss = (call : AwaitedCall) → In call calls → In call.sent ss
 
-pub sent_more : (calls : List OutCall) (ss : List MdsSend) (s : MdsSend) → WereSent calls ss → WereSent calls (ss ++ s ∷ [])
+pub sent_more : (calls : List AwaitedCall) (ss : List MdsSend) (s : MdsSend) → WereSent calls ss → WereSent calls (ss ++ s ∷ [])
 sent_more calls ss s were call inside = in_more call.sent ss (s ∷ []) (were call inside)
 
-pub sent_push : (calls : List OutCall) (ss : List MdsSend) (call : OutCall) → WereSent calls ss → WereSent (calls ++ call ∷ []) (ss ++ call.sent ∷ [])
+pub sent_push : (calls : List AwaitedCall) (ss : List MdsSend) (call : AwaitedCall) → WereSent calls ss → WereSent (calls ++ call ∷ []) (ss ++ call.sent ∷ [])
 sent_push calls ss call were other inside = by_place (in_pushed other call calls inside)
   where
     by_place : In other calls ⊎ (other ≡ call) → In other.sent (ss ++ call.sent ∷ [])
     by_place (inl old) = in_more other.sent ss (call.sent ∷ []) (were other old)
-    by_place (inr new) = subst (λ (c : OutCall). In c.sent (ss ++ call.sent ∷ [])) (sym new) (in_last call.sent ss)
+    by_place (inr new) = subst (λ (c : AwaitedCall). In c.sent (ss ++ call.sent ∷ [])) (sym new) (in_last call.sent ss)
 
-pub sent_without : (node : NodeId) (xid : ℕ) (calls : List OutCall) (ss : List MdsSend) → WereSent calls ss → WereSent (without_call node xid calls) ss
-sent_without node xid calls ss were call inside = were call (in_filtered (λ (c : OutCall). not (is_call_to node xid c)) call calls inside)
+pub sent_without : (node : NodeId) (xid : ℕ) (calls : List AwaitedCall) (ss : List MdsSend) → WereSent calls ss → WereSent (without_call node xid calls) ss
+sent_without node xid calls ss were call inside = were call (in_filtered (λ (c : AwaitedCall). not (is_call_to node xid c)) call calls inside)
 
 -- ---- numbers
 
@@ -84,7 +84,7 @@ after_fits : (next : ℕ) → next ≤ 4294967295 → xid_after next ≤ 4294967
 after_fits next fits =
     cond_both (next == 4294967295) 0 (next + 1) (λ (n : ℕ). n ≤ 4294967295) (λ is. omega arith) (λ off. grind (arith, nat_tests, off, fits))
 
-pub record Numbered (next : ℕ) (calls : List OutCall) (ss : List MdsSend) : Type 0 where
+pub record Numbered (next : ℕ) (calls : List AwaitedCall) (ss : List MdsSend) : Type 0 where
   pub each : EachOf IsNumbered [] ss
   pub below : not (next == 0) ≡ true → AreBelow next ss
   pub were : WereSent calls ss
@@ -94,7 +94,7 @@ pub record Numbered (next : ℕ) (calls : List OutCall) (ss : List MdsSend) : Ty
 abbrev IsSo : MdsValue → List Entry → List MdsSend → Type 0
 IsSo m es ss = Numbered m.next_xid m.calls ss
 
-plain : (next : ℕ) (calls : List OutCall) (ss : List MdsSend) (s : MdsSend) → number_sent s ≡ None → Numbered next calls ss → Numbered next calls (ss ++ s ∷ [])
+plain : (next : ℕ) (calls : List AwaitedCall) (ss : List MdsSend) (s : MdsSend) → number_sent s ≡ None → Numbered next calls ss → Numbered next calls (ss ++ s ∷ [])
 plain next calls ss s none i = record {
   each = each_push IsNumbered [] ss s i.each (λ xid is. absurd (none-some xid (sym none ∙ is)));
   below = λ has. below_push next ss s (i.below has) (subst (IsBelow next) (sym none) tt);
@@ -103,7 +103,7 @@ plain next calls ss s none i = record {
   words = all_push HasWord ss s i.words (subst FitsNumber (sym none) tt);
 }
 
-called : (next : ℕ) (calls : List OutCall) (ss : List MdsSend) (call : OutCall) → not (next == 0) ≡ true → number_sent call.sent ≡ Some next → Numbered next calls ss
+called : (next : ℕ) (calls : List AwaitedCall) (ss : List MdsSend) (call : AwaitedCall) → not (next == 0) ≡ true → number_sent call.sent ≡ Some next → Numbered next calls ss
     → Numbered (xid_after next) (calls ++ call ∷ []) (ss ++ call.sent ∷ [])
 called next calls ss call has number i = record {
   each = each_push IsNumbered [] ss call.sent i.each (λ xid is. subst (IsNewOrAgain ss call.sent) (same_Some next xid (sym number ∙ is)) (IsNew (i.below has)));
@@ -113,10 +113,10 @@ called next calls ss call has number i = record {
   words = all_push HasWord ss call.sent i.words (subst FitsNumber (sym number) (positive next has, i.fits));
 }
 
-inputs : (m : MdsValue) (file : FileId) (s : ServedFile) (step : FileStep) (es : List Entry) (ss : List MdsSend) → IsSo m es ss → IsSo (stepped m file s step).mds (es ++ step.entries) ss
+inputs : (m : MdsValue) (file : FileId) (s : ServedFile) (step : FileStep) (es : List Entry) (ss : List MdsSend) → IsSo m es ss → IsSo (file_stepped m file s step).mds (es ++ step.entries) ss
 inputs m file s step es ss i =
     let n : MdsValue = with_served (record m { fresh = drawn m.fresh step }) file (file_behind s step) in
-    cond_both (list_any is_end step.entries) (record n { recalls = without_file file n.recalls }) n (λ (x : MdsValue). Numbered x.next_xid x.calls ss) (λ end. i) (λ other. i)
+    cond_both (list_any is_period_end step.entries) (record n { recalls = without_file file n.recalls }) n (λ (x : MdsValue). Numbered x.next_xid x.calls ss) (λ end. i) (λ other. i)
 
 cases : Cases IsSo
 cases = record {
@@ -141,7 +141,7 @@ cases = record {
   again = λ m s es ss i inside. again m.next_xid m.calls ss s inside i;
 }
   where
-    again : (next : ℕ) (calls : List OutCall) (ss : List MdsSend) (s : MdsSend) → In s ss → Numbered next calls ss → Numbered next calls (ss ++ s ∷ [])
+    again : (next : ℕ) (calls : List AwaitedCall) (ss : List MdsSend) (s : MdsSend) → In s ss → Numbered next calls ss → Numbered next calls (ss ++ s ∷ [])
     again next calls ss s inside i =
         let split : Split s ss = split_in s ss inside in
         record {

@@ -48,9 +48,9 @@ use Rattle.mds_operations.specs.GetDeviceInfo.{device_info_order}
 use Rattle.mds_operations.specs.PutFh.{put_fh_order, object_of}
 use Rattle.mds_rule.specs.MdsStates.{CompoundRun, WaitingWrite, ServedFile, MdsSend, MdsValue, MdsStep, sends_none, served, with_served, numbered, file_named}
 use Rattle.mds_rule.specs.OpSteps.{OpStep, with_result, at_object, gives, refused_or}
-use Rattle.mds_rule.specs.ServedFiles.{has_fresh, is_end, file_behind, stepped, input_at, takes_input, asks_back, ends_periods}
+use Rattle.mds_rule.specs.ServedFiles.{has_fresh, is_period_end, file_behind, file_stepped, input_at, takes_input, asks_back, ends_periods}
 use Rattle.mds_rule.specs.SessionOps.{goes_with}
-use Rattle.mds_rule.specs.FileOps.{client_of, current_file, file_or_none, stateid_in, named_in, write_verifier, put_object, runs_put_fh, get_object, runs_get_fh, runs_lookup, get_attributes, runs_get_attr, with_new_file, opened, opens_or_makes, runs_open, name_in, closed, closes, runs_close, runs_commit, reads_at, runs_read, piece_of, with_write, writes_at, writes_file, ends_by, write_refused, runs_write, write_ask, is_delay}
+use Rattle.mds_rule.specs.FileOps.{client_of, current_file, file_or_none, stateid_in, named_in, write_verifier, put_object, runs_put_fh, get_object, runs_get_fh, runs_lookup, get_attributes, runs_get_attr, with_new_file, opened, opens_or_makes, runs_open, name_in, closed, closes, runs_close, runs_commit, reads_at, runs_read, read_length, with_write, writes_at, writes_file, ends_by, write_refused, runs_write, write_ask, is_delay}
 use Rattle.mds_rule.specs.LayoutOps.{no_stateid, layout_asked, layout_found, with_holder, granted_in, grants_to, is_granted, phase_behind, later_by, layout_answer, runs_layout_get, is_try_later, errors_of, client_number, return_by, returns_file, file_return, returns_all, runs_layout_return, runs_layout_commit, device_from, device_size, device_answer, runs_get_device_info}
 use Rattle.mds_laws.proofs.Keeping.{Becomes, KeepsOp, Cases, IsWriteOf, no_entries, stays, enters_then, enters_becomes}
 use Rattle.mds_laws.proofs.ServedWalk.{takes, asks, periods, refused}
@@ -74,10 +74,10 @@ served_put m file s t is =
     let at = place_served m file s is in
     subst (λ (b : Bool). cond b None (slice_get (slice_set m.files (file.0 - 1) t) (file.0 - 1)) ≡ Some t) (sym at.0) (slice_get-set_same m.files (file.0 - 1) s t at.1)
 
-pub served_stepped : (m : MdsValue) (file : FileId) (s : ServedFile) (step : FileStep) → served m file ≡ Some s → served (stepped m file s step).mds file ≡ Some (file_behind s step)
+pub served_stepped : (m : MdsValue) (file : FileId) (s : ServedFile) (step : FileStep) → served m file ≡ Some s → served (file_stepped m file s step).mds file ≡ Some (file_behind s step)
 served_stepped m file s step is =
     let n : MdsValue = with_served (record m { fresh = drawn m.fresh step }) file (file_behind s step) in
-    cond_both (list_any is_end step.entries) (record n { recalls = without_file file n.recalls }) n (λ (x : MdsValue). served x file ≡ Some (file_behind s step))
+    cond_both (list_any is_period_end step.entries) (record n { recalls = without_file file n.recalls }) n (λ (x : MdsValue). served x file ≡ Some (file_behind s step))
     (λ end. served_put (record m { fresh = drawn m.fresh step }) file s (file_behind s step) is) (λ other. served_put (record m { fresh = drawn m.fresh step }) file s (file_behind s step) is)
 
 module _ (I : MdsValue → List Entry → List MdsSend → Type 0) (k : Cases I) where
@@ -137,7 +137,7 @@ module _ (I : MdsValue → List Entry → List MdsSend → Type 0) (k : Cases I)
   read_walk m c file at count (Some s) is = no_entries I m _ (k.puts m file s _ is refl (old_write s.file s.write))
 
   pub reads : (m : MdsValue) (c : CompoundRun) (args : Value read4_args) → KeepsOp I m (runs_read m c args)
-  reads m c (stateid, (offset, count)) = refused I k m c 25 _ _ (read_walk m c (current_file c) offset (piece_of count) (served m (current_file c)) refl)
+  reads m c (stateid, (offset, count)) = refused I k m c 25 _ _ (read_walk m c (current_file c) offset (read_length count) (served m (current_file c)) refl)
 
   write_begun : (m : MdsValue) (c : CompoundRun) (file : FileId) (at : ℕ) (bytes : List ℕ) (o : Option ServedFile) → served m file ≡ o → Becomes I m (writes_at m c file at bytes o)
   write_begun m c file at bytes None is = λ es ss i. i
@@ -169,12 +169,12 @@ module _ (I : MdsValue → List Entry → List MdsSend → Type 0) (k : Cases I)
       → KeepsOp I m (granted_in (input_at m file (AsksLayout n) o) c file false (served (input_at m file (AsksLayout n) o).mds file))
   grant_walk m c file n None is = grant_again m c file false (served m file) refl
   grant_walk m c file n (Some s) is =
-      cond_both (has_fresh m.fresh) (stepped m file s step) (sends_none m) (λ (x : MdsStep). KeepsOp I m (granted_in x c file false (served x.mds file)))
+      cond_both (has_fresh m.fresh) (file_stepped m file s step) (sends_none m) (λ (x : MdsStep). KeepsOp I m (granted_in x c file false (served x.mds file)))
       (λ fresh.
-      subst (λ (o : Option ServedFile). KeepsOp I m (granted_in (stepped m file s step) c file false o)) (sym (served_stepped m file s step is))
-      (enters_becomes I m (stepped m file s step).mds (with_served (stepped m file s step).mds file (with_holder (client_of c) false (file_behind s step))) step.entries
+      subst (λ (o : Option ServedFile). KeepsOp I m (granted_in (file_stepped m file s step) c file false o)) (sym (served_stepped m file s step is))
+      (enters_becomes I m (file_stepped m file s step).mds (with_served (file_stepped m file s step).mds file (with_holder (client_of c) false (file_behind s step))) step.entries
       (k.inputs m file s (AsksLayout n) is fresh)
-      (k.puts (stepped m file s step).mds file (file_behind s step) (with_holder (client_of c) false (file_behind s step)) (served_stepped m file s step is) refl (old_write step.file s.write))))
+      (k.puts (file_stepped m file s step).mds file (file_behind s step) (with_holder (client_of c) false (file_behind s step)) (served_stepped m file s step is) refl (old_write step.file s.write))))
       (λ off. grant_again m c file false (served m file) refl)
     where
       step : FileStep

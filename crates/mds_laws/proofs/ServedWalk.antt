@@ -31,7 +31,7 @@ use Rattle.nfs4_session.specs.Ends.{without_session, without_client, destroy_cli
 use Rattle.recall.specs.Recalls.{is_under_way, new_recall, with_recall}
 use Rattle.mds_rule.specs.MdsStates.{CompoundRun, ServedFile, MdsSend, MdsValue, MdsStep, sends_none, served}
 use Rattle.mds_rule.specs.OpSteps.{OpStep, Goes, with_result, refuses, refused_or}
-use Rattle.mds_rule.specs.ServedFiles.{has_fresh, stepped, input_at, takes_input, with_new_recall, recall_by, recall_at, asks_back, held_from, in_turn, ends_periods, forgotten, ends_client}
+use Rattle.mds_rule.specs.ServedFiles.{has_fresh, file_stepped, input_at, takes_input, with_new_recall, recall_by, recall_at, asks_back, held_from, one_by_one, ends_periods, forgotten, ends_client}
 use Rattle.mds_rule.specs.SessionOps.{with_exchange, runs_exchange, gone_with, with_session, with_create, runs_create, on_session, runs_bind, runs_destroy_session, runs_destroy_client, reclaims}
 use Rattle.mds_laws.proofs.Keeping.{Becomes, KeepsOp, Silent, Cases, no_entries, stays, silent_then, silent_none, silent_same, becomes_silent}
 
@@ -41,7 +41,7 @@ module _ (I : MdsValue → List Entry → List MdsSend → Type 0) (k : Cases I)
   input_walk : (m : MdsValue) (file : FileId) (input : FileInput) (o : Option ServedFile) → served m file ≡ o → Silent I m (input_at m file input o)
   input_walk m file input None at = silent_same I m
   input_walk m file input (Some s) at =
-      cond_both (has_fresh m.fresh) (stepped m file s (phase file s.file input m.fresh)) (sends_none m) (λ (x : MdsStep). Silent I m x)
+      cond_both (has_fresh m.fresh) (file_stepped m file s (phase file s.file input m.fresh)) (sends_none m) (λ (x : MdsStep). Silent I m x)
       (λ fresh. record { enters = k.inputs m file s input at fresh; none = refl }) (λ off. silent_same I m)
 
   pub takes : (m : MdsValue) (file : FileId) (input : FileInput) → Silent I m (takes_input m file input)
@@ -70,9 +70,9 @@ module _ (I : MdsValue → List Entry → List MdsSend → Type 0) (k : Cases I)
 
   -- ---- the periods of a client
 
-  turns : (step : MdsValue → FileId → MdsStep) → ((m : MdsValue) (file : FileId) → Silent I m (step m file)) → (files : List FileId) (m : MdsValue) → Silent I m (in_turn step files m)
+  turns : (step : MdsValue → FileId → MdsStep) → ((m : MdsValue) (file : FileId) → Silent I m (step m file)) → (files : List FileId) (m : MdsValue) → Silent I m (one_by_one step files m)
   turns step one [] m = silent_same I m
-  turns step one (file ∷ files) m = silent_then I m (step m file) (λ n. in_turn step files n) (one m file) (λ n. turns step one files n)
+  turns step one (file ∷ files) m = silent_then I m (step m file) (λ n. one_by_one step files n) (one m file) (λ n. turns step one files n)
 
   pub periods : (m : MdsValue) (client : ℕ) (end : EndCause) → Silent I m (ends_periods m client end)
   periods m client end = turns (λ n file. takes_input n file (Revokes end)) (λ n file. takes n file (Revokes end)) (held_from client 1 m.files) m

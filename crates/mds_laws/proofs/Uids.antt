@@ -14,8 +14,8 @@ use Rattle.mds_rows.specs.Draws.{drawn}
 use Rattle.mirror_writer.specs.Writers.{WriterSends}
 use Rattle.mirror_writer.specs.Writers as writer
 use Rattle.recall.specs.Recalls.{without_file}
-use Rattle.mds_rule.specs.MdsStates.{WaitingWrite, ServedFile, MdsSend, CallsServer, CallsBack, Replies, Answers, Caller, ForFile, ForRead, ForWrite, ForRecall, OutCall, MdsValue, served, with_served, new_mds}
-use Rattle.mds_rule.specs.ServedFiles.{is_end, file_behind, stepped}
+use Rattle.mds_rule.specs.MdsStates.{WaitingWrite, ServedFile, MdsSend, CallsServer, CallsBack, Replies, Answers, Waiter, ForFile, ForRead, ForWrite, ForRecall, AwaitedCall, MdsValue, served, with_served, new_mds}
+use Rattle.mds_rule.specs.ServedFiles.{is_period_end, file_behind, file_stepped}
 use Rattle.mds_rule.specs.FileOps.{with_new_file}
 use Rattle.mds_laws.specs.MdsRuns.{MdsEvent}
 use Rattle.mds_laws.specs.MdsRunLaws.{IsUidOf, IsByItsUid, CallsByUids}
@@ -35,7 +35,7 @@ record ServedFits (s : ServedFile) : Type 0 where
   pub file_fits : FileFits s.file
   pub write_fits : WriteFits s.write
 
-record Fits (fresh : ℕ) (files : List ServedFile) (calls : List OutCall) (ss : List MdsSend) : Type 0 where
+record Fits (fresh : ℕ) (files : List ServedFile) (calls : List AwaitedCall) (ss : List MdsSend) : Type 0 where
   pub drawn : 65536 ≤ fresh
   pub all : AllOf ServedFits files
   pub were : WereSent calls ss
@@ -64,7 +64,7 @@ puts : (m : MdsValue) (file : FileId) (s t : ServedFile) → served m file ≡ S
 puts m file s t at is its es ss i =
     record { drawn = i.drawn; all = all_set ServedFits m.files (file.0 - 1) t i.all (served_fits s t is its (of_served m file s at i.all)); were = i.were; each = i.each }
 
-inputs : (m : MdsValue) (file : FileId) (s : ServedFile) (step : FileStep) → (es : List Entry) (ss : List MdsSend) → IsSo m es ss → FileFits step.file → WriteFits s.write → IsSo (stepped m file s step).mds (es ++ step.entries) ss
+inputs : (m : MdsValue) (file : FileId) (s : ServedFile) (step : FileStep) → (es : List Entry) (ss : List MdsSend) → IsSo m es ss → FileFits step.file → WriteFits s.write → IsSo (file_stepped m file s step).mds (es ++ step.entries) ss
 inputs m file s step es ss i its write =
     let n : MdsValue = with_served (record m { fresh = drawn m.fresh step }) file (file_behind s step) in
     let new : Fits n.fresh.uid n.files n.calls ss = record {
@@ -73,7 +73,7 @@ inputs m file s step es ss i its write =
       were = i.were;
       each = i.each;
     } in
-    cond_both (list_any is_end step.entries) (record n { recalls = without_file file n.recalls }) n (λ (x : MdsValue). Fits x.fresh.uid x.files x.calls ss) (λ end. new) (λ other. new)
+    cond_both (list_any is_period_end step.entries) (record n { recalls = without_file file n.recalls }) n (λ (x : MdsValue). Fits x.fresh.uid x.files x.calls ss) (λ end. new) (λ other. new)
 
 makes : (m : MdsValue) (name : List ℕ) (es : List Entry) (ss : List MdsSend) → IsSo m es ss → IsSo (with_new_file m name) es ss
 makes m name es ss i = record {
@@ -84,7 +84,7 @@ makes m name es ss i = record {
 }
 
 -- a call of a file goes out
-called : (m : MdsValue) (file : FileId) (t : ServedFile) (caller : Caller) (server uid : ℕ) (call : DsCallValue) (ss : List MdsSend) → ServedFits t → IsUidOf call uid → Fits m.fresh.uid m.files m.calls ss
+called : (m : MdsValue) (file : FileId) (t : ServedFile) (caller : Waiter) (server uid : ℕ) (call : DsCallValue) (ss : List MdsSend) → ServedFits t → IsUidOf call uid → Fits m.fresh.uid m.files m.calls ss
     → Fits m.fresh.uid (slice_set m.files (file.0 - 1) t) (m.calls ++ (record { node = Server server; xid = m.next_xid; caller = caller; sent = CallsServer server m.next_xid uid call }) ∷ []) (ss ++ CallsServer server m.next_xid uid call ∷ [])
 called m file t caller server uid call ss its is i = record {
   drawn = i.drawn;
@@ -112,7 +112,7 @@ calls_write m file s w c at waits its ss i =
     called m file (record s { write = Some (record w { writer = c.writer }) }) (ForWrite file) c.id.server w.writer.cred c.call ss
     (record { file_fits = now.file_fits; write_fits = subst (λ (n : ℕ). 65536 ≤ n) (sym new.0) cred }) (new.1 w.writer.cred cred) i
 
-pushed : (fresh : ℕ) (files : List ServedFile) (calls : List OutCall) (ss : List MdsSend) (s : MdsSend) → IsByItsUid s → Fits fresh files calls ss → Fits fresh files calls (ss ++ s ∷ [])
+pushed : (fresh : ℕ) (files : List ServedFile) (calls : List AwaitedCall) (ss : List MdsSend) (s : MdsSend) → IsByItsUid s → Fits fresh files calls ss → Fits fresh files calls (ss ++ s ∷ [])
 pushed fresh files calls ss s is i = record { drawn = i.drawn; all = i.all; were = sent_more calls ss s i.were; each = all_push IsByItsUid ss s i.each is }
 
 cases : Cases IsSo

@@ -40,7 +40,7 @@ use Rattle.recall.specs.declared.recall.Outcome.TheVariants as outcome
 use Rattle.recall.specs.Recalls.{RecallsAfter, out_at}
 use Rattle.recall.specs.Recalls as recalls
 use Rattle.mds_rule.specs.MdsStates as mds
-use Rattle.mds_rule.specs.MdsStates.{CompoundRun, WaitingRead, WaitingWrite, ServedFile, MdsSend, CallsServer, CallsBack, Replies, Caller, ForFile, ForRead, ForWrite, ForRecall, OutCall, MdsValue, MdsStep, sends_none, enters, and_then, served, with_served, with_size}
+use Rattle.mds_rule.specs.MdsStates.{CompoundRun, WaitingRead, WaitingWrite, ServedFile, MdsSend, CallsServer, CallsBack, Replies, Waiter, ForFile, ForRead, ForWrite, ForRecall, AwaitedCall, MdsValue, MdsStep, sends_none, enters, and_then, served, with_served, with_size}
 use Rattle.mds_rule.specs.OpSteps.{OpStep, Goes, Ends, with_result, refused_as}
 use Rattle.mds_rule.specs.ServedFiles.{takes_input}
 use Rattle.mds_rule.specs.FileOps.{write_result}
@@ -55,13 +55,13 @@ abbrev pub is_writer_out : ℕ → Option WaitingWrite → Bool
 is_writer_out xid None = false
 is_writer_out xid (Some w) = list_any (λ m. is_call xid m.call) w.writer.mirrors
 
-abbrev pub server_of : NodeId → ℕ
-server_of (Server n) = n
-server_of node = 0
+abbrev pub server_number : NodeId → ℕ
+server_number (Server n) = n
+server_number node = 0
 
 abbrev pub is_file_out : NodeId → ℕ → Option ServedFile → Bool
 is_file_out node xid None = false
-is_file_out node xid (Some s) = is_outstanding s.file (server_of node) xid
+is_file_out node xid (Some s) = is_outstanding s.file (server_number node) xid
 
 abbrev pub has_read_out : ℕ → Option ServedFile → Bool
 has_read_out xid None = false
@@ -72,31 +72,31 @@ has_write_out xid None = false
 has_write_out xid (Some s) = is_writer_out xid s.write
 
 -- whoever sent it waits for it still: a call of what has ended is outstanding no more
-abbrev pub is_awaited_by : MdsValue → NodeId → ℕ → Caller → Bool
+abbrev pub is_awaited_by : MdsValue → NodeId → ℕ → Waiter → Bool
 is_awaited_by m node xid (ForFile file) = is_file_out node xid (served m file)
 is_awaited_by m node xid (ForRead file) = has_read_out xid (served m file)
 is_awaited_by m node xid (ForWrite file) = has_write_out xid (served m file)
 is_awaited_by m node xid ForRecall = is_some (out_at m.recalls xid)
 
-abbrev pub is_awaited : MdsValue → OutCall → Bool
+abbrev pub is_awaited : MdsValue → AwaitedCall → Bool
 is_awaited m call = is_awaited_by m call.node call.xid call.caller
 
-abbrev pub is_call_to : NodeId → ℕ → OutCall → Bool
+abbrev pub is_call_to : NodeId → ℕ → AwaitedCall → Bool
 is_call_to node xid call = is_node call.node node && (call.xid == xid)
 
-abbrev pub without_call : NodeId → ℕ → List OutCall → List OutCall
+abbrev pub without_call : NodeId → ℕ → List AwaitedCall → List AwaitedCall
 without_call node xid calls = filter (λ call. not (is_call_to node xid call)) calls
 
 -- ---- what an answer shows of a mirror's size
 
-abbrev pub shown_by : DsReplyValue → Option Shown
-shown_by (Created fileid shown) = Some shown
-shown_by (Set shown) = shown
-shown_by (Written shown verifier) = shown
-shown_by (Committed shown verifier) = shown
-shown_by (Bytes shown eof bytes) = shown
-shown_by (NotSync shown) = Some shown
-shown_by (Failed status shown) = shown
+abbrev pub attributes_shown : DsReplyValue → Option Shown
+attributes_shown (Created fileid shown) = Some shown
+attributes_shown (Set shown) = shown
+attributes_shown (Written shown verifier) = shown
+attributes_shown (Committed shown verifier) = shown
+attributes_shown (Bytes shown eof bytes) = shown
+attributes_shown (NotSync shown) = Some shown
+attributes_shown (Failed status shown) = shown
 
 abbrev pub made_fileid : DsReplyValue → Option ℕ
 made_fileid (Created fileid shown) = Some fileid
@@ -116,7 +116,7 @@ sized s server (Some fileid) None = s
 
 abbrev pub sees_in : MdsValue → FileId → ℕ → DsCallValue → DsReplyValue → Option ServedFile → MdsValue
 sees_in m file server call reply None = m
-sees_in m file server call reply (Some s) = with_served m file (sized s server (fileid_of call reply) (shown_by reply))
+sees_in m file server call reply (Some s) = with_served m file (sized s server (fileid_of call reply) (attributes_shown reply))
 
 abbrev pub sees_size : MdsValue → FileId → ℕ → DsCallValue → DsReplyValue → MdsValue
 sees_size m file server call reply = sees_in m file server call reply (served m file)
@@ -158,13 +158,13 @@ read_ends now m file s place r after (Some (end.AllFailed failures)) =
 abbrev pub read_after : ℕ → MdsValue → FileId → ServedFile → ℕ → WaitingRead → ReadAfter → MdsStep
 read_after now m file s place r after = enters (failed_entries r.read after.read) (read_ends now m file s place r after.read after.end)
 
-abbrev pub read_at : ℕ → MdsValue → FileId → ServedFile → (ReadState → ReadAfter) → ℕ → Option WaitingRead → MdsStep
-read_at now m file s step place None = sends_none m
-read_at now m file s step place (Some r) = read_after now m file s place r (step r.read)
+abbrev pub read_step_at : ℕ → MdsValue → FileId → ServedFile → (ReadState → ReadAfter) → ℕ → Option WaitingRead → MdsStep
+read_step_at now m file s step place None = sends_none m
+read_step_at now m file s step place (Some r) = read_after now m file s place r (step r.read)
 
 abbrev pub read_from : ℕ → MdsValue → FileId → ServedFile → (ReadState → ReadAfter) → Option ℕ → MdsStep
 read_from now m file s step None = sends_none m
-read_from now m file s step (Some place) = read_at now m file s step place (slice_get s.reads place)
+read_from now m file s step (Some place) = read_step_at now m file s step place (slice_get s.reads place)
 
 abbrev pub read_of : ℕ → MdsValue → FileId → ℕ → (ReadState → ReadAfter) → Option ServedFile → MdsStep
 read_of now m file xid step None = sends_none m
@@ -187,8 +187,8 @@ is_failure_of id failure = is_mirror failure.0 id
 abbrev pub cause_at : List (MirrorId × LeftCause) → Mirror → Option LeftCause
 cause_at failures m = option_map (λ (failure : MirrorId × LeftCause). failure.1) (find (is_failure_of m.id) failures)
 
-abbrev pub causes_of : List (MirrorId × LeftCause) → List Mirror → List (Option LeftCause)
-causes_of failures live = map (cause_at failures) live
+abbrev pub failures_by_place : List (MirrorId × LeftCause) → List Mirror → List (Option LeftCause)
+failures_by_place failures live = map (cause_at failures) live
 
 -- it is over: the period ends, and then the WRITE is answered, as IO where every mirror failed
 abbrev pub write_answer : MdsValue → CompoundRun → ℕ → Bool → OpStep
@@ -202,8 +202,8 @@ abbrev pub write_ends : ℕ → MdsValue → FileId → ServedFile → WaitingWr
 write_ends now m file s w None = sends_none (with_served m file (record s { write = Some w }))
 write_ends now m file s w (Some places) =
     write_over now
-    (takes_input (with_served m file (record s { write = None })) file (OwnEnds (causes_of w.failures s.file.layout.live) w.at w.bytes))
-    w (list_all (λ cause. is_some cause) (causes_of w.failures s.file.layout.live))
+    (takes_input (with_served m file (record s { write = None })) file (OwnEnds (failures_by_place w.failures s.file.layout.live) w.at w.bytes))
+    w (list_all (λ cause. is_some cause) (failures_by_place w.failures s.file.layout.live))
 
 abbrev pub write_after : ℕ → MdsValue → FileId → ServedFile → WaitingWrite → WriterAfter → MdsStep
 write_after now m file s w a = write_ends now m file s (record w { writer = a.writer; failures = with_failed a.step w.failures }) (ended a.writer)
@@ -241,22 +241,22 @@ recalls_after m a = recall_outcome (record m { recalls = a.recalls }) a.outcome
 
 -- ---- an answer
 
-abbrev pub server_answered : ℕ → MdsValue → ℕ → ℕ → DsCallValue → DsReplyValue → Caller → MdsStep
+abbrev pub server_answered : ℕ → MdsValue → ℕ → ℕ → DsCallValue → DsReplyValue → Waiter → MdsStep
 server_answered now m server xid call reply (ForFile file) = takes_input (sees_size m file server call reply) file (Answers xid reply)
 server_answered now m server xid call reply (ForRead file) = steps_read now (sees_size m file server call reply) file xid (λ r. read.after_reply r xid reply)
 server_answered now m server xid call reply (ForWrite file) =
-    and_then (sees_ctime (sees_size m file server call reply) file server (fileid_of call reply) (shown_by reply)) (λ n. steps_write now n file (λ w. after_own_reply w xid reply))
+    and_then (sees_ctime (sees_size m file server call reply) file server (fileid_of call reply) (attributes_shown reply)) (λ n. steps_write now n file (λ w. after_own_reply w xid reply))
 server_answered now m server xid call reply ForRecall = sends_none m
 
 -- what the reply says goes by the call that was sent: to a data server, or a callback by its status
-abbrev pub answered_as : ℕ → MdsValue → ℕ → (DsCallValue → DsReplyValue) → ℕ → Caller → MdsSend → MdsStep
+abbrev pub answered_as : ℕ → MdsValue → ℕ → (DsCallValue → DsReplyValue) → ℕ → Waiter → MdsSend → MdsStep
 answered_as now m xid reply status caller (CallsServer server own uid call) = server_answered now m server xid call (reply call) caller
 answered_as now m xid reply status caller (CallsBack own back file stateid) = recalls_after m (recalls.after_reply m.recalls xid (recall_end status))
 answered_as now m xid reply status caller (Replies node other) = sends_none m
 answered_as now m xid reply status caller (mds.Answers node bytes) = sends_none m
 
 -- the call is outstanding no more; an answer to one that nobody waits for is passed over
-abbrev pub answers_found : ℕ → MdsValue → NodeId → ℕ → (DsCallValue → DsReplyValue) → ℕ → Option OutCall → MdsStep
+abbrev pub answers_found : ℕ → MdsValue → NodeId → ℕ → (DsCallValue → DsReplyValue) → ℕ → Option AwaitedCall → MdsStep
 answers_found now m node xid reply status None = sends_none m
 answers_found now m node xid reply status (Some call) =
     if is_awaited m call then answered_as now (record m { calls = without_call node xid m.calls }) xid reply status call.caller call.sent
@@ -267,7 +267,7 @@ takes_answer now m node xid reply status = answers_found now m node xid reply st
 
 -- ---- a timeout
 
-abbrev pub timed_out_for : ℕ → MdsValue → ℕ → Caller → MdsStep
+abbrev pub timed_out_for : ℕ → MdsValue → ℕ → Waiter → MdsStep
 timed_out_for now m xid (ForFile file) = takes_input m file (TimesOut xid)
 timed_out_for now m xid (ForRead file) = steps_read now m file xid (λ r. read.after_timeout r xid)
 timed_out_for now m xid (ForWrite file) = steps_write now m file (λ w. writer.after_timeout w xid)

@@ -133,8 +133,8 @@ runs now [] m c = op_then (stopped m (with_ops c []) c.stop) (λ n d. sends_none
 runs now (op ∷ ops) m c = op_then (operates now m (with_ops c ops) op) (λ n d. runs now ops n d)
 
 -- the operations that are left of a compound
-abbrev pub goes_on : ℕ → MdsValue → CompoundRun → MdsStep
-goes_on now m c = runs now c.ops m c
+abbrev pub runs_on : ℕ → MdsValue → CompoundRun → MdsStep
+runs_on now m c = runs now c.ops m c
 
 -- ---- the first one
 
@@ -240,12 +240,12 @@ first_by now m c count op ops None =
     if may_stand_alone (arm_of argop4 op) then first_alone now m c count op ops
     else op_then (refuses m c (arm_of argop4 op) stat.OpNotInSession) (λ n d. sends_none n)
 
-abbrev pub first_of : ℕ → MdsValue → CompoundRun → ℕ → List (Value argop4) → MdsStep
-first_of now m c count [] = runs now [] m c
-first_of now m c count (op ∷ ops) = first_by now m c count op ops (sequence_of op)
+abbrev pub first_operation : ℕ → MdsValue → CompoundRun → ℕ → List (Value argop4) → MdsStep
+first_operation now m c count [] = runs now [] m c
+first_operation now m c count (op ∷ ops) = first_by now m c count op ops (sequence_of op)
 
 abbrev pub new_run : NodeId → ℕ → CompoundValue → CompoundRun
 new_run node xid v = record { node = node; xid = xid; tag = v.tag; ops = v.ops.values; stop = v.ops.stop; results = []; slot = None; is_kept = false; current = None }
 
 abbrev pub runs_compound : ℕ → MdsValue → NodeId → ℕ → CompoundValue → MdsStep
-runs_compound now m node xid v = first_of now m (new_run node xid v) v.count v.ops.values
+runs_compound now m node xid v = first_operation now m (new_run node xid v) v.count v.ops.values

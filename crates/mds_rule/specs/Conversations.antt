@@ -31,7 +31,7 @@ use Rattle.ff_layout.specs.ReturnBody.{ff_layoutreturn4}
 use Rattle.device_addr.specs.Universal.{AddressValue}
 use Rattle.granted_layouts.specs.GrantedBodies.{layout_body, whole_layout, layout_result}
 use Rattle.mds_rule.specs.MdsStates.{MdsSend, CallsServer, CallsBack, MdsValue, new_mds, numbered}
-use Rattle.mds_rule.specs.MdsTurns.{MdsTurn, Runs, RunsUpTo, Gets, IsTold, TimesOut, Ticks, IsToRecall, IsToResilver, MdsShown, behind, shown_in, replied, shows}
+use Rattle.mds_rule.specs.MdsTurns.{MdsTurn, Runs, RunsUpTo, Gets, IsTold, TimesOut, Ticks, IsToRecall, IsToResilver, MdsShown, mds_behind, turns_shown, replied, shows}
 
 -- ---- what is spoken of
 
@@ -203,7 +203,7 @@ opening_shown =
     ∷ []
 
 abbrev pub opened_mds : MdsValue
-opened_mds = behind fresh_mds opening
+opened_mds = mds_behind fresh_mds opening
 
 -- The layout is granted, and given again under the next seqid. It is returned without a report, which ends the period clean; the
 -- fence is guarded by the ctimes of the CREATEs. Asked for meanwhile, it is denied; a repeat of the LAYOUTRETURN is answered by what is
@@ -237,15 +237,15 @@ period_shown =
 -- ---- a read and a write through the metadata server
 
 -- A READ waits. Its first mirror fails it, and the second one gives the bytes; what stands behind it runs in that event.
-abbrev pub reading : List (ℕ × MdsTurn)
-reading =
+abbrev pub read_through : List (ℕ × MdsTurn)
+read_through =
     (1, Runs c1 4 (unkept_sequence session1 2 ∷ put_fh 1 ∷ read open1 0 100000 ∷ get_fh ∷ []))
     ∷ (1, Gets 1 3 (Failed 5 None))
     ∷ (1, Gets 2 4 (Bytes (Some (showing 65536 1 2)) true (65 ∷ 66 ∷ [])))
     ∷ []
 
-abbrev pub reading_shown : List MdsShown
-reading_shown =
+abbrev pub read_through_shown : List MdsShown
+read_through_shown =
     shows [] (CallsServer 1 3 0 (Read 2 0 65536) ∷ [])
     ∷ shows (entry.Failed m1 3 ∷ []) (CallsServer 2 4 0 (Read 2 0 65536) ∷ [])
     ∷ shows (entry.ReadAnswer file1 0 (65 ∷ 66 ∷ []) ∷ []) (replied c1 4 0 (sequenced session1 2 ∷ put_fh_done ∷ read_done (65 ∷ 66 ∷ []) ∷ get_fh_done 1 ∷ []) ∷ [])
@@ -253,8 +253,8 @@ reading_shown =
 
 -- A WRITE begins a period of the metadata server's own. It is answered in the event in which both mirrors are committed, and the
 -- fence behind it is guarded by the ctimes that the answers showed.
-abbrev pub writing : List (ℕ × MdsTurn)
-writing =
+abbrev pub write_through : List (ℕ × MdsTurn)
+write_through =
     (1, Runs c1 4 (sequence session1 2 ∷ put_fh 1 ∷ write open1 4 (66 ∷ []) ∷ []))
     ∷ (1, Gets 1 3 (Written (Some (showing 65536 2 5)) 1))
     ∷ (1, Gets 2 4 (Written (Some (showing 65536 3 5)) 1))
@@ -262,8 +262,8 @@ writing =
     ∷ (1, Gets 1 5 (Committed None 1))
     ∷ []
 
-abbrev pub writing_shown : List MdsShown
-writing_shown =
+abbrev pub write_through_shown : List MdsShown
+write_through_shown =
     shows (entry.Granted file1 (uid 65536) Mds ∷ entry.Sent file1 (uid 65536) 4 (66 ∷ []) ∷ []) (CallsServer 1 3 65536 (Write 2 4 false (66 ∷ [])) ∷ CallsServer 2 4 65536 (Write 2 4 false (66 ∷ [])) ∷ [])
     ∷ shows [] (CallsServer 1 5 65536 (Commit 2) ∷ [])
     ∷ shows [] (CallsServer 2 6 65536 (Commit 2) ∷ [])
@@ -279,7 +279,7 @@ abbrev pub granting : List (ℕ × MdsTurn)
 granting = (1, Runs c1 4 (sequence session1 2 ∷ put_fh 1 ∷ layout_get open1 ∷ [])) ∷ []
 
 abbrev pub held_mds : MdsValue
-held_mds = behind opened_mds granting
+held_mds = mds_behind opened_mds granting
 
 -- Its return reports the second mirror, which leaves. The fence is at the first alone.
 abbrev pub reporting : List (ℕ × MdsTurn)
@@ -381,7 +381,7 @@ other_opened =
     ∷ []
 
 abbrev pub other_holds_mds : MdsValue
-other_holds_mds = behind opened_mds other_opened
+other_holds_mds = mds_behind opened_mds other_opened
 
 abbrev pub denying : List (ℕ × MdsTurn)
 denying =

@@ -20,7 +20,7 @@ use Rattle.ds_calls.specs.GivenReplies.{reply_of_call}
 use Rattle.recall_calls.specs.RecallAnswers.{recall_status}
 use Rattle.mds_activity.specs.FileCalls.{kept_out}
 use Rattle.mds_receive.specs.MdsReceive.{IncomingValue, PassedOver, IsReply, IsAnswered, IsCompound, incoming_of}
-use Rattle.mds_rule.specs.MdsStates.{ServedFile, OutCall, Caller, ForFile, ForRead, ForWrite, ForRecall, MdsSend, Answers, MdsValue, MdsStep, sends_none, enters, and_then, served, numbered}
+use Rattle.mds_rule.specs.MdsStates.{ServedFile, AwaitedCall, Waiter, ForFile, ForRead, ForWrite, ForRecall, MdsSend, Answers, MdsValue, MdsStep, sends_none, enters, and_then, served, numbered}
 use Rattle.mds_rule.specs.ServedFiles.{takes_input, asks_back, ends_client}
 use Rattle.mds_rule.specs.Compounds.{runs_compound}
 use Rattle.mds_rule.specs.Answers.{is_awaited, takes_answer, timed_out_for}
@@ -49,7 +49,7 @@ takes_record now m node bytes = takes_incoming now m node (incoming_of bytes)
 
 -- ---- a timeout: of the call to this node that was sent first, of those that are awaited
 
-abbrev pub is_outstanding_to : MdsValue → NodeId → OutCall → Bool
+abbrev pub is_outstanding_to : MdsValue → NodeId → AwaitedCall → Bool
 is_outstanding_to m node call = is_node call.node node && is_awaited m call
 
 -- its record goes out again, where it is still awaited and is not kept until the next tick
@@ -57,18 +57,18 @@ abbrev pub is_kept : Option (ℕ × ℕ) → ℕ → Bool
 is_kept None xid = false
 is_kept (Some kept) xid = kept.1 == xid
 
-abbrev pub kept_of : Option ServedFile → Option (ℕ × ℕ)
-kept_of None = None
-kept_of (Some s) = kept_out s.file
+abbrev pub kept_call_of : Option ServedFile → Option (ℕ × ℕ)
+kept_call_of None = None
+kept_call_of (Some s) = kept_out s.file
 
-abbrev pub is_kept_by : MdsValue → ℕ → Caller → Bool
-is_kept_by m xid (ForFile file) = is_kept (kept_of (served m file)) xid
+abbrev pub is_kept_by : MdsValue → ℕ → Waiter → Bool
+is_kept_by m xid (ForFile file) = is_kept (kept_call_of (served m file)) xid
 is_kept_by m xid other = false
 
-abbrev pub goes_again : OutCall → MdsValue → MdsStep
+abbrev pub goes_again : AwaitedCall → MdsValue → MdsStep
 goes_again call m = if is_awaited m call && not (is_kept_by m call.xid call.caller) then record { mds = m; entries = []; sends = call.sent ∷ [] } else sends_none m
 
-abbrev pub times_out : ℕ → MdsValue → Option OutCall → MdsStep
+abbrev pub times_out : ℕ → MdsValue → Option AwaitedCall → MdsStep
 times_out now m None = sends_none m
 times_out now m (Some call) = enters (TimedOut Mds call.xid ∷ []) (and_then (and_then (timed_out_for now m call.xid call.caller) (goes_again call)) (calls_out []))
 

@@ -51,7 +51,7 @@ use Rattle.mds_operations.specs.Reads.{read_order}
 use Rattle.mds_operations.specs.Writes.{write_order, has_bytes}
 use Rattle.mds_operations.specs.declared.read.ReadAsk.{ReadAsk}
 use Rattle.mds_operations.specs.declared.write.WriteAsk.{WriteAsk}
-use Rattle.mds_rule.specs.MdsStates.{CompoundRun, ServedFile, WaitingRead, WaitingWrite, MdsValue, MdsStep, sends_none, and_then, served, with_served, numbered, file_named, size_of}
+use Rattle.mds_rule.specs.MdsStates.{CompoundRun, ServedFile, WaitingRead, WaitingWrite, MdsValue, MdsStep, sends_none, and_then, served, with_served, numbered, file_named, size_served}
 use Rattle.mds_rule.specs.OpSteps.{OpStep, Goes, Ends, Waits, with_result, at_object, gives, refuses, refused_as, by_order, refused_or}
 use Rattle.mds_rule.specs.ServedFiles.{takes_input, asks_back, has_fresh}
 
@@ -76,11 +76,11 @@ granted_of (Some s) client = granted_if client s.file.layout.cred s.holder
 abbrev pub open_number : MdsValue → ℕ → FileId → Option ℕ
 open_number m client file = option_map (λ (o : Open). o.number) (open_of m.opens client file)
 
-abbrev pub no_file : FileId
-no_file = record { 0 = 0 }
+abbrev pub file_zero : FileId
+file_zero = record { 0 = 0 }
 
 abbrev pub file_or_none : Option FileId → FileId
-file_or_none None = no_file
+file_or_none None = file_zero
 file_or_none (Some file) = file
 
 -- the current file, where it is one
@@ -115,13 +115,13 @@ runs_put_fh m c handle = by_order m c 22 (put_fh_order handle (length m.files)) 
 abbrev pub runs_put_root_fh : MdsValue → CompoundRun → OpStep
 runs_put_root_fh m c = gives m (at_object c Root) (arm 24 resop4 (inl tt))
 
-abbrev pub handle_of : Object → List ℕ
-handle_of Root = file_handle_of 0
-handle_of (File file) = file_handle_of file.0
+abbrev pub object_handle : Object → List ℕ
+object_handle Root = file_handle_of 0
+object_handle (File file) = file_handle_of file.0
 
 abbrev pub get_object : MdsValue → CompoundRun → Option Object → OpStep
 get_object m c None = refuses m c 10 stat.NoFileHandle
-get_object m c (Some object) = gives m c (arm 10 resop4 (inl (handle_of object)))
+get_object m c (Some object) = gives m c (arm 10 resop4 (inl (object_handle object)))
 
 abbrev pub runs_get_fh : MdsValue → CompoundRun → OpStep
 runs_get_fh m c = get_object m c c.current
@@ -137,22 +137,22 @@ root_size = 4096
 
 abbrev pub attributes_served : FileId → Option ServedFile → Attributes
 attributes_served file None = record { object = File file; change = 0; size = 0 }
-attributes_served file (Some s) = record { object = File file; change = s.periods; size = size_of s }
+attributes_served file (Some s) = record { object = File file; change = s.periods; size = size_served s }
 
-abbrev pub attributes_of : MdsValue → Object → Attributes
-attributes_of m Root = record { object = Root; change = length m.files; size = root_size }
-attributes_of m (File file) = attributes_served file (served m file)
+abbrev pub object_attributes : MdsValue → Object → Attributes
+object_attributes m Root = record { object = Root; change = length m.files; size = root_size }
+object_attributes m (File file) = attributes_served file (served m file)
 
 -- a bitmap has no words behind the last that is not 0
-abbrev pub words_of : ℕ → ℕ → List ℕ
-words_of first second = if second == 0 then (if first == 0 then [] else first ∷ []) else first ∷ second ∷ []
+abbrev pub bitmap_words : ℕ → ℕ → List ℕ
+bitmap_words first second = if second == 0 then (if first == 0 then [] else first ∷ []) else first ∷ second ∷ []
 
 abbrev pub attributes_result : AskedAttributes → Attributes → Value resop4
-attributes_result asked a = arm 9 resop4 (inl (words_of (first_word asked) (second_word asked), values_of asked a))
+attributes_result asked a = arm 9 resop4 (inl (bitmap_words (first_word asked) (second_word asked), values_of asked a))
 
 abbrev pub get_attributes : MdsValue → CompoundRun → List ℕ → Option Object → OpStep
 get_attributes m c words None = refuses m c 9 stat.NoFileHandle
-get_attributes m c words (Some object) = gives m c (attributes_result (asked_of (get_or words 0 0) (get_or words 1 0)) (attributes_of m object))
+get_attributes m c words (Some object) = gives m c (attributes_result (asked_of (get_or words 0 0) (get_or words 1 0)) (object_attributes m object))
 
 abbrev pub runs_get_attr : MdsValue → CompoundRun → List ℕ → OpStep
 runs_get_attr m c words = get_attributes m c words c.current
@@ -163,11 +163,11 @@ abbrev pub max_files : ℕ
 max_files = 4096
 
 -- a file's mirrors are on as many servers, from one of its own on, and go round behind the last
-abbrev pub server_at : ℕ → ℕ → ℕ → ℕ
-server_at servers file place = (file - 1 + place) % servers + 1
+abbrev pub nth_server : ℕ → ℕ → ℕ → ℕ
+nth_server servers file place = (file - 1 + place) % servers + 1
 
 abbrev pub servers_of : ℕ → ℕ → ℕ → List ℕ
-servers_of servers mirrors file = map (server_at servers file) (range_with_len 0 mirrors)
+servers_of servers mirrors file = map (nth_server servers file) (range_with_len 0 mirrors)
 
 abbrev pub new_served : List ℕ → MdsFile → ServedFile
 new_served name file = record { name = name; file = file; sizes = []; periods = 0; holder = None; seqid = 0; write = None; reads = [] }
@@ -238,8 +238,8 @@ abbrev pub read_ask : MdsValue → CompoundRun → Value read4_args → ReadAsk
 read_ask m c (stateid, (offset, count)) = record { named = named_in m c (stateid_in stateid); count = count; kept = kept_so_far c; phase = phase_now m c }
 
 -- at most 65,536 bytes are read
-abbrev pub piece_of : ℕ → ℕ
-piece_of count = if nat_lt PIECE_SIZE count then PIECE_SIZE else count
+abbrev pub read_length : ℕ → ℕ
+read_length count = if nat_lt PIECE_SIZE count then PIECE_SIZE else count
 
 abbrev pub reads_at : MdsValue → CompoundRun → FileId → ℕ → ℕ → Option ServedFile → OpStep
 reads_at m c file at count None = refuses m c 25 stat.Stale
@@ -247,7 +247,7 @@ reads_at m c file at count (Some s) =
     Waits (with_served m file (record s { reads = s.reads ++ (record { compound = c; read = new_read s.file.layout.live at count }) ∷ [] })) []
 
 abbrev pub reads_file : MdsValue → CompoundRun → Value read4_args → OpStep
-reads_file m c (stateid, (offset, count)) = reads_at m c (current_file c) offset (piece_of count) (served m (current_file c))
+reads_file m c (stateid, (offset, count)) = reads_at m c (current_file c) offset (read_length count) (served m (current_file c))
 
 abbrev pub runs_read : MdsValue → CompoundRun → Value read4_args → OpStep
 runs_read m c args = by_order m c 25 (read_order c.current (read_ask m c args)) (reads_file m c args)

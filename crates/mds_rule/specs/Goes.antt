@@ -19,7 +19,7 @@ use Rattle.nfs4_session.specs.Clients.{ClientState, SessionState, has_id, change
 use Rattle.nfs4_session.specs.Bindings.{last_session, back_call, client_called_back}
 use Rattle.recall.specs.declared.recall.RecallCall.{RecallCall}
 use Rattle.recall.specs.Recalls.{RecallSends, next_sent}
-use Rattle.mds_rule.specs.MdsStates.{WaitingRead, WaitingWrite, ServedFile, MdsSend, CallsServer, CallsBack, Caller, ForFile, ForRead, ForWrite, ForRecall, OutCall, MdsValue, MdsStep, sends_none, and_then, served, with_served, numbered}
+use Rattle.mds_rule.specs.MdsStates.{WaitingRead, WaitingWrite, ServedFile, MdsSend, CallsServer, CallsBack, Waiter, ForFile, ForRead, ForWrite, ForRecall, AwaitedCall, MdsValue, MdsStep, sends_none, and_then, served, with_served, numbered}
 
 -- ---- one call
 
@@ -27,21 +27,21 @@ use Rattle.mds_rule.specs.MdsStates.{WaitingRead, WaitingWrite, ServedFile, MdsS
 abbrev pub xid_after : ℕ → ℕ
 xid_after xid = if xid == 4294967295 then 0 else xid + 1
 
-abbrev pub calls_as : MdsValue → NodeId → Caller → MdsSend → MdsStep
+abbrev pub calls_as : MdsValue → NodeId → Waiter → MdsSend → MdsStep
 calls_as m node caller sent = record {
   mds = record m { calls = m.calls ++ (record { node = node; xid = m.next_xid; caller = caller; sent = sent }) ∷ []; next_xid = xid_after m.next_xid };
   entries = [];
   sends = sent ∷ [];
 }
 
-abbrev pub calls_server : MdsValue → FileId → ServedFile → Caller → ℕ → ℕ → DsCallValue → MdsStep
+abbrev pub calls_server : MdsValue → FileId → ServedFile → Waiter → ℕ → ℕ → DsCallValue → MdsStep
 calls_server m file s caller server uid call = calls_as (with_served m file s) (Server server) caller (CallsServer server m.next_xid uid call)
 
 -- ---- a file's own calls: those that it has under way, or those of the metadata server's own write
 
 pub record OwnCall : Type 0 where
   pub served : ServedFile
-  pub caller : Caller
+  pub caller : Waiter
   pub server : ℕ
   pub uid : ℕ
   pub call : DsCallValue
@@ -135,10 +135,10 @@ recall_call file m = if has_xids m then recall_goes m file (next_sent m.recalls 
 
 -- ---- what was kept until the tick under its number: its record is sent again
 
-abbrev pub is_again : FileId → List ℕ → OutCall → Bool
+abbrev pub is_again : FileId → List ℕ → AwaitedCall → Bool
 is_again file again call = is_of_file call.caller && list_any (λ xid. xid == call.xid) again
   where
-    is_of_file : Caller → Bool
+    is_of_file : Waiter → Bool
     is_of_file (ForFile f) = f.0 == file.0
     is_of_file (ForRead f) = f.0 == file.0
     is_of_file (ForWrite f) = f.0 == file.0

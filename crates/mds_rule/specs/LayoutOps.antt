@@ -46,7 +46,7 @@ use Rattle.mds_operations.specs.LayoutCommit.{layout_commit_order}
 use Rattle.mds_operations.specs.GetDeviceInfo.{device_info_order}
 use Rattle.mds_rule.specs.MdsStates.{CompoundRun, ServedFile, MdsValue, MdsStep, sends_none, and_then, enters, served, with_served}
 use Rattle.mds_rule.specs.OpSteps.{OpStep, Goes, Ends, with_result, gives, refuses, refused_as, by_order, refused_or}
-use Rattle.mds_rule.specs.ServedFiles.{takes_input, asks_back, held_from, in_turn}
+use Rattle.mds_rule.specs.ServedFiles.{takes_input, asks_back, held_from, one_by_one}
 use Rattle.mds_rule.specs.SessionOps.{goes_with}
 use Rattle.mds_rule.specs.FileOps.{client_of, current_file, stateid_in, named_in, uids_left, ends_by}
 use Rattle.granted_layouts.specs.GrantedBodies.{layout_body, whole_layout, layout_length, layout_result, device_body, device_info, device_info_length, device_info_result}

@@ -86,17 +86,17 @@ pub data MdsSend : Type 0 where
   Answers : (node : NodeId) (bytes : List ℕ) → MdsSend
 
 -- who waits for the answer to a call
-pub data Caller : Type 0 where
-  ForFile : FileId → Caller
-  ForRead : FileId → Caller
-  ForWrite : FileId → Caller
-  ForRecall : Caller
+pub data Waiter : Type 0 where
+  ForFile : FileId → Waiter
+  ForRead : FileId → Waiter
+  ForWrite : FileId → Waiter
+  ForRecall : Waiter
 
 -- a call that was sent
-pub record OutCall : Type 0 where
+pub record AwaitedCall : Type 0 where
   pub node : NodeId
   pub xid : ℕ
-  pub caller : Caller
+  pub caller : Waiter
   pub sent : MdsSend
 
 -- ---- the whole
@@ -113,7 +113,7 @@ pub record MdsValue : Type 0 where
   pub files : List ServedFile
   pub recalls : List Recall
   -- in the order in which they were sent
-  pub calls : List OutCall
+  pub calls : List AwaitedCall
   pub fresh : Fresh
   -- the number of the next call, and 0 when all are used
   pub next_xid : ℕ
@@ -164,11 +164,11 @@ numbered n = record { 0 = n }
 abbrev pub has_name : List ℕ → ServedFile → Bool
 has_name name s = bytes_eq s.name name
 
-abbrev pub file_at : Option ℕ → Option FileId
-file_at place = option_map (λ n. numbered (n + 1)) place
+abbrev pub file_in_place : Option ℕ → Option FileId
+file_in_place place = option_map (λ n. numbered (n + 1)) place
 
 abbrev pub file_named : MdsValue → List ℕ → Option FileId
-file_named m name = file_at (position (has_name name) m.files)
+file_named m name = file_in_place (position (has_name name) m.files)
 
 -- the size last seen at the first live mirror
 abbrev pub is_size_of : MirrorId → MirrorId × ℕ → Bool
@@ -182,8 +182,8 @@ abbrev pub size_of_first : List Mirror → List (MirrorId × ℕ) → ℕ
 size_of_first [] sizes = 0
 size_of_first (m ∷ live) sizes = size_or_none (find (is_size_of m.id) sizes)
 
-abbrev pub size_of : ServedFile → ℕ
-size_of s = size_of_first s.file.layout.live s.sizes
+abbrev pub size_served : ServedFile → ℕ
+size_served s = size_of_first s.file.layout.live s.sizes
 
 abbrev pub with_size : MirrorId → ℕ → List (MirrorId × ℕ) → List (MirrorId × ℕ)
 with_size id size sizes = filter (λ s. not (is_size_of id s)) sizes ++ (id, size) ∷ []

@@ -35,14 +35,14 @@ pub record MdsShown : Type 0 where
   pub entries : List Entry
   pub sends : List MdsSend
 
-abbrev pub compound_of : List (Value argop4) → CompoundValue
-compound_of ops = record { tag = []; minorversion = 1; count = length ops; ops = record { values = ops; stop = stop.End None } }
+abbrev pub compound_with : List (Value argop4) → CompoundValue
+compound_with ops = record { tag = []; minorversion = 1; count = length ops; ops = record { values = ops; stop = stop.End None } }
 
 abbrev pub compound_up_to : List (Value argop4) → ℕ → CompoundValue
 compound_up_to ops number = record { tag = []; minorversion = 1; count = length ops + 1; ops = record { values = ops; stop = stop.Unread number } }
 
 abbrev pub after_turn : ℕ → MdsValue → MdsTurn → MdsStep
-after_turn now m (Runs node xid ops) = takes_compound now m node xid (compound_of ops)
+after_turn now m (Runs node xid ops) = takes_compound now m node xid (compound_with ops)
 after_turn now m (RunsUpTo node xid ops number) = takes_compound now m node xid (compound_up_to ops number)
 after_turn now m (Gets server xid reply) = and_then (takes_answer now m (Server server) xid (λ call. reply) 0) (calls_out [])
 after_turn now m (IsTold node xid status) = and_then (takes_answer now m node xid (λ call. Set None) status) (calls_out [])
@@ -52,14 +52,14 @@ after_turn now m (IsToRecall file) = takes_recall now m (numbered file)
 after_turn now m (IsToResilver file) = takes_resilver m (numbered file)
 
 -- a server behind turns, each at its moment
-abbrev pub behind : MdsValue → List (ℕ × MdsTurn) → MdsValue
-behind m [] = m
-behind m (turn ∷ turns) = behind (after_turn turn.0 m turn.1).mds turns
+abbrev pub mds_behind : MdsValue → List (ℕ × MdsTurn) → MdsValue
+mds_behind m [] = m
+mds_behind m (turn ∷ turns) = mds_behind (after_turn turn.0 m turn.1).mds turns
 
 -- what each of them shows
-abbrev pub shown_in : MdsValue → List (ℕ × MdsTurn) → List MdsShown
-shown_in m [] = []
-shown_in m (turn ∷ turns) = record { entries = (after_turn turn.0 m turn.1).entries; sends = (after_turn turn.0 m turn.1).sends } ∷ shown_in (after_turn turn.0 m turn.1).mds turns
+abbrev pub turns_shown : MdsValue → List (ℕ × MdsTurn) → List MdsShown
+turns_shown m [] = []
+turns_shown m (turn ∷ turns) = record { entries = (after_turn turn.0 m turn.1).entries; sends = (after_turn turn.0 m turn.1).sends } ∷ turns_shown (after_turn turn.0 m turn.1).mds turns
 
 -- the reply to a compound with this status and these results
 abbrev pub replied : NodeId → ℕ → ℕ → List (Value resop4) → MdsSend

@@ -37,9 +37,9 @@ is_of_period (entry.Granted file cred holder) = true
 is_of_period (entry.Ended file cred cause) = true
 is_of_period e = false
 
-abbrev pub is_end : Entry → Bool
-is_end (entry.Ended file cred cause) = true
-is_end e = false
+abbrev pub is_period_end : Entry → Bool
+is_period_end (entry.Ended file cred cause) = true
+is_period_end e = false
 
 abbrev pub is_swap : Entry → Bool
 is_swap (entry.Swapped file old new) = true
@@ -76,10 +76,10 @@ file_behind s step = record s {
 
 -- a recall is over with the period
 abbrev pub recalls_behind : MdsValue → FileId → List Entry → MdsValue
-recalls_behind m file entries = if list_any is_end entries then record m { recalls = without_file file m.recalls } else m
+recalls_behind m file entries = if list_any is_period_end entries then record m { recalls = without_file file m.recalls } else m
 
-abbrev pub stepped : MdsValue → FileId → ServedFile → FileStep → MdsStep
-stepped m file s step = record {
+abbrev pub file_stepped : MdsValue → FileId → ServedFile → FileStep → MdsStep
+file_stepped m file s step = record {
   mds = recalls_behind (with_served (record m { fresh = drawn m.fresh step }) file (file_behind s step)) file step.entries;
   entries = step.entries;
   sends = [];
@@ -88,7 +88,7 @@ stepped m file s step = record {
 -- what would be drawn past the end is not drawn, and nothing comes of the input then
 abbrev pub input_at : MdsValue → FileId → FileInput → Option ServedFile → MdsStep
 input_at m file input None = sends_none m
-input_at m file input (Some s) = if has_fresh m.fresh then stepped m file s (phase file s.file input m.fresh) else sends_none m
+input_at m file input (Some s) = if has_fresh m.fresh then file_stepped m file s (phase file s.file input m.fresh) else sends_none m
 
 abbrev pub takes_input : MdsValue → FileId → FileInput → MdsStep
 takes_input m file input = input_at m file input (served m file)
@@ -122,13 +122,13 @@ abbrev pub held_from : ℕ → ℕ → List ServedFile → List FileId
 held_from client n [] = []
 held_from client n (s ∷ files) = if is_holder client s.holder then numbered n ∷ held_from client (n + 1) files else held_from client (n + 1) files
 
-abbrev pub in_turn : (MdsValue → FileId → MdsStep) → List FileId → MdsValue → MdsStep
-in_turn step [] m = sends_none m
-in_turn step (file ∷ files) m = and_then (step m file) (λ n. in_turn step files n)
+abbrev pub one_by_one : (MdsValue → FileId → MdsStep) → List FileId → MdsValue → MdsStep
+one_by_one step [] m = sends_none m
+one_by_one step (file ∷ files) m = and_then (step m file) (λ n. one_by_one step files n)
 
 -- each of them ends, in the order of the files
 abbrev pub ends_periods : MdsValue → ℕ → EndCause → MdsStep
-ends_periods m client end = in_turn (λ n file. takes_input n file (Revokes end)) (held_from client 1 m.files) m
+ends_periods m client end = one_by_one (λ n file. takes_input n file (Revokes end)) (held_from client 1 m.files) m
 
 -- its opens end too, and what it reclaimed is forgotten
 abbrev pub forgotten : ℕ → MdsValue → MdsValue

@@ -11,15 +11,15 @@ use Rattle.mds_rule.specs.Events.{takes_record}
 use Rattle.mds_rule.specs.Spelled.{spelled_send, records_sent}
 use Rattle.mds_rule.specs.Conversations.{fresh_mds}
 
-abbrev pub bytes_of : List ℕ → List ℕ
-bytes_of words = flat_map word words
+abbrev pub bytes_of_words : List ℕ → List ℕ
+bytes_of_words words = flat_map word words
 
 -- what goes back to the client
 abbrev pub heard : List ℕ → List (NodeId × List ℕ)
-heard words = records_sent (takes_record 0 fresh_mds (Client 1) (bytes_of words))
+heard words = records_sent (takes_record 0 fresh_mds (Client 1) (bytes_of_words words))
 
 abbrev pub back_to : List ℕ → List (NodeId × List ℕ)
-back_to words = (Client 1, bytes_of words) ∷ []
+back_to words = (Client 1, bytes_of_words words) ∷ []
 
 -- a call of NFS version 4: its number, its procedure, AUTH_NONE twice
 abbrev pub call_words : ℕ → ℕ → List ℕ
@@ -61,4 +61,4 @@ write_sent = spelled_send (CallsServer 1 7 65536 (Write 2 0 true (65 ∷ 66 ∷ 
 
 abbrev pub write_record : NodeId × List ℕ
 write_record =
-    (Server 1, bytes_of (7 ∷ 0 ∷ 2 ∷ 100003 ∷ 3 ∷ 7 ∷ 1 ∷ 24 ∷ 0 ∷ 3 ∷ 1835299584 ∷ 65536 ∷ 65536 ∷ 0 ∷ 0 ∷ 0 ∷ 8 ∷ 0 ∷ 2 ∷ 0 ∷ 0 ∷ 2 ∷ 2 ∷ 2 ∷ 1094844416 ∷ []))
+    (Server 1, bytes_of_words (7 ∷ 0 ∷ 2 ∷ 100003 ∷ 3 ∷ 7 ∷ 1 ∷ 24 ∷ 0 ∷ 3 ∷ 1835299584 ∷ 65536 ∷ 65536 ∷ 0 ∷ 0 ∷ 0 ∷ 8 ∷ 0 ∷ 2 ∷ 0 ∷ 0 ∷ 2 ∷ 2 ∷ 2 ∷ 1094844416 ∷ []))

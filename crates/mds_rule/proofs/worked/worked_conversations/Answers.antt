@@ -14,13 +14,13 @@ pub returns-clause-period : goal.returns-clause-period
 unfolding long word is_utf8 chars encode padded pad_len digits number_at length_at fixed_at opaque_at
 returns-clause-period c = refl
 
-pub returns-clause-reading : goal.returns-clause-reading
+pub returns-clause-read_through : goal.returns-clause-read_through
 unfolding long word is_utf8 chars encode padded pad_len digits number_at length_at fixed_at opaque_at
-returns-clause-reading c = refl
+returns-clause-read_through c = refl
 
-pub returns-clause-writing : goal.returns-clause-writing
+pub returns-clause-write_through : goal.returns-clause-write_through
 unfolding long word is_utf8 chars encode padded pad_len digits number_at length_at fixed_at opaque_at
-returns-clause-writing c = refl
+returns-clause-write_through c = refl
 
 pub returns-clause-reporting : goal.returns-clause-reporting
 unfolding long word is_utf8 chars encode padded pad_len digits number_at length_at fixed_at opaque_at
