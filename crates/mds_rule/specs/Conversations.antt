@@ -420,6 +420,7 @@ placing_shown =
     ∷ CallsServer 2 3 0 (Create 2 65537) ∷ CallsServer 3 4 0 (Create 2 65537)
     ∷ CallsServer 3 5 0 (Create 3 65538) ∷ CallsServer 1 6 0 (Create 3 65538)
     ∷ [])
+    ∷ []
 
 -- ---- two clients, one after the other
 
