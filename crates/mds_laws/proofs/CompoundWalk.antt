@@ -1,5 +1,5 @@
 -- Compounds, and what comes of answers and timeouts, keep what is kept in each case.
-use Rattle.std.proofs.Common.{◌≡◌, ℕ, ◌+◌, Bool, true, false, List, [], ◌∷◌, ◌++◌, length, Option, Some, None, refl, sym, subst, inr}
+use Rattle.std.proofs.Common.{◌≡◌, ℕ, Bool, true, false, List, [], ◌∷◌, ◌++◌, length, Option, Some, None, refl, sym, subst, inr}
 use Rattle.std.specs.Prelude.{not, ◌==◌, is_some, slice_get, remove, drop, position, map}
 use Rattle.std.specs.List.{find, list_all}
 use Rattle.std.proofs.lemmas.Bool.{cond_both}
