@@ -113,9 +113,9 @@ impl<'a> Compound<'a> {
 /// The operations of a compound that are left.
 #[derive(Drop)]
 pub struct Ops<'a> {
-    bytes: &'a [u8],
-    at: usize,
-    left: u32,
+    pub(crate) bytes: &'a [u8],
+    pub(crate) at: usize,
+    pub(crate) left: u32,
 }
 
 impl<'a> Model for Ops<'a> {

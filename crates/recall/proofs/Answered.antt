@@ -66,6 +66,18 @@ module _ (es : List Entry) (stands : IsRecallTable es) (place : ℕ) (e : Entry)
       subst (λ (rs : List Recall). next_sent rs xid ≡ Some (record { recalls = recalls_of new; call = call })) seen
       (ap (sent_from (recalls_of es) xid) place_may ∙ ap (sent_at (recalls_of es) xid place) sent_at_place ∙ ap (sent_to call) (sym shown))
 
+  pub waits_it : (recalls : List Recall) → recalls_of es ≡ recalls → WaitsFor recalls xid (Some e.recall.file)
+  waits_it recalls seen =
+      subst (λ (rs : List Recall). WaitsFor rs xid (Some e.recall.file)) seen
+      (
+        record {
+          recalls = slice_set (recalls_of es) place (at_stage (Out xid 0) e.recall);
+          call = record { file = e.recall.file; cred = e.recall.cred; client = e.recall.client; xid = xid };
+        },
+        ap (sent_from (recalls_of es) xid) place_may ∙ ap (sent_at (recalls_of es) xid place) sent_at_place,
+        refl,
+      )
+
 -- ---- an answer or a timeout
 
 -- the callback of this number is that of the recall at this place

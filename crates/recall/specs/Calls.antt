@@ -6,7 +6,7 @@ use Rattle.recall.specs.declared.recall.Recall.{Recall}
 use Rattle.recall.specs.declared.recall.RecallCall.{RecallCall}
 use Rattle.recall.specs.declared.recall.AskFault.{AskFault}
 use Rattle.recall.specs.declared.recall.AskFault.TheVariants.{Asked, NoMemory}
-use Rattle.recall.specs.Recalls.{is_under_way, with_recall, new_recall, next_sent}
+use Rattle.recall.specs.Recalls.{is_under_way, with_recall, new_recall, RecallSends, next_sent}
 
 -- a recall begins, unless one of this grant is under way
 abbrev pub AsksFor : List Recall → FileId → Cred → ℕ → ℕ → Result (Unit {0}) AskFault → List Recall → Type 0
@@ -18,3 +18,8 @@ AsksFor old file cred client now (Err (NoMemory e)) new = new ≡ old
 abbrev pub SendsRecall : List Recall → ℕ → Option RecallCall → List Recall → Type 0
 SendsRecall old xid None new = (next_sent old xid ≡ None) × (new ≡ old)
 SendsRecall old xid (Some call) new = next_sent old xid ≡ Some (record { recalls = new; call = call })
+
+-- the file of the callback that would go out
+abbrev pub WaitsFor : List Recall → ℕ → Option FileId → Type 0
+WaitsFor recalls xid None = next_sent recalls xid ≡ None
+WaitsFor recalls xid (Some file) = (sent : RecallSends) × (next_sent recalls xid ≡ Some sent) × (sent.call.file ≡ file)

@@ -1,8 +1,8 @@
 //! The recalls that are under way.
 
-ghost use Rattle.std.specs.Prelude.{◌≡◌, true, false, [], map, filter, slice_get, slice_set, Some, IfOk};
+ghost use Rattle.std.specs.Prelude.{◌≡◌, ℕ, true, false, [], map, filter, slice_get, slice_set, Some, IfOk};
 ghost use Rattle.recall.specs.Recalls.{is_out, at_stage, at_tick, after_reply, after_timeout, after_tick, without_file};
-ghost use Rattle.recall.specs.Calls.{AsksFor, SendsRecall};
+ghost use Rattle.recall.specs.Calls.{AsksFor, SendsRecall, WaitsFor};
 ghost use Rattle.recall.specs.Entries.{goes_on};
 
 use crate::entries::{
@@ -94,6 +94,14 @@ impl Recalls {
             client: recall.client,
             xid,
         })
+    }
+
+    /// The file of the recall whose callback `next_call` would send.
+    pub fn waiting_file(&self) -> Option<FileId>
+        ensures { (xid : ℕ) → WaitsFor self.now xid result }
+    {
+        let place = ready(self.entries.as_slice())?;
+        Some(self.entries[place].recall.file)
     }
 
     /// What the answer to the callback of this number comes to: `Stranger` where none is outstanding. OK: the client is to
