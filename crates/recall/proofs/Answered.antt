@@ -16,7 +16,7 @@ use Rattle.recall.specs.declared.recall.Outcome.TheVariants as outcome
 use Rattle.recall.specs.declared.entry.Entry.{Entry}
 use Rattle.recall.specs.declared.entry.Ended.TheVariants.{Grant}
 use Rattle.recall.specs.Recalls.{is_out, is_out_as, may_go, has_one_out, waits, at_stage, at_tick, grant_of, has_expired, RecallSends, sent_at, sent_from, next_sent, out_at, RecallsAfter, answered, late, step_at, step_from, after_reply, after_timeout, RecallsTick, without, without_found, told_found, after_tick}
-use Rattle.recall.specs.Calls.{SendsRecall}
+use Rattle.recall.specs.Calls.{SendsRecall, WaitsFor}
 use Rattle.recall.specs.Entries.{grant_in, recalls_of, is_out_to, is_ready, held_as, goes_on, IsRecallTable}
 use Rattle.recall.proofs.Firsts.{passes, none_found, first_there}
 use Rattle.recall.proofs.Standing.{ready_in, position_in, at_place, put_in, sent_stands, found_in}
