@@ -1,7 +1,8 @@
 //! The calls of a file that go out, and those that are outstanding.
 
-ghost use Rattle.std.specs.Prelude.{◌≡◌, [], length, if◌then◌else◌};
-ghost use Rattle.cluster_model.specs.DsCalls.{plain_ds_call};
+ghost use Rattle.std.specs.Prelude.{◌≡◌, ◌≤◌, [], length, if◌then◌else◌};
+ghost use Rattle.cluster_model.specs.DsCalls.{plain_ds_call, data_in};
+ghost use Rattle.cluster_model.specs.declared.limits.TheConstants.{PIECE_SIZE};
 ghost use Rattle.cluster_model.specs.Fences.{waits};
 ghost use Rattle.file_rule.specs.MdsFiles.{Makes, Fences, Settles, Copies};
 ghost use Rattle.file_rule.specs.FilePhases.{first_is_on, is_outstanding};
@@ -76,7 +77,8 @@ impl Activity {
 
     /// This call, as it is sent.
     pub fn lend(&self, call: FileCallKind) -> DsCall<'_>
-        ensures { plain_ds_call result ≡ call_by (plain_activity self.now) call }
+        ensures few { length (data_in (plain_ds_call result)) ≤ PIECE_SIZE }
+        ensures lends { plain_ds_call result ≡ call_by (plain_activity self.now) call }
     {
         match call {
             FileCallKind::Create { name, owner } => DsCall::Create { name, owner },
@@ -97,7 +99,8 @@ impl Activity {
 
     /// The WRITE of the piece in hand; without a copy one of no bytes.
     fn lend_piece(&self, fileid: u64) -> DsCall<'_>
-        ensures { plain_ds_call result ≡ call_by (plain_activity self.now) (kind.WritePiece fileid) }
+        ensures few { length (data_in (plain_ds_call result)) ≤ PIECE_SIZE }
+        ensures lends { plain_ds_call result ≡ call_by (plain_activity self.now) (kind.WritePiece fileid) }
     {
         match self {
             Activity::Copies { copy, .. } => copy.lend(NextCall::WritesPiece { fileid }),

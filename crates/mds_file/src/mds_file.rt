@@ -1,7 +1,8 @@
 //! One file at the metadata server.
 
 ghost use Rattle.std.specs.Prelude.{◌≡◌, ◌≤◌, ℕ, true, length};
-ghost use Rattle.cluster_model.specs.DsCalls.{plain_ds_call};
+ghost use Rattle.cluster_model.specs.DsCalls.{plain_ds_call, data_in};
+ghost use Rattle.cluster_model.specs.declared.limits.TheConstants.{PIECE_SIZE};
 ghost use Rattle.file_rule.specs.FilePhases.{new_mds_file, is_outstanding};
 ghost use Rattle.mds_activity.specs.FileCalls.{SendsFileCall, call_of, servers_waiting, kept_out};
 ghost use Rattle.mds_creations.specs.Makings.{are_different};
@@ -76,7 +77,8 @@ impl MdsFile {
 
     /// That call, lent. Changes nothing.
     pub fn lend(&self, call: FileCall) -> DsCall<'_>
-        ensures { plain_ds_call result ≡ call_of self.now call }
+        ensures few { length (data_in (plain_ds_call result)) ≤ PIECE_SIZE }
+        ensures lends { plain_ds_call result ≡ call_of self.now call }
     {
         self.activity.lend(call.call)
     }

@@ -26,7 +26,8 @@ use Rattle.nfs4_types.specs.Stateids.{layout_stateid_of}
 use Rattle.recall.specs.declared.recall.RecallCall.{RecallCall}
 use Rattle.recall.specs.Recalls.{RecallSends, next_sent, after_tick}
 use Rattle.mds_receive.specs.MdsReceive.{IncomingValue, PassedOver, IsReply, IsAnswered, IsCompound, incoming_of}
-use Rattle.mds_rule.specs.MdsStates.{WaitingRead, WaitingWrite, ServedFile, MdsSend, Answers, AwaitedCall, ForRead, MdsValue, MdsStep, sends_none, and_then, served, numbered}
+use Rattle.mds_rule.specs.MdsStates.{WaitingRead, WaitingWrite, ServedFile, MdsSend, Answers, AwaitedCall, MdsValue, MdsStep, sends_none, and_then, served, numbered}
+use Rattle.mds_rule.specs.declared.waiter.Waiter.TheVariants.{ForRead}
 use Rattle.mds_rule.specs.ServedFiles.{takes_input, asks_back, ends_client}
 use Rattle.mds_rule.specs.Compounds.{runs_compound}
 use Rattle.mds_rule.specs.Answers.{is_awaited, takes_answer, timed_out_for}
@@ -126,20 +127,7 @@ module _ (I : MdsValue → List Entry → List MdsSend → Type 0) (k : Cases I)
 
   -- ---- what goes out again
 
-  repeat_all : (m : MdsValue) (test : AwaitedCall → Bool) (calls : List AwaitedCall) → ((call : AwaitedCall) → In call calls → In call m.calls) → (es : List Entry) (ss : List MdsSend) → I m es ss
-      → I m es (ss ++ map (λ (call : AwaitedCall). call.sent) (filter test calls))
-  repeat_all m test [] all es ss i = subst (λ (l : List MdsSend). I m es l) (sym (append-nil ss)) i
-  repeat_all m test (call ∷ calls) all es ss i =
-      cond_both (test call) (call ∷ filter test calls) (filter test calls) (λ (l : List AwaitedCall). I m es (ss ++ map (λ (c : AwaitedCall). c.sent) l))
-      (λ is.
-      subst (λ (l : List MdsSend). I m es l) (append_assoc ss (call.sent ∷ []) (map (λ (c : AwaitedCall). c.sent) (filter test calls)))
-      (repeat_all m test calls (λ c inside. all c (inr inside)) es (ss ++ call.sent ∷ []) (k.again m call.sent es ss i (k.was m es ss i call (all call (inl refl))))))
-      (λ off. repeat_all m test calls (λ c inside. all c (inr inside)) es ss i)
-
-  repeats_walk : (again : List ℕ) (file : FileId) (m : MdsValue) → Keeps I m (repeats again file m)
-  repeats_walk again file m es ss i =
-      subst (λ (l : List Entry). I m l (ss ++ (repeats again file m).sends)) (sym (append-nil es)) (repeat_all m (is_again file again) m.calls (λ call inside. inside) es ss i)
-
+  repeat_walk : (m : MdsValue) (o : Option AwaitedCall) → find_so m o → Keeps I m (repeats_call m o)
   -- ---- all of them
 
   place_walk : (file : FileId) (place : ℕ) (m : MdsValue) → Keeps I m (place_calls file place m)

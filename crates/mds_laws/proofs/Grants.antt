@@ -17,7 +17,8 @@ use Rattle.file_rule.specs.FilePhases.{FileInput, new_mds_file, phase}
 use Rattle.file_rule.specs.MdsFiles.{MdsFile, FileStep}
 use Rattle.mds_rows.specs.Draws.{drawn}
 use Rattle.recall.specs.Recalls.{without_file}
-use Rattle.mds_rule.specs.MdsStates.{ServedFile, MdsSend, CallsServer, CallsBack, Replies, Answers, ForFile, ForRead, ForWrite, ForRecall, AwaitedCall, MdsValue, served, with_served, new_mds}
+use Rattle.mds_rule.specs.MdsStates.{ServedFile, MdsSend, CallsServer, CallsBack, Replies, Answers, AwaitedCall, MdsValue, served, with_served, new_mds}
+use Rattle.mds_rule.specs.declared.waiter.Waiter.TheVariants.{ForFile, ForRead, ForWrite, ForRecall}
 use Rattle.mds_rule.specs.ServedFiles.{is_period_end, file_behind, file_stepped}
 use Rattle.mds_rule.specs.FileOps.{servers_of, new_served, with_new_file}
 use Rattle.mds_laws.specs.MdsRuns.{MdsEvent}

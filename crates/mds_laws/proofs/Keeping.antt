@@ -17,11 +17,12 @@ use Rattle.nfs4_session.specs.declared.back.BackCall.{BackCall}
 use Rattle.nfs4_session.specs.Clients.{SessionsState}
 use Rattle.recall.specs.declared.recall.Recall.{Recall}
 use Rattle.open_state.specs.Opens.{OpensValue}
-use Rattle.mds_rule.specs.MdsStates.{WaitingWrite, ServedFile, MdsSend, CallsBack, Replies, Answers, ForFile, ForRead, ForWrite, ForRecall, AwaitedCall, MdsValue, MdsStep, sends_none, enters, and_then, served, with_served}
+use Rattle.mds_rule.specs.MdsStates.{WaitingWrite, ServedFile, MdsSend, CallsBack, Replies, Answers, AwaitedCall, MdsValue, MdsStep, sends_none, enters, and_then, served, with_served, without_call}
+use Rattle.mds_rule.specs.declared.waiter.Waiter.TheVariants.{ForFile, ForRead, ForWrite, ForRecall}
 use Rattle.mds_rule.specs.OpSteps.{OpStep, Goes, Ends, Waits}
 use Rattle.mds_rule.specs.ServedFiles.{has_fresh, file_stepped}
 use Rattle.mds_rule.specs.FileOps.{with_new_file}
-use Rattle.mds_rule.specs.Answers.{without_call}
+use Rattle.mds_rule.specs.Answers.{}
 use Rattle.mds_rule.specs.Goes.{xid_after, calls_as, calls_server, has_xids}
 use Rattle.mds_laws.specs.MdsRunLaws.{IsUidOf}
 use Rattle.mds_laws.proofs.Lists.{In, in_more}

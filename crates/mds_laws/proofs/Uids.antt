@@ -14,7 +14,9 @@ use Rattle.mds_rows.specs.Draws.{drawn}
 use Rattle.mirror_writer.specs.Writers.{WriterSends}
 use Rattle.mirror_writer.specs.Writers as writer
 use Rattle.recall.specs.Recalls.{without_file}
-use Rattle.mds_rule.specs.MdsStates.{WaitingWrite, ServedFile, MdsSend, CallsServer, CallsBack, Replies, Answers, Waiter, ForFile, ForRead, ForWrite, ForRecall, AwaitedCall, MdsValue, served, with_served, new_mds}
+use Rattle.mds_rule.specs.MdsStates.{WaitingWrite, ServedFile, MdsSend, CallsServer, CallsBack, Replies, Answers, AwaitedCall, MdsValue, served, with_served, new_mds}
+use Rattle.mds_rule.specs.declared.waiter.Waiter.{Waiter}
+use Rattle.mds_rule.specs.declared.waiter.Waiter.TheVariants.{ForFile, ForRead, ForWrite, ForRecall}
 use Rattle.mds_rule.specs.ServedFiles.{is_period_end, file_behind, file_stepped}
 use Rattle.mds_rule.specs.FileOps.{with_new_file}
 use Rattle.mds_laws.specs.MdsRuns.{MdsEvent}

@@ -20,7 +20,6 @@ use Rattle.cluster_model.specs.declared.entry.Entry.TheVariants as entry
 use Rattle.cluster_model.specs.DsCalls.{DsCallValue, Create, SetAttr, Write, Commit, Read, DsReplyValue, Created, Set, Written, Committed, Bytes, NotSync, Failed}
 use Rattle.cluster_model.specs.Fences.{is_out}
 use Rattle.cluster_model.specs.Journal.{is_mirror}
-use Rattle.cluster_model.specs.Nodes.{is_node}
 use Rattle.file_rule.specs.FilePhases.{Answers, TimesOut, OwnEnds, Revokes, Sees, is_outstanding}
 use Rattle.mds_io.specs.declared.read_end.Failure.{Failure}
 use Rattle.mds_io.specs.declared.read_end.ReadEnd.{ReadEnd}
@@ -40,7 +39,9 @@ use Rattle.recall.specs.declared.recall.Outcome.TheVariants as outcome
 use Rattle.recall.specs.Recalls.{RecallsAfter, out_at}
 use Rattle.recall.specs.Recalls as recalls
 use Rattle.mds_rule.specs.MdsStates as mds
-use Rattle.mds_rule.specs.MdsStates.{CompoundRun, WaitingRead, WaitingWrite, ServedFile, MdsSend, CallsServer, CallsBack, Replies, Waiter, ForFile, ForRead, ForWrite, ForRecall, AwaitedCall, MdsValue, MdsStep, sends_none, enters, and_then, served, with_served, with_size}
+use Rattle.mds_rule.specs.MdsStates.{CompoundRun, WaitingRead, WaitingWrite, ServedFile, MdsSend, CallsServer, CallsBack, Replies, AwaitedCall, MdsValue, MdsStep, sends_none, enters, and_then, is_call_to, without_call, served, with_served, with_size}
+use Rattle.mds_rule.specs.declared.waiter.Waiter.{Waiter}
+use Rattle.mds_rule.specs.declared.waiter.Waiter.TheVariants.{ForFile, ForRead, ForWrite, ForRecall}
 use Rattle.mds_rule.specs.OpSteps.{OpStep, Goes, Ends, with_result, refused_as}
 use Rattle.mds_rule.specs.ServedFiles.{takes_input}
 use Rattle.mds_rule.specs.FileOps.{write_result}
@@ -80,12 +81,6 @@ is_awaited_by m node xid ForRecall = is_some (out_at m.recalls xid)
 
 abbrev pub is_awaited : MdsValue → AwaitedCall → Bool
 is_awaited m call = is_awaited_by m call.node call.xid call.caller
-
-abbrev pub is_call_to : NodeId → ℕ → AwaitedCall → Bool
-is_call_to node xid call = is_node call.node node && (call.xid == xid)
-
-abbrev pub without_call : NodeId → ℕ → List AwaitedCall → List AwaitedCall
-without_call node xid calls = filter (λ call. not (is_call_to node xid call)) calls
 
 -- ---- what an answer shows of a mirror's size
 

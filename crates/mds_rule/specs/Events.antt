@@ -1,8 +1,7 @@
 -- What a metadata server does in each event. It has three parts: what came is taken, and what it brought runs as far as it goes; then calls
 -- go out.
 use Rattle.std.specs.Prelude.{ℕ, zero, suc, Bool, true, false, not, ◌==◌, ◌&&◌, List, [], ◌∷◌, ◌++◌, length, map, Option, Some, None, if◌then◌else◌}
-use Rattle.std.specs.Option.{option_to_list}
-use Rattle.std.specs.List.{find, range_with_len, flat_map}
+use Rattle.std.specs.List.{find, range_with_len}
 use Rattle.rpc_record.specs.Replies.{RpcReply, reply_bytes}
 use Rattle.cluster_model.specs.declared.ids.NodeId.{NodeId}
 use Rattle.cluster_model.specs.declared.ids.NodeId.TheVariants.{Mds, Server}
@@ -20,7 +19,9 @@ use Rattle.ds_calls.specs.GivenReplies.{reply_of_call}
 use Rattle.recall_calls.specs.RecallAnswers.{recall_status}
 use Rattle.mds_activity.specs.FileCalls.{kept_out}
 use Rattle.mds_receive.specs.MdsReceive.{IncomingValue, PassedOver, IsReply, IsAnswered, IsCompound, incoming_of}
-use Rattle.mds_rule.specs.MdsStates.{ServedFile, AwaitedCall, Waiter, ForFile, ForRead, ForWrite, ForRecall, MdsSend, Answers, MdsValue, MdsStep, sends_none, enters, and_then, served, numbered}
+use Rattle.mds_rule.specs.MdsStates.{ServedFile, AwaitedCall, MdsSend, Answers, MdsValue, MdsStep, sends_none, enters, and_then, without_call, served, numbered}
+use Rattle.mds_rule.specs.declared.waiter.Waiter.{Waiter}
+use Rattle.mds_rule.specs.declared.waiter.Waiter.TheVariants.{ForFile, ForRead, ForWrite, ForRecall}
 use Rattle.mds_rule.specs.ServedFiles.{takes_input, asks_back, ends_client}
 use Rattle.mds_rule.specs.Compounds.{runs_compound}
 use Rattle.mds_rule.specs.Answers.{is_awaited, takes_answer, timed_out_for}
@@ -52,7 +53,7 @@ takes_record now m node bytes = takes_incoming now m node (incoming_of bytes)
 abbrev pub is_outstanding_to : MdsValue → NodeId → AwaitedCall → Bool
 is_outstanding_to m node call = is_node call.node node && is_awaited m call
 
--- its record goes out again, where it is still awaited and is not kept until the next tick
+-- Its record goes out again, where it is still awaited and is not kept until the next tick. A call for which nobody waits is forgotten.
 abbrev pub is_kept : Option (ℕ × ℕ) → ℕ → Bool
 is_kept None xid = false
 is_kept (Some kept) xid = kept.1 == xid
@@ -66,7 +67,10 @@ is_kept_by m xid (ForFile file) = is_kept (kept_call_of (served m file)) xid
 is_kept_by m xid other = false
 
 abbrev pub goes_again : AwaitedCall → MdsValue → MdsStep
-goes_again call m = if is_awaited m call && not (is_kept_by m call.xid call.caller) then record { mds = m; entries = []; sends = call.sent ∷ [] } else sends_none m
+goes_again call m =
+    if not (is_awaited m call) then sends_none (record m { calls = without_call call.node call.xid m.calls })
+    else if is_kept_by m call.xid call.caller then sends_none m
+    else record { mds = m; entries = []; sends = call.sent ∷ [] }
 
 abbrev pub times_out : ℕ → MdsValue → Option AwaitedCall → MdsStep
 times_out now m None = sends_none m
@@ -95,11 +99,12 @@ abbrev pub recalls_expire : ℕ → ℕ → MdsValue → MdsStep
 recalls_expire now zero m = sends_none (record m { recalls = (after_tick m.recalls now).recalls })
 recalls_expire now (suc n) m = recall_expires (record m { recalls = (after_tick m.recalls now).recalls }) (after_tick m.recalls now).expired (recalls_expire now n)
 
-abbrev pub kept_numbers : MdsValue → List ℕ
-kept_numbers m = map (λ (kept : ℕ × ℕ). kept.1) (flat_map (λ (s : ServedFile). option_to_list (kept_out s.file)) m.files)
+-- of each file, the call that it has kept, by its server and number
+abbrev pub kept_calls : MdsValue → List (Option (ℕ × ℕ))
+kept_calls m = map (λ (s : ServedFile). kept_out s.file) m.files
 
 abbrev pub files_tick : MdsValue → MdsStep
-files_tick m = and_then (each (λ n k. takes_input k (numbered n) Ticks) (range_with_len 1 (length m.files)) m) (calls_out (kept_numbers m))
+files_tick m = and_then (each (λ n k. takes_input k (numbered n) Ticks) (range_with_len 1 (length m.files)) m) (calls_out (kept_calls m))
 
 abbrev pub takes_tick : ℕ → MdsValue → MdsStep
 takes_tick now m = and_then (and_then (leases_end now (length m.sessions.clients) m) (λ n. recalls_expire now (length n.recalls) n)) files_tick

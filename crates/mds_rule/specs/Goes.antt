@@ -1,6 +1,6 @@
 -- Which calls go out at the end of an event, and in which order: by file, then by the place of the mirror in the live list; at one place the
 -- file's own call before the READs of those that read it, in the order in which they began. What waits for the next tick goes out with them.
-use Rattle.std.specs.Prelude.{ℕ, zero, suc, ◌+◌, Bool, true, false, not, ◌==◌, ◌&&◌, List, [], ◌∷◌, ◌++◌, length, map, filter, position, Option, Some, None, nat_lt, if◌then◌else◌, slice_get, slice_set}
+use Rattle.std.specs.Prelude.{ℕ, zero, suc, ◌+◌, ◌-◌, Bool, true, false, not, ◌==◌, ◌&&◌, List, [], ◌∷◌, ◌++◌, length, map, filter, position, Option, Some, None, nat_lt, if◌then◌else◌, slice_get, slice_set}
 use Rattle.std.specs.Option.{option_map}
 use Rattle.std.specs.List.{list_any, find, range_with_len, flat_map}
 use Rattle.cluster_model.specs.declared.ids.NodeId.{NodeId}
@@ -19,7 +19,9 @@ use Rattle.nfs4_session.specs.Clients.{ClientState, SessionState, has_id, change
 use Rattle.nfs4_session.specs.Bindings.{last_session, back_call, client_called_back}
 use Rattle.recall.specs.declared.recall.RecallCall.{RecallCall}
 use Rattle.recall.specs.Recalls.{RecallSends, next_sent}
-use Rattle.mds_rule.specs.MdsStates.{WaitingRead, WaitingWrite, ServedFile, MdsSend, CallsServer, CallsBack, Waiter, ForFile, ForRead, ForWrite, ForRecall, AwaitedCall, MdsValue, MdsStep, sends_none, and_then, served, with_served, numbered}
+use Rattle.mds_rule.specs.MdsStates.{WaitingRead, WaitingWrite, ServedFile, MdsSend, CallsServer, CallsBack, AwaitedCall, MdsValue, MdsStep, sends_none, and_then, with_call, is_call_to, served, with_served, numbered}
+use Rattle.mds_rule.specs.declared.waiter.Waiter.{Waiter}
+use Rattle.mds_rule.specs.declared.waiter.Waiter.TheVariants.{ForFile, ForRead, ForWrite, ForRecall}
 
 -- ---- one call
 
@@ -29,7 +31,7 @@ xid_after xid = if xid == 4294967295 then 0 else xid + 1
 
 abbrev pub calls_as : MdsValue → NodeId → Waiter → MdsSend → MdsStep
 calls_as m node caller sent = record {
-  mds = record m { calls = m.calls ++ (record { node = node; xid = m.next_xid; caller = caller; sent = sent }) ∷ []; next_xid = xid_after m.next_xid };
+  mds = record m { calls = with_call (record { node = node; xid = m.next_xid; caller = caller; sent = sent }) m.calls; next_xid = xid_after m.next_xid };
   entries = [];
   sends = sent ∷ [];
 }
@@ -135,27 +137,26 @@ recall_call file m = if has_xids m then recall_goes m file (next_sent m.recalls 
 
 -- ---- what was kept until the tick under its number: its record is sent again
 
-abbrev pub is_again : FileId → List ℕ → AwaitedCall → Bool
-is_again file again call = is_of_file call.caller && list_any (λ xid. xid == call.xid) again
-  where
-    is_of_file : Waiter → Bool
-    is_of_file (ForFile f) = f.0 == file.0
-    is_of_file (ForRead f) = f.0 == file.0
-    is_of_file (ForWrite f) = f.0 == file.0
-    is_of_file ForRecall = false
+abbrev pub repeats_call : MdsValue → Option AwaitedCall → MdsStep
+repeats_call m None = sends_none m
+repeats_call m (Some call) = record { mds = m; entries = []; sends = call.sent ∷ [] }
 
-abbrev pub repeats : List ℕ → FileId → MdsValue → MdsStep
-repeats again file m = record { mds = m; entries = []; sends = map (λ call. call.sent) (filter (is_again file again) m.calls) }
+-- the call of this server and number
+abbrev pub repeats : Option (Option (ℕ × ℕ)) → MdsValue → MdsStep
+repeats None m = sends_none m
+repeats (Some None) m = sends_none m
+repeats (Some (Some kept)) m = repeats_call m (find (is_call_to (Server kept.0) kept.1) m.calls)
 
 -- ---- all of them
 
 abbrev pub place_calls : FileId → ℕ → MdsValue → MdsStep
 place_calls file place m = and_then (own_calls 4 file place m) (read_calls file place)
 
-abbrev pub file_calls : List ℕ → ℕ → MdsValue → MdsStep
-file_calls again n m =
-    and_then (and_then (recall_call (numbered n) m) (repeats again (numbered n)))
+-- of the file with this number; what each file kept stands at its place
+abbrev pub file_calls : List (Option (ℕ × ℕ)) → ℕ → MdsValue → MdsStep
+file_calls kept n m =
+    and_then (and_then (recall_call (numbered n) m) (repeats (slice_get kept (n - 1))))
     (each (place_calls (numbered n)) (0 ∷ 1 ∷ 2 ∷ 3 ∷ 4 ∷ []))
 
-abbrev pub calls_out : List ℕ → MdsValue → MdsStep
-calls_out again m = each (file_calls again) (range_with_len 1 (length m.files)) m
+abbrev pub calls_out : List (Option (ℕ × ℕ)) → MdsValue → MdsStep
+calls_out kept m = each (file_calls kept) (range_with_len 1 (length m.files)) m

@@ -88,7 +88,7 @@ grants_as step c file s =
     (with_result c (arm 50 resop4 (layout_result (layout_stateid_of file.0 s.file.layout.cred.0 s.seqid) (whole_layout (layout_body s.file.layout.cred.0 s.file.layout.live) ∷ []))))
 
 abbrev pub granted_in : MdsStep → CompoundRun → FileId → Bool → Option ServedFile → OpStep
-granted_in step c file again None = refuses step.mds c 50 stat.LayoutUnavailable
+granted_in step c file again None = ends_by step c 50 stat.LayoutUnavailable
 granted_in step c file again (Some s) = grants_as step c file (with_holder (client_of c) again s)
 
 abbrev pub grants_to : MdsValue → CompoundRun → FileId → Bool → NodeId → OpStep

@@ -1,5 +1,5 @@
 -- What a metadata server has: files, clients, what waits, and the calls that were sent.
-use Rattle.std.specs.Prelude.{ℕ, ◌+◌, ◌-◌, Bool, false, not, ◌==◌, List, [], ◌∷◌, ◌++◌, length, filter, map, position, find, bytes_eq, Option, Some, None, nat_lt, if◌then◌else◌, slice_get, slice_set}
+use Rattle.std.specs.Prelude.{ℕ, ◌+◌, ◌-◌, Bool, false, not, ◌==◌, ◌&&◌, List, [], ◌∷◌, ◌++◌, length, filter, map, position, find, bytes_eq, Option, Some, None, nat_lt, if◌then◌else◌, slice_get, slice_set}
 use Rattle.std.specs.Option.{option_map}
 use Rattle.ff_xdr.specs.Form.{Value}
 use Rattle.rpc_record.specs.Replies.{RpcReply}
@@ -13,6 +13,7 @@ use Rattle.cluster_model.specs.declared.entry.Entry.{Entry}
 use Rattle.cluster_model.specs.declared.limits.TheConstants.{FIRST_UID}
 use Rattle.cluster_model.specs.DsCalls.{DsCallValue}
 use Rattle.cluster_model.specs.Journal.{is_mirror}
+use Rattle.cluster_model.specs.Nodes.{is_node}
 use Rattle.file_rule.specs.MdsFiles.{MdsFile}
 use Rattle.file_rule.specs.declared.fresh.Fresh.{Fresh}
 use Rattle.mds_io.specs.Reads.{ReadState}
@@ -28,6 +29,7 @@ use Rattle.recall.specs.declared.recall.Recall.{Recall}
 use Rattle.open_state.specs.Opens.{OpensValue}
 use Rattle.device_addr.specs.Universal.{AddressValue}
 use Rattle.mds_operations.specs.declared.object.Object.{Object}
+use Rattle.mds_rule.specs.declared.waiter.Waiter.{Waiter}
 
 -- ---- compounds
 
@@ -65,7 +67,7 @@ pub record ServedFile : Type 0 where
   pub file : MdsFile
   -- the size last seen at each mirror that has shown one
   pub sizes : List (MirrorId × ℕ)
-  -- how many periods were granted and ended
+  -- how many periods were granted and ended, as a number of 64 bits
   pub periods : ℕ
   -- the client that has the layout, by its id, and the seqid that the layout's stateid was last given with
   pub holder : Option ℕ
@@ -84,13 +86,6 @@ pub data MdsSend : Type 0 where
   Replies : (node : NodeId) (reply : RpcReply) → MdsSend
   -- the reply to a call of which nothing is run, as a record
   Answers : (node : NodeId) (bytes : List ℕ) → MdsSend
-
--- who waits for the answer to a call
-pub data Waiter : Type 0 where
-  ForFile : FileId → Waiter
-  ForRead : FileId → Waiter
-  ForWrite : FileId → Waiter
-  ForRecall : Waiter
 
 -- a call that was sent
 pub record AwaitedCall : Type 0 where
@@ -112,7 +107,7 @@ pub record MdsValue : Type 0 where
   -- by their numbers from 1
   pub files : List ServedFile
   pub recalls : List Recall
-  -- in the order in which they were sent
+  -- by their numbers
   pub calls : List AwaitedCall
   pub fresh : Fresh
   -- the number of the next call, and 0 when all are used
@@ -148,6 +143,22 @@ new_mds servers mirrors = record {
   fresh = record { uid = FIRST_UID; name = 1; servers = length servers };
   next_xid = 1;
 }
+
+-- ---- the calls that were sent
+
+-- each number stands once
+abbrev pub with_call : AwaitedCall → List AwaitedCall → List AwaitedCall
+with_call call [] = call ∷ []
+with_call call (c ∷ calls) =
+    if nat_lt call.xid c.xid then call ∷ c ∷ calls
+    else if call.xid == c.xid then call ∷ calls
+    else c ∷ with_call call calls
+
+abbrev pub is_call_to : NodeId → ℕ → AwaitedCall → Bool
+is_call_to node xid call = is_node call.node node && (call.xid == xid)
+
+abbrev pub without_call : NodeId → ℕ → List AwaitedCall → List AwaitedCall
+without_call node xid calls = filter (λ call. not (is_call_to node xid call)) calls
 
 -- ---- one file of it
 

@@ -1,6 +1,6 @@
 -- What comes of the inputs of the table of phases at a metadata server: to the file, its readers, and recalls (RFC 8881, sections 12.5.5
 -- and 18.43; RFC 8435, section 2.2).
-use Rattle.std.specs.Prelude.{ℕ, ◌+◌, ◌-◌, ◌^◌, Bool, true, false, not, ◌==◌, ◌&&◌, List, [], ◌∷◌, ◌++◌, length, filter, map, Option, Some, None, nat_lt, if◌then◌else◌}
+use Rattle.std.specs.Prelude.{ℕ, ◌+◌, ◌-◌, ◌^◌, ◌%◌, Bool, true, false, not, ◌==◌, ◌&&◌, List, [], ◌∷◌, ◌++◌, length, filter, map, Option, Some, None, nat_lt, if◌then◌else◌}
 use Rattle.std.specs.List.{list_any, fold}
 use Rattle.cluster_model.specs.declared.ids.NodeId.{NodeId}
 use Rattle.cluster_model.specs.declared.ids.NodeId.TheVariants.{Mds, Server, Client}
@@ -69,7 +69,7 @@ abbrev pub file_behind : ServedFile → FileStep → ServedFile
 file_behind s step = record s {
   file = step.file;
   sizes = sizes_in step.file.layout step.file.layout.phase s.sizes;
-  periods = s.periods + length (filter is_of_period step.entries);
+  periods = (s.periods + length (filter is_of_period step.entries)) % (2 ^ 64);
   holder = kept_holder (holder_of step.file.layout.phase) s.holder;
   reads = reads_behind step.entries step.file.layout.live s.reads;
 }

@@ -128,4 +128,4 @@ abbrev pub reclaims : MdsValue → CompoundRun → Option SlotPass → OpStep
 reclaims m c None = refuses m c 58 stat.OpNotInSession
 reclaims m c (Some slot) =
     if list_any (nat_eq (client_in slot.session)) m.reclaimed then refuses m c 58 stat.CompleteAlready
-    else Goes (record m { reclaimed = client_in slot.session ∷ m.reclaimed }) [] (with_result c (arm 58 resop4 (inl tt)))
+    else Goes (record m { reclaimed = m.reclaimed ++ client_in slot.session ∷ [] }) [] (with_result c (arm 58 resop4 (inl tt)))
