@@ -1,6 +1,8 @@
 //! GETDEVICEINFO: the address of a device (RFC 8881, section 18.40).
 
+ghost use Rattle.std.specs.Prelude.{◌≢◌, IfErr};
 ghost use Rattle.mds_operations.specs.GetDeviceInfo.{GivesDevice};
+ghost use Rattle.nfs4_types.specs.declared.status.Stat4.TheVariants.{Ok};
 
 use crate::layout_get::FLEX_FILES;
 use nfs4_types::Stat4;
@@ -24,7 +26,8 @@ pub fn try_get_device_info(
     maxcount: u32,
     size: u32,
 ) -> Result<DeviceInfo, Stat4>
-    ensures { GivesDevice layout_type is_known maxcount size result }
+    ensures takes { GivesDevice layout_type is_known maxcount size result }
+    ensures refuses { IfErr result (λ status. status ≢ Ok) }
 {
     if layout_type != FLEX_FILES {
         return Err(Stat4::UnknownLayoutType);

@@ -1,7 +1,9 @@
 //! LAYOUTGET: a client is given a layout of a file (RFC 8881, section 18.43; RFC 8435, section 2.2).
 
+ghost use Rattle.std.specs.Prelude.{◌≢◌, IfErr};
 ghost use Rattle.mds_operations.specs.Orders.{Takes, file_of};
 ghost use Rattle.mds_operations.specs.LayoutGets.{layout_get_order};
+ghost use Rattle.nfs4_types.specs.declared.status.Stat4.TheVariants.{Ok};
 
 use crate::{Named, Object};
 use cluster_model::FileId;
@@ -40,7 +42,8 @@ pub fn try_layout_get(
     args: LayoutGetArgs,
     found: LayoutGetFound,
 ) -> Result<FileId, Stat4>
-    ensures { Takes (layout_get_order current args found) (file_of current) result }
+    ensures takes { Takes (layout_get_order current args found) (file_of current) result }
+    ensures refuses { IfErr result (λ status. status ≢ Ok) }
 {
     let file = match current {
         None => return Err(Stat4::NoFileHandle),

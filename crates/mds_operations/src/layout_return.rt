@@ -1,7 +1,9 @@
 //! LAYOUTRETURN: a client gives layouts back (RFC 8881, section 18.44; RFC 8435, section 9.3).
 
+ghost use Rattle.std.specs.Prelude.{◌≢◌, IfErr};
 ghost use Rattle.mds_operations.specs.Orders.{Takes, Permits, file_of};
 ghost use Rattle.mds_operations.specs.LayoutReturns.{layout_return_order, layout_return_all_order};
+ghost use Rattle.nfs4_types.specs.declared.status.Stat4.TheVariants.{Ok};
 
 use crate::layout_get::FLEX_FILES;
 use crate::{Named, Object};
@@ -27,7 +29,8 @@ pub struct FileReturn {
 /// NOFILEHANDLE, UNKNOWN_LAYOUTTYPE, INVAL where it is a reclaim or of a part of the file, BADXDR, BAD_STATEID where the stateid
 /// does not name the client's layout of the file, in this order.
 pub fn try_layout_return(current: Option<Object>, asked: FileReturn) -> Result<FileId, Stat4>
-    ensures { Takes (layout_return_order current asked) (file_of current) result }
+    ensures takes { Takes (layout_return_order current asked) (file_of current) result }
+    ensures refuses { IfErr result (λ status. status ≢ Ok) }
 {
     let Some(object) = current else {
         return Err(Stat4::NoFileHandle);
@@ -52,7 +55,8 @@ pub fn try_layout_return(current: Option<Object>, asked: FileReturn) -> Result<F
 /// # Errors
 /// UNKNOWN_LAYOUTTYPE, INVAL where it is a reclaim, in this order.
 pub fn try_layout_return_all(layout_type: u32, reclaim: bool) -> Result<(), Stat4>
-    ensures { Permits (layout_return_all_order layout_type reclaim) result }
+    ensures takes { Permits (layout_return_all_order layout_type reclaim) result }
+    ensures refuses { IfErr result (λ status. status ≢ Ok) }
 {
     if layout_type != FLEX_FILES {
         return Err(Stat4::UnknownLayoutType);

@@ -1,8 +1,9 @@
 //! LOOKUP: the object of a name becomes the current one (RFC 8881, section 18.13).
 
-ghost use Rattle.std.specs.Prelude.{◌≡◌};
+ghost use Rattle.std.specs.Prelude.{◌≡◌, ◌≢◌, IfErr};
 ghost use Rattle.mds_operations.specs.Orders.{Takes};
 ghost use Rattle.mds_operations.specs.Lookup.{lookup_order, is_no_name};
+ghost use Rattle.nfs4_types.specs.declared.status.Stat4.TheVariants.{Ok};
 
 use crate::Object;
 use cluster_model::FileId;
@@ -31,7 +32,8 @@ pub fn try_lookup(
     name: &[u8],
     found: Option<FileId>,
 ) -> Result<FileId, Stat4>
-    ensures { Takes (lookup_order current name.now found) found result }
+    ensures takes { Takes (lookup_order current name.now found) found result }
+    ensures refuses { IfErr result (λ status. status ≢ Ok) }
 {
     match current {
         None => return Err(Stat4::NoFileHandle),

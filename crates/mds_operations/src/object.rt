@@ -1,6 +1,8 @@
 //! What a filehandle is of.
 
+ghost use Rattle.std.specs.Prelude.{◌≢◌, IfErr};
 ghost use Rattle.mds_operations.specs.Orders.{Takes, no_handle};
+ghost use Rattle.nfs4_types.specs.declared.status.Stat4.TheVariants.{Ok};
 
 use cluster_model::FileId;
 use nfs4_types::Stat4;
@@ -17,7 +19,8 @@ pub enum Object {
 /// # Errors
 /// NOFILEHANDLE where there is no current filehandle.
 pub fn current_object(current: Option<Object>) -> Result<Object, Stat4>
-    ensures { Takes (no_handle current) current result }
+    ensures takes { Takes (no_handle current) current result }
+    ensures refuses { IfErr result (λ status. status ≢ Ok) }
 {
     current.ok_or(Stat4::NoFileHandle)
 }

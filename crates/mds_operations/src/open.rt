@@ -1,6 +1,8 @@
 //! OPEN: a file is opened by its name, and may be made (RFC 8881, section 18.16).
 
+ghost use Rattle.std.specs.Prelude.{◌≢◌, IfErr};
 ghost use Rattle.mds_operations.specs.Opens.{OpensOrMakes};
+ghost use Rattle.nfs4_types.specs.declared.status.Stat4.TheVariants.{Ok};
 
 use crate::Object;
 use crate::lookup::{MAX_NAME, is_no_name};
@@ -50,7 +52,8 @@ pub fn try_open(
     creation: Creation,
     found: OpenFound,
 ) -> Result<OpenStep, Stat4>
-    ensures { OpensOrMakes current name.now share_access creation found result }
+    ensures takes { OpensOrMakes current name.now share_access creation found result }
+    ensures refuses { IfErr result (λ status. status ≢ Ok) }
 {
     match current {
         None => return Err(Stat4::NoFileHandle),

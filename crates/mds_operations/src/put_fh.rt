@@ -1,7 +1,9 @@
 //! PUTFH: the object of a filehandle becomes the current one (RFC 8881, section 18.19).
 
+ghost use Rattle.std.specs.Prelude.{◌≢◌, IfErr};
 ghost use Rattle.mds_operations.specs.Orders.{Takes};
 ghost use Rattle.mds_operations.specs.PutFh.{put_fh_order, object_of};
+ghost use Rattle.nfs4_types.specs.declared.status.Stat4.TheVariants.{Ok};
 
 use crate::Object;
 use cluster_model::FileId;
@@ -12,7 +14,8 @@ use nfs4_types::{Stat4, file_number};
 /// # Errors
 /// BADHANDLE where it has not eight bytes, STALE where it is of no object.
 pub fn try_put_fh(handle: &[u8], files: u32) -> Result<Object, Stat4>
-    ensures { Takes (put_fh_order handle.now files) (object_of handle.now) result }
+    ensures takes { Takes (put_fh_order handle.now files) (object_of handle.now) result }
+    ensures refuses { IfErr result (λ status. status ≢ Ok) }
 {
     let number = file_number(handle).ok_or(Stat4::BadHandle)?;
     if number == 0 {

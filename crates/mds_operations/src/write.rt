@@ -1,7 +1,10 @@
 //! WRITE: bytes into a file, through the metadata server (RFC 8881, section 18.32).
 
+ghost use Rattle.std.specs.Prelude.{◌≢◌, IfErr, ◌≤◌, ◌+◌, OnOk};
 ghost use Rattle.mds_operations.specs.Orders.{Takes, file_of};
 ghost use Rattle.mds_operations.specs.Writes.{write_order};
+ghost use Rattle.nfs4_types.specs.declared.status.Stat4.TheVariants.{Ok};
+ghost use Rattle.cluster_model.specs.declared.limits.TheConstants.{MAX_FILE, PIECE_SIZE};
 
 use crate::{Named, Object};
 use cluster_model::{FileId, MAX_FILE, PIECE_SIZE, Phase, SPARE_UIDS};
@@ -28,7 +31,10 @@ pub struct WriteAsk {
 /// NOFILEHANDLE, ISDIR at the root, BAD_STATEID, INVAL where it has more than 65,536 bytes, and of a WRITE of at least one byte
 /// FBIG where it ends past 67,108,864, DELAY where the file is not free, SERVERFAULT where uids are spent, in this order.
 pub fn try_write(current: Option<Object>, ask: WriteAsk) -> Result<FileId, Stat4>
-    ensures { Takes (write_order current ask) (file_of current) result }
+    ensures takes { Takes (write_order current ask) (file_of current) result }
+    ensures refuses { IfErr result (λ status. status ≢ Ok) }
+    ensures few { OnOk result (ask.length ≤ PIECE_SIZE) }
+    ensures within { OnOk result (1 ≤ ask.length → ask.offset + ask.length ≤ MAX_FILE) }
 {
     let file = match current {
         None => return Err(Stat4::NoFileHandle),

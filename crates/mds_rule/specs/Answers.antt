@@ -182,8 +182,17 @@ is_failure_of id failure = is_mirror failure.0 id
 abbrev pub cause_at : List (MirrorId × LeftCause) → Mirror → Option LeftCause
 cause_at failures m = option_map (λ (failure : MirrorId × LeftCause). failure.1) (find (is_failure_of m.id) failures)
 
+abbrev pub cause_there : List (MirrorId × LeftCause) → Option Mirror → Option LeftCause
+cause_there failures None = None
+cause_there failures (Some m) = cause_at failures m
+
+-- for each place in the live list; none past its end
 abbrev pub failures_by_place : List (MirrorId × LeftCause) → List Mirror → List (Option LeftCause)
-failures_by_place failures live = map (cause_at failures) live
+failures_by_place failures live =
+    cause_there failures (slice_get live 0) ∷ cause_there failures (slice_get live 1) ∷ cause_there failures (slice_get live 2) ∷ cause_there failures (slice_get live 3) ∷ []
+
+abbrev pub has_failed_everywhere : List (MirrorId × LeftCause) → List Mirror → Bool
+has_failed_everywhere failures live = list_all (λ m. is_some (cause_at failures m)) live
 
 -- it is over: the period ends, and then the WRITE is answered, as IO where every mirror failed
 abbrev pub write_answer : MdsValue → CompoundRun → ℕ → Bool → OpStep
@@ -198,7 +207,7 @@ write_ends now m file s w None = sends_none (with_served m file (record s { writ
 write_ends now m file s w (Some places) =
     write_over now
     (takes_input (with_served m file (record s { write = None })) file (OwnEnds (failures_by_place w.failures s.file.layout.live) w.at w.bytes))
-    w (list_all (λ cause. is_some cause) (failures_by_place w.failures s.file.layout.live))
+    w (has_failed_everywhere w.failures s.file.layout.live)
 
 abbrev pub write_after : ℕ → MdsValue → FileId → ServedFile → WaitingWrite → WriterAfter → MdsStep
 write_after now m file s w a = write_ends now m file s (record w { writer = a.writer; failures = with_failed a.step w.failures }) (ended a.writer)

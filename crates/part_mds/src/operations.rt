@@ -66,7 +66,7 @@ fn put_read(words: &mut Words<'_>, answer: &mut Answer) -> Result<(), RowFault> 
     let ask = ReadAsk {
         named: named(words)?,
         count: words.number32()?,
-        kept: words.option32()?,
+        kept: words.option32()?.map(|n| n as usize),
         phase: phase(words)?,
     };
     words.end()?;
