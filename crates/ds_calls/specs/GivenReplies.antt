@@ -1,5 +1,5 @@
 -- What the reply of a data server to a call comes to (RFC 1813, section 3.3; RFC 5531, section 9).
-use Rattle.std.specs.Prelude.{ℕ, Bool, ◌&&◌, ◌||◌, not, nat_le, ◌==◌, if◌then◌else◌, List, length, Option, Some, None, Result, Ok, Err}
+use Rattle.std.specs.Prelude.{ℕ, ◌<◌, ◌^◌, ⊤, Bool, ◌&&◌, ◌||◌, not, nat_le, ◌==◌, if◌then◌else◌, List, length, Option, Some, None, Result, Ok, Err}
 use Rattle.std.proofs.Common.{inl, inr}
 use Rattle.std.specs.Int.{w64, from_be_bytes}
 use Rattle.std.specs.Option.{option_map}
@@ -94,3 +94,13 @@ results_of_call (ds.Read fileid at count) results = in_form read_result (read_an
 -- results stand behind SUCCESS alone
 abbrev pub reply_of_call : DsCallValue → RpcReply → DsReplyValue
 reply_of_call call reply = if is_success reply.stat then results_of_call call reply.results else odd_answer
+
+-- a READ gives fewer bytes than a number of 32 bits can count, as its count is one
+abbrev pub HasFewBytes : DsReplyValue → Type 0
+HasFewBytes (Created fileid shown) = ⊤
+HasFewBytes (Set shown) = ⊤
+HasFewBytes (Written shown verifier) = ⊤
+HasFewBytes (Committed shown verifier) = ⊤
+HasFewBytes (Bytes shown eof bytes) = length bytes < 2 ^ 32
+HasFewBytes (NotSync shown) = ⊤
+HasFewBytes (Failed status shown) = ⊤

@@ -7,7 +7,7 @@ ghost use Rattle.nfs3_wire.specs.Calls.{calls, call_value};
 ghost use Rattle.nfs3_wire.specs.Commit.{commit_result};
 ghost use Rattle.cluster_model.specs.DsCalls.{Commit, plain_ds_reply};
 ghost use Rattle.ds_calls.specs.MadeCalls.{nfs_call_of};
-ghost use Rattle.ds_calls.specs.GivenReplies.{commit_answer, in_form};
+ghost use Rattle.ds_calls.specs.GivenReplies.{commit_answer, in_form, HasFewBytes};
 
 use crate::handle::handle_of;
 use crate::shown::{odd_answer, shown_where};
@@ -30,7 +30,8 @@ pub fn put_commit(fileid: u64, out: &mut Out) -> Result<(), NoMemory>
 
 /// What the results say.
 pub fn read_commit<'a>(results: &[u8]) -> DsReply<'a>
-    ensures { plain_ds_reply result ≡ in_form commit_result commit_answer results.now }
+    ensures is { plain_ds_reply result ≡ in_form commit_result commit_answer results.now }
+    ensures few { HasFewBytes (plain_ds_reply result) }
 {
     match CommitReply::from_bytes(results) {
         Ok(Outcome::Done(done)) => DsReply::Committed {

@@ -8,7 +8,7 @@ ghost use Rattle.nfs3_wire.specs.Create.{create_result, create_ok_value};
 ghost use Rattle.ff_xdr.specs.Arms.{arm};
 ghost use Rattle.cluster_model.specs.DsCalls.{Create, mirror_name, plain_ds_reply};
 ghost use Rattle.ds_calls.specs.MadeCalls.{nfs_call_of};
-ghost use Rattle.ds_calls.specs.GivenReplies.{create_answer, in_form};
+ghost use Rattle.ds_calls.specs.GivenReplies.{create_answer, in_form, HasFewBytes};
 ghost use Rattle.std.proofs.Common.{inl};
 
 use crate::handle::{ROOT, fileid_of, handle_of};
@@ -48,7 +48,8 @@ pub fn put_create(name: u64, owner: Cred, out: &mut Out) -> Result<(), NoMemory>
 
 /// The file that was created.
 fn created<'a>(done: CreateOk<'_>) -> DsReply<'a>
-    ensures { plain_ds_reply result ≡ create_answer (inl (create_ok_value done.entry)) }
+    ensures is { plain_ds_reply result ≡ create_answer (inl (create_ok_value done.entry)) }
+    ensures few { HasFewBytes (plain_ds_reply result) }
 {
     match (done.file, done.attributes) {
         (Some(handle), Some(attributes)) => match fileid_of(handle) {
@@ -64,7 +65,8 @@ fn created<'a>(done: CreateOk<'_>) -> DsReply<'a>
 
 /// What the results say.
 pub fn read_create<'a>(results: &[u8]) -> DsReply<'a>
-    ensures { plain_ds_reply result ≡ in_form create_result create_answer results.now }
+    ensures is { plain_ds_reply result ≡ in_form create_result create_answer results.now }
+    ensures few { HasFewBytes (plain_ds_reply result) }
 {
     match CreateReply::from_bytes(results) {
         Ok(Outcome::Done(done)) => created(done),

@@ -7,7 +7,7 @@ ghost use Rattle.nfs3_wire.specs.Calls.{calls, call_value};
 ghost use Rattle.nfs3_wire.specs.Read.{read_result, read_ok_value};
 ghost use Rattle.cluster_model.specs.DsCalls.{Read, plain_ds_reply};
 ghost use Rattle.ds_calls.specs.MadeCalls.{nfs_call_of};
-ghost use Rattle.ds_calls.specs.GivenReplies.{read_answer, in_form};
+ghost use Rattle.ds_calls.specs.GivenReplies.{read_answer, in_form, HasFewBytes};
 ghost use Rattle.std.proofs.Common.{inl};
 
 use crate::handle::handle_of;
@@ -31,7 +31,8 @@ pub fn put_read(fileid: u64, at: u64, count: u32, out: &mut Out) -> Result<(), N
 
 /// The bytes that were read, of at most `asked`.
 fn bytes_read<'a>(asked: u32, done: ReadOk<'a>) -> DsReply<'a>
-    ensures { plain_ds_reply result ≡ read_answer asked (inl (read_ok_value done.entry)) }
+    ensures is { plain_ds_reply result ≡ read_answer asked (inl (read_ok_value done.entry)) }
+    ensures few { HasFewBytes (plain_ds_reply result) }
 {
     if done.count as usize == done.bytes.len() && done.count <= asked {
         DsReply::Bytes {
@@ -46,7 +47,8 @@ fn bytes_read<'a>(asked: u32, done: ReadOk<'a>) -> DsReply<'a>
 
 /// What the results say, of a READ of at most `asked` bytes.
 pub fn read_read<'a>(asked: u32, results: &'a [u8]) -> DsReply<'a>
-    ensures { plain_ds_reply result ≡ in_form read_result (read_answer asked) results.now }
+    ensures is { plain_ds_reply result ≡ in_form read_result (read_answer asked) results.now }
+    ensures few { HasFewBytes (plain_ds_reply result) }
 {
     match ReadReply::from_bytes(results) {
         Ok(Outcome::Done(done)) => bytes_read(asked, done),

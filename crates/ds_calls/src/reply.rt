@@ -3,7 +3,7 @@
 ghost use Rattle.std.specs.Prelude.{◌≡◌};
 ghost use Rattle.rpc_record.specs.Replies.{rpc_reply};
 ghost use Rattle.cluster_model.specs.DsCalls.{plain_ds_call, plain_ds_reply};
-ghost use Rattle.ds_calls.specs.GivenReplies.{reply_of_call, results_of_call};
+ghost use Rattle.ds_calls.specs.GivenReplies.{reply_of_call, results_of_call, HasFewBytes};
 
 use crate::commit::read_commit;
 use crate::create::read_create;
@@ -16,7 +16,8 @@ use rpc_record::{Reply, ReplyBody};
 
 /// What the results of a call say.
 fn results_of<'a>(call: &DsCall<'_>, results: &'a [u8]) -> DsReply<'a>
-    ensures { plain_ds_reply result ≡ results_of_call (plain_ds_call call.now) results.now }
+    ensures is { plain_ds_reply result ≡ results_of_call (plain_ds_call call.now) results.now }
+    ensures few { HasFewBytes (plain_ds_reply result) }
 {
     match call {
         DsCall::Create { .. } => read_create(results),
@@ -38,7 +39,8 @@ fn results_of<'a>(call: &DsCall<'_>, results: &'a [u8]) -> DsReply<'a>
 /// more than was asked for; an OK CREATE without attributes or without a handle of eight bytes; a NOT_SYNC
 /// of a SETATTR without attributes.
 pub fn ds_reply_of<'a>(call: &DsCall<'_>, reply: &Reply<'a>) -> DsReply<'a>
-    ensures { plain_ds_reply result ≡ reply_of_call (plain_ds_call call.now) (rpc_reply reply.now) }
+    ensures is { plain_ds_reply result ≡ reply_of_call (plain_ds_call call.now) (rpc_reply reply.now) }
+    ensures few { HasFewBytes (plain_ds_reply result) }
 {
     match reply.body {
         ReplyBody::Success(results) => results_of(call, results),

@@ -9,7 +9,7 @@ ghost use Rattle.nfs3_wire.specs.Status.{stat_number};
 ghost use Rattle.nfs3_wire.specs.Wcc.{wcc_data_value};
 ghost use Rattle.cluster_model.specs.DsCalls.{SetAttr, plain_ds_reply};
 ghost use Rattle.ds_calls.specs.MadeCalls.{nfs_call_of};
-ghost use Rattle.ds_calls.specs.GivenReplies.{setattr_answer, in_form};
+ghost use Rattle.ds_calls.specs.GivenReplies.{setattr_answer, in_form, HasFewBytes};
 ghost use Rattle.std.proofs.Common.{inr};
 
 use crate::handle::handle_of;
@@ -38,7 +38,8 @@ pub fn put_setattr(fileid: u64, owner: Cred, guard: Tick, out: &mut Out) -> Resu
 
 /// What a refusal says.
 fn refused<'a>(status: Stat3, wcc: WccData) -> DsReply<'a>
-    ensures { plain_ds_reply result ≡ setattr_answer (inr (stat_number status, wcc_data_value wcc)) }
+    ensures is { plain_ds_reply result ≡ setattr_answer (inr (stat_number status, wcc_data_value wcc)) }
+    ensures few { HasFewBytes (plain_ds_reply result) }
 {
     let shown = shown_where(wcc.after);
     match (status, shown) {
@@ -53,7 +54,8 @@ fn refused<'a>(status: Stat3, wcc: WccData) -> DsReply<'a>
 
 /// What the results say.
 pub fn read_setattr<'a>(results: &[u8]) -> DsReply<'a>
-    ensures { plain_ds_reply result ≡ in_form setattr_result setattr_answer results.now }
+    ensures is { plain_ds_reply result ≡ in_form setattr_result setattr_answer results.now }
+    ensures few { HasFewBytes (plain_ds_reply result) }
 {
     match SetAttrReply::from_bytes(results) {
         Ok(Outcome::Done(wcc)) => DsReply::Set {

@@ -4,7 +4,7 @@ ghost use Rattle.std.specs.Prelude.{◌≡◌};
 ghost use Rattle.nfs3_wire.specs.Attributes.{fattr3_value};
 ghost use Rattle.nfs3_wire.specs.Wcc.{post_op_value};
 ghost use Rattle.cluster_model.specs.DsCalls.{plain_ds_reply};
-ghost use Rattle.ds_calls.specs.GivenReplies.{shown_in, shown_where, odd_answer};
+ghost use Rattle.ds_calls.specs.GivenReplies.{shown_in, shown_where, odd_answer, HasFewBytes};
 
 use cluster_model::{Cred, DsReply, Shown, Tick};
 use nfs3_wire::{Fattr3, Stat3};
@@ -35,7 +35,8 @@ pub fn shown_where(attributes: Option<Fattr3>) -> Option<Shown>
 
 /// A reply that no server gives by the standard: SERVERFAULT (RFC 1813, section 2.6), and nothing is shown.
 pub fn odd_answer<'a>() -> DsReply<'a>
-    ensures { plain_ds_reply result ≡ odd_answer }
+    ensures is { plain_ds_reply result ≡ odd_answer }
+    ensures few { HasFewBytes (plain_ds_reply result) }
 {
     DsReply::Failed {
         status: Stat3::ServerFault.number(),

@@ -7,7 +7,7 @@ ghost use Rattle.nfs3_wire.specs.Calls.{calls, call_value};
 ghost use Rattle.nfs3_wire.specs.Write.{write_result, write_ok_value};
 ghost use Rattle.cluster_model.specs.DsCalls.{Write, plain_ds_reply};
 ghost use Rattle.ds_calls.specs.MadeCalls.{nfs_call_of};
-ghost use Rattle.ds_calls.specs.GivenReplies.{write_answer, in_form};
+ghost use Rattle.ds_calls.specs.GivenReplies.{write_answer, in_form, HasFewBytes};
 ghost use Rattle.std.proofs.Common.{inl};
 ghost use Rattle.nfs3_wire.specs.declared.objects.TheConstants.{MAX_DATA};
 
@@ -46,7 +46,8 @@ pub fn put_write(
 
 /// What was written of so many bytes.
 fn written<'a>(synced: bool, size: usize, done: WriteOk) -> DsReply<'a>
-    ensures { plain_ds_reply result ≡ write_answer synced size (inl (write_ok_value done)) }
+    ensures is { plain_ds_reply result ≡ write_answer synced size (inl (write_ok_value done)) }
+    ensures few { HasFewBytes (plain_ds_reply result) }
 {
     let is_whole = done.count as usize == size;
     let is_stable = !synced || done.committed == StableHow::FileSync;
@@ -62,7 +63,8 @@ fn written<'a>(synced: bool, size: usize, done: WriteOk) -> DsReply<'a>
 
 /// What the results say, of a WRITE of so many bytes.
 pub fn read_write<'a>(synced: bool, size: usize, results: &[u8]) -> DsReply<'a>
-    ensures { plain_ds_reply result ≡ in_form write_result (write_answer synced size) results.now }
+    ensures is { plain_ds_reply result ≡ in_form write_result (write_answer synced size) results.now }
+    ensures few { HasFewBytes (plain_ds_reply result) }
 {
     match WriteReply::from_bytes(results) {
         Ok(Outcome::Done(done)) => written(synced, size, done),

@@ -1,11 +1,11 @@
 //! A write of the metadata server itself.
 
-ghost use Rattle.std.specs.Prelude.{◌≡◌, ⊤, ◌≤◌, ◌+◌, length, IfOk, option_map};
+ghost use Rattle.std.specs.Prelude.{◌≡◌, ℕ, ⊤, ◌≤◌, ◌+◌, length, IfOk, option_map};
 ghost use Rattle.std.specs.Borrow.{sem, follows_so};
 ghost use mathlib.Core.Option.{none};
 ghost use Rattle.cluster_model.specs.declared.limits.TheConstants.{MAX_FILE, PIECE_SIZE};
 ghost use Rattle.cluster_model.specs.DsCalls.{plain_ds_reply};
-ghost use Rattle.mirror_writer.specs.Calls.{SendsCall, CarriesFewBytes};
+ghost use Rattle.mirror_writer.specs.Calls.{SendsCall, CarriesFewBytes, WaitsAt};
 ghost use Rattle.mirror_writer.specs.Writers.{after_timeout, open_committed};
 ghost use Rattle.mds_io.specs.contracts.own_write.MdsWrite.{the_row};
 ghost use Rattle.mds_io.specs.OwnWrites.{own_write, after_own_reply, step_by, ended};
@@ -66,6 +66,13 @@ impl MdsWrite {
         ensures* sends { sem 𝓛 (follows_so the_row the_row self.entry.ghost_name none (λ _ _. ⊤) (λ new. SendsCall self.old xid result new)) }
     {
         self.writer.next_call(xid)
+    }
+
+    /// The mirror to which `next_call` would send.
+    pub fn waiting_mirror(&self) -> Option<MirrorId>
+        ensures { (xid : ℕ) → WaitsAt self.now xid result }
+    {
+        self.writer.waiting_mirror()
     }
 
     /// What the answer to the call of this number comes to. Any status but OK is a failure of the mirror, and no status says

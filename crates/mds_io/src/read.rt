@@ -1,9 +1,9 @@
 //! A read of a file at its live mirrors.
 
-ghost use Rattle.std.specs.Prelude.{◌≡◌, ◌<◌, length, OnSome};
+ghost use Rattle.std.specs.Prelude.{◌≡◌, ℕ, ◌<◌, length, OnSome};
 ghost use Rattle.cluster_model.specs.DsCalls.{plain_ds_reply};
 ghost use Rattle.mds_io.specs.Reads.{new_read, begun_again, in_turn, end_of, fails, after_timeout};
-ghost use Rattle.mds_io.specs.Calls.{SendsRead, AnswersRead};
+ghost use Rattle.mds_io.specs.Calls.{SendsRead, AnswersRead, WaitsAt};
 
 use crate::read_end::{Failure, Failures, ReadEnd};
 use call_stage::{is_out, waits};
@@ -63,6 +63,17 @@ impl MdsRead {
             count: self.count,
         };
         Some((mirror.id, call))
+    }
+
+    /// The mirror to which `next_call` would send.
+    pub fn waiting_mirror(&self) -> Option<MirrorId>
+        ensures { (xid : ℕ) → WaitsAt self.now xid result }
+    {
+        if !waits(self.stage) {
+            return None;
+        }
+        let mirror = self.in_turn()?;
+        Some(mirror.id)
     }
 
     /// What the answer to the READ of this number comes to: the bytes end it, and anything else is a failure of the mirror,

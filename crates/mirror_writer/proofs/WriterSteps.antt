@@ -21,7 +21,7 @@ use Rattle.mirror_writer.specs.declared.step.WriterStep.TheVariants as step
 use Rattle.mirror_writer.specs.Writers.{WriterMirror, WriterValue, WriterAfter, WriterSends, is_committed, open_committed, next_at, next_idle, next_of_call, next_place, is_some_call, next_sent, sends_at, sends_to, sends_next, sends_as, call_for, write_of_taken, with_out, with_writer_mirrors, with_writer_mirror, mirror_of_call, after_reply, answered_at, mirror_answered, call_answered, is_fenced_by, fails, is_stranger, without_call, after_timeout, timed_out_at, mirror_timed_out, call_timed_out, with_writer_call, after_commit}
 use Rattle.mirror_writer.specs.Rooms.{RoomyMirror, mirrors_shown, CanSend}
 use Rattle.mirror_writer.specs.MirrorSteps.{MirrorAfter, StepsAt, SetsAt, NextOf, answered_there, late_there, settled_as, failed_there}
-use Rattle.mirror_writer.specs.Calls.{SendsNamed, IsNextAt, IsGone}
+use Rattle.mirror_writer.specs.Calls.{SendsNamed, IsNextAt, IsGone, WaitsAt}
 
 -- the whole list was lent
 pub lent : (items new : List RoomyMirror) (len : ℕ) → length new ≡ len → take len (new ++ drop (length new) items) ≡ new
@@ -89,6 +89,18 @@ first_can s place id next is = subst (λ (o : Option WriterMirror). IfSome o (Ca
 same_call : (s : WriterValue) (mirrors : List WriterMirror) (id : MirrorId) (next : NextCall) → call_for (with_writer_mirrors s mirrors) id next ≡ call_for s id next
 same_call s mirrors id (SendsWrite n) = refl
 same_call s mirrors id SendsCommit = refl
+
+pub first_waits : (s : WriterValue) (xid place : ℕ) (id : MirrorId) (next : NextCall) → IsNextAt s place id next → WaitsAt s xid (Some id)
+first_waits s xid place id next is =
+    let m : WriterMirror = is.mirror in
+    (
+      record { writer = with_writer_mirrors s (slice_set s.mirrors place (with_out xid next m)); id = m.id; call = is.call },
+      ap (sends_at s xid) is.first
+          ∙ ap (sends_to s xid place) is.found
+          ∙ ap (sends_next s xid place m) is.next_is
+          ∙ ap (sends_as s xid place m next) (ap (λ i. call_for s i next) (sym is.id_is) ∙ is.call_is),
+      sym is.id_is,
+    )
 
 pub sends_first : (s : WriterValue) (xid place : ℕ) (id : MirrorId) (next : NextCall) (new : List WriterMirror) → IsNextAt s place id next
     → SetsAt s.mirrors place (with_out xid next) new → SendsNamed s xid (Some (id, next)) (with_writer_mirrors s new)

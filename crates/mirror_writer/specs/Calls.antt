@@ -8,7 +8,7 @@ use Rattle.mirror_writer.specs.declared.call.NextCall.{NextCall}
 use Rattle.mirror_writer.specs.declared.step.WriteStart.{WriteStart}
 use Rattle.mirror_writer.specs.declared.step.WriteStart.TheVariants.{Taken, Overlap, NoMemory}
 use Rattle.mirror_writer.specs.declared.call.TakenWrite.{TakenWrite}
-use Rattle.mirror_writer.specs.Writers.{WriterMirror, WriterValue, overlaps_taken, with_write, next_place, next_at, next_sent, call_for}
+use Rattle.mirror_writer.specs.Writers.{WriterMirror, WriterValue, WriterSends, overlaps_taken, with_write, next_place, next_at, next_sent, call_for}
 
 abbrev pub TakesWriteAs : WriterValue → ℕ → List ℕ → WriteStart → WriterValue → Type 0
 TakesWriteAs old at bytes Taken new = (overlaps_taken old at (length bytes) ≡ false) × (new ≡ with_write old at bytes)
@@ -59,3 +59,8 @@ IsGone s next false = (id : MirrorId) → (call : DsCallValue) × (call_for s id
 abbrev pub CarriesFewBytes : {A : Type 0} → Option (A × DsCall) → Type 0
 CarriesFewBytes None = Unit {0}
 CarriesFewBytes (Some (id, call)) = length (data_in (plain_ds_call call)) ≤ PIECE_SIZE
+
+-- the mirror to which the next call would go
+abbrev pub WaitsAt : WriterValue → ℕ → Option MirrorId → Type 0
+WaitsAt s xid None = next_sent s xid ≡ None
+WaitsAt s xid (Some id) = (sent : WriterSends) × (next_sent s xid ≡ Some sent) × (sent.id ≡ id)

@@ -1,14 +1,14 @@
 //! A writer over the mirrors of one file.
 
 ghost use Rattle.cluster_model.specs.declared.limits.TheConstants.{MAX_FILE, PIECE_SIZE};
-ghost use Rattle.std.specs.Prelude.{◌≡◌, ⊤, ◌≤◌, ◌+◌, ◌<◌, length, false, IfOk, OnOk, OnErr, option_map, position, map, slice_get};
+ghost use Rattle.std.specs.Prelude.{◌≡◌, ℕ, ⊤, ◌≤◌, ◌+◌, ◌<◌, length, false, IfOk, OnOk, OnErr, option_map, position, map, slice_get};
 ghost use Rattle.std.specs.List.{list_all, list_any, find, All};
 ghost use Rattle.std.specs.Borrow.{sem, follows_so};
 ghost use mathlib.Core.Option.{none};
 ghost use Rattle.mirror_writer.specs.contracts.writer.Writer.{the_row};
 ghost use Rattle.cluster_model.specs.DsCalls.{plain_ds_call, plain_ds_reply};
 ghost use Rattle.mirror_writer.specs.Writers.{new_writer, commit_wanted, all_committed, rest_committed, after_reply, after_timeout, reported_places, is_covered_at, overlaps_taken, with_write, call_for};
-ghost use Rattle.mirror_writer.specs.Calls.{TakesWriteAs, SendsCall, SendsNamed, LendsCall, CarriesFewBytes, IsToSend, IsGone, LendsTaken};
+ghost use Rattle.mirror_writer.specs.Calls.{TakesWriteAs, SendsCall, SendsNamed, LendsCall, CarriesFewBytes, IsToSend, IsGone, LendsTaken, WaitsAt};
 ghost use Rattle.mirror_writer.specs.MirrorSteps.{settled_as};
 
 use crate::call::{MirrorOutcome, NextCall, TakenWrite};
@@ -129,6 +129,16 @@ impl Writer {
     {
         let named = self.send_next(xid);
         self.lend(named)
+    }
+
+    /// The mirror to which `next_call` would send.
+    pub fn waiting_mirror(&self) -> Option<MirrorId>
+        ensures { (xid : ℕ) → WaitsAt self.now xid result }
+    {
+        match self.to_send() {
+            Some((_, id, _)) => Some(id),
+            None => None,
+        }
     }
 
     /// What goes to the first mirror to which a call waits. It is outstanding from now on.
