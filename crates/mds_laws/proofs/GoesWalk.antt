@@ -1,12 +1,12 @@
 -- The calls that go out, and so each event and each run, keep what is kept in each case.
-use Rattle.std.proofs.Common.{◌≡◌, ℕ, zero, suc, Bool, true, List, [], ◌∷◌, ◌++◌, length, Option, Some, None, refl, sym, subst, inl, inr}
-use Rattle.std.specs.Prelude.{not, ◌==◌, ◌&&◌, slice_get, slice_set, map, filter}
+use Rattle.std.proofs.Common.{◌≡◌, ℕ, zero, suc, true, List, [], ◌∷◌, ◌++◌, length, Option, Some, None, refl, sym, subst}
+use Rattle.std.specs.Prelude.{◌-◌, not, ◌==◌, ◌&&◌, if◌then◌else◌, slice_get, slice_set}
 use Rattle.std.specs.Option.{option_map}
 use Rattle.std.specs.List.{find, range_with_len}
 use Rattle.std.proofs.lemmas.Bool.{cond_both, and_parts}
-use Rattle.std.proofs.lemmas.List.{append_assoc, append-nil}
+use Rattle.std.proofs.lemmas.List.{append-nil}
 use Rattle.cluster_model.specs.declared.ids.NodeId.{NodeId}
-use Rattle.cluster_model.specs.declared.ids.NodeId.TheVariants.{Mds}
+use Rattle.cluster_model.specs.declared.ids.NodeId.TheVariants.{Mds, Server}
 use Rattle.cluster_model.specs.declared.ids.FileId.{FileId}
 use Rattle.cluster_model.specs.declared.ids.Cred.{Cred}
 use Rattle.cluster_model.specs.declared.phase.EndCause.TheVariants.{Lease, Recalled}
@@ -26,13 +26,13 @@ use Rattle.nfs4_types.specs.Stateids.{layout_stateid_of}
 use Rattle.recall.specs.declared.recall.RecallCall.{RecallCall}
 use Rattle.recall.specs.Recalls.{RecallSends, next_sent, after_tick}
 use Rattle.mds_receive.specs.MdsReceive.{IncomingValue, PassedOver, IsReply, IsAnswered, IsCompound, incoming_of}
-use Rattle.mds_rule.specs.MdsStates.{WaitingRead, WaitingWrite, ServedFile, MdsSend, Answers, AwaitedCall, MdsValue, MdsStep, sends_none, and_then, served, numbered}
+use Rattle.mds_rule.specs.MdsStates.{WaitingRead, WaitingWrite, ServedFile, MdsSend, Answers, AwaitedCall, MdsValue, MdsStep, sends_none, and_then, is_call_to, without_call, served, numbered}
 use Rattle.mds_rule.specs.declared.waiter.Waiter.TheVariants.{ForRead}
 use Rattle.mds_rule.specs.ServedFiles.{takes_input, asks_back, ends_client}
 use Rattle.mds_rule.specs.Compounds.{runs_compound}
 use Rattle.mds_rule.specs.Answers.{is_awaited, takes_answer, timed_out_for}
-use Rattle.mds_rule.specs.Goes.{calls_server, OwnCall, own_of_file, own_of_write, own_by, place_of, own_call_at, own_next, has_xids, own_calls, read_goes, read_call, read_call_in, each, read_count, read_calls, stateid_seqid, calls_back, recall_goes, recall_call, is_again, repeats, place_calls, file_calls, calls_out}
-use Rattle.mds_rule.specs.Events.{takes_incoming, is_outstanding_to, is_kept_by, goes_again, times_out, takes_timeout, lease_ends, leases_end, recall_expires, recalls_expire, kept_numbers, files_tick, takes_tick}
+use Rattle.mds_rule.specs.Goes.{calls_server, OwnCall, own_of_file, own_of_write, own_by, place_of, own_call_at, own_next, has_xids, own_calls, read_goes, read_call, read_call_in, each, read_count, read_calls, stateid_seqid, calls_back, recall_goes, recall_call, repeats_call, repeats, place_calls, file_calls, calls_out}
+use Rattle.mds_rule.specs.Events.{takes_incoming, is_outstanding_to, is_kept_by, goes_again, times_out, takes_timeout, lease_ends, leases_end, recall_expires, recalls_expire, kept_calls, files_tick, takes_tick}
 use Rattle.mds_laws.specs.MdsRuns.{MdsInput, MdsEvent, Hears, IsTimedOut, Ticks as IsTick, RecallsFile, Resilvers, by_input, after_event, run_from}
 use Rattle.mds_laws.proofs.Keeping.{Keeps, KeepsBehind, Cases, then_keeps, none_keeps, same, becomes_keeps, silent_keeps, then_behind, behind_then, enters_behind}
 use Rattle.mds_laws.proofs.Lists.{In, found_in}
@@ -127,20 +127,32 @@ module _ (I : MdsValue → List Entry → List MdsSend → Type 0) (k : Cases I)
 
   -- ---- what goes out again
 
-  repeat_walk : (m : MdsValue) (o : Option AwaitedCall) → find_so m o → Keeps I m (repeats_call m o)
+  -- what went out before
+  sends_again : (m : MdsValue) (s : MdsSend) → KeepsBehind I s m (record { mds = m; entries = []; sends = s ∷ [] })
+  sends_again m s es ss was i = subst (λ (l : List Entry). I m l (ss ++ s ∷ [])) (sym (append-nil es)) (k.again m s es ss i was)
+
+  repeat_walk : (m : MdsValue) (o : Option AwaitedCall) → ((call : AwaitedCall) → o ≡ Some call → In call m.calls) → Keeps I m (repeats_call m o)
+  repeat_walk m None inside = same I m
+  repeat_walk m (Some call) inside es ss i = sends_again m call.sent es ss (k.was m es ss i call (inside call refl)) i
+
+  repeats_walk : (kept : Option (Option (ℕ × ℕ))) (m : MdsValue) → Keeps I m (repeats kept m)
+  repeats_walk None m = same I m
+  repeats_walk (Some None) m = same I m
+  repeats_walk (Some (Some kept)) m = repeat_walk m (find (is_call_to (Server kept.0) kept.1) m.calls) (λ call is. found_in (is_call_to (Server kept.0) kept.1) m.calls call is)
+
   -- ---- all of them
 
   place_walk : (file : FileId) (place : ℕ) (m : MdsValue) → Keeps I m (place_calls file place m)
   place_walk file place m = then_keeps I m (own_calls 4 file place m) (read_calls file place) (own_walk 4 file place m) (λ n. reads_walk file place n)
 
-  file_walk : (again : List ℕ) (n : ℕ) (m : MdsValue) → Keeps I m (file_calls again n m)
-  file_walk again n m =
-      then_keeps I m (and_then (recall_call (numbered n) m) (repeats again (numbered n))) (each (place_calls (numbered n)) (0 ∷ 1 ∷ 2 ∷ 3 ∷ 4 ∷ []))
-      (then_keeps I m (recall_call (numbered n) m) (repeats again (numbered n)) (recall_walk (numbered n) m) (λ x. repeats_walk again (numbered n) x))
+  file_walk : (kept : List (Option (ℕ × ℕ))) (n : ℕ) (m : MdsValue) → Keeps I m (file_calls kept n m)
+  file_walk kept n m =
+      then_keeps I m (and_then (recall_call (numbered n) m) (repeats (slice_get kept (n - 1)))) (each (place_calls (numbered n)) (0 ∷ 1 ∷ 2 ∷ 3 ∷ 4 ∷ []))
+      (then_keeps I m (recall_call (numbered n) m) (repeats (slice_get kept (n - 1))) (recall_walk (numbered n) m) (λ x. repeats_walk (slice_get kept (n - 1)) x))
       (λ x. each_walk (place_calls (numbered n)) (λ place y. place_walk (numbered n) place y) (0 ∷ 1 ∷ 2 ∷ 3 ∷ 4 ∷ []) x)
 
-  out_walk : (again : List ℕ) (m : MdsValue) → Keeps I m (calls_out again m)
-  out_walk again m = each_walk (file_calls again) (λ n x. file_walk again n x) (range_with_len 1 (length m.files)) m
+  out_walk : (kept : List (Option (ℕ × ℕ))) (m : MdsValue) → Keeps I m (calls_out kept m)
+  out_walk kept m = each_walk (file_calls kept) (λ n x. file_walk kept n x) (range_with_len 1 (length m.files)) m
 
   -- ---- events
 
@@ -154,8 +166,16 @@ module _ (I : MdsValue → List Entry → List MdsSend → Type 0) (k : Cases I)
 
   again_walk : (call : AwaitedCall) (m : MdsValue) → KeepsBehind I call.sent m (goes_again call m)
   again_walk call m =
-      cond_both (is_awaited m call && not (is_kept_by m call.xid call.caller)) (record { mds = m; entries = []; sends = call.sent ∷ [] }) (sends_none m) (λ (s : MdsStep). KeepsBehind I call.sent m s)
-      (λ is. λ es ss was i. subst (λ (l : List Entry). I m l (ss ++ call.sent ∷ [])) (sym (append-nil es)) (k.again m call.sent es ss i was)) (λ off. λ es ss was i. same I m es ss i)
+      cond_both (not (is_awaited m call)) (sends_none forgotten) (if is_kept_by m call.xid call.caller then sends_none m else again) (λ (s : MdsStep). KeepsBehind I call.sent m s)
+      (λ none. λ es ss was i. none_keeps I m forgotten (k.forgets m call.node call.xid) es ss i)
+      (λ some.
+      cond_both (is_kept_by m call.xid call.caller) (sends_none m) again (λ (s : MdsStep). KeepsBehind I call.sent m s) (λ kept. λ es ss was i. same I m es ss i) (λ other. sends_again m call.sent))
+    where
+      forgotten : MdsValue
+      forgotten = record m { calls = without_call call.node call.xid m.calls }
+
+      again : MdsStep
+      again = record { mds = m; entries = []; sends = call.sent ∷ [] }
 
   late_walk : (now : ℕ) (m : MdsValue) (call : AwaitedCall) → In call m.calls → Keeps I m (times_out now m (Some call))
   late_walk now m call inside es ss i =
@@ -198,8 +218,8 @@ module _ (I : MdsValue → List Entry → List MdsSend → Type 0) (k : Cases I)
   files_walk : (m : MdsValue) → Keeps I m (files_tick m)
   files_walk m =
       let all : MdsStep = each (λ n x. takes_input x (numbered n) Ticks) (range_with_len 1 (length m.files)) m in
-      then_keeps I m all (calls_out (kept_numbers m))
-      (each_walk (λ n x. takes_input x (numbered n) Ticks) (λ n x. silent_keeps I x (takes_input x (numbered n) Ticks) (takes I k x (numbered n) Ticks)) (range_with_len 1 (length m.files)) m) (λ n. out_walk (kept_numbers m) n)
+      then_keeps I m all (calls_out (kept_calls m))
+      (each_walk (λ n x. takes_input x (numbered n) Ticks) (λ n x. silent_keeps I x (takes_input x (numbered n) Ticks) (takes I k x (numbered n) Ticks)) (range_with_len 1 (length m.files)) m) (λ n. out_walk (kept_calls m) n)
 
   tick_walk : (now : ℕ) (m : MdsValue) → Keeps I m (takes_tick now m)
   tick_walk now m =

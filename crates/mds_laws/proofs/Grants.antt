@@ -17,7 +17,7 @@ use Rattle.file_rule.specs.FilePhases.{FileInput, new_mds_file, phase}
 use Rattle.file_rule.specs.MdsFiles.{MdsFile, FileStep}
 use Rattle.mds_rows.specs.Draws.{drawn}
 use Rattle.recall.specs.Recalls.{without_file}
-use Rattle.mds_rule.specs.MdsStates.{ServedFile, MdsSend, CallsServer, CallsBack, Replies, Answers, AwaitedCall, MdsValue, served, with_served, new_mds}
+use Rattle.mds_rule.specs.MdsStates.{ServedFile, MdsSend, CallsServer, CallsBack, Replies, Answers, AwaitedCall, MdsValue, with_call, served, with_served, new_mds}
 use Rattle.mds_rule.specs.declared.waiter.Waiter.TheVariants.{ForFile, ForRead, ForWrite, ForRecall}
 use Rattle.mds_rule.specs.ServedFiles.{is_period_end, file_behind, file_stepped}
 use Rattle.mds_rule.specs.FileOps.{servers_of, new_served, with_new_file}
@@ -28,7 +28,7 @@ use Rattle.mds_laws.proofs.Keeping.{Cases, is_quiet}
 use Rattle.mds_laws.proofs.OpsWalk.{place_served}
 use Rattle.mds_laws.proofs.GoesWalk.{in_each_run}
 use Rattle.mds_laws.proofs.FileGrants.{is_free, IsEntryOf, next_free, Tells, phase_tells, out_layout}
-use Rattle.mds_laws.proofs.Numbers.{WereSent, sent_more, sent_push, sent_without}
+use Rattle.mds_laws.proofs.Numbers.{WereSent, sent_more, sent_with, sent_without}
 
 -- ---- one entry
 
@@ -123,11 +123,11 @@ puts m file s t at same es free =
     free_set m.files es es (file.0 - 1) s t there.1 free (λ n apart. refl) (λ is. free (file.0 - 1) s there.1 (ap (λ (f : MdsFile). is_free f.layout.phase) (sym same) ∙ is))
 
 called : (m : MdsValue) (file : FileId) (s t : ServedFile) (call : AwaitedCall) → served m file ≡ Some s → is_free t.file.layout.phase ≡ is_free s.file.layout.phase → (es : List Entry) (ss : List MdsSend) → IsSo m es ss
-    → Stands (slice_set m.files (file.0 - 1) t) (m.calls ++ call ∷ []) (es ++ []) (ss ++ call.sent ∷ [])
+    → Stands (slice_set m.files (file.0 - 1) t) (with_call call m.calls) (es ++ []) (ss ++ call.sent ∷ [])
 called m file s t call at same es ss i =
     let there = place_served m file s at in
     let new : AreFree (slice_set m.files (file.0 - 1) t) es = free_set m.files es es (file.0 - 1) s t there.1 i.free (λ n apart. refl) (λ is. i.free (file.0 - 1) s there.1 (sym same ∙ is)) in
-    subst (λ (l : List Entry). Stands (slice_set m.files (file.0 - 1) t) (m.calls ++ call ∷ []) l (ss ++ call.sent ∷ [])) (sym (append-nil es)) (record { free = new; each = i.each; were = sent_push m.calls ss call i.were })
+    subst (λ (l : List Entry). Stands (slice_set m.files (file.0 - 1) t) (with_call call m.calls) l (ss ++ call.sent ∷ [])) (sym (append-nil es)) (record { free = new; each = i.each; were = sent_with m.calls ss call i.were })
 
 inputs : (m : MdsValue) (file : FileId) (s : ServedFile) (input : FileInput) → served m file ≡ Some s → (es : List Entry) (ss : List MdsSend) → IsSo m es ss
     → IsSo (file_stepped m file s (phase file s.file input m.fresh)).mds (es ++ (phase file s.file input m.fresh).entries) ss
@@ -168,9 +168,9 @@ notes files calls e quiet es ss i = record {
 sends : (files : List ServedFile) (calls : List AwaitedCall) (es : List Entry) (ss : List MdsSend) (s : MdsSend) → Stands files calls es ss → Stands files calls es (ss ++ s ∷ [])
 sends files calls es ss s i = record { free = i.free; each = i.each; were = sent_more calls ss s i.were }
 
-called_back : (files : List ServedFile) (calls : List AwaitedCall) (call : AwaitedCall) (es : List Entry) (ss : List MdsSend) → Stands files calls es ss → Stands files (calls ++ call ∷ []) (es ++ []) (ss ++ call.sent ∷ [])
+called_back : (files : List ServedFile) (calls : List AwaitedCall) (call : AwaitedCall) (es : List Entry) (ss : List MdsSend) → Stands files calls es ss → Stands files (with_call call calls) (es ++ []) (ss ++ call.sent ∷ [])
 called_back files calls call es ss i =
-    subst (λ (l : List Entry). Stands files (calls ++ call ∷ []) l (ss ++ call.sent ∷ [])) (sym (append-nil es)) (record { free = i.free; each = i.each; were = sent_push calls ss call i.were })
+    subst (λ (l : List Entry). Stands files (with_call call calls) l (ss ++ call.sent ∷ [])) (sym (append-nil es)) (record { free = i.free; each = i.each; were = sent_with calls ss call i.were })
 
 cases : Cases IsSo
 cases = record {

@@ -22,7 +22,6 @@ use Rattle.mds_rule.specs.declared.waiter.Waiter.TheVariants.{ForFile, ForRead, 
 use Rattle.mds_rule.specs.OpSteps.{OpStep, Goes, Ends, Waits}
 use Rattle.mds_rule.specs.ServedFiles.{has_fresh, file_stepped}
 use Rattle.mds_rule.specs.FileOps.{with_new_file}
-use Rattle.mds_rule.specs.Answers.{}
 use Rattle.mds_rule.specs.Goes.{xid_after, calls_as, calls_server, has_xids}
 use Rattle.mds_laws.specs.MdsRunLaws.{IsUidOf}
 use Rattle.mds_laws.proofs.Lists.{In, in_more}

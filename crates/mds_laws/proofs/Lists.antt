@@ -1,10 +1,11 @@
 -- What stands in a list, and what holds of each of its elements behind those before it.
 use Rattle.std.proofs.Common.{◌≡◌, ℕ, zero, suc, Bool, true, false, cond, List, [], ◌∷◌, ◌++◌, Some, refl, sym, ap, subst, inl, inr, ◌⊎◌}
-use Rattle.std.specs.Prelude.{filter, slice_get, slice_set}
+use Rattle.std.specs.Prelude.{◌==◌, nat_lt, if◌then◌else◌, filter, slice_get, slice_set}
 use Rattle.std.specs.List.{find}
 use Rattle.std.proofs.lemmas.Bool.{cond_both}
 use Rattle.std.proofs.lemmas.List.{append_assoc, append-nil}
 use Rattle.std.proofs.lemmas.Option.{same_Some, none-some}
+use Rattle.mds_rule.specs.MdsStates.{AwaitedCall, with_call}
 
 -- ---- it stands in the list
 
@@ -21,16 +22,31 @@ pub in_last : {A : Type 0} (x : A) (xs : List A) → In x (xs ++ x ∷ [])
 in_last x [] = inl refl
 in_last x (y ∷ ys) = inr (in_last x ys)
 
--- of a list with one more element: an old one, or the new one
-pub in_pushed : {A : Type 0} (x y : A) (xs : List A) → In x (xs ++ y ∷ []) → In x xs ⊎ (x ≡ y)
-in_pushed x y [] (inl is) = inr is
-in_pushed x y [] (inr inside) = absurd inside
-in_pushed x y (z ∷ zs) (inl is) = inl (inl is)
-in_pushed x y (z ∷ zs) (inr inside) = further (in_pushed x y zs inside)
+-- of the calls with one more: an old one, or the new one
+pub in_with_call : (x call : AwaitedCall) (calls : List AwaitedCall) → In x (with_call call calls) → In x calls ⊎ (x ≡ call)
+in_with_call x call [] (inl is) = inr is
+in_with_call x call [] (inr inside) = absurd inside
+in_with_call x call (c ∷ calls) inside =
+    cond_both (nat_lt call.xid c.xid) (call ∷ c ∷ calls) (if call.xid == c.xid then call ∷ calls else c ∷ with_call call calls) (λ (l : List AwaitedCall). In x l → In x (c ∷ calls) ⊎ (x ≡ call)) (λ is. before)
+    (λ off.
+    cond_both (call.xid == c.xid) (call ∷ calls) (c ∷ with_call call calls) (λ (l : List AwaitedCall). In x l → In x (c ∷ calls) ⊎ (x ≡ call)) (λ is. instead) (λ other. behind (in_with_call x call calls)))
+    inside
   where
-    further : In x zs ⊎ (x ≡ y) → In x (z ∷ zs) ⊎ (x ≡ y)
+    before : In x (call ∷ c ∷ calls) → In x (c ∷ calls) ⊎ (x ≡ call)
+    before (inl new) = inr new
+    before (inr old) = inl old
+
+    instead : In x (call ∷ calls) → In x (c ∷ calls) ⊎ (x ≡ call)
+    instead (inl new) = inr new
+    instead (inr old) = inl (inr old)
+
+    further : In x calls ⊎ (x ≡ call) → In x (c ∷ calls) ⊎ (x ≡ call)
     further (inl old) = inl (inr old)
     further (inr new) = inr new
+
+    behind : (In x (with_call call calls) → In x calls ⊎ (x ≡ call)) → In x (c ∷ with_call call calls) → In x (c ∷ calls) ⊎ (x ≡ call)
+    behind more (inl its) = inl (inl its)
+    behind more (inr its) = further (more its)
 
 pub in_filtered : {A : Type 0} (test : A → Bool) (x : A) (xs : List A) → In x (filter test xs) → In x xs
 in_filtered test x [] inside = absurd inside

@@ -14,14 +14,13 @@ use Rattle.file_rule.specs.FilePhases.{phase}
 use Rattle.file_rule.specs.MdsFiles.{FileStep}
 use Rattle.mds_rows.specs.Draws.{drawn}
 use Rattle.recall.specs.Recalls.{without_file}
-use Rattle.mds_rule.specs.MdsStates.{ServedFile, MdsSend, CallsServer, CallsBack, Replies, Answers, AwaitedCall, MdsValue, with_served, new_mds, is_call_to, without_call}
+use Rattle.mds_rule.specs.MdsStates.{ServedFile, MdsSend, CallsServer, CallsBack, Replies, Answers, AwaitedCall, MdsValue, with_call, with_served, new_mds, is_call_to, without_call}
 use Rattle.mds_rule.specs.declared.waiter.Waiter.TheVariants.{ForFile, ForRead, ForWrite, ForRecall}
 use Rattle.mds_rule.specs.ServedFiles.{is_period_end, file_behind, file_stepped}
-use Rattle.mds_rule.specs.Answers.{}
 use Rattle.mds_rule.specs.Goes.{xid_after}
 use Rattle.mds_laws.specs.MdsRuns.{MdsEvent}
 use Rattle.mds_laws.specs.MdsRunLaws.{number_sent, IsBelow, AreBelow, IsNewOrAgain, IsNew, IsAgain, NumbersCalls, FitsNumber, NumbersFit}
-use Rattle.mds_laws.proofs.Lists.{In, in_more, in_last, in_pushed, in_filtered, Split, split_in, EachOf, each_push, each_at, AllOf, all_push, all_in, all_split}
+use Rattle.mds_laws.proofs.Lists.{In, in_more, in_last, in_with_call, in_filtered, Split, split_in, EachOf, each_push, each_at, AllOf, all_push, all_in, all_split}
 use Rattle.mds_laws.proofs.Keeping.{Cases}
 use Rattle.mds_laws.proofs.GoesWalk.{in_each_run}
 
@@ -34,8 +33,8 @@ WereSent calls ss = (call : AwaitedCall) → In call calls → In call.sent ss
 pub sent_more : (calls : List AwaitedCall) (ss : List MdsSend) (s : MdsSend) → WereSent calls ss → WereSent calls (ss ++ s ∷ [])
 sent_more calls ss s were call inside = in_more call.sent ss (s ∷ []) (were call inside)
 
-pub sent_push : (calls : List AwaitedCall) (ss : List MdsSend) (call : AwaitedCall) → WereSent calls ss → WereSent (calls ++ call ∷ []) (ss ++ call.sent ∷ [])
-sent_push calls ss call were other inside = by_place (in_pushed other call calls inside)
+pub sent_with : (calls : List AwaitedCall) (ss : List MdsSend) (call : AwaitedCall) → WereSent calls ss → WereSent (with_call call calls) (ss ++ call.sent ∷ [])
+sent_with calls ss call were other inside = by_place (in_with_call other call calls inside)
   where
     by_place : In other calls ⊎ (other ≡ call) → In other.sent (ss ++ call.sent ∷ [])
     by_place (inl old) = in_more other.sent ss (call.sent ∷ []) (were other old)
@@ -105,11 +104,11 @@ plain next calls ss s none i = record {
 }
 
 called : (next : ℕ) (calls : List AwaitedCall) (ss : List MdsSend) (call : AwaitedCall) → not (next == 0) ≡ true → number_sent call.sent ≡ Some next → Numbered next calls ss
-    → Numbered (xid_after next) (calls ++ call ∷ []) (ss ++ call.sent ∷ [])
+    → Numbered (xid_after next) (with_call call calls) (ss ++ call.sent ∷ [])
 called next calls ss call has number i = record {
   each = each_push IsNumbered [] ss call.sent i.each (λ xid is. subst (IsNewOrAgain ss call.sent) (same_Some next xid (sym number ∙ is)) (IsNew (i.below has)));
   below = after_below next (ss ++ call.sent ∷ []) (below_push (next + 1) ss call.sent (below_all next ss (i.below has)) (subst (IsBelow (next + 1)) (sym number) (omega arith)));
-  were = sent_push calls ss call i.were;
+  were = sent_with calls ss call i.were;
   fits = after_fits next i.fits;
   words = all_push HasWord ss call.sent i.words (subst FitsNumber (sym number) (positive next has, i.fits));
 }

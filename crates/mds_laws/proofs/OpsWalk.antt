@@ -1,7 +1,6 @@
 -- Each operation on files and layouts keeps what is kept in each case.
-use Rattle.std.proofs.Common.{◌≡◌, ℕ, ◌+◌, Bool, true, false, cond, List, [], ◌∷◌, length, Option, Some, None, refl, sym, subst, inl, inr}
-use Rattle.std.specs.Prelude.{◌-◌, ◌==◌, is_some, slice_get, slice_set}
-use Rattle.std.specs.List.{list_any}
+use Rattle.std.proofs.Common.{◌≡◌, ℕ, ◌+◌, Bool, true, false, cond, List, [], ◌∷◌, length, Option, Some, None, refl, inl, inr}
+use Rattle.std.specs.Prelude.{◌-◌, ◌==◌, is_some, slice_get}
 use Rattle.std.proofs.lemmas.Bool.{cond_both}
 use Rattle.ff_xdr.specs.Form.{Value}
 use Rattle.ff_xdr.specs.Arms.{arm, by_arm, of_each_arm}
@@ -14,11 +13,8 @@ use Rattle.cluster_model.specs.declared.entry.Entry.{Entry}
 use Rattle.cluster_model.specs.declared.entry.Entry.TheVariants as entry
 use Rattle.cluster_model.specs.Phases.{holder_of}
 use Rattle.device_addr.specs.Universal.{AddressValue}
-use Rattle.cluster_model.proofs.Elements.{slice_get-set_same}
-use Rattle.recall.specs.Recalls.{without_file}
-use Rattle.mds_rows.specs.Draws.{drawn}
-use Rattle.file_rule.specs.MdsFiles.{MdsFile, FileStep}
-use Rattle.file_rule.specs.FilePhases.{OwnWrite, AsksLayout, Returns, phase}
+use Rattle.file_rule.specs.MdsFiles.{MdsFile}
+use Rattle.file_rule.specs.FilePhases.{OwnWrite, AsksLayout, Returns}
 use Rattle.ff_layout.specs.IoError.{ff_ioerr4}
 use Rattle.layout_report.specs.Reports.{report_of}
 use Rattle.nfs4_types.specs.declared.status.Stat4.{Stat4}
@@ -48,7 +44,7 @@ use Rattle.mds_operations.specs.GetDeviceInfo.{device_info_order}
 use Rattle.mds_operations.specs.PutFh.{put_fh_order, object_of}
 use Rattle.mds_rule.specs.MdsStates.{CompoundRun, WaitingWrite, ServedFile, MdsSend, MdsValue, MdsStep, sends_none, served, with_served, numbered, file_named}
 use Rattle.mds_rule.specs.OpSteps.{OpStep, with_result, at_object, gives, refused_or}
-use Rattle.mds_rule.specs.ServedFiles.{has_fresh, is_period_end, file_behind, file_stepped, input_at, takes_input, asks_back, ends_periods}
+use Rattle.mds_rule.specs.ServedFiles.{takes_input, asks_back, ends_periods}
 use Rattle.mds_rule.specs.SessionOps.{goes_with}
 use Rattle.open_state.specs.Opens.{opened, closed}
 use Rattle.mds_rule.specs.FileOps.{client_of, current_file, file_or_none, stateid_in, named_in, write_verifier, put_object, runs_put_fh, get_object, runs_get_fh, runs_lookup, get_attributes, runs_get_attr, with_new_file, opens_or_makes, runs_open, name_in, closes, runs_close, runs_commit, reads_at, runs_read, read_length, with_write, writes_at, writes_file, ends_by, write_refused, runs_write, write_ask, is_delay}
@@ -69,17 +65,6 @@ served_at false x s is = (refl, is)
 
 pub place_served : (m : MdsValue) (file : FileId) (s : ServedFile) → served m file ≡ Some s → ((file.0 == 0) ≡ false) × (slice_get m.files (file.0 - 1) ≡ Some s)
 place_served m file s is = served_at (file.0 == 0) (slice_get m.files (file.0 - 1)) s is
-
-pub served_put : (m : MdsValue) (file : FileId) (s t : ServedFile) → served m file ≡ Some s → served (with_served m file t) file ≡ Some t
-served_put m file s t is =
-    let at = place_served m file s is in
-    subst (λ (b : Bool). cond b None (slice_get (slice_set m.files (file.0 - 1) t) (file.0 - 1)) ≡ Some t) (sym at.0) (slice_get-set_same m.files (file.0 - 1) s t at.1)
-
-pub served_stepped : (m : MdsValue) (file : FileId) (s : ServedFile) (step : FileStep) → served m file ≡ Some s → served (file_stepped m file s step).mds file ≡ Some (file_behind s step)
-served_stepped m file s step is =
-    let n : MdsValue = with_served (record m { fresh = drawn m.fresh step }) file (file_behind s step) in
-    cond_both (list_any is_period_end step.entries) (record n { recalls = without_file file n.recalls }) n (λ (x : MdsValue). served x file ≡ Some (file_behind s step))
-    (λ end. served_put (record m { fresh = drawn m.fresh step }) file s (file_behind s step) is) (λ other. served_put (record m { fresh = drawn m.fresh step }) file s (file_behind s step) is)
 
 module _ (I : MdsValue → List Entry → List MdsSend → Type 0) (k : Cases I) where
   -- ---- names and opens
@@ -161,31 +146,18 @@ module _ (I : MdsValue → List Entry → List MdsSend → Type 0) (k : Cases I)
 
   -- ---- layouts
 
-  grant_again : (m : MdsValue) (c : CompoundRun) (file : FileId) (again : Bool) (o : Option ServedFile) → served m file ≡ o → KeepsOp I m (granted_in (sends_none m) c file again o)
-  grant_again m c file again None is = stays I m
-  grant_again m c file again (Some s) is = no_entries I m (with_served m file (with_holder (client_of c) again s)) (k.puts m file s (with_holder (client_of c) again s) is refl (old_write s.file s.write))
-
-  -- the file is there still behind the input
-  grant_walk : (m : MdsValue) (c : CompoundRun) (file : FileId) (n : ℕ) (o : Option ServedFile) → served m file ≡ o
-      → KeepsOp I m (granted_in (input_at m file (AsksLayout n) o) c file false (served (input_at m file (AsksLayout n) o).mds file))
-  grant_walk m c file n None is = grant_again m c file false (served m file) refl
-  grant_walk m c file n (Some s) is =
-      cond_both (has_fresh m.fresh) (file_stepped m file s step) (sends_none m) (λ (x : MdsStep). KeepsOp I m (granted_in x c file false (served x.mds file)))
-      (λ fresh.
-      subst (λ (o : Option ServedFile). KeepsOp I m (granted_in (file_stepped m file s step) c file false o)) (sym (served_stepped m file s step is))
-      (enters_becomes I m (file_stepped m file s step).mds (with_served (file_stepped m file s step).mds file (with_holder (client_of c) false (file_behind s step))) step.entries
-      (k.inputs m file s (AsksLayout n) is fresh)
-      (k.puts (file_stepped m file s step).mds file (file_behind s step) (with_holder (client_of c) false (file_behind s step)) (served_stepped m file s step is) refl (old_write step.file s.write))))
-      (λ off. grant_again m c file false (served m file) refl)
-    where
-      step : FileStep
-      step = phase file s.file (AsksLayout n) m.fresh
+  granted_walk : (m : MdsValue) (s : MdsStep) (c : CompoundRun) (file : FileId) (again : Bool) → Enters I m s.mds s.entries → (o : Option ServedFile) → served s.mds file ≡ o → KeepsOp I m (granted_in s c file again o)
+  granted_walk m s c file again first None is = first
+  granted_walk m s c file again first (Some t) is =
+      enters_becomes I m s.mds (with_served s.mds file (with_holder (client_of c) again t)) s.entries first (k.puts s.mds file t (with_holder (client_of c) again t) is refl (old_write t.file t.write))
 
   grants_walk : (m : MdsValue) (c : CompoundRun) (file : FileId) (again : Bool) (node : NodeId) → KeepsOp I m (grants_to m c file again node)
-  grants_walk m c file true node = grant_again m c file true (served m file) refl
+  grants_walk m c file true node = granted_walk m (sends_none m) c file true (stays I m) (served m file) refl
   grants_walk m c file false Mds = stays I m
   grants_walk m c file false (Server n) = stays I m
-  grants_walk m c file false (Client n) = grant_walk m c file n (served m file) refl
+  grants_walk m c file false (Client n) =
+      let s : MdsStep = takes_input m file (AsksLayout n) in
+      granted_walk m s c file false (takes I k m file (AsksLayout n)).enters (served s.mds file) refl
 
   later_walk : (m : MdsValue) (c : CompoundRun) (now : ℕ) (p : Option Phase) → KeepsOp I m (later_by m c now p)
   later_walk m c now None = stays I m

@@ -1,5 +1,5 @@
 -- Each part of an event that is about inputs of the table of phases, clients and sessions keeps what is kept in each case.
-use Rattle.std.proofs.Common.{◌≡◌, ℕ, List, [], ◌∷◌, Option, Some, None, refl, inl}
+use Rattle.std.proofs.Common.{◌≡◌, ℕ, List, [], ◌∷◌, ◌++◌, Option, Some, None, refl, inl}
 use Rattle.std.specs.Prelude.{is_some, nat_eq}
 use Rattle.std.specs.List.{find, list_any}
 use Rattle.std.proofs.lemmas.Bool.{cond_both}
@@ -144,5 +144,5 @@ module _ (I : MdsValue → List Entry → List MdsSend → Type 0) (k : Cases I)
   reclaims_all m c None = stays I m
   reclaims_all m c (Some slot) =
       cond_both (list_any (nat_eq (client_in slot.session)) m.reclaimed) (refuses m c 58 Rattle.nfs4_types.specs.declared.status.Stat4.TheVariants.CompleteAlready)
-      (Goes (record m { reclaimed = client_in slot.session ∷ m.reclaimed }) [] (with_result c (arm 58 Rattle.nfs4_compound.specs.Results.resop4 (inl tt)))) (λ (x : OpStep). KeepsOp I m x)
-      (λ is. stays I m) (λ off. no_entries I m (record m { reclaimed = client_in slot.session ∷ m.reclaimed }) (k.quiet m m.sessions m.opens (client_in slot.session ∷ m.reclaimed) m.recalls))
+      (Goes (record m { reclaimed = m.reclaimed ++ client_in slot.session ∷ [] }) [] (with_result c (arm 58 Rattle.nfs4_compound.specs.Results.resop4 (inl tt)))) (λ (x : OpStep). KeepsOp I m x)
+      (λ is. stays I m) (λ off. no_entries I m (record m { reclaimed = m.reclaimed ++ client_in slot.session ∷ [] }) (k.quiet m m.sessions m.opens (m.reclaimed ++ client_in slot.session ∷ []) m.recalls))

@@ -14,7 +14,7 @@ use Rattle.mds_rows.specs.Draws.{drawn}
 use Rattle.mirror_writer.specs.Writers.{WriterSends}
 use Rattle.mirror_writer.specs.Writers as writer
 use Rattle.recall.specs.Recalls.{without_file}
-use Rattle.mds_rule.specs.MdsStates.{WaitingWrite, ServedFile, MdsSend, CallsServer, CallsBack, Replies, Answers, AwaitedCall, MdsValue, served, with_served, new_mds}
+use Rattle.mds_rule.specs.MdsStates.{WaitingWrite, ServedFile, MdsSend, CallsServer, CallsBack, Replies, Answers, AwaitedCall, MdsValue, with_call, served, with_served, new_mds}
 use Rattle.mds_rule.specs.declared.waiter.Waiter.{Waiter}
 use Rattle.mds_rule.specs.declared.waiter.Waiter.TheVariants.{ForFile, ForRead, ForWrite, ForRecall}
 use Rattle.mds_rule.specs.ServedFiles.{is_period_end, file_behind, file_stepped}
@@ -27,7 +27,7 @@ use Rattle.mds_laws.proofs.OpsWalk.{place_served}
 use Rattle.mds_laws.proofs.GoesWalk.{in_each_run}
 use Rattle.mds_laws.proofs.WriterKept.{sends_of}
 use Rattle.mds_laws.proofs.FileUids.{FileFits, phase_fits, out_fits}
-use Rattle.mds_laws.proofs.Numbers.{WereSent, sent_more, sent_push, sent_without}
+use Rattle.mds_laws.proofs.Numbers.{WereSent, sent_more, sent_with, sent_without}
 
 abbrev WriteFits : Option WaitingWrite → Type 0
 WriteFits None = Unit {0}
@@ -87,16 +87,16 @@ makes m name es ss i = record {
 
 -- a call of a file goes out
 called : (m : MdsValue) (file : FileId) (t : ServedFile) (caller : Waiter) (server uid : ℕ) (call : DsCallValue) (ss : List MdsSend) → ServedFits t → IsUidOf call uid → Fits m.fresh.uid m.files m.calls ss
-    → Fits m.fresh.uid (slice_set m.files (file.0 - 1) t) (m.calls ++ (record { node = Server server; xid = m.next_xid; caller = caller; sent = CallsServer server m.next_xid uid call }) ∷ []) (ss ++ CallsServer server m.next_xid uid call ∷ [])
+    → Fits m.fresh.uid (slice_set m.files (file.0 - 1) t) (with_call (record { node = Server server; xid = m.next_xid; caller = caller; sent = CallsServer server m.next_xid uid call }) m.calls) (ss ++ CallsServer server m.next_xid uid call ∷ [])
 called m file t caller server uid call ss its is i = record {
   drawn = i.drawn;
   all = all_set ServedFits m.files (file.0 - 1) t i.all its;
-  were = sent_push m.calls ss (record { node = Server server; xid = m.next_xid; caller = caller; sent = CallsServer server m.next_xid uid call }) i.were;
+  were = sent_with m.calls ss (record { node = Server server; xid = m.next_xid; caller = caller; sent = CallsServer server m.next_xid uid call }) i.were;
   each = all_push IsByItsUid ss (CallsServer server m.next_xid uid call) i.each is;
 }
 
 calls_file : (m : MdsValue) (file : FileId) (s : ServedFile) (c : CallOut) → served m file ≡ Some s → call_out s.file m.next_xid ≡ Some c → (ss : List MdsSend) → Fits m.fresh.uid m.files m.calls ss
-    → Fits m.fresh.uid (slice_set m.files (file.0 - 1) (record s { file = c.file })) (m.calls ++ (record { node = Server c.server; xid = m.next_xid; caller = ForFile file; sent = CallsServer c.server m.next_xid c.uid c.call }) ∷ [])
+    → Fits m.fresh.uid (slice_set m.files (file.0 - 1) (record s { file = c.file })) (with_call (record { node = Server c.server; xid = m.next_xid; caller = ForFile file; sent = CallsServer c.server m.next_xid c.uid c.call }) m.calls)
     (ss ++ CallsServer c.server m.next_xid c.uid c.call ∷ [])
 calls_file m file s c at its ss i =
     let now : ServedFits s = of_served m file s at i.all in
@@ -106,7 +106,7 @@ calls_file m file s c at its ss i =
 calls_write : (m : MdsValue) (file : FileId) (s : ServedFile) (w : WaitingWrite) (c : WriterSends) → served m file ≡ Some s → s.write ≡ Some w → writer.next_sent w.writer m.next_xid ≡ Some c → (ss : List MdsSend)
     → Fits m.fresh.uid m.files m.calls ss
     → Fits m.fresh.uid (slice_set m.files (file.0 - 1) (record s { write = Some (record w { writer = c.writer }) }))
-    (m.calls ++ (record { node = Server c.id.server; xid = m.next_xid; caller = ForWrite file; sent = CallsServer c.id.server m.next_xid w.writer.cred c.call }) ∷ []) (ss ++ CallsServer c.id.server m.next_xid w.writer.cred c.call ∷ [])
+    (with_call (record { node = Server c.id.server; xid = m.next_xid; caller = ForWrite file; sent = CallsServer c.id.server m.next_xid w.writer.cred c.call }) m.calls) (ss ++ CallsServer c.id.server m.next_xid w.writer.cred c.call ∷ [])
 calls_write m file s w c at waits its ss i =
     let now : ServedFits s = of_served m file s at i.all in
     let cred : 65536 ≤ w.writer.cred = subst WriteFits waits now.write_fits in
@@ -133,7 +133,7 @@ cases = record {
   calls_back = λ m node back file stateid has es ss i. record {
     drawn = i.drawn;
     all = i.all;
-    were = sent_push m.calls ss (record { node = node; xid = m.next_xid; caller = ForRecall; sent = CallsBack m.next_xid back file stateid }) i.were;
+    were = sent_with m.calls ss (record { node = node; xid = m.next_xid; caller = ForRecall; sent = CallsBack m.next_xid back file stateid }) i.were;
     each = all_push IsByItsUid ss (CallsBack m.next_xid back file stateid) i.each tt;
   };
   skips = λ m has es ss i. i;

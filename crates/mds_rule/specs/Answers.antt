@@ -1,15 +1,14 @@
 -- What comes of the answers to a metadata server's calls, and of timeouts (RFC 8881, sections 12.5.5, 18.22, 18.32 and 20.3; RFC 1813,
 -- section 3.3).
-use Rattle.std.specs.Prelude.{ℕ, ◌+◌, Bool, true, false, not, ◌==◌, ◌&&◌, List, [], ◌∷◌, ◌++◌, length, map, filter, position, Option, Some, None, is_some, is_none, nat_lt, if◌then◌else◌, slice_get, slice_set, remove, drop}
+use Rattle.std.specs.Prelude.{ℕ, ◌+◌, Bool, true, false, ◌==◌, List, [], ◌∷◌, ◌++◌, length, map, position, Option, Some, None, is_some, if◌then◌else◌, slice_get, slice_set, remove, drop}
 use Rattle.std.specs.Option.{option_map}
 use Rattle.std.specs.List.{list_any, list_all, find}
 use Rattle.std.proofs.Common.{inl}
 use Rattle.ff_xdr.specs.Form.{Value}
 use Rattle.ff_xdr.specs.Arms.{arm}
 use Rattle.cluster_model.specs.declared.ids.NodeId.{NodeId}
-use Rattle.cluster_model.specs.declared.ids.NodeId.TheVariants.{Mds, Server}
+use Rattle.cluster_model.specs.declared.ids.NodeId.TheVariants.{Server}
 use Rattle.cluster_model.specs.declared.ids.FileId.{FileId}
-use Rattle.cluster_model.specs.declared.ids.Cred.{Cred}
 use Rattle.cluster_model.specs.declared.ids.Mirror.{Mirror}
 use Rattle.cluster_model.specs.declared.ids.MirrorId.{MirrorId}
 use Rattle.cluster_model.specs.declared.phase.LeftCause.{LeftCause}

@@ -1,6 +1,6 @@
 -- How a compound is run (RFC 8881, sections 2.10.6, 15.1, 16.2 and 18.46): its first operation, one operation after the other, and its
 -- reply.
-use Rattle.std.specs.Prelude.{ℕ, Bool, true, false, ◌==◌, ◌||◌, List, [], ◌∷◌, ◌++◌, Option, Some, None, is_some, if◌then◌else◌}
+use Rattle.std.specs.Prelude.{ℕ, Bool, true, false, ◌==◌, ◌||◌, List, [], ◌∷◌, Option, Some, None, is_some, if◌then◌else◌}
 use Rattle.std.proofs.Common.{inl}
 use Rattle.ff_xdr.specs.Form.{Value, spelling, arm_of}
 use Rattle.ff_xdr.specs.Arms.{arm, by_arm}
@@ -11,7 +11,6 @@ use Rattle.nfs4_types.specs.declared.status.Stat4.{Stat4}
 use Rattle.nfs4_types.specs.declared.status.Stat4.TheVariants as stat
 use Rattle.nfs4_types.specs.Status.{stat4_number}
 use Rattle.nfs4_types.specs.Sequences.{sequence4_args}
-use Rattle.nfs4_compound.specs.declared.stop.Stop.{Stop}
 use Rattle.nfs4_compound.specs.Args.{argop4}
 use Rattle.nfs4_compound.specs.Results.{resop4}
 use Rattle.nfs4_compound.specs.Compounds.{CompoundValue, compound4_res}
@@ -20,7 +19,7 @@ use Rattle.nfs4_session.specs.Slots.{SlotAnswer, TakesEffect, Repeats, Refuses}
 use Rattle.nfs4_session.specs.Clients.{SessionsState, session_of}
 use Rattle.nfs4_session.specs.Requests.{request_answer, after_request, pass_of, after_finish}
 use Rattle.nfs4_session.specs.Bindings.{after_binding}
-use Rattle.mds_rule.specs.MdsStates.{CompoundRun, MdsSend, Replies, MdsValue, MdsStep, sends_none, enters}
+use Rattle.mds_rule.specs.MdsStates.{CompoundRun, Replies, MdsValue, MdsStep, sends_none, enters}
 use Rattle.mds_rule.specs.OpSteps.{OpStep, Goes, Ends, Waits, with_result, refuses, refused_as, stopped}
 use Rattle.mds_rule.specs.SessionOps.{runs_bind, runs_exchange, runs_create, runs_destroy_session, runs_destroy_client, reclaims}
 use Rattle.mds_rule.specs.FileOps.{runs_close, runs_commit, runs_get_attr, runs_get_fh, runs_lookup, runs_open, runs_put_fh, runs_put_root_fh, runs_read, runs_write}

@@ -1,5 +1,5 @@
 -- Conversations with a metadata server that are worked out by hand: two data servers, files with two mirrors, clients c1 and c2.
-use Rattle.std.specs.Prelude.{ℕ, ◌+◌, ◌-◌, ◌^◌, true, false, List, [], ◌∷◌, ◌++◌, replicate, Option, Some, None, codes}
+use Rattle.std.specs.Prelude.{ℕ, ◌-◌, ◌^◌, true, false, List, [], ◌∷◌, replicate, Some, None, codes}
 use Rattle.std.proofs.Common.{inl, inr}
 use Rattle.ff_xdr.specs.Form.{Value, spelling, long}
 use Rattle.ff_xdr.specs.Arms.{arm}
@@ -14,16 +14,14 @@ use Rattle.cluster_model.specs.declared.phase.EndCause.TheVariants as cause
 use Rattle.cluster_model.specs.declared.phase.LeftCause.TheVariants as left
 use Rattle.cluster_model.specs.declared.phase.Phase.TheVariants as phase
 use Rattle.cluster_model.specs.declared.ds_call.Shown.{Shown}
-use Rattle.cluster_model.specs.declared.entry.Entry.{Entry}
 use Rattle.cluster_model.specs.declared.entry.Entry.TheVariants as entry
-use Rattle.cluster_model.specs.DsCalls.{DsCallValue, Create, SetAttr, Write, Commit, Read, DsReplyValue, Created, Set, Written, Committed, Bytes, NotSync, Failed}
+use Rattle.cluster_model.specs.DsCalls.{Create, SetAttr, Write, Commit, Read, Created, Set, Written, Committed, Bytes, NotSync, Failed}
 use Rattle.nfs4_types.specs.declared.stateid.Stateid.{Stateid}
 use Rattle.nfs4_types.specs.declared.ids.SessionId.{SessionId}
-use Rattle.nfs4_types.specs.Stateids.{stateid4, stateid4_value, layout_stateid_of, open_stateid_of}
+use Rattle.nfs4_types.specs.Stateids.{stateid4_value, layout_stateid_of, open_stateid_of}
 use Rattle.nfs4_types.specs.Ids.{device_id_of}
 use Rattle.nfs4_types.specs.Channels.{channel_attrs4}
 use Rattle.nfs4_session.specs.Clients.{session_id}
-use Rattle.nfs4_session.specs.declared.back.BackCall.{BackCall}
 use Rattle.nfs4_compound.specs.Args.{argop4}
 use Rattle.nfs4_compound.specs.Results.{resop4}
 use Rattle.nfs4_compound.specs.Behind.{behind_arms}
@@ -31,7 +29,7 @@ use Rattle.ff_layout.specs.ReturnBody.{ff_layoutreturn4}
 use Rattle.device_addr.specs.Universal.{AddressValue}
 use Rattle.granted_layouts.specs.GrantedBodies.{layout_body, whole_layout, layout_result}
 use Rattle.mds_rule.specs.MdsStates.{MdsSend, CallsServer, CallsBack, MdsValue, new_mds, numbered}
-use Rattle.mds_rule.specs.MdsTurns.{MdsTurn, Runs, RunsUpTo, Gets, IsTold, TimesOut, Ticks, IsToRecall, IsToResilver, MdsShown, mds_behind, turns_shown, replied, shows}
+use Rattle.mds_rule.specs.MdsTurns.{MdsTurn, Runs, RunsUpTo, Gets, IsTold, TimesOut, Ticks, MdsShown, mds_behind, replied, shows}
 
 -- ---- what is spoken of
 

@@ -1,10 +1,10 @@
 -- What a metadata server does in each event. It has three parts: what came is taken, and what it brought runs as far as it goes; then calls
 -- go out.
-use Rattle.std.specs.Prelude.{ℕ, zero, suc, Bool, true, false, not, ◌==◌, ◌&&◌, List, [], ◌∷◌, ◌++◌, length, map, Option, Some, None, if◌then◌else◌}
+use Rattle.std.specs.Prelude.{ℕ, zero, suc, Bool, false, not, ◌==◌, ◌&&◌, List, [], ◌∷◌, length, map, Option, Some, None, if◌then◌else◌}
 use Rattle.std.specs.List.{find, range_with_len}
-use Rattle.rpc_record.specs.Replies.{RpcReply, reply_bytes}
+use Rattle.rpc_record.specs.Replies.{RpcReply}
 use Rattle.cluster_model.specs.declared.ids.NodeId.{NodeId}
-use Rattle.cluster_model.specs.declared.ids.NodeId.TheVariants.{Mds, Server}
+use Rattle.cluster_model.specs.declared.ids.NodeId.TheVariants.{Mds}
 use Rattle.cluster_model.specs.declared.ids.FileId.{FileId}
 use Rattle.cluster_model.specs.declared.ids.Cred.{Cred}
 use Rattle.cluster_model.specs.declared.phase.EndCause.TheVariants.{Lease, Recalled}
@@ -14,14 +14,14 @@ use Rattle.file_rule.specs.FilePhases.{Revokes, Resilver, Ticks}
 use Rattle.nfs4_compound.specs.Compounds.{CompoundValue}
 use Rattle.nfs4_session.specs.Clients.{ClientState}
 use Rattle.nfs4_session.specs.Ends.{has_ended, without_client}
-use Rattle.recall.specs.Recalls.{RecallsTick, after_tick}
+use Rattle.recall.specs.Recalls.{after_tick}
 use Rattle.ds_calls.specs.GivenReplies.{reply_of_call}
 use Rattle.recall_calls.specs.RecallAnswers.{recall_status}
 use Rattle.mds_activity.specs.FileCalls.{kept_out}
 use Rattle.mds_receive.specs.MdsReceive.{IncomingValue, PassedOver, IsReply, IsAnswered, IsCompound, incoming_of}
-use Rattle.mds_rule.specs.MdsStates.{ServedFile, AwaitedCall, MdsSend, Answers, MdsValue, MdsStep, sends_none, enters, and_then, without_call, served, numbered}
+use Rattle.mds_rule.specs.MdsStates.{ServedFile, AwaitedCall, Answers, MdsValue, MdsStep, sends_none, enters, and_then, without_call, served, numbered}
 use Rattle.mds_rule.specs.declared.waiter.Waiter.{Waiter}
-use Rattle.mds_rule.specs.declared.waiter.Waiter.TheVariants.{ForFile, ForRead, ForWrite, ForRecall}
+use Rattle.mds_rule.specs.declared.waiter.Waiter.TheVariants.{ForFile}
 use Rattle.mds_rule.specs.ServedFiles.{takes_input, asks_back, ends_client}
 use Rattle.mds_rule.specs.Compounds.{runs_compound}
 use Rattle.mds_rule.specs.Answers.{is_awaited, takes_answer, timed_out_for}

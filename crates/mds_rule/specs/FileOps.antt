@@ -1,6 +1,6 @@
 -- The operations on names, opens and bytes (RFC 8881, sections 18.2, 18.3, 18.7, 18.8, 18.13, 18.16, 18.19, 18.21, 18.22 and 18.32): each
 -- is refused by the order of its statuses, or comes to what stands here.
-use Rattle.std.specs.Prelude.{ℕ, ◌+◌, ◌-◌, ◌%◌, Bool, true, false, not, ◌==◌, ◌&&◌, List, [], ◌∷◌, ◌++◌, length, map, Option, Some, None, is_some, is_none, nat_lt, take, if◌then◌else◌, slice_get, get_or}
+use Rattle.std.specs.Prelude.{ℕ, ◌+◌, ◌-◌, ◌%◌, Bool, true, false, not, ◌==◌, ◌&&◌, List, [], ◌∷◌, ◌++◌, length, map, Option, Some, None, is_none, nat_lt, if◌then◌else◌, get_or}
 use Rattle.std.specs.Option.{option_map}
 use Rattle.std.specs.List.{range_with_len}
 use Rattle.std.proofs.Common.{inl, inr}
@@ -10,9 +10,8 @@ use Rattle.cluster_model.specs.declared.ids.FileId.{FileId}
 use Rattle.cluster_model.specs.declared.ids.Cred.{Cred}
 use Rattle.cluster_model.specs.declared.phase.Phase.{Phase}
 use Rattle.cluster_model.specs.declared.limits.TheConstants.{PIECE_SIZE, SPARE_UIDS}
-use Rattle.cluster_model.specs.Phases.{phase_of, holder_of}
+use Rattle.cluster_model.specs.Phases.{phase_of}
 use Rattle.file_rule.specs.MdsFiles.{MdsFile}
-use Rattle.file_rule.specs.declared.fresh.Fresh.{Fresh}
 use Rattle.file_rule.specs.FilePhases.{OwnWrite, new_mds_file, end_of_uids}
 use Rattle.mds_io.specs.Reads.{new_read}
 use Rattle.mds_io.specs.OwnWrites.{own_write}
@@ -39,7 +38,7 @@ use Rattle.mds_operations.specs.declared.attributes.Attributes.{Attributes}
 use Rattle.mds_operations.specs.declared.attributes.AskedAttributes.{AskedAttributes}
 use Rattle.mds_operations.specs.declared.open.Creation.{Creation}
 use Rattle.mds_operations.specs.declared.open.Creation.TheVariants.{NoCreate, Unchecked, Guarded}
-use Rattle.mds_operations.specs.Orders.{no_handle, file_of}
+use Rattle.mds_operations.specs.Orders.{file_of}
 use Rattle.mds_operations.specs.Stateids.{named_by}
 use Rattle.mds_operations.specs.PutFh.{put_fh_order, object_of}
 use Rattle.mds_operations.specs.Lookup.{lookup_order}
@@ -48,11 +47,11 @@ use Rattle.mds_operations.specs.Close.{close_order}
 use Rattle.mds_operations.specs.Commit.{commit_order}
 use Rattle.mds_operations.specs.Attributes.{asked_of, first_word, second_word, values_of}
 use Rattle.mds_operations.specs.Reads.{read_order}
-use Rattle.mds_operations.specs.Writes.{write_order, has_bytes}
+use Rattle.mds_operations.specs.Writes.{write_order}
 use Rattle.mds_operations.specs.declared.read.ReadAsk.{ReadAsk}
 use Rattle.mds_operations.specs.declared.write.WriteAsk.{WriteAsk}
-use Rattle.mds_rule.specs.MdsStates.{CompoundRun, ServedFile, WaitingRead, WaitingWrite, MdsValue, MdsStep, sends_none, and_then, served, with_served, numbered, file_named, size_served}
-use Rattle.mds_rule.specs.OpSteps.{OpStep, Goes, Ends, Waits, with_result, at_object, gives, refuses, refused_as, by_order, refused_or}
+use Rattle.mds_rule.specs.MdsStates.{CompoundRun, ServedFile, MdsValue, MdsStep, served, with_served, numbered, file_named, size_served}
+use Rattle.mds_rule.specs.OpSteps.{OpStep, Ends, Waits, with_result, at_object, gives, refuses, refused_as, by_order, refused_or}
 use Rattle.mds_rule.specs.ServedFiles.{takes_input, asks_back, has_fresh}
 
 -- ---- who asks, and what its stateid names

@@ -1,21 +1,20 @@
 -- Which calls go out at the end of an event, and in which order: by file, then by the place of the mirror in the live list; at one place the
 -- file's own call before the READs of those that read it, in the order in which they began. What waits for the next tick goes out with them.
-use Rattle.std.specs.Prelude.{ℕ, zero, suc, ◌+◌, ◌-◌, Bool, true, false, not, ◌==◌, ◌&&◌, List, [], ◌∷◌, ◌++◌, length, map, filter, position, Option, Some, None, nat_lt, if◌then◌else◌, slice_get, slice_set}
+use Rattle.std.specs.Prelude.{ℕ, zero, suc, ◌+◌, ◌-◌, Bool, not, ◌==◌, ◌&&◌, List, [], ◌∷◌, length, position, Option, Some, None, if◌then◌else◌, slice_get, slice_set}
 use Rattle.std.specs.Option.{option_map}
-use Rattle.std.specs.List.{list_any, find, range_with_len, flat_map}
+use Rattle.std.specs.List.{find, range_with_len}
 use Rattle.cluster_model.specs.declared.ids.NodeId.{NodeId}
-use Rattle.cluster_model.specs.declared.ids.NodeId.TheVariants.{Mds, Server}
+use Rattle.cluster_model.specs.declared.ids.NodeId.TheVariants.{Server}
 use Rattle.cluster_model.specs.declared.ids.FileId.{FileId}
 use Rattle.cluster_model.specs.declared.ids.Mirror.{Mirror}
 use Rattle.cluster_model.specs.DsCalls.{DsCallValue}
 use Rattle.file_rule.specs.FilePhases.{CallOut, call_out}
-use Rattle.mds_io.specs.Reads.{ReadSends, in_turn}
+use Rattle.mds_io.specs.Reads.{ReadSends}
 use Rattle.mds_io.specs.Reads as read
 use Rattle.mirror_writer.specs.Writers.{WriterSends}
 use Rattle.mirror_writer.specs.Writers as writer
 use Rattle.nfs4_types.specs.Stateids.{layout_stateid_of}
-use Rattle.nfs4_session.specs.declared.back.BackCall.{BackCall}
-use Rattle.nfs4_session.specs.Clients.{ClientState, SessionState, has_id, change_first, with_clients}
+use Rattle.nfs4_session.specs.Clients.{SessionState, has_id, change_first, with_clients}
 use Rattle.nfs4_session.specs.Bindings.{last_session, back_call, client_called_back}
 use Rattle.recall.specs.declared.recall.RecallCall.{RecallCall}
 use Rattle.recall.specs.Recalls.{RecallSends, next_sent}

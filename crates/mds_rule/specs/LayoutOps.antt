@@ -1,15 +1,13 @@
 -- The operations on layouts and devices (RFC 8881, sections 18.40 and 18.42 to 18.44; RFC 8435, sections 4, 5 and 9).
-use Rattle.std.specs.Prelude.{ℕ, ◌+◌, ◌-◌, ◌^◌, Bool, true, false, not, ◌==◌, ◌&&◌, List, [], ◌∷◌, ◌++◌, length, map, position, bytes_eq, replicate, Option, Some, None, is_some, Result, Ok, Err, nat_lt, codes, if◌then◌else◌, slice_get}
+use Rattle.std.specs.Prelude.{ℕ, ◌+◌, ◌-◌, Bool, true, false, not, ◌==◌, List, [], ◌∷◌, length, bytes_eq, Option, Some, None, is_some, Result, Ok, Err, if◌then◌else◌}
 use Rattle.std.proofs.Common.{inl, inr}
-use Rattle.ff_xdr.specs.Form.{Value, spelling, long}
+use Rattle.ff_xdr.specs.Form.{Value}
 use Rattle.ff_xdr.specs.Arms.{arm, by_arm}
 use Rattle.ff_xdr.specs.Reading.{reading, whole}
 use Rattle.ff_xdr.specs.declared.error.XdrError.{XdrError}
 use Rattle.cluster_model.specs.declared.ids.NodeId.{NodeId}
 use Rattle.cluster_model.specs.declared.ids.NodeId.TheVariants.{Mds, Server, Client}
 use Rattle.cluster_model.specs.declared.ids.FileId.{FileId}
-use Rattle.cluster_model.specs.declared.ids.Cred.{Cred}
-use Rattle.cluster_model.specs.declared.ids.Mirror.{Mirror}
 use Rattle.cluster_model.specs.declared.phase.EndCause.TheVariants.{ReturnedAll}
 use Rattle.cluster_model.specs.declared.phase.Phase.{Phase}
 use Rattle.cluster_model.specs.declared.entry.Entry.TheVariants as entry
@@ -17,39 +15,35 @@ use Rattle.cluster_model.specs.declared.layout_state.LayoutState.{LayoutState}
 use Rattle.cluster_model.specs.Phases.{phase_of, holder_of}
 use Rattle.file_rule.specs.FilePhases.{AsksLayout, Returns}
 use Rattle.layout_state.specs.declared.grant.GrantFault.{GrantFault}
-use Rattle.layout_state.specs.declared.grant.GrantFault.TheVariants.{Later, Recalling, Spent}
+use Rattle.layout_state.specs.declared.grant.GrantFault.TheVariants.{Later, Spent}
 use Rattle.layout_state.specs.Grants.{grant_fault, is_held}
 use Rattle.layout_report.specs.Reports.{report_of}
 use Rattle.ff_layout.specs.IoError.{ff_ioerr4}
 use Rattle.ff_layout.specs.ReturnBody.{ff_layoutreturn4}
 use Rattle.device_addr.specs.Universal.{AddressValue}
-use Rattle.nfs4_types.specs.declared.stateid.Stateid.{Stateid}
 use Rattle.nfs4_types.specs.declared.status.Stat4.{Stat4}
 use Rattle.nfs4_types.specs.declared.status.Stat4.TheVariants as stat
 use Rattle.nfs4_types.specs.Ids.{device_id_of}
-use Rattle.nfs4_types.specs.Stateids.{stateid4_value, layout_stateid_of}
-use Rattle.nfs4_file_ops.specs.GetDeviceInfo.{getdeviceinfo4_args, getdeviceinfo4_ok}
+use Rattle.nfs4_types.specs.Stateids.{layout_stateid_of}
+use Rattle.nfs4_file_ops.specs.GetDeviceInfo.{getdeviceinfo4_args}
 use Rattle.nfs4_file_ops.specs.LayoutCommit.{layoutcommit4_args}
 use Rattle.nfs4_file_ops.specs.LayoutGet.{layoutget4_args}
 use Rattle.nfs4_file_ops.specs.LayoutReturn.{layoutreturn4, layoutreturn_file4, layoutreturn4_args}
 use Rattle.nfs4_file_ops.specs.declared.layout_get.LayoutGetArgs.{LayoutGetArgs}
 use Rattle.nfs4_compound.specs.Results.{resop4}
 use Rattle.open_state.specs.Opens.{next_seqid}
-use Rattle.mds_operations.specs.declared.object.Object.{Object}
-use Rattle.mds_operations.specs.Orders.{Order, refusal}
+use Rattle.mds_operations.specs.Orders.{refusal}
 use Rattle.mds_operations.specs.LayoutGets.{layout_get_order}
 use Rattle.mds_operations.specs.declared.layout_get.LayoutGetFound.{LayoutGetFound}
-use Rattle.mds_operations.specs.declared.layout_get.TheConstants.{FLEX_FILES, IOMODE_RW}
 use Rattle.mds_operations.specs.LayoutReturns.{layout_return_order, layout_return_all_order}
-use Rattle.mds_operations.specs.declared.layout_return.FileReturn.{FileReturn}
 use Rattle.mds_operations.specs.LayoutCommit.{layout_commit_order}
 use Rattle.mds_operations.specs.GetDeviceInfo.{device_info_order}
-use Rattle.mds_rule.specs.MdsStates.{CompoundRun, ServedFile, MdsValue, MdsStep, sends_none, and_then, enters, served, with_served}
-use Rattle.mds_rule.specs.OpSteps.{OpStep, Goes, Ends, with_result, gives, refuses, refused_as, by_order, refused_or}
-use Rattle.mds_rule.specs.ServedFiles.{takes_input, asks_back, held_from, one_by_one}
+use Rattle.mds_rule.specs.MdsStates.{CompoundRun, ServedFile, MdsValue, MdsStep, sends_none, served, with_served}
+use Rattle.mds_rule.specs.OpSteps.{OpStep, Goes, Ends, with_result, gives, refuses, by_order, refused_or}
+use Rattle.mds_rule.specs.ServedFiles.{takes_input, asks_back}
 use Rattle.mds_rule.specs.SessionOps.{goes_with}
 use Rattle.mds_rule.specs.FileOps.{client_of, current_file, stateid_in, named_in, uids_left, ends_by}
-use Rattle.granted_layouts.specs.GrantedBodies.{layout_body, whole_layout, layout_length, layout_result, device_body, device_info, device_info_length, device_info_result}
+use Rattle.granted_layouts.specs.GrantedBodies.{layout_body, whole_layout, layout_length, layout_result, device_body, device_info_length, device_info_result}
 
 -- ---- LAYOUTGET 50 (section 18.43)
 

@@ -1,11 +1,10 @@
 -- What a metadata server has: files, clients, what waits, and the calls that were sent.
-use Rattle.std.specs.Prelude.{ℕ, ◌+◌, ◌-◌, Bool, false, not, ◌==◌, ◌&&◌, List, [], ◌∷◌, ◌++◌, length, filter, map, position, find, bytes_eq, Option, Some, None, nat_lt, if◌then◌else◌, slice_get, slice_set}
+use Rattle.std.specs.Prelude.{ℕ, ◌+◌, ◌-◌, Bool, not, ◌==◌, ◌&&◌, List, [], ◌∷◌, ◌++◌, length, filter, position, find, bytes_eq, Option, Some, None, nat_lt, if◌then◌else◌, slice_get, slice_set}
 use Rattle.std.specs.Option.{option_map}
 use Rattle.ff_xdr.specs.Form.{Value}
 use Rattle.rpc_record.specs.Replies.{RpcReply}
 use Rattle.cluster_model.specs.declared.ids.NodeId.{NodeId}
 use Rattle.cluster_model.specs.declared.ids.FileId.{FileId}
-use Rattle.cluster_model.specs.declared.ids.Cred.{Cred}
 use Rattle.cluster_model.specs.declared.ids.Mirror.{Mirror}
 use Rattle.cluster_model.specs.declared.ids.MirrorId.{MirrorId}
 use Rattle.cluster_model.specs.declared.phase.LeftCause.{LeftCause}

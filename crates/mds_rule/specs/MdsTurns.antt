@@ -1,8 +1,6 @@
 -- Turns of a conversation with a metadata server, by the values of what comes, and what each shows.
-use Rattle.std.specs.Prelude.{ℕ, ◌+◌, true, List, [], ◌∷◌, length, replicate, Option, Some, None, codes}
-use Rattle.std.proofs.Common.{inl}
-use Rattle.ff_xdr.specs.Form.{Value, spelling, long}
-use Rattle.ff_xdr.specs.Arms.{arm}
+use Rattle.std.specs.Prelude.{ℕ, ◌+◌, List, [], ◌∷◌, length, None}
+use Rattle.ff_xdr.specs.Form.{Value, spelling}
 use Rattle.cluster_model.specs.declared.ids.NodeId.{NodeId}
 use Rattle.cluster_model.specs.declared.ids.NodeId.TheVariants.{Server}
 use Rattle.cluster_model.specs.declared.entry.Entry.{Entry}

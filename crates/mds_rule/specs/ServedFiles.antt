@@ -1,25 +1,23 @@
 -- What comes of the inputs of the table of phases at a metadata server: to the file, its readers, and recalls (RFC 8881, sections 12.5.5
 -- and 18.43; RFC 8435, section 2.2).
-use Rattle.std.specs.Prelude.{ℕ, ◌+◌, ◌-◌, ◌^◌, ◌%◌, Bool, true, false, not, ◌==◌, ◌&&◌, List, [], ◌∷◌, ◌++◌, length, filter, map, Option, Some, None, nat_lt, if◌then◌else◌}
-use Rattle.std.specs.List.{list_any, fold}
+use Rattle.std.specs.Prelude.{ℕ, ◌+◌, ◌-◌, ◌^◌, ◌%◌, Bool, true, false, not, ◌==◌, ◌&&◌, List, [], ◌∷◌, length, filter, map, Option, Some, None, nat_lt, if◌then◌else◌}
+use Rattle.std.specs.List.{list_any}
 use Rattle.cluster_model.specs.declared.ids.NodeId.{NodeId}
-use Rattle.cluster_model.specs.declared.ids.NodeId.TheVariants.{Mds, Server, Client}
 use Rattle.cluster_model.specs.declared.ids.FileId.{FileId}
 use Rattle.cluster_model.specs.declared.ids.Cred.{Cred}
 use Rattle.cluster_model.specs.declared.ids.Mirror.{Mirror}
 use Rattle.cluster_model.specs.declared.ids.MirrorId.{MirrorId}
 use Rattle.cluster_model.specs.declared.phase.EndCause.{EndCause}
-use Rattle.cluster_model.specs.declared.phase.EndCause.TheVariants as cause
 use Rattle.cluster_model.specs.declared.entry.Entry.{Entry}
 use Rattle.cluster_model.specs.declared.entry.Entry.TheVariants as entry
 use Rattle.cluster_model.specs.declared.layout_state.LayoutState.{LayoutState}
 use Rattle.cluster_model.specs.declared.layout_state.LayoutPhase.{LayoutPhase}
-use Rattle.cluster_model.specs.declared.layout_state.LayoutPhase.TheVariants.{Making, Free, Held, Fencing, Settling, Copying}
+use Rattle.cluster_model.specs.declared.layout_state.LayoutPhase.TheVariants.{Free}
 use Rattle.cluster_model.specs.Phases.{holder_of}
 use Rattle.file_rule.specs.declared.fresh.Fresh.{Fresh}
 use Rattle.file_rule.specs.MdsFiles.{FileStep}
 use Rattle.mds_rows.specs.Draws.{drawn}
-use Rattle.file_rule.specs.FilePhases.{FileInput, AsksLayout, Recall as ToRecall, Revokes, phase, end_of_uids}
+use Rattle.file_rule.specs.FilePhases.{FileInput, Recall as ToRecall, Revokes, phase, end_of_uids}
 use Rattle.layout_state.specs.Grants.{holder_to_recall}
 use Rattle.mds_io.specs.Reads.{begun_again}
 use Rattle.recall.specs.Recalls.{is_under_way, new_recall, with_recall, without_file}

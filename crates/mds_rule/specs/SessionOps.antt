@@ -1,8 +1,8 @@
 -- The operations on clients and sessions (RFC 8881, sections 18.34 to 18.37, 18.46, 18.50 and 18.51): their results, and what comes of a
 -- client that is gone.
-use Rattle.std.specs.Prelude.{ℕ, ◌+◌, Bool, true, false, ◌==◌, List, [], ◌∷◌, ◌++◌, nat_lt, nat_eq, Option, Some, None, is_some, is_none, if◌then◌else◌}
+use Rattle.std.specs.Prelude.{ℕ, ◌+◌, Bool, false, ◌==◌, List, [], ◌∷◌, ◌++◌, nat_lt, nat_eq, Option, Some, None, is_some, if◌then◌else◌}
 use Rattle.std.specs.List.{find, list_any}
-use Rattle.std.proofs.Common.{inl, inr}
+use Rattle.std.proofs.Common.{inl}
 use Rattle.ff_xdr.specs.Form.{Value, long}
 use Rattle.ff_xdr.specs.Arms.{arm}
 use Rattle.cluster_model.specs.declared.phase.EndCause.TheVariants.{ClientGone}
@@ -26,7 +26,7 @@ use Rattle.nfs4_session.specs.CreateSessions.{CreateSessionCase, create_session_
 use Rattle.nfs4_session.specs.Bindings.{after_binding}
 use Rattle.nfs4_session.specs.Ends.{without_session, without_client, destroy_client_fault}
 use Rattle.mds_rule.specs.MdsStates.{CompoundRun, MdsValue, MdsStep}
-use Rattle.mds_rule.specs.OpSteps.{OpStep, Goes, with_result, gives, refuses, refused_or}
+use Rattle.mds_rule.specs.OpSteps.{OpStep, Goes, with_result, refuses, refused_or}
 use Rattle.mds_rule.specs.ServedFiles.{ends_client}
 
 -- ---- EXCHANGE_ID 42 (section 18.35)
