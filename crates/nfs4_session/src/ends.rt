@@ -89,7 +89,7 @@ impl Sessions {
     }
 
     /// The session is there.
-    fn has_session(&self, session: SessionId) -> bool
+    pub fn has_session(&self, session: SessionId) -> bool
         ensures { result ≡ is_some (session_of self.now.clients session) }
     {
         match self.record(client_in(session)) {

@@ -25,6 +25,7 @@ pub use back::BackCall;
 pub use begin::{Begin, SlotPass};
 pub use cb_slot::{CbBegin, CbSlot};
 pub use faults::{Created, Exchanged, IdFault, SessionFault};
+pub use ids::client_in;
 pub use laws::{slots_law, table_law};
 pub use sequence::next_sequence;
 pub use sessions::Sessions;

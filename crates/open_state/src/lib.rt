@@ -7,5 +7,5 @@ mod open;
 mod opens;
 
 pub use laws::{one_client_law, opens_law};
-pub use open::{MAX_OPENS, Open, OpenFault};
+pub use open::{MAX_OPENS, Open, OpenFault, next_seqid};
 pub use opens::Opens;

@@ -53,8 +53,8 @@ impl Open {
     }
 }
 
-/// The seqid behind one: 1 again behind the last (section 8.2.2).
-fn next_seqid(seqid: u32) -> u32
+/// The seqid behind one: 1 again behind the last (RFC 8881, section 8.2.2).
+pub fn next_seqid(seqid: u32) -> u32
     ensures { result ≡ next_seqid seqid }
 {
     if seqid == LAST_NUMBER { 1 } else { seqid + 1 }

@@ -1,7 +1,7 @@
 //! What all clients have open.
 
-ghost use Rattle.std.specs.Prelude.{◌≡◌, [], ◌∷◌, ◌++◌, map, filter, find, not, is_some, length, OnOk, OnErr};
-ghost use Rattle.open_state.specs.Opens.{Opens as OpensFile, ClosesOpen, ended, open_of, open_fault, opens_in, put_opens, set_opens, is_of, is_other, in_place};
+ghost use Rattle.std.specs.Prelude.{◌≡◌, [], ◌∷◌, ◌++◌, map, filter, find, not, is_some, length, None, OnOk, OnErr};
+ghost use Rattle.open_state.specs.Opens.{Opens as OpensFile, ClosesOpen, ended, open_of, open_fault, fault_at, opens_of, opens_in, put_opens, set_opens, is_of, is_other, in_place};
 
 use crate::client_opens::ClientOpens;
 use crate::open::{LAST_NUMBER, MAX_OPENS, Open, OpenFault};
@@ -79,6 +79,13 @@ impl Opens {
         if sought(&self.clients, client, file).is_some() {
             return true;
         }
+        count(&self.clients, client) < MAX_OPENS && self.last != LAST_NUMBER
+    }
+
+    /// An OPEN by this client of a file that it does not have open is not refused, but for want of memory.
+    pub fn has_room(&self, client: u64) -> bool
+        ensures { result ≡ not (is_some (fault_at None (length (opens_of self.now client)) self.now.last)) }
+    {
         count(&self.clients, client) < MAX_OPENS && self.last != LAST_NUMBER
     }
 
