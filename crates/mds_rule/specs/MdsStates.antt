@@ -161,24 +161,33 @@ without_call node xid calls = filter (λ call. not (is_call_to node xid call)) c
 
 -- ---- one file of it
 
+abbrev pub served_in : List ServedFile → FileId → Option ServedFile
+served_in files file = if file.0 == 0 then None else slice_get files (file.0 - 1)
+
+abbrev pub with_file : List ServedFile → FileId → ServedFile → List ServedFile
+with_file files file s = slice_set files (file.0 - 1) s
+
 abbrev pub served : MdsValue → FileId → Option ServedFile
-served m file = if file.0 == 0 then None else slice_get m.files (file.0 - 1)
+served m file = served_in m.files file
 
 abbrev pub with_served : MdsValue → FileId → ServedFile → MdsValue
-with_served m file s = record m { files = slice_set m.files (file.0 - 1) s }
+with_served m file s = record m { files = with_file m.files file s }
 
 abbrev pub numbered : ℕ → FileId
 numbered n = record { 0 = n }
 
 -- the file that has a name
 abbrev pub has_name : List ℕ → ServedFile → Bool
-has_name name s = bytes_eq s.name name
+has_name name s = bytes_eq name s.name
 
 abbrev pub file_in_place : Option ℕ → Option FileId
 file_in_place place = option_map (λ n. numbered (n + 1)) place
 
+abbrev pub named_among : List ServedFile → List ℕ → Option FileId
+named_among files name = file_in_place (position (has_name name) files)
+
 abbrev pub file_named : MdsValue → List ℕ → Option FileId
-file_named m name = file_in_place (position (has_name name) m.files)
+file_named m name = named_among m.files name
 
 -- the size last seen at the first live mirror
 abbrev pub is_size_of : MirrorId → MirrorId × ℕ → Bool

@@ -13,7 +13,7 @@ use Rattle.cluster_model.specs.declared.entry.Entry.TheVariants as entry
 use Rattle.cluster_model.specs.declared.layout_state.LayoutState.{LayoutState}
 use Rattle.cluster_model.specs.declared.layout_state.LayoutPhase.{LayoutPhase}
 use Rattle.cluster_model.specs.declared.layout_state.LayoutPhase.TheVariants.{Free}
-use Rattle.cluster_model.specs.Phases.{holder_of}
+use Rattle.cluster_model.specs.Phases.{holder_of, is_one_of}
 use Rattle.file_rule.specs.declared.fresh.Fresh.{Fresh}
 use Rattle.file_rule.specs.MdsFiles.{FileStep}
 use Rattle.mds_rows.specs.Draws.{drawn}
@@ -57,7 +57,7 @@ reads_behind entries live reads = if list_any is_swap entries then map (begins_a
 
 -- sizes of mirrors that are live no more are forgotten where the file is free
 abbrev pub is_live_size : List Mirror → MirrorId × ℕ → Bool
-is_live_size live size = list_any (λ (m : Mirror). is_size_of m.id size) live
+is_live_size live size = is_one_of size.0 live
 
 abbrev pub sizes_in : LayoutState → LayoutPhase → List (MirrorId × ℕ) → List (MirrorId × ℕ)
 sizes_in layout Free sizes = filter (is_live_size layout.live) sizes
