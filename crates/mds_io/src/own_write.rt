@@ -1,12 +1,13 @@
 //! A write of the metadata server itself.
 
 ghost use Rattle.std.specs.Prelude.{◌≡◌, ℕ, ⊤, ◌≤◌, ◌+◌, length, IfOk, option_map};
+ghost use Rattle.std.specs.List.{list_any};
 ghost use Rattle.std.specs.Borrow.{sem, follows_so};
 ghost use mathlib.Core.Option.{none};
 ghost use Rattle.cluster_model.specs.declared.limits.TheConstants.{MAX_FILE, PIECE_SIZE};
 ghost use Rattle.cluster_model.specs.DsCalls.{plain_ds_reply};
 ghost use Rattle.mirror_writer.specs.Calls.{SendsCall, CarriesFewBytes, WaitsAt};
-ghost use Rattle.mirror_writer.specs.Writers.{after_timeout, open_committed};
+ghost use Rattle.mirror_writer.specs.Writers.{is_call, after_timeout, open_committed};
 ghost use Rattle.mds_io.specs.contracts.own_write.MdsWrite.{the_row};
 ghost use Rattle.mds_io.specs.OwnWrites.{own_write, after_own_reply, step_by, ended};
 
@@ -88,6 +89,13 @@ impl MdsWrite {
             shown,
         };
         told_by(status, self.writer.on_reply(xid, &plain))
+    }
+
+    /// A call of this number is outstanding.
+    pub fn is_outstanding(&self, xid: u32) -> bool
+        ensures { result ≡ list_any (λ m. is_call xid m.call) self.now.mirrors }
+    {
+        self.writer.is_outstanding(xid)
     }
 
     /// What a timeout of the call of this number comes to: at `Waiting` the same record is to be sent again.

@@ -2,6 +2,7 @@
 
 ghost use Rattle.std.specs.Prelude.{◌≡◌, ℕ, ◌<◌, length, OnSome};
 ghost use Rattle.cluster_model.specs.DsCalls.{plain_ds_reply};
+ghost use Rattle.cluster_model.specs.Fences.{is_out};
 ghost use Rattle.mds_io.specs.Reads.{new_read, begun_again, in_turn, end_of, fails, after_timeout};
 ghost use Rattle.mds_io.specs.Calls.{SendsRead, AnswersRead, WaitsAt};
 
@@ -99,6 +100,13 @@ impl MdsRead {
             DsReply::Failed { status, .. } => Ok(self.fail(xid, LeftCause::Error(status))),
             _ => Ok(self.fail(xid, LeftCause::Error(SERVERFAULT))),
         }
+    }
+
+    /// The READ of this number is outstanding.
+    pub fn is_outstanding(&self, xid: u32) -> bool
+        ensures { result ≡ is_out xid self.now.stage }
+    {
+        is_out(xid, self.stage)
     }
 
     /// What a timeout of the READ of this number comes to: where `next_call` has nothing and `failures` are as they were,

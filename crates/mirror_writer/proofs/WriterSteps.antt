@@ -92,8 +92,7 @@ same_call s mirrors id SendsCommit = refl
 
 pub first_waits : (s : WriterValue) (xid place : ℕ) (id : MirrorId) (next : NextCall) → IsNextAt s place id next → WaitsAt s xid (Some id)
 first_waits s xid place id next is =
-    let m : WriterMirror = is.mirror in
-    (
+    let m : WriterMirror = is.mirror in (
       record { writer = with_writer_mirrors s (slice_set s.mirrors place (with_out xid next m)); id = m.id; call = is.call },
       ap (sends_at s xid) is.first
           ∙ ap (sends_to s xid place) is.found

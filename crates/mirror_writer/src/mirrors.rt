@@ -147,6 +147,18 @@ pub fn open_committed(mirrors: &[MirrorWrites]) -> bool
     true
 }
 
+/// The call of this number is outstanding to one of them.
+pub fn some_out(xid: u32, mirrors: &[MirrorWrites]) -> bool
+    ensures { result ≡ list_any (λ r. is_call xid r.mirror.call) mirrors.now }
+{
+    for mirror in mirrors {
+        if mirror.is_call(xid) {
+            return true;
+        }
+    }
+    false
+}
+
 /// One of them has not failed and is committed.
 pub fn some_committed(mirrors: &[MirrorWrites]) -> bool
     ensures { result ≡ list_any (λ r. not r.mirror.has_failed && is_committed r.mirror) mirrors.now }

@@ -7,7 +7,7 @@ ghost use Rattle.std.specs.Borrow.{sem, follows_so};
 ghost use mathlib.Core.Option.{none};
 ghost use Rattle.mirror_writer.specs.contracts.writer.Writer.{the_row};
 ghost use Rattle.cluster_model.specs.DsCalls.{plain_ds_call, plain_ds_reply};
-ghost use Rattle.mirror_writer.specs.Writers.{new_writer, commit_wanted, all_committed, rest_committed, after_reply, after_timeout, reported_places, is_covered_at, overlaps_taken, with_write, call_for};
+ghost use Rattle.mirror_writer.specs.Writers.{new_writer, commit_wanted, all_committed, rest_committed, after_reply, after_timeout, reported_places, is_call, is_covered_at, overlaps_taken, with_write, call_for};
 ghost use Rattle.mirror_writer.specs.Calls.{TakesWriteAs, SendsCall, SendsNamed, LendsCall, CarriesFewBytes, IsToSend, IsGone, LendsTaken, WaitsAt};
 ghost use Rattle.mirror_writer.specs.MirrorSteps.{settled_as};
 
@@ -16,7 +16,7 @@ use crate::extents::Extents;
 use crate::mirror::MirrorWrites;
 use crate::mirrors::{
     all_committed, answer_at, covers_at, failed_places, next_of, open_all, open_committed,
-    outstanding, queue_all, reserve_all, send_at, some_committed, time_out_at, waiting,
+    outstanding, queue_all, reserve_all, send_at, some_committed, some_out, time_out_at, waiting,
 };
 use crate::step::{WriteStart, WriterStep};
 use crate::write_bytes::WriteBytes;
@@ -207,6 +207,13 @@ impl Writer {
         };
         let (id, outcome) = answer_at(reply, place, &mut self.mirrors);
         self.settle(id, outcome)
+    }
+
+    /// A call of this number is outstanding.
+    pub fn is_outstanding(&self, xid: u32) -> bool
+        ensures { result ≡ list_any (λ m. is_call xid m.call) self.now.mirrors }
+    {
+        some_out(xid, &self.mirrors)
     }
 
     /// What a timeout of the call of this number comes to: at `Waiting` the same record is to be sent again.
