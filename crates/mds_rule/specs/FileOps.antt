@@ -175,7 +175,7 @@ new_served name file = record { name = name; file = file; sizes = []; periods = 
 -- a file of this name is made: a uid and a number of a name are drawn
 abbrev pub with_new_file : MdsValue → List ℕ → MdsValue
 with_new_file m name = record m {
-  files = m.files ++ new_served name (new_mds_file m.fresh (servers_of m.fresh.servers m.mirrors (length m.files + 1))) ∷ [];
+  files = m.files ++ new_served name (new_mds_file m.fresh (servers_of (length m.servers) m.mirrors (length m.files + 1))) ∷ [];
   fresh = record { uid = m.fresh.uid + 1; name = m.fresh.name + 1; servers = m.fresh.servers };
 }
 

@@ -10,6 +10,7 @@ ghost use Rattle.mds_io.specs.Reads as read;
 ghost use Rattle.mds_io.specs.OwnWrites.{after_own_reply};
 ghost use Rattle.mirror_writer.specs.Writers as writer;
 ghost use Rattle.mds_rule.specs.MdsStates.{served_in, named_among};
+ghost use Rattle.mds_rule.specs.ServedFiles.{held_from};
 ghost use Rattle.mds_rule.specs.FileOps.{max_files, new_served, with_read, with_write};
 ghost use Rattle.mds_rule.specs.LayoutOps.{with_holder};
 ghost use Rattle.mds_rule.specs.Answers.{sized, fileid_of, attributes_shown};
@@ -87,6 +88,19 @@ impl Files {
             return None;
         }
         self.files.get(file.0 as usize - 1)
+    }
+
+    /// The files whose layout this client has, in order. It costs by the number of files. Takes memory.
+    pub fn held_by(&self, client: u64) -> Result<Vec<FileId>, NoMemory>
+        ensures { IfOk result (λ held. held.items ≡ held_from client 1 self.now) }
+    {
+        let mut held = Vec::new(self.alloc);
+        for (place, served) in self.files.iter().enumerate() {
+            if served.holder == Some(client) {
+                held.push(FileId(place as u32 + 1))?;
+            }
+        }
+        Ok(held)
     }
 
     /// One more file, of a name that no other has. Takes memory.
