@@ -71,3 +71,10 @@ pub record HasStepped (s : MdsStep) (old : Outbox) (n : MdsValue) (new : Outbox)
   pub mds : n ≡ s.mds
   pub entries : new.entries.items ≡ old.entries.items ++ s.entries
   pub sends : new.sends.items ≡ old.sends.items ++ map spelled_send s.sends
+
+-- where an operation is done, this
+abbrev pub OnGoes : Result OpEnd NoMemory → Type 0 → Type 0
+OnGoes (Ok end.Goes) P = P
+OnGoes (Ok (end.Ends status)) P = ⊥
+OnGoes (Ok end.Waits) P = ⊥
+OnGoes (Err e) P = ⊤

@@ -1,6 +1,6 @@
 //! The address of a data server as a device (RFC 8435, section 4.1).
 
-ghost use Rattle.std.specs.Prelude.{◌≡◌, IfOk};
+ghost use Rattle.std.specs.Prelude.{◌≡◌, ◌<◌, ◌^◌, length, IfOk};
 ghost use Rattle.device_addr.specs.Universal.{address_value};
 ghost use Rattle.granted_layouts.specs.GrantedBodies.{device_body};
 
@@ -14,7 +14,8 @@ pub const TRANSFER_SIZE: u32 = 65_536;
 
 /// The body of the address of a data server, `ff_device_addr4`: it is found there over TCP, and speaks NFSv3. Takes memory.
 pub fn device_body(alloc: Global, address: &NetAddr) -> Result<Data, NoMemory>
-    ensures { IfOk result (λ body. body ≡ device_body (address_value address.now)) }
+    ensures exact { IfOk result (λ body. body ≡ device_body (address_value address.now)) }
+    ensures few { IfOk result (λ body. length body < 2 ^ 32) }
 {
     let mut text = Out::new(alloc);
     print_universal(address, &mut text)?;

@@ -1,6 +1,6 @@
 //! The body of a layout (RFC 8435, section 5.1).
 
-ghost use Rattle.std.specs.Prelude.{◌≡◌, map, IfOk};
+ghost use Rattle.std.specs.Prelude.{◌≡◌, ◌<◌, ◌^◌, length, map, IfOk};
 ghost use Rattle.std.specs.List.{flat_map};
 ghost use Rattle.ff_xdr.specs.Form.{Fits, spelling};
 ghost use Rattle.ff_xdr.specs.Calls.{Grows};
@@ -58,7 +58,8 @@ fn put_granted_mirrors(cred: Cred, mirrors: Mirrors, out: &mut Out) -> Result<()
 
 /// The body of the layout of these mirrors under this uid, `ff_layout4`. Takes memory.
 pub fn layout_body(alloc: Global, cred: Cred, mirrors: Mirrors) -> Result<Data, NoMemory>
-    ensures { IfOk result (λ body. body ≡ layout_body cred.0 mirrors) }
+    ensures exact { IfOk result (λ body. body ≡ layout_body cred.0 mirrors) }
+    ensures few { IfOk result (λ body. length body < 2 ^ 32) }
 {
     let mut out = Out::new(alloc);
     (STRIPE_UNIT, mirrors.len() as u32).put(&mut out)?;

@@ -153,7 +153,7 @@ inputs m file s input at es ss i =
 makes : (m : MdsValue) (name : List ℕ) (es : List Entry) (ss : List MdsSend) → IsSo m es ss → IsSo (with_new_file m name) es ss
 makes m name es ss i = record { free = λ place s got is. by_place place s (pushed m.files _ place s got) is; each = i.each; were = i.were }
   where
-    by_place : (place : ℕ) (s : ServedFile) → Pushed m.files (new_served name (new_mds_file m.fresh (servers_of m.fresh.servers m.mirrors (length m.files + 1)))) place s → is_free s.file.layout.phase ≡ true → stands_free (place + 1) false es ≡ true
+    by_place : (place : ℕ) (s : ServedFile) → Pushed m.files (new_served name (new_mds_file m.fresh (servers_of (length m.servers) m.mirrors (length m.files + 1)))) place s → is_free s.file.layout.phase ≡ true → stands_free (place + 1) false es ≡ true
     by_place place s (Old at) is = i.free place s at is
     by_place place s (New at its) is = absurd (not_free (sym (ap (λ (x : ServedFile). is_free x.file.layout.phase) its) ∙ is))
 

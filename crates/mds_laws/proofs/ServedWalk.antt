@@ -1,5 +1,5 @@
 -- Each part of an event that is about inputs of the table of phases, clients and sessions keeps what is kept in each case.
-use Rattle.std.proofs.Common.{◌≡◌, ℕ, List, [], ◌∷◌, ◌++◌, Option, Some, None, refl, inl}
+use Rattle.std.proofs.Common.{◌≡◌, ℕ, Bool, true, false, List, [], ◌∷◌, ◌++◌, Option, Some, None, refl, inl}
 use Rattle.std.specs.Prelude.{is_some, nat_eq}
 use Rattle.std.specs.List.{find, list_any}
 use Rattle.std.proofs.lemmas.Bool.{cond_both}
@@ -55,15 +55,15 @@ module _ (I : MdsValue → List Entry → List MdsSend → Type 0) (k : Cases I)
       cond_both (is_under_way file cred m.recalls) m (record m { recalls = with_recall (new_recall file cred client now) m.recalls }) (λ (n : MdsValue). Becomes I m n)
       (λ is. λ es ss i. i) (λ off. k.quiet m m.sessions m.opens m.reclaimed (with_recall (new_recall file cred client now) m.recalls))
 
-  back_by : (m : MdsValue) (file : FileId) (s : ServedFile) (now : ℕ) (node : Option NodeId) → Silent I m (recall_by m file s now node)
-  back_by m file s now None = silent_same I m
-  back_by m file s now (Some node) =
+  back_by : (m : MdsValue) (file : FileId) (s : ServedFile) (now : ℕ) (held : Bool) → Silent I m (recall_by m file s now held)
+  back_by m file s now false = silent_same I m
+  back_by m file s now true =
       silent_then I m (takes_input m file ToRecall) (λ n. sends_none (with_new_recall n file s.file.layout.cred s.holder now)) (takes m file ToRecall)
       (λ n. silent_none I n (with_new_recall n file s.file.layout.cred s.holder now) (recall_noted n file s.file.layout.cred s.holder now))
 
   back_at : (m : MdsValue) (file : FileId) (now : ℕ) (o : Option ServedFile) → Silent I m (recall_at m file now o)
   back_at m file now None = silent_same I m
-  back_at m file now (Some s) = back_by m file s now (holder_to_recall s.file.layout.phase)
+  back_at m file now (Some s) = back_by m file s now (is_some (holder_to_recall s.file.layout.phase))
 
   pub asks : (m : MdsValue) (file : FileId) (now : ℕ) → Silent I m (asks_back m file now)
   asks m file now = back_at m file now (served m file)

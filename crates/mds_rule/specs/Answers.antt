@@ -208,8 +208,11 @@ write_ends now m file s w (Some places) =
     (takes_input (with_served m file (record s { write = None })) file (OwnEnds (failures_by_place w.failures s.file.layout.live) w.at w.bytes))
     w (has_failed_everywhere w.failures s.file.layout.live)
 
+abbrev pub write_stepped : WaitingWrite → WriterAfter → WaitingWrite
+write_stepped w a = record w { writer = a.writer; failures = with_failed a.step w.failures }
+
 abbrev pub write_after : ℕ → MdsValue → FileId → ServedFile → WaitingWrite → WriterAfter → MdsStep
-write_after now m file s w a = write_ends now m file s (record w { writer = a.writer; failures = with_failed a.step w.failures }) (ended a.writer)
+write_after now m file s w a = write_ends now m file s (write_stepped w a) (ended a.writer)
 
 abbrev pub write_of : ℕ → MdsValue → FileId → (WriterValue → WriterAfter) → ServedFile → Option WaitingWrite → MdsStep
 write_of now m file step s None = sends_none m

@@ -8,6 +8,7 @@ use Rattle.ff_xdr.specs.Form.{Value}
 use Rattle.ff_xdr.specs.Arms.{arm, by_arm}
 use Rattle.cluster_model.specs.declared.ids.FileId.{FileId}
 use Rattle.cluster_model.specs.declared.ids.Cred.{Cred}
+use Rattle.cluster_model.specs.declared.ids.Mirror.{Mirror}
 use Rattle.cluster_model.specs.declared.phase.Phase.{Phase}
 use Rattle.cluster_model.specs.declared.limits.TheConstants.{PIECE_SIZE, SPARE_UIDS}
 use Rattle.cluster_model.specs.Phases.{phase_of}
@@ -174,7 +175,7 @@ new_served name file = record { name = name; file = file; sizes = []; periods = 
 -- a file of this name is made: a uid and a number of a name are drawn
 abbrev pub with_new_file : MdsValue → List ℕ → MdsValue
 with_new_file m name = record m {
-  files = m.files ++ new_served name (new_mds_file m.fresh (servers_of m.fresh.servers m.mirrors (length m.files + 1))) ∷ [];
+  files = m.files ++ new_served name (new_mds_file m.fresh (servers_of (length m.servers) m.mirrors (length m.files + 1))) ∷ [];
   fresh = record { uid = m.fresh.uid + 1; name = m.fresh.name + 1; servers = m.fresh.servers };
 }
 
@@ -240,10 +241,13 @@ read_ask m c (stateid, (offset, count)) = record { named = named_in m c (stateid
 abbrev pub read_length : ℕ → ℕ
 read_length count = if nat_lt PIECE_SIZE count then PIECE_SIZE else count
 
+abbrev pub with_read : CompoundRun → ℕ → ℕ → ServedFile → ServedFile
+with_read c at count s = record s { reads = s.reads ++ (record { compound = c; read = new_read s.file.layout.live at count }) ∷ [] }
+
 abbrev pub reads_at : MdsValue → CompoundRun → FileId → ℕ → ℕ → Option ServedFile → OpStep
 reads_at m c file at count None = refuses m c 25 stat.Stale
 reads_at m c file at count (Some s) =
-    Waits (with_served m file (record s { reads = s.reads ++ (record { compound = c; read = new_read s.file.layout.live at count }) ∷ [] })) []
+    Waits (with_served m file (with_read c at count s)) []
 
 abbrev pub reads_file : MdsValue → CompoundRun → Value read4_args → OpStep
 reads_file m c (stateid, (offset, count)) = reads_at m c (current_file c) offset (read_length count) (served m (current_file c))
@@ -262,8 +266,11 @@ abbrev pub write_result : ℕ → Value resop4
 write_result count = arm 38 resop4 (inl (count, (2, write_verifier)))
 
 -- A period of the metadata server's own begins, and its write goes to each live mirror.
+abbrev pub new_write : CompoundRun → List Mirror → ℕ → ℕ → List ℕ → WaitingWrite
+new_write c live cred at bytes = record { compound = c; at = at; bytes = bytes; writer = own_write live cred at bytes; failures = [] }
+
 abbrev pub with_write : CompoundRun → ℕ → List ℕ → ServedFile → ServedFile
-with_write c at bytes s = record s { write = Some (record { compound = c; at = at; bytes = bytes; writer = own_write s.file.layout.live s.file.layout.cred.0 at bytes; failures = [] }) }
+with_write c at bytes s = record s { write = Some (new_write c s.file.layout.live s.file.layout.cred.0 at bytes) }
 
 abbrev pub writes_at : MdsValue → CompoundRun → FileId → ℕ → List ℕ → Option ServedFile → MdsValue
 writes_at m c file at bytes None = m

@@ -1,6 +1,6 @@
 -- What comes of the inputs of the table of phases at a metadata server: to the file, its readers, and recalls (RFC 8881, sections 12.5.5
 -- and 18.43; RFC 8435, section 2.2).
-use Rattle.std.specs.Prelude.{ℕ, ◌+◌, ◌-◌, ◌^◌, ◌%◌, Bool, true, false, not, ◌==◌, ◌&&◌, List, [], ◌∷◌, length, filter, map, Option, Some, None, nat_lt, if◌then◌else◌}
+use Rattle.std.specs.Prelude.{ℕ, ◌+◌, ◌-◌, ◌^◌, ◌%◌, Bool, true, false, not, ◌==◌, ◌&&◌, List, [], ◌∷◌, length, filter, map, Option, Some, None, is_some, nat_lt, if◌then◌else◌}
 use Rattle.std.specs.List.{list_any}
 use Rattle.cluster_model.specs.declared.ids.NodeId.{NodeId}
 use Rattle.cluster_model.specs.declared.ids.FileId.{FileId}
@@ -97,13 +97,13 @@ abbrev pub with_new_recall : MdsValue → FileId → Cred → Option ℕ → ℕ
 with_new_recall m file cred None now = m
 with_new_recall m file cred (Some client) now = if is_under_way file cred m.recalls then m else record m { recalls = with_recall (new_recall file cred client now) m.recalls }
 
-abbrev pub recall_by : MdsValue → FileId → ServedFile → ℕ → Option NodeId → MdsStep
-recall_by m file s now None = sends_none m
-recall_by m file s now (Some node) = and_then (takes_input m file ToRecall) (λ n. sends_none (with_new_recall n file s.file.layout.cred s.holder now))
+abbrev pub recall_by : MdsValue → FileId → ServedFile → ℕ → Bool → MdsStep
+recall_by m file s now false = sends_none m
+recall_by m file s now true = and_then (takes_input m file ToRecall) (λ n. sends_none (with_new_recall n file s.file.layout.cred s.holder now))
 
 abbrev pub recall_at : MdsValue → FileId → ℕ → Option ServedFile → MdsStep
 recall_at m file now None = sends_none m
-recall_at m file now (Some s) = recall_by m file s now (holder_to_recall s.file.layout.phase)
+recall_at m file now (Some s) = recall_by m file s now (is_some (holder_to_recall s.file.layout.phase))
 
 -- the layout of a client is asked back, where it is not yet
 abbrev pub asks_back : MdsValue → FileId → ℕ → MdsStep

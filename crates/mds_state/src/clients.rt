@@ -1,0 +1,62 @@
+//! Clients that are gone.
+
+ghost use Rattle.std.specs.Prelude.{◌≡◌, OnOk};
+ghost use Rattle.mds_rule.specs.ServedFiles.{takes_input, one_by_one, ends_periods, forgotten, ends_client};
+ghost use Rattle.file_rule.specs.FilePhases.{Revokes};
+ghost use Rattle.compound_run.specs.CompoundRuns.{HasStepped};
+
+use crate::inputs::take_input;
+use crate::state::State;
+use cluster_model::{EndCause, FileId, Outbox};
+use ff_xdr::NoMemory;
+use mds_file::FileInput;
+
+/// The periods of these files end, one after the other. Takes memory.
+fn revoke_all(
+    state: &mut State,
+    files: &[FileId],
+    cause: EndCause,
+    out: &mut Outbox,
+) -> Result<(), NoMemory>
+    ensures { OnOk result (HasStepped (one_by_one (λ m file. takes_input m file (Revokes cause)) files.now state.old) out.old state.new out.new) }
+{
+    for file in files {
+        take_input(state, *file, FileInput::Revokes(cause), out)?;
+    }
+    Ok(())
+}
+
+/// Each period of a client ends, in the order of the files. It costs by the number of files. Takes memory.
+pub fn end_periods(
+    state: &mut State,
+    client: u64,
+    cause: EndCause,
+    out: &mut Outbox,
+) -> Result<(), NoMemory>
+    ensures { OnOk result (HasStepped (ends_periods state.old client cause) out.old state.new out.new) }
+{
+    let held = state.files.held_by(client)?;
+    revoke_all(state, &held, cause, out)
+}
+
+/// Its opens end too, and what it reclaimed is forgotten.
+fn forget(state: &mut State, client: u64)
+    ensures { state.new ≡ forgotten client state.old }
+{
+    state.opens.end(client);
+    state.reclaimed.shift_remove(&client);
+}
+
+/// A client is gone: its lease ended, it restarted, or it was destroyed. Takes memory.
+pub fn end_client(
+    state: &mut State,
+    client: u64,
+    cause: EndCause,
+    out: &mut Outbox,
+) -> Result<(), NoMemory>
+    ensures { OnOk result (HasStepped (ends_client state.old client cause) out.old state.new out.new) }
+{
+    end_periods(state, client, cause, out)?;
+    forget(state, client);
+    Ok(())
+}

@@ -1,0 +1,52 @@
+-- Which calls of a file go out, and to which server the next one waits.
+use Rattle.std.specs.Prelude.{◌≡◌, ℕ, List, Option, Some, None, Result, Ok, Err, ⊤, slice_get, slice_set}
+use Rattle.ff_xdr.specs.declared.error.NoMemory.{NoMemory}
+use Rattle.cluster_model.specs.declared.ids.FileId.{FileId}
+use Rattle.mds_io.specs.Reads.{ReadSends}
+use Rattle.mds_io.specs.Reads as read
+use Rattle.mds_rule.specs.MdsStates.{WaitingRead, ServedFile}
+use Rattle.mds_rule.specs.Goes.{OwnCall, own_by}
+use Rattle.mds_rule.specs.declared.waiter.Waiter.TheVariants.{ForRead}
+use Rattle.served_files.specs.declared.sending.SentByFile.{SentByFile}
+
+-- the server to which its next own call waits
+abbrev pub OwnWaits : ServedFile → FileId → ℕ → Option ℕ → Type 0
+OwnWaits s file xid None = own_by file s xid s.write ≡ None
+OwnWaits s file xid (Some server) = (c : OwnCall) × (own_by file s xid s.write ≡ Some c) × (c.server ≡ server)
+
+-- that call goes out under a number
+abbrev pub SendsOwn : FileId → ServedFile → ℕ → Result (Option SentByFile) NoMemory → ServedFile → Type 0
+SendsOwn file old xid (Err e) new = ⊤
+SendsOwn file old xid (Ok None) new = (own_by file old xid old.write ≡ None) × (new ≡ old)
+SendsOwn file old xid (Ok (Some c)) new =
+    own_by file old xid old.write ≡ Some (record { served = new; caller = c.caller; server = c.server; uid = c.uid.0; call = c.call })
+
+-- the READ that would go out for the one at this place
+abbrev pub read_sent : ServedFile → ℕ → Option WaitingRead → Option ReadSends
+read_sent s xid None = None
+read_sent s xid (Some r) = read.next_sent r.read xid
+
+abbrev pub ReadWaits : ServedFile → ℕ → ℕ → Option ℕ → Type 0
+ReadWaits s n xid None = read_sent s xid (slice_get s.reads n) ≡ None
+ReadWaits s n xid (Some server) = (sent : ReadSends) × (read_sent s xid (slice_get s.reads n) ≡ Some sent) × (sent.id.server ≡ server)
+
+-- the file once it has gone out
+abbrev pub read_out : ServedFile → ℕ → WaitingRead → ReadSends → ServedFile
+read_out s n r sent = record s { reads = slice_set s.reads n (record { compound = r.compound; read = sent.read }) }
+
+abbrev pub SendsReadAt : FileId → ServedFile → ℕ → ℕ → Result (Option SentByFile) NoMemory → ServedFile → Option WaitingRead → Type 0
+SendsReadAt file old n xid (Err e) new r = ⊤
+SendsReadAt file old n xid (Ok None) new None = new ≡ old
+SendsReadAt file old n xid (Ok (Some c)) new None = ⊥
+SendsReadAt file old n xid (Ok None) new (Some r) = (read.next_sent r.read xid ≡ None) × (new ≡ old)
+SendsReadAt file old n xid (Ok (Some c)) new (Some r) =
+    (sent : ReadSends)
+    × (read.next_sent r.read xid ≡ Some sent)
+    × (new ≡ read_out old n r sent)
+    × (c.caller ≡ ForRead file)
+    × (c.server ≡ sent.id.server)
+    × (c.uid.0 ≡ 0)
+    × (c.call ≡ sent.call)
+
+abbrev pub SendsRead : FileId → ServedFile → ℕ → ℕ → Result (Option SentByFile) NoMemory → ServedFile → Type 0
+SendsRead file old n xid result new = SendsReadAt file old n xid result new (slice_get old.reads n)

@@ -1,0 +1,133 @@
+//! READs whose compounds wait for them.
+
+ghost use Rattle.std.specs.Prelude.{◌≡◌, ◌<◌, ◌≤◌, ◌++◌, length, map, drop, position, OnOk, IfOk};
+ghost use Rattle.cluster_model.specs.DsCalls.{plain_ds_reply};
+ghost use Rattle.ds_calls.specs.GivenReplies.{HasFewBytes};
+ghost use Rattle.mds_io.specs.Reads.{after_reply, after_timeout};
+ghost use Rattle.mds_rule.specs.ServedFiles.{begins_again};
+ghost use Rattle.mds_rule.specs.Answers.{is_read_out, failed_entry};
+ghost use Rattle.served_files.specs.Waiting.{StepsRead, EndedAt, GivesFew};
+
+use cluster_model::{DsReply, Entry, Mirrors};
+use compound_run::KeptRun;
+use ff_xdr::NoMemory;
+use mds_io::{MdsRead, ReadEnd};
+use std::alloc::Global;
+use std::marker::Model;
+
+/// A READ, and the compound that waits for it (RFC 8881, section 18.22).
+#[derive(Drop)]
+pub struct WaitingRead {
+    pub compound: KeptRun,
+    pub read: MdsRead,
+}
+
+impl Model for WaitingRead {
+    ghost use Rattle.mds_rule.specs.MdsStates.{WaitingRead};
+
+    ghost Value = { WaitingRead };
+
+    ghost view = { λ r. record { compound = r.compound; read = r.read } };
+}
+
+/// A READ that has ended, and the compound that goes on.
+#[derive(Drop)]
+pub struct EndedRead {
+    pub compound: KeptRun,
+    pub end: ReadEnd,
+}
+
+/// The READs begin again with these mirrors.
+pub fn restart(live: Mirrors, reads: &mut [WaitingRead])
+    ensures { reads.new ≡ map (begins_again live) reads.old }
+{
+    for waiting in reads {
+        waiting.read.restart(live);
+    }
+}
+
+/// The place of the READ whose call has this number.
+pub fn place_out(xid: u32, reads: &[WaitingRead]) -> Option<usize>
+    ensures { result ≡ position (is_read_out xid) reads.now }
+{
+    for (place, waiting) in reads.iter().enumerate() {
+        if waiting.read.is_outstanding(xid) {
+            return Some(place);
+        }
+    }
+    None
+}
+
+/// The failures of a READ behind the first so many are entered.
+fn note_failures(
+    read: &MdsRead,
+    before: usize,
+    entries: &mut Vec<Entry>,
+) -> Result<(), NoMemory>
+    requires { before ≤ length read.now.failures }
+    ensures { OnOk result (entries.new.items ≡ entries.old.items ++ map failed_entry (drop before read.now.failures)) }
+{
+    for failure in &read.failures()[before..] {
+        entries.push(Entry::Failed {
+            mirror: failure.id,
+            xid: failure.xid,
+        })?;
+    }
+    Ok(())
+}
+
+/// The READ at this place has ended so, if it has.
+fn end_at(
+    place: usize,
+    end: Option<ReadEnd>,
+    reads: &mut Vec<WaitingRead>,
+) -> Option<EndedRead>
+    requires { place < length reads.old.items }
+    ensures { EndedAt reads.old.items place end result reads.new.items }
+{
+    let end = end?;
+    let waiting = reads.remove(place);
+    Some(EndedRead {
+        compound: waiting.compound,
+        end,
+    })
+}
+
+/// The answer to the READ of this number. The compound whose READ has ended goes on. Takes memory.
+pub fn answer_in(
+    alloc: Global,
+    xid: u32,
+    reply: &DsReply<'_>,
+    reads: &mut Vec<WaitingRead>,
+    entries: &mut Vec<Entry>,
+) -> Result<Option<EndedRead>, NoMemory>
+    requires { HasFewBytes (plain_ds_reply reply.now) }
+    ensures steps { StepsRead reads.old.items entries.old.items xid (λ r. after_reply r xid (plain_ds_reply reply.now)) result reads.new.items entries.new.items }
+    ensures few { IfOk result GivesFew }
+{
+    let Some(place) = place_out(xid, reads.as_slice()) else {
+        return Ok(None);
+    };
+    let before = reads[place].read.failures().len();
+    let end = reads[place].read.on_reply(alloc, xid, reply)?;
+    note_failures(&reads[place].read, before, entries)?;
+    Ok(end_at(place, end, reads))
+}
+
+/// A timeout of the READ of this number. Takes memory.
+pub fn time_out_in(
+    xid: u32,
+    reads: &mut Vec<WaitingRead>,
+    entries: &mut Vec<Entry>,
+) -> Result<Option<EndedRead>, NoMemory>
+    ensures steps { StepsRead reads.old.items entries.old.items xid (λ r. after_timeout r xid) result reads.new.items entries.new.items }
+    ensures few { IfOk result GivesFew }
+{
+    let Some(place) = place_out(xid, reads.as_slice()) else {
+        return Ok(None);
+    };
+    let before = reads[place].read.failures().len();
+    let end = reads[place].read.on_timeout(xid);
+    note_failures(&reads[place].read, before, entries)?;
+    Ok(end_at(place, end, reads))
+}
