@@ -67,7 +67,7 @@ impl KeptCall {
         requires { length (data_in (plain_ds_call call.now)) ≤ PIECE_SIZE }
         ensures { IfOk result (λ kept. kept ≡ plain_ds_call call.now) }
     {
-        let call = kept_of(alloc, call)?;
+        let call = Kept::of(alloc, call)?;
         Ok(KeptCall { call })
     }
 
@@ -76,86 +76,78 @@ impl KeptCall {
         ensures few { length (data_in (plain_ds_call result)) ≤ PIECE_SIZE }
         ensures lends { plain_ds_call result ≡ self.now }
     {
-        lent(&self.call)
+        self.call.lend()
     }
 }
 
-/// The call with a copy of its bytes.
-fn kept_of(alloc: Global, call: &DsCall<'_>) -> Result<Kept, NoMemory>
-    ensures { IfOk result (λ kept. kept_value kept ≡ plain_ds_call call.now) }
-{
-    let kept = match call {
-        DsCall::Create { name, owner } => Kept::Create {
-            name: *name,
-            owner: *owner,
-        },
-        DsCall::SetAttr {
-            fileid,
-            owner,
-            guard,
-        } => Kept::SetAttr {
-            fileid: *fileid,
-            owner: *owner,
-            guard: *guard,
-        },
-        DsCall::Write {
-            fileid,
-            at,
-            synced,
-            bytes,
-        } => {
-            let bytes = Data::of(alloc, bytes)?;
-            return Ok(Kept::Write {
+impl Kept {
+    /// The call, with a copy of its bytes.
+    fn of(alloc: Global, call: &DsCall<'_>) -> Result<Kept, NoMemory>
+        ensures { IfOk result (λ kept. kept_value kept ≡ plain_ds_call call.now) }
+    {
+        let kept = match *call {
+            DsCall::Create { name, owner } => Kept::Create { name, owner },
+            DsCall::SetAttr {
+                fileid,
+                owner,
+                guard,
+            } => Kept::SetAttr {
+                fileid,
+                owner,
+                guard,
+            },
+            DsCall::Write {
+                fileid,
+                at,
+                synced,
+                bytes,
+            } => Kept::Write {
+                fileid,
+                at,
+                synced,
+                bytes: Data::of(alloc, bytes)?,
+            },
+            DsCall::Commit { fileid } => Kept::Commit { fileid },
+            DsCall::Read { fileid, at, count } => Kept::Read { fileid, at, count },
+        };
+        Ok(kept)
+    }
+
+    /// The call, whose bytes are lent.
+    fn lend(&self) -> DsCall<'_>
+        ensures { plain_ds_call result ≡ kept_value self.now }
+    {
+        match self {
+            Kept::Create { name, owner } => DsCall::Create {
+                name: *name,
+                owner: *owner,
+            },
+            Kept::SetAttr {
+                fileid,
+                owner,
+                guard,
+            } => DsCall::SetAttr {
+                fileid: *fileid,
+                owner: *owner,
+                guard: *guard,
+            },
+            Kept::Write {
+                fileid,
+                at,
+                synced,
+                bytes,
+            } => DsCall::Write {
                 fileid: *fileid,
                 at: *at,
                 synced: *synced,
-                bytes,
-            });
+                bytes: bytes.bytes(),
+            },
+            Kept::Commit { fileid } => DsCall::Commit { fileid: *fileid },
+            Kept::Read { fileid, at, count } => DsCall::Read {
+                fileid: *fileid,
+                at: *at,
+                count: *count,
+            },
         }
-        DsCall::Commit { fileid } => Kept::Commit { fileid: *fileid },
-        DsCall::Read { fileid, at, count } => Kept::Read {
-            fileid: *fileid,
-            at: *at,
-            count: *count,
-        },
-    };
-    Ok(kept)
-}
-
-/// The call, whose bytes are lent.
-fn lent(kept: &Kept) -> DsCall<'_>
-    ensures { plain_ds_call result ≡ kept_value kept.now }
-{
-    match kept {
-        Kept::Create { name, owner } => DsCall::Create {
-            name: *name,
-            owner: *owner,
-        },
-        Kept::SetAttr {
-            fileid,
-            owner,
-            guard,
-        } => DsCall::SetAttr {
-            fileid: *fileid,
-            owner: *owner,
-            guard: *guard,
-        },
-        Kept::Write {
-            fileid,
-            at,
-            synced,
-            bytes,
-        } => DsCall::Write {
-            fileid: *fileid,
-            at: *at,
-            synced: *synced,
-            bytes: bytes.bytes(),
-        },
-        Kept::Commit { fileid } => DsCall::Commit { fileid: *fileid },
-        Kept::Read { fileid, at, count } => DsCall::Read {
-            fileid: *fileid,
-            at: *at,
-            count: *count,
-        },
     }
 }
