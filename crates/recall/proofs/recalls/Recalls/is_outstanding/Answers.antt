@@ -9,4 +9,4 @@ use Rattle.recall.proofs.recalls.Recalls.is_outstanding.Goals as goal
 pub returns : goal.returns
 returns c =
     let found = c.outstanding.ensures ∙ ap (λ (l : List Entry). position (λ e. is_out_as c.args.xid e.recall.stage) l) c.as_slice.ensures.value in
-    rw (← c.self.view_is) (ap is_some (found ∙ ?))
+    rw (← c.self.view_is) (c.is_some.ensures ∙ ap is_some (found ∙ position_in (λ r. is_out_as c.args.xid r.stage) c.self.inside.entries.items))
