@@ -1,10 +1,11 @@
 //! The operations of a compound, one after the other.
 
-ghost use Rattle.std.specs.Prelude.{◌≡◌, [], OnOk};
-ghost use Rattle.mds_rule.specs.OpSteps.{stopped};
-ghost use Rattle.mds_rule.specs.MdsStates.{sends_none};
-ghost use Rattle.mds_rule.specs.Compounds.{op_then, runs};
+ghost use Rattle.std.specs.Prelude.{OnOk};
+ghost use Rattle.mds_rule.specs.OpSteps.{is_operation_number, unread};
+ghost use Rattle.mds_rule.specs.MdsStates.{MdsValue};
+ghost use Rattle.mds_rule.specs.Compounds.{runs};
 ghost use Rattle.compound_run.specs.CompoundRuns.{HasRoom, HasStepped, HasOperated};
+ghost use Rattle.cluster_model.specs.declared.outbox.Outbox.{Outbox as Box};
 
 use crate::operate::operate_next;
 use crate::reply::finish;
@@ -21,8 +22,7 @@ pub const ILLEGAL: u32 = 10_044;
 /// An operation with this number, which is not built: NOTSUPP under its own number where there is such an operation.
 fn refuse_unread(run: &mut Run<'_>, number: u32) -> Result<OpEnd, NoMemory>
     requires { HasRoom run.old }
-    ensures ends { IfOk result (λ e. e ≡ Ends (unread_status number)) }
-    ensures run { OnOk result (run.new ≡ with_result run.old (unread_result number)) }
+    ensures { (m : MdsValue) (out : Box) → HasOperated (unread m run.old number (is_operation_number number)) out result m run.new out }
 {
     if (3..=58).contains(&number) {
         return run.refuse(number, Stat4::NotSupp);

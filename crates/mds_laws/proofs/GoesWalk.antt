@@ -31,7 +31,7 @@ use Rattle.mds_rule.specs.declared.waiter.Waiter.TheVariants.{ForRead}
 use Rattle.mds_rule.specs.ServedFiles.{takes_input, asks_back, ends_client}
 use Rattle.mds_rule.specs.Compounds.{runs_compound}
 use Rattle.mds_rule.specs.Answers.{is_awaited, takes_answer, timed_out_for}
-use Rattle.mds_rule.specs.Goes.{calls_server, OwnCall, own_of_file, own_of_write, own_by, place_of, own_call_at, own_next, has_xids, own_calls, read_goes, read_call, read_call_in, each, read_count, read_calls, stateid_seqid, calls_back, recall_goes, recall_call, repeats_call, repeats, place_calls, file_calls, calls_out}
+use Rattle.mds_rule.specs.Goes.{calls_server, OwnCall, own_of_file, own_of_write, own_by, place_of, own_call_at, own_next, has_xids, own_call, own_two, own_calls, read_goes, read_call, read_call_in, each, read_count, read_calls, stateid_seqid, calls_back, recall_goes, recall_call, repeats_call, repeats, place_calls, file_calls, calls_out}
 use Rattle.mds_rule.specs.Events.{takes_incoming, is_outstanding_to, is_kept_by, goes_again, times_out, takes_timeout, lease_ends, leases_end, recall_expires, recalls_expire, kept_calls, files_tick, takes_tick}
 use Rattle.mds_laws.specs.MdsRuns.{MdsInput, MdsEvent, Hears, IsTimedOut, Ticks as IsTick, RecallsFile, Resilvers, by_input, after_event, run_from}
 use Rattle.mds_laws.proofs.Keeping.{Keeps, KeepsBehind, Cases, then_keeps, none_keeps, same, becomes_keeps, silent_keeps, then_behind, behind_then, enters_behind}
@@ -48,37 +48,38 @@ module _ (I : MdsValue → List Entry → List MdsSend → Type 0) (k : Cases I)
 
   -- ---- a file's own calls
 
-  own_call_walk : (m : MdsValue) (file : FileId) (place : ℕ) (next : MdsValue → MdsStep) → ((n : MdsValue) → Keeps I n (next n)) → (c : OwnCall)
-      → Keeps I m (calls_server m file c.served c.caller c.server c.uid c.call) → Keeps I m (own_call_at m file place next (Some c))
-  own_call_walk m file place next all c q =
-      cond_both (place_of c.served c.server == place) (and_then (calls_server m file c.served c.caller c.server c.uid c.call) next) (sends_none m) (λ (s : MdsStep). Keeps I m s)
-      (λ is. then_keeps I m (calls_server m file c.served c.caller c.server c.uid c.call) next q all) (λ off. same I m)
+  own_call_walk : (m : MdsValue) (file : FileId) (s : ServedFile) (place : ℕ) (c : OwnCall) → Keeps I m (calls_server m file c.served c.caller c.server c.uid c.call) → Keeps I m (own_call_at m file s place (Some c))
+  own_call_walk m file s place c q =
+      cond_both (place_of s c.server == place) (calls_server m file c.served c.caller c.server c.uid c.call) (sends_none m) (λ (x : MdsStep). Keeps I m x) (λ is. q) (λ off. same I m)
 
-  own_file_walk : (m : MdsValue) (file : FileId) (place : ℕ) (next : MdsValue → MdsStep) → ((n : MdsValue) → Keeps I n (next n)) → has_xids m ≡ true → (s : ServedFile) → served m file ≡ Some s
-      → (o : Option CallOut) → call_out s.file m.next_xid ≡ o → Keeps I m (own_call_at m file place next (option_map (own_of_file file s) o))
-  own_file_walk m file place next all has s is None its = same I m
-  own_file_walk m file place next all has s is (Some c) its = own_call_walk m file place next all (own_of_file file s c) (k.calls_file m file s c is has its)
+  own_file_walk : (m : MdsValue) (file : FileId) (place : ℕ) → has_xids m ≡ true → (s : ServedFile) → served m file ≡ Some s → (o : Option CallOut) → call_out s.file m.next_xid ≡ o
+      → Keeps I m (own_call_at m file s place (option_map (own_of_file file s) o))
+  own_file_walk m file place has s is None its = same I m
+  own_file_walk m file place has s is (Some c) its = own_call_walk m file s place (own_of_file file s c) (k.calls_file m file s c is has its)
 
-  own_write_walk : (m : MdsValue) (file : FileId) (place : ℕ) (next : MdsValue → MdsStep) → ((n : MdsValue) → Keeps I n (next n)) → has_xids m ≡ true → (s : ServedFile) → served m file ≡ Some s
-      → (w : WaitingWrite) → s.write ≡ Some w → (o : Option WriterSends) → writer.next_sent w.writer m.next_xid ≡ o → Keeps I m (own_call_at m file place next (option_map (own_of_write file s w) o))
-  own_write_walk m file place next all has s is w waits None its = same I m
-  own_write_walk m file place next all has s is w waits (Some c) its = own_call_walk m file place next all (own_of_write file s w c) (k.calls_write m file s w c is has waits its)
+  own_write_walk : (m : MdsValue) (file : FileId) (place : ℕ) → has_xids m ≡ true → (s : ServedFile) → served m file ≡ Some s → (w : WaitingWrite) → s.write ≡ Some w → (o : Option WriterSends)
+      → writer.next_sent w.writer m.next_xid ≡ o → Keeps I m (own_call_at m file s place (option_map (own_of_write file s w) o))
+  own_write_walk m file place has s is w waits None its = same I m
+  own_write_walk m file place has s is w waits (Some c) its = own_call_walk m file s place (own_of_write file s w c) (k.calls_write m file s w c is has waits its)
 
-  own_by_walk : (m : MdsValue) (file : FileId) (place : ℕ) (next : MdsValue → MdsStep) → ((n : MdsValue) → Keeps I n (next n)) → has_xids m ≡ true → (s : ServedFile) → served m file ≡ Some s
-      → (o : Option WaitingWrite) → s.write ≡ o → Keeps I m (own_call_at m file place next (own_by file s m.next_xid o))
-  own_by_walk m file place next all has s is None its = own_file_walk m file place next all has s is (call_out s.file m.next_xid) refl
-  own_by_walk m file place next all has s is (Some w) its = own_write_walk m file place next all has s is w its (writer.next_sent w.writer m.next_xid) refl
+  own_by_walk : (m : MdsValue) (file : FileId) (place : ℕ) → has_xids m ≡ true → (s : ServedFile) → served m file ≡ Some s → (o : Option WaitingWrite) → s.write ≡ o
+      → Keeps I m (own_call_at m file s place (own_by file s m.next_xid o))
+  own_by_walk m file place has s is None its = own_file_walk m file place has s is (call_out s.file m.next_xid) refl
+  own_by_walk m file place has s is (Some w) its = own_write_walk m file place has s is w its (writer.next_sent w.writer m.next_xid) refl
 
-  own_next_walk : (m : MdsValue) (file : FileId) (place : ℕ) (next : MdsValue → MdsStep) → ((n : MdsValue) → Keeps I n (next n)) → has_xids m ≡ true → (o : Option ServedFile) → served m file ≡ o
-      → Keeps I m (own_next m file place next o)
-  own_next_walk m file place next all has None is = same I m
-  own_next_walk m file place next all has (Some s) is = own_by_walk m file place next all has s is s.write refl
+  own_next_walk : (m : MdsValue) (file : FileId) (place : ℕ) → has_xids m ≡ true → (o : Option ServedFile) → served m file ≡ o → Keeps I m (own_next m file place o)
+  own_next_walk m file place has None is = same I m
+  own_next_walk m file place has (Some s) is = own_by_walk m file place has s is s.write refl
 
-  own_walk : (n : ℕ) (file : FileId) (place : ℕ) (m : MdsValue) → Keeps I m (own_calls n file place m)
-  own_walk zero file place m = same I m
-  own_walk (suc n) file place m =
-      cond_both (has_xids m) (own_next m file place (own_calls n file place) (served m file)) (sends_none m) (λ (s : MdsStep). Keeps I m s)
-      (λ has. own_next_walk m file place (own_calls n file place) (λ x. own_walk n file place x) has (served m file) refl) (λ off. same I m)
+  own_one_walk : (file : FileId) (place : ℕ) (m : MdsValue) → Keeps I m (own_call file place m)
+  own_one_walk file place m =
+      cond_both (has_xids m) (own_next m file place (served m file)) (sends_none m) (λ (s : MdsStep). Keeps I m s) (λ has. own_next_walk m file place has (served m file) refl) (λ off. same I m)
+
+  own_two_walk : (file : FileId) (place : ℕ) (m : MdsValue) → Keeps I m (own_two file place m)
+  own_two_walk file place m = then_keeps I m (own_call file place m) (own_call file place) (own_one_walk file place m) (λ n. own_one_walk file place n)
+
+  own_walk : (file : FileId) (place : ℕ) (m : MdsValue) → Keeps I m (own_calls file place m)
+  own_walk file place m = then_keeps I m (own_two file place m) (own_two file place) (own_two_walk file place m) (λ n. own_two_walk file place n)
 
   -- ---- READs
 
@@ -143,7 +144,7 @@ module _ (I : MdsValue → List Entry → List MdsSend → Type 0) (k : Cases I)
   -- ---- all of them
 
   place_walk : (file : FileId) (place : ℕ) (m : MdsValue) → Keeps I m (place_calls file place m)
-  place_walk file place m = then_keeps I m (own_calls 4 file place m) (read_calls file place) (own_walk 4 file place m) (λ n. reads_walk file place n)
+  place_walk file place m = then_keeps I m (own_calls file place m) (read_calls file place) (own_walk file place m) (λ n. reads_walk file place n)
 
   file_walk : (kept : List (Option (ℕ × ℕ))) (n : ℕ) (m : MdsValue) → Keeps I m (file_calls kept n m)
   file_walk kept n m =

@@ -1,6 +1,6 @@
 -- Which calls go out at the end of an event, and in which order: by file, then by the place of the mirror in the live list; at one place the
 -- file's own call before the READs of those that read it, in the order in which they began. What waits for the next tick goes out with them.
-use Rattle.std.specs.Prelude.{ℕ, zero, suc, ◌+◌, ◌-◌, Bool, not, ◌==◌, ◌&&◌, List, [], ◌∷◌, length, position, Option, Some, None, if◌then◌else◌, slice_get, slice_set}
+use Rattle.std.specs.Prelude.{ℕ, ◌+◌, ◌-◌, Bool, not, ◌==◌, ◌&&◌, List, [], ◌∷◌, length, position, Option, Some, None, if◌then◌else◌, slice_get, slice_set}
 use Rattle.std.specs.Option.{option_map}
 use Rattle.std.specs.List.{find, range_with_len}
 use Rattle.cluster_model.specs.declared.ids.NodeId.{NodeId}
@@ -66,22 +66,27 @@ place_or_last (Some place) = place
 abbrev pub place_of : ServedFile → ℕ → ℕ
 place_of s server = place_or_last (position (λ (m : Mirror). m.id.server == server) s.file.layout.live)
 
--- at most four of a file's own calls go to one place
-abbrev pub own_call_at : MdsValue → FileId → ℕ → (MdsValue → MdsStep) → Option OwnCall → MdsStep
-own_call_at m file place next None = sends_none m
-own_call_at m file place next (Some c) =
-    if place_of c.served c.server == place then and_then (calls_server m file c.served c.caller c.server c.uid c.call) next else sends_none m
+abbrev pub own_call_at : MdsValue → FileId → ServedFile → ℕ → Option OwnCall → MdsStep
+own_call_at m file s place None = sends_none m
+own_call_at m file s place (Some c) = if place_of s c.server == place then calls_server m file c.served c.caller c.server c.uid c.call else sends_none m
 
-abbrev pub own_next : MdsValue → FileId → ℕ → (MdsValue → MdsStep) → Option ServedFile → MdsStep
-own_next m file place next None = sends_none m
-own_next m file place next (Some s) = own_call_at m file place next (own_by file s m.next_xid s.write)
+abbrev pub own_next : MdsValue → FileId → ℕ → Option ServedFile → MdsStep
+own_next m file place None = sends_none m
+own_next m file place (Some s) = own_call_at m file s place (own_by file s m.next_xid s.write)
 
 abbrev pub has_xids : MdsValue → Bool
 has_xids m = not (m.next_xid == 0)
 
-abbrev pub own_calls : ℕ → FileId → ℕ → MdsValue → MdsStep
-own_calls zero file place m = sends_none m
-own_calls (suc n) file place m = if has_xids m then own_next m file place (own_calls n file place) (served m file) else sends_none m
+-- the next one, where it goes to this place
+abbrev pub own_call : FileId → ℕ → MdsValue → MdsStep
+own_call file place m = if has_xids m then own_next m file place (served m file) else sends_none m
+
+abbrev pub own_two : FileId → ℕ → MdsValue → MdsStep
+own_two file place m = and_then (own_call file place m) (own_call file place)
+
+-- at most four of a file's own calls go to one place
+abbrev pub own_calls : FileId → ℕ → MdsValue → MdsStep
+own_calls file place m = and_then (own_two file place m) (own_two file place)
 
 -- ---- READs
 
@@ -149,7 +154,7 @@ repeats (Some (Some kept)) m = repeats_call m (find (is_call_to (Server kept.0) 
 -- ---- all of them
 
 abbrev pub place_calls : FileId → ℕ → MdsValue → MdsStep
-place_calls file place m = and_then (own_calls 4 file place m) (read_calls file place)
+place_calls file place m = and_then (own_calls file place m) (read_calls file place)
 
 -- of the file with this number; what each file kept stands at its place
 abbrev pub file_calls : List (Option (ℕ × ℕ)) → ℕ → MdsValue → MdsStep

@@ -1,7 +1,7 @@
 //! The recalls that are under way.
 
-ghost use Rattle.std.specs.Prelude.{◌≡◌, ℕ, true, false, [], map, filter, slice_get, slice_set, Some, IfOk};
-ghost use Rattle.recall.specs.Recalls.{is_out, at_stage, at_tick, after_reply, after_timeout, after_tick, without_file};
+ghost use Rattle.std.specs.Prelude.{◌≡◌, ℕ, true, false, [], map, filter, slice_get, slice_set, is_some, Some, IfOk};
+ghost use Rattle.recall.specs.Recalls.{is_out, out_at, at_stage, at_tick, after_reply, after_timeout, after_tick, without_file};
 ghost use Rattle.recall.specs.Calls.{AsksFor, SendsRecall, WaitsFor};
 ghost use Rattle.recall.specs.Entries.{goes_on};
 
@@ -102,6 +102,13 @@ impl Recalls {
     {
         let place = ready(self.entries.as_slice())?;
         Some(self.entries[place].recall.file)
+    }
+
+    /// A callback of this number is outstanding.
+    pub fn is_outstanding(&self, xid: u32) -> bool
+        ensures { result ≡ is_some (out_at self.now xid) }
+    {
+        outstanding(xid, self.entries.as_slice()).is_some()
     }
 
     /// What the answer to the callback of this number comes to: `Stranger` where none is outstanding. OK: the client is to
