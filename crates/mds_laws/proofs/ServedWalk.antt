@@ -5,7 +5,6 @@ use Rattle.std.specs.List.{find, list_any}
 use Rattle.std.proofs.lemmas.Bool.{cond_both}
 use Rattle.ff_xdr.specs.Form.{Value, long}
 use Rattle.ff_xdr.specs.Arms.{arm}
-use Rattle.cluster_model.specs.declared.ids.NodeId.{NodeId}
 use Rattle.cluster_model.specs.declared.ids.FileId.{FileId}
 use Rattle.cluster_model.specs.declared.ids.Cred.{Cred}
 use Rattle.cluster_model.specs.declared.phase.EndCause.{EndCause}

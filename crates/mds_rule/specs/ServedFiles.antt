@@ -22,7 +22,7 @@ use Rattle.layout_state.specs.Grants.{holder_to_recall}
 use Rattle.mds_io.specs.Reads.{begun_again}
 use Rattle.recall.specs.Recalls.{is_under_way, new_recall, with_recall, without_file}
 use Rattle.open_state.specs.Opens.{ended}
-use Rattle.mds_rule.specs.MdsStates.{ServedFile, WaitingRead, MdsValue, MdsStep, sends_none, and_then, served, with_served, numbered, is_size_of}
+use Rattle.mds_rule.specs.MdsStates.{ServedFile, WaitingRead, MdsValue, MdsStep, sends_none, and_then, served, with_served, numbered}
 
 -- ---- one input
 
