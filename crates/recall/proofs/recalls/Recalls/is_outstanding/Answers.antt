@@ -1,4 +1,4 @@
-use Rattle.std.proofs.Common.{List, sym, ap, ◌∙◌}
+use Rattle.std.proofs.Common.{List, ap, ◌∙◌}
 use Rattle.std.specs.Prelude.{is_some}
 use Rattle.std.specs.List.{position}
 use Rattle.recall.specs.declared.entry.Entry.{Entry}
