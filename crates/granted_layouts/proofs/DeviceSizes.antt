@@ -1,5 +1,5 @@
 -- How long the address of a device is.
-use Rattle.std.proofs.Common.{◌≡◌, ℕ, ◌+◌, ◌*◌, ◌/◌, ◌%◌, ◌<◌, ◌≤◌, List, [], ◌∷◌, ◌++◌, length, refl, sym, ap, ◌∙◌, arith, length-append}
+use Rattle.std.proofs.Common.{◌≡◌, ℕ, ◌^◌, ◌+◌, ◌*◌, ◌/◌, ◌%◌, ◌<◌, ◌≤◌, List, [], ◌∷◌, ◌++◌, length, refl, sym, ap, ◌∙◌, arith, length-append}
 use Rattle.std.specs.Prelude.{codes, decimal, slice_index}
 use Rattle.ff_xdr.specs.Form.{spelling, word, padded}
 use Rattle.ff_xdr.proofs.Fields.{length-word}
@@ -87,3 +87,7 @@ device_info_size_is a n is =
     let whole = info_size (device_body a) in
     let text : 52 + (n + 3) / 4 * 4 ≡ 52 + (length (address_text a) + 3) / 4 * 4 = ap (λ k. 52 + (k + 3) / 4 * 4) is in
     omega (arith, whole, body, text)
+
+-- a body is no longer than what tells it
+pub body_few : (a : AddressValue) (size : ℕ) (body : List ℕ) → body ≡ device_body a → size ≡ device_info_length a → size < 2 ^ 32 → length body < 2 ^ 32
+body_few a size body is many small = omega (arith, info_size (device_body a), ap length is, many, small)

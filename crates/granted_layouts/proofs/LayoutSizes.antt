@@ -1,5 +1,5 @@
 -- How long a layout is.
-use Rattle.std.proofs.Common.{◌≡◌, ℕ, ◌+◌, ◌*◌, ◌/◌, ◌≤◌, List, [], ◌∷◌, ◌++◌, length, map, replicate, refl, sym, ap, ◌∙◌, arith, length-append}
+use Rattle.std.proofs.Common.{◌≡◌, ℕ, ◌+◌, ◌*◌, ◌/◌, ◌^◌, ◌≤◌, ◌<◌, List, [], ◌∷◌, ◌++◌, length, map, replicate, refl, sym, ap, ◌∙◌, arith, length-append}
 use Rattle.std.specs.Prelude.{decimal}
 use Rattle.std.specs.List.{flat_map}
 use Rattle.std.proofs.lemmas.List.{length-replicate}
@@ -141,3 +141,7 @@ layout_size_is uid count ms many few =
     let short : length ms ≤ 4 = omega (arith, many, few) in
     let sum : 20 + total uid ms ≡ 20 + count * (56 + 2 * user_size uid) = by_count uid ms short ∙ ap (λ k. 20 + k * (56 + 2 * user_size uid)) many in
     omega (arith, whole, body, in_fours uid ms short, sum)
+
+-- a body is no longer than its layout
+pub body_few : (uid size : ℕ) (ms : List Mirror) (body : List ℕ) → body ≡ layout_body uid ms → size ≡ layout_length uid ms → size < 2 ^ 32 → length body < 2 ^ 32
+body_few uid size ms body is many small = omega (arith, whole_size (layout_body uid ms), ap length is, many, small)

@@ -8,6 +8,7 @@ ghost use Rattle.ff_layout.specs.DataServer.{ff_data_server4, ff_data_server4_va
 ghost use Rattle.ff_layout.specs.Mirror.{ff_mirror4};
 ghost use Rattle.granted_layouts.specs.GrantedBodies.{layout_body, mirror_under};
 
+use crate::layout_answer::layout_size;
 use cluster_model::{Cred, Mirror, Mirrors};
 use ff_layout::FfDataServer;
 use ff_xdr::{Data, Items, NoMemory, Out, Wire};
@@ -61,6 +62,8 @@ pub fn layout_body(alloc: Global, cred: Cred, mirrors: Mirrors) -> Result<Data, 
     ensures exact { IfOk result (λ body. body ≡ layout_body cred.0 mirrors) }
     ensures few { IfOk result (λ body. length body < 2 ^ 32) }
 {
+    // no byte is made by it: it tells the checker that the body is short
+    let _size = layout_size(cred, mirrors.len());
     let mut out = Out::new(alloc);
     (STRIPE_UNIT, mirrors.len() as u32).put(&mut out)?;
     put_granted_mirrors(cred, mirrors, &mut out)?;

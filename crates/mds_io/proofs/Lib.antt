@@ -1,3 +1,4 @@
+pub mod ReadWaits
 mod Ended
 mod Named
 mod ReadSteps

@@ -45,7 +45,7 @@ use Rattle.mds_rule.specs.declared.waiter.Waiter.TheVariants.{ForFile, ForRead, 
 use Rattle.mds_rule.specs.OpSteps.{OpStep, Goes, Ends, Waits, with_result, refuses, refused_as, unread, stopped, is_operation_number}
 use Rattle.mds_rule.specs.ServedFiles.{takes_input}
 use Rattle.mds_rule.specs.Compounds.{operate, has_session, operates, compound_bytes, kept_in_slot, finishes, op_then, with_ops, runs, sequence_in, in_slot, sequenced, sequence_of, may_stand_alone, first_alone, first_by, first_operation, new_run, runs_compound}
-use Rattle.mds_rule.specs.Answers.{is_awaited, sized, fileid_of, attributes_shown, sees_in, sees_size, resumes, is_done_as, has_failed_as, failed_entry, failed_entries, read_result, without_read, read_ends, read_step_at, read_from, read_of, steps_read, is_read_out, write_answer, write_ends, write_of, write_in, steps_write, with_failed, failures_by_place, sees_ctime, recall_end, recall_outcome, recalls_after, server_answered, answered_as, answers_found, takes_answer, timed_out_for}
+use Rattle.mds_rule.specs.Answers.{is_awaited, sized, fileid_of, attributes_shown, sees_in, sees_size, resumes, is_done_as, has_failed_as, failed_entry, failed_entries, read_result, without_read, read_ends, read_step_at, read_from, read_of, steps_read, is_read_out, write_answer, write_ends, write_of, write_in, steps_write, with_failed, failures_by_place, has_failed_everywhere, write_over, sees_ctime, recall_end, recall_outcome, recalls_after, server_answered, answered_as, answers_found, takes_answer, timed_out_for}
 use Rattle.mds_laws.proofs.Keeping.{Becomes, Enters, Keeps, KeepsOp, Cases, IsCredOf, IsWriteOf, then_keeps, none_keeps, same, becomes_keeps, enters_keeps, no_entries, stays, becomes_silent, silent_keeps}
 use Rattle.mds_laws.proofs.ServedWalk.{takes, sessions_become, recalls_become, exchanges, creates, binds, destroys_session, destroys_client, reclaims_all}
 use Rattle.mds_laws.proofs.OpsWalk.{old_write, puts_fh, gets_fh, looks_up, gets_attr, opens, closes_file, commits, reads, writes, layout_gets, layout_returns, layout_commits, device_infos}
@@ -244,10 +244,10 @@ module _ (I : MdsValue → List Entry → List MdsSend → Type 0) (k : Cases I)
       let n : MdsValue = with_served m file (record s { write = None }) in
       let causes = failures_by_place w.failures s.file.layout.live in
       let x : MdsStep = takes_input n file (OwnEnds causes w.at w.bytes) in
-      enters_keeps I m x.mds x.entries (resumes now (write_answer x.mds w.compound (length w.bytes) (list_all (λ cause. is_some cause) causes)) w.compound.ops)
-      (becomes_silent I m n x (k.puts m file s (record s { write = None }) is refl tt) (takes I k n file (OwnEnds causes w.at w.bytes)))
-      (resume_walk now x.mds (write_answer x.mds w.compound (length w.bytes) (list_all (λ cause. is_some cause) causes)) w.compound.ops
-      (write_answered x.mds w.compound (length w.bytes) (list_all (λ cause. is_some cause) causes)))
+      let failed : Bool = has_failed_everywhere w.failures s.file.layout.live in
+      becomes_keeps I m n (write_over now x w.compound (length w.bytes) failed) (k.puts m file s (record s { write = None }) is refl tt)
+      (then_keeps I n x (λ y. resumes now (write_answer y w.compound (length w.bytes) failed) w.compound.ops) (silent_keeps I n x (takes I k n file (OwnEnds causes w.at w.bytes)))
+      (λ y. resume_walk now y (write_answer y w.compound (length w.bytes) failed) w.compound.ops (write_answered y w.compound (length w.bytes) failed)))
 
   write_of_walk : (now : ℕ) (m : MdsValue) (file : FileId) (step : WriterValue → WriterAfter) → ((w : WriterValue) → (step w).writer.cred ≡ w.cred) → (s : ServedFile) → served m file ≡ Some s
       → (o : Option WaitingWrite) → s.write ≡ o → Keeps I m (write_of now m file step s o)

@@ -142,12 +142,14 @@ read_result eof bytes = arm 25 resop4 (inl (eof, bytes))
 abbrev pub without_read : MdsValue → FileId → ServedFile → ℕ → MdsValue
 without_read m file s place = with_served m file (record s { reads = remove s.reads place })
 
+-- the read has ended, and its compound goes on
+abbrev pub read_resumes : ℕ → MdsValue → FileId → CompoundRun → ReadEnd → MdsStep
+read_resumes now m file c (end.Bytes eof bytes) = enters (entry.ReadAnswer file 0 bytes ∷ []) (resumes now (is_done_as m c (read_result eof bytes)) c.ops)
+read_resumes now m file c (end.AllFailed failures) = enters (entry.ReadAnswer file 5 [] ∷ []) (resumes now (has_failed_as m c 25) c.ops)
+
 abbrev pub read_ends : ℕ → MdsValue → FileId → ServedFile → ℕ → WaitingRead → ReadState → Option ReadEnd → MdsStep
 read_ends now m file s place r after None = sends_none (with_served m file (record s { reads = slice_set s.reads place (record { compound = r.compound; read = after }) }))
-read_ends now m file s place r after (Some (end.Bytes eof bytes)) =
-    enters (entry.ReadAnswer file 0 bytes ∷ []) (resumes now (is_done_as (without_read m file s place) r.compound (read_result eof bytes)) r.compound.ops)
-read_ends now m file s place r after (Some (end.AllFailed failures)) =
-    enters (entry.ReadAnswer file 5 [] ∷ []) (resumes now (has_failed_as (without_read m file s place) r.compound 25) r.compound.ops)
+read_ends now m file s place r after (Some e) = read_resumes now (without_read m file s place) file r.compound e
 
 abbrev pub read_after : ℕ → MdsValue → FileId → ServedFile → ℕ → WaitingRead → ReadAfter → MdsStep
 read_after now m file s place r after = enters (failed_entries r.read after.read) (read_ends now m file s place r after.read after.end)
@@ -198,15 +200,15 @@ abbrev pub write_answer : MdsValue → CompoundRun → ℕ → Bool → OpStep
 write_answer m c count true = has_failed_as m c 38
 write_answer m c count false = is_done_as m c (write_result count)
 
-abbrev pub write_over : ℕ → MdsStep → WaitingWrite → Bool → MdsStep
-write_over now s w all_failed = enters s.entries (resumes now (write_answer s.mds w.compound (length w.bytes) all_failed) w.compound.ops)
+abbrev pub write_over : ℕ → MdsStep → CompoundRun → ℕ → Bool → MdsStep
+write_over now s c count all_failed = and_then s (λ n. resumes now (write_answer n c count all_failed) c.ops)
 
 abbrev pub write_ends : ℕ → MdsValue → FileId → ServedFile → WaitingWrite → Option (List Bool) → MdsStep
 write_ends now m file s w None = sends_none (with_served m file (record s { write = Some w }))
 write_ends now m file s w (Some places) =
     write_over now
     (takes_input (with_served m file (record s { write = None })) file (OwnEnds (failures_by_place w.failures s.file.layout.live) w.at w.bytes))
-    w (has_failed_everywhere w.failures s.file.layout.live)
+    w.compound (length w.bytes) (has_failed_everywhere w.failures s.file.layout.live)
 
 abbrev pub write_stepped : WaitingWrite → WriterAfter → WaitingWrite
 write_stepped w a = record w { writer = a.writer; failures = with_failed a.step w.failures }

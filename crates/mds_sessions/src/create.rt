@@ -76,7 +76,8 @@ fn create_result(session: SessionId, args: &CreateSessionArgs<'_>) -> OpRes<'sta
 
 /// The client that was there before a restart is gone. Takes memory.
 fn end_gone(state: &mut State, gone: Option<u64>, out: &mut Outbox) -> Result<(), NoMemory>
-    ensures { OnOk result (HasStepped (gone_with gone state.old) out.old state.new out.new) }
+    ensures steps { OnOk result (HasStepped (gone_with gone state.old) out.old state.new out.new) }
+    ensures silent { OnOk result (out.new.sends.items ≡ out.old.sends.items) }
 {
     match gone {
         Some(client) => end_client(state, client, EndCause::ClientGone, out),

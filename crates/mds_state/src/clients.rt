@@ -18,7 +18,8 @@ fn revoke_all(
     cause: EndCause,
     out: &mut Outbox,
 ) -> Result<(), NoMemory>
-    ensures { OnOk result (HasStepped (one_by_one (λ m file. takes_input m file (Revokes cause)) files.now state.old) out.old state.new out.new) }
+    ensures steps { OnOk result (HasStepped (one_by_one (λ m file. takes_input m file (Revokes cause)) files.now state.old) out.old state.new out.new) }
+    ensures silent { OnOk result (out.new.sends.items ≡ out.old.sends.items) }
 {
     for file in files {
         take_input(state, *file, FileInput::Revokes(cause), out)?;
@@ -33,7 +34,8 @@ pub fn end_periods(
     cause: EndCause,
     out: &mut Outbox,
 ) -> Result<(), NoMemory>
-    ensures { OnOk result (HasStepped (ends_periods state.old client cause) out.old state.new out.new) }
+    ensures steps { OnOk result (HasStepped (ends_periods state.old client cause) out.old state.new out.new) }
+    ensures silent { OnOk result (out.new.sends.items ≡ out.old.sends.items) }
 {
     let held = state.files.held_by(client)?;
     revoke_all(state, &held, cause, out)
@@ -54,7 +56,8 @@ pub fn end_client(
     cause: EndCause,
     out: &mut Outbox,
 ) -> Result<(), NoMemory>
-    ensures { OnOk result (HasStepped (ends_client state.old client cause) out.old state.new out.new) }
+    ensures steps { OnOk result (HasStepped (ends_client state.old client cause) out.old state.new out.new) }
+    ensures silent { OnOk result (out.new.sends.items ≡ out.old.sends.items) }
 {
     end_periods(state, client, cause, out)?;
     forget(state, client);

@@ -35,7 +35,8 @@ pub fn take_input(
     input: FileInput<'_>,
     out: &mut Outbox,
 ) -> Result<(), NoMemory>
-    ensures { OnOk result (HasStepped (takes_input state.old file (plain_input input.entry)) out.old state.new out.new) }
+    ensures steps { OnOk result (HasStepped (takes_input state.old file (plain_input input.entry)) out.old state.new out.new) }
+    ensures silent { OnOk result (out.new.sends.items ≡ out.old.sends.items) }
 {
     let mut fresh = state.fresh;
     if !can_draw(fresh) {
@@ -83,7 +84,8 @@ pub fn ask_back(
     now: u64,
     out: &mut Outbox,
 ) -> Result<(), NoMemory>
-    ensures { OnOk result (HasStepped (asks_back state.old file now) out.old state.new out.new) }
+    ensures steps { OnOk result (HasStepped (asks_back state.old file now) out.old state.new out.new) }
+    ensures silent { OnOk result (out.new.sends.items ≡ out.old.sends.items) }
 {
     let Some(served) = state.files.get(file) else {
         return Ok(());
@@ -102,7 +104,8 @@ pub fn end_recall(
     outcome: Outcome,
     out: &mut Outbox,
 ) -> Result<(), NoMemory>
-    ensures { OnOk result (HasStepped (recall_outcome state.old outcome) out.old state.new out.new) }
+    ensures steps { OnOk result (HasStepped (recall_outcome state.old outcome) out.old state.new out.new) }
+    ensures silent { OnOk result (out.new.sends.items ≡ out.old.sends.items) }
 {
     match outcome {
         Outcome::NoLayout(file, _) => {

@@ -1,6 +1,7 @@
 //! A file of a metadata server.
 
 ghost use Rattle.std.specs.Prelude.{◌≡◌, ◌≤◌, ◌+◌, length, OnOk, IfOk};
+ghost use Rattle.std.specs.List.{list_any};
 ghost use Rattle.cluster_model.specs.Phases.{holder_of};
 ghost use Rattle.cluster_model.specs.declared.limits.TheConstants.{MAX_FILE, PIECE_SIZE};
 ghost use Rattle.cluster_model.specs.DsCalls.{plain_ds_call, plain_ds_reply};
@@ -15,11 +16,11 @@ ghost use Rattle.mds_rule.specs.MdsStates.{size_served};
 ghost use Rattle.mds_rule.specs.ServedFiles.{sizes_in, kept_holder};
 ghost use Rattle.mds_rule.specs.FileOps.{new_served, with_read, with_write};
 ghost use Rattle.mds_rule.specs.LayoutOps.{with_holder};
-ghost use Rattle.mds_rule.specs.Answers.{sized, fileid_of, attributes_shown};
+ghost use Rattle.mds_rule.specs.Answers.{is_read_out, is_writer_out, sized, fileid_of, attributes_shown};
 ghost use Rattle.served_files.specs.Waiting.{StepsRead, GivesFew, StepsWrite, WriteTaken};
 ghost use Rattle.served_files.specs.FileSteps.{TakesStep};
 
-use crate::reading::{EndedRead, WaitingRead, answer_in, restart, time_out_in};
+use crate::reading::{EndedRead, WaitingRead, answer_in, has_out, restart, time_out_in};
 use crate::sizes::{attributes_shown, fileid_of, keep_live, set_size, size_of_first};
 use crate::told::{count_periods, has_period_end, has_swap};
 use crate::writing::{EndedWrite, WaitingWrite, causes_of, has_failed_everywhere};
@@ -150,6 +151,23 @@ impl ServedFile {
     {
         self.holder = Some(client);
         self.seqid = if again { next_seqid(self.seqid) } else { 1 };
+    }
+
+    /// The call of this number is that of one of its READs.
+    pub fn has_read_out(&self, xid: u32) -> bool
+        ensures { result ≡ list_any (is_read_out xid) self.now.reads }
+    {
+        has_out(xid, &self.reads)
+    }
+
+    /// The call of this number is one of its own WRITE.
+    pub fn has_write_out(&self, xid: u32) -> bool
+        ensures { result ≡ is_writer_out xid self.now.write }
+    {
+        match &self.write {
+            Some(write) => write.writer.is_outstanding(xid),
+            None => false,
+        }
     }
 
     /// A READ begins, and the compound waits for it. Takes memory.

@@ -15,4 +15,5 @@ pub use file::ServedFile;
 pub use files::{Files, MAX_FILES};
 pub use reading::{EndedRead, WaitingRead};
 pub use sending::SentByFile;
+pub use sizes::{attributes_shown, fileid_of};
 pub use writing::{EndedWrite, WaitingWrite};

@@ -1,6 +1,7 @@
 //! READs whose compounds wait for them.
 
 ghost use Rattle.std.specs.Prelude.{◌≡◌, ◌<◌, ◌≤◌, ◌++◌, length, map, drop, position, OnOk, IfOk};
+ghost use Rattle.std.specs.List.{list_any};
 ghost use Rattle.cluster_model.specs.DsCalls.{plain_ds_reply};
 ghost use Rattle.ds_calls.specs.GivenReplies.{HasFewBytes};
 ghost use Rattle.mds_io.specs.Reads.{after_reply, after_timeout};
@@ -56,6 +57,18 @@ pub fn place_out(xid: u32, reads: &[WaitingRead]) -> Option<usize>
         }
     }
     None
+}
+
+/// The call of this number is that of one of them.
+pub fn has_out(xid: u32, reads: &[WaitingRead]) -> bool
+    ensures { result ≡ list_any (is_read_out xid) reads.now }
+{
+    for waiting in reads {
+        if waiting.read.is_outstanding(xid) {
+            return true;
+        }
+    }
+    false
 }
 
 /// The failures of a READ behind the first so many are entered.
