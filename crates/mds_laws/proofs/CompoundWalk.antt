@@ -1,7 +1,7 @@
 -- Compounds, and what comes of answers and timeouts, keep what is kept in each case.
 use Rattle.std.proofs.Common.{◌≡◌, ℕ, Bool, true, false, List, [], ◌∷◌, ◌++◌, length, Option, Some, None, refl, sym, subst, inr}
-use Rattle.std.specs.Prelude.{not, ◌==◌, is_some, slice_get, remove, drop, position, map}
-use Rattle.std.specs.List.{find, list_all}
+use Rattle.std.specs.Prelude.{not, ◌==◌, slice_get, remove, drop, position, map}
+use Rattle.std.specs.List.{find}
 use Rattle.std.proofs.lemmas.Bool.{cond_both}
 use Rattle.std.proofs.lemmas.List.{append_assoc, append-nil}
 use Rattle.ff_xdr.specs.Form.{Value, arm_of}
@@ -46,7 +46,7 @@ use Rattle.mds_rule.specs.OpSteps.{OpStep, Goes, Ends, Waits, with_result, refus
 use Rattle.mds_rule.specs.ServedFiles.{takes_input}
 use Rattle.mds_rule.specs.Compounds.{operate, has_session, operates, compound_bytes, kept_in_slot, finishes, op_then, with_ops, runs, sequence_in, in_slot, sequenced, sequence_of, may_stand_alone, first_alone, first_by, first_operation, new_run, runs_compound}
 use Rattle.mds_rule.specs.Answers.{is_awaited, sized, fileid_of, attributes_shown, sees_in, sees_size, resumes, is_done_as, has_failed_as, failed_entry, failed_entries, read_result, without_read, read_ends, read_step_at, read_from, read_of, steps_read, is_read_out, write_answer, write_ends, write_of, write_in, steps_write, with_failed, failures_by_place, has_failed_everywhere, write_over, sees_ctime, recall_end, recall_outcome, recalls_after, server_answered, answered_as, answers_found, takes_answer, timed_out_for}
-use Rattle.mds_laws.proofs.Keeping.{Becomes, Enters, Keeps, KeepsOp, Cases, IsCredOf, IsWriteOf, then_keeps, none_keeps, same, becomes_keeps, enters_keeps, no_entries, stays, becomes_silent, silent_keeps}
+use Rattle.mds_laws.proofs.Keeping.{Becomes, Enters, Keeps, KeepsOp, Cases, IsCredOf, IsWriteOf, then_keeps, none_keeps, same, becomes_keeps, enters_keeps, no_entries, stays, silent_keeps}
 use Rattle.mds_laws.proofs.ServedWalk.{takes, sessions_become, recalls_become, exchanges, creates, binds, destroys_session, destroys_client, reclaims_all}
 use Rattle.mds_laws.proofs.OpsWalk.{old_write, puts_fh, gets_fh, looks_up, gets_attr, opens, closes_file, commits, reads, writes, layout_gets, layout_returns, layout_commits, device_infos}
 use Rattle.mds_laws.proofs.WriterKept.{answer_cred, timeout_cred}
