@@ -3,10 +3,10 @@
 
 mod kept;
 mod op_end;
-mod refusal;
+mod refused;
 mod run;
 
 pub use kept::{KeptRun, KeptText};
 pub use op_end::OpEnd;
-pub use refusal::refusal;
+pub use refused::refusal;
 pub use run::{Progress, Run};

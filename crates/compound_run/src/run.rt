@@ -11,7 +11,7 @@ ghost use Rattle.compound_run.specs.CompoundRuns.{HasRoom, Where, GoesOn};
 ghost use Rattle.compound_run.specs.declared.op_end.OpEnd.TheVariants.{Goes, Ends};
 
 use crate::op_end::OpEnd;
-use crate::refusal::refusal;
+use crate::refused::refusal;
 use cluster_model::NodeId;
 use compound_reply::Results;
 use ff_xdr::NoMemory;
