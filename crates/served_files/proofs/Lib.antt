@@ -1,1 +1,3 @@
+mod FileLists
+mod KeptNames
 mod NameLists

@@ -18,9 +18,9 @@ use Rattle.served_files.specs.declared.sending.SentByFile.{SentByFile}
 use Rattle.served_files.specs.Waiting.{StepsRead, StepsWrite}
 use Rattle.served_files.specs.Sending.{SendsOwn, SendsRead}
 
--- the file took this step, and a period ended in it or not
+-- the file took this step, and a period ended in it or not; its name stays, whatever comes of it
 abbrev pub TakesStep : FileStep → ServedFile → Fresh → List Entry → Result Bool NoMemory → ServedFile → Fresh → List Entry → Type 0
-TakesStep step old fresh entries (Err e) new fresh' entries' = ⊤
+TakesStep step old fresh entries (Err e) new fresh' entries' = new.name ≡ old.name
 TakesStep step old fresh entries (Ok has_ended) new fresh' entries' =
     (new ≡ file_behind old step) × (fresh' ≡ drawn fresh step) × (entries' ≡ entries ++ step.entries) × (has_ended ≡ list_any is_period_end step.entries)
 

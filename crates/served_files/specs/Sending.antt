@@ -1,5 +1,5 @@
 -- Which calls of a file go out, and to which server the next one waits.
-use Rattle.std.specs.Prelude.{◌≡◌, ℕ, List, Option, Some, None, Result, Ok, Err, ⊤, slice_get, slice_set}
+use Rattle.std.specs.Prelude.{◌≡◌, ℕ, List, Option, Some, None, Result, Ok, Err, slice_get, slice_set}
 use Rattle.ff_xdr.specs.declared.error.NoMemory.{NoMemory}
 use Rattle.cluster_model.specs.declared.ids.FileId.{FileId}
 use Rattle.mds_io.specs.Reads.{ReadSends}
@@ -14,9 +14,9 @@ abbrev pub OwnWaits : ServedFile → FileId → ℕ → Option ℕ → Type 0
 OwnWaits s file xid None = own_by file s xid s.write ≡ None
 OwnWaits s file xid (Some server) = (c : OwnCall) × (own_by file s xid s.write ≡ Some c) × (c.server ≡ server)
 
--- that call goes out under a number
+-- that call goes out under a number; the name stays
 abbrev pub SendsOwn : FileId → ServedFile → ℕ → Result (Option SentByFile) NoMemory → ServedFile → Type 0
-SendsOwn file old xid (Err e) new = ⊤
+SendsOwn file old xid (Err e) new = new.name ≡ old.name
 SendsOwn file old xid (Ok None) new = (own_by file old xid old.write ≡ None) × (new ≡ old)
 SendsOwn file old xid (Ok (Some c)) new =
     own_by file old xid old.write ≡ Some (record { served = new; caller = c.caller; server = c.server; uid = c.uid.0; call = c.call })
@@ -35,7 +35,7 @@ abbrev pub read_out : ServedFile → ℕ → WaitingRead → ReadSends → Serve
 read_out s n r sent = record s { reads = slice_set s.reads n (record { compound = r.compound; read = sent.read }) }
 
 abbrev pub SendsReadAt : FileId → ServedFile → ℕ → ℕ → Result (Option SentByFile) NoMemory → ServedFile → Option WaitingRead → Type 0
-SendsReadAt file old n xid (Err e) new r = ⊤
+SendsReadAt file old n xid (Err e) new r = new.name ≡ old.name
 SendsReadAt file old n xid (Ok None) new None = new ≡ old
 SendsReadAt file old n xid (Ok (Some c)) new None = ⊥
 SendsReadAt file old n xid (Ok None) new (Some r) = (read.next_sent r.read xid ≡ None) × (new ≡ old)

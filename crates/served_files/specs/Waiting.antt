@@ -90,7 +90,7 @@ abbrev pub WriteBy : ServedFile → (WriterValue → WriterAfter) → Option End
 WriteBy old step result new None = (result ≡ None) × (new ≡ old)
 WriteBy old step result new (Some w) = WriteEnds old (write_stepped w (step w.writer)) result new (ended (step w.writer).writer)
 
--- a step of the file's own write, which may have ended
+-- a step of the file's own write, which may have ended; the name stays
 abbrev pub StepsWrite : ServedFile → (WriterValue → WriterAfter) → Result (Option EndedWrite) NoMemory → ServedFile → Type 0
-StepsWrite old step (Err e) new = ⊤
+StepsWrite old step (Err e) new = new.name ≡ old.name
 StepsWrite old step (Ok result) new = WriteBy old step result new old.write

@@ -134,7 +134,8 @@ impl ServedFile {
         call: &DsCall<'_>,
         reply: &DsReply<'_>,
     ) -> Result<(), NoMemory>
-        ensures { OnOk result (self.new ≡ sized self.old server (fileid_of (plain_ds_call call.now) (plain_ds_reply reply.now)) (attributes_shown (plain_ds_reply reply.now))) }
+        ensures sizes { OnOk result (self.new ≡ sized self.old server (fileid_of (plain_ds_call call.now) (plain_ds_reply reply.now)) (attributes_shown (plain_ds_reply reply.now))) }
+        ensures name { self.new.name ≡ self.old.name }
     {
         let Some(fileid) = fileid_of(call, reply) else {
             return Ok(());
@@ -172,7 +173,8 @@ impl ServedFile {
 
     /// A READ begins, and the compound waits for it. Takes memory.
     pub fn begin_read(&mut self, compound: KeptRun, at: u64, count: u32) -> Result<(), NoMemory>
-        ensures { OnOk result (self.new ≡ with_read compound at count self.old) }
+        ensures read { OnOk result (self.new ≡ with_read compound at count self.old) }
+        ensures name { self.new.name ≡ self.old.name }
     {
         let read = MdsRead::start(self.file.state().live(), at, count);
         self.reads.push(WaitingRead { compound, read })?;
@@ -219,7 +221,8 @@ impl ServedFile {
         requires some { 1 ≤ length bytes.now }
         requires few { length bytes.now ≤ PIECE_SIZE }
         requires within { at + length bytes.now ≤ MAX_FILE }
-        ensures { OnOk result (self.new ≡ with_write compound at bytes.now self.old) }
+        ensures write { OnOk result (self.new ≡ with_write compound at bytes.now self.old) }
+        ensures name { self.new.name ≡ self.old.name }
     {
         let state = self.file.state();
         let write = WaitingWrite::start(alloc, compound, state.live(), state.cred(), at, bytes)?;
