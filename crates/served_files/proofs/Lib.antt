@@ -1,3 +1,5 @@
 mod FileLists
 mod KeptNames
 mod NameLists
+mod SendLemmas
+mod Walks
