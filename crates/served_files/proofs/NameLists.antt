@@ -1,9 +1,10 @@
 -- Names in a list.
-use Rattle.std.proofs.Common.{◌≡◌, ℕ, ◌+◌, ◌≤◌, Bool, true, false, cond, ltb, List, [], ◌∷◌, ◌++◌, length, map, Some, None, refl, ap, ◌∙◌, arith}
-use Rattle.std.specs.Prelude.{not, position, ◌||◌}
+use Rattle.std.proofs.Common.{◌≡◌, ℕ, ◌+◌, ◌≤◌, Bool, true, false, cond, ltb, List, [], ◌∷◌, ◌++◌, length, map, Option, Some, None, refl, ap, ◌∙◌, arith}
+use Rattle.std.specs.Prelude.{not, position, bytes_eq, ◌||◌}
 use Rattle.std.specs.List.{list_any, prefix_len, position_or_len}
 use Rattle.std.proofs.lemmas.Bool.{ltb-false}
 use Rattle.std.proofs.lemmas.List.{length-map}
+use Rattle.mds_rule.specs.MdsStates.{ServedFile, has_name, file_in_place, named_among}
 
 -- where an item stands by what it becomes
 prefix_len-map : {X Y : Type 0} (q : Y → Bool) (f : X → Y) (xs : List X) → prefix_len q (map f xs) ≡ prefix_len (λ x. q (f x)) xs
@@ -34,3 +35,12 @@ none_there p xs e = all_pass p xs (ltb-false _ _ (is_none (ltb (position_or_len 
 pub map-push : {X Y : Type 0} (f : X → Y) (xs : List X) (x : X) → map f (xs ++ x ∷ []) ≡ map f xs ++ f x ∷ []
 map-push f [] x = refl
 map-push f (y ∷ xs) x = ap (λ ys. f y ∷ ys) (map-push f xs x)
+
+-- the file of a name, by the place of the name
+pub named_is : (names : List (List ℕ)) (files now : List ServedFile) (name : List ℕ) (o : Option ℕ) → names ≡ map (λ (f : ServedFile). f.name) files → files ≡ now → o ≡ position (bytes_eq name) names → file_in_place o ≡ named_among now name
+named_is names files now name o are seen is =
+    ap file_in_place (is ∙ ap (position (bytes_eq name)) are ∙ position-map (bytes_eq name) (λ (f : ServedFile). f.name) files ∙ ap (position (has_name name)) seen)
+
+pub absent_is : (o : Option ℕ) → file_in_place o ≡ None → o ≡ None
+absent_is None is = refl
+absent_is (Some n) is = absurd (cc)
