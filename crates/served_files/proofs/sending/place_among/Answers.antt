@@ -1,5 +1,6 @@
 use Rattle.std.proofs.Common.{sym, ap, ◌∙◌}
 use Rattle.std.specs.Prelude.{◌==◌}
+use Rattle.std.proofs.lemmas.Bool.{eq-eqb, ne_eqb}
 use Rattle.std.proofs.lemmas.Iterator.Adapters.{position_from-zero}
 use Rattle.cluster_model.specs.declared.ids.Mirror.{Mirror}
 use Rattle.mds_rule.specs.Goes.{place_or_last}
@@ -15,8 +16,8 @@ returns-in_default c =
 
 pub returns-then-mirror-server : goal.returns-then-mirror-server
 returns-then-mirror-server c =
-    ap place_or_last (sym (first_here (λ (m : Mirror). m.id.server == c.args.server) c.args.live c.loop-place.place c.in-Some.mirror (sym c.get.ensures ∙ c.in-Some.is) c.loop-place.invariant c.if-mirror-server.true))
+    ap place_or_last (sym (first_here (λ (m : Mirror). m.id.server == c.args.server) c.args.live c.loop-place.place c.in-Some.mirror (sym c.get.ensures ∙ c.in-Some.is) c.loop-place.invariant (eq-eqb c.in-Some.mirror.id.server c.args.server c.if-mirror-server.true)))
 
 pub loop-place-preserved : goal.loop-place-preserved
 loop-place-preserved c =
-    first_later (λ (m : Mirror). m.id.server == c.args.server) c.args.live c.loop-place.place c.in-Some.mirror (sym c.get.ensures ∙ c.in-Some.is) c.loop-place.invariant c.if-mirror-server.false
+    first_later (λ (m : Mirror). m.id.server == c.args.server) c.args.live c.loop-place.place c.in-Some.mirror (sym c.get.ensures ∙ c.in-Some.is) c.loop-place.invariant (ne_eqb c.in-Some.mirror.id.server c.args.server c.if-mirror-server.false)

@@ -1,6 +1,6 @@
-use Rattle.std.proofs.Common.{◌≡◌, sym, ap, ◌∙◌}
-use Rattle.mds_rule.specs.MdsStates.{ServedFile}
+use Rattle.std.proofs.Common.{ap}
 use Rattle.mds_rule.specs.LayoutOps.{with_holder}
+use Rattle.mds_rule.specs.MdsStates.{ServedFile}
 use Rattle.served_files.proofs.FileLists.{is_at, stands, changed}
 use Rattle.served_files.proofs.files.Files.hand_to.Goals as goal
 
