@@ -26,12 +26,12 @@ name_of s = s.name
 
 pub taken : (step : FileStep) (old : ServedFile) (fresh : Fresh) (entries : List Entry) (result : Result Bool NoMemory) (new : ServedFile) (fresh' : Fresh) (entries' : List Entry) → TakesStep step old fresh entries result new fresh' entries' → new.name ≡ old.name
 taken step old fresh entries (Err e) new fresh' entries' said = said
-taken step old fresh entries (Ok ended) new fresh' entries' (is, rest) = ap name_of is
+taken step old fresh entries (Ok has_ended) new fresh' entries' (is, drew, entered, over) = ap name_of is
 
 write_ends : (old : ServedFile) (w : WaitingWrite) (result : Option EndedWrite) (new : ServedFile) (places : Option (List Bool)) → WriteEnds old w result new places → new.name ≡ old.name
 write_ends old w result new None (none, is) = ap name_of is
 write_ends old w None new (Some places) said = absurd said
-write_ends old w (Some e) new (Some places) (is, rest) = ap name_of is
+write_ends old w (Some e) new (Some places) (is, compound, at, bytes, causes, failed) = ap name_of is
 
 write_by : (old : ServedFile) (step : WriterValue → WriterAfter) (result : Option EndedWrite) (new : ServedFile) (w : Option WaitingWrite) → WriteBy old step result new w → new.name ≡ old.name
 write_by old step result new None (none, is) = ap name_of is
@@ -63,7 +63,7 @@ read_at file old n xid (Err e) new r said = said
 read_at file old n xid (Ok None) new None is = ap name_of is
 read_at file old n xid (Ok (Some c)) new None said = absurd said
 read_at file old n xid (Ok None) new (Some r) (none, is) = ap name_of is
-read_at file old n xid (Ok (Some c)) new (Some r) (sent, next, is, rest) = ap name_of is
+read_at file old n xid (Ok (Some c)) new (Some r) (sent, next, is, caller, server, uid, call) = ap name_of is
 
 pub read_sent : (file : FileId) (old : ServedFile) (n xid : ℕ) (result : Result (Option SentByFile) NoMemory) (new : ServedFile) → SendsRead file old n xid result new → new.name ≡ old.name
 read_sent file old n xid result new said = read_at file old n xid result new (slice_get old.reads n) said
