@@ -4,7 +4,7 @@ use Rattle.cluster_model.specs.declared.ids.Mirror.{Mirror}
 use Rattle.cluster_model.specs.declared.call_stage.CallStage.TheVariants.{Out}
 use Rattle.cluster_model.specs.DsCalls.{Read}
 use Rattle.cluster_model.specs.Fences.{waits}
-use Rattle.mds_io.specs.Reads.{ReadState, ReadSends, at_stage, in_turn, sends_to}
+use Rattle.mds_io.specs.Reads.{ReadState, at_stage, in_turn, sends_to}
 use Rattle.mds_io.specs.Calls.{WaitsAt}
 
 pub waits_at : (r : ReadState) (xid : ℕ) (m : Mirror) → waits r.stage ≡ true → in_turn r ≡ Some m → WaitsAt r xid (Some m.id)

@@ -1,4 +1,4 @@
-use Rattle.std.proofs.Common.{rules, ap, sym, subst, ◌∙◌}
+use Rattle.std.proofs.Common.{ap, sym, ◌∙◌}
 use Rattle.cluster_model.specs.Fences.{waits}
 use Rattle.mds_io.specs.Reads.{ReadState}
 use Rattle.mds_io.proofs.ReadWaits.{waits_at}
