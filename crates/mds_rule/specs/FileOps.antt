@@ -51,7 +51,7 @@ use Rattle.mds_operations.specs.Reads.{read_order}
 use Rattle.mds_operations.specs.Writes.{write_order}
 use Rattle.mds_operations.specs.declared.read.ReadAsk.{ReadAsk}
 use Rattle.mds_operations.specs.declared.write.WriteAsk.{WriteAsk}
-use Rattle.mds_rule.specs.MdsStates.{CompoundRun, ServedFile, MdsValue, MdsStep, served, with_served, numbered, file_named, size_served}
+use Rattle.mds_rule.specs.MdsStates.{CompoundRun, WaitingWrite, ServedFile, MdsValue, MdsStep, served, with_served, numbered, file_named, size_served}
 use Rattle.mds_rule.specs.OpSteps.{OpStep, Ends, Waits, with_result, at_object, gives, refuses, refused_as, by_order, refused_or}
 use Rattle.mds_rule.specs.ServedFiles.{takes_input, asks_back, has_fresh}
 
