@@ -41,9 +41,9 @@ pub record TextValue : Type 0 where
   pub ops : OpList argop4
 
 -- it became this, and entered this
-pub record HasEntered (m : MdsValue) (entries : List Entry) (old : Outbox) (n : MdsValue) (new : Outbox) : Type 0 where
+pub record HasEntered (m : MdsValue) (list : List Entry) (old : Outbox) (n : MdsValue) (new : Outbox) : Type 0 where
   pub mds : n ≡ m
-  pub entries : new.entries.items ≡ old.entries.items ++ entries
+  pub entries : new.entries.items ≡ old.entries.items ++ list
   pub sends : new.sends.items ≡ old.sends.items
 
 -- an operation came to this; the compound that it is of, then
