@@ -1,3 +1,7 @@
 mod FileLists
 mod KeptNames
 mod NameLists
+mod ReadLists
+mod ReadSteps
+mod FairReads
+mod Took
