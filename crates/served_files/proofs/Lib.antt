@@ -3,5 +3,3 @@ mod KeptNames
 mod NameLists
 mod ReadLists
 mod ReadSteps
-mod FairReads
-mod Took

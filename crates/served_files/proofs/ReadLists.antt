@@ -1,12 +1,11 @@
 -- Reads of a file, one after the other.
-use Rattle.std.proofs.Common.{◌≡◌, ℕ, zero, suc, ◌<◌, ◌+◌, Bool, true, false, List, [], ◌∷◌, ◌++◌, length, map, take, drop, set, get_or, Option, Some, None, refl, sym, ap, ◌∙◌, arith}
-use Rattle.std.specs.Prelude.{slice_get, ◌&&◌, is_some, is_none}
+use Rattle.std.proofs.Common.{◌≡◌, ℕ, zero, suc, ◌<◌, ◌+◌, Bool, true, false, List, [], ◌∷◌, ◌++◌, length, map, take, drop, set, get_or, Some, refl, ap, ◌∙◌, arith}
+use Rattle.std.specs.Prelude.{slice_get, ◌&&◌}
 use Rattle.std.specs.List.{list_all}
 use Rattle.std.proofs.lemmas.Option.{same_Some}
 use Rattle.std.proofs.lemmas.List.{get_or_default}
 use Rattle.std.proofs.lemmas.List.Edits.{map_over_more}
 use Rattle.cluster_model.specs.declared.ids.Mirror.{Mirror}
-use Rattle.cluster_model.specs.declared.phase.LeftCause.{LeftCause}
 use Rattle.mds_io.specs.Reads.{ReadState, begun_again}
 use Rattle.mds_rule.specs.MdsStates.{CompoundRun, WaitingRead}
 use Rattle.mds_rule.specs.ServedFiles.{begins_again}
@@ -39,10 +38,3 @@ waiting_as c r = record { compound = c; read = r }
 -- its read begins again
 pub again_is : (live : List Mirror) (c : CompoundRun) (r s : ReadState) (w : WaitingRead) → waiting_as c r ≡ w → s ≡ begun_again r live → waiting_as c s ≡ begins_again live w
 again_is live c r s w is again = ap (waiting_as c) again ∙ ap (begins_again live) is
-
-pub none_fails : (o p : Option LeftCause) → o ≡ p → is_none o ≡ true → is_some p ≡ false
-none_fails o p is none = ap is_some (sym is) ∙ by_option o none
-  where
-    by_option : (o : Option LeftCause) → is_none o ≡ true → is_some o ≡ false
-    by_option None none = refl
-    by_option (Some cause) none = absurd cc
