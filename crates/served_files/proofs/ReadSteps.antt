@@ -33,8 +33,8 @@ pub steps_read : (step : ReadState → ReadAfter) (old new : List WaitingRead) (
 steps_read step old new entries entries' xid place r w end result is item one ends =
     let at : slice_get old place ≡ Some r = slice_get_read old (length old) place r refl (position-Some (is_read_out xid) old place r is).0 item in
     let there : EndedAtPlace (set old place w) place (step r.read).end result new (Some w) =
-        subst (λ (e : Option ReadEnd). EndedAtPlace (set old place w) place e result new (Some w)) one.2
-          (subst (λ (o : Option WaitingRead). EndedAtPlace (set old place w) place end result new o) (slice_get-set_same old place r w at) ends) in
+    subst (λ (e : Option ReadEnd). EndedAtPlace (set old place w) place e result new (Some w)) one.2
+    (subst (λ (o : Option WaitingRead). EndedAtPlace (set old place w) place end result new o) (slice_get-set_same old place r w at) ends) in
     let both = left old new place w r.compound (step r.read).read (step r.read).end result r refl one.0 there in
     subst (λ (o : Option ℕ). StepsReadFrom old entries step result new entries' o) (sym is)
-      (subst (λ (o : Option WaitingRead). StepsReadAt old entries step place result new entries' o) (sym at) (both.0, one.1, both.1))
+    (subst (λ (o : Option WaitingRead). StepsReadAt old entries step place result new entries' o) (sym at) (both.0, one.1, both.1))

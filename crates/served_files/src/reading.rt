@@ -115,11 +115,7 @@ pub fn has_out(xid: u32, reads: &[WaitingRead]) -> bool
 }
 
 /// The failures of a READ behind the first so many are entered.
-fn note_failures(
-    read: &MdsRead,
-    before: usize,
-    entries: &mut Vec<Entry>,
-) -> Result<(), NoMemory>
+fn note_failures(read: &MdsRead, before: usize, entries: &mut Vec<Entry>) -> Result<(), NoMemory>
     requires { before ≤ length read.now.failures }
     ensures { OnOk result (entries.new.items ≡ entries.old.items ++ map failed_entry (drop before read.now.failures)) }
 {
@@ -133,11 +129,7 @@ fn note_failures(
 }
 
 /// The READ at this place has ended so, if it has.
-fn end_at(
-    place: usize,
-    end: Option<ReadEnd>,
-    reads: &mut Vec<WaitingRead>,
-) -> Option<EndedRead>
+fn end_at(place: usize, end: Option<ReadEnd>, reads: &mut Vec<WaitingRead>) -> Option<EndedRead>
     requires { place < length reads.old.items }
     ensures ends { EndedAt reads.old.items place end result reads.new.items }
     ensures few { EndsFew end → GivesFew result }
