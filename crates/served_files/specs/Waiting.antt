@@ -60,6 +60,16 @@ abbrev pub GivesFew : Option EndedRead → Type 0
 GivesFew None = ⊤
 GivesFew (Some e) = IsFew e.end
 
+abbrev pub EndsFew : Option ReadEnd → Type 0
+EndsFew None = ⊤
+EndsFew (Some by) = IsFew by
+
+-- the step of one of them, and the entries of its failures
+abbrev pub StepsOne : ReadAfter → WaitingRead → List Entry → Result (Option ReadEnd) NoMemory → WaitingRead → List Entry → Type 0
+StepsOne after old entries (Err e) new entries' = ⊤
+StepsOne after old entries (Ok by) new entries' =
+    (new ≡ record { compound = old.compound; read = after.read }) × (entries' ≡ entries ++ failed_entries old.read after.read) × (by ≡ after.end)
+
 -- ---- an own write
 
 -- it is over and taken out

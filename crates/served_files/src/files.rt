@@ -294,11 +294,7 @@ impl Files {
 }
 
 /// The files whose layout this client has, of these, whose numbers begin at 1. Takes memory.
-fn held_among(
-    alloc: Global,
-    client: u64,
-    files: &[ServedFile],
-) -> Result<Vec<FileId>, NoMemory>
+fn held_among(alloc: Global, client: u64, files: &[ServedFile]) -> Result<Vec<FileId>, NoMemory>
     requires { length files.now ≤ 4096 }
     ensures { IfOk result (λ held. held.items ≡ held_from client 1 files.now) }
 {
