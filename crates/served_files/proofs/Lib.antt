@@ -1,0 +1,7 @@
+mod FileLists
+mod KeptNames
+mod NameLists
+mod ReadLists
+mod ReadSteps
+mod SendLemmas
+mod Walks

@@ -1,9 +1,10 @@
 -- What an input of the table of phases leaves of a file; and what becomes of one file among many.
-use Rattle.std.specs.Prelude.{◌≡◌, ℕ, Bool, false, List, ◌++◌, Option, Some, None, Result, Ok, Err, ⊤, slice_get}
+use Rattle.std.specs.Prelude.{◌≡◌, ℕ, Bool, false, List, ◌++◌, Option, Some, None, Result, Ok, Err, ⊤, slice_get, length, filter, ◌+◌, ◌%◌, ◌^◌}
 use Rattle.std.specs.List.{list_any}
 use Rattle.ff_xdr.specs.declared.error.NoMemory.{NoMemory}
 use Rattle.cluster_model.specs.declared.ids.FileId.{FileId}
 use Rattle.cluster_model.specs.declared.entry.Entry.{Entry}
+use Rattle.cluster_model.specs.Phases.{holder_of}
 use Rattle.file_rule.specs.declared.fresh.Fresh.{Fresh}
 use Rattle.file_rule.specs.MdsFiles.{FileStep}
 use Rattle.file_rule.specs.FilePhases.{FileInput, phase}
@@ -11,16 +12,25 @@ use Rattle.mds_io.specs.Reads.{ReadState, ReadAfter}
 use Rattle.mirror_writer.specs.Writers.{WriterValue, WriterAfter}
 use Rattle.mds_rows.specs.Draws.{drawn}
 use Rattle.mds_rule.specs.MdsStates.{WaitingRead, ServedFile, served_in, with_file}
-use Rattle.mds_rule.specs.ServedFiles.{file_behind, is_period_end}
+use Rattle.mds_rule.specs.ServedFiles.{file_behind, is_of_period, is_period_end, kept_holder, reads_behind, sizes_in}
 use Rattle.served_files.specs.declared.reading.EndedRead.{EndedRead}
 use Rattle.served_files.specs.declared.writing.EndedWrite.{EndedWrite}
 use Rattle.served_files.specs.declared.sending.SentByFile.{SentByFile}
 use Rattle.served_files.specs.Waiting.{StepsRead, StepsWrite}
 use Rattle.served_files.specs.Sending.{SendsOwn, SendsRead}
 
--- the file took this step, and a period ended in it or not
+-- what these entries of an input leave of the file, once it stands as the input has left it
+abbrev pub heard : ServedFile → List Entry → ServedFile
+heard s entries = record s {
+  sizes = sizes_in s.file.layout s.file.layout.phase s.sizes;
+  periods = (s.periods + length (filter is_of_period entries)) % (2 ^ 64);
+  holder = kept_holder (holder_of s.file.layout.phase) s.holder;
+  reads = reads_behind entries s.file.layout.live s.reads;
+}
+
+-- the file took this step, and a period ended in it or not; its name stays, whatever comes of it
 abbrev pub TakesStep : FileStep → ServedFile → Fresh → List Entry → Result Bool NoMemory → ServedFile → Fresh → List Entry → Type 0
-TakesStep step old fresh entries (Err e) new fresh' entries' = ⊤
+TakesStep step old fresh entries (Err e) new fresh' entries' = new.name ≡ old.name
 TakesStep step old fresh entries (Ok has_ended) new fresh' entries' =
     (new ≡ file_behind old step) × (fresh' ≡ drawn fresh step) × (entries' ≡ entries ++ step.entries) × (has_ended ≡ list_any is_period_end step.entries)
 

@@ -60,6 +60,16 @@ abbrev pub GivesFew : Option EndedRead → Type 0
 GivesFew None = ⊤
 GivesFew (Some e) = IsFew e.end
 
+abbrev pub EndsFew : Option ReadEnd → Type 0
+EndsFew None = ⊤
+EndsFew (Some by) = IsFew by
+
+-- the step of one of them, and the entries of its failures
+abbrev pub StepsOne : ReadAfter → WaitingRead → List Entry → Result (Option ReadEnd) NoMemory → WaitingRead → List Entry → Type 0
+StepsOne after old entries (Err e) new entries' = ⊤
+StepsOne after old entries (Ok by) new entries' =
+    (new ≡ record { compound = old.compound; read = after.read }) × (entries' ≡ entries ++ failed_entries old.read after.read) × (by ≡ after.end)
+
 -- ---- an own write
 
 -- it is over and taken out
@@ -90,7 +100,7 @@ abbrev pub WriteBy : ServedFile → (WriterValue → WriterAfter) → Option End
 WriteBy old step result new None = (result ≡ None) × (new ≡ old)
 WriteBy old step result new (Some w) = WriteEnds old (write_stepped w (step w.writer)) result new (ended (step w.writer).writer)
 
--- a step of the file's own write, which may have ended
+-- a step of the file's own write, which may have ended; the name stays
 abbrev pub StepsWrite : ServedFile → (WriterValue → WriterAfter) → Result (Option EndedWrite) NoMemory → ServedFile → Type 0
-StepsWrite old step (Err e) new = ⊤
+StepsWrite old step (Err e) new = new.name ≡ old.name
 StepsWrite old step (Ok result) new = WriteBy old step result new old.write

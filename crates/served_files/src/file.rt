@@ -13,16 +13,16 @@ ghost use Rattle.mds_io.specs.Reads as read;
 ghost use Rattle.mds_io.specs.OwnWrites.{after_own_reply};
 ghost use Rattle.mirror_writer.specs.Writers as writer;
 ghost use Rattle.mds_rule.specs.MdsStates.{size_served};
-ghost use Rattle.mds_rule.specs.ServedFiles.{sizes_in, kept_holder};
+ghost use Rattle.mds_rule.specs.ServedFiles.{sizes_in, kept_holder, is_period_end};
 ghost use Rattle.mds_rule.specs.FileOps.{new_served, with_read, with_write};
 ghost use Rattle.mds_rule.specs.LayoutOps.{with_holder};
 ghost use Rattle.mds_rule.specs.Answers.{is_read_out, is_writer_out, sized, fileid_of, attributes_shown};
 ghost use Rattle.served_files.specs.Waiting.{StepsRead, GivesFew, StepsWrite, WriteTaken};
-ghost use Rattle.served_files.specs.FileSteps.{TakesStep};
+ghost use Rattle.served_files.specs.FileSteps.{TakesStep, heard};
 
-use crate::reading::{EndedRead, WaitingRead, answer_in, has_out, restart, time_out_in};
+use crate::reading::{EndedRead, WaitingRead, answer_in, has_out, restart_behind, time_out_in};
 use crate::sizes::{attributes_shown, fileid_of, keep_live, set_size, size_of_first};
-use crate::told::{count_periods, has_period_end, has_swap};
+use crate::told::{count_periods, has_period_end};
 use crate::writing::{EndedWrite, WaitingWrite, causes_of, has_failed_everywhere};
 use cluster_model::{DsCall, DsReply, Entry, FileId, MirrorId, Phase};
 use compound_run::KeptRun;
@@ -105,14 +105,19 @@ impl ServedFile {
     {
         let before = entries.len();
         self.file.take(file, input, fresh, entries)?;
-        let told = &entries[before..];
+        Ok(self.hear(&entries[before..]))
+    }
+
+    /// What an input has left of the file is seen, with its entries; whether a period ended.
+    fn hear(&mut self, told: &[Entry]) -> bool
+        ensures file { self.new ≡ heard self.old told.now }
+        ensures ended { result ≡ list_any is_period_end told.now }
+    {
         let state = self.file.state();
         self.periods = self.periods.wrapping_add(count_periods(told) as u64);
-        if has_swap(told) {
-            restart(state.live(), &mut self.reads);
-        }
+        restart_behind(told, state.live(), &mut self.reads);
         self.follow(state);
-        Ok(has_period_end(told))
+        has_period_end(told)
     }
 
     /// Who holds it no more is forgotten, and where it is free the sizes of mirrors that are not live.
@@ -134,7 +139,8 @@ impl ServedFile {
         call: &DsCall<'_>,
         reply: &DsReply<'_>,
     ) -> Result<(), NoMemory>
-        ensures { OnOk result (self.new ≡ sized self.old server (fileid_of (plain_ds_call call.now) (plain_ds_reply reply.now)) (attributes_shown (plain_ds_reply reply.now))) }
+        ensures sizes { OnOk result (self.new ≡ sized self.old server (fileid_of (plain_ds_call call.now) (plain_ds_reply reply.now)) (attributes_shown (plain_ds_reply reply.now))) }
+        ensures name { self.new.name ≡ self.old.name }
     {
         let Some(fileid) = fileid_of(call, reply) else {
             return Ok(());
@@ -172,7 +178,8 @@ impl ServedFile {
 
     /// A READ begins, and the compound waits for it. Takes memory.
     pub fn begin_read(&mut self, compound: KeptRun, at: u64, count: u32) -> Result<(), NoMemory>
-        ensures { OnOk result (self.new ≡ with_read compound at count self.old) }
+        ensures read { OnOk result (self.new ≡ with_read compound at count self.old) }
+        ensures name { self.new.name ≡ self.old.name }
     {
         let read = MdsRead::start(self.file.state().live(), at, count);
         self.reads.push(WaitingRead { compound, read })?;
@@ -219,7 +226,8 @@ impl ServedFile {
         requires some { 1 ≤ length bytes.now }
         requires few { length bytes.now ≤ PIECE_SIZE }
         requires within { at + length bytes.now ≤ MAX_FILE }
-        ensures { OnOk result (self.new ≡ with_write compound at bytes.now self.old) }
+        ensures write { OnOk result (self.new ≡ with_write compound at bytes.now self.old) }
+        ensures name { self.new.name ≡ self.old.name }
     {
         let state = self.file.state();
         let write = WaitingWrite::start(alloc, compound, state.live(), state.cred(), at, bytes)?;

@@ -10,7 +10,7 @@ ghost use Rattle.mds_io.specs.Reads as read;
 ghost use Rattle.mds_io.specs.OwnWrites.{after_own_reply};
 ghost use Rattle.mirror_writer.specs.Writers as writer;
 ghost use Rattle.mds_rule.specs.MdsStates.{served_in, named_among};
-ghost use Rattle.mds_rule.specs.ServedFiles.{held_from};
+ghost use Rattle.mds_rule.specs.ServedFiles.{is_holder, held_from};
 ghost use Rattle.mds_rule.specs.FileOps.{max_files, new_served, with_read, with_write};
 ghost use Rattle.mds_rule.specs.LayoutOps.{with_holder};
 ghost use Rattle.mds_rule.specs.Answers.{sized, fileid_of, attributes_shown};
@@ -94,13 +94,7 @@ impl Files {
     pub fn held_by(&self, client: u64) -> Result<Vec<FileId>, NoMemory>
         ensures { IfOk result (λ held. held.items ≡ held_from client 1 self.now) }
     {
-        let mut held = Vec::new(self.alloc);
-        for (place, served) in self.files.iter().enumerate() {
-            if served.holder == Some(client) {
-                held.push(FileId(place as u32 + 1))?;
-            }
-        }
-        Ok(held)
+        held_among(self.alloc, client, self.files.as_slice())
     }
 
     /// One more file, of a name that no other has. Takes memory.
@@ -122,10 +116,14 @@ impl Files {
         ensures exact { served_in self.now file ≡ at_place self.now result }
         ensures within { IfSome result (λ place. (place < length self.now) × (place + 1 ≡ file.0)) }
     {
-        if file.0 == 0 || file.0 as usize > self.files.len() {
+        if file.0 == 0 {
             return None;
         }
-        Some(file.0 as usize - 1)
+        let place = file.0 as usize - 1;
+        if place >= self.files.len() {
+            return None;
+        }
+        Some(place)
     }
 
     /// An input of the table of phases comes to a file; whether a period of it ended. Takes memory.
@@ -292,5 +290,29 @@ impl Files {
             return Ok(None);
         };
         self.files[place].send_read(alloc, file, n, xid)
+    }
+}
+
+/// The files whose layout this client has, of these, whose numbers begin at 1. Takes memory.
+fn held_among(alloc: Global, client: u64, files: &[ServedFile]) -> Result<Vec<FileId>, NoMemory>
+    requires { length files.now ≤ 4096 }
+    ensures { IfOk result (λ held. held.items ≡ held_from client 1 files.now) }
+{
+    let mut held = Vec::new(alloc);
+    for (place, served) in files.iter().enumerate() {
+        if is_held_by(client, served) {
+            held.push(FileId(place as u32 + 1))?;
+        }
+    }
+    Ok(held)
+}
+
+/// This client has the file's layout.
+fn is_held_by(client: u64, served: &ServedFile) -> bool
+    ensures { result ≡ is_holder client served.now.holder }
+{
+    match served.holder {
+        Some(holder) => holder == client,
+        None => false,
     }
 }

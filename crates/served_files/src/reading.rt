@@ -1,14 +1,15 @@
 //! READs whose compounds wait for them.
 
-ghost use Rattle.std.specs.Prelude.{◌≡◌, ◌<◌, ◌≤◌, ◌++◌, length, map, drop, position, OnOk, IfOk};
+ghost use Rattle.std.specs.Prelude.{◌≡◌, ◌<◌, ◌≤◌, ◌++◌, length, map, drop, position, OnOk, IfOk, IfSome};
 ghost use Rattle.std.specs.List.{list_any};
 ghost use Rattle.cluster_model.specs.DsCalls.{plain_ds_reply};
 ghost use Rattle.ds_calls.specs.GivenReplies.{HasFewBytes};
 ghost use Rattle.mds_io.specs.Reads.{after_reply, after_timeout};
-ghost use Rattle.mds_rule.specs.ServedFiles.{begins_again};
+ghost use Rattle.mds_rule.specs.ServedFiles.{begins_again, reads_behind};
 ghost use Rattle.mds_rule.specs.Answers.{is_read_out, failed_entry};
-ghost use Rattle.served_files.specs.Waiting.{StepsRead, EndedAt, GivesFew};
+ghost use Rattle.served_files.specs.Waiting.{StepsOne, EndsFew, StepsRead, EndedAt, GivesFew};
 
+use crate::told::has_swap;
 use cluster_model::{DsReply, Entry, Mirrors};
 use compound_run::KeptRun;
 use ff_xdr::NoMemory;
@@ -31,6 +32,37 @@ impl Model for WaitingRead {
     ghost view = { λ r. record { compound = r.compound; read = r.read } };
 }
 
+impl WaitingRead {
+    /// The answer to its call of this number; what its READ ended with, if it has. Its failures are entered. Takes memory.
+    fn answer(
+        &mut self,
+        alloc: Global,
+        xid: u32,
+        reply: &DsReply<'_>,
+        entries: &mut Vec<Entry>,
+    ) -> Result<Option<ReadEnd>, NoMemory>
+        requires { HasFewBytes (plain_ds_reply reply.now) }
+        ensures steps { StepsOne (after_reply self.old.read xid (plain_ds_reply reply.now)) self.old entries.old.items result self.new entries.new.items }
+        ensures few { IfOk result EndsFew }
+    {
+        let before = self.read.failures().len();
+        let end = self.read.on_reply(alloc, xid, reply)?;
+        note_failures(&self.read, before, entries)?;
+        Ok(end)
+    }
+
+    /// A timeout of its call of this number; what its READ ended with, if it has. Its failures are entered. Takes memory.
+    fn time_out(&mut self, xid: u32, entries: &mut Vec<Entry>) -> Result<Option<ReadEnd>, NoMemory>
+        ensures steps { StepsOne (after_timeout self.old.read xid) self.old entries.old.items result self.new entries.new.items }
+        ensures few { IfOk result EndsFew }
+    {
+        let before = self.read.failures().len();
+        let end = self.read.on_timeout(xid);
+        note_failures(&self.read, before, entries)?;
+        Ok(end)
+    }
+}
+
 /// A READ that has ended, and the compound that goes on.
 #[derive(Drop)]
 pub struct EndedRead {
@@ -39,7 +71,7 @@ pub struct EndedRead {
 }
 
 /// The READs begin again with these mirrors.
-pub fn restart(live: Mirrors, reads: &mut [WaitingRead])
+fn restart(live: Mirrors, reads: &mut [WaitingRead])
     ensures { reads.new ≡ map (begins_again live) reads.old }
 {
     for waiting in reads {
@@ -47,9 +79,20 @@ pub fn restart(live: Mirrors, reads: &mut [WaitingRead])
     }
 }
 
+/// The READs begin again with these mirrors where a mirror came into the live list.
+pub fn restart_behind(told: &[Entry], live: Mirrors, reads: &mut [WaitingRead])
+    ensures { reads.new ≡ reads_behind told.now live reads.old }
+{
+    if !has_swap(told) {
+        return;
+    }
+    restart(live, reads);
+}
+
 /// The place of the READ whose call has this number.
-pub fn place_out(xid: u32, reads: &[WaitingRead]) -> Option<usize>
-    ensures { result ≡ position (is_read_out xid) reads.now }
+fn place_out(xid: u32, reads: &[WaitingRead]) -> Option<usize>
+    ensures place { result ≡ position (is_read_out xid) reads.now }
+    ensures within { IfSome result (λ place. place < length reads.now) }
 {
     for (place, waiting) in reads.iter().enumerate() {
         if waiting.read.is_outstanding(xid) {
@@ -72,11 +115,7 @@ pub fn has_out(xid: u32, reads: &[WaitingRead]) -> bool
 }
 
 /// The failures of a READ behind the first so many are entered.
-fn note_failures(
-    read: &MdsRead,
-    before: usize,
-    entries: &mut Vec<Entry>,
-) -> Result<(), NoMemory>
+fn note_failures(read: &MdsRead, before: usize, entries: &mut Vec<Entry>) -> Result<(), NoMemory>
     requires { before ≤ length read.now.failures }
     ensures { OnOk result (entries.new.items ≡ entries.old.items ++ map failed_entry (drop before read.now.failures)) }
 {
@@ -90,13 +129,10 @@ fn note_failures(
 }
 
 /// The READ at this place has ended so, if it has.
-fn end_at(
-    place: usize,
-    end: Option<ReadEnd>,
-    reads: &mut Vec<WaitingRead>,
-) -> Option<EndedRead>
+fn end_at(place: usize, end: Option<ReadEnd>, reads: &mut Vec<WaitingRead>) -> Option<EndedRead>
     requires { place < length reads.old.items }
-    ensures { EndedAt reads.old.items place end result reads.new.items }
+    ensures ends { EndedAt reads.old.items place end result reads.new.items }
+    ensures few { EndsFew end → GivesFew result }
 {
     let end = end?;
     let waiting = reads.remove(place);
@@ -121,9 +157,7 @@ pub fn answer_in(
     let Some(place) = place_out(xid, reads.as_slice()) else {
         return Ok(None);
     };
-    let before = reads[place].read.failures().len();
-    let end = reads[place].read.on_reply(alloc, xid, reply)?;
-    note_failures(&reads[place].read, before, entries)?;
+    let end = reads[place].answer(alloc, xid, reply, entries)?;
     Ok(end_at(place, end, reads))
 }
 
@@ -139,8 +173,6 @@ pub fn time_out_in(
     let Some(place) = place_out(xid, reads.as_slice()) else {
         return Ok(None);
     };
-    let before = reads[place].read.failures().len();
-    let end = reads[place].read.on_timeout(xid);
-    note_failures(&reads[place].read, before, entries)?;
+    let end = reads[place].time_out(xid, entries)?;
     Ok(end_at(place, end, reads))
 }

@@ -32,11 +32,7 @@ pub fn size_of_first(live: Mirrors, sizes: &[(MirrorId, u64)]) -> u64
 }
 
 /// This size was seen at a mirror. Takes memory.
-pub fn set_size(
-    id: MirrorId,
-    size: u64,
-    sizes: &mut Vec<(MirrorId, u64)>,
-) -> Result<(), NoMemory>
+pub fn set_size(id: MirrorId, size: u64, sizes: &mut Vec<(MirrorId, u64)>) -> Result<(), NoMemory>
     ensures { OnOk result (sizes.new.items ≡ with_size id size sizes.old.items) }
 {
     sizes.retain(|seen| seen.0 != id);

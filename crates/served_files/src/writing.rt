@@ -60,11 +60,7 @@ fn cause_at(failures: &[(MirrorId, LeftCause)], mirror: &Mirror) -> Option<LeftC
 }
 
 /// The same of the mirror at a place of the live list.
-fn cause_there(
-    failures: &[(MirrorId, LeftCause)],
-    live: Mirrors,
-    place: usize,
-) -> Option<LeftCause>
+fn cause_there(failures: &[(MirrorId, LeftCause)], live: Mirrors, place: usize) -> Option<LeftCause>
     ensures { result ≡ cause_there failures.now (slice_get live place) }
 {
     match live.get(place) {
@@ -74,10 +70,7 @@ fn cause_there(
 }
 
 /// Why each live mirror failed it, by its place.
-pub fn causes_of(
-    failures: &[(MirrorId, LeftCause)],
-    live: Mirrors,
-) -> [Option<LeftCause>; 4]
+pub fn causes_of(failures: &[(MirrorId, LeftCause)], live: Mirrors) -> [Option<LeftCause>; 4]
     ensures { result ≡ failures_by_place failures.now live }
 {
     [

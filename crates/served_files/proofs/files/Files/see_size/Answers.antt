@@ -1,0 +1,28 @@
+use Rattle.std.proofs.lemmas.Result.{on_ok_weaker}
+use Rattle.cluster_model.specs.DsCalls.{plain_ds_call, plain_ds_reply}
+use Rattle.mds_rule.specs.Answers.{sized, fileid_of, attributes_shown}
+use Rattle.mds_rule.specs.MdsStates.{ServedFile}
+use Rattle.served_files.proofs.FileLists.{is_at, stands, changed}
+use Rattle.served_files.proofs.files.Files.see_size.Goals as goal
+
+pub invariant_of-self : goal.invariant_of-self
+invariant_of-self c =
+    let now = c.args.self.now in
+    let files = c.self.inside.files.items in
+    let file = c.args.file in
+    let place = c.in-Some.place in
+    let x = c.index_mut.result.now in
+    let y = c.see_size.new.self in
+    let at = is_at now files file place x c.self.view_is c.in-Some.ensures.exact c.in-Some.ensures.within.0 c.in-Some.ensures.within.1 c.index_mut.ensures.value in
+    stands now files file place x at y c.self.inside.names c.see_size.ensures.name c.self.invariant
+
+pub returns : goal.returns
+returns c =
+    let now = c.args.self.now in
+    let files = c.self.inside.files.items in
+    let file = c.args.file in
+    let place = c.in-Some.place in
+    let x = c.index_mut.result.now in
+    let y = c.see_size.new.self in
+    let at = is_at now files file place x c.self.view_is c.in-Some.ensures.exact c.in-Some.ensures.within.0 c.in-Some.ensures.within.1 c.index_mut.ensures.value in
+    on_ok_weaker c.see_size.result (λ is. changed now files file place x at y (λ (s : ServedFile). sized s c.args.server (fileid_of (plain_ds_call c.args.call.now) (plain_ds_reply c.args.reply.now)) (attributes_shown (plain_ds_reply c.args.reply.now))) is) c.see_size.ensures.sizes
