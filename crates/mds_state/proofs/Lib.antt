@@ -1,0 +1,6 @@
+pub mod StepLemmas
+mod Devices
+mod Forgotten
+mod Numbers
+mod ServerLists
+mod Turns

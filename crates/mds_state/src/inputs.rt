@@ -78,12 +78,7 @@ fn begin_recall(
 }
 
 /// The layout that a client has of a file is asked back, where it is not yet; it is `now`, in seconds. Takes memory.
-pub fn ask_back(
-    state: &mut State,
-    file: FileId,
-    now: u64,
-    out: &mut Outbox,
-) -> Result<(), NoMemory>
+pub fn ask_back(state: &mut State, file: FileId, now: u64, out: &mut Outbox) -> Result<(), NoMemory>
     ensures steps { OnOk result (HasStepped (asks_back state.old file now) out.old state.new out.new) }
     ensures silent { OnOk result (out.new.sends.items ≡ out.old.sends.items) }
 {
@@ -99,11 +94,7 @@ pub fn ask_back(
 }
 
 /// What a recall came to: the period ends where the client knows of no such layout, and where it did not answer. Takes memory.
-pub fn end_recall(
-    state: &mut State,
-    outcome: Outcome,
-    out: &mut Outbox,
-) -> Result<(), NoMemory>
+pub fn end_recall(state: &mut State, outcome: Outcome, out: &mut Outbox) -> Result<(), NoMemory>
     ensures steps { OnOk result (HasStepped (recall_outcome state.old outcome) out.old state.new out.new) }
     ensures silent { OnOk result (out.new.sends.items ≡ out.old.sends.items) }
 {

@@ -58,27 +58,57 @@ impl ServerList {
         ensures few { length result.items ≤ 4 }
         ensures apart { are_different result.items ≡ true }
     {
-        let count = self.addresses.len() as u32;
-        let mut servers = ArrayVec::new();
-        for place in 0..self.mirrors {
-            servers.push(nth_server(count, file, place));
-        }
-        servers
+        servers_of(self.addresses.len() as u32, self.mirrors, file)
     }
 
     /// The address of the server with this device.
     pub fn find(&self, device: DeviceId) -> Option<NetAddr>
         ensures { option_map address_value result ≡ device_from 1 self.now.addresses device.0 }
     {
-        let mut number = 1;
-        for address in &self.addresses {
-            if device_of(number) == device {
-                return Some(*address);
-            }
-            number += 1;
-        }
-        None
+        address_of(&self.addresses, device)
     }
+}
+
+/// The address of the server with this device, of these by their numbers from 1.
+fn address_of(addresses: &[NetAddr], device: DeviceId) -> Option<NetAddr>
+    requires { length addresses.now < 2 ^ 31 }
+    ensures { option_map address_value result ≡ device_from 1 (map address_value addresses.now) device.0 }
+{
+    for (place, address) in addresses.iter().enumerate() {
+        if device_of(place as u32 + 1) == device {
+            return Some(*address);
+        }
+    }
+    None
+}
+
+/// So many servers for the mirrors of a file.
+fn servers_of(servers: u32, mirrors: u32, file: u32) -> ArrayVec<u32, 4>
+    requires some { 1 ≤ mirrors }
+    requires few { mirrors ≤ 4 }
+    requires within { mirrors ≤ servers }
+    requires bound { servers < 2 ^ 31 }
+    requires first { 1 ≤ file }
+    ensures exact { result.items ≡ servers_of servers mirrors file }
+    ensures some { 1 ≤ length result.items }
+    ensures few { length result.items ≤ 4 }
+    ensures apart { are_different result.items ≡ true }
+{
+    let mut chosen = ArrayVec::new();
+    chosen.push(nth_server(servers, file, 0));
+    if mirrors == 1 {
+        return chosen;
+    }
+    chosen.push(nth_server(servers, file, 1));
+    if mirrors == 2 {
+        return chosen;
+    }
+    chosen.push(nth_server(servers, file, 2));
+    if mirrors == 3 {
+        return chosen;
+    }
+    chosen.push(nth_server(servers, file, 3));
+    chosen
 }
 
 /// The server of a file's mirror at this place.
