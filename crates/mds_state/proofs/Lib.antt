@@ -1,3 +1,4 @@
+pub mod OpLemmas
 pub mod StepLemmas
 mod Devices
 mod Forgotten
