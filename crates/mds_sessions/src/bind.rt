@@ -43,7 +43,11 @@ fn bind_result(session: SessionId, asked: FromClient) -> OpRes<'static>
 }
 
 /// BIND_CONN_TO_SESSION: the session's callbacks go to the node that asks. Takes memory.
-pub fn bind(state: &mut State, run: &mut Run<'_>, args: &BindConnArgs) -> Result<OpEnd, NoMemory>
+pub fn bind_conn_to_session(
+    state: &mut State,
+    run: &mut Run<'_>,
+    args: &BindConnArgs,
+) -> Result<OpEnd, NoMemory>
     requires { HasRoom run.old }
     ensures op { (out : Outbox) → HasOperated (runs_bind state.old run.old (bind_conn4_value from_client4 from_client4_number args.now)) out result state.new run.new out }
     ensures on { GoesOn run.old result run.new }

@@ -7,7 +7,7 @@ mod destroy;
 mod exchange;
 mod reclaim;
 
-pub use bind::bind;
+pub use bind::bind_conn_to_session;
 pub use create::create_session;
 pub use destroy::{destroy_client, destroy_session};
 pub use exchange::exchange_id;
