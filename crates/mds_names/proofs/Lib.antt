@@ -1,0 +1,3 @@
+mod ClosesNone
+mod OpenLemmas
+mod Values
