@@ -1,0 +1,5 @@
+mod GoesEach
+mod GoesKept
+mod GoesOwn
+mod GoesReads
+mod GoesRecalls
