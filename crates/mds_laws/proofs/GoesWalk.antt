@@ -134,7 +134,7 @@ module _ (I : MdsValue → List Entry → List MdsSend → Type 0) (k : Cases I)
 
   repeat_walk : (m : MdsValue) (o : Option AwaitedCall) → ((call : AwaitedCall) → o ≡ Some call → In call m.calls) → Keeps I m (repeats_call m o)
   repeat_walk m None inside = same I m
-  repeat_walk m (Some call) inside es ss i = sends_again m call.sent es ss (k.was m es ss i call (inside call refl)) i
+  repeat_walk m (Some call) inside = λ es ss i. sends_again m call.sent es ss (k.was m es ss i call (inside call refl)) i
 
   repeats_walk : (kept : Option (Option (ℕ × ℕ))) (m : MdsValue) → Keeps I m (repeats kept m)
   repeats_walk None m = same I m
