@@ -1,14 +1,14 @@
 -- The calls of a map, by what the map says.
-use Rattle.std.proofs.Common.{◌≡◌, ℕ, ◌<◌, Bool, true, false, not, cond, eqb, List, [], ◌∷◌, filter, Option, Some, None, Bor, refl, sym, ap, subst, ◌∙◌, arith}
-use Rattle.std.specs.Prelude.{◌&&◌, ◌==◌, nat_le, nat_lt, find, is_some, option_copied}
-use Rattle.std.specs.Ordering.{nat_cmp, is_le, match_ordering}
+use Rattle.std.proofs.Common.{◌≡◌, ℕ, ◌<◌, Bool, true, false, not, cond, eqb, List, [], ◌∷◌, filter, map, Option, Some, None, Bor, refl, sym, ap, subst, ◌∙◌, arith}
+use Rattle.std.specs.Prelude.{◌&&◌, ◌==◌, nat_lt, find, is_some, option_copied}
+use Rattle.std.specs.Ordering.{nat_cmp, is_lt, match_ordering}
 use Rattle.std.specs.declared.cmp.Ordering.TheVariants.{Less, Equal, Greater}
-use Rattle.std.specs.declared.ops.Bound.TheVariants.{Included, Unbounded}
+use Rattle.std.specs.declared.ops.Bound.TheVariants.{Unbounded}
 use Rattle.std.specs.List.{AllByRecursion}
 use Rattle.std.specs.List.Sorted.{IsStrictlySortedBy}
 use Rattle.std.specs.Map.{keys_of, lookup, remove_entry}
 use Rattle.std.specs.BTreeMap.{is_at, insert_entry}
-use Rattle.std.specs.BTreeMap.Range.{entries_between}
+use Rattle.std.specs.BTreeMap.Range.{entries_between, is_from_start}
 use Rattle.std.proofs.lemmas.Bool.{eq-eqb, ne_eqb, eqb-true}
 use Rattle.std.proofs.lemmas.Bool.Decides.{nat_tests}
 use Rattle.std.proofs.lemmas.Cmp.{ranked}
@@ -17,7 +17,7 @@ use Rattle.std.proofs.lemmas.Map.Keys.{sorted_head, sorted_tail}
 use Rattle.cluster_model.specs.declared.ids.NodeId.{NodeId}
 use Rattle.cluster_model.specs.Nodes.{is_node}
 use Rattle.mds_rule.specs.MdsStates.{AwaitedCall, with_call, is_call_to, without_call}
-use Rattle.awaited_calls.specs.Awaited.{calls_of, AtNumbers}
+use Rattle.awaited_calls.specs.Awaited.{calls_of, AtNumbers, AtOwnNumbers, AreOrdered, is_behind, start_behind}
 
 -- ---- a call more
 
@@ -176,34 +176,46 @@ module _ (node : NodeId) (xid : ℕ) where
           (λ some. by_other (is_node e.1.node node) some rest)
           there
 
--- ---- from a number on
+-- ---- from behind a number on
 
-is_from : (from : ℕ) (e : ℕ × AwaitedCall) → e.0 ≡ e.1.xid → is_le (nat_cmp from e.0) ≡ nat_le from e.1.xid
-is_from from e at = ap is_le (ap (nat_cmp from) at) ∙ same (is_le (nat_cmp from e.1.xid)) (nat_le from e.1.xid) (λ there. grind (arith, nat_tests)) (λ there. grind (arith, nat_tests))
+starts_there : (after : Option ℕ) (e : ℕ × AwaitedCall) → e.0 ≡ e.1.xid → is_from_start nat_cmp (start_behind after) e.0 ≡ is_behind after e.1.xid
+starts_there None e at = refl
+starts_there (Some n) e at = ap is_lt (ap (nat_cmp n) at) ∙ same (is_lt (nat_cmp n e.1.xid)) (nat_lt n e.1.xid) (λ there. grind (arith, nat_tests)) (λ there. grind (arith, nat_tests))
   where
     same : (a b : Bool) → (a ≡ true → b ≡ true) → (b ≡ true → a ≡ true) → a ≡ b
     same true b there back = sym (there refl)
     same false true there back = back refl
     same false false there back = refl
 
-module _ (node : NodeId) (from : ℕ) where
+module _ (node : NodeId) (after : Option ℕ) where
   abbrev IsNext : AwaitedCall → Bool
-  IsNext call = is_node call.node node && nat_le from call.xid
+  IsNext call = is_node call.node node && is_behind after call.xid
+
+  abbrev behind : List (ℕ × AwaitedCall) → List (ℕ × AwaitedCall)
+  behind es = entries_between nat_cmp (start_behind after) Unbounded es
 
   -- the first from there on is the first of the map's range that goes to the node
-  pub from_there : (es : List (ℕ × AwaitedCall)) → AtNumbers es → find IsNext (calls_of es) ≡ find (λ call. is_node call.node node) (calls_of (entries_between nat_cmp (Included from) Unbounded es))
-  from_there [] at = refl
-  from_there (e ∷ es) at =
-      ap (λ b. cond (is_node e.1.node node && b) (Some e.1) (find IsNext (calls_of es))) (sym (is_from from e at.0))
-      ∙ by_key (is_le (nat_cmp from e.0)) (from_there es at.1)
+  pub next_there : (es : List (ℕ × AwaitedCall)) → AtNumbers es → find IsNext (calls_of es) ≡ find (λ call. is_node call.node node) (calls_of (behind es))
+  next_there [] at = refl
+  next_there (e ∷ es) at =
+      ap (λ b. cond (is_node e.1.node node && b) (Some e.1) (find IsNext (calls_of es))) (sym (starts_there after e at.0))
+      ∙ by_key (is_from_start nat_cmp (start_behind after) e.0) (next_there es at.1)
     where
-      by_node : (b : Bool) → find IsNext (calls_of es) ≡ find (λ call. is_node call.node node) (calls_of (entries_between nat_cmp (Included from) Unbounded es))
-          → cond (b && true) (Some e.1) (find IsNext (calls_of es)) ≡ cond b (Some e.1) (find (λ call. is_node call.node node) (calls_of (entries_between nat_cmp (Included from) Unbounded es)))
+      by_node : (b : Bool) → find IsNext (calls_of es) ≡ find (λ call. is_node call.node node) (calls_of (behind es))
+          → cond (b && true) (Some e.1) (find IsNext (calls_of es)) ≡ cond b (Some e.1) (find (λ call. is_node call.node node) (calls_of (behind es)))
       by_node true rest = refl
       by_node false rest = rest
 
-      by_key : (b : Bool) → find IsNext (calls_of es) ≡ find (λ call. is_node call.node node) (calls_of (entries_between nat_cmp (Included from) Unbounded es))
-          → cond (is_node e.1.node node && b) (Some e.1) (find IsNext (calls_of es))
-          ≡ find (λ call. is_node call.node node) (calls_of (cond (b && true) (e ∷ entries_between nat_cmp (Included from) Unbounded es) (entries_between nat_cmp (Included from) Unbounded es)))
+      by_key : (b : Bool) → find IsNext (calls_of es) ≡ find (λ call. is_node call.node node) (calls_of (behind es))
+          → cond (is_node e.1.node node && b) (Some e.1) (find IsNext (calls_of es)) ≡ find (λ call. is_node call.node node) (calls_of (cond (b && true) (e ∷ behind es) (behind es)))
       by_key true rest = by_node (is_node e.1.node node) rest
       by_key false rest = off (is_node e.1.node node) (Some e.1) (find IsNext (calls_of es)) ∙ rest
+
+-- ---- the order of the calls is that of the numbers at which they stand
+
+numbers_are : (entries : List (ℕ × AwaitedCall)) → AtNumbers entries → keys_of entries ≡ map (λ (c : AwaitedCall). c.xid) (calls_of entries)
+numbers_are [] at = refl
+numbers_are (e ∷ entries) at = ap (λ x. x ∷ keys_of entries) at.0 ∙ ap (λ xs. e.1.xid ∷ xs) (numbers_are entries at.1)
+
+pub are_ordered : (calls : List AwaitedCall) (entries : List (ℕ × AwaitedCall)) → calls ≡ calls_of entries → AtOwnNumbers entries → AreOrdered calls
+are_ordered calls entries is own = subst AreOrdered (sym is) (subst (IsStrictlySortedBy nat_cmp) (numbers_are entries own.0) own.1)

@@ -1,5 +1,7 @@
 -- The calls that were sent, as the rule of a metadata server has them.
-use Rattle.std.specs.Prelude.{ℕ, ◌≡◌, List, [], ◌∷◌, ⊤}
+use Rattle.std.specs.Prelude.{ℕ, ◌≡◌, Bool, true, List, [], ◌∷◌, ⊤, map, nat_lt, Option, Some, None}
+use Rattle.std.specs.declared.ops.Bound.{Bound}
+use Rattle.std.specs.declared.ops.Bound.TheVariants.{Excluded, Unbounded}
 use Rattle.std.specs.Map.{keys_of, values_of}
 use Rattle.std.specs.Ordering.{nat_cmp}
 use Rattle.std.specs.List.Sorted.{IsStrictlySortedBy}
@@ -21,6 +23,20 @@ abbrev pub AtNumbers : List (ℕ × AwaitedCall) → Type 0
 AtNumbers [] = ⊤
 AtNumbers (e ∷ entries) = (e.0 ≡ e.1.xid) × AtNumbers entries
 
+-- a number is behind another one; behind none all are
+abbrev pub is_behind : Option ℕ → ℕ → Bool
+is_behind None xid = true
+is_behind (Some after) xid = nat_lt after xid
+
+-- where the numbers behind another one begin in a map
+abbrev pub start_behind : Option ℕ → Bound ℕ
+start_behind None = Unbounded
+start_behind (Some after) = Excluded after
+
+-- the calls are in the order of their numbers, and no number stands twice
+abbrev pub AreOrdered : List AwaitedCall → Type 0
+AreOrdered calls = IsStrictlySortedBy nat_cmp (map (λ (c : AwaitedCall). c.xid) calls)
+
 -- and each number stands once, in order
-abbrev pub AreNumbered : List (ℕ × AwaitedCall) → Type 0
-AreNumbered entries = AtNumbers entries × IsStrictlySortedBy nat_cmp (keys_of entries)
+abbrev pub AtOwnNumbers : List (ℕ × AwaitedCall) → Type 0
+AtOwnNumbers entries = AtNumbers entries × IsStrictlySortedBy nat_cmp (keys_of entries)

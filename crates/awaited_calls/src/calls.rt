@@ -1,8 +1,9 @@
 //! The calls that are outstanding.
 
-ghost use Rattle.std.specs.Prelude.{◌≡◌, ◌&&◌, [], find, nat_le, option_copied, OnOk, OnErr};
+ghost use Rattle.std.specs.Prelude.{◌≡◌, ◌&&◌, [], find, option_copied, OnOk, OnErr};
 ghost use Rattle.cluster_model.specs.Nodes.{is_node};
 ghost use Rattle.mds_rule.specs.MdsStates.{with_call, is_call_to, without_call};
+ghost use Rattle.awaited_calls.specs.Awaited.{AreOrdered, is_behind, start_behind};
 
 use crate::awaited_call::AwaitedCall;
 use cluster_model::NodeId;
@@ -10,6 +11,7 @@ use ff_xdr::NoMemory;
 use std::alloc::Global;
 use std::collections::BTreeMap;
 use std::marker::Model;
+use std::ops::Bound;
 
 /// The calls that were sent and are not answered, each number once (RFC 5531, section 9). Clauses see a list, in the order of
 /// the numbers. `add`, `get`, `remove` and `take` cost the logarithm of how many there are.
@@ -21,13 +23,13 @@ pub struct Calls {
 impl Model for Calls {
     ghost use Rattle.std.specs.Prelude.{List};
     ghost use Rattle.mds_rule.specs.MdsStates.{AwaitedCall as AwaitedCallValue};
-    ghost use Rattle.awaited_calls.specs.Awaited.{calls_of, AreNumbered};
+    ghost use Rattle.awaited_calls.specs.Awaited.{calls_of, AtOwnNumbers};
 
     ghost Value = { List AwaitedCallValue };
 
     ghost view = { λ c. calls_of c.calls.entries };
 
-    ghost invariant = { λ c. AreNumbered c.calls.entries };
+    ghost invariant = { λ c. AtOwnNumbers c.calls.entries };
 }
 
 impl Calls {
@@ -83,17 +85,29 @@ impl Calls {
         self.calls.remove(&xid)
     }
 
-    /// The first call to this node whose number is this one or above. Costs the logarithm of how many there are, and the calls
-    /// to other nodes from this number on that stand before it.
-    pub fn first_to(&self, node: NodeId, from: u32) -> Option<&AwaitedCall>
-        ensures { option_copied result ≡ find (λ call. is_node call.node node && nat_le from call.xid) self.now }
+    /// The first call to this node behind the one with a number, or of all. Costs the logarithm of how many there are, and the calls
+    /// to other nodes from there on that stand before it.
+    pub fn next_to(&self, node: NodeId, after: Option<u32>) -> Option<&AwaitedCall>
+        ensures next { option_copied result ≡ find (λ call. is_node call.node node && is_behind after call.xid) self.now }
+        ensures ordered { AreOrdered self.now }
     {
-        for (_, call) in self.calls.range(from..) {
+        let start = start_behind(after);
+        for (_, call) in self.calls.range((start, Bound::Unbounded)) {
             if goes_to(call, node) {
                 return Some(call);
             }
         }
         None
+    }
+}
+
+/// From behind a number on, or from the first one on.
+fn start_behind(after: Option<u32>) -> Bound<u32>
+    ensures { result ≡ start_behind after }
+{
+    match after {
+        Some(xid) => Bound::Excluded(xid),
+        None => Bound::Unbounded,
     }
 }
 

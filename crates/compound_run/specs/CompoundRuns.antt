@@ -27,8 +27,8 @@ run_of tag ops p = record {
 }
 
 -- its results are at most 17: each operation has one, and so has what is not read behind them
-abbrev pub HasRoom : CompoundRun → Type 0
-HasRoom c = length c.results + length c.ops < 17
+abbrev pub HasRoomForResults : CompoundRun → Type 0
+HasRoomForResults c = length c.results + length c.ops < 17
 
 -- where a test holds, this
 abbrev pub Where : Bool → Type 0 → Type 0
@@ -60,14 +60,14 @@ HasOperated (Waits m entries) old (Ok end.Waits) n d new = HasEntered m entries 
 HasOperated step old (Err e) n d new = ⊤
 
 -- behind an operation that is done the same operations are still to come, and there is one result more
-abbrev pub GoesOn : CompoundRun → Result OpEnd NoMemory → CompoundRun → Type 0
-GoesOn c (Ok end.Goes) d = (d.ops ≡ c.ops) × (length d.results ≡ length c.results + 1)
-GoesOn c (Ok (end.Ends status)) d = ⊤
-GoesOn c (Ok end.Waits) d = ⊤
-GoesOn c (Err e) d = ⊤
+abbrev pub AddsResult : CompoundRun → Result OpEnd NoMemory → CompoundRun → Type 0
+AddsResult c (Ok end.Goes) d = (d.ops ≡ c.ops) × (length d.results ≡ length c.results + 1)
+AddsResult c (Ok (end.Ends status)) d = ⊤
+AddsResult c (Ok end.Waits) d = ⊤
+AddsResult c (Err e) d = ⊤
 
 -- it made this step, and what the step entered and sent stands behind what there was
-pub record HasStepped (s : MdsStep) (old : Outbox) (n : MdsValue) (new : Outbox) : Type 0 where
+pub record HasMadeStep (s : MdsStep) (old : Outbox) (n : MdsValue) (new : Outbox) : Type 0 where
   pub mds : n ≡ s.mds
   pub entries : new.entries.items ≡ old.entries.items ++ s.entries
   pub sends : new.sends.items ≡ old.sends.items ++ map spelled_send s.sends

@@ -1,7 +1,7 @@
 //! A compound that waits.
 
 ghost use Rattle.std.specs.Prelude.{◌≡◌, IfOk};
-ghost use Rattle.compound_run.specs.CompoundRuns.{run_of, HasRoom};
+ghost use Rattle.compound_run.specs.CompoundRuns.{run_of, HasRoomForResults};
 
 use crate::run::{Progress, Run};
 use compound_reply::Results;
@@ -51,20 +51,20 @@ pub struct KeptRun {
 
 impl Model for KeptRun {
     ghost use Rattle.mds_rule.specs.MdsStates.{CompoundRun};
-    ghost use Rattle.compound_run.specs.CompoundRuns.{run_of, HasRoom};
+    ghost use Rattle.compound_run.specs.CompoundRuns.{run_of, HasRoomForResults};
 
     ghost Value = { CompoundRun };
 
     ghost view = { λ k. run_of k.text.tag k.text.ops k.so_far };
 
-    ghost invariant = { λ k. HasRoom (run_of k.text.tag k.text.ops k.so_far) };
+    ghost invariant = { λ k. HasRoomForResults (run_of k.text.tag k.text.ops k.so_far) };
 }
 
 impl KeptRun {
     /// Its text and how far it is, from which it goes on by `KeptText::resume`.
     pub fn open(self) -> (KeptText, Progress)
         ensures parts { run_of result.0.tag result.0.ops result.1 ≡ self }
-        ensures room { HasRoom self }
+        ensures room { HasRoomForResults self }
     {
         let KeptRun { text, so_far } = self;
         (text, so_far)
@@ -74,7 +74,7 @@ impl KeptRun {
 impl<'a> Run<'a> {
     /// The compound as it is kept while it waits. Its results are not in the run behind it. Takes memory.
     pub fn keep(&mut self, alloc: Global) -> Result<KeptRun, NoMemory>
-        requires { HasRoom self.old }
+        requires { HasRoomForResults self.old }
         ensures { IfOk result (λ kept. kept ≡ self.old) }
     {
         let tag = String::from_str(alloc, self.tag)?;

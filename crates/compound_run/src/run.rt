@@ -7,7 +7,7 @@ ghost use Rattle.nfs4_types.specs.declared.status.Stat4.TheVariants as stat;
 ghost use Rattle.nfs4_compound.specs.Results.{resop4, op_res_value};
 ghost use Rattle.mds_rule.specs.OpSteps.{with_result, refused_as, at_object};
 ghost use Rattle.mds_rule.specs.Compounds.{compound_bytes};
-ghost use Rattle.compound_run.specs.CompoundRuns.{HasRoom, Where, GoesOn};
+ghost use Rattle.compound_run.specs.CompoundRuns.{HasRoomForResults, Where, AddsResult};
 ghost use Rattle.compound_run.specs.declared.op_end.OpEnd.TheVariants.{Goes, Ends};
 
 use crate::op_end::OpEnd;
@@ -59,7 +59,7 @@ impl<'a> Model for Run<'a> {
 impl<'a> Run<'a> {
     /// The result of an operation, behind those before it. Takes memory.
     pub fn push(&mut self, res: &OpRes<'_>) -> Result<(), NoMemory>
-        requires room { HasRoom self.old }
+        requires room { HasRoomForResults self.old }
         requires fits { Fits resop4 (op_res_value res.now) }
         ensures { OnOk result (self.new ≡ with_result self.old (op_res_value res.now)) }
     {
@@ -68,11 +68,11 @@ impl<'a> Run<'a> {
 
     /// An operation is done, with this result. Takes memory.
     pub fn give(&mut self, res: &OpRes<'_>) -> Result<OpEnd, NoMemory>
-        requires room { HasRoom self.old }
+        requires room { HasRoomForResults self.old }
         requires fits { Fits resop4 (op_res_value res.now) }
         ensures goes { IfOk result (λ e. e ≡ Goes) }
         ensures run { OnOk result (self.new ≡ with_result self.old (op_res_value res.now)) }
-        ensures on { GoesOn self.old result self.new }
+        ensures on { AddsResult self.old result self.new }
     {
         self.push(res)?;
         Ok(OpEnd::Goes)
@@ -81,7 +81,7 @@ impl<'a> Run<'a> {
     /// The operation with this number is refused by a status that is not OK, and stands alone as its result: TOOSMALL of
     /// GETDEVICEINFO and LAYOUTTRYLATER of LAYOUTGET do not. Takes memory.
     pub fn refuse(&mut self, number: u32, status: Stat4) -> Result<OpEnd, NoMemory>
-        requires room { HasRoom self.old }
+        requires room { HasRoomForResults self.old }
         requires refusal { status ≢ stat.Ok }
         requires no_size { Where (number == 47) (status ≢ stat.TooSmall) }
         requires no_word { Where (number == 50) (status ≢ stat.LayoutTryLater) }

@@ -3,7 +3,8 @@ use Rattle.std.proofs.Common.{◌≡◌, ℕ, suc, List, [], ◌∷◌, length, 
 use Rattle.serde_json.specs.Data.{Data}
 use Rattle.serde_json.specs.Events.{items_len}
 use Rattle.device_addr.specs.Universal.{AddressValue}
-use Rattle.ff_node.specs.Config.{ConfigValue, Configures, address_items, config_data}
+use Rattle.node_config.specs.Configs.{ConfigValue}
+use Rattle.ff_node.specs.Config.{Configures, address_items, config_data}
 
 items_length : (servers : List AddressValue) → items_len (address_items servers) ≡ length servers
 items_length [] = refl

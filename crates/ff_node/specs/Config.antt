@@ -8,8 +8,10 @@ use Rattle.serde_json.specs.View.{view, items_view}
 use Rattle.serde_json.specs.declared.value.Value.{Value}
 use Rattle.std.specs.declared.alloc.Global.{Global}
 use Rattle.std.specs.Prelude.{Vec}
-use Rattle.ff_node.specs.declared.config.TheConstants.{MAX_LINE, MAX_MIRRORS, MAX_NUMBER, MAX_SERVERS}
-use Rattle.ff_node.specs.declared.config.Config.{Config}
+use Rattle.node_config.specs.declared.config.TheConstants.{MAX_SERVERS}
+use Rattle.node_config.specs.declared.config.Config.{Config}
+use Rattle.node_config.specs.Configs.{ConfigValue, IsInRange, config_value}
+use Rattle.ff_node.specs.declared.config.TheConstants.{MAX_LINE}
 use Rattle.ff_node.specs.declared.config.ConfigFault.{ConfigFault}
 use Rattle.ff_node.specs.declared.config.ConfigFault.TheVariants.{Bad, NoMemory}
 use Rattle.ff_node.specs.declared.config.Fields.{Fields}
@@ -19,27 +21,6 @@ use Rattle.device_addr.specs.Universal.{AddressValue, IsAddress, address_text, a
 -- the longest line of a configuration, in bytes
 abbrev pub max_line : ℕ
 max_line = MAX_LINE
-
-pub record ConfigValue : Type 0 where
-  pub servers : List AddressValue
-  pub mds : AddressValue
-  pub mirrors : ℕ
-  pub own : ℕ
-  pub turns : ℕ
-
--- the ranges: 1 to 16 servers; 1 to 4 mirrors, no more than the servers; 1 to 256; 1 to 4,294,967,295
-pub record IsInRange (c : ConfigValue) : Type 0 where
-  pub addresses : All IsAddress c.servers
-  pub mds_address : IsAddress c.mds
-  pub some : 1 ≤ length c.servers
-  pub few : length c.servers ≤ MAX_SERVERS
-  pub mirrored : 1 ≤ c.mirrors
-  pub mirrors_few : c.mirrors ≤ MAX_MIRRORS
-  pub mirrors_within : c.mirrors ≤ length c.servers
-  pub own_some : 1 ≤ c.own
-  pub own_few : c.own ≤ MAX_NUMBER
-  pub turns_some : 1 ≤ c.turns
-  pub turns_few : c.turns < 2 ^ 32
 
 abbrev pub address_items : List AddressValue → Items
 address_items [] = no_items
@@ -92,10 +73,6 @@ pub record Configures (line : List ℕ) (c : ConfigValue) : Type 0 where
   pub value : read line ≡ Some (config_data c)
   pub five : colons line ≡ 5
   pub in_range : IsInRange c
-
--- the value of a configuration of the code
-abbrev pub config_value : Config → ConfigValue
-config_value c = record { servers = map address_value c.servers.items; mds = address_value c.mds; mirrors = c.mirrors; own = c.own; turns = c.turns }
 
 abbrev pub field_values : Fields → FieldValues
 field_values f = record { mds = view f.mds; mirrors = view f.mirrors; own = view f.own; servers = view f.servers; turns = view f.turns }

@@ -4,7 +4,7 @@ use Rattle.ff_xdr.specs.declared.error.NoMemory.{NoMemory}
 use Rattle.rpc_record.specs.declared.stream.Failed.{Failed}
 use Rattle.cluster_model.specs.declared.ids.NodeId.{NodeId}
 use Rattle.device_addr.specs.declared.net_addr.NetAddr.{NetAddr}
-use Rattle.ff_node.specs.declared.config.Config.{Config}
+use Rattle.node_config.specs.declared.config.Config.{Config}
 use Rattle.ff_node.specs.declared.link.Opening.{Opening}
 use Rattle.ff_node.specs.declared.link.Role.{Role}
 use Rattle.ff_node.specs.declared.link.Role.TheVariants.{Mds, Server, Client}

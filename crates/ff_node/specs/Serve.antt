@@ -10,7 +10,7 @@ use Rattle.ds_files.specs.Receive.{outcome_of}
 use Rattle.ds_files.specs.Records.{sent_to}
 use Rattle.ff_node.specs.declared.link.Arrival.{Arrival}
 use Rattle.ff_node.specs.declared.link.Arrival.TheVariants.{Record, TimedOut, Closed}
-use Rattle.ff_node.specs.declared.config.Config.{Config}
+use Rattle.node_config.specs.declared.config.Config.{Config}
 use Rattle.ff_node.specs.declared.link.Opening.{Opening}
 use Rattle.ff_node.specs.declared.link.Role.{Role}
 use Rattle.ff_node.specs.Link.{opening_of}

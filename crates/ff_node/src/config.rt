@@ -5,39 +5,17 @@ ghost use Rattle.std.specs.List.{All};
 ghost use Rattle.serde_json.specs.Data.{Data, string, array, number, unsigned, Members, member};
 ghost use Rattle.serde_json.specs.View.{view, items_view, members_view};
 ghost use Rattle.device_addr.specs.Universal.{AddressValue, IsAddress, address_text, address_value};
-ghost use Rattle.ff_node.specs.Config.{ConfigValue, FieldValues, Configures, IsInRange, ListsServers, ReadsConfig, ReadsItems, ReadsServers, ReadsValue, config_fields, config_value, before, five_members, field_values, colons};
+ghost use Rattle.node_config.specs.Configs.{ConfigValue, IsInRange, config_value};
+ghost use Rattle.ff_node.specs.Config.{FieldValues, Configures, ListsServers, ReadsConfig, ReadsItems, ReadsServers, ReadsValue, config_fields, before, five_members, field_values, colons};
 
 use device_addr::{NetAddr, parse_universal};
+use node_config::{Config, MAX_MIRRORS, MAX_NUMBER, MAX_SERVERS};
 use serde_json::{Map, Value};
 use std::alloc::Global;
 use thiserror::Error;
 
 /// The longest line of a configuration, in bytes.
 pub const MAX_LINE: usize = 65_536;
-
-/// The most data servers of a configuration.
-pub const MAX_SERVERS: usize = 16;
-
-/// The most mirrors of a file.
-pub const MAX_MIRRORS: u32 = 4;
-
-/// The largest number of a node.
-pub const MAX_NUMBER: u32 = 256;
-
-/// What a node is told at its start.
-#[derive(Debug, Drop)]
-pub struct Config {
-    /// The addresses of the data servers, 1 to 16: that of server number 1 first.
-    pub servers: Vec<NetAddr>,
-    /// The address of the metadata server.
-    pub mds: NetAddr,
-    /// How many mirrors a file has: 1 to 4, and no more than there are data servers.
-    pub mirrors: u32,
-    /// The node's own number, 1 to 256.
-    pub own: u32,
-    /// How many arrivals the node takes before it ends, at least 1.
-    pub turns: u32,
-}
 
 /// Why there is no configuration.
 #[derive(Clone, Copy, Debug, PartialEq, Eq, Error)]

@@ -7,10 +7,10 @@ ghost use Rattle.ff_node.specs.declared.link.Arrival.{Arrival};
 ghost use Rattle.ff_node.specs.declared.link.Opening.{Opening};
 ghost use Rattle.ff_node.specs.Link.{Gives, OpensLink, HandsOver, address_numbered, opening_of, own_address};
 
-use crate::config::Config;
 use cluster_model::NodeId;
 use device_addr::NetAddr;
 use ff_xdr::{Data, NoMemory};
+use node_config::Config;
 use rpc_record::Failed;
 
 /// What a node is in its cluster.

@@ -4,11 +4,11 @@ ghost use Rattle.std.specs.Prelude.{◌≡◌, ◌↔◌, List, [], None, Some, 
 ghost use Rattle.rpc_record.specs.Stream.{counted, one_more, fails_next};
 ghost use Rattle.ff_node.specs.Link.{OpensLink, Gives, HandsOver};
 
-use crate::config::Config;
 use crate::link::{Arrival, Link, Role};
 use crate::sure_link::SureLink;
 use cluster_model::NodeId;
 use ff_xdr::{Data, NoMemory};
+use node_config::Config;
 use rpc_record::Failed;
 use std::alloc::Global;
 use std::marker::Model;

@@ -5,12 +5,12 @@ ghost use Rattle.cluster_model.specs.Server.{new_server};
 ghost use Rattle.ff_node.specs.declared.link.Role.{Role};
 ghost use Rattle.ff_node.specs.Serve.{AnswersArrival, NodeServes, OpensFor, SendsAll, Serves, TakesTurn, end_of, is_closed, link_faults, turn_faults};
 
-use crate::config::Config;
 use crate::link::{Arrival, Link, Role};
 use crate::node::Node;
 use cluster_model::{NodeId, Outbox};
 use ds_files::DataServer;
 use ff_xdr::{Data, NoMemory};
+use node_config::Config;
 use rpc_record::Failed;
 use std::alloc::Global;
 

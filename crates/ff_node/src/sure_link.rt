@@ -4,10 +4,10 @@ ghost use Rattle.std.specs.Prelude.{◌≡◌, ◌≢◌, List, [], None, Some, 
 ghost use Rattle.rpc_record.specs.Stream.{counted};
 ghost use Rattle.ff_node.specs.Link.{OpensLink, Gives};
 
-use crate::config::Config;
 use crate::link::{Arrival, Link, Opening, Role};
 use cluster_model::NodeId;
 use ff_xdr::{Data, NoMemory};
+use node_config::Config;
 use rpc_record::Failed;
 use std::alloc::Global;
 use std::collections::VecDeque;

@@ -3,11 +3,11 @@
 ghost use Rattle.std.specs.Prelude.{◌≡◌, None};
 ghost use Rattle.rpc_record.specs.Stream.{one_more};
 
-use crate::config::Config;
 use crate::link::{Arrival, Link, Opening, Role};
 use cluster_model::NodeId;
 use device_addr::NetAddr;
 use ff_xdr::NoMemory;
+use node_config::Config;
 use record_server::RecordServer;
 use record_tcp::TcpNetwork;
 use rpc_record::Failed;

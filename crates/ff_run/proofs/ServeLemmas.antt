@@ -8,9 +8,10 @@ use Rattle.line_runs.specs.declared.end.RunEnd.{RunEnd}
 use Rattle.line_runs.specs.declared.end.RunEnd.TheVariants.{Done, BadLine, ReadFault, WriteFault, NoMemory, Limit}
 use Rattle.line_runs.specs.Lines.{Drawn, cut_line, ReadsLine}
 use Rattle.line_runs.proofs.LineLemmas.{cut_more-line, cut_more-over}
-use Rattle.ff_node.specs.declared.config.Config.{Config}
+use Rattle.node_config.specs.declared.config.Config.{Config}
 use Rattle.ff_node.specs.declared.serve.NodeEnd.{NodeEnd}
-use Rattle.ff_node.specs.Config.{ConfigValue, Configures, max_line}
+use Rattle.node_config.specs.Configs.{ConfigValue}
+use Rattle.ff_node.specs.Config.{Configures, max_line}
 use Rattle.ff_node.proofs.OneConfig.{one_config}
 use Rattle.ff_run.specs.Node.{DrawsFirst, Draws, line_of_cut, first_line, ConfiguresServer, FindsConfig, HasNoConfig, ReadsFirst, FirstFaults}
 

@@ -6,10 +6,11 @@ use Rattle.line_runs.specs.declared.end.RunEnd.TheVariants.{Done, BadLine, ReadF
 use Rattle.line_runs.specs.Lines.{Cut, Line, Last, PastBudget, cut_line, Drawn}
 use Rattle.line_runs.specs.Playback.{EndFaults}
 use Rattle.cluster_model.specs.Server.{new_server}
-use Rattle.ff_node.specs.declared.config.Config.{Config}
+use Rattle.node_config.specs.declared.config.Config.{Config}
 use Rattle.ff_node.specs.declared.link.Arrival.{Arrival}
 use Rattle.ff_node.specs.declared.serve.NodeEnd.{NodeEnd}
-use Rattle.ff_node.specs.Config.{ConfigValue, Configures, config_value, max_line}
+use Rattle.node_config.specs.Configs.{ConfigValue, config_value}
+use Rattle.ff_node.specs.Config.{Configures, max_line}
 use Rattle.ff_node.specs.Serve.{Serves, link_faults}
 
 -- the first line, where it is not too long

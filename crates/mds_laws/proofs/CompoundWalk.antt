@@ -45,7 +45,7 @@ use Rattle.mds_rule.specs.declared.waiter.Waiter.TheVariants.{ForFile, ForRead, 
 use Rattle.mds_rule.specs.OpSteps.{OpStep, Goes, Ends, Waits, with_result, refuses, refused_as, unread, stopped, is_operation_number}
 use Rattle.mds_rule.specs.ServedFiles.{takes_input}
 use Rattle.mds_rule.specs.Compounds.{operate, has_session, operates, compound_bytes, kept_in_slot, finishes, op_then, with_ops, runs, sequence_in, in_slot, sequenced, sequence_of, may_stand_alone, first_alone, first_by, first_operation, new_run, runs_compound}
-use Rattle.mds_rule.specs.Answers.{is_awaited, sized, fileid_of, attributes_shown, sees_in, sees_size, resumes, is_done_as, has_failed_as, failed_entry, failed_entries, read_result, without_read, read_ends, read_step_at, read_from, read_of, steps_read, is_read_out, write_answer, write_ends, write_of, write_in, steps_write, with_failed, failures_by_place, has_failed_everywhere, write_over, sees_ctime, recall_end, recall_outcome, recalls_after, server_answered, answered_as, answers_found, takes_answer, timed_out_for}
+use Rattle.mds_rule.specs.Answers.{is_awaited, sized, fileid_of, attributes_shown, sees_in, sees_size, resumes, is_done_as, has_failed_as, failed_entry, failed_entries, read_result, without_read, read_ends, read_step_at, read_from, read_of, steps_read, is_read_out, write_answer, write_ends, write_of, write_in, steps_write, with_failed, failures_by_place, has_failed_everywhere, write_over, sees_ctime, recall_end, recall_outcome, recalls_after, own_answer, server_answered, answered_as, answers_found, takes_answer, timed_out_for}
 use Rattle.mds_laws.proofs.Keeping.{Becomes, Enters, Keeps, KeepsOp, Cases, IsCredOf, IsWriteOf, then_keeps, none_keeps, same, becomes_keeps, enters_keeps, no_entries, stays, silent_keeps}
 use Rattle.mds_laws.proofs.ServedWalk.{takes, sessions_become, recalls_become, exchanges, creates, binds, destroys_session, destroys_client, reclaims_all}
 use Rattle.mds_laws.proofs.OpsWalk.{old_write, puts_fh, gets_fh, looks_up, gets_attr, opens, closes_file, commits, reads, writes, layout_gets, layout_returns, layout_commits, device_infos}
@@ -283,8 +283,9 @@ module _ (I : MdsValue → List Entry → List MdsSend → Type 0) (k : Cases I)
 
   server_walk : (now : ℕ) (m : MdsValue) (server xid : ℕ) (call : DsCallValue) (reply : DsReplyValue) (caller : Waiter) → Keeps I m (server_answered now m server xid call reply caller)
   server_walk now m server xid call reply (ForFile file) =
-      becomes_keeps I m (sees_size m file server call reply) (takes_input (sees_size m file server call reply) file (Answers xid reply)) (sees m file server call reply)
-      (silent_keeps I (sees_size m file server call reply) _ (takes I k (sees_size m file server call reply) file (Answers xid reply)))
+      let own : DsReplyValue = own_answer call reply in
+      becomes_keeps I m (sees_size m file server call own) (takes_input (sees_size m file server call own) file (Answers xid own)) (sees m file server call own)
+      (silent_keeps I (sees_size m file server call own) _ (takes I k (sees_size m file server call own) file (Answers xid own)))
   server_walk now m server xid call reply (ForRead file) =
       becomes_keeps I m (sees_size m file server call reply) (steps_read now (sees_size m file server call reply) file xid (λ r. read.after_reply r xid reply)) (sees m file server call reply)
       (read_steps now (sees_size m file server call reply) file xid (λ r. read.after_reply r xid reply))

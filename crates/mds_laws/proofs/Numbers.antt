@@ -19,7 +19,7 @@ use Rattle.mds_rule.specs.declared.waiter.Waiter.TheVariants.{ForFile, ForRead, 
 use Rattle.mds_rule.specs.ServedFiles.{is_period_end, file_behind, file_stepped}
 use Rattle.mds_rule.specs.Goes.{xid_after}
 use Rattle.mds_laws.specs.MdsRuns.{MdsEvent}
-use Rattle.mds_laws.specs.MdsRunLaws.{number_sent, IsBelow, AreBelow, IsNewOrAgain, IsNew, IsAgain, NumbersCalls, FitsNumber, NumbersFit}
+use Rattle.mds_laws.specs.MdsRunLaws.{number_sent, IsBelow, AreBelow, IsNewOrAgain, IsNew, IsAgain, NumbersAscend, FitsNumber, NumbersFit}
 use Rattle.mds_laws.proofs.Lists.{In, in_more, in_last, in_with_call, in_filtered, Split, split_in, EachOf, each_push, each_at, AllOf, all_push, all_in, all_split}
 use Rattle.mds_laws.proofs.Keeping.{Cases}
 use Rattle.mds_laws.proofs.GoesWalk.{in_each_run}
@@ -155,7 +155,7 @@ cases = record {
 begun : (servers : List AddressValue) (mirrors : ℕ) → IsSo (new_mds servers mirrors) [] []
 begun servers mirrors = record { each = tt; below = λ has. tt; were = λ call inside. absurd inside; fits = omega arith; words = tt }
 
-pub numbers_calls : (servers : List AddressValue) (mirrors : ℕ) (events : List MdsEvent) → NumbersCalls servers mirrors events
+pub numbers_calls : (servers : List AddressValue) (mirrors : ℕ) (events : List MdsEvent) → NumbersAscend servers mirrors events
 numbers_calls servers mirrors events before after s xid is number =
     each_at IsNumbered [] before after s (subst (EachOf IsNumbered []) is (in_each_run IsSo cases (new_mds servers mirrors) events (begun servers mirrors)).each) xid number
 

@@ -29,8 +29,8 @@ pub data IsNewOrAgain (before : List MdsSend) (s : MdsSend) (xid : ℕ) : Type 0
   IsNew : AreBelow xid before → IsNewOrAgain before s xid
   IsAgain : (front behind : List MdsSend) → before ≡ front ++ s ∷ behind → IsNewOrAgain before s xid
 
-abbrev pub NumbersCalls : List AddressValue → ℕ → List MdsEvent → Type 0
-NumbersCalls servers mirrors events =
+abbrev pub NumbersAscend : List AddressValue → ℕ → List MdsEvent → Type 0
+NumbersAscend servers mirrors events =
     (before after : List MdsSend) (s : MdsSend) (xid : ℕ) → (mds_run servers mirrors events).sends ≡ before ++ s ∷ after → number_sent s ≡ Some xid → IsNewOrAgain before s xid
 
 -- The number of a call is one of 32 bits, and not 0: behind the last, no new call goes out.

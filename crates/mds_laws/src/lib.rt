@@ -4,7 +4,7 @@
 ghost use Rattle.std.specs.Prelude.{ℕ, List};
 ghost use Rattle.device_addr.specs.Universal.{AddressValue};
 ghost use Rattle.mds_laws.specs.MdsRuns.{MdsEvent};
-ghost use Rattle.mds_laws.specs.MdsRunLaws.{NumbersCalls, NumbersFit, CallsByUids, GrantsFreeFiles};
+ghost use Rattle.mds_laws.specs.MdsRunLaws.{NumbersAscend, NumbersFit, CallsByUids, GrantsFreeFiles};
 
 /// What holds of every run of a metadata server, whatever bytes come, in whatever order:
 ///
@@ -16,7 +16,7 @@ ghost use Rattle.mds_laws.specs.MdsRunLaws.{NumbersCalls, NumbersFit, CallsByUid
 /// - a file is granted only where the last that was entered of how it stands is that it is free: never while it is made
 ///   or held, nor before the fence behind a period is done (RFC 8435, section 2.2).
 pub fn mds_run_law()
-    ensures numbers { (servers : List AddressValue) (mirrors : ℕ) (events : List MdsEvent) → NumbersCalls servers mirrors events }
+    ensures numbers { (servers : List AddressValue) (mirrors : ℕ) (events : List MdsEvent) → NumbersAscend servers mirrors events }
     ensures words { (servers : List AddressValue) (mirrors : ℕ) (events : List MdsEvent) → NumbersFit servers mirrors events }
     ensures uids { (servers : List AddressValue) (mirrors : ℕ) (events : List MdsEvent) → CallsByUids servers mirrors events }
     ensures grants { (servers : List AddressValue) (mirrors : ℕ) (events : List MdsEvent) → GrantsFreeFiles servers mirrors events }

@@ -9,7 +9,7 @@ ghost use Rattle.nfs4_types.specs.Bitmaps.{bitmap4_value};
 ghost use Rattle.mds_rule.specs.FileOps.{object_attributes, runs_get_attr, attributes_result};
 ghost use Rattle.mds_rule.specs.OpSteps.{with_result};
 ghost use Rattle.mds_operations.specs.Attributes.{asked_of};
-ghost use Rattle.compound_run.specs.CompoundRuns.{HasRoom, HasOperated, GoesOn, OnGoes};
+ghost use Rattle.compound_run.specs.CompoundRuns.{HasRoomForResults, HasOperated, AddsResult, OnGoes};
 
 use compound_run::{OpEnd, Run};
 use ff_xdr::{Items, NoMemory, Opaque, Out};
@@ -59,11 +59,11 @@ fn asked_in(bitmap: &Bitmap<'_>) -> AskedAttributes
 
 /// The result with a bitmap of these words, and these values.
 fn give_words(run: &mut Run<'_>, words: &[u32], values: &[u8]) -> Result<OpEnd, NoMemory>
-    requires room { HasRoom run.old }
+    requires room { HasRoomForResults run.old }
     requires words { length words.now ≤ 2 }
     requires values { length values.now < 65536 }
     ensures run { OnGoes result (run.new ≡ with_result run.old (arm 9 resop4 (inl (words.now, values.now)))) }
-    ensures on { GoesOn run.old result run.new }
+    ensures on { AddsResult run.old result run.new }
 {
     let mask = Bitmap {
         words: Items::made(words),
@@ -79,9 +79,9 @@ fn give_attributes(
     asked: AskedAttributes,
     of: Attributes,
 ) -> Result<OpEnd, NoMemory>
-    requires { HasRoom run.old }
+    requires { HasRoomForResults run.old }
     ensures run { OnGoes result (run.new ≡ with_result run.old (attributes_result asked of)) }
-    ensures on { GoesOn run.old result run.new }
+    ensures on { AddsResult run.old result run.new }
 {
     let mut values = Out::new(state.alloc);
     asked.put(of, &mut values)?;
@@ -98,9 +98,9 @@ fn give_attributes(
 
 /// GETATTR: the attributes of the current object that are asked for, of those that there are. Takes memory.
 pub fn get_attr(state: &State, run: &mut Run<'_>, asked: &Bitmap<'_>) -> Result<OpEnd, NoMemory>
-    requires { HasRoom run.old }
+    requires { HasRoomForResults run.old }
     ensures op { (out : Outbox) → HasOperated (runs_get_attr state.now run.old (bitmap4_value asked.now)) out result state.now run.new out }
-    ensures on { GoesOn run.old result run.new }
+    ensures on { AddsResult run.old result run.new }
 {
     match current_object(run.so_far.current) {
         Ok(object) => {

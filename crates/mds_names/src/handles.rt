@@ -3,7 +3,7 @@
 ghost use Rattle.std.specs.Prelude.{◌≡◌, []};
 ghost use Rattle.cluster_model.specs.declared.outbox.Outbox.{Outbox};
 ghost use Rattle.mds_rule.specs.FileOps.{object_handle, runs_put_fh, runs_put_root_fh, runs_get_fh, runs_lookup};
-ghost use Rattle.compound_run.specs.CompoundRuns.{HasRoom, HasOperated, GoesOn};
+ghost use Rattle.compound_run.specs.CompoundRuns.{HasRoomForResults, HasOperated, AddsResult};
 
 use compound_run::{OpEnd, Run};
 use ff_xdr::NoMemory;
@@ -24,9 +24,9 @@ fn object_handle(object: Object) -> [u8; 8]
 
 /// PUTFH: the object of this handle becomes the current one. Takes memory.
 pub fn put_fh(state: &State, run: &mut Run<'_>, handle: &[u8]) -> Result<OpEnd, NoMemory>
-    requires { HasRoom run.old }
+    requires { HasRoomForResults run.old }
     ensures op { (out : Outbox) → HasOperated (runs_put_fh state.now run.old handle.now) out result state.now run.new out }
-    ensures on { GoesOn run.old result run.new }
+    ensures on { AddsResult run.old result run.new }
 {
     match try_put_fh(handle, state.files.len()) {
         Ok(object) => {
@@ -39,9 +39,9 @@ pub fn put_fh(state: &State, run: &mut Run<'_>, handle: &[u8]) -> Result<OpEnd, 
 
 /// PUTROOTFH: the root becomes the current object. Takes memory.
 pub fn put_root_fh(state: &State, run: &mut Run<'_>) -> Result<OpEnd, NoMemory>
-    requires { HasRoom run.old }
+    requires { HasRoomForResults run.old }
     ensures op { (out : Outbox) → HasOperated (runs_put_root_fh state.now run.old) out result state.now run.new out }
-    ensures on { GoesOn run.old result run.new }
+    ensures on { AddsResult run.old result run.new }
 {
     run.go_to(Object::Root);
     run.give(&OpRes::PutRootFh(OpResult::Done(())))
@@ -49,9 +49,9 @@ pub fn put_root_fh(state: &State, run: &mut Run<'_>) -> Result<OpEnd, NoMemory>
 
 /// GETFH: the handle of the current object. Takes memory.
 pub fn get_fh(state: &State, run: &mut Run<'_>) -> Result<OpEnd, NoMemory>
-    requires { HasRoom run.old }
+    requires { HasRoomForResults run.old }
     ensures op { (out : Outbox) → HasOperated (runs_get_fh state.now run.old) out result state.now run.new out }
-    ensures on { GoesOn run.old result run.new }
+    ensures on { AddsResult run.old result run.new }
 {
     match current_object(run.so_far.current) {
         Ok(object) => {
@@ -64,9 +64,9 @@ pub fn get_fh(state: &State, run: &mut Run<'_>) -> Result<OpEnd, NoMemory>
 
 /// LOOKUP: the file of this name becomes the current object. Takes memory.
 pub fn lookup(state: &State, run: &mut Run<'_>, name: &[u8]) -> Result<OpEnd, NoMemory>
-    requires { HasRoom run.old }
+    requires { HasRoomForResults run.old }
     ensures op { (out : Outbox) → HasOperated (runs_lookup state.now run.old name.now) out result state.now run.new out }
-    ensures on { GoesOn run.old result run.new }
+    ensures on { AddsResult run.old result run.new }
 {
     let found = state.files.named(name);
     match try_lookup(run.so_far.current, name, found) {

@@ -8,7 +8,7 @@ ghost use Rattle.mds_rule.specs.MdsStates.{file_named};
 ghost use Rattle.mds_rule.specs.FileOps.{client_of, with_new_file, may_make, can_open, creation_in, open_result, opens_file, opens_or_makes, open_named, runs_open};
 ghost use Rattle.mds_rule.specs.OpSteps.{with_result};
 ghost use Rattle.open_state.specs.Opens.{open_fault};
-ghost use Rattle.compound_run.specs.CompoundRuns.{HasRoom, HasOperated, GoesOn, OnGoes};
+ghost use Rattle.compound_run.specs.CompoundRuns.{HasRoomForResults, HasOperated, AddsResult, OnGoes};
 
 use crate::asked::{client_of, uids_left};
 use cluster_model::{Cred, FileId, SPARE_UIDS};
@@ -72,9 +72,9 @@ fn make(state: &mut State, name: &[u8]) -> Result<(), NoMemory>
 
 /// The result of an OPEN.
 fn give_open(run: &mut Run<'_>, given: Open) -> Result<OpEnd, NoMemory>
-    requires { HasRoom run.old }
+    requires { HasRoomForResults run.old }
     ensures run { OnGoes result (run.new ≡ with_result run.old (open_result given)) }
-    ensures on { GoesOn run.old result run.new }
+    ensures on { AddsResult run.old result run.new }
 {
     run.give(&OpRes::Open(OpResult::Done(OpenOk {
         stateid: given.stateid(),
@@ -96,11 +96,11 @@ fn open_file(
     client: u64,
     file: FileId,
 ) -> Result<OpEnd, NoMemory>
-    requires room { HasRoom run.old }
+    requires room { HasRoomForResults run.old }
     requires whose { client ≡ client_of run.old }
     requires can { is_none (open_fault state.old.opens client file) ≡ true }
     ensures op { (out : Outbox) → HasOperated (opens_file state.old run.old file) out result state.new run.new out }
-    ensures on { GoesOn run.old result run.new }
+    ensures on { AddsResult run.old result run.new }
 {
     let given = match state.opens.open(client, file) {
         Ok(open) => open,
@@ -120,9 +120,9 @@ fn open_named(
     creation: Creation,
     name: &[u8],
 ) -> Result<OpEnd, NoMemory>
-    requires { HasRoom run.old }
+    requires { HasRoomForResults run.old }
     ensures op { (out : Outbox) → HasOperated (open_named state.old run.old access creation name.now (file_named state.old name.now)) out result state.new run.new out }
-    ensures on { GoesOn run.old result run.new }
+    ensures on { AddsResult run.old result run.new }
 {
     let client = client_of(run);
     let file = state.files.named(name);
@@ -144,9 +144,9 @@ fn open_named(
 
 /// OPEN: a file is opened by its name, and made where it has to be. Takes memory.
 pub fn open(state: &mut State, run: &mut Run<'_>, args: &OpenArgs<'_>) -> Result<OpEnd, NoMemory>
-    requires { HasRoom run.old }
+    requires { HasRoomForResults run.old }
     ensures op { (out : Outbox) → HasOperated (runs_open state.old run.old (open4_args_value args.now)) out result state.new run.new out }
-    ensures on { GoesOn run.old result run.new }
+    ensures on { AddsResult run.old result run.new }
 {
     let creation = creation_in(&args.how);
     open_named(

@@ -18,6 +18,7 @@ use Rattle.cluster_model.specs.declared.entry.Entry.{Entry}
 use Rattle.cluster_model.specs.declared.entry.Entry.TheVariants as entry
 use Rattle.cluster_model.specs.DsCalls.{DsCallValue, Create, SetAttr, Write, Commit, Read, DsReplyValue, Created, Set, Written, Committed, Bytes, NotSync, Failed}
 use Rattle.cluster_model.specs.Fences.{is_out}
+use Rattle.ds_calls.specs.GivenReplies.{odd_answer}
 use Rattle.cluster_model.specs.Journal.{is_mirror}
 use Rattle.file_rule.specs.FilePhases.{Answers, TimesOut, OwnEnds, Revokes, Sees, is_outstanding}
 use Rattle.mds_io.specs.declared.read_end.Failure.{Failure}
@@ -114,6 +115,31 @@ sees_in m file server call reply (Some s) = with_served m file (sized s server (
 
 abbrev pub sees_size : MdsValue → FileId → ℕ → DsCallValue → DsReplyValue → MdsValue
 sees_size m file server call reply = sees_in m file server call reply (served m file)
+
+-- ---- what a file's own call is answered with
+
+-- A READ of a file's own is that of a copy. One that gives no bytes and does not say that the file ends there is odd, and nothing in it is
+-- relied on: the copy would never end.
+abbrev pub gives_nothing : Bool → List ℕ → Bool
+gives_nothing true bytes = false
+gives_nothing false [] = true
+gives_nothing false (b ∷ bytes) = false
+
+abbrev pub copy_read : DsReplyValue → DsReplyValue
+copy_read (Bytes shown eof bytes) = if gives_nothing eof bytes then odd_answer else Bytes shown eof bytes
+copy_read (Created fileid shown) = Created fileid shown
+copy_read (Set shown) = Set shown
+copy_read (Written shown verifier) = Written shown verifier
+copy_read (Committed shown verifier) = Committed shown verifier
+copy_read (NotSync shown) = NotSync shown
+copy_read (Failed status shown) = Failed status shown
+
+abbrev pub own_answer : DsCallValue → DsReplyValue → DsReplyValue
+own_answer (Create name owner) reply = reply
+own_answer (SetAttr fileid owner guard) reply = reply
+own_answer (Write fileid at synced bytes) reply = reply
+own_answer (Commit fileid) reply = reply
+own_answer (Read fileid at count) reply = copy_read reply
 
 -- ---- a compound goes on behind what it waited for
 
@@ -250,7 +276,7 @@ recalls_after m a = recall_outcome (record m { recalls = a.recalls }) a.outcome
 -- ---- an answer
 
 abbrev pub server_answered : ℕ → MdsValue → ℕ → ℕ → DsCallValue → DsReplyValue → Waiter → MdsStep
-server_answered now m server xid call reply (ForFile file) = takes_input (sees_size m file server call reply) file (Answers xid reply)
+server_answered now m server xid call reply (ForFile file) = takes_input (sees_size m file server call (own_answer call reply)) file (Answers xid (own_answer call reply))
 server_answered now m server xid call reply (ForRead file) = steps_read now (sees_size m file server call reply) file xid (λ r. read.after_reply r xid reply)
 server_answered now m server xid call reply (ForWrite file) =
     and_then (sees_ctime (sees_size m file server call reply) file server (fileid_of call reply) (attributes_shown reply)) (λ n. steps_write now n file (λ w. after_own_reply w xid reply))

@@ -10,7 +10,7 @@ use Rattle.mds_io.specs.Reads.{ReadSends}
 use Rattle.mds_rule.specs.MdsStates.{WaitingRead, ServedFile, CallsServer, MdsValue, MdsStep, sends_none, served, with_file}
 use Rattle.mds_rule.specs.Goes.{read_goes, read_call, read_call_in, has_xids, place_of, calls_as, calls_server}
 use Rattle.mds_rule.specs.declared.waiter.Waiter.TheVariants.{ForRead}
-use Rattle.compound_run.specs.CompoundRuns.{HasStepped}
+use Rattle.compound_run.specs.CompoundRuns.{HasMadeStep}
 use Rattle.served_files.specs.declared.sending.SentByFile.{SentByFile}
 use Rattle.served_files.specs.Sending.{ReadWaits, read_sent, read_out, SendsReadAt}
 use Rattle.served_files.specs.FileSteps.{SendsReadOf, SendsReadIn}
@@ -22,7 +22,7 @@ goes_here m s place sent = (place_of s sent.id.server == place) && has_xids m
 
 -- ---- of what stands at its place
 
-none_at : (m : MdsValue) (file : FileId) (s : ServedFile) (n place : ℕ) (r : Option WaitingRead) → read_sent s m.next_xid r ≡ None → read_call m file s n place r ≡ sends_none m
+pub none_at : (m : MdsValue) (file : FileId) (s : ServedFile) (n place : ℕ) (r : Option WaitingRead) → read_sent s m.next_xid r ≡ None → read_call m file s n place r ≡ sends_none m
 none_at m file s n place None is = refl
 none_at m file s n place (Some r) is = ap (read_goes m file s n place r) is
 
@@ -52,16 +52,16 @@ went_at m file s t n place c (Some r) sent is test (other, next, gone, caller, s
 
 -- ---- of the file
 
-read_is : (m : MdsValue) (file : FileId) (place n : ℕ) (s : ServedFile) → served m file ≡ Some s → read_call_in file place n m (served m file) ≡ read_call m file s n place (slice_get s.reads n)
+pub read_is : (m : MdsValue) (file : FileId) (place n : ℕ) (s : ServedFile) → served m file ≡ Some s → read_call_in file place n m (served m file) ≡ read_call m file s n place (slice_get s.reads n)
 read_is m file place n s is = ap (read_call_in file place n m) is
 
 -- none waits
-pub read_not : (m : MdsValue) (file : FileId) (place n : ℕ) (s : ServedFile) (out : Outbox) → served m file ≡ Some s → ReadWaits s n m.next_xid None → HasStepped (read_call_in file place n m (served m file)) out m out
+pub read_not : (m : MdsValue) (file : FileId) (place n : ℕ) (s : ServedFile) (out : Outbox) → served m file ≡ Some s → ReadWaits s n m.next_xid None → HasMadeStep (read_call_in file place n m (served m file)) out m out
 read_not m file place n s out is waits = steps_none _ m out (read_is m file place n s is ∙ none_at m file s n place (slice_get s.reads n) waits)
 
 -- it waits for another place
 pub read_elsewhere : (m : MdsValue) (file : FileId) (place n server : ℕ) (s : ServedFile) (out : Outbox) → served m file ≡ Some s → ReadWaits s n m.next_xid (Some server) → (place_of s server ≡ place → ⊥)
-    → HasStepped (read_call_in file place n m (served m file)) out m out
+    → HasMadeStep (read_call_in file place n m (served m file)) out m out
 read_elsewhere m file place n server s out is (sent, waits, to) other =
     let test = ap (λ (b : Bool). b && has_xids m) (ne_eqb (place_of s sent.id.server) place (λ same. other (ap (place_of s) (sym to) ∙ same))) in
     steps_none _ m out (read_is m file place n s is ∙ not_here m file s n place (slice_get s.reads n) sent waits test)
@@ -72,41 +72,41 @@ and_false true c is = is
 and_false false c is = refl
 
 pub read_over : (m : MdsValue) (file : FileId) (place n server : ℕ) (s : ServedFile) (out : Outbox) → served m file ≡ Some s → ReadWaits s n m.next_xid (Some server) → m.next_xid ≡ 0
-    → HasStepped (read_call_in file place n m (served m file)) out m out
+    → HasMadeStep (read_call_in file place n m (served m file)) out m out
 read_over m file place n server s out is (sent, waits, to) none =
     let test = and_false (place_of s sent.id.server == place) (has_xids m) (ap not (eq-eqb m.next_xid 0 none)) in
     steps_none _ m out (read_is m file place n s is ∙ not_here m file s n place (slice_get s.reads n) sent waits test)
 
 -- none went out
 read_left : (m : MdsValue) (file : FileId) (place n : ℕ) (s : ServedFile) (new : List ServedFile) (out : Outbox) → served m file ≡ Some s → SendsReadOf m.files file n m.next_xid (Ok None) new (Some s)
-    → HasStepped (read_call_in file place n m (served m file)) out (record m { files = new }) out
+    → HasMadeStep (read_call_in file place n m (served m file)) out (record m { files = new }) out
 read_left m file place n s new out is (t, said, now) =
     let left = left_at m file s t n place (slice_get s.reads n) said in
     let same : record m { files = new } ≡ m = ap (λ (files : List ServedFile). record m { files = files }) (now ∙ ap (with_file m.files file) left.1 ∙ with_same m.files file s is) in
-    subst (λ (x : MdsValue). HasStepped (read_call_in file place n m (served m file)) out x out) (sym same) (steps_none _ m out (read_is m file place n s is ∙ left.0))
+    subst (λ (x : MdsValue). HasMadeStep (read_call_in file place n m (served m file)) out x out) (sym same) (steps_none _ m out (read_is m file place n s is ∙ left.0))
 
 pub read_kept : (m : MdsValue) (file : FileId) (place n : ℕ) (s : ServedFile) (new : List ServedFile) (out : Outbox) → served m file ≡ Some s → SendsReadIn m.files file n m.next_xid (Ok None) new
-    → HasStepped (read_call_in file place n m (served m file)) out (record m { files = new }) out
+    → HasMadeStep (read_call_in file place n m (served m file)) out (record m { files = new }) out
 read_kept m file place n s new out is said = read_left m file place n s new out is (subst (SendsReadOf m.files file n m.next_xid (Ok None) new) is said)
 
 -- it went out
 read_goes_out : (m k : MdsValue) (file : FileId) (place n server : ℕ) (s : ServedFile) (c : SentByFile) (new : List ServedFile) (out out' : Outbox) → (m.next_xid ≡ 0 → ⊥) → served m file ≡ Some s
     → ReadWaits s n m.next_xid (Some server) → place_of s server ≡ place → SendsReadOf m.files file n m.next_xid (Ok (Some c)) new (Some s)
-    → HasStepped (calls_as (record m { files = new }) (Server c.server) c.caller (CallsServer c.server m.next_xid c.uid.0 c.call)) out k out'
-    → HasStepped (read_call_in file place n m (served m file)) out k out'
+    → HasMadeStep (calls_as (record m { files = new }) (Server c.server) c.caller (CallsServer c.server m.next_xid c.uid.0 c.call)) out k out'
+    → HasMadeStep (read_call_in file place n m (served m file)) out k out'
 read_goes_out m k file place n server s c new out out' more is (sent, waits, to) here (t, said, now) step =
     let test =
     ap (λ (b : Bool). b && has_xids m) (eq-eqb (place_of s sent.id.server) place (ap (place_of s) to ∙ here))
     ∙ ap not (ne_eqb m.next_xid 0 more)
     in
     let goes = read_is m file place n s is ∙ went_at m file s t n place c (slice_get s.reads n) sent waits test said in
-    subst (λ (x : MdsStep). HasStepped x out k out') (sym goes)
-    (subst (λ (files : List ServedFile). HasStepped (calls_as (record m { files = files }) (Server c.server) c.caller (CallsServer c.server m.next_xid c.uid.0 c.call)) out k out') now step)
+    subst (λ (x : MdsStep). HasMadeStep x out k out') (sym goes)
+    (subst (λ (files : List ServedFile). HasMadeStep (calls_as (record m { files = files }) (Server c.server) c.caller (CallsServer c.server m.next_xid c.uid.0 c.call)) out k out') now step)
 
 pub read_went : (m k : MdsValue) (file : FileId) (place n server : ℕ) (s : ServedFile) (c : SentByFile) (new : List ServedFile) (out out' : Outbox) (result : Result (Unit {0}) NoMemory) → (m.next_xid ≡ 0 → ⊥)
     → served m file ≡ Some s → ReadWaits s n m.next_xid (Some server) → place_of s server ≡ place → SendsReadIn m.files file n m.next_xid (Ok (Some c)) new
-    → OnOk result (HasStepped (calls_as (record m { files = new }) (Server c.server) c.caller (CallsServer c.server m.next_xid c.uid.0 c.call)) out k out')
-    → OnOk result (HasStepped (read_call_in file place n m (served m file)) out k out')
+    → OnOk result (HasMadeStep (calls_as (record m { files = new }) (Server c.server) c.caller (CallsServer c.server m.next_xid c.uid.0 c.call)) out k out')
+    → OnOk result (HasMadeStep (read_call_in file place n m (served m file)) out k out')
 read_went m k file place n server s c new out out' (Err e) more is waits here said step = tt
 read_went m k file place n server s c new out out' (Ok done) more is waits here said step =
     read_goes_out m k file place n server s c new out out' more is waits here (subst (SendsReadOf m.files file n m.next_xid (Ok (Some c)) new) is said) step

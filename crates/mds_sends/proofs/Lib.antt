@@ -1,5 +1,6 @@
 mod GoesEach
 mod GoesKept
 mod GoesOwn
+mod GoesQuiet
 mod GoesReads
 mod GoesRecalls

@@ -3,6 +3,7 @@
 #![tactic(auto)]
 
 mod all;
+mod next;
 mod own;
 mod reads;
 mod recalls;

@@ -2,7 +2,7 @@
 
 ghost use Rattle.std.specs.Prelude.{OnOk};
 ghost use Rattle.mds_rule.specs.Goes.{own_call, own_two, own_calls};
-ghost use Rattle.compound_run.specs.CompoundRuns.{HasStepped};
+ghost use Rattle.compound_run.specs.CompoundRuns.{HasMadeStep};
 
 use crate::send::send_to_server;
 use cluster_model::{FileId, Outbox};
@@ -11,7 +11,7 @@ use mds_state::State;
 
 /// The next call of a file goes out, where it goes to this place. Takes memory.
 fn call_one(state: &mut State, file: FileId, place: usize, out: &mut Outbox) -> Result<(), NoMemory>
-    ensures { OnOk result (HasStepped (own_call file place state.old) out.old state.new out.new) }
+    ensures { OnOk result (HasMadeStep (own_call file place state.old) out.old state.new out.new) }
 {
     let xid = state.next_xid;
     if xid == 0 {
@@ -34,7 +34,7 @@ fn call_one(state: &mut State, file: FileId, place: usize, out: &mut Outbox) -> 
 
 /// At most two of them.
 fn call_two(state: &mut State, file: FileId, place: usize, out: &mut Outbox) -> Result<(), NoMemory>
-    ensures { OnOk result (HasStepped (own_two file place state.old) out.old state.new out.new) }
+    ensures { OnOk result (HasMadeStep (own_two file place state.old) out.old state.new out.new) }
 {
     call_one(state, file, place, out)?;
     call_one(state, file, place, out)
@@ -47,7 +47,7 @@ pub fn call_own(
     place: usize,
     out: &mut Outbox,
 ) -> Result<(), NoMemory>
-    ensures { OnOk result (HasStepped (own_calls file place state.old) out.old state.new out.new) }
+    ensures { OnOk result (HasMadeStep (own_calls file place state.old) out.old state.new out.new) }
 {
     call_two(state, file, place, out)?;
     call_two(state, file, place, out)

@@ -3,7 +3,7 @@
 ghost use Rattle.std.specs.Prelude.{◌≡◌, OnOk};
 ghost use Rattle.mds_rule.specs.MdsStates.{served};
 ghost use Rattle.mds_rule.specs.Goes.{read_count, read_call_in, read_calls};
-ghost use Rattle.compound_run.specs.CompoundRuns.{HasStepped};
+ghost use Rattle.compound_run.specs.CompoundRuns.{HasMadeStep};
 
 use crate::send::send_to_server;
 use cluster_model::{FileId, Outbox};
@@ -18,7 +18,7 @@ fn call_read(
     n: usize,
     out: &mut Outbox,
 ) -> Result<(), NoMemory>
-    ensures { OnOk result (HasStepped (read_call_in file place n state.old (served state.old file)) out.old state.new out.new) }
+    ensures { OnOk result (HasMadeStep (read_call_in file place n state.old (served state.old file)) out.old state.new out.new) }
 {
     let xid = state.next_xid;
     let Some(served) = state.files.get(file) else {
@@ -53,7 +53,7 @@ pub fn call_reads(
     place: usize,
     out: &mut Outbox,
 ) -> Result<(), NoMemory>
-    ensures { OnOk result (HasStepped (read_calls file place state.old) out.old state.new out.new) }
+    ensures { OnOk result (HasMadeStep (read_calls file place state.old) out.old state.new out.new) }
 {
     for n in 0..read_count(state, file) {
         call_read(state, file, place, n, out)?;

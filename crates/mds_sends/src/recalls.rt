@@ -5,7 +5,7 @@ ghost use Rattle.mds_rule.specs.MdsStates.{served};
 ghost use Rattle.nfs4_session.specs.Clients.{has_id};
 ghost use Rattle.nfs4_session.specs.Bindings.{last_session};
 ghost use Rattle.mds_rule.specs.Goes.{stateid_seqid, calls_back, recall_call};
-ghost use Rattle.compound_run.specs.CompoundRuns.{HasStepped};
+ghost use Rattle.compound_run.specs.CompoundRuns.{HasMadeStep};
 
 use crate::send::{send_call, xid_after};
 use awaited_calls::SentCall;
@@ -29,7 +29,7 @@ fn seqid_of(state: &State, file: FileId) -> u32
 /// The callback goes out on its client's session that was made or bound last. Where there is none its number is used, and nothing is
 /// sent. Takes memory.
 fn call_back(state: &mut State, call: RecallCall, out: &mut Outbox) -> Result<(), NoMemory>
-    ensures { OnOk result (HasStepped (calls_back state.old call (last_session (find (has_id call.client) state.old.sessions.clients))) out.old state.new out.new) }
+    ensures { OnOk result (HasMadeStep (calls_back state.old call (last_session (find (has_id call.client) state.old.sessions.clients))) out.old state.new out.new) }
 {
     let seqid = seqid_of(state, call.file);
     let Some(back) = state.sessions.back_channel(call.client) else {
@@ -47,7 +47,7 @@ fn call_back(state: &mut State, call: RecallCall, out: &mut Outbox) -> Result<()
 
 /// The recall that is next goes out, where it is of this file. Takes memory.
 pub fn call_recall(state: &mut State, file: FileId, out: &mut Outbox) -> Result<(), NoMemory>
-    ensures { OnOk result (HasStepped (recall_call file state.old) out.old state.new out.new) }
+    ensures { OnOk result (HasMadeStep (recall_call file state.old) out.old state.new out.new) }
 {
     let xid = state.next_xid;
     if xid == 0 {

@@ -5,7 +5,7 @@ ghost use Rattle.cluster_model.specs.declared.ids.NodeId.TheVariants.{Server};
 ghost use Rattle.awaited_calls.specs.Awaited.{sent_under};
 ghost use Rattle.mds_rule.specs.MdsStates.{CallsServer};
 ghost use Rattle.mds_rule.specs.Goes.{xid_after, calls_as};
-ghost use Rattle.compound_run.specs.CompoundRuns.{HasStepped};
+ghost use Rattle.compound_run.specs.CompoundRuns.{HasMadeStep};
 
 use awaited_calls::{AwaitedCall, SentCall};
 use cluster_model::{NodeId, Outbox};
@@ -32,7 +32,7 @@ pub fn send_call(
     sent: SentCall,
     out: &mut Outbox,
 ) -> Result<(), NoMemory>
-    ensures { OnOk result (HasStepped (calls_as state.old node caller (sent_under state.old.next_xid sent)) out.old state.new out.new) }
+    ensures { OnOk result (HasMadeStep (calls_as state.old node caller (sent_under state.old.next_xid sent)) out.old state.new out.new) }
 {
     let call = AwaitedCall {
         node,
@@ -48,7 +48,7 @@ pub fn send_call(
 
 /// A call of a file goes to its data server. Takes memory.
 pub fn send_to_server(state: &mut State, sent: SentByFile, out: &mut Outbox) -> Result<(), NoMemory>
-    ensures { OnOk result (HasStepped (calls_as state.old (Server sent.server) sent.caller (CallsServer sent.server state.old.next_xid sent.uid.0 sent.call)) out.old state.new out.new) }
+    ensures { OnOk result (HasMadeStep (calls_as state.old (Server sent.server) sent.caller (CallsServer sent.server state.old.next_xid sent.uid.0 sent.call)) out.old state.new out.new) }
 {
     let SentByFile {
         server,

@@ -18,7 +18,7 @@ use Rattle.mds_rule.specs.OpSteps.{with_result}
 use Rattle.mds_rule.specs.SessionOps.{create_result, gone_with, with_session, with_create}
 use Rattle.compound_run.specs.declared.op_end.OpEnd.{OpEnd}
 use Rattle.compound_run.specs.declared.op_end.OpEnd.TheVariants as end
-use Rattle.compound_run.specs.CompoundRuns.{HasStepped, HasOperated}
+use Rattle.compound_run.specs.CompoundRuns.{HasMadeStep, HasOperated}
 use Rattle.mds_state.proofs.OpLemmas.{done_so}
 
 pub record RefusedBy (old new : SessionsState) (o : Option Stat4) (status : Stat4) : Type 0 where
@@ -46,12 +46,12 @@ no_fault s client IsStale created is = absurd (cc)
 
 pub created_so : (m n : MdsValue) (c d : CompoundRun) (client sequence : ℕ) (fore back : Value channel_attrs4) (program now : ℕ) (case : CreateSessionCase) (created : Created) (sessions : SessionsState)
     (result : Result OpEnd NoMemory) (old new : Outbox) → created_answer m.sessions client case ≡ Some created → sessions ≡ after_creating m.sessions program c.node now case
-    → HasStepped (gone_with created.gone (record m { sessions = sessions })) old n new → new.sends.items ≡ old.sends.items → IfOk result (λ e. e ≡ end.Goes)
+    → HasMadeStep (gone_with created.gone (record m { sessions = sessions })) old n new → new.sends.items ≡ old.sends.items → IfOk result (λ e. e ≡ end.Goes)
     → OnOk result (d ≡ with_result c (create_result created.session sequence fore back))
     → HasOperated (with_create m c client sequence fore back program now case (create_session_fault case)) old result n d new
 created_so m n c d client sequence fore back program now case created sessions result old new answer made stepped silent goes run =
     let after = after_creating m.sessions program c.node now case in
-    let there : HasStepped (gone_with created.gone (record m { sessions = after })) old n new = subst (λ x. HasStepped (gone_with created.gone (record m { sessions = x })) old n new) made stepped in
+    let there : HasMadeStep (gone_with created.gone (record m { sessions = after })) old n new = subst (λ x. HasMadeStep (gone_with created.gone (record m { sessions = x })) old n new) made stepped in
     subst (λ (f : Option SessionFault). HasOperated (with_create m c client sequence fore back program now case f) old result n d new) (sym (no_fault m.sessions client case created answer))
     (subst (λ (a : Option Created). HasOperated (with_session m c sequence fore back after a) old result n d new) (sym answer)
     (done_so (gone_with created.gone (record m { sessions = after })).mds n (gone_with created.gone (record m { sessions = after })).entries (with_result c (create_result created.session sequence fore back)) d result old new goes run

@@ -9,7 +9,7 @@ ghost use Rattle.cluster_model.specs.declared.outbox.Outbox.{Outbox};
 ghost use Rattle.nfs4_session_ops.specs.BindConn.{bind_conn4_value};
 ghost use Rattle.nfs4_session_ops.specs.Directions.{from_client4, from_client4_number, from_server4, from_server4_number};
 ghost use Rattle.mds_rule.specs.SessionOps.{direction_given, runs_bind};
-ghost use Rattle.compound_run.specs.CompoundRuns.{HasRoom, HasOperated, GoesOn};
+ghost use Rattle.compound_run.specs.CompoundRuns.{HasRoomForResults, HasOperated, AddsResult};
 
 use compound_run::{OpEnd, Run};
 use ff_xdr::NoMemory;
@@ -48,9 +48,9 @@ pub fn bind_conn_to_session(
     run: &mut Run<'_>,
     args: &BindConnArgs,
 ) -> Result<OpEnd, NoMemory>
-    requires { HasRoom run.old }
+    requires { HasRoomForResults run.old }
     ensures op { (out : Outbox) → HasOperated (runs_bind state.old run.old (bind_conn4_value from_client4 from_client4_number args.now)) out result state.new run.new out }
-    ensures on { GoesOn run.old result run.new }
+    ensures on { AddsResult run.old result run.new }
 {
     if state.sessions.bind(args.session, run.so_far.node).is_err() {
         return run.refuse(41, Stat4::BadSession);

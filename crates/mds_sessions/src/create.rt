@@ -5,8 +5,8 @@ ghost use Rattle.ff_xdr.specs.Form.{Fits};
 ghost use Rattle.nfs4_types.specs.Channels.{channel_attrs4, channel_attrs4_value};
 ghost use Rattle.nfs4_compound.specs.Results.{resop4, op_res_value};
 ghost use Rattle.nfs4_session_ops.specs.CreateSession.{create_session4_args_value};
-ghost use Rattle.mds_rule.specs.SessionOps.{at_most, fore_channel, back_channel, create_result, gone_with, runs_create};
-ghost use Rattle.compound_run.specs.CompoundRuns.{HasRoom, HasOperated, GoesOn, HasStepped};
+ghost use Rattle.mds_rule.specs.SessionOps.{fore_channel, back_channel, create_result, gone_with, runs_create};
+ghost use Rattle.compound_run.specs.CompoundRuns.{HasRoomForResults, HasOperated, AddsResult, HasMadeStep};
 
 use cluster_model::{EndCause, Outbox};
 use compound_run::{OpEnd, Run};
@@ -20,16 +20,6 @@ use nfs4_types::{ChannelAttrs, OpResult, SessionId, Stat4};
 /// CREATE_SESSION4_FLAG_CONN_BACK_CHAN.
 pub const CONN_BACK_CHAN: u32 = 2;
 
-/// What was asked for, up to what there is.
-fn at_most(limit: u32, asked: u32) -> u32
-    ensures { result ≡ at_most limit asked }
-{
-    if limit < asked {
-        return limit;
-    }
-    asked
-}
-
 /// The channel for requests, which has what was asked for, up to what there is.
 fn fore_channel(asked: &ChannelAttrs) -> ChannelAttrs
     ensures value { channel_attrs4_value result ≡ fore_channel (channel_attrs4_value asked.now) }
@@ -37,11 +27,11 @@ fn fore_channel(asked: &ChannelAttrs) -> ChannelAttrs
 {
     ChannelAttrs {
         headerpadsize: 0,
-        maxrequestsize: at_most(1_179_648, asked.maxrequestsize),
-        maxresponsesize: at_most(1_179_648, asked.maxresponsesize),
-        maxresponsesize_cached: at_most(32_768, asked.maxresponsesize_cached),
-        maxoperations: at_most(16, asked.maxoperations),
-        maxrequests: at_most(8, asked.maxrequests),
+        maxrequestsize: asked.maxrequestsize.min(1_179_648),
+        maxresponsesize: asked.maxresponsesize.min(1_179_648),
+        maxresponsesize_cached: asked.maxresponsesize_cached.min(32_768),
+        maxoperations: asked.maxoperations.min(16),
+        maxrequests: asked.maxrequests.min(8),
         rdma_ird: None,
     }
 }
@@ -53,11 +43,11 @@ fn back_channel(asked: &ChannelAttrs) -> ChannelAttrs
 {
     ChannelAttrs {
         headerpadsize: 0,
-        maxrequestsize: at_most(4_096, asked.maxrequestsize),
-        maxresponsesize: at_most(4_096, asked.maxresponsesize),
+        maxrequestsize: asked.maxrequestsize.min(4_096),
+        maxresponsesize: asked.maxresponsesize.min(4_096),
         maxresponsesize_cached: 0,
-        maxoperations: at_most(2, asked.maxoperations),
-        maxrequests: at_most(1, asked.maxrequests),
+        maxoperations: asked.maxoperations.min(2),
+        maxrequests: asked.maxrequests.min(1),
         rdma_ird: None,
     }
 }
@@ -83,7 +73,7 @@ fn create_result(
 
 /// The client that was there before a restart is gone. Takes memory.
 fn end_gone(state: &mut State, gone: Option<u64>, out: &mut Outbox) -> Result<(), NoMemory>
-    ensures steps { OnOk result (HasStepped (gone_with gone state.old) out.old state.new out.new) }
+    ensures steps { OnOk result (HasMadeStep (gone_with gone state.old) out.old state.new out.new) }
     ensures silent { OnOk result (out.new.sends.items ≡ out.old.sends.items) }
 {
     match gone {
@@ -100,9 +90,9 @@ pub fn create_session(
     now: u64,
     out: &mut Outbox,
 ) -> Result<OpEnd, NoMemory>
-    requires { HasRoom run.old }
+    requires { HasRoomForResults run.old }
     ensures op { HasOperated (runs_create state.old run.old now (create_session4_args_value args.now)) out.old result state.new run.new out.new }
-    ensures on { GoesOn run.old result run.new }
+    ensures on { AddsResult run.old result run.new }
 {
     match state.sessions.create_session(
         args.clientid,

@@ -3,7 +3,7 @@
 ghost use Rattle.std.specs.Prelude.{◌≡◌};
 ghost use Rattle.cluster_model.specs.declared.outbox.Outbox.{Outbox as Box};
 ghost use Rattle.mds_rule.specs.SessionOps.{runs_destroy_session, runs_destroy_client};
-ghost use Rattle.compound_run.specs.CompoundRuns.{HasRoom, HasOperated, GoesOn};
+ghost use Rattle.compound_run.specs.CompoundRuns.{HasRoomForResults, HasOperated, AddsResult};
 
 use cluster_model::{EndCause, Outbox};
 use compound_run::{OpEnd, Run};
@@ -18,9 +18,9 @@ pub fn destroy_session(
     run: &mut Run<'_>,
     session: SessionId,
 ) -> Result<OpEnd, NoMemory>
-    requires { HasRoom run.old }
+    requires { HasRoomForResults run.old }
     ensures op { (out : Box) → HasOperated (runs_destroy_session state.old run.old session.0) out result state.new run.new out }
-    ensures on { GoesOn run.old result run.new }
+    ensures on { AddsResult run.old result run.new }
 {
     if state.sessions.destroy_session(session).is_err() {
         return run.refuse(44, Stat4::BadSession);
@@ -35,9 +35,9 @@ pub fn destroy_client(
     client: u64,
     out: &mut Outbox,
 ) -> Result<OpEnd, NoMemory>
-    requires { HasRoom run.old }
+    requires { HasRoomForResults run.old }
     ensures op { HasOperated (runs_destroy_client state.old run.old client) out.old result state.new run.new out.new }
-    ensures on { GoesOn run.old result run.new }
+    ensures on { AddsResult run.old result run.new }
 {
     match state.sessions.destroy_client(client) {
         Ok(()) => {

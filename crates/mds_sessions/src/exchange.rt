@@ -6,7 +6,7 @@ ghost use Rattle.cluster_model.specs.declared.outbox.Outbox.{Outbox};
 ghost use Rattle.nfs4_compound.specs.Results.{resop4, op_res_value};
 ghost use Rattle.nfs4_session_ops.specs.ExchangeId.{exchange_id4_args_value};
 ghost use Rattle.mds_rule.specs.SessionOps.{exchange_flags, exchange_result, runs_exchange};
-ghost use Rattle.compound_run.specs.CompoundRuns.{HasRoom, HasOperated, GoesOn};
+ghost use Rattle.compound_run.specs.CompoundRuns.{HasRoomForResults, HasOperated, AddsResult};
 
 use compound_run::{OpEnd, Run};
 use ff_xdr::NoMemory;
@@ -58,9 +58,9 @@ pub fn exchange_id(
     args: &ExchangeIdArgs<'_>,
     now: u64,
 ) -> Result<OpEnd, NoMemory>
-    requires { HasRoom run.old }
+    requires { HasRoomForResults run.old }
     ensures op { (out : Outbox) → HasOperated (runs_exchange state.old run.old now (exchange_id4_args_value args.now)) out result state.new run.new out }
-    ensures on { GoesOn run.old result run.new }
+    ensures on { AddsResult run.old result run.new }
 {
     let verifier = args.verifier.to_be_bytes();
     let given = match state.sessions.exchange_id(verifier, args.owner.bytes, now) {

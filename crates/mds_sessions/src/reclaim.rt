@@ -3,7 +3,7 @@
 ghost use Rattle.std.specs.Prelude.{◌≡◌};
 ghost use Rattle.cluster_model.specs.declared.outbox.Outbox.{Outbox};
 ghost use Rattle.mds_rule.specs.SessionOps.{reclaims};
-ghost use Rattle.compound_run.specs.CompoundRuns.{HasRoom, HasOperated, GoesOn};
+ghost use Rattle.compound_run.specs.CompoundRuns.{HasRoomForResults, HasOperated, AddsResult};
 
 use compound_run::{OpEnd, Run};
 use ff_xdr::NoMemory;
@@ -14,9 +14,9 @@ use nfs4_types::{OpResult, Stat4};
 
 /// RECLAIM_COMPLETE: the client has nothing to reclaim, which it says once. Takes memory.
 pub fn complete_reclaim(state: &mut State, run: &mut Run<'_>) -> Result<OpEnd, NoMemory>
-    requires { HasRoom run.old }
+    requires { HasRoomForResults run.old }
     ensures op { (out : Outbox) → HasOperated (reclaims state.old run.old run.old.slot) out result state.new run.new out }
-    ensures on { GoesOn run.old result run.new }
+    ensures on { AddsResult run.old result run.new }
 {
     let Some(slot) = run.so_far.slot else {
         return run.refuse(58, Stat4::OpNotInSession);

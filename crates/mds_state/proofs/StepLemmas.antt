@@ -5,9 +5,9 @@ use Rattle.cluster_model.specs.declared.entry.Entry.{Entry}
 use Rattle.cluster_model.specs.declared.outbox.Outbox.{Outbox}
 use Rattle.mds_rule.specs.MdsStates.{MdsSend, MdsValue, MdsStep, sends_none, and_then}
 use Rattle.mds_rule.specs.Spelled.{spelled_send}
-use Rattle.compound_run.specs.CompoundRuns.{HasStepped}
+use Rattle.compound_run.specs.CompoundRuns.{HasMadeStep}
 
-pub stepped_then : (s : MdsStep) (next : MdsValue → MdsStep) (old mid new : Outbox) (m n : MdsValue) → HasStepped s old m mid → HasStepped (next m) mid n new → HasStepped (and_then s next) old n new
+pub stepped_then : (s : MdsStep) (next : MdsValue → MdsStep) (old mid new : Outbox) (m n : MdsValue) → HasMadeStep s old m mid → HasMadeStep (next m) mid n new → HasMadeStep (and_then s next) old n new
 stepped_then s next old mid new m n first second = record {
   mds = second.mds ∙ ap (λ x. (next x).mds) first.mds;
   entries =
@@ -24,5 +24,5 @@ stepped_then s next old mid new m n first second = record {
 }
 
 -- nothing was done
-pub stepped_none : (m : MdsValue) (out : Outbox) → HasStepped (sends_none m) out m out
+pub stepped_none : (m : MdsValue) (out : Outbox) → HasMadeStep (sends_none m) out m out
 stepped_none m out = record { mds = refl; entries = sym (append-nil out.entries.items); sends = sym (append-nil out.sends.items) }

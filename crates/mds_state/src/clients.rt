@@ -3,7 +3,7 @@
 ghost use Rattle.std.specs.Prelude.{◌≡◌, OnOk};
 ghost use Rattle.mds_rule.specs.ServedFiles.{takes_input, one_by_one, ends_periods, forgotten, ends_client};
 ghost use Rattle.file_rule.specs.FilePhases.{Revokes};
-ghost use Rattle.compound_run.specs.CompoundRuns.{HasStepped};
+ghost use Rattle.compound_run.specs.CompoundRuns.{HasMadeStep};
 
 use crate::inputs::take_input;
 use crate::state::State;
@@ -18,7 +18,7 @@ fn revoke_all(
     cause: EndCause,
     out: &mut Outbox,
 ) -> Result<(), NoMemory>
-    ensures steps { OnOk result (HasStepped (one_by_one (λ m file. takes_input m file (Revokes cause)) files.now state.old) out.old state.new out.new) }
+    ensures steps { OnOk result (HasMadeStep (one_by_one (λ m file. takes_input m file (Revokes cause)) files.now state.old) out.old state.new out.new) }
     ensures silent { OnOk result (out.new.sends.items ≡ out.old.sends.items) }
 {
     for file in files {
@@ -34,7 +34,7 @@ pub fn end_periods(
     cause: EndCause,
     out: &mut Outbox,
 ) -> Result<(), NoMemory>
-    ensures steps { OnOk result (HasStepped (ends_periods state.old client cause) out.old state.new out.new) }
+    ensures steps { OnOk result (HasMadeStep (ends_periods state.old client cause) out.old state.new out.new) }
     ensures silent { OnOk result (out.new.sends.items ≡ out.old.sends.items) }
 {
     let held = state.files.held_by(client)?;
@@ -56,7 +56,7 @@ pub fn end_client(
     cause: EndCause,
     out: &mut Outbox,
 ) -> Result<(), NoMemory>
-    ensures steps { OnOk result (HasStepped (ends_client state.old client cause) out.old state.new out.new) }
+    ensures steps { OnOk result (HasMadeStep (ends_client state.old client cause) out.old state.new out.new) }
     ensures silent { OnOk result (out.new.sends.items ≡ out.old.sends.items) }
 {
     end_periods(state, client, cause, out)?;

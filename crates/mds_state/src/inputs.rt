@@ -7,25 +7,22 @@ ghost use Rattle.mds_rows.specs.Draws.{HasFresh};
 ghost use Rattle.mds_file.specs.Inputs.{plain_input};
 ghost use Rattle.mds_rule.specs.ServedFiles.{has_fresh, takes_input, with_new_recall, asks_back};
 ghost use Rattle.mds_rule.specs.Answers.{recall_outcome};
-ghost use Rattle.compound_run.specs.CompoundRuns.{HasStepped};
+ghost use Rattle.compound_run.specs.CompoundRuns.{HasMadeStep};
 
 use crate::state::State;
 use cluster_model::{Cred, EndCause, FileId, Outbox};
 use ff_xdr::NoMemory;
 use file_rule::Fresh;
 use layout_state::FileState;
-use mds_file::FileInput;
+use mds_file::{FileInput, has_fresh};
 use recall::{AskFault, Outcome};
-
-/// The end of the uids: the last that is drawn is the one before it.
-const END_OF_UIDS: u32 = 4_294_967_294;
 
 /// What one input may draw is there: a uid, and a number of a name for each of four targets.
 pub fn can_draw(fresh: Fresh) -> bool
     ensures exact { result ≡ has_fresh fresh }
     ensures drawn { OnTrue result (HasFresh fresh) }
 {
-    fresh.uid < END_OF_UIDS && fresh.name < u64::MAX - 3
+    has_fresh(&fresh)
 }
 
 /// An input of the table of phases comes to a file, and the recalls of a period that ends with it are over. Takes memory.
@@ -35,7 +32,7 @@ pub fn take_input(
     input: FileInput<'_>,
     out: &mut Outbox,
 ) -> Result<(), NoMemory>
-    ensures steps { OnOk result (HasStepped (takes_input state.old file (plain_input input.entry)) out.old state.new out.new) }
+    ensures steps { OnOk result (HasMadeStep (takes_input state.old file (plain_input input.entry)) out.old state.new out.new) }
     ensures silent { OnOk result (out.new.sends.items ≡ out.old.sends.items) }
 {
     let mut fresh = state.fresh;
@@ -79,7 +76,7 @@ fn begin_recall(
 
 /// The layout that a client has of a file is asked back, where it is not yet; it is `now`, in seconds. Takes memory.
 pub fn ask_back(state: &mut State, file: FileId, now: u64, out: &mut Outbox) -> Result<(), NoMemory>
-    ensures steps { OnOk result (HasStepped (asks_back state.old file now) out.old state.new out.new) }
+    ensures steps { OnOk result (HasMadeStep (asks_back state.old file now) out.old state.new out.new) }
     ensures silent { OnOk result (out.new.sends.items ≡ out.old.sends.items) }
 {
     let Some(served) = state.files.get(file) else {
@@ -95,7 +92,7 @@ pub fn ask_back(state: &mut State, file: FileId, now: u64, out: &mut Outbox) -> 
 
 /// What a recall came to: the period ends where the client knows of no such layout, and where it did not answer. Takes memory.
 pub fn end_recall(state: &mut State, outcome: Outcome, out: &mut Outbox) -> Result<(), NoMemory>
-    ensures steps { OnOk result (HasStepped (recall_outcome state.old outcome) out.old state.new out.new) }
+    ensures steps { OnOk result (HasMadeStep (recall_outcome state.old outcome) out.old state.new out.new) }
     ensures silent { OnOk result (out.new.sends.items ≡ out.old.sends.items) }
 {
     match outcome {

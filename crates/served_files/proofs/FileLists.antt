@@ -1,5 +1,5 @@
 -- One file of a list, and all others.
-use Rattle.std.proofs.Common.{◌≡◌, ℕ, zero, suc, ◌+◌, ◌-◌, ◌<◌, ◌≤◌, Bool, false, List, [], ◌∷◌, length, map, get_or, set, Option, Some, None, Result, Ok, Err, refl, sym, ap, subst, ◌∙◌, arith}
+use Rattle.std.proofs.Common.{◌≡◌, ℕ, zero, suc, ◌+◌, ◌-◌, ◌<◌, ◌≤◌, Bool, true, false, List, [], ◌∷◌, ◌++◌, length, length-append, map, get_or, set, Option, Some, None, Result, Ok, Err, refl, sym, ap, subst, ◌∙◌, arith}
 use Rattle.std.specs.Prelude.{slice_get}
 use Rattle.std.proofs.lemmas.List.{length-set}
 use Rattle.std.proofs.lemmas.Option.{same_Some, slice_get_read}
@@ -15,8 +15,11 @@ use Rattle.served_files.specs.declared.reading.EndedRead.{EndedRead}
 use Rattle.served_files.specs.declared.writing.EndedWrite.{EndedWrite}
 use Rattle.served_files.specs.declared.sending.SentByFile.{SentByFile}
 use Rattle.served_files.specs.Waiting.{StepsRead, StepsWrite}
-use Rattle.served_files.specs.Sending.{SendsOwn, SendsRead}
+use Rattle.served_files.specs.Sending.{SendsOwn, SendsFileRead}
+use Rattle.served_files.specs.Quiet.{IsQuiet, is_due, AreQuietBut}
 use Rattle.served_files.specs.FileSteps.{at_place, changed_at, changed_in, TakesStep, TakesAt, TakesIn, StepsReadOf, StepsReadIn, StepsWriteOf, StepsWriteIn, SendsOwnOf, SendsOwnIn, SendsReadOf, SendsReadIn}
+use Rattle.served_files.proofs.NameLists.{map-push}
+use Rattle.served_files.proofs.QuietLemmas.{StayDue, still_quiet, quiet_set, quiet_stays, quiet_push}
 
 -- ---- the names, where a file changes and keeps its own
 
@@ -25,8 +28,17 @@ names_set [] i x y there same = absurd (cc)
 names_set (f ∷ files) zero x y there same = ap (λ name. name ∷ map (λ (f : ServedFile). f.name) files) (same ∙ ap (λ (g : ServedFile). g.name) (sym (same_Some f x there)))
 names_set (f ∷ files) (suc i) x y there same = ap (λ names. f.name ∷ names) (names_set files i x y there same)
 
-abbrev pub AreNamed : List (List ℕ) → List ServedFile → Type 0
-AreNamed names files = (names ≡ map (λ (f : ServedFile). f.name) files) × (length files ≤ 4096)
+-- the names, the places that are due, and the files
+abbrev pub AreKept : List (List ℕ) → List ℕ → List ServedFile → Type 0
+AreKept names due files = (names ≡ map (λ (f : ServedFile). f.name) files) × (length files ≤ 4096) × AreQuietBut due files
+
+-- one file more, which is due
+pub one_more : (names : List (List ℕ)) (old new : List ℕ) (files : List ServedFile) (y : ServedFile) → length files < 4096 → StayDue old new → is_due new (length files) ≡ true → AreKept names old files → AreKept (names ++ y.name ∷ []) new (files ++ y ∷ [])
+one_more names old new files y room stay is (are, few, quiet) = (
+  ap (λ (l : List (List ℕ)). l ++ y.name ∷ []) are ∙ sym (map-push (λ (f : ServedFile). f.name) files y),
+  omega (arith, room, length-append files (y ∷ [])),
+  quiet_push new files y is (still_quiet old new files stay quiet),
+)
 
 -- ---- a place that was found
 
@@ -53,8 +65,19 @@ not_found now file None found none = found
 not_found now file (Some place) found none = absurd (none place refl)
 
 module _ (now files : List ServedFile) (file : FileId) (place : ℕ) (x : ServedFile) (at : IsAt now files file place x) (y : ServedFile) where
-  pub stands : (names : List (List ℕ)) → y.name ≡ x.name → AreNamed names files → AreNamed names (set files place y)
-  stands names same (are, few) = (are ∙ sym (names_set files place x y at.there same), subst (λ (n : ℕ). n ≤ 4096) (sym (length-set files place y)) few)
+  pub stands : (names : List (List ℕ)) (old new : List ℕ) → y.name ≡ x.name → StayDue old new → is_due new place ≡ true → AreKept names old files → AreKept names new (set files place y)
+  stands names old new same stay is (are, few, quiet) = (
+    are ∙ sym (names_set files place x y at.there same),
+    subst (λ (n : ℕ). n ≤ 4096) (sym (length-set files place y)) few,
+    quiet_set new files place y is (still_quiet old new files stay quiet),
+  )
+
+  pub stands_quiet : (names : List (List ℕ)) (due : List ℕ) → y.name ≡ x.name → (IsQuiet x → IsQuiet y) → AreKept names due files → AreKept names due (set files place y)
+  stands_quiet names due same goes (are, few, quiet) = (
+    are ∙ sym (names_set files place x y at.there same),
+    subst (λ (n : ℕ). n ≤ 4096) (sym (length-set files place y)) few,
+    quiet_stays due files place x y at.there goes quiet,
+  )
 
   pub changed : (change : ServedFile → ServedFile) → y ≡ change x → set files place y ≡ changed_in now file change
   changed change is = at.puts y ∙ ap (with_file now file) is ∙ ap (changed_at now file change) (sym at.served)
@@ -77,7 +100,7 @@ module _ (now files : List ServedFile) (file : FileId) (place : ℕ) (x : Served
   sends_own xid (Err e) said = tt
   sends_own xid (Ok result) said = subst (λ (o : Option ServedFile). SendsOwnOf now file xid (Ok result) (set files place y) o) (sym at.served) (y, said, at.puts y)
 
-  pub sends_read : (n xid : ℕ) (result : Result (Option SentByFile) NoMemory) → SendsRead file x n xid result y → SendsReadIn now file n xid result (set files place y)
+  pub sends_read : (n xid : ℕ) (result : Result (Option SentByFile) NoMemory) → SendsFileRead file x n xid result y → SendsReadIn now file n xid result (set files place y)
   sends_read n xid (Err e) said = tt
   sends_read n xid (Ok result) said = subst (λ (o : Option ServedFile). SendsReadOf now file n xid (Ok result) (set files place y) o) (sym at.served) (y, said, at.puts y)
 

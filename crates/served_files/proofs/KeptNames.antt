@@ -1,5 +1,5 @@
 -- That a file's name stays in each of its steps.
-use Rattle.std.proofs.Common.{◌≡◌, ℕ, Bool, List, Option, Some, None, Result, Ok, Err, refl, sym, ap, ◌∙◌}
+use Rattle.std.proofs.Common.{◌≡◌, ℕ, Bool, List, Option, Some, None, Result, Ok, Err, sym, ap}
 use Rattle.std.specs.Option.{option_map}
 use Rattle.std.proofs.lemmas.Option.{same_Some}
 use Rattle.std.specs.Prelude.{slice_get}
@@ -18,7 +18,7 @@ use Rattle.mds_rule.specs.Goes.{OwnCall, own_of_file, own_of_write, own_by}
 use Rattle.served_files.specs.declared.writing.EndedWrite.{EndedWrite}
 use Rattle.served_files.specs.declared.sending.SentByFile.{SentByFile}
 use Rattle.served_files.specs.Waiting.{WriteEnds, WriteBy, StepsWrite}
-use Rattle.served_files.specs.Sending.{SendsOwn, SendsReadAt, SendsRead}
+use Rattle.served_files.specs.Sending.{SendsOwn, SendsReadAt, SendsFileRead}
 use Rattle.served_files.specs.FileSteps.{TakesStep}
 
 abbrev name_of : ServedFile → List ℕ
@@ -65,5 +65,5 @@ read_at file old n xid (Ok (Some c)) new None said = absurd said
 read_at file old n xid (Ok None) new (Some r) (none, is) = ap name_of is
 read_at file old n xid (Ok (Some c)) new (Some r) (sent, next, is, caller, server, uid, call) = ap name_of is
 
-pub read_sent : (file : FileId) (old : ServedFile) (n xid : ℕ) (result : Result (Option SentByFile) NoMemory) (new : ServedFile) → SendsRead file old n xid result new → new.name ≡ old.name
+pub read_sent : (file : FileId) (old : ServedFile) (n xid : ℕ) (result : Result (Option SentByFile) NoMemory) (new : ServedFile) → SendsFileRead file old n xid result new → new.name ≡ old.name
 read_sent file old n xid result new said = read_at file old n xid result new (slice_get old.reads n) said

@@ -1,6 +1,7 @@
 mod FileLists
 mod KeptNames
 mod NameLists
+mod QuietLemmas
 mod ReadLists
 mod ReadSteps
 mod SendLemmas

@@ -10,7 +10,7 @@ use Rattle.mds_io.specs.Reads.{ReadState, ReadAfter}
 use Rattle.mds_rule.specs.MdsStates.{CompoundRun, WaitingRead}
 use Rattle.mds_rule.specs.Answers.{is_read_out}
 use Rattle.served_files.specs.declared.reading.EndedRead.{EndedRead}
-use Rattle.served_files.specs.Waiting.{StepsOne, EndedAt, EndedAtPlace, EndsAs, StepsRead, StepsReadFrom, StepsReadAt, reads_left}
+use Rattle.served_files.specs.Waiting.{StepsOne, EndedAt, EndedAtPlace, ReadEndsAs, StepsRead, StepsReadFrom, StepsReadAt, reads_left}
 use Rattle.served_files.proofs.ReadLists.{waiting_as}
 
 remove_set : (reads : List WaitingRead) (place : ℕ) (w : WaitingRead) → remove (set reads place w) place ≡ remove reads place
@@ -21,10 +21,10 @@ remove_set (r ∷ reads) (suc place) w = ap (λ rest. r ∷ rest) (remove_set re
 -- it has ended or not
 left : (old new : List WaitingRead) (place : ℕ) (w : WaitingRead) (c : CompoundRun) (read : ReadState) (end : Option ReadEnd) (result : Option EndedRead) (r : WaitingRead)
     → r.compound ≡ c → w ≡ waiting_as r.compound read → EndedAtPlace (set old place w) place end result new (Some w)
-    → (new ≡ reads_left old place r read end) × EndsAs end r.compound result
-left old new place w c read None result r same is ends = (ends.1 ∙ ap (set old place) is, subst (EndsAs None r.compound) (sym ends.0) tt)
+    → (new ≡ reads_left old place r read end) × ReadEndsAs end r.compound result
+left old new place w c read None result r same is ends = (ends.1 ∙ ap (set old place) is, subst (ReadEndsAs None r.compound) (sym ends.0) tt)
 left old new place w c read (Some by) result r same is ends =
-    (ends.0 ∙ remove_set old place w, subst (λ (d : CompoundRun). EndsAs (Some by) d result) (ap (λ (w : WaitingRead). w.compound) is) ends.1)
+    (ends.0 ∙ remove_set old place w, subst (λ (d : CompoundRun). ReadEndsAs (Some by) d result) (ap (λ (w : WaitingRead). w.compound) is) ends.1)
 
 -- the read whose call has this number was stepped
 pub steps_read : (step : ReadState → ReadAfter) (old new : List WaitingRead) (entries entries' : List Entry) (xid place : ℕ) (r w : WaitingRead) (end : Option ReadEnd) (result : Option EndedRead)

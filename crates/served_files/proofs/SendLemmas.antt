@@ -9,7 +9,7 @@ use Rattle.cluster_model.specs.declared.ids.Mirror.{Mirror}
 use Rattle.cluster_model.specs.declared.ids.MirrorId.{MirrorId}
 use Rattle.cluster_model.specs.declared.limits.TheConstants.{PIECE_SIZE}
 use Rattle.cluster_model.specs.Fences.{waits}
-use Rattle.cluster_model.specs.DsCalls.{DsCallValue, Read, data_in}
+use Rattle.cluster_model.specs.DsCalls.{DsCallValue, data_in}
 use Rattle.file_rule.specs.FilePhases.{CallOut, call_out}
 use Rattle.file_rule.specs.MdsFiles.{MdsFile}
 use Rattle.mds_activity.specs.FileCalls.{GoesFirst}
@@ -23,7 +23,7 @@ use Rattle.mds_rule.specs.MdsStates.{WaitingRead, WaitingWrite, ServedFile}
 use Rattle.mds_rule.specs.Goes.{OwnCall, own_of_file, own_of_write, own_by}
 use Rattle.mds_rule.specs.declared.waiter.Waiter.{Waiter}
 use Rattle.served_files.specs.declared.sending.SentByFile.{SentByFile}
-use Rattle.served_files.specs.Sending.{OwnWaits, SendsOwn, ReadWaits, read_sent, SendsReadAt, SendsRead, SentOfWrite, SentOfFile, SentOfRead}
+use Rattle.served_files.specs.Sending.{OwnWaits, SendsOwn, ReadWaits, read_sent, SendsReadAt, SendsFileRead, SentOfWrite, SentOfFile, SentOfRead}
 
 -- ---- to which server it waits
 
@@ -110,6 +110,6 @@ set_same [] n r is = absurd (cc)
 set_same (q ∷ rs) zero r is = ap (λ (p : WaitingRead). p ∷ rs) (sym (same_Some q r is))
 set_same (q ∷ rs) (suc n) r is = ap (λ (ps : List WaitingRead). q ∷ ps) (set_same rs n r is)
 
-pub sends_by_read : (file : FileId) (old : ServedFile) (n xid : ℕ) (r : WaitingRead) (result : Result (Option SentByFile) NoMemory) (v : WaitingRead) → slice_get old.reads n ≡ Some r → SentOfRead file r (read.next_sent r.read xid) result v → SendsRead file old n xid result (record old { reads = set old.reads n v })
+pub sends_by_read : (file : FileId) (old : ServedFile) (n xid : ℕ) (r : WaitingRead) (result : Result (Option SentByFile) NoMemory) (v : WaitingRead) → slice_get old.reads n ≡ Some r → SentOfRead file r (read.next_sent r.read xid) result v → SendsFileRead file old n xid result (record old { reads = set old.reads n v })
 sends_by_read file old n xid r result v is said =
     subst (SendsReadAt file old n xid result (record old { reads = set old.reads n v })) (sym is) (sent_at file old n xid r (read.next_sent r.read xid) result v refl (set_same old.reads n r is) said)

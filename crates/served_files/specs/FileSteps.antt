@@ -17,7 +17,7 @@ use Rattle.served_files.specs.declared.reading.EndedRead.{EndedRead}
 use Rattle.served_files.specs.declared.writing.EndedWrite.{EndedWrite}
 use Rattle.served_files.specs.declared.sending.SentByFile.{SentByFile}
 use Rattle.served_files.specs.Waiting.{StepsRead, StepsWrite}
-use Rattle.served_files.specs.Sending.{SendsOwn, SendsRead}
+use Rattle.served_files.specs.Sending.{SendsOwn, SendsFileRead}
 
 -- what these entries of an input leave of the file, once it stands as the input has left it
 abbrev pub heard : ServedFile → List Entry → ServedFile
@@ -93,7 +93,7 @@ SendsOwnIn old file xid result new = SendsOwnOf old file xid result new (served_
 abbrev pub SendsReadOf : List ServedFile → FileId → ℕ → ℕ → Result (Option SentByFile) NoMemory → List ServedFile → Option ServedFile → Type 0
 SendsReadOf old file n xid (Err e) new s = ⊤
 SendsReadOf old file n xid (Ok result) new None = (result ≡ None) × (new ≡ old)
-SendsReadOf old file n xid (Ok result) new (Some s) = (t : ServedFile) × SendsRead file s n xid (Ok result) t × (new ≡ with_file old file t)
+SendsReadOf old file n xid (Ok result) new (Some s) = (t : ServedFile) × SendsFileRead file s n xid (Ok result) t × (new ≡ with_file old file t)
 
 abbrev pub SendsReadIn : List ServedFile → FileId → ℕ → ℕ → Result (Option SentByFile) NoMemory → List ServedFile → Type 0
 SendsReadIn old file n xid result new = SendsReadOf old file n xid result new (served_in old file)

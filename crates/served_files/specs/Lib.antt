@@ -1,3 +1,4 @@
 pub mod Waiting
 pub mod Sending
 pub mod FileSteps
+pub mod Quiet

@@ -1,5 +1,5 @@
 -- Which calls of a file go out, and to which server the next one waits.
-use Rattle.std.specs.Prelude.{◌≡◌, ℕ, List, Option, Some, None, Result, Ok, Err, ⊤, slice_get, slice_set}
+use Rattle.std.specs.Prelude.{◌≡◌, ℕ, Option, Some, None, Result, Ok, Err, ⊤, slice_get, slice_set}
 use Rattle.ff_xdr.specs.declared.error.NoMemory.{NoMemory}
 use Rattle.cluster_model.specs.declared.ids.FileId.{FileId}
 use Rattle.file_rule.specs.MdsFiles.{MdsFile}
@@ -51,8 +51,8 @@ SendsReadAt file old n xid (Ok (Some c)) new (Some r) =
     × (c.uid.0 ≡ 0)
     × (c.call ≡ sent.call)
 
-abbrev pub SendsRead : FileId → ServedFile → ℕ → ℕ → Result (Option SentByFile) NoMemory → ServedFile → Type 0
-SendsRead file old n xid result new = SendsReadAt file old n xid result new (slice_get old.reads n)
+abbrev pub SendsFileRead : FileId → ServedFile → ℕ → ℕ → Result (Option SentByFile) NoMemory → ServedFile → Type 0
+SendsFileRead file old n xid result new = SendsReadAt file old n xid result new (slice_get old.reads n)
 
 -- ---- the parts of a file that send: the call that is the next one goes out, where there is one
 

@@ -20,17 +20,17 @@ reads_left reads place r read None = slice_set reads place (record { compound = 
 reads_left reads place r read (Some e) = remove reads place
 
 -- the read that has ended, with its compound
-abbrev pub EndsAs : Option ReadEnd → CompoundRun → Option EndedRead → Type 0
-EndsAs None c None = ⊤
-EndsAs None c (Some e) = ⊥
-EndsAs (Some by) c None = ⊥
-EndsAs (Some by) c (Some e) = (e.compound ≡ c) × (e.end ≡ by)
+abbrev pub ReadEndsAs : Option ReadEnd → CompoundRun → Option EndedRead → Type 0
+ReadEndsAs None c None = ⊤
+ReadEndsAs None c (Some e) = ⊥
+ReadEndsAs (Some by) c None = ⊥
+ReadEndsAs (Some by) c (Some e) = (e.compound ≡ c) × (e.end ≡ by)
 
 -- the reads once the one at this place has ended, if it has
 abbrev pub EndedAtPlace : List WaitingRead → ℕ → Option ReadEnd → Option EndedRead → List WaitingRead → Option WaitingRead → Type 0
 EndedAtPlace old place None result new r = (result ≡ None) × (new ≡ old)
 EndedAtPlace old place (Some by) result new None = ⊥
-EndedAtPlace old place (Some by) result new (Some r) = (new ≡ remove old place) × EndsAs (Some by) r.compound result
+EndedAtPlace old place (Some by) result new (Some r) = (new ≡ remove old place) × ReadEndsAs (Some by) r.compound result
 
 abbrev pub EndedAt : List WaitingRead → ℕ → Option ReadEnd → Option EndedRead → List WaitingRead → Type 0
 EndedAt old place by result new = EndedAtPlace old place by result new (slice_get old place)
@@ -40,7 +40,7 @@ StepsReadAt old entries step place result new entries' None = (result ≡ None) 
 StepsReadAt old entries step place result new entries' (Some r) =
     (new ≡ reads_left old place r (step r.read).read (step r.read).end)
     × (entries' ≡ entries ++ failed_entries r.read (step r.read).read)
-    × EndsAs (step r.read).end r.compound result
+    × ReadEndsAs (step r.read).end r.compound result
 
 abbrev pub StepsReadFrom : List WaitingRead → List Entry → (ReadState → ReadAfter) → Option EndedRead → List WaitingRead → List Entry → Option ℕ → Type 0
 StepsReadFrom old entries step result new entries' None = (result ≡ None) × (new ≡ old) × (entries' ≡ entries)

@@ -21,12 +21,13 @@ ghost use Rattle.served_files.specs.Waiting.{StepsRead, GivesFew, StepsWrite, Wr
 ghost use Rattle.served_files.specs.FileSteps.{TakesStep, heard};
 
 use crate::reading::{EndedRead, WaitingRead, answer_in, has_out, restart_behind, time_out_in};
-use crate::sizes::{attributes_shown, fileid_of, keep_live, set_size, size_of_first};
-use crate::told::{count_periods, has_period_end};
 use crate::writing::{EndedWrite, WaitingWrite, causes_of, has_failed_everywhere};
 use cluster_model::{DsCall, DsReply, Entry, FileId, MirrorId, Phase};
 use compound_run::KeptRun;
 use ff_xdr::{Data, NoMemory};
+use file_notes::{
+    attributes_shown, count_periods, fileid_of, has_period_end, keep_live, set_size, size_of_first,
+};
 use file_rule::Fresh;
 use layout_state::FileState;
 use mds_file::{FileInput, MdsFile};

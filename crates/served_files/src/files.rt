@@ -15,8 +15,10 @@ ghost use Rattle.mds_rule.specs.FileOps.{max_files, new_served, with_read, with_
 ghost use Rattle.mds_rule.specs.LayoutOps.{with_holder};
 ghost use Rattle.mds_rule.specs.Answers.{sized, fileid_of, attributes_shown};
 ghost use Rattle.served_files.specs.Waiting.{GivesFew};
+ghost use Rattle.served_files.specs.Quiet.{NextDue};
 ghost use Rattle.served_files.specs.FileSteps.{at_place, changed_in, TakesIn, StepsReadIn, StepsWriteIn, SendsOwnIn, SendsReadIn};
 
+use crate::due::{first_from, mark};
 use crate::file::ServedFile;
 use crate::names::FileNames;
 use crate::reading::EndedRead;
@@ -28,17 +30,21 @@ use ff_xdr::{Data, NoMemory};
 use file_rule::Fresh;
 use mds_file::{FileInput, MdsFile};
 use std::alloc::Global;
+use std::collections::BTreeSet;
 use std::marker::Model;
 
 /// The most files of a metadata server.
 pub const MAX_FILES: usize = 4_096;
 
-/// The files, by their numbers from 1 and by their names.
+/// The files, by their numbers from 1 and by their names. A call that may leave a file with a call to send makes it due first, so
+/// that `next_due` finds those files alone.
 #[derive(Drop)]
 pub struct Files {
     alloc: Global,
     names: FileNames,
     files: Vec<ServedFile>,
+    // the places of the files that are due
+    due: BTreeSet<usize>,
 }
 
 impl Model for Files {
@@ -49,7 +55,9 @@ impl Model for Files {
 
     ghost view = { λ s. s.files.items };
 
-    ghost invariant = { λ s. (s.names ≡ map (λ f. f.name) s.files.items) × (length s.files.items ≤ 4096) };
+    ghost use Rattle.served_files.specs.Quiet.{AreQuietBut};
+
+    ghost invariant = { λ s. (s.names ≡ map (λ f. f.name) s.files.items) × (length s.files.items ≤ 4096) × AreQuietBut s.due.keys s.files.items };
 }
 
 impl Files {
@@ -61,6 +69,7 @@ impl Files {
             alloc,
             names: FileNames::new(alloc),
             files: Vec::new(alloc),
+            due: BTreeSet::new(alloc),
         }
     }
 
@@ -90,6 +99,33 @@ impl Files {
         self.files.get(file.0 as usize - 1)
     }
 
+    /// The first file from this number on that may have a call to send: one that was touched since it was last settled. It costs the
+    /// logarithm of how many such files there are.
+    pub fn next_due(&self, from: u32) -> Option<FileId>
+        ensures { NextDue self.now from result }
+    {
+        let first = (from as usize).saturating_sub(1);
+        let place = first_from(first, &self.due)?;
+        // the place behind the last is due where memory was wanted for a new file
+        if place >= self.files.len() {
+            return None;
+        }
+        Some(FileId(place as u32 + 1))
+    }
+
+    /// What of a file could go out has gone out. Where nothing of it waits it is due no more, until it is touched again. It costs by
+    /// the READs of the file, and the logarithm of how many files are due.
+    pub fn settle(&mut self, file: FileId)
+        ensures { self.new ≡ self.old }
+    {
+        let Some(place) = self.place(file) else {
+            return;
+        };
+        if self.files[place].is_quiet() {
+            self.due.remove(&place);
+        }
+    }
+
     /// The files whose layout this client has, in order. It costs by the number of files. Takes memory.
     pub fn held_by(&self, client: u64) -> Result<Vec<FileId>, NoMemory>
         ensures { IfOk result (λ held. held.items ≡ held_from client 1 self.now) }
@@ -105,6 +141,8 @@ impl Files {
     {
         let own = Data::of(self.alloc, name)?;
         self.files.reserve(1)?;
+        let place = self.files.len();
+        mark(place, &mut self.due)?;
         self.names.add(name)?;
         // there is room for it, so it does not fail
         self.files.push(ServedFile::new(self.alloc, own, file))?;
@@ -140,6 +178,7 @@ impl Files {
         let Some(place) = self.place(file) else {
             return Ok(false);
         };
+        mark(place, &mut self.due)?;
         self.files[place].take(file, input, fresh, entries)
     }
 
@@ -156,6 +195,7 @@ impl Files {
         let Some(place) = self.place(file) else {
             return Ok(());
         };
+        mark(place, &mut self.due)?;
         self.files[place].see_size(server, call, reply)
     }
 
@@ -182,6 +222,7 @@ impl Files {
         let Some(place) = self.place(file) else {
             return Ok(());
         };
+        mark(place, &mut self.due)?;
         self.files[place].begin_read(compound, at, count)
     }
 
@@ -201,6 +242,7 @@ impl Files {
         let Some(place) = self.place(file) else {
             return Ok(None);
         };
+        mark(place, &mut self.due)?;
         self.files[place].answer_read(alloc, xid, reply, entries)
     }
 
@@ -217,6 +259,7 @@ impl Files {
         let Some(place) = self.place(file) else {
             return Ok(None);
         };
+        mark(place, &mut self.due)?;
         self.files[place].time_out_read(xid, entries)
     }
 
@@ -237,6 +280,7 @@ impl Files {
         let Some(place) = self.place(file) else {
             return Ok(());
         };
+        mark(place, &mut self.due)?;
         self.files[place].begin_write(alloc, compound, at, bytes)
     }
 
@@ -252,6 +296,7 @@ impl Files {
         let Some(place) = self.place(file) else {
             return Ok(None);
         };
+        mark(place, &mut self.due)?;
         self.files[place].answer_write(xid, reply)
     }
 
@@ -262,6 +307,7 @@ impl Files {
         let Some(place) = self.place(file) else {
             return Ok(None);
         };
+        mark(place, &mut self.due)?;
         self.files[place].time_out_write(xid)
     }
 
@@ -273,6 +319,7 @@ impl Files {
         let Some(place) = self.place(file) else {
             return Ok(None);
         };
+        mark(place, &mut self.due)?;
         self.files[place].send_own(alloc, file, xid)
     }
 
@@ -289,6 +336,7 @@ impl Files {
         let Some(place) = self.place(file) else {
             return Ok(None);
         };
+        mark(place, &mut self.due)?;
         self.files[place].send_read(alloc, file, n, xid)
     }
 }

@@ -2,18 +2,16 @@
 //! RFC 8435, section 2.2).
 #![tactic(auto)]
 
+mod due;
 mod file;
 mod files;
 mod names;
 mod reading;
 mod sending;
-mod sizes;
-mod told;
 mod writing;
 
 pub use file::ServedFile;
 pub use files::{Files, MAX_FILES};
 pub use reading::{EndedRead, WaitingRead};
 pub use sending::SentByFile;
-pub use sizes::{attributes_shown, fileid_of};
 pub use writing::{EndedWrite, WaitingWrite};

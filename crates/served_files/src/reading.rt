@@ -9,10 +9,10 @@ ghost use Rattle.mds_rule.specs.ServedFiles.{begins_again, reads_behind};
 ghost use Rattle.mds_rule.specs.Answers.{is_read_out, failed_entry};
 ghost use Rattle.served_files.specs.Waiting.{StepsOne, EndsFew, StepsRead, EndedAt, GivesFew};
 
-use crate::told::has_swap;
 use cluster_model::{DsReply, Entry, Mirrors};
 use compound_run::KeptRun;
 use ff_xdr::NoMemory;
+use file_notes::has_swap;
 use mds_io::{MdsRead, ReadEnd};
 use std::alloc::Global;
 use std::marker::Model;

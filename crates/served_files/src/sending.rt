@@ -1,13 +1,15 @@
 //! The calls of a file that go out.
 
 ghost use Rattle.std.specs.Prelude.{◌≡◌, ◌==◌, ℕ, position};
+ghost use Rattle.std.specs.Bool.{OnTrue, OnFalse};
 ghost use Rattle.std.specs.Option.{option_map};
 ghost use Rattle.cluster_model.specs.declared.ids.FileId.{FileId};
 ghost use Rattle.file_rule.specs.FilePhases.{call_out};
 ghost use Rattle.mds_io.specs.Reads as read;
 ghost use Rattle.mirror_writer.specs.Writers as writer;
 ghost use Rattle.mds_rule.specs.Goes.{place_or_last, place_of};
-ghost use Rattle.served_files.specs.Sending.{OwnWaits, SendsOwn, ReadWaits, SendsRead, SentOfWrite, SentOfFile, SentOfRead};
+ghost use Rattle.served_files.specs.Sending.{OwnWaits, SendsOwn, ReadWaits, SendsFileRead, SentOfWrite, SentOfFile, SentOfRead};
+ghost use Rattle.served_files.specs.Quiet.{IsQuiet};
 
 use crate::file::ServedFile;
 use crate::reading::WaitingRead;
@@ -73,12 +75,28 @@ impl ServedFile {
         n: usize,
         xid: u32,
     ) -> Result<Option<SentByFile>, NoMemory>
-        ensures { SendsRead file self.old n xid result self.new }
+        ensures { SendsFileRead file self.old n xid result self.new }
     {
         if n >= self.reads.len() {
             return Ok(None);
         }
         send_of_read(alloc, file, xid, &mut self.reads[n])
+    }
+
+    /// Neither an own call of it waits to go out nor one of its READs. It costs by the READs.
+    pub fn is_quiet(&self) -> bool
+        ensures quiet { OnTrue result (IsQuiet self.now) }
+        ensures waits { OnFalse result (¬ IsQuiet self.now) }
+    {
+        if self.waiting_server().is_some() {
+            return false;
+        }
+        for n in 0..self.reads.len() {
+            if self.waiting_read(n).is_some() {
+                return false;
+            }
+        }
+        true
     }
 
     /// The place in the live list, from 0, of the mirror on this server; 4 where there is none.

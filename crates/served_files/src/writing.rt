@@ -11,9 +11,9 @@ ghost use Rattle.mds_rule.specs.Answers.{with_failed, is_failure_of, cause_at, c
 
 use cluster_model::{Cred, DsReply, LeftCause, Mirror, MirrorId, Mirrors};
 use compound_run::KeptRun;
-use ff_xdr::{Data, NoMemory};
+use ff_xdr::NoMemory;
 use mds_io::MdsWrite;
-use mirror_writer::WriterStep;
+use mirror_writer::{WriteBytes, WriterStep};
 use std::alloc::Global;
 use std::marker::Model;
 
@@ -22,7 +22,7 @@ use std::marker::Model;
 pub struct WaitingWrite {
     pub compound: KeptRun,
     pub at: u64,
-    pub bytes: Data,
+    pub bytes: WriteBytes,
     pub writer: MdsWrite,
     pub failures: Vec<(MirrorId, LeftCause)>,
 }
@@ -40,7 +40,7 @@ impl Model for WaitingWrite {
 pub struct EndedWrite {
     pub compound: KeptRun,
     pub at: u64,
-    pub bytes: Data,
+    pub bytes: WriteBytes,
     /// For each place in the live list, why its mirror failed it; none past its end.
     pub causes: [Option<LeftCause>; 4],
     /// Every live mirror failed it.
@@ -112,7 +112,7 @@ impl WaitingWrite {
         ensures { IfOk result (λ w. w ≡ new_write compound live cred.0 at bytes.now) }
     {
         let writer = MdsWrite::start(alloc, live, cred, at, bytes)?;
-        let bytes = Data::of(alloc, bytes)?;
+        let bytes = WriteBytes::of(alloc, bytes)?;
         Ok(WaitingWrite {
             compound,
             at,

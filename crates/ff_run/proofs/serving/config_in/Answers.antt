@@ -1,7 +1,7 @@
 use Rattle.std.proofs.Common.{◌≡◌, length, map, refl, arith}
 use Rattle.std.proofs.lemmas.List.{length-map}
 use Rattle.device_addr.specs.Universal.{address_value}
-use Rattle.ff_node.specs.Config.{config_value}
+use Rattle.node_config.specs.Configs.{config_value}
 use Rattle.ff_run.proofs.ServeLemmas.{no_server}
 use Rattle.ff_run.proofs.serving.config_in.Goals as goal
 

@@ -2,7 +2,7 @@ use Rattle.std.proofs.Common.{◌≡◌, ℕ, suc, ◌+◌, ◌-◌, length, ap,
 use Rattle.std.specs.List.{range_with_len}
 use Rattle.mds_rule.specs.MdsStates.{MdsValue}
 use Rattle.mds_rule.specs.Goes.{each, file_calls}
-use Rattle.compound_run.specs.CompoundRuns.{HasStepped}
+use Rattle.compound_run.specs.CompoundRuns.{HasMadeStep}
 use Rattle.mds_sends.proofs.GoesEach.{each_turn, each_none}
 use Rattle.mds_sends.proofs.all.call_all.Goals as goal
 
@@ -11,7 +11,7 @@ loop-place-init c =
     let end = c.len-place-end.result in
     let all : end ≡ length c.args.state.now.files = c.len-place-end.ensures.exact ∙ ap (λ (m : MdsValue). length m.files) c.state.view_is in
     let so_many : end - 0 ≡ length c.args.state.now.files = omega (arith, all) in
-    λ m new rest. subst (λ (n : ℕ). HasStepped (each (file_calls c.args.kept.now) (range_with_len 1 n) c.args.state.now) c.args.out.now m new) so_many rest
+    λ m new rest. subst (λ (n : ℕ). HasMadeStep (each (file_calls c.args.kept.now) (range_with_len 1 n) c.args.state.now) c.args.out.now m new) so_many rest
 
 pub loop-place-preserved : goal.loop-place-preserved
 loop-place-preserved c =

@@ -1,7 +1,6 @@
-use Rattle.std.proofs.Common.{◌≡◌, ℕ, sym, ap, ◌∙◌}
+use Rattle.std.proofs.Common.{sym, ap, ◌∙◌}
 use Rattle.std.specs.Option.{option_map}
 use Rattle.file_rule.specs.FilePhases.{CallOut, call_out}
-use Rattle.file_rule.specs.MdsFiles.{MdsFile}
 use Rattle.mirror_writer.specs.Writers.{WriterValue, WriterSends, next_sent}
 use Rattle.mds_rule.specs.MdsStates.{WaitingWrite, ServedFile}
 use Rattle.served_files.proofs.SendLemmas.{waits_by_write, waits_by_file}

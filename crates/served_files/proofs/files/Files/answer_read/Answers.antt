@@ -5,8 +5,8 @@ use Rattle.mds_rule.specs.MdsStates.{ServedFile}
 use Rattle.served_files.proofs.FileLists.{is_at, stands, steps_read}
 use Rattle.served_files.proofs.files.Files.answer_read.Goals as goal
 
-pub invariant_of-self : goal.invariant_of-self
-invariant_of-self c =
+pub invariant_of-self-2 : goal.invariant_of-self-2
+invariant_of-self-2 c =
     let now = c.args.self.now in
     let files = c.self.inside.files.items in
     let file = c.args.file in
@@ -14,7 +14,7 @@ invariant_of-self c =
     let x = c.index_mut.result.now in
     let y = c.answer_read.new.self in
     let at = is_at now files file place x c.self.view_is c.in-Some.ensures.exact c.in-Some.ensures.within.0 c.in-Some.ensures.within.1 c.index_mut.ensures.value in
-    stands now files file place x at y c.self.inside.names (ap (λ (s : ServedFile). s.name) c.answer_read.ensures.stays) c.self.invariant
+    stands now files file place x at y c.self.inside.names c.self.inside.due.keys c.mark.new.due.keys (ap (λ (s : ServedFile). s.name) c.answer_read.ensures.stays) c.mark.ensures.kept c.in_ok-mark.ensures.due c.self.invariant
 
 pub returns-clause-steps : goal.returns-clause-steps
 returns-clause-steps c =

@@ -1,0 +1,7 @@
+use Rattle.std.proofs.Common.{◌≡◌, false, take}
+use Rattle.std.specs.List.{list_any}
+use Rattle.mds_rule.specs.ServedFiles.{is_period_end}
+use Rattle.file_notes.proofs.told.has_period_end.Given as goal
+
+abbrev pub invariant-loop-entry : goal.invariant-loop-entry
+invariant-loop-entry l = list_any is_period_end (take l.entry-index l.entries) ≡ false

@@ -1,0 +1,5 @@
+pub mod EachTurn
+pub mod LeaseLemmas
+pub mod RecallLemmas
+pub mod NextAwaited
+pub mod CompoundsWithin

@@ -1,0 +1,2 @@
+pub mod MdsSteps
+pub mod LateCalls
