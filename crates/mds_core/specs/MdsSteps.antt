@@ -11,10 +11,10 @@ pub record ServerValue : Type 0 where
   pub mds : MdsValue
   pub is_spent : Bool
 
-abbrev pub new_server : ConfigValue → ServerValue
-new_server c = record { mds = new_mds c.servers c.mirrors; is_spent = false }
+abbrev pub fresh_server : ConfigValue → ServerValue
+fresh_server c = record { mds = new_mds c.servers c.mirrors; is_spent = false }
 
 -- It stepped by this rule. Where memory was wanted it is spent, and what was put out stands as before; one that is spent makes no step.
-abbrev pub StepsBy : (MdsValue → MdsStep) → ServerValue → Outbox → Result (Unit {0}) NoMemory → ServerValue → Outbox → Type 0
-StepsBy rule old before (Ok done) new after = (old.is_spent ≡ false) × (new.is_spent ≡ false) × HasMadeStep (rule old.mds) before new.mds after
-StepsBy rule old before (Err wanted) new after = (new.is_spent ≡ true) × (after.entries.items ≡ before.entries.items) × (after.sends.items ≡ before.sends.items)
+abbrev pub MdsStepsBy : (MdsValue → MdsStep) → ServerValue → Outbox → Result (Unit {0}) NoMemory → ServerValue → Outbox → Type 0
+MdsStepsBy rule old before (Ok done) new after = (old.is_spent ≡ false) × (new.is_spent ≡ false) × HasMadeStep (rule old.mds) before new.mds after
+MdsStepsBy rule old before (Err wanted) new after = (new.is_spent ≡ true) × (after.entries.items ≡ before.entries.items) × (after.sends.items ≡ before.sends.items)

@@ -4,7 +4,7 @@ ghost use Rattle.std.specs.Prelude.{◌≡◌, ◌≤◌, true, false, [], ◌++
 ghost use Rattle.node_config.specs.Configs.{config_value};
 ghost use Rattle.node_config.specs.declared.config.TheConstants.{MAX_MIRRORS, MAX_SERVERS};
 ghost use Rattle.mds_rule.specs.Events.{takes_record, takes_timeout, takes_tick, takes_recall, takes_resilver};
-ghost use Rattle.mds_core.specs.MdsSteps.{new_server, StepsBy};
+ghost use Rattle.mds_core.specs.MdsSteps.{fresh_server, MdsStepsBy};
 
 use crate::asks::{recall, resilver};
 use crate::receive::receive;
@@ -42,7 +42,7 @@ impl Mds {
         requires few { config.now.mirrors ≤ MAX_MIRRORS }
         requires within { config.now.mirrors ≤ length config.now.servers.items }
         requires servers { length config.now.servers.items ≤ MAX_SERVERS }
-        ensures { IfOk result (λ mds. mds ≡ new_server (config_value config.now)) }
+        ensures { IfOk result (λ mds. mds ≡ fresh_server (config_value config.now)) }
     {
         let servers = Vec::from_slice(alloc, config.servers.as_slice())?;
         let state = State::new(alloc, ServerList::new(servers, config.mirrors))?;
@@ -92,7 +92,7 @@ impl Mds {
         now: u64,
         out: &mut Outbox,
     ) -> Result<(), NoMemory>
-        ensures { StepsBy (λ m. takes_record now m from message.now) self.old out.old result self.new out.new }
+        ensures { MdsStepsBy (λ m. takes_record now m from message.now) self.old out.old result self.new out.new }
     {
         let mut own = self.begin()?;
         receive(&mut self.state, from, message, now, &mut own)?;
@@ -102,7 +102,7 @@ impl Mds {
     /// Of the calls to this node that are waited for, the one that was sent first timed out, at `now`, in seconds; nothing happens
     /// where there is none.
     pub fn on_timeout(&mut self, to: NodeId, now: u64, out: &mut Outbox) -> Result<(), NoMemory>
-        ensures { StepsBy (λ m. takes_timeout now m to) self.old out.old result self.new out.new }
+        ensures { MdsStepsBy (λ m. takes_timeout now m to) self.old out.old result self.new out.new }
     {
         let mut own = self.begin()?;
         time_out_first(&mut self.state, to, now, &mut own)?;
@@ -111,7 +111,7 @@ impl Mds {
 
     /// Time passed; it is `now`, in seconds. Leases and recalls end, and what waited for the tick is asked again.
     pub fn tick(&mut self, now: u64, out: &mut Outbox) -> Result<(), NoMemory>
-        ensures { StepsBy (takes_tick now) self.old out.old result self.new out.new }
+        ensures { MdsStepsBy (takes_tick now) self.old out.old result self.new out.new }
     {
         let mut own = self.begin()?;
         tick(&mut self.state, now, &mut own)?;
@@ -121,7 +121,7 @@ impl Mds {
     /// The layout that a client has of a file is asked back, at `now`, in seconds; nothing happens where no client has it, or it is
     /// asked back already.
     pub fn recall(&mut self, file: FileId, now: u64, out: &mut Outbox) -> Result<(), NoMemory>
-        ensures { StepsBy (λ m. takes_recall now m file) self.old out.old result self.new out.new }
+        ensures { MdsStepsBy (λ m. takes_recall now m file) self.old out.old result self.new out.new }
     {
         let mut own = self.begin()?;
         recall(&mut self.state, file, now, &mut own)?;
@@ -130,7 +130,7 @@ impl Mds {
 
     /// A file gets the mirrors that it lacks; nothing happens where it lacks none, or its phase does not allow it.
     pub fn resilver(&mut self, file: FileId, out: &mut Outbox) -> Result<(), NoMemory>
-        ensures { StepsBy (λ m. takes_resilver m file) self.old out.old result self.new out.new }
+        ensures { MdsStepsBy (λ m. takes_resilver m file) self.old out.old result self.new out.new }
     {
         let mut own = self.begin()?;
         resilver(&mut self.state, file, &mut own)?;

@@ -4,7 +4,7 @@ ghost use Rattle.std.specs.Prelude.{◌≡◌, find, option_copied, OnOk};
 ghost use Rattle.mds_rule.specs.MdsStates.{served};
 ghost use Rattle.mds_rule.specs.Events.{is_outstanding_to, is_kept_by, goes_again, takes_timeout};
 ghost use Rattle.mds_rule.specs.MdsStates.{AwaitedCall as SentBefore};
-ghost use Rattle.mds_core.specs.LateCalls.{IsLate};
+ghost use Rattle.mds_core.specs.LateCalls.{IsLateCall};
 ghost use Rattle.compound_run.specs.CompoundRuns.{HasMadeStep};
 
 use awaited_calls::AwaitedCall;
@@ -57,7 +57,7 @@ struct LateCall {
 /// Its record goes again, where it is still waited for and is not kept until the next tick. One for which nobody waits is forgotten.
 /// Takes memory.
 fn send_again(state: &mut State, late: LateCall, out: &mut Outbox) -> Result<(), NoMemory>
-    ensures { (call : SentBefore) → IsLate call late → OnOk result (HasMadeStep (goes_again call state.old) out.old state.new out.new) }
+    ensures { (call : SentBefore) → IsLateCall call late → OnOk result (HasMadeStep (goes_again call state.old) out.old state.new out.new) }
 {
     let LateCall {
         node,

@@ -174,7 +174,7 @@ called_back files calls call es ss i =
 
 cases : Cases IsSo
 cases = record {
-  quiet = λ m sessions opens reclaimed recalls es ss i. i;
+  quiet = λ m sessions confirmed opens reclaimed recalls es ss i. i;
   replies = λ m node reply es ss i. sends m.files m.calls es ss (Replies node reply) i;
   answers = λ m node bytes es ss i. sends m.files m.calls es ss (Answers node bytes) i;
   notes = λ m e quiet es ss i. notes m.files m.calls e quiet es ss i;

@@ -71,8 +71,8 @@ pub record Silent (I : MdsValue → List Entry → List MdsSend → Type 0) (m :
 
 pub record Cases (I : MdsValue → List Entry → List MdsSend → Type 0) : Type 0 where
   -- nothing of files, calls and numbers changes
-  pub quiet : (m : MdsValue) (sessions : SessionsState) (opens : OpensValue) (reclaimed : List ℕ) (recalls : List Recall)
-      → Becomes I m (record m { sessions = sessions; opens = opens; reclaimed = reclaimed; recalls = recalls })
+  pub quiet : (m : MdsValue) (sessions : SessionsState) (confirmed : List (ℕ × NodeId)) (opens : OpensValue) (reclaimed : List ℕ) (recalls : List Recall)
+      → Becomes I m (record m { sessions = sessions; confirmed = confirmed; opens = opens; reclaimed = reclaimed; recalls = recalls })
   pub replies : (m : MdsValue) (node : NodeId) (reply : RpcReply) (es : List Entry) (ss : List MdsSend) → I m es ss → I m es (ss ++ Replies node reply ∷ [])
   pub answers : (m : MdsValue) (node : NodeId) (bytes : List ℕ) (es : List Entry) (ss : List MdsSend) → I m es ss → I m es (ss ++ Answers node bytes ∷ [])
   pub notes : (m : MdsValue) (e : Entry) → is_quiet e ≡ true → Enters I m m (e ∷ [])

@@ -120,7 +120,7 @@ inputs m file s step es ss i =
 
 cases : Cases IsSo
 cases = record {
-  quiet = λ m sessions opens reclaimed recalls es ss i. i;
+  quiet = λ m sessions confirmed opens reclaimed recalls es ss i. i;
   replies = λ m node reply es ss i. plain m.next_xid m.calls ss (Replies node reply) refl i;
   answers = λ m node bytes es ss i. plain m.next_xid m.calls ss (Answers node bytes) refl i;
   notes = λ m e is es ss i. i;

@@ -42,7 +42,7 @@ use Rattle.mds_operations.specs.Writes.{write_order}
 use Rattle.mds_operations.specs.LayoutGets.{layout_get_order}
 use Rattle.mds_operations.specs.GetDeviceInfo.{device_info_order}
 use Rattle.mds_operations.specs.PutFh.{put_fh_order, object_of}
-use Rattle.mds_rule.specs.MdsStates.{CompoundRun, WaitingWrite, ServedFile, MdsSend, MdsValue, MdsStep, sends_none, served, with_served, numbered, file_named}
+use Rattle.mds_rule.specs.MdsStates.{CompoundRun, WaitingWrite, ServedFile, MdsSend, MdsValue, MdsStep, sends_none, confirmed_node, served, with_served, numbered, file_named}
 use Rattle.mds_rule.specs.OpSteps.{OpStep, with_result, at_object, gives, refused_or}
 use Rattle.mds_rule.specs.ServedFiles.{takes_input, asks_back, ends_periods}
 use Rattle.mds_rule.specs.SessionOps.{goes_with}
@@ -95,7 +95,7 @@ module _ (I : MdsValue → List Entry → List MdsSend → Type 0) (k : Cases I)
   gets_attr m c words = attributes_got m c words c.current
 
   opens_become : (m : MdsValue) (opens : OpensValue) → Becomes I m (record m { opens = opens })
-  opens_become m opens = k.quiet m m.sessions opens m.reclaimed m.recalls
+  opens_become m opens = k.quiet m m.sessions m.confirmed opens m.reclaimed m.recalls
 
   open_walk : (m : MdsValue) (c : CompoundRun) (name : List ℕ) (o : Option FileId) → KeepsOp I m (opens_or_makes m c name o)
   open_walk m c name (Some file) = no_entries I m (record m { opens = opened m.opens (client_of c) file }) (opens_become m (opened m.opens (client_of c) file))
@@ -151,11 +151,12 @@ module _ (I : MdsValue → List Entry → List MdsSend → Type 0) (k : Cases I)
   granted_walk m s c file again first (Some t) is =
       enters_becomes I m s.mds (with_served s.mds file (with_holder (client_of c) again t)) s.entries first (k.puts s.mds file t (with_holder (client_of c) again t) is refl (old_write t.file t.write))
 
-  grants_walk : (m : MdsValue) (c : CompoundRun) (file : FileId) (again : Bool) (node : NodeId) → KeepsOp I m (grants_to m c file again node)
+  grants_walk : (m : MdsValue) (c : CompoundRun) (file : FileId) (again : Bool) (node : Option NodeId) → KeepsOp I m (grants_to m c file again node)
   grants_walk m c file true node = granted_walk m (sends_none m) c file true (stays I m) (served m file) refl
-  grants_walk m c file false Mds = stays I m
-  grants_walk m c file false (Server n) = stays I m
-  grants_walk m c file false (Client n) =
+  grants_walk m c file false None = stays I m
+  grants_walk m c file false (Some Mds) = stays I m
+  grants_walk m c file false (Some (Server n)) = stays I m
+  grants_walk m c file false (Some (Client n)) =
       let s : MdsStep = takes_input m file (AsksLayout n) in
       granted_walk m s c file false (takes I k m file (AsksLayout n)).enters (served s.mds file) refl
 
@@ -170,9 +171,9 @@ module _ (I : MdsValue → List Entry → List MdsSend → Type 0) (k : Cases I)
     where
       by_found : (found : LayoutGetFound) (status : Option Stat4) → KeepsOp I m (layout_answer m c now found status)
       by_found found status =
-          cond_both (is_try_later status) (later_by m c now (phase_behind found.fault)) (refused_or m c 50 status (grants_to m c (current_file c) (is_granted (served m (current_file c))) c.node)) (λ (x : OpStep). KeepsOp I m x)
+          cond_both (is_try_later status) (later_by m c now (phase_behind found.fault)) (refused_or m c 50 status (grants_to m c (current_file c) (is_granted (served m (current_file c))) (confirmed_node m (client_of c)))) (λ (x : OpStep). KeepsOp I m x)
           (λ is. later_walk m c now (phase_behind found.fault))
-          (λ off. refused I k m c 50 status (grants_to m c (current_file c) (is_granted (served m (current_file c))) c.node) (grants_walk m c (current_file c) (is_granted (served m (current_file c))) c.node))
+          (λ off. refused I k m c 50 status (grants_to m c (current_file c) (is_granted (served m (current_file c))) (confirmed_node m (client_of c))) (grants_walk m c (current_file c) (is_granted (served m (current_file c))) (confirmed_node m (client_of c))))
 
   return_walk : (m : MdsValue) (c : CompoundRun) (file : FileId) (errors : List (Value ff_ioerr4)) (o : Option ServedFile) → KeepsOp I m (return_by m c file errors o)
   return_walk m c file errors None = stays I m

@@ -31,7 +31,7 @@ use Rattle.recall.specs.Recalls.{is_under_way, new_recall, with_recall}
 use Rattle.mds_rule.specs.MdsStates.{CompoundRun, ServedFile, MdsSend, MdsValue, MdsStep, sends_none, served}
 use Rattle.mds_rule.specs.OpSteps.{OpStep, Goes, with_result, refuses, refused_or}
 use Rattle.mds_rule.specs.ServedFiles.{has_fresh, file_stepped, input_at, takes_input, with_new_recall, recall_by, recall_at, asks_back, held_from, one_by_one, ends_periods, forgotten, ends_client}
-use Rattle.mds_rule.specs.SessionOps.{with_exchange, runs_exchange, gone_with, with_session, with_create, runs_create, on_session, runs_bind, runs_destroy_session, runs_destroy_client, reclaims}
+use Rattle.mds_rule.specs.SessionOps.{with_exchange, runs_exchange, confirmed_by, confirms, gone_with, with_session, with_create, runs_create, on_session, runs_bind, runs_destroy_session, runs_destroy_client, reclaims}
 use Rattle.mds_laws.proofs.Keeping.{Becomes, KeepsOp, Silent, Cases, no_entries, stays, silent_then, silent_none, silent_same, becomes_silent}
 
 module _ (I : MdsValue → List Entry → List MdsSend → Type 0) (k : Cases I) where
@@ -52,7 +52,7 @@ module _ (I : MdsValue → List Entry → List MdsSend → Type 0) (k : Cases I)
   recall_noted m file cred None now = λ es ss i. i
   recall_noted m file cred (Some client) now =
       cond_both (is_under_way file cred m.recalls) m (record m { recalls = with_recall (new_recall file cred client now) m.recalls }) (λ (n : MdsValue). Becomes I m n)
-      (λ is. λ es ss i. i) (λ off. k.quiet m m.sessions m.opens m.reclaimed (with_recall (new_recall file cred client now) m.recalls))
+      (λ is. λ es ss i. i) (λ off. k.quiet m m.sessions m.confirmed m.opens m.reclaimed (with_recall (new_recall file cred client now) m.recalls))
 
   back_by : (m : MdsValue) (file : FileId) (s : ServedFile) (now : ℕ) (held : Bool) → Silent I m (recall_by m file s now held)
   back_by m file s now false = silent_same I m
@@ -77,7 +77,7 @@ module _ (I : MdsValue → List Entry → List MdsSend → Type 0) (k : Cases I)
   periods m client end = turns (λ n file. takes_input n file (Revokes end)) (λ n file. takes n file (Revokes end)) (held_from client 1 m.files) m
 
   forgets_client : (client : ℕ) (m : MdsValue) → Becomes I m (forgotten client m)
-  forgets_client client m = k.quiet m m.sessions (forgotten client m).opens (forgotten client m).reclaimed m.recalls
+  forgets_client client m = k.quiet m m.sessions (forgotten client m).confirmed (forgotten client m).opens (forgotten client m).reclaimed m.recalls
 
   pub client_ends : (m : MdsValue) (client : ℕ) (end : EndCause) → Silent I m (ends_client m client end)
   client_ends m client end = silent_then I m (ends_periods m client end) (λ n. sends_none (forgotten client n)) (periods m client end) (λ n. silent_none I n (forgotten client n) (forgets_client client n))
@@ -85,10 +85,10 @@ module _ (I : MdsValue → List Entry → List MdsSend → Type 0) (k : Cases I)
   -- ---- operations
 
   pub sessions_become : (m : MdsValue) (sessions : SessionsState) → Becomes I m (record m { sessions = sessions })
-  sessions_become m sessions = k.quiet m sessions m.opens m.reclaimed m.recalls
+  sessions_become m sessions = k.quiet m sessions m.confirmed m.opens m.reclaimed m.recalls
 
   pub recalls_become : (m : MdsValue) (recalls : List Rattle.recall.specs.declared.recall.Recall.Recall) → Becomes I m (record m { recalls = recalls })
-  recalls_become m recalls = k.quiet m m.sessions m.opens m.reclaimed recalls
+  recalls_become m recalls = k.quiet m m.sessions m.confirmed m.opens m.reclaimed recalls
 
   pub refused : (m : MdsValue) (c : CompoundRun) (number : ℕ) (status : Option Stat4) (step : OpStep) → KeepsOp I m step → KeepsOp I m (refused_or m c number status step)
   refused m c number None step q = q
@@ -107,15 +107,16 @@ module _ (I : MdsValue → List Entry → List MdsSend → Type 0) (k : Cases I)
   gone None m = silent_same I m
   gone (Some client) m = client_ends m client ClientGone
 
-  session_walk : (m : MdsValue) (c : CompoundRun) (sequence : ℕ) (fore back : Value channel_attrs4) (sessions : SessionsState) (o : Option Created) → KeepsOp I m (with_session m c sequence fore back sessions o)
-  session_walk m c sequence fore back sessions None = stays I m
-  session_walk m c sequence fore back sessions (Some created) =
-      becomes_silent I m (record m { sessions = sessions }) (gone_with created.gone (record m { sessions = sessions })) (sessions_become m sessions) (gone created.gone (record m { sessions = sessions }))
+  session_walk : (m : MdsValue) (c : CompoundRun) (client sequence : ℕ) (fore back : Value channel_attrs4) (sessions : SessionsState) (o : Option Created) → KeepsOp I m (with_session m c client sequence fore back sessions o)
+  session_walk m c client sequence fore back sessions None = stays I m
+  session_walk m c client sequence fore back sessions (Some created) =
+      let n : MdsValue = confirms client c.node (record m { sessions = sessions }) in
+      becomes_silent I m n (gone_with created.gone n) (k.quiet m sessions (confirmed_by client c.node m.confirmed) m.opens m.reclaimed m.recalls) (gone created.gone n)
 
   create_walk : (m : MdsValue) (c : CompoundRun) (client sequence : ℕ) (fore back : Value channel_attrs4) (program now : ℕ) (case : CreateSessionCase) (fault : Option SessionFault)
       → KeepsOp I m (with_create m c client sequence fore back program now case fault)
   create_walk m c client sequence fore back program now case (Some fault) = stays I m
-  create_walk m c client sequence fore back program now case None = session_walk m c sequence fore back (after_creating m.sessions program c.node now case) (created_answer m.sessions client case)
+  create_walk m c client sequence fore back program now case None = session_walk m c client sequence fore back (after_creating m.sessions program c.node now case) (created_answer m.sessions client case)
 
   pub creates : (m : MdsValue) (c : CompoundRun) (now : ℕ) (args : Value create_session4_args) → KeepsOp I m (runs_create m c now args)
   creates m c now (client, (sequence, (flags, (fore, (back, (program, security)))))) =
@@ -144,4 +145,4 @@ module _ (I : MdsValue → List Entry → List MdsSend → Type 0) (k : Cases I)
   reclaims_all m c (Some slot) =
       cond_both (list_any (nat_eq (client_in slot.session)) m.reclaimed) (refuses m c 58 Rattle.nfs4_types.specs.declared.status.Stat4.TheVariants.CompleteAlready)
       (Goes (record m { reclaimed = m.reclaimed ++ client_in slot.session ∷ [] }) [] (with_result c (arm 58 Rattle.nfs4_compound.specs.Results.resop4 (inl tt)))) (λ (x : OpStep). KeepsOp I m x)
-      (λ is. stays I m) (λ off. no_entries I m (record m { reclaimed = m.reclaimed ++ client_in slot.session ∷ [] }) (k.quiet m m.sessions m.opens (m.reclaimed ++ client_in slot.session ∷ []) m.recalls))
+      (λ is. stays I m) (λ off. no_entries I m (record m { reclaimed = m.reclaimed ++ client_in slot.session ∷ [] }) (k.quiet m m.sessions m.confirmed m.opens (m.reclaimed ++ client_in slot.session ∷ []) m.recalls))

@@ -119,7 +119,7 @@ pushed fresh files calls ss s is i = record { drawn = i.drawn; all = i.all; were
 
 cases : Cases IsSo
 cases = record {
-  quiet = λ m sessions opens reclaimed recalls es ss i. i;
+  quiet = λ m sessions confirmed opens reclaimed recalls es ss i. i;
   replies = λ m node reply es ss i. pushed m.fresh.uid m.files m.calls ss (Replies node reply) tt i;
   answers = λ m node bytes es ss i. pushed m.fresh.uid m.files m.calls ss (Answers node bytes) tt i;
   notes = λ m e is es ss i. i;

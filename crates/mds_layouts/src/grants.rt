@@ -5,8 +5,9 @@ ghost use Rattle.ff_xdr.specs.Arms.{arm};
 ghost use Rattle.cluster_model.specs.declared.outbox.Outbox.{Outbox};
 ghost use Rattle.nfs4_compound.specs.Results.{resop4};
 ghost use Rattle.granted_layouts.specs.GrantedBodies.{layout_body, whole_layout, layout_result};
-ghost use Rattle.mds_rule.specs.MdsStates.{MdsStep, served};
+ghost use Rattle.mds_rule.specs.MdsStates.{MdsStep, confirmed_node, served};
 ghost use Rattle.mds_rule.specs.OpSteps.{with_result};
+ghost use Rattle.mds_rule.specs.FileOps.{client_of};
 ghost use Rattle.mds_rule.specs.LayoutOps.{is_granted, granted_in, grants_to};
 ghost use Rattle.compound_run.specs.CompoundRuns.{HasRoomForResults, HasEntered, HasOperated, AddsResult, OnGoes};
 
@@ -17,7 +18,7 @@ use granted_layouts::{layout_body, layout_result, whole_layout};
 use layout_state::FileState;
 use mds_file::FileInput;
 use mds_names::client_of;
-use mds_state::{State, take_input};
+use mds_state::{State, confirmed_node, take_input};
 use nfs4_compound::OpRes;
 use nfs4_types::{Stat4, Stateid, layout_stateid};
 use std::alloc::Global;
@@ -68,7 +69,7 @@ fn is_granted(state: &State, file: FileId) -> bool
     }
 }
 
-/// A file is granted to a client's node; where it is granted already its layout is given again. Takes memory.
+/// A file is granted to the client that asks, by the node from which its id was confirmed; where it is granted already its layout is given again. Takes memory.
 pub fn grant(
     state: &mut State,
     run: &mut Run<'_>,
@@ -76,13 +77,13 @@ pub fn grant(
     out: &mut Outbox,
 ) -> Result<OpEnd, NoMemory>
     requires { HasRoomForResults run.old }
-    ensures op { HasOperated (grants_to state.old run.old file (is_granted (served state.old file)) run.old.node) out.old result state.new run.new out.new }
+    ensures op { HasOperated (grants_to state.old run.old file (is_granted (served state.old file)) (confirmed_node state.old (client_of run.old))) out.old result state.new run.new out.new }
     ensures on { AddsResult run.old result run.new }
 {
     if is_granted(state, file) {
         return give_granted(state, run, file, true);
     }
-    let NodeId::Client(client) = run.so_far.node else {
+    let Some(NodeId::Client(client)) = confirmed_node(state, client_of(run)) else {
         return run.refuse(50, Stat4::LayoutUnavailable);
     };
     take_input(state, file, FileInput::AsksLayout { client }, out)?;

@@ -38,7 +38,7 @@ use Rattle.mds_operations.specs.declared.layout_get.LayoutGetFound.{LayoutGetFou
 use Rattle.mds_operations.specs.LayoutReturns.{layout_return_order, layout_return_all_order}
 use Rattle.mds_operations.specs.LayoutCommit.{layout_commit_order}
 use Rattle.mds_operations.specs.GetDeviceInfo.{device_info_order}
-use Rattle.mds_rule.specs.MdsStates.{CompoundRun, ServedFile, MdsValue, MdsStep, sends_none, served, with_served}
+use Rattle.mds_rule.specs.MdsStates.{CompoundRun, ServedFile, MdsValue, MdsStep, sends_none, confirmed_node, served, with_served}
 use Rattle.mds_rule.specs.OpSteps.{OpStep, Goes, Ends, with_result, gives, refuses, by_order, refused_or}
 use Rattle.mds_rule.specs.ServedFiles.{takes_input, asks_back}
 use Rattle.mds_rule.specs.SessionOps.{goes_with}
@@ -51,7 +51,7 @@ abbrev pub layout_asked : Value layoutget4_args → LayoutGetArgs
 layout_asked (signal, (layout_type, (iomode, (offset, (length, (minlength, (stateid, maxcount))))))) =
     record { signal = signal; layout_type = layout_type; iomode = iomode; offset = offset; length = length; minlength = minlength; stateid = stateid_in stateid; maxcount = maxcount }
 
--- Why the file is not granted to this client: by its id, whatever node it calls from. Only a client's node holds a layout.
+-- Why the file is not granted to this client: by its id, whatever node it calls from.
 abbrev pub holds_by : ℕ → Option ℕ → Bool
 holds_by client None = false
 holds_by client (Some holder) = holder == client
@@ -85,11 +85,13 @@ abbrev pub granted_in : MdsStep → CompoundRun → FileId → Bool → Option S
 granted_in step c file again None = ends_by step c 50 stat.LayoutUnavailable
 granted_in step c file again (Some s) = grants_as step c file (with_holder (client_of c) again s)
 
-abbrev pub grants_to : MdsValue → CompoundRun → FileId → Bool → NodeId → OpStep
+-- who holds it is the node from which the client's id was confirmed; only a client's node does
+abbrev pub grants_to : MdsValue → CompoundRun → FileId → Bool → Option NodeId → OpStep
 grants_to m c file true node = granted_in (sends_none m) c file true (served m file)
-grants_to m c file false Mds = refuses m c 50 stat.LayoutUnavailable
-grants_to m c file false (Server n) = refuses m c 50 stat.LayoutUnavailable
-grants_to m c file false (Client n) = let step = takes_input m file (AsksLayout n) in granted_in step c file false (served step.mds file)
+grants_to m c file false None = refuses m c 50 stat.LayoutUnavailable
+grants_to m c file false (Some Mds) = refuses m c 50 stat.LayoutUnavailable
+grants_to m c file false (Some (Server n)) = refuses m c 50 stat.LayoutUnavailable
+grants_to m c file false (Some (Client n)) = let step = takes_input m file (AsksLayout n) in granted_in step c file false (served step.mds file)
 
 abbrev pub is_granted : Option ServedFile → Bool
 is_granted None = false
@@ -114,7 +116,7 @@ later_by m c now (Some phase) = try_later (asks_back m (current_file c) now) c (
 abbrev pub layout_answer : MdsValue → CompoundRun → ℕ → LayoutGetFound → Option Stat4 → OpStep
 layout_answer m c now found status =
     if is_try_later status then later_by m c now (phase_behind found.fault)
-    else refused_or m c 50 status (grants_to m c (current_file c) (is_granted (served m (current_file c))) c.node)
+    else refused_or m c 50 status (grants_to m c (current_file c) (is_granted (served m (current_file c))) (confirmed_node m (client_of c)))
 
 abbrev pub layout_by : MdsValue → CompoundRun → ℕ → LayoutGetArgs → LayoutGetFound → OpStep
 layout_by m c now args found = layout_answer m c now found (refusal (layout_get_order c.current args found))

@@ -1,5 +1,6 @@
 -- What a metadata server has: files, clients, what waits, and the calls that were sent.
-use Rattle.std.specs.Prelude.{ℕ, ◌+◌, ◌-◌, Bool, not, ◌==◌, ◌&&◌, List, [], ◌∷◌, ◌++◌, length, filter, position, find, bytes_eq, Option, Some, None, nat_lt, if◌then◌else◌, slice_get, slice_set}
+use Rattle.std.specs.Prelude.{ℕ, ◌+◌, ◌-◌, Bool, not, ◌==◌, ◌&&◌, List, [], ◌∷◌, ◌++◌, length, filter, position, find, bytes_eq, Option, Some, None, nat_lt, if◌then◌else◌, nat_eq, slice_get, slice_set}
+use Rattle.std.specs.Map.{lookup}
 use Rattle.std.specs.Option.{option_map}
 use Rattle.ff_xdr.specs.Form.{Value}
 use Rattle.rpc_record.specs.Replies.{RpcReply}
@@ -100,6 +101,8 @@ pub record MdsValue : Type 0 where
   pub servers : List AddressValue
   pub mirrors : ℕ
   pub sessions : SessionsState
+  -- the nodes from which the clients' ids were confirmed (RFC 8881, section 18.36.3)
+  pub confirmed : List (ℕ × NodeId)
   pub opens : OpensValue
   -- the clients that have sent RECLAIM_COMPLETE
   pub reclaimed : List ℕ
@@ -134,6 +137,7 @@ new_mds servers mirrors = record {
   servers = servers;
   mirrors = mirrors;
   sessions = no_clients 1;
+  confirmed = [];
   opens = record { clients = []; last = 0 };
   reclaimed = [];
   files = [];
@@ -142,6 +146,11 @@ new_mds servers mirrors = record {
   fresh = record { uid = FIRST_UID; name = 1; servers = length servers };
   next_xid = 1;
 }
+
+-- ---- its clients
+
+abbrev pub confirmed_node : MdsValue → ℕ → Option NodeId
+confirmed_node m client = lookup (nat_eq client) m.confirmed
 
 -- ---- the calls that were sent
 

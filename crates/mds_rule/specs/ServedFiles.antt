@@ -1,7 +1,8 @@
 -- What comes of the inputs of the table of phases at a metadata server: to the file, its readers, and recalls (RFC 8881, sections 12.5.5
 -- and 18.43; RFC 8435, section 2.2).
-use Rattle.std.specs.Prelude.{ℕ, ◌+◌, ◌-◌, ◌^◌, ◌%◌, Bool, true, false, not, ◌==◌, ◌&&◌, List, [], ◌∷◌, length, filter, map, Option, Some, None, is_some, nat_lt, if◌then◌else◌}
+use Rattle.std.specs.Prelude.{ℕ, ◌+◌, ◌-◌, ◌^◌, ◌%◌, Bool, true, false, not, ◌==◌, ◌&&◌, List, [], ◌∷◌, length, filter, map, Option, Some, None, is_some, nat_lt, nat_eq, if◌then◌else◌}
 use Rattle.std.specs.List.{list_any}
+use Rattle.std.specs.Map.{remove_entry}
 use Rattle.cluster_model.specs.declared.ids.NodeId.{NodeId}
 use Rattle.cluster_model.specs.declared.ids.FileId.{FileId}
 use Rattle.cluster_model.specs.declared.ids.Cred.{Cred}
@@ -128,10 +129,11 @@ one_by_one step (file ∷ files) m = and_then (step m file) (λ n. one_by_one st
 abbrev pub ends_periods : MdsValue → ℕ → EndCause → MdsStep
 ends_periods m client end = one_by_one (λ n file. takes_input n file (Revokes end)) (held_from client 1 m.files) m
 
--- its opens end too, and what it reclaimed is forgotten
+-- its opens end too; where it was confirmed from and what it reclaimed is forgotten
 abbrev pub forgotten : ℕ → MdsValue → MdsValue
 forgotten client m = record m {
   opens = ended m.opens client;
+  confirmed = remove_entry (nat_eq client) m.confirmed;
   reclaimed = filter (λ id. not (id == client)) m.reclaimed;
 }
 

@@ -2,9 +2,11 @@
 -- client that is gone.
 use Rattle.std.specs.Prelude.{ℕ, ◌+◌, Bool, false, ◌==◌, List, [], ◌∷◌, ◌++◌, nat_lt, nat_eq, Option, Some, None, is_some, if◌then◌else◌}
 use Rattle.std.specs.List.{find, list_any}
+use Rattle.std.specs.Map.{lookup}
 use Rattle.std.proofs.Common.{inl}
 use Rattle.ff_xdr.specs.Form.{Value, long}
 use Rattle.ff_xdr.specs.Arms.{arm}
+use Rattle.cluster_model.specs.declared.ids.NodeId.{NodeId}
 use Rattle.cluster_model.specs.declared.phase.EndCause.TheVariants.{ClientGone}
 use Rattle.nfs4_types.specs.declared.ids.SessionId.{SessionId}
 use Rattle.nfs4_types.specs.declared.status.Stat4.{Stat4}
@@ -76,6 +78,13 @@ session_fault Misordered = stat.SeqMisordered
 session_fault Full = stat.ServerFault
 session_fault NoMemory = stat.ServerFault
 
+-- an id is confirmed with its first session, from the node that asks for it
+abbrev pub confirmed_by : ℕ → NodeId → List (ℕ × NodeId) → List (ℕ × NodeId)
+confirmed_by client node confirmed = if is_some (lookup (nat_eq client) confirmed) then confirmed else confirmed ++ (client, node) ∷ []
+
+abbrev pub confirms : ℕ → NodeId → MdsValue → MdsValue
+confirms client node m = record m { confirmed = confirmed_by client node m.confirmed }
+
 -- the client that was there before a restart is gone
 abbrev pub gone_with : Option ℕ → MdsValue → MdsStep
 gone_with None m = record { mds = m; entries = []; sends = [] }
@@ -84,14 +93,14 @@ gone_with (Some client) m = ends_client m client ClientGone
 abbrev pub goes_with : MdsStep → CompoundRun → OpStep
 goes_with s c = Goes s.mds s.entries c
 
-abbrev pub with_session : MdsValue → CompoundRun → ℕ → Value channel_attrs4 → Value channel_attrs4 → SessionsState → Option Created → OpStep
-with_session m c sequence fore back sessions None = refuses m c 43 stat.ServerFault
-with_session m c sequence fore back sessions (Some created) =
-    goes_with (gone_with created.gone (record m { sessions = sessions })) (with_result c (create_result created.session sequence fore back))
+abbrev pub with_session : MdsValue → CompoundRun → ℕ → ℕ → Value channel_attrs4 → Value channel_attrs4 → SessionsState → Option Created → OpStep
+with_session m c client sequence fore back sessions None = refuses m c 43 stat.ServerFault
+with_session m c client sequence fore back sessions (Some created) =
+    goes_with (gone_with created.gone (confirms client c.node (record m { sessions = sessions }))) (with_result c (create_result created.session sequence fore back))
 
 abbrev pub with_create : MdsValue → CompoundRun → ℕ → ℕ → Value channel_attrs4 → Value channel_attrs4 → ℕ → ℕ → CreateSessionCase → Option SessionFault → OpStep
 with_create m c client sequence fore back program now case (Some fault) = refuses m c 43 (session_fault fault)
-with_create m c client sequence fore back program now case None = with_session m c sequence fore back (after_creating m.sessions program c.node now case) (created_answer m.sessions client case)
+with_create m c client sequence fore back program now case None = with_session m c client sequence fore back (after_creating m.sessions program c.node now case) (created_answer m.sessions client case)
 
 abbrev pub create_in : MdsValue → CompoundRun → ℕ → ℕ → Value channel_attrs4 → Value channel_attrs4 → ℕ → ℕ → CreateSessionCase → OpStep
 create_in m c client sequence fore back program now case = with_create m c client sequence fore back program now case (create_session_fault case)

@@ -11,7 +11,7 @@ ghost use Rattle.compound_run.specs.CompoundRuns.{HasRoomForResults, HasOperated
 use cluster_model::{EndCause, Outbox};
 use compound_run::{OpEnd, Run};
 use ff_xdr::NoMemory;
-use mds_state::{State, end_client};
+use mds_state::{State, confirm, end_client};
 use nfs4_compound::OpRes;
 use nfs4_compound::nfs4_session_ops::{CreateSessionArgs, CreateSessionOk};
 use nfs4_session::SessionFault;
@@ -105,6 +105,7 @@ pub fn create_session(
         now,
     ) {
         Ok(created) => {
+            confirm(state, args.clientid, run.so_far.node)?;
             end_gone(state, created.gone, out)?;
             run.give(&create_result(created.session, args.sequence, &args.fore, &args.back))
         }

@@ -5,10 +5,10 @@ ghost use Rattle.mds_rule.specs.MdsStates.{new_mds};
 
 use crate::servers::ServerList;
 use awaited_calls::Calls;
-use cluster_model::FIRST_UID;
+use cluster_model::{FIRST_UID, NodeId};
 use ff_xdr::NoMemory;
 use file_rule::Fresh;
-use indexmap::IndexSet;
+use indexmap::{IndexMap, IndexSet};
 use nfs4_session::Sessions;
 use open_state::Opens;
 use recall::Recalls;
@@ -22,6 +22,8 @@ pub struct State {
     pub alloc: Global,
     pub servers: ServerList,
     pub sessions: Sessions,
+    /// The nodes from which the clients' ids were confirmed.
+    pub confirmed: IndexMap<u64, NodeId>,
     pub opens: Opens,
     /// The clients that have sent RECLAIM_COMPLETE.
     pub reclaimed: IndexSet<u64>,
@@ -40,7 +42,7 @@ impl Model for State {
 
     ghost Value = { MdsValue };
 
-    ghost view = { λ s. record { servers = s.servers.addresses; mirrors = s.servers.mirrors; sessions = s.sessions; opens = s.opens; reclaimed = s.reclaimed.keys; files = s.files; recalls = s.recalls; calls = s.calls; fresh = s.fresh; next_xid = s.next_xid } };
+    ghost view = { λ s. record { servers = s.servers.addresses; mirrors = s.servers.mirrors; sessions = s.sessions; confirmed = s.confirmed.entries; opens = s.opens; reclaimed = s.reclaimed.keys; files = s.files; recalls = s.recalls; calls = s.calls; fresh = s.fresh; next_xid = s.next_xid } };
 }
 
 impl State {
@@ -57,6 +59,7 @@ impl State {
             alloc,
             servers,
             sessions: Sessions::new(alloc, 1)?,
+            confirmed: IndexMap::new(alloc),
             opens: Opens::new(alloc),
             reclaimed: IndexSet::new(alloc),
             files: Files::new(alloc),

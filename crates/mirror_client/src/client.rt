@@ -13,6 +13,7 @@ use client_state::{FileName, State, UserRequest};
 use cluster_model::{NodeId, Outbox, UserAnswer};
 use ff_xdr::NoMemory;
 use mirror_writer::WriteBytes;
+use outbox_steps::hand_all;
 use std::alloc::Global;
 use std::marker::Model;
 
@@ -31,19 +32,6 @@ impl Model for Client {
     ghost Value = { ClientOfUser };
 
     ghost view = { λ c. record { client = c.state; is_spent = c.is_spent } };
-}
-
-/// Puts all that was put out behind what there is, or nothing.
-fn hand_over(mut own: Outbox, out: &mut Outbox) -> Result<(), NoMemory>
-    ensures entries { OnOk result (out.new.entries.items ≡ out.old.entries.items ++ own.entries.items) }
-    ensures sends { OnOk result (out.new.sends.items ≡ out.old.sends.items ++ own.sends.items) }
-    ensures no_entries { OnErr result (out.new.entries.items ≡ out.old.entries.items) }
-    ensures no_sends { OnErr result (out.new.sends.items ≡ out.old.sends.items) }
-{
-    out.entries.reserve(own.entries.len())?;
-    out.sends.append(&mut own.sends)?;
-    out.entries.append(&mut own.entries)?;
-    Ok(())
 }
 
 impl Client {
@@ -91,7 +79,7 @@ impl Client {
         ensures no_entries { OnErr result (out.new.entries.items ≡ out.old.entries.items) }
         ensures no_sends { OnErr result (out.new.sends.items ≡ out.old.sends.items) }
     {
-        hand_over(own, out)?;
+        hand_all(own, out)?;
         self.is_spent = false;
         Ok(())
     }

@@ -1,12 +1,14 @@
-//! Machines of the cluster, as rows play them: a client and a data server, over the bytes of their records.
+//! Machines of the cluster, as rows play them: a client, a data server and a metadata server, over the bytes of their records.
 #![tactic(auto)]
 
 mod apply;
 mod client;
+mod mds;
 mod outbox;
 mod server;
 mod stored_file;
 
 pub use client::ClientRows;
+pub use mds::MdsRows;
 pub use server::ServerRows;
 pub use stored_file::DataFileRows;
