@@ -151,8 +151,8 @@ module _ (I : MdsValue → List Entry → List MdsSend → Type 0) (k : Cases I)
   granted_walk m s c file again first (Some t) is =
       enters_becomes I m s.mds (with_served s.mds file (with_holder (client_of c) again t)) s.entries first (k.puts s.mds file t (with_holder (client_of c) again t) is refl (old_write t.file t.write))
 
-  grants_walk : (m : MdsValue) (c : CompoundRun) (file : FileId) (again : Bool) (node : Option NodeId) → KeepsOp I m (grants_to m c file again node)
-  grants_walk m c file true node = granted_walk m (sends_none m) c file true (stays I m) (served m file) refl
+  grants_walk : (m : MdsValue) (c : CompoundRun) (file : FileId) (again : Bool) (from : Option NodeId) → KeepsOp I m (grants_to m c file again from)
+  grants_walk m c file true from = granted_walk m (sends_none m) c file true (stays I m) (served m file) refl
   grants_walk m c file false None = stays I m
   grants_walk m c file false (Some Mds) = stays I m
   grants_walk m c file false (Some (Server n)) = stays I m

@@ -87,7 +87,7 @@ granted_in step c file again (Some s) = grants_as step c file (with_holder (clie
 
 -- who holds it is the node from which the client's id was confirmed; only a client's node does
 abbrev pub grants_to : MdsValue → CompoundRun → FileId → Bool → Option NodeId → OpStep
-grants_to m c file true node = granted_in (sends_none m) c file true (served m file)
+grants_to m c file true from = granted_in (sends_none m) c file true (served m file)
 grants_to m c file false None = refuses m c 50 stat.LayoutUnavailable
 grants_to m c file false (Some Mds) = refuses m c 50 stat.LayoutUnavailable
 grants_to m c file false (Some (Server n)) = refuses m c 50 stat.LayoutUnavailable
