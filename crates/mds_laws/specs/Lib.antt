@@ -1,2 +1,4 @@
 pub mod MdsRuns
 pub mod MdsRunLaws
+pub mod HandedLayouts
+pub mod SlotUses

@@ -1,5 +1,6 @@
 -- What holds of every run of a metadata server, told by what it was sent, what it sent and what it entered.
 use Rattle.std.specs.Prelude.{◌≡◌, ◌<◌, ◌≤◌, ℕ, Bool, true, false, ◌==◌, List, [], ◌∷◌, ◌++◌, Option, Some, None, if◌then◌else◌}
+use Rattle.std.specs.List.{list_any}
 use Rattle.cluster_model.specs.declared.entry.Entry.{Entry}
 use Rattle.cluster_model.specs.declared.entry.Entry.TheVariants as entry
 use Rattle.cluster_model.specs.DsCalls.{DsCallValue, Create, SetAttr, Write, Commit, Read}
@@ -84,3 +85,18 @@ IsOfFree before e = Unit {0}
 abbrev pub GrantsFreeFiles : List AddressValue → ℕ → List MdsEvent → Type 0
 GrantsFreeFiles servers mirrors events =
     (before after : List Entry) (e : Entry) → (mds_run servers mirrors events).entries ≡ before ++ e ∷ after → IsOfFree before e
+
+-- ---- to whom a uid is granted
+
+abbrev pub grants_uid : ℕ → Entry → Bool
+grants_uid uid (entry.Granted file cred holder) = cred.0 == uid
+grants_uid uid e = false
+
+abbrev pub IsFirstGrant : List Entry → Entry → Type 0
+IsFirstGrant before (entry.Granted file cred holder) = list_any (grants_uid cred.0) before ≡ false
+IsFirstGrant before e = Unit {0}
+
+-- A uid is granted once: for one file, to one holder, for one period (RFC 8435, section 2.2).
+abbrev pub GrantsUidsOnce : List AddressValue → ℕ → List MdsEvent → Type 0
+GrantsUidsOnce servers mirrors events =
+    (before after : List Entry) (e : Entry) → (mds_run servers mirrors events).entries ≡ before ++ e ∷ after → IsFirstGrant before e

@@ -76,10 +76,11 @@ layout_found m c args = record { named = named_in m c args.stateid; fault = layo
 abbrev pub with_holder : ℕ → Bool → ServedFile → ServedFile
 with_holder client again s = record s { holder = Some client; seqid = if again then next_seqid s.seqid else 1 }
 
+abbrev pub layout_of_file : FileId → ServedFile → Value resop4
+layout_of_file file s = arm 50 resop4 (layout_result (layout_stateid_of file.0 s.file.layout.cred.0 s.seqid) (whole_layout (layout_body s.file.layout.cred.0 s.file.layout.live) ∷ []))
+
 abbrev pub grants_as : MdsStep → CompoundRun → FileId → ServedFile → OpStep
-grants_as step c file s =
-    Goes (with_served step.mds file s) step.entries
-    (with_result c (arm 50 resop4 (layout_result (layout_stateid_of file.0 s.file.layout.cred.0 s.seqid) (whole_layout (layout_body s.file.layout.cred.0 s.file.layout.live) ∷ []))))
+grants_as step c file s = Goes (with_served step.mds file s) step.entries (with_result c (layout_of_file file s))
 
 abbrev pub granted_in : MdsStep → CompoundRun → FileId → Bool → Option ServedFile → OpStep
 granted_in step c file again None = ends_by step c 50 stat.LayoutUnavailable
