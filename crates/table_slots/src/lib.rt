@@ -1,9 +1,9 @@
 //! Each request of a slot takes effect once, whatever becomes of the table.
 #![tactic(auto)]
 
-ghost use Rattle.table_slots.specs.TableSlots.{UsesSlotsOnce};
+ghost use Rattle.table_slots.specs.TableSlots.{ReadsEachId, UsesSlotsOnce};
 
-use nfs4_session::slots_law;
+use nfs4_session::{slots_law, table_law};
 
 /// Over every list of calls of a table of clients, and of each slot of each session: the kth request that takes effect has
 /// the number k modulo 2^32, so that among 2^32 that follow each other none takes effect twice (RFC 8881, section
@@ -12,4 +12,10 @@ pub fn table_slots_law()
     ensures { UsesSlotsOnce }
 {
     slots_law();
+    table_law();
 }
+
+/// Two ids of 16 bytes that the table reads as one are one: requests of a session are those that bear its id.
+pub fn session_ids_law()
+    ensures { ReadsEachId }
+{}
