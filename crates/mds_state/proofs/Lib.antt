@@ -1,7 +1,7 @@
 pub mod OpLemmas
 pub mod StepLemmas
 mod Devices
-mod Forgotten
+mod ClientNotes
 mod Numbers
 mod ServerLists
 mod Turns
