@@ -7,7 +7,7 @@ mod inputs;
 mod servers;
 mod state;
 
-pub use clients::{end_client, end_periods};
+pub use clients::{confirm, confirmed_node, end_client, end_periods};
 pub use inputs::{ask_back, can_draw, end_recall, take_input};
 pub use servers::ServerList;
 pub use state::State;
