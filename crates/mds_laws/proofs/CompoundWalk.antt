@@ -2,6 +2,7 @@
 use Rattle.std.proofs.Common.{◌≡◌, ℕ, Bool, true, false, List, [], ◌∷◌, ◌++◌, length, Option, Some, None, refl, sym, subst, inr}
 use Rattle.std.specs.Prelude.{not, ◌==◌, slice_get, remove, drop, position, map}
 use Rattle.std.specs.List.{find}
+use Rattle.std.specs.Option.{option_map}
 use Rattle.std.proofs.lemmas.Bool.{cond_both}
 use Rattle.std.proofs.lemmas.List.{append_assoc, append-nil}
 use Rattle.ff_xdr.specs.Form.{Value, arm_of}
@@ -31,9 +32,12 @@ use Rattle.nfs4_compound.specs.declared.stop.Stop.{Stop}
 use Rattle.nfs4_compound.specs.declared.stop.Stop.TheVariants as stop
 use Rattle.nfs4_compound.specs.Args.{argop4}
 use Rattle.nfs4_compound.specs.Compounds.{CompoundValue}
+use Rattle.nfs4_session.specs.declared.begin.SlotPass.{SlotPass}
 use Rattle.nfs4_session.specs.Slots.{SlotAnswer, TakesEffect, Repeats, Refuses}
 use Rattle.nfs4_session.specs.Requests.{request_answer, after_request}
+use Rattle.nfs4_session.specs.Beginning.{table_begun}
 use Rattle.nfs4_session.specs.Bindings.{after_binding}
+use Rattle.nfs4_session.specs.TableLaw.{FinishRequest}
 use Rattle.recall.specs.declared.recall.Outcome.{Outcome}
 use Rattle.recall.specs.declared.recall.Outcome.TheVariants as outcome
 use Rattle.recall.specs.Recalls.{RecallsAfter}
@@ -46,20 +50,27 @@ use Rattle.mds_rule.specs.OpSteps.{OpStep, Goes, Ends, Waits, with_result, refus
 use Rattle.mds_rule.specs.ServedFiles.{takes_input}
 use Rattle.mds_rule.specs.Compounds.{operate, has_session, operates, compound_bytes, kept_in_slot, finishes, op_then, with_ops, runs, sequence_in, in_slot, sequenced, sequence_of, may_stand_alone, first_alone, first_by, first_operation, new_run, runs_compound}
 use Rattle.mds_rule.specs.Answers.{is_awaited, sized, fileid_of, attributes_shown, sees_in, sees_size, resumes, is_done_as, has_failed_as, failed_entry, failed_entries, read_result, without_read, read_ends, read_step_at, read_from, read_of, steps_read, is_read_out, write_answer, write_ends, write_of, write_in, steps_write, with_failed, failures_by_place, has_failed_everywhere, write_over, sees_ctime, recall_end, recall_outcome, recalls_after, own_answer, server_answered, answered_as, answers_found, takes_answer, timed_out_for}
+use Rattle.mds_laws.specs.SlotUses.{first_request}
 use Rattle.mds_laws.proofs.Keeping.{Becomes, Enters, Keeps, KeepsOp, Cases, IsCredOf, IsWriteOf, then_keeps, none_keeps, same, becomes_keeps, enters_keeps, no_entries, stays, silent_keeps}
-use Rattle.mds_laws.proofs.ServedWalk.{takes, sessions_become, recalls_become, exchanges, creates, binds, destroys_session, destroys_client, reclaims_all}
+use Rattle.mds_laws.proofs.Requested.{behind_request}
+use Rattle.mds_laws.proofs.ServedWalk.{takes, recalls_become, exchanges, creates, binds, destroys_session, destroys_client, reclaims_all}
 use Rattle.mds_laws.proofs.OpsWalk.{old_write, puts_fh, gets_fh, looks_up, gets_attr, opens, closes_file, commits, reads, writes, layout_gets, layout_returns, layout_commits, device_infos}
 use Rattle.mds_laws.proofs.WriterKept.{answer_cred, timeout_cred}
 
 module _ (I : MdsValue → List Entry → List MdsSend → Type 0) (k : Cases I) where
   -- ---- one operation after the other
 
+  -- what its slot keeps of the reply
+  slot_walk : (m : MdsValue) (slot : Option SlotPass) (bytes : List ℕ) → Becomes I m (record m { sessions = kept_in_slot m.sessions slot bytes })
+  slot_walk m None bytes = λ es ss i. i
+  slot_walk m (Some slot) bytes = k.tables m (FinishRequest slot bytes) tt
+
   finish_walk : (m : MdsValue) (c : CompoundRun) (status : Stat4) → Keeps I m (finishes m c status)
   finish_walk m c status es ss i =
       let n : MdsValue = record m { sessions = kept_in_slot m.sessions c.slot (compound_bytes c status) } in
       let reply = success_reply c.xid (compound_bytes c status) in
       subst (λ (l : List Entry). I n l (ss ++ Replies c.node reply ∷ [])) (sym (append-nil es))
-      (k.replies n c.node reply es ss (sessions_become I k m (kept_in_slot m.sessions c.slot (compound_bytes c status)) es ss i))
+      (k.replies n c.node reply es ss (slot_walk m c.slot (compound_bytes c status) es ss i))
 
   op_walk : (m : MdsValue) (s : OpStep) (next : MdsValue → CompoundRun → MdsStep) → KeepsOp I m s → ((n : MdsValue) (d : CompoundRun) → Keeps I n (next n d)) → Keeps I m (op_then s next)
   op_walk m (Goes n entries c) next q all = enters_keeps I m n entries (next n c) q (all n c)
@@ -147,21 +158,21 @@ module _ (I : MdsValue → List Entry → List MdsSend → Type 0) (k : Cases I)
   run_walk now [] m c = op_walk m (stopped m (with_ops c []) c.stop) (λ n d. sends_none n) (stop_walk m (with_ops c []) c.stop) (λ n d. same I n)
   run_walk now (op ∷ ops) m c = op_walk m (operates now m (with_ops c ops) op) (λ n d. runs now ops n d) (operates_walk now m (with_ops c ops) op) (λ n d. run_walk now ops n d)
 
-  -- ---- the first one
+  -- ---- the first one, behind what its request leaves of the table of clients
 
-  sequence_walk : (now : ℕ) (m : MdsValue) (c : CompoundRun) (ops : List (Value argop4)) (s : Sequence) (a : SlotAnswer) → Keeps I m (sequenced now m c ops s a)
-  sequence_walk now m c ops s TakesEffect =
-      becomes_keeps I m (record m { sessions = after_request m.sessions s now }) (runs now ops (record m { sessions = after_request m.sessions s now }) (in_slot c s)) (sessions_become I k m (after_request m.sessions s now))
-      (run_walk now ops (record m { sessions = after_request m.sessions s now }) (in_slot c s))
+  sequence_walk : (now : ℕ) (m : MdsValue) (c : CompoundRun) (ops : List (Value argop4)) (s : Sequence) (a : SlotAnswer)
+      → Keeps I (record m { sessions = table_begun m.sessions (after_request m.sessions s now) a }) (sequenced now m c ops s a)
+  sequence_walk now m c ops s TakesEffect = run_walk now ops (record m { sessions = after_request m.sessions s now }) (in_slot c s)
   sequence_walk now m c ops s (Repeats reply) =
       λ es ss i. subst (λ (l : List Entry). I m l (ss ++ Replies c.node (success_reply c.xid reply) ∷ [])) (sym (append-nil es)) (k.replies m c.node (success_reply c.xid reply) es ss i)
   sequence_walk now m c ops s (Refuses status) = finish_walk m (with_result c (refused_as 53 status)) status
 
-  first_walk : (now : ℕ) (m : MdsValue) (c : CompoundRun) (count : ℕ) (op : Value argop4) (ops : List (Value argop4)) (o : Option (Value sequence4_args)) → Keeps I m (first_by now m c count op ops o)
+  first_walk : (now : ℕ) (m : MdsValue) (c : CompoundRun) (count : ℕ) (op : Value argop4) (ops : List (Value argop4)) (o : Option (Value sequence4_args))
+      → Keeps I (behind_request now m c.node (option_map sequence_in o)) (first_by now m c count op ops o)
   first_walk now m c count op ops (Some args) =
       let s : Sequence = sequence_in args in
       let n : MdsValue = record m { sessions = after_binding m.sessions s.session c.node } in
-      becomes_keeps I m n (sequenced now n c ops s (request_answer n.sessions s)) (sessions_become I k m (after_binding m.sessions s.session c.node)) (sequence_walk now n c ops s (request_answer n.sessions s))
+      sequence_walk now n c ops s (request_answer n.sessions s)
   first_walk now m c count op ops None =
       cond_both (may_stand_alone (arm_of argop4 op)) (first_alone now m c count op ops) (op_then (refuses m c (arm_of argop4 op) stat.OpNotInSession) (λ n d. sends_none n)) (λ (s : MdsStep). Keeps I m s)
       (λ is.
@@ -170,11 +181,11 @@ module _ (I : MdsValue → List Entry → List MdsSend → Type 0) (k : Cases I)
       (λ one. op_walk m (operate now m (with_ops c ops) op) (λ n d. runs now ops n d) (operate_walk now m (with_ops c ops) op) (λ n d. run_walk now ops n d)))
       (λ off. op_walk m (refuses m c (arm_of argop4 op) stat.OpNotInSession) (λ n d. sends_none n) (stays I m) (λ n d. same I n))
 
-  ops_walk : (now : ℕ) (m : MdsValue) (c : CompoundRun) (count : ℕ) (ops : List (Value argop4)) → Keeps I m (first_operation now m c count ops)
+  ops_walk : (now : ℕ) (m : MdsValue) (c : CompoundRun) (count : ℕ) (ops : List (Value argop4)) → Keeps I (behind_request now m c.node (first_request ops)) (first_operation now m c count ops)
   ops_walk now m c count [] = run_walk now [] m c
   ops_walk now m c count (op ∷ ops) = first_walk now m c count op ops (sequence_of op)
 
-  pub compound_walk : (now : ℕ) (m : MdsValue) (node : NodeId) (xid : ℕ) (v : CompoundValue) → Keeps I m (runs_compound now m node xid v)
+  pub compound_walk : (now : ℕ) (m : MdsValue) (node : NodeId) (xid : ℕ) (v : CompoundValue) → Keeps I (behind_request now m node (first_request v.ops.values)) (runs_compound now m node xid v)
   compound_walk now m node xid v = ops_walk now m (new_run node xid v) v.count v.ops.values
 
   -- ---- a compound goes on

@@ -22,6 +22,7 @@ use Rattle.mirror_writer.specs.Writers as writer
 use Rattle.nfs4_session.specs.Clients.{ClientState, SessionState, has_id, change_first, with_clients}
 use Rattle.nfs4_session.specs.Bindings.{last_session, back_call, client_called_back}
 use Rattle.nfs4_session.specs.Ends.{has_ended, without_client}
+use Rattle.nfs4_session.specs.TableLaw.{CallBack, Expire, called_back_by, expired_by}
 use Rattle.nfs4_types.specs.Stateids.{layout_stateid_of}
 use Rattle.recall.specs.declared.recall.RecallCall.{RecallCall}
 use Rattle.recall.specs.Recalls.{RecallSends, next_sent, after_tick}
@@ -34,9 +35,11 @@ use Rattle.mds_rule.specs.Answers.{is_awaited, takes_answer, timed_out_for}
 use Rattle.mds_rule.specs.Goes.{calls_server, OwnCall, own_of_file, own_of_write, own_by, place_of, own_call_at, own_next, has_xids, own_call, own_two, own_calls, read_goes, read_call, read_call_in, each, read_count, read_calls, stateid_seqid, calls_back, recall_goes, recall_call, repeats_call, repeats, place_calls, file_calls, calls_out}
 use Rattle.mds_rule.specs.Events.{takes_incoming, is_outstanding_to, is_kept_by, goes_again, times_out, takes_timeout, lease_ends, leases_end, recall_expires, recalls_expire, kept_calls, files_tick, takes_tick}
 use Rattle.mds_laws.specs.MdsRuns.{MdsInput, MdsEvent, Hears, IsTimedOut, Ticks as IsTick, RecallsFile, Resilvers, by_input, after_event, run_from}
-use Rattle.mds_laws.proofs.Keeping.{Keeps, KeepsBehind, Cases, then_keeps, none_keeps, same, becomes_keeps, silent_keeps, then_behind, behind_then, enters_behind}
+use Rattle.mds_laws.specs.SlotUses.{first_request, request_in}
+use Rattle.mds_laws.proofs.Requested.{behind_request, behind_begin, KeepsBegin, begin_kept}
+use Rattle.mds_laws.proofs.Keeping.{Becomes, Keeps, KeepsBehind, Cases, then_keeps, none_keeps, same, becomes_keeps, silent_keeps, then_behind, behind_then, enters_behind}
 use Rattle.mds_laws.proofs.Lists.{In, found_in}
-use Rattle.mds_laws.proofs.ServedWalk.{takes, asks, client_ends, sessions_become, recalls_become}
+use Rattle.mds_laws.proofs.ServedWalk.{takes, asks, client_ends, recalls_become}
 use Rattle.mds_laws.proofs.OpsWalk.{old_write}
 use Rattle.mds_laws.proofs.WriterKept.{read_of}
 use Rattle.mds_laws.proofs.CompoundWalk.{compound_walk, answer_walk, timeout_walk}
@@ -105,12 +108,12 @@ module _ (I : MdsValue → List Entry → List MdsSend → Type 0) (k : Cases I)
 
   -- ---- recalls
 
-  back_walk : (m : MdsValue) (call : RecallCall) → has_xids m ≡ true → (o : Option SessionState) → Keeps I m (calls_back m call o)
-  back_walk m call has None = none_keeps I m _ (k.skips m has)
-  back_walk m call has (Some session) =
+  back_walk : (m : MdsValue) (call : RecallCall) → has_xids m ≡ true → (o : Option SessionState) → Becomes I m (record m { sessions = called_back_by m.sessions call.client o }) → Keeps I m (calls_back m call o)
+  back_walk m call has None b = none_keeps I m _ (k.skips m has)
+  back_walk m call has (Some session) b =
       let back = back_call call.client session in
       let n : MdsValue = record m { sessions = with_clients m.sessions (change_first (has_id call.client) (client_called_back session.number) m.sessions.clients) } in
-      becomes_keeps I m n (calls_back m call (Some session)) (sessions_become I k m (with_clients m.sessions (change_first (has_id call.client) (client_called_back session.number) m.sessions.clients)))
+      becomes_keeps I m n (calls_back m call (Some session)) b
       (k.calls_back n back.node back call.file (layout_stateid_of call.file.0 call.cred.0 (stateid_seqid (served m call.file))) has)
 
   recall_goes_walk : (m : MdsValue) (file : FileId) → has_xids m ≡ true → (o : Option RecallSends) → Keeps I m (recall_goes m file o)
@@ -120,7 +123,7 @@ module _ (I : MdsValue → List Entry → List MdsSend → Type 0) (k : Cases I)
       cond_both (sent.call.file.0 == file.0) (calls_back n sent.call (last_session (find (has_id sent.call.client) m.sessions.clients))) (sends_none m) (λ (s : MdsStep). Keeps I m s)
       (λ is.
       becomes_keeps I m n (calls_back n sent.call (last_session (find (has_id sent.call.client) m.sessions.clients))) (recalls_become I k m sent.recalls)
-      (back_walk n sent.call has (last_session (find (has_id sent.call.client) m.sessions.clients))))
+      (back_walk n sent.call has (last_session (find (has_id sent.call.client) m.sessions.clients)) (k.tables n (CallBack sent.call.client) tt)))
       (λ off. same I m)
 
   recall_walk : (file : FileId) (m : MdsValue) → Keeps I m (recall_call file m)
@@ -157,13 +160,14 @@ module _ (I : MdsValue → List Entry → List MdsSend → Type 0) (k : Cases I)
 
   -- ---- events
 
-  incoming_walk : (now : ℕ) (m : MdsValue) (node : NodeId) (v : IncomingValue) → Keeps I m (takes_incoming now m node v)
+  incoming_walk : (now : ℕ) (m : MdsValue) (node : NodeId) (v : IncomingValue) → Keeps I (behind_request now m node (request_in v)) (takes_incoming now m node v)
   incoming_walk now m node PassedOver = same I m
   incoming_walk now m node (IsReply reply) =
       then_keeps I m (takes_answer now m node reply.xid (λ call. reply_of_call call reply) (recall_status reply.stat reply.results)) (calls_out [])
       (answer_walk I k now m node reply.xid (λ call. reply_of_call call reply) (recall_status reply.stat reply.results)) (λ n. out_walk [] n)
   incoming_walk now m node (IsAnswered bytes) = λ es ss i. subst (λ (l : List Entry). I m l (ss ++ Answers node bytes ∷ [])) (sym (append-nil es)) (k.answers m node bytes es ss i)
-  incoming_walk now m node (IsCompound xid v) = then_keeps I m (runs_compound now m node xid v) (calls_out []) (compound_walk I k now m node xid v) (λ n. out_walk [] n)
+  incoming_walk now m node (IsCompound xid v) =
+      then_keeps I (behind_request now m node (first_request v.ops.values)) (runs_compound now m node xid v) (calls_out []) (compound_walk I k now m node xid v) (λ n. out_walk [] n)
 
   again_walk : (call : AwaitedCall) (m : MdsValue) → KeepsBehind I call.sent m (goes_again call m)
   again_walk call m =
@@ -193,16 +197,16 @@ module _ (I : MdsValue → List Entry → List MdsSend → Type 0) (k : Cases I)
   timeouts_walk : (now : ℕ) (m : MdsValue) (node : NodeId) → Keeps I m (takes_timeout now m node)
   timeouts_walk now m node = times_walk now m (find (is_outstanding_to m node) m.calls) (λ call is. found_in (is_outstanding_to m node) m.calls call is)
 
-  lease_walk : (m : MdsValue) (o : Option ClientState) (next : MdsValue → MdsStep) → ((n : MdsValue) → Keeps I n (next n)) → Keeps I m (lease_ends m o next)
-  lease_walk m None next all = same I m
-  lease_walk m (Some c) next all =
+  lease_walk : (m : MdsValue) (o : Option ClientState) → Becomes I m (record m { sessions = expired_by m.sessions o }) → (next : MdsValue → MdsStep) → ((n : MdsValue) → Keeps I n (next n)) → Keeps I m (lease_ends m o next)
+  lease_walk m None b next all = same I m
+  lease_walk m (Some c) b next all =
       let n : MdsValue = record m { sessions = without_client m.sessions c.id } in
       then_keeps I m (ends_client n c.id Lease) next
-      (becomes_keeps I m n (ends_client n c.id Lease) (sessions_become I k m (without_client m.sessions c.id)) (silent_keeps I n (ends_client n c.id Lease) (client_ends I k n c.id Lease))) all
+      (becomes_keeps I m n (ends_client n c.id Lease) b (silent_keeps I n (ends_client n c.id Lease) (client_ends I k n c.id Lease))) all
 
   leases_walk : (now n : ℕ) (m : MdsValue) → Keeps I m (leases_end now n m)
   leases_walk now zero m = same I m
-  leases_walk now (suc n) m = lease_walk m (find (has_ended now) m.sessions.clients) (leases_end now n) (λ x. leases_walk now n x)
+  leases_walk now (suc n) m = lease_walk m (find (has_ended now) m.sessions.clients) (k.tables m (Expire now) tt) (leases_end now n) (λ x. leases_walk now n x)
 
   expires_walk : (m : MdsValue) (o : Option (FileId × Cred)) (next : MdsValue → MdsStep) → ((n : MdsValue) → Keeps I n (next n)) → Keeps I m (recall_expires m o next)
   expires_walk m None next all = same I m
@@ -228,7 +232,8 @@ module _ (I : MdsValue → List Entry → List MdsSend → Type 0) (k : Cases I)
       then_keeps I m (and_then leases (λ n. recalls_expire now (length n.recalls) n)) files_tick
       (then_keeps I m leases (λ n. recalls_expire now (length n.recalls) n) (leases_walk now (length m.sessions.clients) m) (λ n. recalls_walk now (length n.recalls) n)) (λ n. files_walk n)
 
-  input_walk : (now : ℕ) (input : MdsInput) (m : MdsValue) → Keeps I m (by_input now input m)
+  -- of an event, behind what the request that it makes leaves of the table of clients
+  pub input_walk : (now : ℕ) (input : MdsInput) (m : MdsValue) → Keeps I (behind_begin now input m) (by_input now input m)
   input_walk now (Hears from bytes) m = incoming_walk now m from (incoming_of bytes)
   input_walk now (IsTimedOut to) m = timeouts_walk now m to
   input_walk now IsTick m = tick_walk now m
@@ -236,11 +241,15 @@ module _ (I : MdsValue → List Entry → List MdsSend → Type 0) (k : Cases I)
   input_walk now (Resilvers file) m =
       then_keeps I m (takes_input m file Resilver) (calls_out []) (silent_keeps I m (takes_input m file Resilver) (takes I k m file Resilver)) (λ n. out_walk [] n)
 
+-- ---- it holds behind every run where it holds of a new server
+
+module _ (I : MdsValue → List Entry → List MdsSend → Type 0) (k : Cases I) (begins : KeepsBegin I) where
+  event_walk : (e : MdsEvent) (m : MdsValue) → Keeps I m (after_event e m)
+  event_walk e m = becomes_keeps I m (behind_begin e.now e.input m) (after_event e m) (begin_kept I k begins e.now e.input m) (input_walk I k e.now e.input m)
+
   run_walk : (events : List MdsEvent) (m : MdsValue) → Keeps I m (run_from m events)
   run_walk [] m = same I m
-  run_walk (e ∷ events) m = then_keeps I m (after_event e m) (λ n. run_from n events) (input_walk e.now e.input m) (λ n. run_walk events n)
-
-  -- ---- it holds behind every run where it holds of a new server
+  run_walk (e ∷ events) m = then_keeps I m (after_event e m) (λ n. run_from n events) (event_walk e m) (λ n. run_walk events n)
 
   pub in_each_run : (m : MdsValue) (events : List MdsEvent) → I m [] [] → I (run_from m events).mds (run_from m events).entries (run_from m events).sends
   in_each_run m events i = run_walk events m [] [] i

@@ -174,7 +174,8 @@ called_back files calls call es ss i =
 
 cases : Cases IsSo
 cases = record {
-  quiet = λ m sessions confirmed opens reclaimed recalls es ss i. i;
+  quiet = λ m confirmed opens reclaimed recalls es ss i. i;
+  tables = λ m move is es ss i. i;
   replies = λ m node reply es ss i. sends m.files m.calls es ss (Replies node reply) i;
   answers = λ m node bytes es ss i. sends m.files m.calls es ss (Answers node bytes) i;
   notes = λ m e quiet es ss i. notes m.files m.calls e quiet es ss i;
@@ -200,4 +201,4 @@ begun servers mirrors = record { free = λ place s got is. absurd (none-some s g
 
 pub grants_free_files : (servers : List AddressValue) (mirrors : ℕ) (events : List MdsEvent) → GrantsFreeFiles servers mirrors events
 grants_free_files servers mirrors events before after e is =
-    each_at IsOfFree [] before after e (subst (EachOf IsOfFree []) is (in_each_run IsSo cases (new_mds servers mirrors) events (begun servers mirrors)).each)
+    each_at IsOfFree [] before after e (subst (EachOf IsOfFree []) is (in_each_run IsSo cases (λ m request now es ss i. i) (new_mds servers mirrors) events (begun servers mirrors)).each)

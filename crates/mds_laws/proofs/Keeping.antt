@@ -14,7 +14,7 @@ use Rattle.mirror_writer.specs.Writers.{WriterSends}
 use Rattle.mirror_writer.specs.Writers as writer
 use Rattle.nfs4_types.specs.declared.stateid.Stateid.{Stateid}
 use Rattle.nfs4_session.specs.declared.back.BackCall.{BackCall}
-use Rattle.nfs4_session.specs.Clients.{SessionsState}
+use Rattle.nfs4_session.specs.TableLaw.{TableMove, ExchangeId, CreateSession, BeginRequest, FinishRequest, Bind, CallBack, DestroySession, DestroyClient, Expire, table_after}
 use Rattle.recall.specs.declared.recall.Recall.{Recall}
 use Rattle.open_state.specs.Opens.{OpensValue}
 use Rattle.mds_rule.specs.MdsStates.{WaitingWrite, ServedFile, MdsSend, CallsBack, Replies, Answers, AwaitedCall, MdsValue, MdsStep, sends_none, enters, and_then, served, with_served, without_call}
@@ -69,10 +69,27 @@ pub record Silent (I : MdsValue → List Entry → List MdsSend → Type 0) (m :
 
 -- ---- the cases
 
+-- a change of the table of clients that is no request
+abbrev pub IsNoRequest : TableMove → Type 0
+IsNoRequest (BeginRequest request now) = ⊥
+IsNoRequest (ExchangeId verifier owner now) = Unit {0}
+IsNoRequest (CreateSession client sequence program node now) = Unit {0}
+IsNoRequest (FinishRequest pass reply) = Unit {0}
+IsNoRequest (Bind session node) = Unit {0}
+IsNoRequest (CallBack client) = Unit {0}
+IsNoRequest (DestroySession session) = Unit {0}
+IsNoRequest (DestroyClient client) = Unit {0}
+IsNoRequest (Expire now) = Unit {0}
+
+abbrev pub moved : MdsValue → TableMove → MdsValue
+moved m move = record m { sessions = table_after m.sessions move }
+
 pub record Cases (I : MdsValue → List Entry → List MdsSend → Type 0) : Type 0 where
-  -- nothing of files, calls and numbers changes
-  pub quiet : (m : MdsValue) (sessions : SessionsState) (confirmed : List (ℕ × NodeId)) (opens : OpensValue) (reclaimed : List ℕ) (recalls : List Recall)
-      → Becomes I m (record m { sessions = sessions; confirmed = confirmed; opens = opens; reclaimed = reclaimed; recalls = recalls })
+  -- nothing of sessions, files, calls and numbers changes
+  pub quiet : (m : MdsValue) (confirmed : List (ℕ × NodeId)) (opens : OpensValue) (reclaimed : List ℕ) (recalls : List Recall)
+      → Becomes I m (record m { confirmed = confirmed; opens = opens; reclaimed = reclaimed; recalls = recalls })
+  -- nothing but sessions does, by a call of their table
+  pub tables : (m : MdsValue) (move : TableMove) → IsNoRequest move → Becomes I m (moved m move)
   pub replies : (m : MdsValue) (node : NodeId) (reply : RpcReply) (es : List Entry) (ss : List MdsSend) → I m es ss → I m es (ss ++ Replies node reply ∷ [])
   pub answers : (m : MdsValue) (node : NodeId) (bytes : List ℕ) (es : List Entry) (ss : List MdsSend) → I m es ss → I m es (ss ++ Answers node bytes ∷ [])
   pub notes : (m : MdsValue) (e : Entry) → is_quiet e ≡ true → Enters I m m (e ∷ [])

@@ -1,5 +1,6 @@
 mod Lists
 mod Keeping
+mod Requested
 mod ServedWalk
 mod OpsWalk
 mod WriterKept
@@ -10,3 +11,4 @@ mod FileUids
 mod Uids
 mod FileGrants
 mod Grants
+mod SlotUses

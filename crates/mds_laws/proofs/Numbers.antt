@@ -120,7 +120,8 @@ inputs m file s step es ss i =
 
 cases : Cases IsSo
 cases = record {
-  quiet = λ m sessions confirmed opens reclaimed recalls es ss i. i;
+  quiet = λ m confirmed opens reclaimed recalls es ss i. i;
+  tables = λ m move is es ss i. i;
   replies = λ m node reply es ss i. plain m.next_xid m.calls ss (Replies node reply) refl i;
   answers = λ m node bytes es ss i. plain m.next_xid m.calls ss (Answers node bytes) refl i;
   notes = λ m e is es ss i. i;
@@ -157,8 +158,8 @@ begun servers mirrors = record { each = tt; below = λ has. tt; were = λ call i
 
 pub numbers_calls : (servers : List AddressValue) (mirrors : ℕ) (events : List MdsEvent) → NumbersAscend servers mirrors events
 numbers_calls servers mirrors events before after s xid is number =
-    each_at IsNumbered [] before after s (subst (EachOf IsNumbered []) is (in_each_run IsSo cases (new_mds servers mirrors) events (begun servers mirrors)).each) xid number
+    each_at IsNumbered [] before after s (subst (EachOf IsNumbered []) is (in_each_run IsSo cases (λ m request now es ss i. i) (new_mds servers mirrors) events (begun servers mirrors)).each) xid number
 
 pub numbers_fit : (servers : List AddressValue) (mirrors : ℕ) (events : List MdsEvent) → NumbersFit servers mirrors events
 numbers_fit servers mirrors events before after s is =
-    all_split HasWord before after s (subst (AllOf HasWord) is (in_each_run IsSo cases (new_mds servers mirrors) events (begun servers mirrors)).words)
+    all_split HasWord before after s (subst (AllOf HasWord) is (in_each_run IsSo cases (λ m request now es ss i. i) (new_mds servers mirrors) events (begun servers mirrors)).words)

@@ -95,7 +95,7 @@ module _ (I : MdsValue → List Entry → List MdsSend → Type 0) (k : Cases I)
   gets_attr m c words = attributes_got m c words c.current
 
   opens_become : (m : MdsValue) (opens : OpensValue) → Becomes I m (record m { opens = opens })
-  opens_become m opens = k.quiet m m.sessions m.confirmed opens m.reclaimed m.recalls
+  opens_become m opens = k.quiet m m.confirmed opens m.reclaimed m.recalls
 
   open_walk : (m : MdsValue) (c : CompoundRun) (name : List ℕ) (o : Option FileId) → KeepsOp I m (opens_or_makes m c name o)
   open_walk m c name (Some file) = no_entries I m (record m { opens = opened m.opens (client_of c) file }) (opens_become m (opened m.opens (client_of c) file))

@@ -119,7 +119,8 @@ pushed fresh files calls ss s is i = record { drawn = i.drawn; all = i.all; were
 
 cases : Cases IsSo
 cases = record {
-  quiet = λ m sessions confirmed opens reclaimed recalls es ss i. i;
+  quiet = λ m confirmed opens reclaimed recalls es ss i. i;
+  tables = λ m move is es ss i. i;
   replies = λ m node reply es ss i. pushed m.fresh.uid m.files m.calls ss (Replies node reply) tt i;
   answers = λ m node bytes es ss i. pushed m.fresh.uid m.files m.calls ss (Answers node bytes) tt i;
   notes = λ m e is es ss i. i;
@@ -147,4 +148,4 @@ begun servers mirrors = record { drawn = omega arith; all = tt; were = λ call i
 
 pub calls_by_uids : (servers : List AddressValue) (mirrors : ℕ) (events : List MdsEvent) → CallsByUids servers mirrors events
 calls_by_uids servers mirrors events before after s is =
-    all_split IsByItsUid before after s (subst (AllOf IsByItsUid) is (in_each_run IsSo cases (new_mds servers mirrors) events (begun servers mirrors)).each)
+    all_split IsByItsUid before after s (subst (AllOf IsByItsUid) is (in_each_run IsSo cases (λ m request now es ss i. i) (new_mds servers mirrors) events (begun servers mirrors)).each)

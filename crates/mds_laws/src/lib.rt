@@ -5,6 +5,7 @@ ghost use Rattle.std.specs.Prelude.{ℕ, List};
 ghost use Rattle.device_addr.specs.Universal.{AddressValue};
 ghost use Rattle.mds_laws.specs.MdsRuns.{MdsEvent};
 ghost use Rattle.mds_laws.specs.MdsRunLaws.{NumbersAscend, NumbersFit, CallsByUids, GrantsFreeFiles};
+ghost use Rattle.mds_laws.specs.SlotUses.{RepeatsChangeNothing};
 
 /// What holds of every run of a metadata server, whatever bytes come, in whatever order:
 ///
@@ -20,4 +21,12 @@ pub fn mds_run_law()
     ensures words { (servers : List AddressValue) (mirrors : ℕ) (events : List MdsEvent) → NumbersFit servers mirrors events }
     ensures uids { (servers : List AddressValue) (mirrors : ℕ) (events : List MdsEvent) → CallsByUids servers mirrors events }
     ensures grants { (servers : List AddressValue) (mirrors : ℕ) (events : List MdsEvent) → GrantsFreeFiles servers mirrors events }
+{}
+
+/// What holds of the requests of slots, whatever comes to a metadata server:
+///
+/// - a compound whose SEQUENCE does not take effect, since it comes again or is refused, is answered by one reply, and
+///   changes nothing but the node that its session is bound to (RFC 8881, section 2.10.6.1).
+pub fn slot_law()
+    ensures repeats { RepeatsChangeNothing }
 {}
