@@ -200,21 +200,20 @@ requests_once slots servers mirrors events session slot =
 
 module _ (now : ℕ) (m : MdsValue) (node : NodeId) (xid : ℕ) (v : CompoundValue) where
   answered_alone : (ops : List (Value argop4)) (s : Sequence) (a : SlotAnswer)
-      → OnlyEffectsChange m node s (sequenced now (record m { sessions = after_binding m.sessions s.session node }) (new_run node xid v) ops s a) a
+      → OnlyEffectsChange m node xid v s (sequenced now (record m { sessions = after_binding m.sessions s.session node }) (new_run node xid v) ops s a) a
   answered_alone ops s TakesEffect = tt
-  answered_alone ops s (Repeats reply) = record { reply = success_reply xid reply; mds = refl; entries = refl; sends = refl }
-  answered_alone ops s (Refuses status) =
-      record { reply = success_reply xid (compound_bytes (with_result (new_run node xid v) (refused_as 53 status)) status); mds = refl; entries = refl; sends = refl }
+  answered_alone ops s (Repeats reply) = record { mds = refl; entries = refl; sends = refl }
+  answered_alone ops s (Refuses status) = record { mds = refl; entries = refl; sends = refl }
 
   first_alone : (request : Sequence) (op : Value argop4) (ops : List (Value argop4)) (o : Option (Value sequence4_args)) → option_map sequence_in o ≡ Some request
-      → OnlyEffectsChange m node request (first_by now m (new_run node xid v) v.count op ops o) (request_answer (after_binding m.sessions request.session node) request)
+      → OnlyEffectsChange m node xid v request (first_by now m (new_run node xid v) v.count op ops o) (request_answer (after_binding m.sessions request.session node) request)
   first_alone request op ops None is = absurd (none-some request is)
   first_alone request op ops (Some args) is =
-      subst (λ (r : Sequence). OnlyEffectsChange m node r (first_by now m (new_run node xid v) v.count op ops (Some args)) (request_answer (after_binding m.sessions r.session node) r))
+      subst (λ (r : Sequence). OnlyEffectsChange m node xid v r (first_by now m (new_run node xid v) v.count op ops (Some args)) (request_answer (after_binding m.sessions r.session node) r))
       (same_Some (sequence_in args) request is) (answered_alone ops (sequence_in args) (request_answer (after_binding m.sessions (sequence_in args).session node) (sequence_in args)))
 
   ops_alone : (request : Sequence) (ops : List (Value argop4)) → first_request ops ≡ Some request
-      → OnlyEffectsChange m node request (first_operation now m (new_run node xid v) v.count ops) (request_answer (after_binding m.sessions request.session node) request)
+      → OnlyEffectsChange m node xid v request (first_operation now m (new_run node xid v) v.count ops) (request_answer (after_binding m.sessions request.session node) request)
   ops_alone request [] is = absurd (none-some request is)
   ops_alone request (op ∷ ops) is = first_alone request op ops (sequence_of op) is
 

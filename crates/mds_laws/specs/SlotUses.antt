@@ -1,12 +1,15 @@
 -- Which requests of a slot take effect in a run of a metadata server (RFC 8881, sections 2.10.6.1 and 18.46).
 use Rattle.std.specs.Prelude.{◌≡◌, ℕ, List, [], ◌∷◌, ◌++◌, Option, Some, None, option_map}
-use Rattle.ff_xdr.specs.Form.{Value}
+use Rattle.ff_xdr.specs.Form.{Value, spelling}
 use Rattle.rpc_record.specs.Replies.{RpcReply}
 use Rattle.cluster_model.specs.declared.ids.NodeId.{NodeId}
 use Rattle.nfs4_types.specs.declared.ids.SessionId.{SessionId}
 use Rattle.nfs4_types.specs.declared.sequence.Sequence.{Sequence}
 use Rattle.nfs4_compound.specs.Args.{argop4}
-use Rattle.nfs4_compound.specs.Compounds.{CompoundValue}
+use Rattle.nfs4_types.specs.declared.status.Stat4.{Stat4}
+use Rattle.nfs4_types.specs.Status.{stat4_number}
+use Rattle.compound_reply.specs.Replied.{success_reply}
+use Rattle.nfs4_compound.specs.Compounds.{CompoundValue, compound4_res}
 use Rattle.nfs4_session.specs.Slots.{SlotAnswer, TakesEffect, Repeats, Refuses}
 use Rattle.nfs4_session.specs.SlotsLaw.{AreNumbered, TakeEffectOnce}
 use Rattle.nfs4_session.specs.Requests.{request_answer}
@@ -15,6 +18,7 @@ use Rattle.table_slots.specs.TableSlots.{effect_on}
 use Rattle.device_addr.specs.Universal.{AddressValue}
 use Rattle.mds_receive.specs.MdsReceive.{IncomingValue, PassedOver, IsReply, IsAnswered, IsCompound, incoming_of}
 use Rattle.mds_rule.specs.MdsStates.{MdsSend, Replies, MdsValue, MdsStep, new_mds}
+use Rattle.mds_rule.specs.OpSteps.{refused_as}
 use Rattle.mds_rule.specs.Compounds.{sequence_in, sequence_of, runs_compound}
 use Rattle.mds_laws.specs.MdsRuns.{MdsEvent, MdsInput, Hears, IsTimedOut, Ticks, RecallsFile, Resilvers, after_event}
 
@@ -59,20 +63,23 @@ RequestsTakeEffectOnce servers mirrors events =
     (session : SessionId) (slot : ℕ)
     → AreNumbered (effects_in session slot (new_mds servers mirrors) events) × TakeEffectOnce (effects_in session slot (new_mds servers mirrors) events)
 
--- nothing is changed but the node that the session is bound to, and one reply is sent there
-pub record IsAnsweredAlone (m : MdsValue) (node : NodeId) (request : Sequence) (step : MdsStep) : Type 0 where
-  pub reply : RpcReply
+-- nothing is changed but the node that the session is bound to, and this reply alone is sent there
+pub record IsAnsweredBy (reply : RpcReply) (m : MdsValue) (node : NodeId) (request : Sequence) (step : MdsStep) : Type 0 where
   pub mds : step.mds ≡ record m { sessions = after_binding m.sessions request.session node }
   pub entries : step.entries ≡ []
   pub sends : step.sends ≡ Replies node reply ∷ []
 
-abbrev pub OnlyEffectsChange : MdsValue → NodeId → Sequence → MdsStep → SlotAnswer → Type 0
-OnlyEffectsChange m node request step TakesEffect = Unit {0}
-OnlyEffectsChange m node request step (Repeats reply) = IsAnsweredAlone m node request step
-OnlyEffectsChange m node request step (Refuses status) = IsAnsweredAlone m node request step
+-- the reply to a compound whose SEQUENCE is refused
+abbrev pub refusal_of : ℕ → CompoundValue → Stat4 → RpcReply
+refusal_of xid v status = success_reply xid (spelling compound4_res (stat4_number status, (v.tag, refused_as 53 status ∷ [])))
 
--- A request that does not take effect is answered, by the reply that is kept or by its refusal, and changes nothing.
+abbrev pub OnlyEffectsChange : MdsValue → NodeId → ℕ → CompoundValue → Sequence → MdsStep → SlotAnswer → Type 0
+OnlyEffectsChange m node xid v request step TakesEffect = Unit {0}
+OnlyEffectsChange m node xid v request step (Repeats kept) = IsAnsweredBy (success_reply xid kept) m node request step
+OnlyEffectsChange m node xid v request step (Refuses status) = IsAnsweredBy (refusal_of xid v status) m node request step
+
+-- A request that does not take effect is answered by the reply that is kept, or by its refusal, and changes nothing.
 abbrev pub RepeatsChangeNothing : Type 0
 RepeatsChangeNothing =
     (now : ℕ) (m : MdsValue) (node : NodeId) (xid : ℕ) (v : CompoundValue) (request : Sequence) → first_request v.ops.values ≡ Some request
-    → OnlyEffectsChange m node request (runs_compound now m node xid v) (request_answer (after_binding m.sessions request.session node) request)
+    → OnlyEffectsChange m node xid v request (runs_compound now m node xid v) (request_answer (after_binding m.sessions request.session node) request)

@@ -5,7 +5,9 @@ ghost use Rattle.std.specs.Prelude.{ℕ, List};
 ghost use Rattle.device_addr.specs.Universal.{AddressValue};
 ghost use Rattle.mds_laws.specs.MdsRuns.{MdsEvent};
 ghost use Rattle.mds_laws.specs.MdsRunLaws.{NumbersAscend, NumbersFit, CallsByUids, GrantsFreeFiles};
-ghost use Rattle.mds_laws.specs.SlotUses.{RepeatsChangeNothing};
+ghost use Rattle.mds_laws.specs.SlotUses.{RequestsTakeEffectOnce, RepeatsChangeNothing};
+
+use table_slots::table_slots_law;
 
 /// What holds of every run of a metadata server, whatever bytes come, in whatever order:
 ///
@@ -25,8 +27,13 @@ pub fn mds_run_law()
 
 /// What holds of the requests of slots, whatever comes to a metadata server:
 ///
-/// - a compound whose SEQUENCE does not take effect, since it comes again or is refused, is answered by one reply, and
-///   changes nothing but the node that its session is bound to (RFC 8881, section 2.10.6.1).
+/// - of each slot of each session, the kth request that takes effect has the number k modulo 2^32: among 2^32 that follow
+///   each other none takes effect twice, whatever is sent again;
+/// - a compound whose SEQUENCE does not take effect is answered by the reply that is kept, or by its refusal, and changes
+///   nothing but the node that its session is bound to (RFC 8881, section 2.10.6.1).
 pub fn slot_law()
+    ensures once { (servers : List AddressValue) (mirrors : ℕ) (events : List MdsEvent) → RequestsTakeEffectOnce servers mirrors events }
     ensures repeats { RepeatsChangeNothing }
-{}
+{
+    table_slots_law();
+}
