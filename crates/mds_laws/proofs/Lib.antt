@@ -12,3 +12,7 @@ mod Uids
 mod FileGrants
 mod Grants
 mod SlotUses
+mod NextUids
+mod FileCreds
+mod GrantsOnce
+mod Handed

@@ -1,7 +1,6 @@
 -- Whom a layout is handed to (RFC 8881, section 18.43; RFC 8435, section 2.2).
-use Rattle.std.specs.Prelude.{◌≡◌, ◌++◌, ℕ, List, Some}
+use Rattle.std.specs.Prelude.{◌≡◌, ℕ, Some}
 use Rattle.ff_xdr.specs.Form.{Value}
-use Rattle.cluster_model.specs.declared.entry.Entry.{Entry}
 use Rattle.nfs4_file_ops.specs.LayoutGet.{layoutget4_args}
 use Rattle.mds_rule.specs.MdsStates.{CompoundRun, ServedFile, MdsValue, served}
 use Rattle.mds_rule.specs.OpSteps.{OpStep, Goes, Ends, Waits}

@@ -4,7 +4,8 @@
 ghost use Rattle.std.specs.Prelude.{ℕ, List};
 ghost use Rattle.device_addr.specs.Universal.{AddressValue};
 ghost use Rattle.mds_laws.specs.MdsRuns.{MdsEvent};
-ghost use Rattle.mds_laws.specs.MdsRunLaws.{NumbersAscend, NumbersFit, CallsByUids, GrantsFreeFiles};
+ghost use Rattle.mds_laws.specs.MdsRunLaws.{NumbersAscend, NumbersFit, CallsByUids, GrantsFreeFiles, GrantsUidsOnce};
+ghost use Rattle.mds_laws.specs.HandedLayouts.{HandsLayoutsToHolders};
 ghost use Rattle.mds_laws.specs.SlotUses.{RequestsTakeEffectOnce, RepeatsChangeNothing};
 
 use table_slots::table_slots_law;
@@ -17,12 +18,21 @@ use table_slots::table_slots_law;
 /// - a CREATE, a SETATTR and a READ go out by uid 0, a WRITE by a uid that was drawn, which are 65,536 and above, new or
 ///   repeated (RFC 8435, section 2.2);
 /// - a file is granted only where the last that was entered of how it stands is that it is free: never while it is made
-///   or held, nor before the fence behind a period is done (RFC 8435, section 2.2).
+///   or held, nor before the fence behind a period is done (RFC 8435, section 2.2);
+/// - a uid is granted once: for one file, to one holder, for one period (RFC 8435, section 2.2).
 pub fn mds_run_law()
     ensures numbers { (servers : List AddressValue) (mirrors : ℕ) (events : List MdsEvent) → NumbersAscend servers mirrors events }
     ensures words { (servers : List AddressValue) (mirrors : ℕ) (events : List MdsEvent) → NumbersFit servers mirrors events }
     ensures uids { (servers : List AddressValue) (mirrors : ℕ) (events : List MdsEvent) → CallsByUids servers mirrors events }
     ensures grants { (servers : List AddressValue) (mirrors : ℕ) (events : List MdsEvent) → GrantsFreeFiles servers mirrors events }
+    ensures fresh { (servers : List AddressValue) (mirrors : ℕ) (events : List MdsEvent) → GrantsUidsOnce servers mirrors events }
+{}
+
+/// A LAYOUTGET that goes through, of whatever arguments, on whatever server, puts into its compound the layout of the
+/// current file as it then stands, under its uid, and the client of the compound is then the one that holds it (RFC
+/// 8881, section 18.43; RFC 8435, section 2.2).
+pub fn handed_layouts_law()
+    ensures { HandsLayoutsToHolders }
 {}
 
 /// What holds of the requests of slots, whatever comes to a metadata server:
