@@ -16,3 +16,4 @@ mod NextUids
 mod FileCreds
 mod GrantsOnce
 mod Handed
+mod TakesNone

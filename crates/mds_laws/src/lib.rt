@@ -5,7 +5,7 @@ ghost use Rattle.std.specs.Prelude.{ℕ, List};
 ghost use Rattle.device_addr.specs.Universal.{AddressValue};
 ghost use Rattle.mds_laws.specs.MdsRuns.{MdsEvent};
 ghost use Rattle.mds_laws.specs.MdsRunLaws.{NumbersAscend, NumbersFit, CallsByUids, GrantsFreeFiles, GrantsUidsOnce};
-ghost use Rattle.mds_laws.specs.HandedLayouts.{HandsLayoutsToHolders};
+ghost use Rattle.mds_laws.specs.HandedLayouts.{HandsLayoutsToHolders, TakesNoLayoutAway};
 ghost use Rattle.mds_laws.specs.SlotUses.{RequestsTakeEffectOnce, RepeatsChangeNothing};
 
 use table_slots::table_slots_law;
@@ -28,11 +28,15 @@ pub fn mds_run_law()
     ensures fresh { (servers : List AddressValue) (mirrors : ℕ) (events : List MdsEvent) → GrantsUidsOnce servers mirrors events }
 {}
 
-/// A LAYOUTGET that goes through, of whatever arguments, on whatever server, puts into its compound the layout of the
-/// current file as it then stands, under its uid, and the client of the compound is then the one that holds it (RFC
-/// 8881, section 18.43; RFC 8435, section 2.2).
+/// What holds of every LAYOUTGET, of whatever arguments, on whatever server (RFC 8881, section 18.43; RFC 8435, section
+/// 2.2):
+///
+/// - where it goes through, it puts into its compound the layout of the current file as it then stands, under its uid,
+///   and the client of the compound is then the one that holds it;
+/// - it goes through only where the file was free, or was that client's already.
 pub fn handed_layouts_law()
-    ensures { HandsLayoutsToHolders }
+    ensures hands { HandsLayoutsToHolders }
+    ensures own { TakesNoLayoutAway }
 {}
 
 /// What holds of the requests of slots, whatever comes to a metadata server:
