@@ -20,3 +20,8 @@ bytes_of_digits (c ∷ rest) =
     if bytes_eq (c ∷ rest) (codes "-") then Some []
     else if list_all is_digit (c ∷ rest) then result_ok (decode_of (c ∷ rest))
     else None
+
+-- the byte, where there is just one
+abbrev pub one_byte : List ℕ → Option ℕ
+one_byte (b ∷ []) = Some b
+one_byte bytes = None

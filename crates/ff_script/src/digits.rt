@@ -3,7 +3,7 @@
 ghost use Rattle.std.specs.Prelude.{◌≡◌, ◌*◌, ◌<◌, ◌↔◌, [], length, true, Some, IsTrue, IfOk};
 ghost use Rattle.std.specs.List.{list_all};
 ghost use Rattle.hex.specs.Hex.{hex_digit_value};
-ghost use Rattle.ff_script.specs.Digits.{is_digit, bytes_of_digits, bytes_of_pairs};
+ghost use Rattle.ff_script.specs.Digits.{is_digit, bytes_of_digits, bytes_of_pairs, one_byte};
 
 use ff_xdr::NoMemory;
 use std::alloc::Global;
@@ -92,6 +92,16 @@ impl<'a> Digits<'a> {
         ensures { IsTrue result ↔ (self.now ≡ []) }
     {
         self.digits.is_empty()
+    }
+
+    /// The byte, where there is just one.
+    pub fn only(&self) -> Option<u8>
+        ensures { result ≡ one_byte self.now }
+    {
+        if self.digits.len() != 2 {
+            return None;
+        }
+        Some(digit_value(self.digits[0]) * 16 + digit_value(self.digits[1]))
     }
 
     /// The bytes.

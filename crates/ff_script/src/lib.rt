@@ -7,4 +7,4 @@ mod pieces;
 
 pub use digits::Digits;
 pub use line::{Event, Line, Setup, parse_line};
-pub use pieces::PieceList;
+pub use pieces::{PieceList, cut, decimal_at};

@@ -26,7 +26,7 @@ fn decimal_value(text: &[u8]) -> u64
 }
 
 /// The number of which the text is the decimal, if there is one.
-fn decimal_at(text: &[u8]) -> Option<u32>
+pub fn decimal_at(text: &[u8]) -> Option<u32>
     ensures { result ≡ decimal_at text.now }
 {
     if text.len() > DIGITS {
@@ -38,7 +38,7 @@ fn decimal_at(text: &[u8]) -> Option<u32>
 }
 
 /// What stands before the first separator, and what behind it. `None` is a text with no separator.
-fn cut(sep: u8, text: &[u8]) -> Option<(&[u8], &[u8])>
+pub fn cut(sep: u8, text: &[u8]) -> Option<(&[u8], &[u8])>
     ensures cut { IfSome result (λ p. parts sep text.now ≡ p.0.now ∷ parts sep p.1.now) }
     ensures less { IfSome result (λ p. length p.1.now < length text.now) }
     ensures whole { IfNone result (parts sep text.now ≡ text.now ∷ []) }
