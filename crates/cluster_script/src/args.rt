@@ -7,7 +7,7 @@ use ff_script::cut;
 use std::marker::Model;
 
 /// Words, with one space between two. Clauses see them as a list.
-#[derive(Clone, Copy, Debug)]
+#[derive(Debug, Drop)]
 pub struct Args<'a> {
     // no text is no words
     text: Option<&'a [u8]>,
@@ -34,15 +34,15 @@ pub fn split_first(line: &[u8]) -> (&[u8], Args<'_>)
 
 impl<'a> Args<'a> {
     /// There is none.
-    pub fn is_empty(self) -> bool
-        ensures { IsTrue result ↔ (self ≡ []) }
+    pub fn is_empty(&self) -> bool
+        ensures { IsTrue result ↔ (self.now ≡ []) }
     {
         self.text.is_none()
     }
 
     /// The only one.
-    pub fn one(self) -> Option<&'a [u8]>
-        ensures { option_map (λ a. a.now) result ≡ one_of self }
+    pub fn one(&self) -> Option<&'a [u8]>
+        ensures { option_map (λ a. a.now) result ≡ one_of self.now }
     {
         let text = self.text?;
         match cut(b' ', text) {
@@ -52,8 +52,8 @@ impl<'a> Args<'a> {
     }
 
     /// Both, where there are two.
-    pub fn two(self) -> Option<(&'a [u8], &'a [u8])>
-        ensures { option_map (λ p. (p.0.now, p.1.now)) result ≡ two_of self }
+    pub fn two(&self) -> Option<(&'a [u8], &'a [u8])>
+        ensures { option_map (λ p. (p.0.now, p.1.now)) result ≡ two_of self.now }
     {
         let (first, behind) = cut(b' ', self.text?)?;
         let second = Args { text: Some(behind) }.one()?;
@@ -61,8 +61,8 @@ impl<'a> Args<'a> {
     }
 
     /// All, where there are three.
-    pub fn three(self) -> Option<(&'a [u8], &'a [u8], &'a [u8])>
-        ensures { option_map (λ p. (p.0.now, p.1.now, p.2.now)) result ≡ three_of self }
+    pub fn three(&self) -> Option<(&'a [u8], &'a [u8], &'a [u8])>
+        ensures { option_map (λ p. (p.0.now, p.1.now, p.2.now)) result ≡ three_of self.now }
     {
         let (first, behind) = cut(b' ', self.text?)?;
         let (second, third) = Args { text: Some(behind) }.two()?;
@@ -70,8 +70,8 @@ impl<'a> Args<'a> {
     }
 
     /// All, where there are four.
-    pub fn four(self) -> Option<(&'a [u8], &'a [u8], &'a [u8], &'a [u8])>
-        ensures { option_map (λ p. (p.0.now, p.1.now, p.2.now, p.3.now)) result ≡ four_of self }
+    pub fn four(&self) -> Option<(&'a [u8], &'a [u8], &'a [u8], &'a [u8])>
+        ensures { option_map (λ p. (p.0.now, p.1.now, p.2.now, p.3.now)) result ≡ four_of self.now }
     {
         let (first, behind) = cut(b' ', self.text?)?;
         let (second, third, fourth) = Args { text: Some(behind) }.three()?;

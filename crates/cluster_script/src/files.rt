@@ -13,8 +13,8 @@ use cluster_model::FileId;
 use ff_script::{PieceList, decimal_at};
 
 /// `restart D PIECES`, behind its first word.
-fn restart_with<'a>(sizes: ClusterSizes, args: Args<'a>) -> Option<ClusterEvent<'a>>
-    ensures { option_map cluster_event result ≡ (two_of args >>= pieces_from sizes) }
+fn restart_with<'a>(sizes: ClusterSizes, args: &Args<'a>) -> Option<ClusterEvent<'a>>
+    ensures { option_map cluster_event result ≡ (two_of args.now >>= pieces_from sizes) }
 {
     let (server, pieces) = args.two()?;
     Some(ClusterEvent::Restart {
@@ -24,8 +24,8 @@ fn restart_with<'a>(sizes: ClusterSizes, args: Args<'a>) -> Option<ClusterEvent<
 }
 
 /// `restart D`, alone or with pieces, behind its first word.
-pub fn restart<'a>(sizes: ClusterSizes, args: Args<'a>) -> Option<ClusterEvent<'a>>
-    ensures { option_map cluster_event result ≡ restart_by sizes args }
+pub fn restart<'a>(sizes: ClusterSizes, args: &Args<'a>) -> Option<ClusterEvent<'a>>
+    ensures { option_map cluster_event result ≡ restart_by sizes args.now }
 {
     match args.one() {
         Some(server) => Some(ClusterEvent::Restart {
@@ -37,8 +37,8 @@ pub fn restart<'a>(sizes: ClusterSizes, args: Args<'a>) -> Option<ClusterEvent<'
 }
 
 /// A file alone.
-pub fn file(args: Args<'_>) -> Option<FileId>
-    ensures { option_map (λ f. f.0) result ≡ file_by args }
+pub fn file(args: &Args<'_>) -> Option<FileId>
+    ensures { option_map (λ f. f.0) result ≡ file_by args.now }
 {
     Some(FileId(decimal_at(args.one()?)?))
 }

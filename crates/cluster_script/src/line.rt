@@ -32,8 +32,8 @@ pub fn parse_cluster(line: &[u8]) -> Option<ClusterSizes>
 }
 
 /// Packets and time; any other word is looked for among the requests of users.
-fn parse_move<'a>(sizes: ClusterSizes, word: &[u8], args: Args<'a>) -> Option<ClusterEvent<'a>>
-    ensures { option_map cluster_event result ≡ moves_by sizes word.now args }
+fn parse_move<'a>(sizes: ClusterSizes, word: &[u8], args: &Args<'a>) -> Option<ClusterEvent<'a>>
+    ensures { option_map cluster_event result ≡ moves_by sizes word.now args.now }
 {
     match word {
         b"deliver" => deliver(sizes, args),
@@ -56,8 +56,8 @@ fn parse_move<'a>(sizes: ClusterSizes, word: &[u8], args: Args<'a>) -> Option<Cl
 }
 
 /// Requests of users; any other word is looked for among the lines on machines and files.
-fn parse_request<'a>(sizes: ClusterSizes, word: &[u8], args: Args<'a>) -> Option<ClusterEvent<'a>>
-    ensures { option_map cluster_event result ≡ requests_by sizes word.now args }
+fn parse_request<'a>(sizes: ClusterSizes, word: &[u8], args: &Args<'a>) -> Option<ClusterEvent<'a>>
+    ensures { option_map cluster_event result ≡ requests_by sizes word.now args.now }
 {
     match word {
         b"open" => open(sizes, args),
@@ -78,8 +78,8 @@ fn parse_request<'a>(sizes: ClusterSizes, word: &[u8], args: Args<'a>) -> Option
 }
 
 /// Machines and files.
-fn parse_other<'a>(sizes: ClusterSizes, word: &[u8], args: Args<'a>) -> Option<ClusterEvent<'a>>
-    ensures { option_map cluster_event result ≡ others_by sizes word.now args }
+fn parse_other<'a>(sizes: ClusterSizes, word: &[u8], args: &Args<'a>) -> Option<ClusterEvent<'a>>
+    ensures { option_map cluster_event result ≡ others_by sizes word.now args.now }
 {
     match word {
         b"rogue" => Some(ClusterEvent::Rogue(client(sizes, args)?)),
@@ -98,5 +98,5 @@ pub fn parse_event<'a>(sizes: ClusterSizes, line: &'a [u8]) -> Option<ClusterEve
     ensures { option_map cluster_event result ≡ event_at sizes line.now }
 {
     let (word, args) = split_first(line);
-    parse_move(sizes, word, args)
+    parse_move(sizes, word, &args)
 }

@@ -13,8 +13,8 @@ use cluster_model::NodeId;
 use ff_script::decimal_at;
 
 /// `deliver A B N`, behind its first word.
-fn deliver_between<'a>(sizes: ClusterSizes, args: Args<'a>) -> Option<ClusterEvent<'a>>
-    ensures { option_map cluster_event result ≡ (three_of args >>= between_from sizes) }
+fn deliver_between<'a>(sizes: ClusterSizes, args: &Args<'a>) -> Option<ClusterEvent<'a>>
+    ensures { option_map cluster_event result ≡ (three_of args.now >>= between_from sizes) }
 {
     let (from, to, place) = args.three()?;
     Some(ClusterEvent::DeliverBetween {
@@ -25,8 +25,8 @@ fn deliver_between<'a>(sizes: ClusterSizes, args: Args<'a>) -> Option<ClusterEve
 }
 
 /// `deliver K` or `deliver A B N`, behind its first word.
-pub fn deliver<'a>(sizes: ClusterSizes, args: Args<'a>) -> Option<ClusterEvent<'a>>
-    ensures { option_map cluster_event result ≡ deliver_by sizes args }
+pub fn deliver<'a>(sizes: ClusterSizes, args: &Args<'a>) -> Option<ClusterEvent<'a>>
+    ensures { option_map cluster_event result ≡ deliver_by sizes args.now }
 {
     match args.one() {
         Some(number) => Some(ClusterEvent::DeliverPacket(decimal_at(number)?)),
@@ -35,23 +35,23 @@ pub fn deliver<'a>(sizes: ClusterSizes, args: Args<'a>) -> Option<ClusterEvent<'
 }
 
 /// `flow`, behind its first word.
-pub fn flow<'a>(args: Args<'a>) -> Option<ClusterEvent<'a>>
-    ensures { option_map cluster_event result ≡ flow_by args }
+pub fn flow<'a>(args: &Args<'a>) -> Option<ClusterEvent<'a>>
+    ensures { option_map cluster_event result ≡ flow_by args.now }
 {
     args.is_empty().then_some(ClusterEvent::Flow)
 }
 
 /// Two machines.
-pub fn pair(sizes: ClusterSizes, args: Args<'_>) -> Option<(NodeId, NodeId)>
-    ensures { result ≡ pair_by sizes args }
+pub fn pair(sizes: ClusterSizes, args: &Args<'_>) -> Option<(NodeId, NodeId)>
+    ensures { result ≡ pair_by sizes args.now }
 {
     let (from, to) = args.two()?;
     Some((node_at(sizes, from)?, node_at(sizes, to)?))
 }
 
 /// `tick S`, behind its first word: 1 to 1,000 seconds.
-pub fn tick<'a>(args: Args<'a>) -> Option<ClusterEvent<'a>>
-    ensures { option_map cluster_event result ≡ tick_by args }
+pub fn tick<'a>(args: &Args<'a>) -> Option<ClusterEvent<'a>>
+    ensures { option_map cluster_event result ≡ tick_by args.now }
 {
     Some(ClusterEvent::Tick(number_within(1, 1_000, args.one()?)?))
 }

@@ -12,8 +12,8 @@ use crate::words::{byte_at, bytes_at, client_at, count_at, name_at, place_at};
 use ff_script::{Digits, decimal_at};
 
 /// `open C NAME`, behind its first word.
-pub fn open<'a>(sizes: ClusterSizes, args: Args<'a>) -> Option<ClusterEvent<'a>>
-    ensures { option_map cluster_event result ≡ (two_of args >>= open_from sizes) }
+pub fn open<'a>(sizes: ClusterSizes, args: &Args<'a>) -> Option<ClusterEvent<'a>>
+    ensures { option_map cluster_event result ≡ (two_of args.now >>= open_from sizes) }
 {
     let (client, name) = args.two()?;
     Some(ClusterEvent::Open {
@@ -23,16 +23,16 @@ pub fn open<'a>(sizes: ClusterSizes, args: Args<'a>) -> Option<ClusterEvent<'a>>
 }
 
 /// A client, a place and bytes.
-pub fn written<'a>(sizes: ClusterSizes, args: Args<'a>) -> Option<(u32, u64, Digits<'a>)>
-    ensures { result ≡ written_by sizes args }
+pub fn written<'a>(sizes: ClusterSizes, args: &Args<'a>) -> Option<(u32, u64, Digits<'a>)>
+    ensures { result ≡ written_by sizes args.now }
 {
     let (client, at, bytes) = args.three()?;
     Some((client_at(sizes, client)?, place_at(at)?, bytes_at(bytes)?))
 }
 
 /// `fill C AT COUNT BYTE`, behind its first word.
-pub fn fill<'a>(sizes: ClusterSizes, args: Args<'a>) -> Option<ClusterEvent<'a>>
-    ensures { option_map cluster_event result ≡ (four_of args >>= fill_from sizes) }
+pub fn fill<'a>(sizes: ClusterSizes, args: &Args<'a>) -> Option<ClusterEvent<'a>>
+    ensures { option_map cluster_event result ≡ (four_of args.now >>= fill_from sizes) }
 {
     let (client, at, count, byte) = args.four()?;
     Some(ClusterEvent::Fill {
@@ -44,8 +44,8 @@ pub fn fill<'a>(sizes: ClusterSizes, args: Args<'a>) -> Option<ClusterEvent<'a>>
 }
 
 /// `read C AT COUNT`, behind its first word.
-pub fn read<'a>(sizes: ClusterSizes, args: Args<'a>) -> Option<ClusterEvent<'a>>
-    ensures { option_map cluster_event result ≡ (three_of args >>= read_from sizes) }
+pub fn read<'a>(sizes: ClusterSizes, args: &Args<'a>) -> Option<ClusterEvent<'a>>
+    ensures { option_map cluster_event result ≡ (three_of args.now >>= read_from sizes) }
 {
     let (client, at, count) = args.three()?;
     Some(ClusterEvent::Read {
@@ -56,15 +56,15 @@ pub fn read<'a>(sizes: ClusterSizes, args: Args<'a>) -> Option<ClusterEvent<'a>>
 }
 
 /// A client alone.
-pub fn client(sizes: ClusterSizes, args: Args<'_>) -> Option<u32>
-    ensures { result ≡ client_by sizes args }
+pub fn client(sizes: ClusterSizes, args: &Args<'_>) -> Option<u32>
+    ensures { result ≡ client_by sizes args.now }
 {
     client_at(sizes, args.one()?)
 }
 
 /// `stray C PLACE AT HEX`, behind its first word.
-pub fn stray<'a>(sizes: ClusterSizes, args: Args<'a>) -> Option<ClusterEvent<'a>>
-    ensures { option_map cluster_event result ≡ (four_of args >>= stray_from sizes) }
+pub fn stray<'a>(sizes: ClusterSizes, args: &Args<'a>) -> Option<ClusterEvent<'a>>
+    ensures { option_map cluster_event result ≡ (four_of args.now >>= stray_from sizes) }
 {
     let (client, mirror, at, bytes) = args.four()?;
     Some(ClusterEvent::Stray {
