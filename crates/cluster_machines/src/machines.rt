@@ -1,0 +1,84 @@
+//! The machines, and what comes to them.
+
+ghost use Rattle.std.specs.Prelude.{◌≡◌, ◌≤◌, IfOk, OnOk, option_copied};
+ghost use Rattle.node_config.specs.declared.config.TheConstants.{MAX_SERVERS, MAX_MIRRORS};
+ghost use Rattle.mds_rule.specs.Events.{takes_tick, takes_recall, takes_resilver};
+ghost use Rattle.mirror_client.specs.ClientRule.{client_ticked};
+ghost use Rattle.cluster_machines.specs.Machines.{new_machines, nth, mds_acts, client_acts, receives, times_out, HasActed};
+
+use cluster_model::{FileId, NodeId, Outbox};
+use cluster_script::ClusterSizes;
+use ds_files::DataServer;
+use ff_xdr::NoMemory;
+use mds_core::Mds;
+use mirror_client::Client;
+use std::alloc::Global;
+use std::marker::Model;
+
+/// The machines of a cluster: its metadata server, and data servers and clients by their numbers from 1. Each call is one
+/// machine's part of an event; what it enters and sends goes behind what the Outbox has. After `NoMemory` they are not to be
+/// used again.
+#[derive(Drop)]
+pub struct Machines {
+    pub(crate) alloc: Global,
+    pub(crate) mds: Mds,
+    pub(crate) servers: Vec<DataServer>,
+    pub(crate) clients: Vec<Client>,
+}
+
+impl Model for Machines {
+    ghost use Rattle.std.specs.Prelude.{map};
+    ghost use Rattle.cluster_machines.specs.Machines.{MachinesValue};
+
+    ghost Value = { MachinesValue };
+
+    ghost view = { λ m. record { mds = m.mds.mds; servers = m.servers.items; clients = map (λ c. c.client) m.clients.items } };
+}
+
+impl Machines {
+    /// The machines of a cluster of these sizes, all new: 1 to 16 data servers, 1 to 4 mirrors and no more than servers, 1 to
+    /// 256 clients. Takes memory.
+    pub fn new(alloc: Global, sizes: ClusterSizes) -> Result<Machines, NoMemory>
+        requires mirrored { 1 ≤ sizes.mirrors }
+        requires few { sizes.mirrors ≤ MAX_MIRRORS }
+        requires within { sizes.mirrors ≤ sizes.servers }
+        requires servers { sizes.servers ≤ MAX_SERVERS }
+        requires clients { sizes.clients ≤ 256 }
+        ensures { IfOk result (λ machines. machines ≡ new_machines sizes) };
+
+    /// The metadata server.
+    pub fn mds(&self) -> &Mds
+        ensures { result.now.mds ≡ self.now.mds };
+
+    /// The data server of a number.
+    pub fn server(&self, number: u32) -> Option<&DataServer>
+        ensures { option_copied result ≡ nth self.now.servers number };
+
+    /// The client of a number.
+    pub fn client(&self, number: u32) -> Option<&Client>
+        ensures { option_map (λ c. c.now.client) result ≡ nth self.now.clients number };
+
+    /// A record from one machine comes to another, at `now`, in seconds; nothing happens where that is none of these.
+    pub fn receive(&mut self, from: NodeId, to: NodeId, message: &[u8], now: u64, out: &mut Outbox) -> Result<(), NoMemory>
+        ensures { OnOk result (HasActed (receives now from to message.now self.old) out.old self.new out.new) };
+
+    /// The call of a machine to another that was sent first times out, at `now`; nothing happens where there is none.
+    pub fn time_out(&mut self, node: NodeId, to: NodeId, now: u64, out: &mut Outbox) -> Result<(), NoMemory>
+        ensures { OnOk result (HasActed (times_out now node to self.old) out.old self.new out.new) };
+
+    /// Time passed for a client; it is `now`.
+    pub fn tick_client(&mut self, number: u32, now: u64, out: &mut Outbox) -> Result<(), NoMemory>
+        ensures { OnOk result (HasActed (client_acts number (client_ticked now) self.old) out.old self.new out.new) };
+
+    /// Time passed for the metadata server; it is `now`.
+    pub fn tick_mds(&mut self, now: u64, out: &mut Outbox) -> Result<(), NoMemory>
+        ensures { OnOk result (HasActed (mds_acts (takes_tick now) self.old) out.old self.new out.new) };
+
+    /// The layout of a file is to be recalled.
+    pub fn recall(&mut self, file: FileId, now: u64, out: &mut Outbox) -> Result<(), NoMemory>
+        ensures { OnOk result (HasActed (mds_acts (λ s. takes_recall now s file) self.old) out.old self.new out.new) };
+
+    /// Mirrors are to be added to a file.
+    pub fn resilver(&mut self, file: FileId, out: &mut Outbox) -> Result<(), NoMemory>
+        ensures { OnOk result (HasActed (mds_acts (λ s. takes_resilver s file) self.old) out.old self.new out.new) };
+}
