@@ -21,7 +21,6 @@ use Rattle.client_state.specs.ClientStates.{ClientValue, fresh_client}
 use Rattle.client_state.specs.ClientSends.{ClientStep}
 use Rattle.client_state.specs.ClientSends as client
 use Rattle.mirror_client.specs.ClientRule.{client_requested, client_recorded, client_timed_out, client_ticked, turned, strays}
-use Rattle.cluster_script.specs.declared.sizes.ClusterSizes.{ClusterSizes}
 
 -- the metadata server, and data servers and clients by their numbers from 1
 pub record MachinesValue : Type 0 where
@@ -35,12 +34,13 @@ pub record MachinesValue : Type 0 where
 abbrev pub address_of : ℕ → AddressValue
 address_of n = record { host = 127 ∷ 0 ∷ 0 ∷ 1 ∷ []; port = 2048 + n }
 
--- a client's first start has the verifier 1, and its first call the number 1
-abbrev pub new_machines : ClusterSizes → MachinesValue
-new_machines sizes = record {
-  mds = new_mds (map address_of (range_with_len 1 sizes.servers)) sizes.mirrors;
-  servers = map (λ n. new_server n 1) (range_with_len 1 sizes.servers);
-  clients = map (λ n. fresh_client n 1 1) (range_with_len 1 sizes.clients);
+-- So many data servers, of which each file is to have so many, and clients. A client's first start has the verifier 1, and its first call
+-- the number 1.
+abbrev pub new_machines : ℕ → ℕ → ℕ → MachinesValue
+new_machines servers mirrors clients = record {
+  mds = new_mds (map address_of (range_with_len 1 servers)) mirrors;
+  servers = map (λ n. new_server n 1) (range_with_len 1 servers);
+  clients = map (λ n. fresh_client n 1 1) (range_with_len 1 clients);
 }
 
 -- ---- what one machine does

@@ -1,13 +1,12 @@
 //! The machines, and what comes to them.
 
-ghost use Rattle.std.specs.Prelude.{◌≡◌, ◌≤◌, IfOk, OnOk, option_copied};
-ghost use Rattle.node_config.specs.declared.config.TheConstants.{MAX_SERVERS, MAX_MIRRORS};
+ghost use Rattle.std.specs.Prelude.{◌≡◌, ◌≤◌, IfOk, OnOk, option_copied, option_map};
+ghost use Rattle.node_config.specs.declared.config.TheConstants.{MAX_SERVERS, MAX_MIRRORS, MAX_NUMBER};
 ghost use Rattle.mds_rule.specs.Events.{takes_tick, takes_recall, takes_resilver};
 ghost use Rattle.mirror_client.specs.ClientRule.{client_ticked};
 ghost use Rattle.cluster_machines.specs.Machines.{new_machines, nth, mds_acts, client_acts, receives, times_out, HasActed};
 
 use cluster_model::{FileId, NodeId, Outbox};
-use cluster_script::ClusterSizes;
 use ds_files::DataServer;
 use ff_xdr::NoMemory;
 use mds_core::Mds;
@@ -36,15 +35,15 @@ impl Model for Machines {
 }
 
 impl Machines {
-    /// The machines of a cluster of these sizes, all new: 1 to 16 data servers, 1 to 4 mirrors and no more than servers, 1 to
-    /// 256 clients. Takes memory.
-    pub fn new(alloc: Global, sizes: ClusterSizes) -> Result<Machines, NoMemory>
-        requires mirrored { 1 ≤ sizes.mirrors }
-        requires few { sizes.mirrors ≤ MAX_MIRRORS }
-        requires within { sizes.mirrors ≤ sizes.servers }
-        requires servers { sizes.servers ≤ MAX_SERVERS }
-        requires clients { sizes.clients ≤ 256 }
-        ensures { IfOk result (λ machines. machines ≡ new_machines sizes) };
+    /// The machines of a cluster, all new: 1 to 16 data servers, of which each file is to have 1 to 4 and no more than there are,
+    /// and up to 256 clients. Takes memory.
+    pub fn new(alloc: Global, servers: u32, mirrors: u32, clients: u32) -> Result<Machines, NoMemory>
+        requires mirrored { 1 ≤ mirrors }
+        requires few { mirrors ≤ MAX_MIRRORS }
+        requires within { mirrors ≤ servers }
+        requires servers { servers ≤ MAX_SERVERS }
+        requires clients { clients ≤ MAX_NUMBER }
+        ensures { IfOk result (λ machines. machines ≡ new_machines servers mirrors clients) };
 
     /// The metadata server.
     pub fn mds(&self) -> &Mds
