@@ -1,0 +1,200 @@
+-- The world of a cluster: its machines, the moment, which packets are held, and the journal. One event is one line of a script, or one
+-- delivery of a flow.
+use Rattle.std.specs.Prelude.{ℕ, zero, suc, ◌+◌, ◌-◌, Bool, true, false, List, [], ◌∷◌, ◌++◌, length, map, replicate, take, nat_lt, Option, Some, None, if◌then◌else◌, slice_get, slice_set}
+use Rattle.std.specs.List.{range_with_len}
+use Rattle.cluster_model.specs.declared.ids.NodeId.{NodeId}
+use Rattle.cluster_model.specs.declared.ids.NodeId.TheVariants.{Mds, Server, Client}
+use Rattle.cluster_model.specs.declared.ids.FileId.{FileId}
+use Rattle.cluster_model.specs.declared.ids.Mirror.{Mirror}
+use Rattle.cluster_model.specs.declared.ids.MirrorId.{MirrorId}
+use Rattle.cluster_model.specs.declared.entry.Entry.{Entry}
+use Rattle.cluster_model.specs.declared.entry.Entry.TheVariants as entry
+use Rattle.cluster_model.specs.declared.piece.Piece.{Piece}
+use Rattle.cluster_model.specs.Event.{EventValue, Deliver, DeliverPacket, DeliverBetween, Flow, Hold, Pass, Timeout, Tick, Open, Write, Through, Fill, Commit, Read, Return, Rogue, Stray, Reboot, Recall, Resilver, Audit, Restart}
+use Rattle.cluster_model.specs.File.{StoredFile, shown}
+use Rattle.cluster_model.specs.Server.{ServerState}
+use Rattle.client_state.specs.declared.request.UserRequest.{UserRequest}
+use Rattle.client_state.specs.declared.request.UserRequest.TheVariants as request
+use Rattle.client_state.specs.ClientStates.{ClientValue}
+use Rattle.mirror_client.specs.ClientRule.{client_ticked}
+use Rattle.mds_rule.specs.MdsStates.{ServedFile, served, numbered}
+use Rattle.mds_rule.specs.Events.{takes_tick, takes_recall, takes_resilver}
+use Rattle.packet_table.specs.declared.note.PacketNote.{PacketNote}
+use Rattle.packet_table.specs.Packets.{PacketsValue, packet_numbered, number_between, next_waiting, after_hold, after_pass}
+use Rattle.cluster_machines.specs.Machines.{MachinesValue, Act, new_machines, nth, mds_acts, client_acts, receives, times_out, is_asked, leaves, goes_astray, starts_anew, restarts}
+use Rattle.ff_world.specs.Journal.{max_entries, is_within}
+use Rattle.ff_world.specs.World.{packets_of}
+use Rattle.cluster_world.specs.Sent.{packets_in, bytes_at_place}
+
+-- how many clients there are is seen in the machines; a client's verifier tells each start of it from the next (RFC 8881, section 18.35)
+pub record ClusterState : Type 0 where
+  pub machines : MachinesValue
+  pub verifiers : List ℕ
+  -- in seconds
+  pub now : ℕ
+  pub held : List (NodeId × NodeId)
+  pub journal : List Entry
+
+-- so many data servers, of which each file is to have so many, and clients, before any event
+abbrev pub new_cluster : ℕ → ℕ → ℕ → ClusterState
+new_cluster servers mirrors clients = record {
+  machines = new_machines servers mirrors clients;
+  verifiers = replicate clients 1;
+  now = 0;
+  held = [];
+  journal = [];
+}
+
+-- ---- what is entered
+
+abbrev pub entering : List Entry → ClusterState → ClusterState
+entering entries w = record w { journal = w.journal ++ entries }
+
+abbrev pub packets : ClusterState → PacketsValue
+packets w = packets_in w.journal w.held
+
+-- A machine's part of an event: its entries come first, and then a packet for each record that it sends, with the next number.
+abbrev pub acting : NodeId → Act → ClusterState → ClusterState
+acting node a w =
+    record w { machines = a.machines; journal = w.journal ++ (a.entries ++ packets_of node (length (packets w).notes) a.sends) }
+
+-- ---- packets
+
+-- the packet of this number comes, for the first time or again
+abbrev pub packet_comes : ℕ → Option PacketNote → ClusterState → ClusterState
+packet_comes number None w = w
+packet_comes number (Some note) w =
+    let came = entering (entry.Delivered number ∷ []) w in
+    acting note.to (receives w.now note.from note.to (bytes_at_place w.journal note.place) w.machines) came
+
+abbrev pub delivering : ℕ → ClusterState → ClusterState
+delivering number w = packet_comes number (packet_numbered (packets w) number) w
+
+abbrev pub delivering_some : Option ℕ → ClusterState → ClusterState
+delivering_some None w = w
+delivering_some (Some number) w = delivering number w
+
+-- ---- time: each client in order, and then the metadata server
+
+abbrev pub client_ticks : ℕ → ClusterState → ClusterState
+client_ticks n w = acting (Client n) (client_acts n (client_ticked w.now) w.machines) w
+
+abbrev pub clients_tick : List ℕ → ClusterState → ClusterState
+clients_tick [] w = w
+clients_tick (n ∷ ns) w = clients_tick ns (client_ticks n w)
+
+abbrev pub mds_ticks : ClusterState → ClusterState
+mds_ticks w = acting Mds (mds_acts (takes_tick w.now) w.machines) w
+
+abbrev pub ticking : ℕ → ClusterState → ClusterState
+ticking seconds w =
+    let later = record (entering (entry.Tick seconds ∷ []) w) { now = w.now + seconds } in
+    mds_ticks (clients_tick (range_with_len 1 (length w.machines.clients)) later)
+
+-- ---- users
+
+abbrev pub asking : ℕ → UserRequest → ClusterState → ClusterState
+asking n asked w = acting (Client n) (is_asked n asked w.machines) w
+
+-- the client starts anew with its next verifier; one that left stays as it is
+abbrev pub next_verifier : ℕ → Option ClientValue → List ℕ → Option ℕ → List ℕ
+next_verifier n None verifiers was = verifiers
+next_verifier n (Some c) verifiers None = verifiers
+next_verifier n (Some c) verifiers (Some was) = if c.has_left then verifiers else slice_set verifiers (n - 1) (was + 1)
+
+abbrev pub verifier_or_none : Option ℕ → ℕ
+verifier_or_none None = 0
+verifier_or_none (Some verifier) = verifier
+
+abbrev pub rebooting : ℕ → ClusterState → ClusterState
+rebooting n w =
+    let was = nth w.verifiers n in
+    record (acting (Client n) (client_acts n (starts_anew n (verifier_or_none was + 1)) w.machines) w) { verifiers = next_verifier n (nth w.machines.clients n) w.verifiers was }
+
+-- ---- what stands in a file: of each live mirror how many bytes it shows, and the first 64 of them
+
+abbrev pub stored_at : List StoredFile → ℕ → Option StoredFile
+stored_at files fileid = if nat_lt fileid 2 then None else slice_get files (fileid - 2)
+
+abbrev pub shown_or_none : Option StoredFile → List ℕ
+shown_or_none None = []
+shown_or_none (Some file) = shown file
+
+abbrev pub shown_by : Option ServerState → ℕ → List ℕ
+shown_by None fileid = []
+shown_by (Some server) fileid = shown_or_none (stored_at server.files fileid)
+
+abbrev pub audit_of : MachinesValue → FileId → MirrorId → Entry
+audit_of m file id = let bytes = shown_by (nth m.servers id.server) id.fileid in entry.Audit file id (length bytes) (take 64 bytes)
+
+abbrev pub audits_of : MachinesValue → FileId → Option ServedFile → List Entry
+audits_of m file None = []
+audits_of m file (Some s) = map (λ (mirror : Mirror). audit_of m file mirror.id) s.file.layout.live
+
+abbrev pub auditing : FileId → ClusterState → ClusterState
+auditing file w = entering (audits_of w.machines file (served w.machines.mds file)) w
+
+-- ---- one event that is no flow
+
+abbrev pub behind : EventValue → ClusterState → ClusterState
+behind (Deliver bytes) w = w
+behind (DeliverPacket number) w = delivering number w
+behind (DeliverBetween from to n) w = delivering_some (number_between (packets w) from to n) w
+behind Flow w = w
+behind (Hold from to) w = record (entering (entry.Hold from to ∷ []) w) { held = (after_hold from to (packets w)).held }
+behind (Pass from to) w = record (entering (entry.Pass from to ∷ []) w) { held = (after_pass from to (packets w)).held }
+behind (Timeout node to) w = acting node (times_out w.now node to w.machines) w
+behind (Tick seconds) w = ticking seconds w
+behind (Open client name) w = asking client (request.Open name) w
+behind (Write client at bytes) w = asking client (request.Write at bytes) w
+behind (Through client at bytes) w = asking client (request.Through at bytes) w
+behind (Fill client at count byte) w = asking client (request.Write at (replicate count byte)) w
+behind (Commit client) w = asking client request.Commit w
+behind (Read client at count) w = asking client (request.Read at count) w
+behind (Return client) w = asking client request.Return w
+behind (Rogue client) w = acting (Client client) (client_acts client (leaves client) w.machines) w
+behind (Stray client place at bytes) w = acting (Client client) (client_acts client (goes_astray place at bytes) w.machines) w
+behind (Reboot client) w = rebooting client w
+behind (Recall file) w = acting Mds (mds_acts (λ m. takes_recall w.now m (numbered file)) w.machines) w
+behind (Resilver file) w = acting Mds (mds_acts (λ m. takes_resilver m (numbered file)) w.machines) w
+behind (Audit file) w = auditing (numbered file) w
+behind (Restart server pieces) w = acting (Server server) (restarts server pieces w.machines) w
+
+-- None is an event with which the journal would pass a limit: it does not happen.
+abbrev pub within_limits : ClusterState → Option ClusterState
+within_limits w = if is_within w.journal then Some w else None
+
+abbrev pub cluster_step : ClusterState → EventValue → Option ClusterState
+cluster_step w event = within_limits (behind event w)
+
+-- ---- a run of events
+
+-- the world at its end, and whether it ended before an event that would pass a limit
+pub record ClusterRun : Type 0 where
+  pub world : ClusterState
+  pub over : Bool
+
+abbrev pub stepped : ClusterState → Option ClusterState → (ClusterState → ClusterRun) → ClusterRun
+stepped w None next = record { world = w; over = true }
+stepped w (Some then) next = next then
+
+-- A flow: the first packet that waits comes, and so on until none waits. Each delivery makes an entry, so there are no more of them than
+-- the limit has entries.
+abbrev pub flows_by : (ClusterState → ClusterRun) → ClusterState → Option ℕ → ClusterRun
+flows_by next w None = record { world = w; over = false }
+flows_by next w (Some number) = stepped w (cluster_step w (DeliverPacket number)) next
+
+abbrev pub flows : ℕ → ClusterState → ClusterRun
+flows zero w = record { world = w; over = false }
+flows (suc n) w = flows_by (flows n) w (next_waiting (packets w))
+
+abbrev pub event_run : ClusterState → EventValue → ClusterRun
+event_run w Flow = flows max_entries w
+event_run w event = stepped w (cluster_step w event) (λ next. record { world = next; over = false })
+
+abbrev pub then_runs : ClusterRun → (ClusterState → ClusterRun) → ClusterRun
+then_runs run next = if run.over then run else next run.world
+
+abbrev pub cluster_run : ClusterState → List EventValue → ClusterRun
+cluster_run w [] = record { world = w; over = false }
+cluster_run w (event ∷ events) = then_runs (event_run w event) (λ next. cluster_run next events)
