@@ -1,0 +1,2 @@
+pub mod ArgLemmas
+pub mod NameLemmas

@@ -1,5 +1,5 @@
 -- The lines of a cluster's script, by their first words.
-use Rattle.std.specs.Prelude.{ℕ, List, [], ◌∷◌, codes, nat_le, Option, Some, None, option_map, if◌then◌else◌}
+use Rattle.std.specs.Prelude.{ℕ, List, [], ◌∷◌, codes, Option, Some, None, option_map, if◌then◌else◌}
 use Rattle.std.specs.Str.{bytes_eq}
 use Rattle.cluster_model.specs.declared.ids.NodeId.{NodeId}
 use Rattle.cluster_model.specs.Event.{EventValue, DeliverPacket, DeliverBetween, Flow, Hold, Pass, Timeout, Tick, Open, Write, Through, Fill, Commit, Read, Return, Rogue, Stray, Reboot, Recall, Resilver, Audit, Restart}
@@ -36,9 +36,12 @@ between_from s (a, b, n) = do
   place ← decimal_at n
   Some (DeliverBetween from to place)
 
+abbrev pub between_by : ClusterSizes → List (List ℕ) → Option EventValue
+between_by s args = three_of args >>= between_from s
+
 abbrev pub deliver_by : ClusterSizes → List (List ℕ) → Option EventValue
 deliver_by s (k ∷ []) = option_map DeliverPacket (decimal_at k)
-deliver_by s args = three_of args >>= between_from s
+deliver_by s args = between_by s args
 
 -- `flow`
 abbrev pub flow_by : List (List ℕ) → Option EventValue
@@ -68,6 +71,9 @@ open_from s (c, word) = do
   name ← name_at word
   Some (Open client name)
 
+abbrev pub open_by : ClusterSizes → List (List ℕ) → Option EventValue
+open_by s args = two_of args >>= open_from s
+
 -- a client, a place and bytes
 abbrev pub written_from : ClusterSizes → List ℕ × List ℕ × List ℕ → Option (ℕ × ℕ × List ℕ)
 written_from s (c, at, hex) = do
@@ -88,6 +94,9 @@ fill_from s (c, at, n, hex) = do
   byte ← byte_at hex
   Some (Fill client place count byte)
 
+abbrev pub fill_by : ClusterSizes → List (List ℕ) → Option EventValue
+fill_by s args = four_of args >>= fill_from s
+
 -- `read C AT COUNT`
 abbrev pub read_from : ClusterSizes → List ℕ × List ℕ × List ℕ → Option EventValue
 read_from s (c, at, n) = do
@@ -95,6 +104,9 @@ read_from s (c, at, n) = do
   place ← place_at at
   count ← count_at n
   Some (Read client place count)
+
+abbrev pub read_by : ClusterSizes → List (List ℕ) → Option EventValue
+read_by s args = three_of args >>= read_from s
 
 -- a client alone
 abbrev pub client_by : ClusterSizes → List (List ℕ) → Option ℕ
@@ -109,6 +121,9 @@ stray_from s (c, n, at, hex) = do
   bytes ← bytes_at hex
   Some (Stray client mirror place bytes)
 
+abbrev pub stray_by : ClusterSizes → List (List ℕ) → Option EventValue
+stray_by s args = four_of args >>= stray_from s
+
 -- ---- files and data servers
 
 -- `restart D`, alone or with pieces
@@ -118,9 +133,12 @@ pieces_from s (d, word) = do
   pieces ← pieces_at word
   Some (Restart server pieces)
 
+abbrev pub pieces_by : ClusterSizes → List (List ℕ) → Option EventValue
+pieces_by s args = two_of args >>= pieces_from s
+
 abbrev pub restart_by : ClusterSizes → List (List ℕ) → Option EventValue
 restart_by s (d ∷ []) = option_map (λ server. Restart server []) (server_at s d)
-restart_by s args = two_of args >>= pieces_from s
+restart_by s args = pieces_by s args
 
 -- a file's number alone
 abbrev pub file_by : List (List ℕ) → Option ℕ
@@ -139,39 +157,39 @@ by_row word (row ∷ rows) other = if bytes_eq word row.0 then row.1 else by_row
 abbrev pub others_by : ClusterSizes → List ℕ → List (List ℕ) → Option EventValue
 others_by s word args =
     by_row word (
-      (codes "rogue", option_map Rogue (client_by s args))
-      ∷ (codes "stray", four_of args >>= stray_from s)
-      ∷ (codes "reboot", option_map Reboot (client_by s args))
-      ∷ (codes "restart", restart_by s args)
-      ∷ (codes "recall", option_map Recall (file_by args))
-      ∷ (codes "resilver", option_map Resilver (file_by args))
-      ∷ (codes "audit", option_map Audit (file_by args))
-      ∷ []
+    (codes "rogue", option_map Rogue (client_by s args))
+    ∷ (codes "stray", stray_by s args)
+    ∷ (codes "reboot", option_map Reboot (client_by s args))
+    ∷ (codes "restart", restart_by s args)
+    ∷ (codes "recall", option_map Recall (file_by args))
+    ∷ (codes "resilver", option_map Resilver (file_by args))
+    ∷ (codes "audit", option_map Audit (file_by args))
+    ∷ []
     ) None
 
 abbrev pub requests_by : ClusterSizes → List ℕ → List (List ℕ) → Option EventValue
 requests_by s word args =
     by_row word (
-      (codes "open", two_of args >>= open_from s)
-      ∷ (codes "write", option_map (λ w. Write w.0 w.1 w.2) (written_by s args))
-      ∷ (codes "through", option_map (λ w. Through w.0 w.1 w.2) (written_by s args))
-      ∷ (codes "fill", four_of args >>= fill_from s)
-      ∷ (codes "commit", option_map Commit (client_by s args))
-      ∷ (codes "read", three_of args >>= read_from s)
-      ∷ (codes "return", option_map Return (client_by s args))
-      ∷ []
+    (codes "open", open_by s args)
+    ∷ (codes "write", option_map (λ w. Write w.0 w.1 w.2) (written_by s args))
+    ∷ (codes "through", option_map (λ w. Through w.0 w.1 w.2) (written_by s args))
+    ∷ (codes "fill", fill_by s args)
+    ∷ (codes "commit", option_map Commit (client_by s args))
+    ∷ (codes "read", read_by s args)
+    ∷ (codes "return", option_map Return (client_by s args))
+    ∷ []
     ) (others_by s word args)
 
 abbrev pub moves_by : ClusterSizes → List ℕ → List (List ℕ) → Option EventValue
 moves_by s word args =
     by_row word (
-      (codes "deliver", deliver_by s args)
-      ∷ (codes "flow", flow_by args)
-      ∷ (codes "hold", option_map (λ p. Hold p.0 p.1) (pair_by s args))
-      ∷ (codes "pass", option_map (λ p. Pass p.0 p.1) (pair_by s args))
-      ∷ (codes "timeout", option_map (λ p. Timeout p.0 p.1) (pair_by s args))
-      ∷ (codes "tick", tick_by args)
-      ∷ []
+    (codes "deliver", deliver_by s args)
+    ∷ (codes "flow", flow_by args)
+    ∷ (codes "hold", option_map (λ p. Hold p.0 p.1) (pair_by s args))
+    ∷ (codes "pass", option_map (λ p. Pass p.0 p.1) (pair_by s args))
+    ∷ (codes "timeout", option_map (λ p. Timeout p.0 p.1) (pair_by s args))
+    ∷ (codes "tick", tick_by args)
+    ∷ []
     ) (requests_by s word args)
 
 abbrev pub event_by : ClusterSizes → List (List ℕ) → Option EventValue

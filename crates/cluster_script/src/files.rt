@@ -1,9 +1,7 @@
 //! Files, and data servers that start again.
 
 ghost use Rattle.std.specs.Prelude.{◌≡◌, option_map};
-ghost use Rattle.ff_script.specs.Pieces.{◌>>=◌};
-ghost use Rattle.cluster_script.specs.ScriptWords.{two_of};
-ghost use Rattle.cluster_script.specs.ClusterLines.{pieces_from, restart_by, file_by, cluster_event};
+ghost use Rattle.cluster_script.specs.ClusterLines.{pieces_by, restart_by, file_by, cluster_event};
 
 use crate::args::Args;
 use crate::event::ClusterEvent;
@@ -14,7 +12,7 @@ use ff_script::{PieceList, decimal_at};
 
 /// `restart D PIECES`, behind its first word.
 fn restart_with<'a>(sizes: ClusterSizes, args: &Args<'a>) -> Option<ClusterEvent<'a>>
-    ensures { option_map cluster_event result ≡ (two_of args.now >>= pieces_from sizes) }
+    ensures { option_map cluster_event result ≡ pieces_by sizes args.now }
 {
     let (server, pieces) = args.two()?;
     Some(ClusterEvent::Restart {

@@ -9,7 +9,7 @@ use crate::files::{file, restart};
 use crate::moves::{deliver, flow, pair, tick};
 use crate::requests::{client, fill, open, read, stray, written};
 use crate::sizes::ClusterSizes;
-use crate::words::number_within;
+use crate::words::{is_word, number_within};
 
 /// The line that sets a cluster up: `cluster S K C`, of S data servers, 1 to 16, K mirrors a file, 1 to 4 and at most S, and C
 /// clients, 1 to 256. `None` is any other line. Takes no memory.
@@ -17,7 +17,7 @@ pub fn parse_cluster(line: &[u8]) -> Option<ClusterSizes>
     ensures { result ≡ cluster_at line.now }
 {
     let (word, args) = split_first(line);
-    if word != b"cluster".as_slice() {
+    if !is_word(word, b"cluster") {
         return None;
     }
     let (servers, mirrors, clients) = args.three()?;
@@ -35,62 +35,86 @@ pub fn parse_cluster(line: &[u8]) -> Option<ClusterSizes>
 fn parse_move<'a>(sizes: ClusterSizes, word: &[u8], args: &Args<'a>) -> Option<ClusterEvent<'a>>
     ensures { option_map cluster_event result ≡ moves_by sizes word.now args.now }
 {
-    match word {
-        b"deliver" => deliver(sizes, args),
-        b"flow" => flow(args),
-        b"hold" => {
-            let (from, to) = pair(sizes, args)?;
-            Some(ClusterEvent::Hold { from, to })
-        }
-        b"pass" => {
-            let (from, to) = pair(sizes, args)?;
-            Some(ClusterEvent::Pass { from, to })
-        }
-        b"timeout" => {
-            let (node, to) = pair(sizes, args)?;
-            Some(ClusterEvent::Timeout { node, to })
-        }
-        b"tick" => tick(args),
-        _ => parse_request(sizes, word, args),
+    if is_word(word, b"deliver") {
+        return deliver(sizes, args);
     }
+    if is_word(word, b"flow") {
+        return flow(args);
+    }
+    if is_word(word, b"hold") {
+        let (from, to) = pair(sizes, args)?;
+        return Some(ClusterEvent::Hold { from, to });
+    }
+    if is_word(word, b"pass") {
+        let (from, to) = pair(sizes, args)?;
+        return Some(ClusterEvent::Pass { from, to });
+    }
+    if is_word(word, b"timeout") {
+        let (node, to) = pair(sizes, args)?;
+        return Some(ClusterEvent::Timeout { node, to });
+    }
+    if is_word(word, b"tick") {
+        return tick(args);
+    }
+    parse_request(sizes, word, args)
 }
 
 /// Requests of users; any other word is looked for among the lines on machines and files.
 fn parse_request<'a>(sizes: ClusterSizes, word: &[u8], args: &Args<'a>) -> Option<ClusterEvent<'a>>
     ensures { option_map cluster_event result ≡ requests_by sizes word.now args.now }
 {
-    match word {
-        b"open" => open(sizes, args),
-        b"write" => {
-            let (client, at, bytes) = written(sizes, args)?;
-            Some(ClusterEvent::Write { client, at, bytes })
-        }
-        b"through" => {
-            let (client, at, bytes) = written(sizes, args)?;
-            Some(ClusterEvent::Through { client, at, bytes })
-        }
-        b"fill" => fill(sizes, args),
-        b"commit" => Some(ClusterEvent::Commit(client(sizes, args)?)),
-        b"read" => read(sizes, args),
-        b"return" => Some(ClusterEvent::Return(client(sizes, args)?)),
-        _ => parse_other(sizes, word, args),
+    if is_word(word, b"open") {
+        return open(sizes, args);
     }
+    if is_word(word, b"write") {
+        let (client, at, bytes) = written(sizes, args)?;
+        return Some(ClusterEvent::Write { client, at, bytes });
+    }
+    if is_word(word, b"through") {
+        let (client, at, bytes) = written(sizes, args)?;
+        return Some(ClusterEvent::Through { client, at, bytes });
+    }
+    if is_word(word, b"fill") {
+        return fill(sizes, args);
+    }
+    if is_word(word, b"commit") {
+        return Some(ClusterEvent::Commit(client(sizes, args)?));
+    }
+    if is_word(word, b"read") {
+        return read(sizes, args);
+    }
+    if is_word(word, b"return") {
+        return Some(ClusterEvent::Return(client(sizes, args)?));
+    }
+    parse_other(sizes, word, args)
 }
 
 /// Machines and files.
 fn parse_other<'a>(sizes: ClusterSizes, word: &[u8], args: &Args<'a>) -> Option<ClusterEvent<'a>>
     ensures { option_map cluster_event result ≡ others_by sizes word.now args.now }
 {
-    match word {
-        b"rogue" => Some(ClusterEvent::Rogue(client(sizes, args)?)),
-        b"stray" => stray(sizes, args),
-        b"reboot" => Some(ClusterEvent::Reboot(client(sizes, args)?)),
-        b"restart" => restart(sizes, args),
-        b"recall" => Some(ClusterEvent::Recall(file(args)?)),
-        b"resilver" => Some(ClusterEvent::Resilver(file(args)?)),
-        b"audit" => Some(ClusterEvent::Audit(file(args)?)),
-        _ => None,
+    if is_word(word, b"rogue") {
+        return Some(ClusterEvent::Rogue(client(sizes, args)?));
     }
+    if is_word(word, b"stray") {
+        return stray(sizes, args);
+    }
+    if is_word(word, b"reboot") {
+        return Some(ClusterEvent::Reboot(client(sizes, args)?));
+    }
+    if is_word(word, b"restart") {
+        return restart(sizes, args);
+    }
+    if is_word(word, b"recall") {
+        return Some(ClusterEvent::Recall(file(args)?));
+    }
+    if is_word(word, b"resilver") {
+        return Some(ClusterEvent::Resilver(file(args)?));
+    }
+    if is_word(word, b"audit") {
+        return Some(ClusterEvent::Audit(file(args)?));
+    }
+    None
 }
 
 /// What a line behind the setup says. `None` is a line that no script of this cluster has. Takes no memory.

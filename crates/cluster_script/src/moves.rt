@@ -1,9 +1,7 @@
 //! Packets and time.
 
 ghost use Rattle.std.specs.Prelude.{◌≡◌, option_map};
-ghost use Rattle.ff_script.specs.Pieces.{◌>>=◌};
-ghost use Rattle.cluster_script.specs.ScriptWords.{three_of};
-ghost use Rattle.cluster_script.specs.ClusterLines.{between_from, deliver_by, flow_by, pair_by, tick_by, cluster_event};
+ghost use Rattle.cluster_script.specs.ClusterLines.{between_by, deliver_by, flow_by, pair_by, tick_by, cluster_event};
 
 use crate::args::Args;
 use crate::event::ClusterEvent;
@@ -14,7 +12,7 @@ use ff_script::decimal_at;
 
 /// `deliver A B N`, behind its first word.
 fn deliver_between<'a>(sizes: ClusterSizes, args: &Args<'a>) -> Option<ClusterEvent<'a>>
-    ensures { option_map cluster_event result ≡ (three_of args.now >>= between_from sizes) }
+    ensures { option_map cluster_event result ≡ between_by sizes args.now }
 {
     let (from, to, place) = args.three()?;
     Some(ClusterEvent::DeliverBetween {

@@ -1,9 +1,7 @@
 //! What users ask of clients.
 
 ghost use Rattle.std.specs.Prelude.{◌≡◌, option_map};
-ghost use Rattle.ff_script.specs.Pieces.{◌>>=◌};
-ghost use Rattle.cluster_script.specs.ScriptWords.{two_of, three_of, four_of};
-ghost use Rattle.cluster_script.specs.ClusterLines.{open_from, written_by, fill_from, read_from, client_by, stray_from, cluster_event};
+ghost use Rattle.cluster_script.specs.ClusterLines.{open_by, written_by, fill_by, read_by, client_by, stray_by, cluster_event};
 
 use crate::args::Args;
 use crate::event::ClusterEvent;
@@ -13,7 +11,7 @@ use ff_script::{Digits, decimal_at};
 
 /// `open C NAME`, behind its first word.
 pub fn open<'a>(sizes: ClusterSizes, args: &Args<'a>) -> Option<ClusterEvent<'a>>
-    ensures { option_map cluster_event result ≡ (two_of args.now >>= open_from sizes) }
+    ensures { option_map cluster_event result ≡ open_by sizes args.now }
 {
     let (client, name) = args.two()?;
     Some(ClusterEvent::Open {
@@ -32,7 +30,7 @@ pub fn written<'a>(sizes: ClusterSizes, args: &Args<'a>) -> Option<(u32, u64, Di
 
 /// `fill C AT COUNT BYTE`, behind its first word.
 pub fn fill<'a>(sizes: ClusterSizes, args: &Args<'a>) -> Option<ClusterEvent<'a>>
-    ensures { option_map cluster_event result ≡ (four_of args.now >>= fill_from sizes) }
+    ensures { option_map cluster_event result ≡ fill_by sizes args.now }
 {
     let (client, at, count, byte) = args.four()?;
     Some(ClusterEvent::Fill {
@@ -45,7 +43,7 @@ pub fn fill<'a>(sizes: ClusterSizes, args: &Args<'a>) -> Option<ClusterEvent<'a>
 
 /// `read C AT COUNT`, behind its first word.
 pub fn read<'a>(sizes: ClusterSizes, args: &Args<'a>) -> Option<ClusterEvent<'a>>
-    ensures { option_map cluster_event result ≡ (three_of args.now >>= read_from sizes) }
+    ensures { option_map cluster_event result ≡ read_by sizes args.now }
 {
     let (client, at, count) = args.three()?;
     Some(ClusterEvent::Read {
@@ -64,7 +62,7 @@ pub fn client(sizes: ClusterSizes, args: &Args<'_>) -> Option<u32>
 
 /// `stray C PLACE AT HEX`, behind its first word.
 pub fn stray<'a>(sizes: ClusterSizes, args: &Args<'a>) -> Option<ClusterEvent<'a>>
-    ensures { option_map cluster_event result ≡ (four_of args.now >>= stray_from sizes) }
+    ensures { option_map cluster_event result ≡ stray_by sizes args.now }
 {
     let (client, mirror, at, bytes) = args.four()?;
     Some(ClusterEvent::Stray {

@@ -1,11 +1,20 @@
 //! Numbers, machines, names, places and bytes as words.
 
 ghost use Rattle.std.specs.Prelude.{◌≡◌, ◌≤◌, option_map};
+ghost use Rattle.std.specs.List.{list_all};
+ghost use Rattle.std.specs.Str.{bytes_eq};
 ghost use Rattle.cluster_script.specs.ScriptWords.{within, number_within, place_at, count_at, bytes_at, byte_at, is_of_name, name_at, server_at, client_at, node_at};
 
 use crate::sizes::ClusterSizes;
 use cluster_model::{MAX_FILE, NodeId, PIECE_SIZE};
 use ff_script::{Digits, decimal_at};
+
+/// The word is this one.
+pub fn is_word(word: &[u8], this: &[u8]) -> bool
+    ensures { result ≡ bytes_eq word.now this.now }
+{
+    word == this
+}
 
 /// A number from `low` to `high`.
 pub fn number_within(low: u32, high: u32, word: &[u8]) -> Option<u32>
@@ -53,11 +62,22 @@ fn is_of_name(c: u8) -> bool
     matches!(c, b'a'..=b'z' | b'A'..=b'Z' | b'0'..=b'9' | b'.' | b'_' | b'-')
 }
 
+/// All may stand in a name. The loop has no way out, so that it goes by blocks.
+fn are_of_name(word: &[u8]) -> bool
+    ensures { result ≡ list_all is_of_name word.now }
+{
+    let mut all = true;
+    for c in word {
+        all = all & is_of_name(*c);
+    }
+    all
+}
+
 /// A file's name: 1 to 255 letters, digits, `.`, `_` and `-`.
 pub fn name_at(word: &[u8]) -> Option<&str>
     ensures { option_map (λ n. n.now) result ≡ name_at word.now }
 {
-    if word.is_empty() || word.len() > 255 || !word.iter().all(|c| is_of_name(*c)) {
+    if word.is_empty() || word.len() > 255 || !are_of_name(word) {
         return None;
     }
     str::from_utf8(word).ok()

@@ -1,11 +1,11 @@
 -- What digits in pairs spell, place by place.
-use Rattle.std.proofs.Common.{◌≡◌, ℕ, zero, suc, ◌+◌, ◌*◌, ◌%◌, ◌<◌, Bool, true, false, List, [], ◌∷◌, length, take, get_or, Option, Some, None, is_some, unwrap_or, Ok, refl, sym, ap, ◌∙◌, arith}
+use Rattle.std.proofs.Common.{◌≡◌, ◌≢◌, ℕ, zero, suc, ◌+◌, ◌*◌, ◌%◌, ◌<◌, true, List, [], ◌∷◌, length, get_or, Option, Some, None, is_some, unwrap_or, Ok, refl, sym, ap, ◌∙◌, arith}
 use Rattle.std.specs.List.{list_all}
 use Rattle.std.specs.Result.{result_unwrap_or}
 use Rattle.std.proofs.lemmas.Bool.{and_parts}
-use Rattle.hex.specs.Hex.{hex_digit_value, pair_value, decode_pairs, decode_of}
+use Rattle.hex.specs.Hex.{hex_digit_value, decode_pairs}
 use Rattle.hex.proofs.HexLemmas.{decode_of-even}
-use Rattle.ff_script.specs.Digits.{is_digit, bytes_of_pairs}
+use Rattle.ff_script.specs.Digits.{is_digit, bytes_of_pairs, one_byte}
 use Rattle.ff_script.proofs.Spelling.{hex_from_digit}
 
 abbrev pub value : ℕ → ℕ
@@ -47,3 +47,19 @@ pair_at (a ∷ b ∷ rest) (suc j) h =
     let high : value (get_or all (2 * suc j) 0) ≡ value (get_or rest (2 * j) 0) = ap (λ k. value (get_or all k 0)) first in
     let low : value (get_or all (2 * suc j + 1) 0) ≡ value (get_or rest (2 * j + 1) 0) = ap (λ k. value (get_or all k 0)) second in
     pair_at rest j (omega arith) ∙ sym (ap (λ v. v * 16 + value (get_or all (2 * suc j + 1) 0)) high ∙ ap (λ v. value (get_or rest (2 * j) 0) * 16 + v) low)
+
+-- ---- one byte
+
+pub not_one : (bytes : List ℕ) → length bytes ≢ 1 → one_byte bytes ≡ None
+not_one [] h = refl
+not_one (b ∷ []) h = absurd (h refl)
+not_one (b ∷ c ∷ bytes) h = refl
+
+pub one_pair : (s : List ℕ) → length s ≡ 2 → one_byte (pairs s) ≡ Some (value (get_or s 0 0) * 16 + value (get_or s 1 0))
+one_pair [] h = absurd (omega arith)
+one_pair (a ∷ []) h = absurd (omega arith)
+one_pair (a ∷ b ∷ []) h = refl
+one_pair (a ∷ b ∷ c ∷ s) h = absurd (omega arith)
+
+pub value_is : (c n : ℕ) → hex_digit_value c ≡ Some n → value c ≡ n
+value_is c n h = ap (λ o. unwrap_or o 0) h

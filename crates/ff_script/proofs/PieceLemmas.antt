@@ -74,7 +74,7 @@ five : (f i a n : List ℕ) (texts : List (List ℕ)) → (texts ≡ [] → ⊥)
 five f i a n [] some = absurd (some refl)
 five f i a n (text ∷ texts) some = refl
 
-parts_some : (sep : ℕ) (bs : List ℕ) → parts sep bs ≡ [] → ⊥
+pub parts_some : (sep : ℕ) (bs : List ℕ) → parts sep bs ≡ [] → ⊥
 unfolding parts
 parts_some sep [] h = cc
 parts_some sep (b ∷ bs) h =
