@@ -51,7 +51,11 @@ impl MdsRows {
             return Err(RowFault::Outside);
         }
         let servers = addresses(self.alloc, count)?;
-        if mirrors == 0 || mirrors > MAX_MIRRORS || mirrors as usize > servers.len() || servers.len() > MAX_SERVERS {
+        if mirrors == 0
+            || mirrors > MAX_MIRRORS
+            || mirrors as usize > servers.len()
+            || servers.len() > MAX_SERVERS
+        {
             return Err(RowFault::Outside);
         }
         let config = Config {
