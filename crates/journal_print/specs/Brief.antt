@@ -5,7 +5,8 @@ use Rattle.cluster_model.specs.declared.answer.UserAnswer.{UserAnswer}
 use Rattle.cluster_model.specs.declared.answer.UserAnswer.TheVariants.{Bytes}
 use Rattle.cluster_model.specs.declared.entry.Entry.{Entry}
 use Rattle.cluster_model.specs.declared.entry.Entry.TheVariants.{Packet, Delivered, TimedOut, Hold, Pass, Tick, Sent, Rogue, Told, Applied, ReadAnswer, Answer, Audit}
-use Rattle.cluster_model.specs.Print.{words, words_of, node_text, mirror_text, text_of_bytes, answer_words}
+use Rattle.cluster_model.specs.Wordings.{text_of_bytes, answer_words}
+use Rattle.cluster_model.specs.Print.{words, words_of, node_text, mirror_text}
 
 -- it has a line
 abbrev pub is_brief : Entry → Bool
