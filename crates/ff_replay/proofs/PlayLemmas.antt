@@ -5,7 +5,7 @@ use Rattle.ff_xdr.specs.declared.error.NoMemory.{NoMemory}
 use Rattle.cluster_model.specs.declared.entry.Entry.{Entry}
 use Rattle.cluster_model.specs.Print.{print, line_of}
 use Rattle.line_runs.specs.Writing.{IsBeginningOf, PrintsText}
-use Rattle.ff_world.specs.declared.fault.WorldFault.{WorldFault}
+use Rattle.world_journal.specs.declared.fault.WorldFault.{WorldFault}
 use Rattle.ff_world.specs.World.{WorldValue}
 
 pub print_append : (xs ys : List Entry) → print (xs ++ ys) ≡ print xs ++ print ys

@@ -5,7 +5,7 @@ use Rattle.cluster_model.specs.declared.entry.Entry.{Entry}
 use Rattle.line_runs.specs.declared.end.LineStep.{LineStep}
 use Rattle.line_runs.specs.declared.end.LineStep.TheVariants as step
 use Rattle.line_runs.specs.Writing.{IsBeginningOf}
-use Rattle.ff_world.specs.declared.fault.WorldFault.{WorldFault}
+use Rattle.world_journal.specs.declared.fault.WorldFault.{WorldFault}
 use Rattle.cluster_model.specs.Print.{print}
 use Rattle.ff_world.specs.World.{WorldState, WorldValue}
 use Rattle.ff_replay.specs.Script.{LinePlayed, Outside, Limited, Goes, entries_by, count_of}

@@ -8,11 +8,12 @@ ghost use Rattle.ff_replay.specs.Player.{PlayerPlays, player_of, with_trace};
 
 use crate::writing::print_entries;
 use ff_script::{Event, Line, Setup, parse_line};
-use ff_world::{World, WorldFault};
+use ff_world::World;
 use ff_xdr::{NoMemory, Out};
 use line_runs::{LineStep, LineTask};
 use std::alloc::Global;
 use std::marker::Model;
+use world_journal::WorldFault;
 
 /// The world that a script has made so far.
 #[derive(Drop)]

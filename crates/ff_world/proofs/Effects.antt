@@ -7,10 +7,11 @@ use Rattle.cluster_model.specs.declared.entry.Entry.{Entry}
 use Rattle.cluster_model.specs.Event.{EventValue, Deliver}
 use Rattle.cluster_model.specs.Server.{ServerState}
 use Rattle.ds_files.specs.Receive.{outcome_of}
-use Rattle.ff_world.specs.declared.fault.WorldFault.{WorldFault}
-use Rattle.ff_world.specs.declared.fault.WorldFault.TheVariants.{Limit, NoMemory}
-use Rattle.ff_world.specs.Journal.{is_within}
-use Rattle.ff_world.specs.World.{WorldState, WorldValue, WorldStep, KeepsJournal, Happens, packets_of, sends_of, deliver_entries, effect_of, world_after, step_by_effect, world_step, Occurs, Enters}
+use Rattle.world_journal.specs.declared.fault.WorldFault.{WorldFault}
+use Rattle.world_journal.specs.declared.fault.WorldFault.TheVariants.{Limit, NoMemory}
+use Rattle.world_journal.specs.Journal.{is_within}
+use Rattle.world_journal.specs.SentPackets.{packets_of}
+use Rattle.ff_world.specs.World.{WorldState, WorldValue, WorldStep, KeepsJournal, Happens, sends_of, deliver_entries, effect_of, world_after, step_by_effect, world_step, Occurs, Enters}
 
 -- each record is one packet
 length-packets : (from : NodeId) (sent : ℕ) (sends : List (NodeId × List ℕ)) → length (packets_of from sent sends) ≡ length sends

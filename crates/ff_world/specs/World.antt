@@ -12,9 +12,10 @@ use Rattle.cluster_model.specs.Event.{EventValue, Deliver, Restart}
 use Rattle.cluster_model.specs.Server.{ServerState, preset_server, restart_of}
 use Rattle.ds_files.specs.Receive.{Outcome, outcome_of}
 use Rattle.ds_files.specs.Records.{sent_to}
-use Rattle.ff_world.specs.declared.fault.WorldFault.{WorldFault}
-use Rattle.ff_world.specs.declared.fault.WorldFault.TheVariants.{Limit, NoMemory}
-use Rattle.ff_world.specs.Journal.{max_entries, is_within}
+use Rattle.world_journal.specs.declared.fault.WorldFault.{WorldFault}
+use Rattle.world_journal.specs.declared.fault.WorldFault.TheVariants.{Limit, NoMemory}
+use Rattle.world_journal.specs.Journal.{max_entries, is_within}
+use Rattle.world_journal.specs.SentPackets.{packets_of}
 
 -- ---- the world
 
@@ -47,11 +48,6 @@ pub record WorldEffect : Type 0 where
 
 abbrev pub no_effect : WorldState → WorldEffect
 no_effect w = record { server = w.server; sent = w.sent; entries = [] }
-
--- Each record that a machine sends becomes a packet, in order, with the next number.
-abbrev pub packets_of : NodeId → ℕ → List (NodeId × List ℕ) → List Entry
-packets_of from sent [] = []
-packets_of from sent ((to, bytes) ∷ rest) = Packet (sent + 1) from to bytes ∷ packets_of from (sent + 1) rest
 
 -- what a data server sends to client 0: its reply, where there is one
 abbrev pub sends_of : Outcome → List (NodeId × List ℕ)

@@ -1,20 +1,18 @@
 //! The world of a script.
 
 ghost use Rattle.std.specs.Prelude.{◌≡◌, ◌+◌, ◌<◌, ◌≤◌, ◌^◌, [], ◌∷◌, IfOk, Err, Some, None, length, option_copied};
-ghost use Rattle.ff_world.specs.declared.fault.WorldFault.{WorldFault};
+ghost use Rattle.world_journal.specs.declared.fault.WorldFault.{WorldFault};
 ghost use Rattle.ff_script.specs.Line.{event_value};
 ghost use Rattle.cluster_model.specs.Event.{Deliver, Restart};
 ghost use Rattle.ff_world.specs.World.{preset_world, server_at, deliver_entries, Meets, Happens, Enters};
 
-use crate::fault::WorldFault;
-use crate::journal::Journal;
-use crate::packets::push_packets;
 use cluster_model::{Entry, NodeId, Outbox, Pieces};
 use ds_files::{DataServer, RestartFault};
 use ff_script::{Event, Setup};
 use ff_xdr::{Data, NoMemory};
 use std::alloc::Global;
 use std::marker::Model;
+use world_journal::{Journal, WorldFault, push_packets};
 
 /// The client that a bare script's records come from.
 const CLIENT: NodeId = NodeId::Client(0);

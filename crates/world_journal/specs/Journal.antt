@@ -1,10 +1,10 @@
 -- The journal of a world, and its limits.
 use Rattle.std.specs.Prelude.{◌≡◌, ℕ, ◌+◌, ◌≤◌, Bool, true, false, ◌&&◌, nat_le, if◌then◌else◌, List, ◌++◌, length, Option, Some, None, Result, Ok, Err}
-use Rattle.ff_world.specs.declared.journal.TheConstants.{MAX_ENTRIES, MAX_HEX}
+use Rattle.world_journal.specs.declared.journal.TheConstants.{MAX_ENTRIES, MAX_HEX}
 use Rattle.cluster_model.specs.declared.entry.Entry.{Entry}
 use Rattle.cluster_model.specs.Print.{hex_of}
-use Rattle.ff_world.specs.declared.fault.WorldFault.{WorldFault}
-use Rattle.ff_world.specs.declared.fault.WorldFault.TheVariants.{Limit, NoMemory}
+use Rattle.world_journal.specs.declared.fault.WorldFault.{WorldFault}
+use Rattle.world_journal.specs.declared.fault.WorldFault.TheVariants.{Limit, NoMemory}
 
 -- the most entries of a journal, and the most bytes that stand in it as hexadecimal: 256 MiB
 abbrev pub max_entries : ℕ

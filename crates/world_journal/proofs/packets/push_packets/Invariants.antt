@@ -1,7 +1,7 @@
 use Rattle.std.proofs.Common.{◌≡◌, ◌+◌, ◌++◌, length}
 use Rattle.std.specs.Vec.Iter.{into_iter_items}
-use Rattle.ff_world.specs.World.{packets_of}
-use Rattle.ff_world.proofs.packets.push_packets.Given as goal
+use Rattle.world_journal.specs.SentPackets.{packets_of}
+use Rattle.world_journal.proofs.packets.push_packets.Given as goal
 
 abbrev pub invariant-loop-to : goal.invariant-loop-to
 invariant-loop-to l = record {

@@ -16,7 +16,7 @@ pub enum WorldFault {
 
 impl From<NoMemory> for WorldFault {
     ghost use Rattle.std.specs.Prelude.{◌≡◌};
-    ghost use Rattle.ff_world.specs.declared.fault.WorldFault.TheVariants.{NoMemory};
+    ghost use Rattle.world_journal.specs.declared.fault.WorldFault.TheVariants.{NoMemory};
 
     ghost from_gives = { λ _ e. e ≡ NoMemory };
 

@@ -1,7 +1,7 @@
 use Rattle.std.proofs.Common.{◌≡◌, ◌+◌, ◌≤◌, take}
-use Rattle.ff_world.specs.Journal.{max_hex}
+use Rattle.world_journal.specs.Journal.{max_hex}
 use Rattle.cluster_model.specs.Print.{hex_of}
-use Rattle.ff_world.proofs.journal.add_hex.Given as goal
+use Rattle.world_journal.proofs.journal.add_hex.Given as goal
 
 abbrev pub invariant-loop-entry : goal.invariant-loop-entry
 invariant-loop-entry l = record {

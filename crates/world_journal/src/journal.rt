@@ -2,7 +2,7 @@
 
 ghost use Rattle.std.specs.Prelude.{◌≡◌, ◌+◌, ◌≤◌, [], length, true};
 ghost use Rattle.cluster_model.specs.Print.{hex_len, hex_of};
-ghost use Rattle.ff_world.specs.Journal.{AddsEntries, is_within, within, hex_within, max_entries, max_hex};
+ghost use Rattle.world_journal.specs.Journal.{AddsEntries, is_within, within, hex_within, max_entries, max_hex};
 
 use crate::fault::WorldFault;
 use cluster_model::{Entry, UserAnswer};
@@ -26,7 +26,7 @@ impl Model for Journal {
     ghost use Rattle.std.specs.Prelude.{◌≡◌, List};
     ghost use Rattle.cluster_model.specs.declared.entry.Entry.{Entry};
     ghost use Rattle.cluster_model.specs.Print.{hex_of};
-    ghost use Rattle.ff_world.specs.Journal.{IsBounded};
+    ghost use Rattle.world_journal.specs.Journal.{IsBounded};
 
     ghost Value = { List Entry };
 

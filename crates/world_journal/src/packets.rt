@@ -1,7 +1,7 @@
 //! What machines send, as packets.
 
 ghost use Rattle.std.specs.Prelude.{◌≡◌, ◌+◌, ◌<◌, ◌^◌, ◌++◌, length, OnOk};
-ghost use Rattle.ff_world.specs.World.{packets_of};
+ghost use Rattle.world_journal.specs.SentPackets.{packets_of};
 
 use cluster_model::{Entry, NodeId};
 use ff_xdr::{Data, NoMemory};
