@@ -33,6 +33,8 @@ pub record ClusterState : Type 0 where
   -- in seconds
   pub now : ℕ
   pub held : List (NodeId × NodeId)
+  -- how many packets were sent so far
+  pub sent : ℕ
   pub journal : List Entry
 
 -- so many data servers, of which each file is to have so many, and clients, before any event
@@ -42,6 +44,7 @@ new_cluster servers mirrors clients = record {
   verifiers = replicate clients 1;
   now = 0;
   held = [];
+  sent = 0;
   journal = [];
 }
 
@@ -56,7 +59,7 @@ packets w = packets_in w.journal w.held
 -- A machine's part of an event: its entries come first, and then a packet for each record that it sends, with the next number.
 abbrev pub acting : NodeId → Act → ClusterState → ClusterState
 acting node a w =
-    record w { machines = a.machines; journal = w.journal ++ (a.entries ++ packets_of node (length (packets w).notes) a.sends) }
+    record w { machines = a.machines; sent = w.sent + length a.sends; journal = w.journal ++ (a.entries ++ packets_of node w.sent a.sends) }
 
 -- ---- packets
 

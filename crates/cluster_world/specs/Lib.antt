@@ -1,2 +1,4 @@
 pub mod Sent
+pub mod Drafts
 pub mod ClusterWorlds
+pub mod WorldSteps

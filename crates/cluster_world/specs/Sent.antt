@@ -1,30 +1,24 @@
 -- The packets of a journal: what was sent, in order, and which of it came.
-use Rattle.std.specs.Prelude.{ℕ, ◌+◌, Bool, true, false, ◌==◌, List, [], ◌∷◌, ◌++◌, length, Option, Some, None, slice_get}
-use Rattle.std.specs.List.{list_any}
+use Rattle.std.specs.Prelude.{ℕ, ◌+◌, ◌-◌, Bool, false, List, [], ◌∷◌, ◌++◌, Option, Some, None, slice_get}
 use Rattle.cluster_model.specs.declared.ids.NodeId.{NodeId}
 use Rattle.cluster_model.specs.declared.entry.Entry.{Entry}
 use Rattle.cluster_model.specs.declared.entry.Entry.TheVariants.{Packet, Delivered}
-use Rattle.packet_table.specs.declared.note.PacketNote.{PacketNote}
-use Rattle.packet_table.specs.Packets.{PacketsValue}
+use Rattle.packet_table.specs.Packets.{PacketsValue, no_packets, with_packet, after_coming}
 
--- the packet of this number came
-abbrev pub is_coming_of : ℕ → Entry → Bool
-is_coming_of number (Delivered other) = other == number
-is_coming_of number e = false
+-- what an entry says of packets: one was sent, which stands at this place of the journal, or one came
+abbrev pub noting : PacketsValue → ℕ → Entry → PacketsValue
+noting p place (Packet number from to bytes) = with_packet from to place p
+noting p place (Delivered number) = after_coming number p
+noting p place e = p
 
-abbrev pub has_come : List Entry → ℕ → Bool
-has_come journal number = list_any (is_coming_of number) journal
-
--- those of entries that stand from this place of the journal on
-abbrev pub noted_in : List Entry → ℕ → List Entry → List PacketNote
-noted_in journal place [] = []
-noted_in journal place (Packet number from to bytes ∷ entries) =
-    record { from = from; to = to; place = place; came = has_come journal number } ∷ noted_in journal (place + 1) entries
-noted_in journal place (e ∷ entries) = noted_in journal (place + 1) entries
+-- entries that stand from this place on
+abbrev pub noting_all : PacketsValue → ℕ → List Entry → PacketsValue
+noting_all p place [] = p
+noting_all p place (e ∷ entries) = noting_all (noting p place e) (place + 1) entries
 
 -- all packets of a journal, and the pairs between which they are held
 abbrev pub packets_in : List Entry → List (NodeId × NodeId) → PacketsValue
-packets_in journal held = record { notes = noted_in journal 0 journal; held = held }
+packets_in journal held = noting_all (record { notes = []; held = held }) 0 journal
 
 -- the bytes of the packet that stands at a place of the journal
 abbrev pub bytes_of_packet : Option Entry → List ℕ
