@@ -1,5 +1,5 @@
 -- The packets that machines have sent, in order: which came, and which wait to come.
-use Rattle.std.specs.Prelude.{ℕ, ◌+◌, ◌-◌, Bool, false, not, ◌==◌, ◌&&◌, List, [], ◌∷◌, ◌++◌, filter, position, Option, Some, None, option_map, if◌then◌else◌, slice_get, slice_set}
+use Rattle.std.specs.Prelude.{ℕ, ◌+◌, ◌-◌, Bool, true, false, not, ◌==◌, ◌&&◌, List, [], ◌∷◌, ◌++◌, filter, position, Option, Some, None, option_map, if◌then◌else◌, slice_get, slice_set}
 use Rattle.std.specs.List.{list_any}
 use Rattle.cluster_model.specs.declared.ids.NodeId.{NodeId}
 use Rattle.cluster_model.specs.Nodes.{is_node}

@@ -1,10 +1,13 @@
 //! The packets that were sent, and what waits.
 
 ghost use Rattle.std.specs.Prelude.{◌≡◌, length, OnOk, OnErr};
-ghost use Rattle.packet_table.specs.Packets.{no_packets, packet_numbered, number_between, is_held, waits, next_waiting, with_packet, after_coming, after_hold, after_pass};
+ghost use Rattle.packet_table.specs.Packets.{no_packets, packet_numbered, number_between, is_held, next_waiting, with_packet, after_coming, after_hold, after_pass};
 
-use crate::line::{PacketLine, pair_key};
-use crate::note::PacketNote;
+use crate::key::pair_key;
+use crate::line::PacketLine;
+use crate::lines::{front_of, number_at, put_number, set_front};
+use crate::note::{PacketNote, mark_came, numbered};
+use crate::waiting::{first_waiting, is_pair_among, low_before};
 use cluster_model::NodeId;
 use ff_xdr::NoMemory;
 use indexmap::IndexMap;
@@ -15,20 +18,23 @@ use std::marker::Model;
 /// first that waits is found without going over those that came.
 #[derive(Drop)]
 pub struct Packets {
-    alloc: Global,
     notes: Vec<PacketNote>,
+    // the numbers of the packets from one machine to another
     lines: IndexMap<u128, PacketLine>,
     held: Vec<(NodeId, NodeId)>,
-    /// Of so many of the first packets none waits.
+    // of so many of the first packets none waits
     low: usize,
 }
 
 impl Model for Packets {
     ghost use Rattle.packet_table.specs.Packets.{PacketsValue};
+    ghost use Rattle.packet_table.specs.PacketLines.{AreFound};
 
     ghost Value = { PacketsValue };
 
     ghost view = { λ p. record { notes = p.notes.items; held = p.held.items } };
+
+    ghost invariant = { λ p. AreFound p.notes.items p.held.items p.lines.entries p.low };
 }
 
 impl Packets {
@@ -37,7 +43,6 @@ impl Packets {
         ensures { result ≡ no_packets }
     {
         Packets {
-            alloc,
             notes: Vec::new(alloc),
             lines: IndexMap::new(alloc),
             held: Vec::new(alloc),
@@ -52,59 +57,51 @@ impl Packets {
         self.notes.len() as u64
     }
 
-    /// The packet of a number.
+    /// The packet of a number, from 1; `None` where so many were not sent.
     pub fn get(&self, number: u64) -> Option<PacketNote>
         ensures { result ≡ packet_numbered self.now number }
     {
-        let place = number.checked_sub(1)?;
-        self.notes.get(place as usize).copied()
+        numbered(number, self.notes.as_slice())
     }
 
-    /// The number of the nth packet, from 1, from one machine to another. It costs the same whatever was sent.
+    /// The number of the nth packet, from 1, from one machine to another; `None` where so many were not sent. It costs the same
+    /// whatever was sent.
     pub fn between(&self, from: NodeId, to: NodeId, n: u64) -> Option<u64>
         ensures { result ≡ number_between self.now from to n }
     {
         let place = n.checked_sub(1)?;
-        let line = self.lines.get(&pair_key(from, to))?;
-        line.numbers.get(place as usize).copied()
+        number_at(&self.lines, pair_key(from, to), place as usize)
     }
 
     /// Packets from one machine to another are held. It costs by how many pairs are.
     pub fn is_held(&self, from: NodeId, to: NodeId) -> bool
         ensures { result ≡ is_held self.now.held from to }
     {
-        self.held.iter().any(|pair| pair.0 == from && pair.1 == to)
+        is_pair_among(self.held.as_slice(), from, to)
     }
 
-    /// A packet never came, and is not held.
-    fn waits(&self, note: PacketNote) -> bool
-        ensures { result ≡ waits self.now.held note }
-    {
-        !note.came && !self.is_held(note.from, note.to)
-    }
-
-    /// The number of the first packet that waits.
+    /// The number of the first packet that waits. Packets are gone over once, but for what `pass` asks; each that has not come costs
+    /// by how many pairs are held.
     pub fn next(&mut self) -> Option<u64>
         ensures next { result ≡ next_waiting self.old }
         ensures same { self.new ≡ self.old }
     {
-        while self.low < self.notes.len() {
-            if self.waits(self.notes[self.low]) {
-                return Some(self.low as u64 + 1);
-            }
-            self.low += 1;
+        self.low = first_waiting(self.notes.as_slice(), self.held.as_slice(), self.low);
+        if self.low >= self.notes.len() {
+            return None;
         }
-        None
+        Some(self.low as u64 + 1)
     }
 
     /// A packet is sent, which stands at this place of the journal. Takes memory; where it is wanted nothing has changed.
     pub fn push(&mut self, from: NodeId, to: NodeId, place: u64) -> Result<(), NoMemory>
-        ensures { OnOk result (self.new ≡ with_packet from to place self.old) }
+        ensures sent { OnOk result (self.new ≡ with_packet from to place self.old) }
         ensures same { OnErr result (self.new ≡ self.old) }
     {
         self.notes.reserve(1)?;
         let number = self.notes.len() as u64 + 1;
-        self.put_number(pair_key(from, to), number)?;
+        put_number(&mut self.lines, pair_key(from, to), number)?;
+        // there is room for it, so it does not fail
         self.notes.push(PacketNote {
             from,
             to,
@@ -114,34 +111,36 @@ impl Packets {
         Ok(())
     }
 
-    /// A packet came, for the first time or again.
+    /// The packet of this number came, for the first time or again; where there is none nothing changes.
     pub fn came(&mut self, number: u64)
         ensures { self.new ≡ after_coming number self.old }
     {
-        let Some(place) = number.checked_sub(1) else {
-            return;
-        };
-        if let Some(note) = self.notes.get_mut(place as usize) {
-            note.came = true;
-        }
+        mark_came(number, &mut self.notes);
     }
 
-    /// Packets from one machine to another are held from now on. Takes memory; where it is wanted nothing has changed.
+    /// Packets from one machine to another are held from now on. It costs by how many pairs are. Takes memory; where it is wanted
+    /// nothing has changed.
     pub fn hold(&mut self, from: NodeId, to: NodeId) -> Result<(), NoMemory>
-        ensures { OnOk result (self.new ≡ after_hold from to self.old) }
+        ensures held { OnOk result (self.new ≡ after_hold from to self.old) }
         ensures same { OnErr result (self.new ≡ self.old) }
     {
-        if !self.is_held(from, to) {
-            self.held.push((from, to))?;
+        if is_pair_among(self.held.as_slice(), from, to) {
+            return Ok(());
         }
+        self.held.push((from, to))?;
         Ok(())
     }
 
-    /// Packets from one machine to another are held no longer. Those of them that came at first are not looked at again.
+    /// Packets from one machine to another are held no longer. It costs by how many pairs are held, and by those of the packets that
+    /// came, of which each is looked at once for all calls.
     pub fn pass(&mut self, from: NodeId, to: NodeId)
         ensures { self.new ≡ after_pass from to self.old }
     {
+        let key = pair_key(from, to);
+        let front = front_of(&self.lines, key, self.notes.as_slice());
+        let first = number_at(&self.lines, key, front);
+        set_front(&mut self.lines, key, front);
         self.held.retain(|pair| !(pair.0 == from && pair.1 == to));
-        self.look_back(from, to);
+        self.low = low_before(self.low, first);
     }
 }
