@@ -1,6 +1,6 @@
 -- The world of a cluster: its machines, the moment, which packets are held, and the journal. One event is one line of a script, or one
 -- delivery of a flow.
-use Rattle.std.specs.Prelude.{ℕ, zero, suc, ◌+◌, ◌-◌, Bool, true, false, List, [], ◌∷◌, ◌++◌, length, map, replicate, take, nat_lt, Option, Some, None, if◌then◌else◌, slice_get, slice_set}
+use Rattle.std.specs.Prelude.{ℕ, zero, suc, ◌+◌, ◌-◌, ◌%◌, ◌^◌, Bool, true, false, not, List, [], ◌∷◌, ◌++◌, length, map, replicate, take, nat_lt, Option, Some, None, if◌then◌else◌, slice_get, slice_set}
 use Rattle.std.specs.List.{range_with_len}
 use Rattle.cluster_model.specs.declared.ids.NodeId.{NodeId}
 use Rattle.cluster_model.specs.declared.ids.NodeId.TheVariants.{Mds, Server, Client}
@@ -99,20 +99,23 @@ ticking seconds w =
 abbrev pub asking : ℕ → UserRequest → ClusterState → ClusterState
 asking n asked w = acting (Client n) (is_asked n asked w.machines) w
 
--- the client starts anew with its next verifier; one that left stays as it is
-abbrev pub next_verifier : ℕ → Option ClientValue → List ℕ → Option ℕ → List ℕ
-next_verifier n None verifiers was = verifiers
-next_verifier n (Some c) verifiers None = verifiers
-next_verifier n (Some c) verifiers (Some was) = if c.has_left then verifiers else slice_set verifiers (n - 1) (was + 1)
+-- the verifier of the next start, a number of 64 bits
+abbrev pub verifier_after : Option ℕ → ℕ
+verifier_after None = 0
+verifier_after (Some verifier) = (verifier + 1) % (2 ^ 64)
 
-abbrev pub verifier_or_none : Option ℕ → ℕ
-verifier_or_none None = 0
-verifier_or_none (Some verifier) = verifier
+-- a client that is there and has not left starts anew
+abbrev pub may_start : Option ClientValue → Bool
+may_start None = false
+may_start (Some c) = not c.has_left
+
+abbrev pub with_verifier : ℕ → ℕ → Bool → List ℕ → List ℕ
+with_verifier n verifier starts verifiers = if starts then slice_set verifiers (n - 1) verifier else verifiers
 
 abbrev pub rebooting : ℕ → ClusterState → ClusterState
 rebooting n w =
-    let was = nth w.verifiers n in
-    record (acting (Client n) (client_acts n (starts_anew n (verifier_or_none was + 1)) w.machines) w) { verifiers = next_verifier n (nth w.machines.clients n) w.verifiers was }
+    let verifier = verifier_after (nth w.verifiers n) in
+    record (acting (Client n) (client_acts n (starts_anew n verifier) w.machines) w) { verifiers = with_verifier n verifier (may_start (nth w.machines.clients n)) w.verifiers }
 
 -- ---- what stands in a file: of each live mirror how many bytes it shows, and the first 64 of them
 

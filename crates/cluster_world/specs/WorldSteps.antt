@@ -1,20 +1,15 @@
 -- The world of a cluster in the code: what an event did to it.
-use Rattle.std.specs.Prelude.{◌≡◌, ℕ, ◌≤◌, Bool, true, false, List, length, Option, Some, None, Result, Ok, Err}
+use Rattle.std.specs.Prelude.{◌≡◌, ℕ, ◌+◌, ◌*◌, ◌≤◌, Bool, true, false, List, ◌++◌, length, Option, Some, None, Result, Ok, Err}
 use Rattle.cluster_model.specs.declared.limits.TheConstants.{PIECE_SIZE}
 use Rattle.cluster_model.specs.declared.entry.Entry.{Entry}
-use Rattle.cluster_model.specs.Event.{EventValue, Deliver, DeliverPacket, DeliverBetween, Flow, Hold, Pass, Timeout, Tick, Open, Write, Through, Fill, Commit, Read, Return, Rogue, Stray, Reboot, Recall, Resilver, Audit, Restart}
+use Rattle.cluster_model.specs.Event.{EventValue, Open, Write, Through, Fill, Stray}
 use Rattle.world_journal.specs.declared.fault.WorldFault.{WorldFault}
 use Rattle.world_journal.specs.declared.fault.WorldFault.TheVariants.{Limit, NoMemory}
-use Rattle.world_journal.specs.declared.journal.TheConstants.{MAX_ENTRIES}
 use Rattle.world_journal.specs.Journal.{is_within}
-use Rattle.packet_table.specs.Packets.{PacketsValue, next_waiting}
+use Rattle.packet_table.specs.Packets.{PacketsValue}
+use Rattle.cluster_world.specs.Drafts.{DraftValue}
 use Rattle.cluster_world.specs.Sent.{packets_in}
-use Rattle.cluster_world.specs.ClusterWorlds.{ClusterState, packets, behind, delivering}
-
--- a world, and what it is spent by
-pub record ClusterValue : Type 0 where
-  pub world : ClusterState
-  pub spent : Option WorldFault
+use Rattle.cluster_world.specs.ClusterWorlds.{ClusterState, delivering}
 
 -- ---- what an event asks of who lets it happen: the ranges of a script
 
@@ -26,27 +21,53 @@ IsOfScript (Fill client at count byte) = (1 ≤ count) × (count ≤ PIECE_SIZE)
 IsOfScript (Stray client place at bytes) = length bytes ≤ PIECE_SIZE
 IsOfScript event = Unit {0}
 
--- ---- what holds of the code's world
+-- ---- a world that is not spent, in the code
 
--- the journal is within its limits, and each packet is an entry of it
-pub record IsSound (sent : ℕ) (journal : List Entry) : Type 0 where
+-- the world, and the packets as they are found
+pub record StageValue : Type 0 where
+  pub world : ClusterState
+  pub packets : PacketsValue
+
+-- the journal is within its limits, each packet is an entry of it, and time passed by its entries
+pub record IsSound (sent now : ℕ) (journal : List Entry) : Type 0 where
   pub within : is_within journal ≡ true
   pub sent_few : sent ≤ length journal
+  pub early : now ≤ 4294967296 * length journal
 
--- the packets are those of the journal, in a world that is not spent
-abbrev pub AreNoted : Option WorldFault → PacketsValue → List Entry → Type 0
-AreNoted None p journal = p ≡ packets_in journal p.held
-AreNoted (Some fault) p journal = Unit {0}
+-- the packets are those of the journal
+abbrev pub IsNoted : StageValue → Type 0
+IsNoted s = s.packets ≡ packets_in s.world.journal s.world.held
 
--- ---- one event
+-- What it comes to that it is to become this world: it has; it would pass a limit; or memory was wanted. In the last two its journal is as
+-- it was, and it is not to be used again.
+abbrev pub ComesTo : StageValue → ClusterState → Result (Unit {0}) WorldFault → StageValue → Type 0
+ComesTo old new (Ok done) s = (is_within new.journal ≡ true) × (s.world ≡ new) × IsNoted s
+ComesTo old new (Err (Limit count)) s = (is_within new.journal ≡ false) × (count ≡ length old.world.journal) × (s.world.journal ≡ old.world.journal)
+ComesTo old new (Err NoMemory) s = s.world.journal ≡ old.world.journal
+
+-- the world with the entries of an event so far
+abbrev pub drafted : ClusterState → DraftValue → ClusterState
+drafted w d = record w { sent = d.sent; journal = w.journal ++ d.entries }
+
+-- ---- a world, and what it is spent by
+
+pub record ClusterValue : Type 0 where
+  pub world : ClusterState
+  pub packets : PacketsValue
+  pub spent : Option WorldFault
+
+abbrev pub AreNoted : Option WorldFault → StageValue → Type 0
+AreNoted None s = IsNoted s
+AreNoted (Some fault) s = Unit {0}
 
 -- it happened
-pub record Happened (old : ClusterState) (new : ClusterState) (value : ClusterValue) : Type 0 where
+pub record Happened (new : ClusterState) (value : ClusterValue) : Type 0 where
   pub within : is_within new.journal ≡ true
-  pub is : value ≡ record { world = new; spent = None }
+  pub world : value.world ≡ new
+  pub spent : value.spent ≡ None
 
 -- it would pass a limit, and the world is spent by it, with the journal as it was
-pub record Stays (old : ClusterState) (new : ClusterState) (count : ℕ) (value : ClusterValue) : Type 0 where
+pub record Stays (old new : ClusterState) (count : ℕ) (value : ClusterValue) : Type 0 where
   pub past : is_within new.journal ≡ false
   pub told : count ≡ length old.journal
   pub journal : value.world.journal ≡ old.journal
@@ -54,14 +75,14 @@ pub record Stays (old : ClusterState) (new : ClusterState) (count : ℕ) (value 
 
 -- What it comes to that a world, which was not spent, is to become this one: it has; it would pass a limit; or memory was wanted.
 abbrev pub Becomes : ClusterState → ClusterState → Result (Unit {0}) WorldFault → ClusterValue → Type 0
-Becomes old new (Ok done) value = Happened old new value
+Becomes old new (Ok done) value = Happened new value
 Becomes old new (Err (Limit count)) value = Stays old new count value
 Becomes old new (Err NoMemory) value = (value.world.journal ≡ old.journal) × (value.spent ≡ Some NoMemory)
 
 -- one delivery of a flow: none waits, and nothing has changed; or the first that waits came
 abbrev pub Flows : ClusterState → Option ℕ → Result Bool WorldFault → ClusterValue → Type 0
-Flows old None (Ok more) value = (more ≡ false) × (value ≡ record { world = old; spent = None })
+Flows old None (Ok more) value = (more ≡ false) × (value.world ≡ old) × (value.spent ≡ None)
 Flows old None (Err fault) value = ⊥
-Flows old (Some number) (Ok more) value = (more ≡ true) × Happened old (delivering number old) value
+Flows old (Some number) (Ok more) value = (more ≡ true) × Happened (delivering number old) value
 Flows old (Some number) (Err (Limit count)) value = Stays old (delivering number old) count value
 Flows old (Some number) (Err NoMemory) value = (value.world.journal ≡ old.journal) × (value.spent ≡ Some NoMemory)

@@ -2,7 +2,10 @@
 #![tactic(auto)]
 
 mod draft;
-mod events;
+mod packets;
+mod stage;
+mod time;
+mod users;
 mod world;
 
 pub use world::ClusterWorld;
