@@ -5,3 +5,4 @@ pub mod Records
 pub mod Posts
 pub mod Laws
 pub mod Presets
+pub mod Stored

@@ -1,10 +1,11 @@
 //! A data server.
 
-ghost use Rattle.std.specs.Prelude.{◌≡◌, ◌≤◌, ◌↔◌, IfOk, OnOk, OnErr, Some, None, Err};
+ghost use Rattle.std.specs.Prelude.{◌≡◌, ◌≤◌, ◌↔◌, IfOk, OnOk, OnErr, Some, None, Err, option_copied};
 ghost use Rattle.rpc_record.specs.Rpc.{plain_credential};
 ghost use Rattle.nfs3_wire.specs.Calls.{plain_call};
 ghost use Rattle.cluster_model.specs.Server.{new_server, preset_server, restart_of, max_ticks};
 ghost use Rattle.ds_files.specs.Presets.{preset_after};
+ghost use Rattle.ds_files.specs.Stored.{stored_at};
 ghost use Rattle.ds_procedures.specs.Steps.{step_of};
 ghost use Rattle.ds_procedures.specs.Answer.{answer_of};
 ghost use Rattle.ds_files.specs.Receive.{received, outcome_of, outcome_of_step};
@@ -74,6 +75,14 @@ impl Model for DataServer {
 }
 
 impl DataServer {
+    /// The data file of a fileid, where there is one; the root is none.
+    pub fn file(&self, fileid: u64) -> Option<&DataFile>
+        ensures { option_copied result ≡ stored_at self.now.files fileid }
+    {
+        let place = fileid.checked_sub(2)?;
+        self.files.get(place as usize)
+    }
+
     /// A root and no files, by the server's number and its boot number, which is at least 1. Takes no
     /// memory.
     pub fn new(alloc: Global, number: u32, boot: u32) -> DataServer

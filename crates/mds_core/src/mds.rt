@@ -1,8 +1,9 @@
 //! A metadata server.
 
-ghost use Rattle.std.specs.Prelude.{◌≡◌, ◌≤◌, true, false, [], ◌++◌, length, IfOk, OnOk, OnErr};
+ghost use Rattle.std.specs.Prelude.{◌≡◌, ◌≤◌, true, false, [], ◌++◌, length, IfOk, OnOk, OnErr, option_map};
 ghost use Rattle.node_config.specs.Configs.{config_value};
 ghost use Rattle.node_config.specs.declared.config.TheConstants.{MAX_MIRRORS, MAX_SERVERS};
+ghost use Rattle.mds_rule.specs.MdsStates.{served};
 ghost use Rattle.mds_rule.specs.Events.{takes_record, takes_timeout, takes_tick, takes_recall, takes_resilver};
 ghost use Rattle.mds_core.specs.MdsSteps.{fresh_server, MdsStepsBy};
 
@@ -10,7 +11,7 @@ use crate::asks::{recall, resilver};
 use crate::receive::receive;
 use crate::ticks::tick;
 use crate::timeouts::time_out_first;
-use cluster_model::{FileId, NodeId, Outbox};
+use cluster_model::{FileId, Mirrors, NodeId, Outbox};
 use device_addr::NetAddr;
 use ff_xdr::NoMemory;
 use mds_state::{ServerList, State};
@@ -50,6 +51,16 @@ impl Mds {
             state,
             is_spent: false,
         })
+    }
+
+    /// The live mirrors of a file, where there is such a file.
+    pub fn live(&self, file: FileId) -> Option<Mirrors>
+        ensures { result ≡ option_map (λ s. s.file.layout.live) (served self.now.mds file) }
+    {
+        match self.state.files.get(file) {
+            Some(served) => Some(served.state().live()),
+            None => None,
+        }
     }
 
     /// Begins a step. The server counts as spent until the step has ended, so that an error on the way leaves it so.
