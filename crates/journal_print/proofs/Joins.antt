@@ -8,8 +8,9 @@ use Rattle.cluster_model.specs.declared.phase.LeftCause.{LeftCause}
 use Rattle.cluster_model.specs.declared.phase.LeftCause.TheVariants as leaving
 use Rattle.cluster_model.specs.declared.answer.UserAnswer.{UserAnswer}
 use Rattle.cluster_model.specs.declared.answer.UserAnswer.TheVariants as answer
-use Rattle.cluster_model.specs.Wordings.{left_words, answer_words}
+use Rattle.cluster_model.specs.Wordings.{left_words}
 use Rattle.cluster_model.specs.Print.{words, joined, list_text}
+use Rattle.journal_print.specs.Brief.{answer_by}
 
 -- the digits of joined bytes
 pub encode_with-append : (t xs ys : List ℕ) → encode_with t (xs ++ ys) ≡ encode_with t xs ++ encode_with t ys
@@ -24,13 +25,13 @@ left_line w (leaving.Error status) = refl
 left_line w leaving.Timeouts = refl
 left_line w leaving.Unsynced = refl
 
-pub answer_line : (w : List ℕ) (said : UserAnswer) → words (w ∷ answer_words said) ≡ w ++ 32 ∷ words (answer_words said)
-answer_line w (answer.Opened file) = refl
-answer_line w answer.Written = refl
-answer_line w (answer.Committed writes) = refl
-answer_line w (answer.Bytes eof bytes) = refl
-answer_line w answer.Returned = refl
-answer_line w (answer.Failed why) = refl
+pub answer_line : (show : List ℕ → List ℕ) (w : List ℕ) (said : UserAnswer) → words (w ∷ answer_by show said) ≡ w ++ 32 ∷ words (answer_by show said)
+answer_line show w (answer.Opened file) = refl
+answer_line show w answer.Written = refl
+answer_line show w (answer.Committed writes) = refl
+answer_line show w (answer.Bytes eof bytes) = refl
+answer_line show w answer.Returned = refl
+answer_line show w (answer.Failed why) = refl
 
 -- the first text of a list, and the others each behind a comma
 joined_more : {T : Type 0} (text : T → List ℕ) (x : T) (xs : List T) → joined 44 (map text (x ∷ xs)) ≡ text x ++ flat_map (λ y. 44 ∷ text y) xs

@@ -1,3 +1,4 @@
 pub mod Joins
+pub mod LineData
 pub mod Reading
 pub mod Distinct

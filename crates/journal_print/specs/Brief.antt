@@ -5,7 +5,7 @@ use Rattle.cluster_model.specs.declared.answer.UserAnswer.{UserAnswer}
 use Rattle.cluster_model.specs.declared.answer.UserAnswer.TheVariants.{Bytes}
 use Rattle.cluster_model.specs.declared.entry.Entry.{Entry}
 use Rattle.cluster_model.specs.declared.entry.Entry.TheVariants.{Packet, Delivered, TimedOut, Hold, Pass, Tick, Sent, Rogue, Told, Applied, ReadAnswer, Answer, Audit}
-use Rattle.cluster_model.specs.Wordings.{text_of_bytes, answer_words}
+use Rattle.cluster_model.specs.Wordings.{text_of_bytes, flag_text, answer_words}
 use Rattle.cluster_model.specs.Print.{words, words_of, node_text, mirror_text}
 
 -- it has a line
@@ -22,19 +22,23 @@ is_brief e = true
 abbrev pub brief_bytes : List ℕ → List ℕ
 brief_bytes bytes = if nat_le (length bytes) 64 then text_of_bytes bytes else text_of_bytes (take 64 bytes) ++ codes "+" ++ decimal (length bytes - 64)
 
-abbrev pub brief_answer : UserAnswer → List (List ℕ)
-brief_answer (Bytes eof bytes) = codes "bytes" ∷ (if eof then codes "1" else codes "0") ∷ brief_bytes bytes ∷ []
-brief_answer said = answer_words said
+-- the words of an answer, and of an entry but for a packet, with their data shown by `show`
+abbrev pub answer_by : (List ℕ → List ℕ) → UserAnswer → List (List ℕ)
+answer_by show (Bytes eof bytes) = codes "bytes" ∷ flag_text eof ∷ show bytes ∷ []
+answer_by show said = answer_words said
+
+abbrev pub words_by : (List ℕ → List ℕ) → Entry → List (List ℕ)
+words_by show (Sent file cred at bytes) = codes "sent" ∷ decimal file.0 ∷ decimal cred.0 ∷ decimal at ∷ show bytes ∷ []
+words_by show (Rogue file cred at bytes) = codes "rogue" ∷ decimal file.0 ∷ decimal cred.0 ∷ decimal at ∷ show bytes ∷ []
+words_by show (Told file cred at bytes) = codes "told" ∷ decimal file.0 ∷ decimal cred.0 ∷ decimal at ∷ show bytes ∷ []
+words_by show (Applied mirror cred at bytes) = codes "applied" ∷ mirror_text mirror ∷ decimal cred.0 ∷ decimal at ∷ show bytes ∷ []
+words_by show (ReadAnswer file status bytes) = codes "read" ∷ decimal file.0 ∷ decimal status ∷ show bytes ∷ []
+words_by show (Audit file mirror size bytes) = codes "audit" ∷ decimal file.0 ∷ mirror_text mirror ∷ decimal size ∷ show bytes ∷ []
+words_by show (Answer client said) = codes "answer" ∷ node_text (Client client) ∷ answer_by show said
+words_by show e = words_of e
 
 abbrev pub brief_words : Entry → List (List ℕ)
-brief_words (Sent file cred at bytes) = codes "sent" ∷ decimal file.0 ∷ decimal cred.0 ∷ decimal at ∷ brief_bytes bytes ∷ []
-brief_words (Rogue file cred at bytes) = codes "rogue" ∷ decimal file.0 ∷ decimal cred.0 ∷ decimal at ∷ brief_bytes bytes ∷ []
-brief_words (Told file cred at bytes) = codes "told" ∷ decimal file.0 ∷ decimal cred.0 ∷ decimal at ∷ brief_bytes bytes ∷ []
-brief_words (Applied mirror cred at bytes) = codes "applied" ∷ mirror_text mirror ∷ decimal cred.0 ∷ decimal at ∷ brief_bytes bytes ∷ []
-brief_words (ReadAnswer file status bytes) = codes "read" ∷ decimal file.0 ∷ decimal status ∷ brief_bytes bytes ∷ []
-brief_words (Audit file mirror size bytes) = codes "audit" ∷ decimal file.0 ∷ mirror_text mirror ∷ decimal size ∷ brief_bytes bytes ∷ []
-brief_words (Answer client said) = codes "answer" ∷ node_text (Client client) ∷ brief_answer said
-brief_words e = words_of e
+brief_words e = words_by brief_bytes e
 
 abbrev pub brief_line : Entry → List ℕ
 brief_line e = if is_brief e then words (brief_words e) else []

@@ -4,14 +4,16 @@ ghost use Rattle.std.specs.Prelude.{[], ◌∷◌, codes, decimal};
 ghost use Rattle.ff_xdr.specs.Calls.{Grows};
 ghost use Rattle.cluster_model.specs.declared.ids.NodeId.TheVariants.{Client};
 ghost use Rattle.cluster_model.specs.declared.entry.Entry.TheVariants as entry;
-ghost use Rattle.cluster_model.specs.Wordings.{text_of_bytes, left_words, fail_words, answer_words};
+ghost use Rattle.cluster_model.specs.Wordings.{left_words, fail_words};
 ghost use Rattle.cluster_model.specs.Print.{node_text, mirror_text, words, line_of};
+ghost use Rattle.journal_print.specs.Brief.{answer_by, words_by};
+ghost use Rattle.journal_print.specs.Shown.{text_shown};
 
-use crate::hex_text::put_hex;
+use crate::data_text::{Shown, put_data, put_last_data};
 use crate::lists::put_last_list;
 use crate::texts::{
-    end_word, phase_word, put_last, put_last_bytes, put_mirror, put_next_mirror, put_next_node,
-    put_node, put_numbered, put_old,
+    end_word, phase_word, put_last, put_mirror, put_next_mirror, put_next_node, put_node,
+    put_numbered, put_old,
 };
 use cluster_model::{
     Cred, EndCause, FailCause, FileId, LeftCause, MirrorId, NodeId, Phase, Piece, UserAnswer,
@@ -68,15 +70,16 @@ pub fn put_write(
     cred: Cred,
     at: u64,
     bytes: &[u8],
+    shown: Shown,
     out: &mut Out,
 ) -> Result<(), NoMemory>
-    ensures { Grows out.old result out.new (words (word.now ∷ decimal file.0 ∷ decimal cred.0 ∷ decimal at ∷ text_of_bytes bytes.now ∷ [])) }
+    ensures { Grows out.old result out.new (words (word.now ∷ decimal file.0 ∷ decimal cred.0 ∷ decimal at ∷ text_shown shown bytes.now ∷ [])) }
 {
     out.raw(word)?;
     put_numbered(b" ", u64::from(file.0), out)?;
     put_numbered(b" ", u64::from(cred.0), out)?;
     put_numbered(b" ", at, out)?;
-    put_last_bytes(bytes, out)
+    put_last_data(bytes, shown, out)
 }
 
 /// Appends the line of a packet.
@@ -92,7 +95,7 @@ pub fn put_packet(
     put_numbered(b"packet ", number, out)?;
     put_next_node(from, out)?;
     put_next_node(to, out)?;
-    put_last_bytes(bytes, out)
+    put_last_data(bytes, Shown::Whole, out)
 }
 
 /// Appends the line of a call that timed out.
@@ -198,15 +201,16 @@ pub fn put_applied(
     cred: Cred,
     at: u64,
     bytes: &[u8],
+    shown: Shown,
     out: &mut Out,
 ) -> Result<(), NoMemory>
-    ensures { Grows out.old result out.new (line_of (entry.Applied mirror cred at bytes.now)) }
+    ensures { Grows out.old result out.new (words (words_by (text_shown shown) (entry.Applied mirror cred at bytes.now))) }
 {
     out.raw(b"applied ")?;
     put_mirror(mirror, out)?;
     put_numbered(b" ", u64::from(cred.0), out)?;
     put_numbered(b" ", at, out)?;
-    put_last_bytes(bytes, out)
+    put_last_data(bytes, shown, out)
 }
 
 /// Appends the line of a commit.
@@ -228,12 +232,18 @@ pub fn put_restarted(server: u32, pieces: &[Piece], out: &mut Out) -> Result<(),
 }
 
 /// Appends the line of a READ that the metadata server answered.
-pub fn put_read(file: FileId, status: u32, bytes: &[u8], out: &mut Out) -> Result<(), NoMemory>
-    ensures { Grows out.old result out.new (line_of (entry.ReadAnswer file status bytes.now)) }
+pub fn put_read(
+    file: FileId,
+    status: u32,
+    bytes: &[u8],
+    shown: Shown,
+    out: &mut Out,
+) -> Result<(), NoMemory>
+    ensures { Grows out.old result out.new (words (words_by (text_shown shown) (entry.ReadAnswer file status bytes.now))) }
 {
     put_numbered(b"read ", u64::from(file.0), out)?;
     put_numbered(b" ", u64::from(status), out)?;
-    put_last_bytes(bytes, out)
+    put_last_data(bytes, shown, out)
 }
 
 /// Appends the line of a layout that is to be asked for later.
@@ -250,14 +260,15 @@ pub fn put_audit(
     mirror: MirrorId,
     length: u64,
     bytes: &[u8],
+    shown: Shown,
     out: &mut Out,
 ) -> Result<(), NoMemory>
-    ensures { Grows out.old result out.new (line_of (entry.Audit file mirror length bytes.now)) }
+    ensures { Grows out.old result out.new (words (words_by (text_shown shown) (entry.Audit file mirror length bytes.now))) }
 {
     put_numbered(b"audit ", u64::from(file.0), out)?;
     put_next_mirror(mirror, out)?;
     put_numbered(b" ", length, out)?;
-    put_last_bytes(bytes, out)
+    put_last_data(bytes, shown, out)
 }
 
 /// Appends that a request was not done and why, to the line's end.
@@ -274,23 +285,23 @@ fn put_failure(why: FailCause, out: &mut Out) -> Result<(), NoMemory>
 
 /// Appends bytes that were read, and before them `1` where the file ends behind them and else `0`, to
 /// the line's end.
-fn put_read_bytes(eof: bool, bytes: &[u8], out: &mut Out) -> Result<(), NoMemory>
-    ensures { Grows out.old result out.new (words (answer_words (UserAnswer.Bytes eof bytes.now))) }
+fn put_read_bytes(eof: bool, bytes: &[u8], shown: Shown, out: &mut Out) -> Result<(), NoMemory>
+    ensures { Grows out.old result out.new (words (answer_by (text_shown shown) (UserAnswer.Bytes eof bytes.now))) }
 {
     out.raw(if eof { b"bytes 1 " } else { b"bytes 0 " })?;
-    put_hex(bytes, out)?;
+    put_data(bytes, shown, out)?;
     out.raw(b"\n")
 }
 
 /// Appends what a client answers, to the line's end.
-fn put_answer_words(answer: &UserAnswer, out: &mut Out) -> Result<(), NoMemory>
-    ensures { Grows out.old result out.new (words (answer_words answer.now)) }
+fn put_answer_words(answer: &UserAnswer, shown: Shown, out: &mut Out) -> Result<(), NoMemory>
+    ensures { Grows out.old result out.new (words (answer_by (text_shown shown) answer.now)) }
 {
     match answer {
         UserAnswer::Opened(file) => put_counted(b"opened", u64::from(file.0), out),
         UserAnswer::Written => out.raw(b"written\n"),
         UserAnswer::Committed { writes } => put_counted(b"committed", u64::from(*writes), out),
-        UserAnswer::Bytes { eof, bytes } => put_read_bytes(*eof, bytes.bytes(), out),
+        UserAnswer::Bytes { eof, bytes } => put_read_bytes(*eof, bytes.bytes(), shown, out),
         UserAnswer::Returned => out.raw(b"returned\n"),
         UserAnswer::Failed(why) => put_failure(*why, out),
     }
@@ -298,10 +309,15 @@ fn put_answer_words(answer: &UserAnswer, out: &mut Out) -> Result<(), NoMemory>
 
 /// Appends the line of an answer.
 #[tactic(auto, using(crate::proofs::Joins::answer_line))]
-pub fn put_answer(client: u32, answer: &UserAnswer, out: &mut Out) -> Result<(), NoMemory>
-    ensures { Grows out.old result out.new (line_of (entry.Answer client answer.now)) }
+pub fn put_answer(
+    client: u32,
+    answer: &UserAnswer,
+    shown: Shown,
+    out: &mut Out,
+) -> Result<(), NoMemory>
+    ensures { Grows out.old result out.new (words (words_by (text_shown shown) (entry.Answer client answer.now))) }
 {
     put_numbered(b"answer c", u64::from(client), out)?;
     out.raw(b" ")?;
-    put_answer_words(answer, out)
+    put_answer_words(answer, shown, out)
 }

@@ -1,8 +1,12 @@
 //! The line of an entry.
 
+ghost use Rattle.std.specs.Prelude.{◌≡◌};
 ghost use Rattle.ff_xdr.specs.Calls.{Puts, Grows};
-ghost use Rattle.cluster_model.specs.Print.{line_of};
+ghost use Rattle.cluster_model.specs.Print.{words, line_of};
+ghost use Rattle.journal_print.specs.Brief.{is_brief, words_by, brief_line};
+ghost use Rattle.journal_print.specs.Shown.{text_shown};
 
+use crate::data_text::Shown;
 use crate::lines::{
     put_answer, put_applied, put_audit, put_between, put_client, put_committed, put_counted,
     put_ended, put_fenced, put_free, put_granted, put_later, put_left, put_of_mirror, put_packet,
@@ -11,9 +15,10 @@ use crate::lines::{
 use cluster_model::Entry;
 use ff_xdr::{NoMemory, Out};
 
-/// Appends the line of an entry; at an error it may have appended a part of it.
-fn put_line(entry: &Entry, out: &mut Out) -> Result<(), NoMemory>
-    ensures { Grows out.old result out.new (line_of entry.now) }
+/// Appends the line of an entry, with its data shown so unless it is a packet; at an error it may have
+/// appended a part of it.
+fn put_line(entry: &Entry, shown: Shown, out: &mut Out) -> Result<(), NoMemory>
+    ensures { Grows out.old result out.new (words (words_by (text_shown shown) entry.now)) }
 {
     match entry {
         Entry::Packet {
@@ -33,20 +38,20 @@ fn put_line(entry: &Entry, out: &mut Out) -> Result<(), NoMemory>
             cred,
             at,
             bytes,
-        } => put_write(b"sent", *file, *cred, *at, bytes.bytes(), out),
+        } => put_write(b"sent", *file, *cred, *at, bytes.bytes(), shown, out),
         Entry::Rogue {
             file,
             cred,
             at,
             bytes,
-        } => put_write(b"rogue", *file, *cred, *at, bytes.bytes(), out),
+        } => put_write(b"rogue", *file, *cred, *at, bytes.bytes(), shown, out),
         Entry::Turned { client } => put_client(b"turned", *client, out),
         Entry::Told {
             file,
             cred,
             at,
             bytes,
-        } => put_write(b"told", *file, *cred, *at, bytes.bytes(), out),
+        } => put_write(b"told", *file, *cred, *at, bytes.bytes(), shown, out),
         Entry::Ended { file, cred, cause } => put_ended(*file, *cred, *cause, out),
         Entry::Left {
             file,
@@ -66,7 +71,7 @@ fn put_line(entry: &Entry, out: &mut Out) -> Result<(), NoMemory>
             cred,
             at,
             bytes,
-        } => put_applied(*mirror, *cred, *at, bytes.bytes(), out),
+        } => put_applied(*mirror, *cred, *at, bytes.bytes(), shown, out),
         Entry::Committed { mirror } => put_committed(*mirror, out),
         Entry::Owner { mirror, cred } => put_of_mirror(b"owner", *mirror, cred.0, out),
         Entry::Restarted { server, pieces } => put_restarted(*server, pieces.as_slice(), out),
@@ -74,28 +79,62 @@ fn put_line(entry: &Entry, out: &mut Out) -> Result<(), NoMemory>
             file,
             status,
             bytes,
-        } => put_read(*file, *status, bytes.bytes(), out),
+        } => put_read(*file, *status, bytes.bytes(), shown, out),
         Entry::Failed { mirror, xid } => put_of_mirror(b"failed", *mirror, *xid, out),
         Entry::Later { file, phase } => put_later(*file, *phase, out),
-        Entry::Answer { client, answer } => put_answer(*client, answer, out),
+        Entry::Answer { client, answer } => put_answer(*client, answer, shown, out),
         Entry::Audit {
             file,
             mirror,
             length,
             bytes,
-        } => put_audit(*file, *mirror, *length, bytes.bytes(), out),
+        } => put_audit(*file, *mirror, *length, bytes.bytes(), shown, out),
         Entry::Rebooted { client } => put_client(b"rebooted", *client, out),
     }
 }
 
-/// Appends the line of an entry. At an error all is as before.
-pub fn put_entry(entry: &Entry, out: &mut Out) -> Result<(), NoMemory>
-    ensures { Puts out.old result out.new (line_of entry.now) }
+/// Appends the line of an entry, with its data shown so. At an error all is as before.
+fn put_or_restore(entry: &Entry, shown: Shown, out: &mut Out) -> Result<(), NoMemory>
+    ensures { Puts out.old result out.new (words (words_by (text_shown shown) entry.now)) }
 {
     let mark = out.len();
-    if put_line(entry, out).is_err() {
+    if put_line(entry, shown, out).is_err() {
         out.truncate(mark);
         return Err(NoMemory);
     }
     Ok(())
+}
+
+/// Appends the line of an entry. At an error all is as before.
+#[tactic(auto, using(crate::proofs::LineData::whole_line))]
+pub fn put_entry(entry: &Entry, out: &mut Out) -> Result<(), NoMemory>
+    ensures { Puts out.old result out.new (line_of entry.now) }
+{
+    put_or_restore(entry, Shown::Whole, out)
+}
+
+/// The entry has a line in the brief trace.
+fn has_brief_line(entry: &Entry) -> bool
+    ensures { result ≡ is_brief entry.now }
+{
+    !matches!(
+        entry,
+        Entry::Packet { .. }
+            | Entry::Delivered { .. }
+            | Entry::TimedOut { .. }
+            | Entry::Hold { .. }
+            | Entry::Pass { .. }
+            | Entry::Tick { .. }
+    )
+}
+
+/// Appends the brief line of an entry, if it has one: data of more than 64 bytes is cut after 64, with
+/// `+` and how many the others are behind. At an error all is as before.
+pub fn put_brief(entry: &Entry, out: &mut Out) -> Result<(), NoMemory>
+    ensures { Puts out.old result out.new (brief_line entry.now) }
+{
+    if !has_brief_line(entry) {
+        return Ok(());
+    }
+    put_or_restore(entry, Shown::Brief, out)
 }

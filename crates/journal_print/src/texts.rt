@@ -2,10 +2,9 @@
 
 ghost use Rattle.std.specs.Prelude.{◌≡◌, ◌++◌, codes, decimal};
 ghost use Rattle.ff_xdr.specs.Calls.{Puts, Grows};
-ghost use Rattle.cluster_model.specs.Wordings.{end_text, phase_text, text_of_bytes};
+ghost use Rattle.cluster_model.specs.Wordings.{end_text, phase_text};
 ghost use Rattle.cluster_model.specs.Print.{node_text, mirror_text, old_text};
 
-use crate::hex_text::put_hex;
 use cluster_model::{EndCause, MirrorId, NodeId, Phase};
 use ff_xdr::{NoMemory, Out};
 use itoa::Buffer;
@@ -77,15 +76,6 @@ pub fn put_last(word: &[u8], out: &mut Out) -> Result<(), NoMemory>
 {
     out.raw(b" ")?;
     out.raw(word)?;
-    out.raw(b"\n")
-}
-
-/// Appends a space, bytes and the line's end.
-pub fn put_last_bytes(bytes: &[u8], out: &mut Out) -> Result<(), NoMemory>
-    ensures { Grows out.old result out.new (codes " " ++ text_of_bytes bytes.now ++ codes "\n") }
-{
-    out.raw(b" ")?;
-    put_hex(bytes, out)?;
     out.raw(b"\n")
 }
 
