@@ -1,51 +1,98 @@
 //! The world of a cluster.
 
-ghost use Rattle.std.specs.Prelude.{◌≡◌, ◌≤◌, ◌≢◌, IfOk, Err, Some, None, Unit, length, option_map};
+ghost use Rattle.std.specs.Prelude.{◌≡◌, ◌≤◌, IfOk, Err, Some, None, length, option_copied, option_map};
 ghost use Rattle.node_config.specs.declared.config.TheConstants.{MAX_SERVERS, MAX_MIRRORS, MAX_NUMBER};
 ghost use Rattle.world_journal.specs.declared.fault.WorldFault.{WorldFault};
 ghost use Rattle.packet_table.specs.Packets.{next_waiting};
 ghost use Rattle.cluster_script.specs.ClusterLines.{cluster_event};
 ghost use Rattle.cluster_machines.specs.Machines.{nth};
 ghost use Rattle.cluster_world.specs.ClusterWorlds.{new_cluster, packets, behind};
-ghost use Rattle.cluster_world.specs.WorldSteps.{IsOfScript, Becomes, Flows};
+ghost use Rattle.cluster_world.specs.WorldSteps.{IsOfScript, IsNoted, ComesTo, Becomes, Flows};
 
-use cluster_machines::Machines;
-use cluster_model::Entry;
+use crate::stage::Stage;
+use cluster_model::{Entry, Pieces};
 use cluster_script::{ClusterEvent, ClusterSizes};
 use ds_files::DataServer;
 use ff_xdr::NoMemory;
 use mds_core::Mds;
 use mirror_client::Client;
-use packet_table::Packets;
 use std::alloc::Global;
 use std::marker::Model;
-use world_journal::{Journal, WorldFault};
+use world_journal::WorldFault;
 
 /// The world of a cluster: its machines, the moment, the packets between machines, and the journal of what happened. It is
 /// spent once an event did not happen: it answers each later one by the same error, and its journal stays.
 #[derive(Drop)]
 pub struct ClusterWorld {
-    pub(crate) alloc: Global,
-    pub(crate) machines: Machines,
-    /// Of each client's start.
-    pub(crate) verifiers: Vec<u64>,
-    /// In seconds.
-    pub(crate) now: u64,
-    pub(crate) packets: Packets,
-    /// How many packets were sent.
-    pub(crate) sent: u64,
-    pub(crate) journal: Journal,
-    pub(crate) spent: Option<WorldFault>,
+    stage: Stage,
+    spent: Option<WorldFault>,
 }
 
 impl Model for ClusterWorld {
-    ghost use Rattle.cluster_world.specs.WorldSteps.{ClusterValue, IsSound, AreNoted};
+    ghost use Rattle.cluster_world.specs.WorldSteps.{ClusterValue, AreNoted};
 
     ghost Value = { ClusterValue };
 
-    ghost view = { λ w. record { world = record { machines = w.machines; verifiers = w.verifiers.items; now = w.now; held = w.packets.held; sent = w.sent; journal = w.journal }; spent = w.spent } };
+    ghost view = { λ w. record { world = w.stage.world; packets = w.stage.packets; spent = w.spent } };
 
-    ghost invariant = { λ w. IsSound w.sent w.journal × AreNoted w.spent w.packets w.journal };
+    ghost invariant = { λ w. AreNoted w.spent w.stage };
+}
+
+impl Stage {
+    /// An event of a script happens that is no flow.
+    fn happen(&mut self, event: &ClusterEvent<'_>) -> Result<(), WorldFault>
+        requires noted { IsNoted self.old }
+        requires ranges { IsOfScript (cluster_event event.now) }
+        ensures { ComesTo self.old (behind (cluster_event event.now) self.old.world) result self.new }
+    {
+        match event {
+            ClusterEvent::DeliverPacket(number) => self.deliver(u64::from(*number)),
+            ClusterEvent::DeliverBetween { from, to, place } => {
+                self.deliver_between(*from, *to, *place)
+            }
+            ClusterEvent::Flow => Ok(()),
+            ClusterEvent::Hold { from, to } => self.hold(*from, *to),
+            ClusterEvent::Pass { from, to } => self.pass(*from, *to),
+            ClusterEvent::Timeout { node, to } => self.time_out(*node, *to),
+            ClusterEvent::Tick(seconds) => self.tick(*seconds),
+            ClusterEvent::Open { client, name } => self.open(*client, name),
+            ClusterEvent::Write { client, at, bytes } => {
+                let bytes = bytes.decode(self.alloc)?;
+                self.write(*client, *at, &bytes)
+            }
+            ClusterEvent::Through { client, at, bytes } => {
+                let bytes = bytes.decode(self.alloc)?;
+                self.through(*client, *at, &bytes)
+            }
+            ClusterEvent::Fill {
+                client,
+                at,
+                count,
+                byte,
+            } => self.fill(*client, *at, *count, *byte),
+            ClusterEvent::Commit(client) => self.commit(*client),
+            ClusterEvent::Read { client, at, count } => self.read(*client, *at, *count),
+            ClusterEvent::Return(client) => self.return_all(*client),
+            ClusterEvent::Rogue(client) => self.turn(*client),
+            ClusterEvent::Stray {
+                client,
+                mirror,
+                at,
+                bytes,
+            } => {
+                let bytes = bytes.decode(self.alloc)?;
+                self.stray(*client, *mirror, *at, &bytes)
+            }
+            ClusterEvent::Reboot(client) => self.reboot(*client),
+            ClusterEvent::Restart { server, pieces } => {
+                let pieces = pieces.decode(self.alloc)?;
+                self.restart(*server, Pieces::from_vec(pieces))
+            }
+            ClusterEvent::Recall(file) => self.recall(*file),
+            ClusterEvent::Resilver(file) => self.resilver(*file),
+            ClusterEvent::Audit(file) => self.audit(*file),
+        }
+    }
 }
 
 impl ClusterWorld {
@@ -56,16 +103,11 @@ impl ClusterWorld {
         requires within { sizes.mirrors ≤ sizes.servers }
         requires servers { sizes.servers ≤ MAX_SERVERS }
         requires clients { sizes.clients ≤ MAX_NUMBER }
-        ensures { IfOk result (λ world. world ≡ record { world = new_cluster sizes.servers sizes.mirrors sizes.clients; spent = None }) }
+        ensures world { IfOk result (λ w. w.world ≡ new_cluster sizes.servers sizes.mirrors sizes.clients) }
+        ensures fresh { IfOk result (λ w. w.spent ≡ None) }
     {
         Ok(ClusterWorld {
-            alloc,
-            machines: Machines::new(alloc, sizes.servers, sizes.mirrors, sizes.clients)?,
-            verifiers: vec![in alloc; 1; sizes.clients as usize]?,
-            now: 0,
-            packets: Packets::new(alloc),
-            sent: 0,
-            journal: Journal::new(alloc),
+            stage: Stage::new(alloc, sizes)?,
             spent: None,
         })
     }
@@ -74,35 +116,35 @@ impl ClusterWorld {
     pub fn mds(&self) -> &Mds
         ensures { result.now.mds ≡ self.now.world.machines.mds }
     {
-        self.machines.mds()
+        self.stage.machines.mds()
     }
 
     /// The data server of a number, where there is one.
     pub fn server(&self, number: u32) -> Option<&DataServer>
         ensures { option_copied result ≡ nth self.now.world.machines.servers number }
     {
-        self.machines.server(number)
+        self.stage.machines.server(number)
     }
 
     /// The client of a number, where there is one.
     pub fn client(&self, number: u32) -> Option<&Client>
         ensures { option_map (λ c. c.now.client) result ≡ nth self.now.world.machines.clients number }
     {
-        self.machines.client(number)
+        self.stage.machines.client(number)
     }
 
     /// The journal: the entries of all events that happened, in order.
     pub fn journal(&self) -> &[Entry]
         ensures { result.now ≡ self.now.world.journal }
     {
-        self.journal.entries()
+        self.stage.journal.entries()
     }
 
     /// How many entries the journal has.
     pub fn count(&self) -> u64
         ensures { result ≡ length self.now.world.journal }
     {
-        self.journal.count()
+        self.stage.journal.count()
     }
 
     /// Lets an event happen that is no flow, and adds its entries to the journal. At an error the journal is as before, and
@@ -115,12 +157,11 @@ impl ClusterWorld {
         if let Some(fault) = self.spent {
             return Err(fault);
         }
-        self.spent = Some(WorldFault::NoMemory);
-        self.spent = self.happen(event).err();
-        match self.spent {
-            None => Ok(()),
-            Some(fault) => Err(fault),
+        if let Err(fault) = self.stage.happen(event) {
+            self.spent = Some(fault);
+            return Err(fault);
         }
+        Ok(())
     }
 
     /// The first packet that waits comes; `false` is that none waits, and nothing happened. At an error the journal is as
@@ -132,14 +173,13 @@ impl ClusterWorld {
         if let Some(fault) = self.spent {
             return Err(fault);
         }
-        let Some(number) = self.packets.next() else {
+        let Some(number) = self.stage.packets.next() else {
             return Ok(false);
         };
-        self.spent = Some(WorldFault::NoMemory);
-        self.spent = self.deliver(number).err();
-        match self.spent {
-            None => Ok(true),
-            Some(fault) => Err(fault),
+        if let Err(fault) = self.stage.deliver(number) {
+            self.spent = Some(fault);
+            return Err(fault);
         }
+        Ok(true)
     }
 }
