@@ -1,10 +1,8 @@
 -- The machines of a cluster, and what each does in its part of an event: by its own rule alone, while all others stay as they are.
-use Rattle.std.specs.Prelude.{◌≡◌, ℕ, ◌+◌, ◌-◌, Bool, false, not, ◌==◌, List, [], ◌∷◌, ◌++◌, length, map, Option, Some, None, if◌then◌else◌, slice_get, slice_set}
+use Rattle.std.specs.Prelude.{◌≡◌, ℕ, ◌+◌, ◌-◌, ◌==◌, List, [], ◌∷◌, ◌++◌, map, Option, Some, None, if◌then◌else◌, slice_get, slice_set}
 use Rattle.std.specs.List.{range_with_len}
-use Rattle.std.specs.Int.{w64}
 use Rattle.cluster_model.specs.declared.ids.NodeId.{NodeId}
 use Rattle.cluster_model.specs.declared.ids.NodeId.TheVariants.{Mds, Server, Client}
-use Rattle.cluster_model.specs.declared.ids.FileId.{FileId}
 use Rattle.cluster_model.specs.declared.entry.Entry.{Entry}
 use Rattle.cluster_model.specs.declared.entry.Entry.TheVariants as entry
 use Rattle.cluster_model.specs.declared.outbox.Outbox.{Outbox}
@@ -15,12 +13,12 @@ use Rattle.ds_files.specs.Records.{sent_to}
 use Rattle.device_addr.specs.Universal.{AddressValue}
 use Rattle.mds_rule.specs.MdsStates.{MdsValue, MdsStep, new_mds}
 use Rattle.mds_rule.specs.Spelled as mds
-use Rattle.mds_rule.specs.Events.{takes_record, takes_timeout, takes_tick, takes_recall, takes_resilver}
+use Rattle.mds_rule.specs.Events.{takes_record, takes_timeout}
 use Rattle.client_state.specs.declared.request.UserRequest.{UserRequest}
 use Rattle.client_state.specs.ClientStates.{ClientValue, fresh_client}
 use Rattle.client_state.specs.ClientSends.{ClientStep}
 use Rattle.client_state.specs.ClientSends as client
-use Rattle.mirror_client.specs.ClientRule.{client_requested, client_recorded, client_timed_out, client_ticked, turned, strays}
+use Rattle.mirror_client.specs.ClientRule.{client_requested, client_recorded, client_timed_out, turned, strays}
 
 -- the metadata server, and data servers and clients by their numbers from 1
 pub record MachinesValue : Type 0 where

@@ -1,7 +1,9 @@
 //! The machines of a cluster, each by its own rule.
 #![tactic(auto)]
 
+mod first;
 mod machines;
+mod numbers;
 mod restarts;
 mod users;
 
