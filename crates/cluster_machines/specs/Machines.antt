@@ -1,17 +1,22 @@
 -- The machines of a cluster, and what each does in its part of an event: by its own rule alone, while all others stay as they are.
-use Rattle.std.specs.Prelude.{◌≡◌, ℕ, ◌+◌, ◌-◌, ◌==◌, List, [], ◌∷◌, ◌++◌, map, Option, Some, None, if◌then◌else◌, slice_get, slice_set}
+use Rattle.std.specs.Prelude.{◌≡◌, ℕ, ◌+◌, ◌-◌, ◌==◌, List, [], ◌∷◌, ◌++◌, length, map, take, Option, Some, None, if◌then◌else◌, slice_get, slice_set}
 use Rattle.std.specs.List.{range_with_len}
 use Rattle.cluster_model.specs.declared.ids.NodeId.{NodeId}
 use Rattle.cluster_model.specs.declared.ids.NodeId.TheVariants.{Mds, Server, Client}
+use Rattle.cluster_model.specs.declared.ids.FileId.{FileId}
+use Rattle.cluster_model.specs.declared.ids.Mirror.{Mirror}
+use Rattle.cluster_model.specs.declared.ids.MirrorId.{MirrorId}
 use Rattle.cluster_model.specs.declared.entry.Entry.{Entry}
 use Rattle.cluster_model.specs.declared.entry.Entry.TheVariants as entry
 use Rattle.cluster_model.specs.declared.outbox.Outbox.{Outbox}
 use Rattle.cluster_model.specs.declared.piece.Piece.{Piece}
+use Rattle.cluster_model.specs.File.{StoredFile, shown}
 use Rattle.cluster_model.specs.Server.{ServerState, new_server, restart_of}
+use Rattle.ds_files.specs.Stored.{stored_at}
 use Rattle.ds_files.specs.Receive.{Outcome, outcome_of}
 use Rattle.ds_files.specs.Records.{sent_to}
 use Rattle.device_addr.specs.Universal.{AddressValue}
-use Rattle.mds_rule.specs.MdsStates.{MdsValue, MdsStep, new_mds}
+use Rattle.mds_rule.specs.MdsStates.{ServedFile, MdsValue, MdsStep, new_mds, served}
 use Rattle.mds_rule.specs.Spelled as mds
 use Rattle.mds_rule.specs.Events.{takes_record, takes_timeout}
 use Rattle.client_state.specs.declared.request.UserRequest.{UserRequest}
@@ -123,6 +128,26 @@ restarts_at m n pieces (Some s) = started m n pieces (restart_of s pieces)
 
 abbrev pub restarts : ℕ → List Piece → MachinesValue → Act
 restarts n pieces m = restarts_at m n pieces (nth m.servers n)
+
+-- ---- what stands in a file: of each live mirror how many bytes it shows, and the first 64 of them
+
+abbrev pub shown_or_none : Option StoredFile → List ℕ
+shown_or_none None = []
+shown_or_none (Some file) = shown file
+
+abbrev pub shown_by : Option ServerState → ℕ → List ℕ
+shown_by None fileid = []
+shown_by (Some server) fileid = shown_or_none (stored_at server.files fileid)
+
+abbrev pub audit_of : MachinesValue → FileId → MirrorId → Entry
+audit_of m file id = let bytes = shown_by (nth m.servers id.server) id.fileid in entry.Audit file id (length bytes) (take 64 bytes)
+
+abbrev pub audits_of : MachinesValue → FileId → Option ServedFile → List Entry
+audits_of m file None = []
+audits_of m file (Some s) = map (λ (mirror : Mirror). audit_of m file mirror.id) s.file.layout.live
+
+abbrev pub audits : FileId → MachinesValue → Act
+audits file m = record { machines = m; entries = audits_of m file (served m.mds file); sends = [] }
 
 -- ---- the code
 

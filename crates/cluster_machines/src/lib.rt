@@ -1,6 +1,7 @@
 //! The machines of a cluster, each by its own rule.
 #![tactic(auto)]
 
+mod audits;
 mod first;
 mod machines;
 mod numbers;

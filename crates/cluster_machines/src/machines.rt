@@ -1,6 +1,6 @@
 //! The machines, and what comes to them.
 
-ghost use Rattle.std.specs.Prelude.{◌≡◌, ◌≤◌, IfOk, OnOk, option_copied, option_map};
+ghost use Rattle.std.specs.Prelude.{◌≡◌, ◌≤◌, IfOk, OnOk, option_copied, option_map, length};
 ghost use Rattle.node_config.specs.declared.config.TheConstants.{MAX_SERVERS, MAX_MIRRORS, MAX_NUMBER};
 ghost use Rattle.mds_rule.specs.Events.{takes_tick, takes_recall, takes_resilver};
 ghost use Rattle.mirror_client.specs.ClientRule.{client_recorded, client_timed_out, client_ticked};
@@ -28,12 +28,15 @@ pub struct Machines {
 }
 
 impl Model for Machines {
-    ghost use Rattle.std.specs.Prelude.{map};
+    ghost use Rattle.std.specs.Prelude.{◌≤◌, map, length};
+    ghost use Rattle.node_config.specs.declared.config.TheConstants.{MAX_NUMBER};
     ghost use Rattle.cluster_machines.specs.Machines.{MachinesValue};
 
     ghost Value = { MachinesValue };
 
     ghost view = { λ m. record { mds = m.mds.mds; servers = m.servers.items; clients = map (λ c. c.client) m.clients.items } };
+
+    ghost invariant = { λ m. length m.clients.items ≤ MAX_NUMBER };
 }
 
 impl Machines {
@@ -86,6 +89,14 @@ impl Machines {
             return None;
         }
         self.clients.get(number as usize - 1)
+    }
+
+    /// How many clients there are.
+    pub fn client_count(&self) -> u32
+        ensures count { result ≡ length self.now.clients }
+        ensures few { result ≤ MAX_NUMBER }
+    {
+        self.clients.len() as u32
     }
 
     /// A record from a machine comes to a data server.
