@@ -21,7 +21,7 @@ use Rattle.mds_rule.specs.MdsStates.{ServedFile, served, numbered}
 use Rattle.mds_rule.specs.Events.{takes_tick, takes_recall, takes_resilver}
 use Rattle.packet_table.specs.declared.note.PacketNote.{PacketNote}
 use Rattle.packet_table.specs.Packets.{PacketsValue, packet_numbered, number_between, next_waiting, after_hold, after_pass}
-use Rattle.cluster_machines.specs.Machines.{MachinesValue, Act, new_machines, nth, mds_acts, client_acts, receives, times_out, is_asked, leaves, goes_astray, starts_anew, restarts}
+use Rattle.cluster_machines.specs.Machines.{MachinesValue, Act, new_machines, nth, mds_acts, client_acts, receives, times_out, is_asked, leaves, goes_astray, starts_anew, restarts, audits}
 use Rattle.world_journal.specs.Journal.{max_entries, is_within}
 use Rattle.world_journal.specs.SentPackets.{packets_of}
 use Rattle.cluster_world.specs.Sent.{packets_in, bytes_at_place}
@@ -117,29 +117,6 @@ rebooting n w =
     let verifier = verifier_after (nth w.verifiers n) in
     record (acting (Client n) (client_acts n (starts_anew n verifier) w.machines) w) { verifiers = with_verifier n verifier (may_start (nth w.machines.clients n)) w.verifiers }
 
--- ---- what stands in a file: of each live mirror how many bytes it shows, and the first 64 of them
-
-abbrev pub stored_at : List StoredFile → ℕ → Option StoredFile
-stored_at files fileid = if nat_lt fileid 2 then None else slice_get files (fileid - 2)
-
-abbrev pub shown_or_none : Option StoredFile → List ℕ
-shown_or_none None = []
-shown_or_none (Some file) = shown file
-
-abbrev pub shown_by : Option ServerState → ℕ → List ℕ
-shown_by None fileid = []
-shown_by (Some server) fileid = shown_or_none (stored_at server.files fileid)
-
-abbrev pub audit_of : MachinesValue → FileId → MirrorId → Entry
-audit_of m file id = let bytes = shown_by (nth m.servers id.server) id.fileid in entry.Audit file id (length bytes) (take 64 bytes)
-
-abbrev pub audits_of : MachinesValue → FileId → Option ServedFile → List Entry
-audits_of m file None = []
-audits_of m file (Some s) = map (λ (mirror : Mirror). audit_of m file mirror.id) s.file.layout.live
-
-abbrev pub auditing : FileId → ClusterState → ClusterState
-auditing file w = entering (audits_of w.machines file (served w.machines.mds file)) w
-
 -- ---- one event that is no flow
 
 abbrev pub behind : EventValue → ClusterState → ClusterState
@@ -163,7 +140,7 @@ behind (Stray client place at bytes) w = acting (Client client) (client_acts cli
 behind (Reboot client) w = rebooting client w
 behind (Recall file) w = acting Mds (mds_acts (λ m. takes_recall w.now m (numbered file)) w.machines) w
 behind (Resilver file) w = acting Mds (mds_acts (λ m. takes_resilver m (numbered file)) w.machines) w
-behind (Audit file) w = auditing (numbered file) w
+behind (Audit file) w = acting Mds (audits (numbered file) w.machines) w
 behind (Restart server pieces) w = acting (Server server) (restarts server pieces w.machines) w
 
 -- None is an event with which the journal would pass a limit: it does not happen.
@@ -172,35 +149,3 @@ within_limits w = if is_within w.journal then Some w else None
 
 abbrev pub cluster_step : ClusterState → EventValue → Option ClusterState
 cluster_step w event = within_limits (behind event w)
-
--- ---- a run of events
-
--- the world at its end, and whether it ended before an event that would pass a limit
-pub record ClusterRun : Type 0 where
-  pub world : ClusterState
-  pub over : Bool
-
-abbrev pub stepped : ClusterState → Option ClusterState → (ClusterState → ClusterRun) → ClusterRun
-stepped w None next = record { world = w; over = true }
-stepped w (Some then) next = next then
-
--- A flow: the first packet that waits comes, and so on until none waits. Each delivery makes an entry, so there are no more of them than
--- the limit has entries.
-abbrev pub flows_by : (ClusterState → ClusterRun) → ClusterState → Option ℕ → ClusterRun
-flows_by next w None = record { world = w; over = false }
-flows_by next w (Some number) = stepped w (cluster_step w (DeliverPacket number)) next
-
-abbrev pub flows : ℕ → ClusterState → ClusterRun
-flows zero w = record { world = w; over = false }
-flows (suc n) w = flows_by (flows n) w (next_waiting (packets w))
-
-abbrev pub event_run : ClusterState → EventValue → ClusterRun
-event_run w Flow = flows max_entries w
-event_run w event = stepped w (cluster_step w event) (λ next. record { world = next; over = false })
-
-abbrev pub then_runs : ClusterRun → (ClusterState → ClusterRun) → ClusterRun
-then_runs run next = if run.over then run else next run.world
-
-abbrev pub cluster_run : ClusterState → List EventValue → ClusterRun
-cluster_run w [] = record { world = w; over = false }
-cluster_run w (event ∷ events) = then_runs (event_run w event) (λ next. cluster_run next events)

@@ -1,11 +1,13 @@
 -- The world of a cluster in the code: what an event did to it.
 use Rattle.std.specs.Prelude.{◌≡◌, ℕ, ◌+◌, ◌*◌, ◌≤◌, Bool, true, false, List, ◌++◌, length, Option, Some, None, Result, Ok, Err}
 use Rattle.cluster_model.specs.declared.limits.TheConstants.{PIECE_SIZE}
+use Rattle.cluster_model.specs.declared.ids.NodeId.{NodeId}
 use Rattle.cluster_model.specs.declared.entry.Entry.{Entry}
 use Rattle.cluster_model.specs.Event.{EventValue, Open, Write, Through, Fill, Stray}
 use Rattle.world_journal.specs.declared.fault.WorldFault.{WorldFault}
 use Rattle.world_journal.specs.declared.fault.WorldFault.TheVariants.{Limit, NoMemory}
 use Rattle.world_journal.specs.Journal.{is_within}
+use Rattle.world_journal.specs.SentPackets.{packets_of}
 use Rattle.packet_table.specs.Packets.{PacketsValue}
 use Rattle.cluster_world.specs.Drafts.{DraftValue}
 use Rattle.cluster_world.specs.Sent.{packets_in}
@@ -45,6 +47,10 @@ ComesTo old new (Ok done) s = (is_within new.journal ≡ true) × (s.world ≡ n
 ComesTo old new (Err (Limit count)) s = (is_within new.journal ≡ false) × (count ≡ length old.world.journal) × (s.world.journal ≡ old.world.journal)
 ComesTo old new (Err NoMemory) s = s.world.journal ≡ old.world.journal
 
+-- a machine's part was the whole event, after which the machines are these already
+abbrev pub acted : NodeId → List Entry → List (NodeId × List ℕ) → ClusterState → ClusterState
+acted node entries sends w = record w { sent = w.sent + length sends; journal = w.journal ++ (entries ++ packets_of node w.sent sends) }
+
 -- the world with the entries of an event so far
 abbrev pub drafted : ClusterState → DraftValue → ClusterState
 drafted w d = record w { sent = d.sent; journal = w.journal ++ d.entries }
@@ -82,7 +88,8 @@ Becomes old new (Err NoMemory) value = (value.world.journal ≡ old.journal) × 
 -- one delivery of a flow: none waits, and nothing has changed; or the first that waits came
 abbrev pub Flows : ClusterState → Option ℕ → Result Bool WorldFault → ClusterValue → Type 0
 Flows old None (Ok more) value = (more ≡ false) × (value.world ≡ old) × (value.spent ≡ None)
-Flows old None (Err fault) value = ⊥
+Flows old None (Err (Limit count)) value = ⊥
+Flows old None (Err NoMemory) value = (value.world.journal ≡ old.journal) × (value.spent ≡ Some NoMemory)
 Flows old (Some number) (Ok more) value = (more ≡ true) × Happened (delivering number old) value
 Flows old (Some number) (Err (Limit count)) value = Stays old (delivering number old) count value
 Flows old (Some number) (Err NoMemory) value = (value.world.journal ≡ old.journal) × (value.spent ≡ Some NoMemory)
