@@ -1,3 +1,4 @@
 mod Numbered
 mod Acting
 mod Leaving
+mod Auditing

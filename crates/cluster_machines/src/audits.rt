@@ -1,10 +1,12 @@
 //! What stands in the live mirrors of a file.
 
-ghost use Rattle.std.specs.Prelude.{◌≡◌, OnOk};
-ghost use Rattle.cluster_machines.specs.Machines.{audits, HasActed};
+ghost use Rattle.std.specs.Prelude.{◌≡◌, ◌++◌, IfOk, OnOk, map, option_copied};
+ghost use Rattle.cluster_model.specs.declared.ids.Mirror.{Mirror};
+ghost use Rattle.cluster_machines.specs.Machines.{audit_of, audits, nth, shown_by, shown_or_none, HasActed};
 
 use crate::machines::Machines;
-use cluster_model::{Entry, FileId, Outbox};
+use cluster_model::{Entry, FileId, MirrorId, Mirrors, Outbox};
+use data_file::DataFile;
 use ff_xdr::{Data, NoMemory};
 
 /// How many bytes of a mirror are shown.
@@ -18,19 +20,47 @@ impl Machines {
         let Some(live) = self.mds.live(file) else {
             return Ok(());
         };
-        for mirror in live.as_slice() {
-            let stored = self.server(mirror.id.server).and_then(|server| server.file(mirror.id.fileid));
-            let (length, bytes) = match stored {
-                Some(stored) => (stored.size(), Data::of(self.alloc, stored.read(0, SHOWN))?),
-                None => (0, Data::of(self.alloc, b"")?),
+        self.audit_each(file, live, out)
+    }
+
+    /// The same of these mirrors.
+    fn audit_each(&self, file: FileId, live: Mirrors, out: &mut Outbox) -> Result<(), NoMemory>
+        ensures entries { OnOk result (out.new.entries.items ≡ out.old.entries.items ++ map (λ (mirror : Mirror). audit_of self.now file mirror.id) live) }
+        ensures sends { OnOk result (out.new.sends.items ≡ out.old.sends.items) }
+    {
+        for place in 0..live.len() {
+            let Some(mirror) = live.get(place) else {
+                return Ok(());
             };
-            out.entries.push(Entry::Audit {
-                file,
-                mirror: mirror.id,
-                length,
-                bytes,
-            })?;
+            out.entries.push(self.audit_of(file, mirror.id)?)?;
         }
         Ok(())
+    }
+
+    /// What a mirror shows; no bytes where it has no file.
+    fn audit_of(&self, file: FileId, mirror: MirrorId) -> Result<Entry, NoMemory>
+        ensures { IfOk result (λ entry. entry ≡ audit_of self.now file mirror) }
+    {
+        let Some(stored) = self.stored(mirror) else {
+            return Ok(Entry::Audit {
+                file,
+                mirror,
+                length: 0,
+                bytes: Data::of(self.alloc, b"")?,
+            });
+        };
+        Ok(Entry::Audit {
+            file,
+            mirror,
+            length: stored.size(),
+            bytes: Data::of(self.alloc, stored.read(0, SHOWN))?,
+        })
+    }
+
+    /// The data file of a mirror, where there is one.
+    fn stored(&self, mirror: MirrorId) -> Option<&DataFile>
+        ensures { shown_or_none (option_copied result) ≡ shown_by (nth self.now.servers mirror.server) mirror.fileid }
+    {
+        self.server(mirror.server)?.file(mirror.fileid)
     }
 }

@@ -85,7 +85,8 @@ pub fn new_client(
 /// So many clients, by their numbers. Takes memory.
 pub fn new_clients(alloc: Global, count: u32) -> Result<Vec<Client>, NoMemory>
     requires { count ≤ MAX_NUMBER }
-    ensures { IfOk result (λ clients. map (λ c. c.client) clients.items ≡ map (λ n. fresh_client n 1 1) (range_with_len 1 count)) }
+    ensures count { IfOk result (λ clients. length clients.items ≡ count) }
+    ensures fresh { IfOk result (λ clients. map (λ c. c.client) clients.items ≡ map (λ n. fresh_client n 1 1) (range_with_len 1 count)) }
 {
     let mut clients = Vec::new(alloc);
     for index in 0..count {
