@@ -1,0 +1,5 @@
+pub mod Sent
+pub mod Drafts
+pub mod ClusterWorlds
+pub mod WorldSteps
+pub mod ClusterRuns
