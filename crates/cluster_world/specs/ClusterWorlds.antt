@@ -1,6 +1,6 @@
 -- The world of a cluster: its machines, the moment, which packets are held, and the journal. One event is one line of a script, or one
 -- delivery of a flow.
-use Rattle.std.specs.Prelude.{ℕ, zero, suc, ◌+◌, ◌-◌, ◌%◌, ◌^◌, Bool, true, false, not, List, [], ◌∷◌, ◌++◌, length, replicate, Option, Some, None, if◌then◌else◌, slice_set}
+use Rattle.std.specs.Prelude.{ℕ, ◌+◌, ◌-◌, ◌%◌, ◌^◌, Bool, true, false, not, List, [], ◌∷◌, ◌++◌, length, replicate, Option, Some, None, if◌then◌else◌, slice_set}
 use Rattle.std.specs.List.{range_with_len}
 use Rattle.cluster_model.specs.declared.ids.NodeId.{NodeId}
 use Rattle.cluster_model.specs.declared.ids.NodeId.TheVariants.{Mds, Server, Client}
@@ -14,9 +14,9 @@ use Rattle.mirror_client.specs.ClientRule.{client_ticked}
 use Rattle.mds_rule.specs.MdsStates.{numbered}
 use Rattle.mds_rule.specs.Events.{takes_tick, takes_recall, takes_resilver}
 use Rattle.packet_table.specs.declared.note.PacketNote.{PacketNote}
-use Rattle.packet_table.specs.Packets.{PacketsValue, packet_numbered, number_between, next_waiting, after_hold, after_pass}
+use Rattle.packet_table.specs.Packets.{PacketsValue, packet_numbered, number_between, after_hold, after_pass}
 use Rattle.cluster_machines.specs.Machines.{MachinesValue, Act, new_machines, nth, mds_acts, client_acts, receives, times_out, is_asked, leaves, goes_astray, starts_anew, restarts, audits}
-use Rattle.world_journal.specs.Journal.{max_entries, is_within}
+use Rattle.world_journal.specs.Journal.{is_within}
 use Rattle.world_journal.specs.SentPackets.{packets_of}
 use Rattle.cluster_world.specs.Sent.{packets_in, bytes_at_place}
 
