@@ -1,2 +1,9 @@
 pub mod PlayLemmas
+pub mod WorldGrows
+pub mod Flows
+pub mod Happenings
 pub mod ScriptLemmas
+pub mod TaskLemmas
+pub mod StageLemmas
+pub mod LineLemmas
+pub mod EventLemmas

@@ -1,183 +1,188 @@
--- What the first line of a script does to what the script says.
-use Rattle.std.proofs.Common.{◌≡◌, ℕ, ◌+◌, Bool, true, false, List, [], ◌∷◌, ◌++◌, length, Option, Some, None, Result, Ok, Err, refl, sym, ap, subst, ◌∙◌, arith, ◌==◌, if◌then◌else◌}
+-- What the first line of a script does to what the script says, and a delivery of a flow to what is to come.
+use Rattle.std.proofs.Common.{◌≡◌, ℕ, ◌+◌, Bool, true, false, List, [], ◌∷◌, ◌++◌, length, Option, Some, None, refl, sym, ap, subst, ◌∙◌, arith, ◌==◌, if◌then◌else◌}
 use Rattle.std.specs.Option.{option_map}
 use Rattle.std.proofs.lemmas.List.{append-nil, append_assoc, length-append}
 use Rattle.cluster_model.specs.declared.entry.Entry.{Entry}
-use Rattle.cluster_model.specs.Print.{print}
-use Rattle.ff_xdr.specs.declared.error.NoMemory.{NoMemory}
-use Rattle.line_runs.specs.declared.end.LineStep.{LineStep}
-use Rattle.line_runs.specs.declared.end.LineStep.TheVariants as step
-use Rattle.line_runs.specs.Writing.{IsBeginningOf}
-use Rattle.line_runs.specs.Runs.{RunEffect, after_text}
-use Rattle.line_runs.specs.Tasks.{BeginsLine, ahead_of, on_line}
-use Rattle.ff_replay.specs.Player.{PlayerValue, PlayerState, with_trace, PlayerPlays}
-use Rattle.ff_script.specs.declared.line.Setup.{Setup}
-use Rattle.ff_script.specs.declared.line.Setup.TheVariants.{Bare}
-use Rattle.ff_script.specs.Line.{LineValue, EventLine, SetupLine, Nothing, setup_at, event_at, words_at, line_at}
 use Rattle.cluster_model.specs.Event.{EventValue}
-use Rattle.ff_world.specs.World.{WorldState, WorldStep, effect_of, step_by_effect, world_step, Run, with_step, run_of}
-use Rattle.ff_replay.specs.Script.{Script, by_line, with_event, script_of, LinePlayed, Outside, Limited, Goes, played, played_by, played_step, entries_by, setup_of, count_of, run_by, script_from, run_from, meaning_from, script_task}
-use Rattle.ff_replay.proofs.PlayLemmas.{print_append}
+use Rattle.line_runs.specs.Runs.{RunEffect, after_text}
+use Rattle.cluster_script.specs.declared.sizes.ClusterSizes.{ClusterSizes}
+use Rattle.cluster_script.specs.ClusterLines as cluster
+use Rattle.ff_script.specs.Line.{event_at}
+use Rattle.ff_world.specs.World.{Run}
+use Rattle.cluster_world.specs.ClusterWorlds.{ClusterState}
+use Rattle.ff_replay.specs.declared.mode.Mode.{Mode}
+use Rattle.ff_replay.specs.declared.setup.Setup.{Setup}
+use Rattle.ff_replay.specs.declared.setup.Setup.TheVariants.{Bare, Cluster}
+use Rattle.ff_replay.specs.Script.{ScriptLine, SaysNothing, SetsUp, Happens, setup_in, words_in, line_in, Script, by_line, with_event, script_of, ScriptWorld, BareWorld, ClusterWorld, setup_of_world, world_of, setup_of, count_of, world_in, run_in, run_behind, script_from, run_from, trace_of, meaning_from}
+use Rattle.ff_replay.specs.Player.{LinePlayed, Outside, Limited, Goes, event_played, played_by, played, flowed, entries_by}
+use Rattle.ff_replay.specs.Ending.{no_trace}
+use Rattle.ff_replay.proofs.PlayLemmas.{trace_append}
+use Rattle.ff_replay.proofs.Happenings.{adds, GoesOn, world_on, within_on}
+
+-- ---- where a line may stand
 
 -- a setup's line stands only before a setup, and an event's only behind one
-abbrev pub Meets : Option Setup → Option LineValue → Type 0
+abbrev pub Meets : Option Setup → Option ScriptLine → Type 0
 Meets setup None = Unit {0}
-Meets setup (Some Nothing) = Unit {0}
-Meets None (Some (SetupLine chosen)) = Unit {0}
-Meets (Some old) (Some (SetupLine chosen)) = ⊥
-Meets None (Some (EventLine event)) = ⊥
-Meets (Some old) (Some (EventLine event)) = Unit {0}
+Meets setup (Some SaysNothing) = Unit {0}
+Meets None (Some (SetsUp chosen)) = Unit {0}
+Meets (Some old) (Some (SetsUp chosen)) = ⊥
+Meets None (Some (Happens event)) = ⊥
+Meets (Some old) (Some (Happens event)) = Unit {0}
 
-meets_setup : (said : Option Setup) → Meets None (option_map SetupLine said)
+meets_setup : (said : Option Setup) → Meets None (option_map SetsUp said)
 meets_setup None = tt
 meets_setup (Some chosen) = tt
 
-meets_event : (said : Option EventValue) → Meets (Some Bare) (option_map EventLine said)
-meets_event None = tt
-meets_event (Some event) = tt
+meets_event : (setup : Setup) (said : Option EventValue) → Meets (Some setup) (option_map Happens said)
+meets_event setup None = tt
+meets_event setup (Some event) = tt
 
-meets_words : (setup : Option Setup) (text : List ℕ) → Meets setup (words_at setup text)
-meets_words None text = meets_setup (setup_at text)
-meets_words (Some Bare) text = meets_event (event_at text)
+meets_words : (setup : Option Setup) (text : List ℕ) → Meets setup (words_in setup text)
+meets_words None text = meets_setup (setup_in text)
+meets_words (Some Bare) text = meets_event Bare (event_at text)
+meets_words (Some (Cluster sizes)) text = meets_event (Cluster sizes) (cluster.event_at sizes text)
 
-meets_either : (setup : Option Setup) (comment : Bool) (text : List ℕ) → Meets setup (if comment then Some Nothing else words_at setup text)
+meets_either : (setup : Option Setup) (comment : Bool) (text : List ℕ) → Meets setup (if comment then Some SaysNothing else words_in setup text)
 meets_either setup true text = tt
 meets_either setup false text = meets_words setup text
 
-pub meets : (setup : Option Setup) (text : List ℕ) → Meets setup (line_at setup text)
+meets : (setup : Option Setup) (text : List ℕ) → Meets setup (line_in setup text)
 meets setup [] = tt
 meets setup (c ∷ rest) = meets_either setup (c == 35) (c ∷ rest)
 
--- these entries before a run's
-abbrev pub adds : List Entry → Run → Run
-adds entries run = record { entries = entries ++ run.entries; over = run.over }
+-- ---- what a line comes to, before the lines behind it: what the script says, and the run of it
 
--- What a line comes to, before the lines behind it: what the script says, and the run of it.
-abbrev pub Splits : ℕ → Option WorldState → LinePlayed → (Option Setup → Script) → Script → Run → Type 0
-Splits number stage Outside rest s run = s ≡ record { setup = None; events = []; bad = Some number }
+-- what a script does behind the lines that made this world
+abbrev pub run_by : Bool → Option ScriptWorld → Script → Run
+run_by flows stage script = run_behind flows (world_in stage script.setup) script.events
+
+abbrev pub Splits : ℕ → Option ScriptWorld → LinePlayed → (Option Setup → Script) → Script → Run → Type 0
+Splits number stage Outside rest s run = (s.bad ≡ Some number) × (run ≡ record { entries = []; over = false })
 Splits number stage Limited rest s run = run ≡ record { entries = []; over = true }
-Splits number stage (Goes next entries) rest s run = (s.bad ≡ (rest (setup_of next)).bad) × (run ≡ adds entries (run_by next (rest (setup_of next)))) × (count_of next ≡ count_of stage + length entries)
+Splits number stage (Goes next flows entries) rest s run =
+    (s.bad ≡ (rest (setup_of next)).bad) × (run ≡ adds entries (run_by flows next (rest (setup_of next)))) × (count_of next ≡ count_of stage + length entries)
 
-let_through : (test : Bool) (effect step : WorldStep) → (if test then Some effect else None) ≡ Some step → step ≡ effect
-let_through true effect step is = cc
-let_through false effect step is = absurd (cc)
+by_happening : (number : ℕ) (w : ScriptWorld) (event : EventValue) (does : LinePlayed) (rest : Option Setup → Script) (run : Run) → GoesOn w does (rest (Some (setup_of_world w))).events run
+    → Splits number (Some w) does rest (with_event event (rest (Some (setup_of_world w)))) run
+by_happening number w event Outside rest run on = absurd on
+by_happening number w event Limited rest run on = on
+by_happening number w event (Goes None flows entries) rest run on = absurd on
+by_happening number w event (Goes (Some next) flows entries) rest run on = (
+  ap (λ c. (rest (Some c)).bad) (sym on.0),
+  on.1 ∙ ap (λ c. adds entries (run_behind flows next (rest (Some c)).events)) (sym on.0),
+  on.2,
+)
 
--- what an event leaves, where it happens
-stepped : (w : WorldState) (event : EventValue) (step : WorldStep) → world_step w event ≡ Some step → step ≡ step_by_effect w (effect_of w event)
-stepped w event step is = let_through _ (step_by_effect w (effect_of w event)) step is
+no_events : (number : ℕ) (stage : Option ScriptWorld) → run_by false stage (record { setup = None; events = []; bad = Some number }) ≡ record { entries = []; over = false }
+no_events number None = refl
+no_events number (Some (BareWorld w)) = refl
+no_events number (Some (ClusterWorld sizes w)) = refl
 
--- the journal's length goes with the entries
-counted : (w : WorldState) (event : EventValue) (step : WorldStep) → step ≡ step_by_effect w (effect_of w event) → length step.world.journal ≡ length w.journal + length step.entries
-counted w event step is = rw is (length-append w.journal (effect_of w event).entries)
+by_value : (number : ℕ) (stage : Option ScriptWorld) (v : Option ScriptLine) (rest : Option Setup → Script) → Meets (setup_of stage) v
+    → Splits number stage (played_by stage v) rest (by_line number (setup_of stage) v rest) (run_by false stage (by_line number (setup_of stage) v rest))
+by_value number stage None rest met = (refl, no_events number stage)
+by_value number stage (Some SaysNothing) rest met = (refl, refl, omega arith)
+by_value number None (Some (SetsUp Bare)) rest met = (refl, refl, omega arith)
+by_value number None (Some (SetsUp (Cluster sizes))) rest met = (refl, refl, omega arith)
+by_value number (Some w) (Some (SetsUp chosen)) rest met = absurd met
+by_value number None (Some (Happens event)) rest met = absurd met
+by_value number (Some w) (Some (Happens event)) rest met =
+    by_happening number w event (event_played w event) rest (run_in w (event ∷ (rest (Some (setup_of_world w))).events)) (world_on w event (rest (Some (setup_of_world w))).events)
 
-by_event : (number : ℕ) (w : WorldState) (event : EventValue) (rest : Option Setup → Script) (o : Option WorldStep) → world_step w event ≡ o
-    → Splits number (Some w) (played_step o) rest (with_event event (rest (Some w.setup))) (with_step o (λ next. run_of next (rest (Some w.setup)).events))
-by_event number w event rest None is = refl
-by_event number w event rest (Some step) is =
-    let left = stepped w event step is in
-    let kept : w.setup ≡ step.world.setup = sym (ap (λ (s : WorldStep). s.world.setup) left) in (
-      ap (λ c. (rest (Some c)).bad) kept,
-      ap (λ c. adds step.entries (run_of step.world (rest (Some c)).events)) kept,
-      counted w event step left,
-    )
-
-by_value : (number : ℕ) (stage : Option WorldState) (v : Option LineValue) (rest : Option Setup → Script) → Meets (setup_of stage) v
-    → Splits number stage (played_by stage v) rest (by_line number (setup_of stage) v rest) (run_by stage (by_line number (setup_of stage) v rest))
-by_value number stage None rest met = refl
-by_value number stage (Some Nothing) rest met = (refl, refl, omega arith)
-by_value number None (Some (SetupLine Bare)) rest met = (refl, refl, omega arith)
-by_value number (Some w) (Some (SetupLine chosen)) rest met = absurd met
-by_value number None (Some (EventLine event)) rest met = absurd met
-by_value number (Some w) (Some (EventLine event)) rest met = by_event number w event rest (world_step w event) refl
-
-line_on : (number : ℕ) (stage : Option WorldState) (line : List ℕ) (lines : List (List ℕ)) (p : LinePlayed) → played stage line ≡ p
-    → Splits number stage p (λ chosen. script_of (number + 1) chosen lines) (script_from stage number (line ∷ lines)) (run_from stage number (line ∷ lines))
+line_on : (number : ℕ) (stage : Option ScriptWorld) (line : List ℕ) (lines : List (List ℕ)) (p : LinePlayed) → played stage line ≡ p
+    → Splits number stage p (λ chosen. script_of (number + 1) chosen lines) (script_from stage number (line ∷ lines)) (run_from false stage number (line ∷ lines))
 line_on number stage line lines p is =
-    subst (λ q. Splits number stage q (λ chosen. script_of (number + 1) chosen lines) (script_from stage number (line ∷ lines)) (run_from stage number (line ∷ lines))) is
-    (by_value number stage (line_at (setup_of stage) line) (λ chosen. script_of (number + 1) chosen lines) (meets (setup_of stage) line))
+    subst (λ q. Splits number stage q (λ chosen. script_of (number + 1) chosen lines) (script_from stage number (line ∷ lines)) (run_from false stage number (line ∷ lines))) is
+    (by_value number stage (line_in (setup_of stage) line) (λ chosen. script_of (number + 1) chosen lines) (meets (setup_of stage) line))
+
+-- ---- the effect of it
+
+-- what a run of a script comes to, where there were so many entries before
+abbrev pub effect : Mode → ℕ → Option ℕ → Run → RunEffect
+effect mode count bad run = record { text = trace_of mode run.entries; bad = bad; past = run.over; count = count + length run.entries; closing = [] }
+
+goes_effect : (mode : Mode) (count number : ℕ) (next : Option ScriptWorld) (flows : Bool) (entries : List Entry) (lines : List (List ℕ)) (bad : Option ℕ) (run : Run)
+    → bad ≡ (script_from next number lines).bad → run ≡ adds entries (run_from flows next number lines) → count_of next ≡ count + length entries
+    → effect mode count bad run ≡ after_text (trace_of mode entries) (meaning_from mode flows next number lines)
+goes_effect mode count number next flows entries lines bad run bad_is run_is count_is =
+    let after : Run = run_from flows next number lines in
+    let all : count + length (entries ++ after.entries) ≡ count_of next + length after.entries = omega (arith, count_is, length-append entries after.entries) in
+    let make : List ℕ → ℕ → RunEffect = λ t n. record { text = t; bad = (script_from next number lines).bad; past = after.over; count = n; closing = [] } in
+    (λ i. effect mode count (bad_is i) (run_is i)) ∙ (λ i. make (trace_append mode entries after.entries i) (all i))
+
+limited_effect : (mode : Mode) (count : ℕ) (bad : Option ℕ) (run : Run) → run ≡ record { entries = []; over = true }
+    → ((effect mode count bad run).past ≡ true) × (count ≡ (effect mode count bad run).count) × ((effect mode count bad run).text ≡ [])
+limited_effect mode count bad run is = (
+  ap (λ (r : Run). r.over) is,
+  (let none : length run.entries ≡ 0 = ap (λ (r : Run). length r.entries) is in omega (arith, none)),
+  ap (λ (r : Run). trace_of mode r.entries) is ∙ no_trace mode,
+)
 
 -- ---- the first line, and what is to come
 
 -- it is played
-goes_first : (number : ℕ) (stage next : Option WorldState) (line : List ℕ) (lines : List (List ℕ)) (entries : List Entry) → played stage line ≡ Goes next entries
-    → meaning_from stage number (line ∷ lines) ≡ after_text (print entries) (meaning_from next (number + 1) lines)
-goes_first number stage next line lines entries is =
-    let split = line_on number stage line lines (Goes next entries) is in
-    let es = (run_from next (number + 1) lines).entries in
-    let count : count_of stage + length (entries ++ es) ≡ count_of next + length es = omega (arith, split.2, length-append entries es) in
-    let make : List ℕ → ℕ → RunEffect = λ t n. record { text = t; bad = (script_from next (number + 1) lines).bad; past = (run_from next (number + 1) lines).over; count = n; closing = [] } in
-    let all : meaning_from stage number (line ∷ lines) ≡ make (print (entries ++ es)) (count_of stage + length (entries ++ es)) =
-    (λ i. record { text = print (split.1 i).entries; bad = split.0 i; past = (split.1 i).over; count = count_of stage + length (split.1 i).entries; closing = [] }) in
-    all ∙ (λ i. make (print_append entries es i) (count i))
+pub goes_first : (mode : Mode) (number : ℕ) (stage next : Option ScriptWorld) (flows : Bool) (line : List ℕ) (lines : List (List ℕ)) (entries : List Entry) → played stage line ≡ Goes next flows entries
+    → meaning_from mode false stage number (line ∷ lines) ≡ after_text (trace_of mode entries) (meaning_from mode flows next (number + 1) lines)
+goes_first mode number stage next flows line lines entries is =
+    let split = line_on number stage line lines (Goes next flows entries) is in
+    goes_effect mode (count_of stage) (number + 1) next flows entries lines _ _ split.0 split.1 split.2
 
 -- it is outside the grammar
-outside_first : (number : ℕ) (stage : Option WorldState) (line : List ℕ) (lines : List (List ℕ)) → played stage line ≡ Outside
-    → ((meaning_from stage number (line ∷ lines)).bad ≡ Some number) × ((meaning_from stage number (line ∷ lines)).past ≡ false) × ((meaning_from stage number (line ∷ lines)).text ≡ [])
-outside_first number stage line lines is =
-    let split = line_on number stage line lines Outside is in
-    let run : run_from stage number (line ∷ lines) ≡ record { entries = []; over = false } = ap (run_by stage) split in (
-      ap (λ (s : Script). s.bad) split,
-      ap (λ (r : Run). r.over) run,
-      ap (λ (r : Run). print r.entries) run,
+pub outside_first : (mode : Mode) (number : ℕ) (stage : Option ScriptWorld) (line : List ℕ) (lines : List (List ℕ)) → played stage line ≡ Outside
+    → ((meaning_from mode false stage number (line ∷ lines)).bad ≡ Some number) × ((meaning_from mode false stage number (line ∷ lines)).past ≡ false) × ((meaning_from mode false stage number (line ∷ lines)).text ≡ [])
+outside_first mode number stage line lines is =
+    let split = line_on number stage line lines Outside is in (
+      split.0,
+      ap (λ (r : Run). r.over) split.1,
+      ap (λ (r : Run). trace_of mode r.entries) split.1 ∙ no_trace mode,
     )
 
 -- its event would pass a limit
-limited_first : (number : ℕ) (stage : Option WorldState) (line : List ℕ) (lines : List (List ℕ)) (count : ℕ) → played stage line ≡ Limited → count ≡ count_of stage
-    → ((meaning_from stage number (line ∷ lines)).past ≡ true) × (count ≡ (meaning_from stage number (line ∷ lines)).count) × ((meaning_from stage number (line ∷ lines)).text ≡ [])
-limited_first number stage line lines count is same =
-    let split = line_on number stage line lines Limited is in (
-      ap (λ (r : Run). r.over) split,
-      (let none : length (run_from stage number (line ∷ lines)).entries ≡ 0 = ap (λ (r : Run). length r.entries) split in omega (arith, same, none)),
-      ap (λ (r : Run). print r.entries) split,
-    )
+pub limited_first : (mode : Mode) (number : ℕ) (stage : Option ScriptWorld) (line : List ℕ) (lines : List (List ℕ)) → played stage line ≡ Limited
+    → ((meaning_from mode false stage number (line ∷ lines)).past ≡ true) × (count_of stage ≡ (meaning_from mode false stage number (line ∷ lines)).count) × ((meaning_from mode false stage number (line ∷ lines)).text ≡ [])
+limited_first mode number stage line lines is = limited_effect mode (count_of stage) (script_from stage number (line ∷ lines)).bad _ (line_on number stage line lines Limited is)
 
 -- the text of the first line begins the text of all
-text_first : (number : ℕ) (stage : Option WorldState) (line : List ℕ) (lines : List (List ℕ)) (p : LinePlayed) → played stage line ≡ p
-    → (more : List ℕ) × ((meaning_from stage number (line ∷ lines)).text ≡ print (entries_by p) ++ more)
-text_first number stage line lines Outside is = ([], (outside_first number stage line lines is).2)
-text_first number stage line lines Limited is = ([], (limited_first number stage line lines (count_of stage) is refl).2)
-text_first number stage line lines (Goes next entries) is =
-    (print (run_from next (number + 1) lines).entries, ap (λ (c : RunEffect). c.text) (goes_first number stage next line lines entries is))
+pub text_first : (mode : Mode) (number : ℕ) (stage : Option ScriptWorld) (line : List ℕ) (lines : List (List ℕ)) (p : LinePlayed) → played stage line ≡ p
+    → (more : List ℕ) × ((meaning_from mode false stage number (line ∷ lines)).text ≡ trace_of mode (entries_by p) ++ more)
+text_first mode number stage line lines Outside is = ([], (outside_first mode number stage line lines is).2 ∙ sym (append-nil _ ∙ no_trace mode))
+text_first mode number stage line lines Limited is = ([], (limited_first mode number stage line lines is).2 ∙ sym (append-nil _ ∙ no_trace mode))
+text_first mode number stage line lines (Goes next flows entries) is =
+    (trace_of mode (run_from flows next (number + 1) lines).entries, ap (λ (c : RunEffect). c.text) (goes_first mode number stage next flows line lines entries is))
 
-begins_first : (part text more all : List ℕ) → IsBeginningOf part text → all ≡ text ++ more → IsBeginningOf part all
-begins_first part text more all begins is = record {
-  rest = begins.rest ++ more;
-  whole = sym (append_assoc part begins.rest more) ∙ ap (λ t. t ++ more) begins.whole ∙ sym is;
-}
+-- ---- a flow that is under way, and what is to come
 
--- What a player did with a line is what a step of a task does.
-pub does_task : (old new : PlayerValue) (text text' line : List ℕ) (r : Result LineStep NoMemory) (number : ℕ) → PlayerPlays (with_trace old text) (played old.stage line) r (with_trace new text')
-    → BeginsLine number (on_line line (ahead_of number (script_task old.stage))) text r (script_task new.stage) text'
-does_task old new text text' line (Ok step.Done) number goes =
-    let stage : new.stage ≡ goes.stage = ap (λ (p : PlayerState). p.stage) goes.now in record {
-      more = print goes.entries;
-      now = ap (λ (p : PlayerState). p.trace) goes.now;
-      same = λ lines. goes_first number old.stage goes.stage line lines goes.entries goes.is
-          ∙ ap (λ s. after_text (print goes.entries) (meaning_from s (number + 1) lines)) (sym stage);
-      after = λ lines. refl;
-    }
-does_task old new text text' line (Ok step.More) number goes = absurd goes
-does_task old new text text' line (Ok step.Outside) number refuses = record {
-  more = [];
-  now = ap (λ (p : PlayerState). p.trace) refuses.1 ∙ sym (append-nil text);
-  why = λ lines. outside_first number old.stage line lines refuses.0;
-  adds = λ lines. (outside_first number old.stage line lines refuses.0).2;
-  closing = λ lines. refl;
-  after = λ lines. refl;
-}
-does_task old new text text' line (Ok (step.Limited count)) number limited =
-    let first = λ (lines : List (List ℕ)). limited_first number old.stage line lines count limited.is limited.count_is in record {
-      more = [];
-      now = limited.trace ∙ sym (append-nil text);
-      why = λ lines. ((first lines).0, (first lines).1);
-      adds = λ lines. (first lines).2;
-      closing = λ lines. refl;
-      after = λ lines. refl;
-    }
-does_task old new text text' line (Err e) number begun = record {
-  part = begun.part;
-  now = begun.trace;
-  begins = λ lines.
-      let first = text_first number old.stage line lines (played old.stage line) refl in
-      begins_first begun.part _ first.0 _ begun.begins first.1;
-}
+flow_now : (sizes : ClusterSizes) (w : ClusterState) (number : ℕ) (lines : List (List ℕ)) (p : LinePlayed) → flowed sizes w ≡ p
+    → GoesOn (ClusterWorld sizes w) p (script_of number (Some (Cluster sizes)) lines).events (run_from true (Some (ClusterWorld sizes w)) number lines)
+flow_now sizes w number lines p is =
+    subst (λ q. GoesOn (ClusterWorld sizes w) q (script_of number (Some (Cluster sizes)) lines).events (run_from true (Some (ClusterWorld sizes w)) number lines)) is
+    (within_on sizes w (script_of number (Some (Cluster sizes)) lines).events)
+
+-- the next packet came, or none waits
+pub goes_within : (mode : Mode) (number : ℕ) (sizes : ClusterSizes) (w : ClusterState) (next : Option ScriptWorld) (flows : Bool) (entries : List Entry) (lines : List (List ℕ)) → flowed sizes w ≡ Goes next flows entries
+    → meaning_from mode true (Some (ClusterWorld sizes w)) number lines ≡ after_text (trace_of mode entries) (meaning_from mode flows next number lines)
+goes_within mode number sizes w None flows entries lines is = absurd (flow_now sizes w number lines (Goes None flows entries) is)
+goes_within mode number sizes w (Some next) flows entries lines is =
+    let on = flow_now sizes w number lines (Goes (Some next) flows entries) is in
+    goes_effect mode (count_of (Some (ClusterWorld sizes w))) number (Some next) flows entries lines _ _
+    (ap (λ c. (script_of number (Some c) lines).bad) (sym on.0))
+    (on.1 ∙ ap (λ c. adds entries (run_behind flows next (script_of number (Some c) lines).events)) (sym on.0))
+    on.2
+
+-- it would pass a limit
+pub limited_within : (mode : Mode) (number : ℕ) (sizes : ClusterSizes) (w : ClusterState) (lines : List (List ℕ)) → flowed sizes w ≡ Limited
+    → ((meaning_from mode true (Some (ClusterWorld sizes w)) number lines).past ≡ true) × (length w.journal ≡ (meaning_from mode true (Some (ClusterWorld sizes w)) number lines).count) × ((meaning_from mode true (Some (ClusterWorld sizes w)) number lines).text ≡ [])
+limited_within mode number sizes w lines is = limited_effect mode (length w.journal) (script_of number (Some (Cluster sizes)) lines).bad _ (flow_now sizes w number lines Limited is)
+
+-- a flow is within the grammar
+pub flow_not_outside : (sizes : ClusterSizes) (w : ClusterState) → flowed sizes w ≡ Outside → ⊥
+flow_not_outside sizes w is = flow_now sizes w 1 [] Outside is
+
+-- the text of the delivery begins the text of all
+pub text_within : (mode : Mode) (number : ℕ) (sizes : ClusterSizes) (w : ClusterState) (lines : List (List ℕ)) (p : LinePlayed) → flowed sizes w ≡ p
+    → (more : List ℕ) × ((meaning_from mode true (Some (ClusterWorld sizes w)) number lines).text ≡ trace_of mode (entries_by p) ++ more)
+text_within mode number sizes w lines Outside is = absurd (flow_not_outside sizes w is)
+text_within mode number sizes w lines Limited is = ([], (limited_within mode number sizes w lines is).2 ∙ sym (append-nil _ ∙ no_trace mode))
+text_within mode number sizes w lines (Goes next flows entries) is =
+    (trace_of mode (run_from flows next number lines).entries, ap (λ (c : RunEffect). c.text) (goes_within mode number sizes w next flows entries lines is))

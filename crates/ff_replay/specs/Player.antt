@@ -1,39 +1,161 @@
 -- A run of a script, line by line.
-use Rattle.std.specs.Prelude.{◌≡◌, ℕ, List, ◌++◌, Option, Some, None, Result, Ok, Err}
+use Rattle.std.specs.Prelude.{⊤, ◌≡◌, ℕ, ◌-◌, ◌≤◌, ◌==◌, Bool, true, false, List, [], ◌∷◌, ◌++◌, Option, Some, None, Result, Ok, Err}
 use Rattle.ff_xdr.specs.declared.error.NoMemory.{NoMemory}
 use Rattle.cluster_model.specs.declared.entry.Entry.{Entry}
+use Rattle.cluster_model.specs.Event.{EventValue, DeliverPacket, Flow}
 use Rattle.line_runs.specs.declared.end.LineStep.{LineStep}
 use Rattle.line_runs.specs.declared.end.LineStep.TheVariants as step
 use Rattle.line_runs.specs.Writing.{IsBeginningOf}
+use Rattle.node_config.specs.declared.config.TheConstants.{MAX_SERVERS, MAX_MIRRORS, MAX_NUMBER}
 use Rattle.world_journal.specs.declared.fault.WorldFault.{WorldFault}
-use Rattle.cluster_model.specs.Print.{print}
-use Rattle.ff_world.specs.World.{WorldState, WorldValue}
-use Rattle.ff_replay.specs.Script.{LinePlayed, Outside, Limited, Goes, entries_by, count_of}
+use Rattle.world_journal.specs.Journal.{max_entries}
+use Rattle.packet_table.specs.Packets.{next_waiting}
+use Rattle.ff_world.specs.World.{WorldStep, WorldValue, world_step}
+use Rattle.cluster_script.specs.declared.sizes.ClusterSizes.{ClusterSizes}
+use Rattle.cluster_world.specs.ClusterWorlds.{ClusterState, packets, cluster_step}
+use Rattle.cluster_world.specs.ClusterRuns.{added}
+use Rattle.cluster_world.specs.WorldSteps.{ClusterValue}
+use Rattle.ff_replay.specs.declared.mode.Mode.{Mode}
+use Rattle.ff_replay.specs.declared.setup.Setup.{Setup}
+use Rattle.ff_replay.specs.declared.setup.Setup.TheVariants.{Bare, Cluster}
+use Rattle.ff_replay.specs.declared.stage.Stage.{Stage}
+use Rattle.ff_replay.specs.declared.stage.Stage.TheVariants as stage
+use Rattle.ff_replay.specs.Script.{ScriptLine, SaysNothing, SetsUp, Happens, ScriptWorld, BareWorld, ClusterWorld, world_of, setup_of, count_of, entries_in, line_in, trace_of}
 
--- the world that a script has made so far, and what it is spent by
+-- an empty line, or one that begins with `#` (35)
+abbrev pub is_comment : List ℕ → Bool
+is_comment [] = true
+is_comment (c ∷ rest) = c == 35
+
+-- ---- what a line does
+
+-- The line is outside the grammar; its event would pass a limit; or the run goes on from another world, with these entries more, and
+-- with a flow under way or without.
+pub data LinePlayed : Type 0 where
+  Outside : LinePlayed
+  Limited : LinePlayed
+  Goes : (stage : Option ScriptWorld) (flows : Bool) (entries : List Entry) → LinePlayed
+
+abbrev pub bare_goes : Option WorldStep → LinePlayed
+bare_goes None = Limited
+bare_goes (Some step) = Goes (Some (BareWorld step.world)) false step.entries
+
+abbrev pub cluster_goes : ClusterSizes → Bool → ClusterState → Option ClusterState → LinePlayed
+cluster_goes sizes flows w None = Limited
+cluster_goes sizes flows w (Some next) = Goes (Some (ClusterWorld sizes next)) flows (added w next)
+
+-- one delivery of a flow
+abbrev pub flows_by : ClusterSizes → ClusterState → Option ℕ → LinePlayed
+flows_by sizes w None = Goes (Some (ClusterWorld sizes w)) false []
+flows_by sizes w (Some number) = cluster_goes sizes true w (cluster_step w (DeliverPacket number))
+
+abbrev pub flowed : ClusterSizes → ClusterState → LinePlayed
+flowed sizes w = flows_by sizes w (next_waiting (packets w))
+
+-- what goes on in a world within a flow; in that of one data server there is none
+abbrev pub flowed_in : ScriptWorld → LinePlayed
+flowed_in (BareWorld w) = Goes (Some (BareWorld w)) false []
+flowed_in (ClusterWorld sizes w) = flowed sizes w
+
+abbrev pub flowing : Option ScriptWorld → LinePlayed
+flowing None = Goes None false []
+flowing (Some w) = flowed_in w
+
+abbrev pub is_flow : EventValue → Bool
+is_flow Flow = true
+is_flow event = false
+
+-- an event, which stands behind the setup
+abbrev pub cluster_played : Bool → ClusterSizes → ClusterState → EventValue → LinePlayed
+cluster_played true sizes w event = flowed sizes w
+cluster_played false sizes w event = cluster_goes sizes false w (cluster_step w event)
+
+abbrev pub event_played : ScriptWorld → EventValue → LinePlayed
+event_played (BareWorld w) event = bare_goes (world_step w event)
+event_played (ClusterWorld sizes w) event = cluster_played (is_flow event) sizes w event
+
+abbrev pub happening : Option ScriptWorld → EventValue → LinePlayed
+happening None event = Outside
+happening (Some w) event = event_played w event
+
+abbrev pub played_by : Option ScriptWorld → Option ScriptLine → LinePlayed
+played_by before None = Outside
+played_by before (Some SaysNothing) = Goes before false []
+played_by before (Some (SetsUp chosen)) = Goes (Some (world_of chosen)) false []
+played_by before (Some (Happens event)) = happening before event
+
+abbrev pub played : Option ScriptWorld → List ℕ → LinePlayed
+played before line = played_by before (line_in (setup_of before) line)
+
+-- the entries that it adds
+abbrev pub entries_by : LinePlayed → List Entry
+entries_by Outside = []
+entries_by Limited = []
+entries_by (Goes next flows entries) = entries
+
+-- ---- the player
+
+-- how much of the trace is printed; the world that a script has made so far, and what it is spent by; and whether a flow is under way
 pub record PlayerValue : Type 0 where
-  pub stage : Option WorldState
+  pub mode : Mode
+  pub stage : Option ScriptWorld
   pub spent : Option WorldFault
+  pub flows : Bool
 
-abbrev pub player_of : Option WorldValue → PlayerValue
-player_of None = record { stage = None; spent = None }
-player_of (Some w) = record { stage = Some w.world; spent = w.spent }
+abbrev pub stage_world : Stage → ScriptWorld
+stage_world (stage.Bare w) = BareWorld w.world
+stage_world (stage.Cluster sizes w) = ClusterWorld sizes w.world
 
--- the same, with the text of its journal that is not yet written
+abbrev pub stage_spent : Stage → Option WorldFault
+stage_spent (stage.Bare w) = w.spent
+stage_spent (stage.Cluster sizes w) = w.spent
+
+abbrev pub player_of : Mode → Option Stage → Bool → PlayerValue
+player_of mode None flows = record { mode = mode; stage = None; spent = None; flows = flows }
+player_of mode (Some s) flows = record { mode = mode; stage = Some (stage_world s); spent = stage_spent s; flows = flows }
+
+-- between two lines, and within a line: a flow of a cluster is under way
+abbrev pub IsBetween : PlayerValue → Type 0
+IsBetween p = (p.spent ≡ None) × (p.flows ≡ false)
+
+abbrev pub IsOfCluster : Option ScriptWorld → Type 0
+IsOfCluster None = ⊥
+IsOfCluster (Some (BareWorld w)) = ⊥
+IsOfCluster (Some (ClusterWorld sizes w)) = ⊤
+
+abbrev pub IsWithinFlow : PlayerValue → Type 0
+IsWithinFlow p = (p.spent ≡ None) × (p.flows ≡ true) × IsOfCluster p.stage
+
+-- how many entries fit yet behind those of the journal
+abbrev pub room_of : Option ScriptWorld → ℕ
+room_of before = max_entries - count_of before
+
+-- ---- what the code's player did
+
+-- the world, what it is spent by, and the text of its journal that is not yet written
 pub record PlayerState : Type 0 where
-  pub stage : Option WorldState
+  pub stage : Option ScriptWorld
   pub spent : Option WorldFault
   pub trace : List ℕ
 
 abbrev pub with_trace : PlayerValue → List ℕ → PlayerState
 with_trace p trace = record { stage = p.stage; spent = p.spent; trace = trace }
 
+abbrev pub at_stage : Stage → List ℕ → PlayerState
+at_stage s trace = record { stage = Some (stage_world s); spent = stage_spent s; trace = trace }
+
+abbrev pub at_bare : WorldValue → List ℕ → PlayerState
+at_bare w trace = record { stage = Some (BareWorld w.world); spent = w.spent; trace = trace }
+
+abbrev pub at_cluster : ClusterSizes → ClusterValue → List ℕ → PlayerState
+at_cluster sizes w trace = record { stage = Some (ClusterWorld sizes w.world); spent = w.spent; trace = trace }
+
 -- the run goes on, and the entries are printed
-pub record GoesFrom (old : PlayerState) (does : LinePlayed) (new : PlayerState) : Type 0 where
-  pub stage : Option WorldState
+pub record GoesFrom (mode : Mode) (old : PlayerState) (does : LinePlayed) (flows : Bool) (new : PlayerState) : Type 0 where
+  pub next : Option ScriptWorld
   pub entries : List Entry
-  pub is : does ≡ Goes stage entries
-  pub now : new ≡ record { stage = stage; spent = None; trace = old.trace ++ print entries }
+  pub is : does ≡ Goes next flows entries
+  pub now : new ≡ record { stage = next; spent = None; trace = old.trace ++ trace_of mode entries }
 
 -- the run is at a limit, and all entries so far are printed
 pub record PlayerStopsAtLimit (old : PlayerState) (does : LinePlayed) (count : ℕ) (new : PlayerState) : Type 0 where
@@ -42,16 +164,37 @@ pub record PlayerStopsAtLimit (old : PlayerState) (does : LinePlayed) (count : �
   pub trace : new.trace ≡ old.trace
 
 -- memory was wanted, and a beginning of the entries is printed
-pub record PlayerPrintedPart (old : PlayerState) (does : LinePlayed) (new : PlayerState) : Type 0 where
+pub record PlayerPrintedPart (mode : Mode) (old : PlayerState) (does : LinePlayed) (new : PlayerState) : Type 0 where
   pub part : List ℕ
-  pub begins : IsBeginningOf part (print (entries_by does))
+  pub begins : IsBeginningOf part (trace_of mode (entries_by does))
   pub trace : new.trace ≡ old.trace ++ part
 
--- What happened where this was to be done: it was done; nothing has changed, since the line is outside the grammar; the event
--- would pass a limit; or memory was wanted.
-abbrev pub PlayerPlays : PlayerState → LinePlayed → Result LineStep NoMemory → PlayerState → Type 0
-PlayerPlays old does (Ok step.Done) new = GoesFrom old does new
-PlayerPlays old does (Ok step.More) new = ⊥
-PlayerPlays old does (Ok step.Outside) new = (does ≡ Outside) × (new ≡ old)
-PlayerPlays old does (Ok (step.Limited count)) new = PlayerStopsAtLimit old does count new
-PlayerPlays old does (Err e) new = PlayerPrintedPart old does new
+-- What happened where this was to be done: it was done, and a flow is under way or not; nothing has changed, since the line is outside
+-- the grammar; the event would pass a limit; or memory was wanted.
+abbrev pub PlayerPlays : Mode → PlayerState → LinePlayed → Result LineStep NoMemory → PlayerState → Type 0
+PlayerPlays mode old does (Ok step.Done) new = GoesFrom mode old does false new
+PlayerPlays mode old does (Ok step.More) new = GoesFrom mode old does true new
+PlayerPlays mode old does (Ok step.Outside) new = (does ≡ Outside) × (new ≡ old)
+PlayerPlays mode old does (Ok (step.Limited count)) new = PlayerStopsAtLimit old does count new
+PlayerPlays mode old does (Err e) new = PlayerPrintedPart mode old does new
+
+-- a flow is under way just where there is more of the line
+abbrev pub is_more : LineStep → Bool
+is_more step.More = true
+is_more step.Done = false
+is_more step.Outside = false
+is_more (step.Limited count) = false
+
+-- ---- what a script's line gives to a world
+
+-- the sizes of a cluster are such that there may be one
+pub record AreSizes (sizes : ClusterSizes) : Type 0 where
+  pub mirrored : 1 ≤ sizes.mirrors
+  pub few : sizes.mirrors ≤ MAX_MIRRORS
+  pub within : sizes.mirrors ≤ sizes.servers
+  pub servers : sizes.servers ≤ MAX_SERVERS
+  pub clients : sizes.clients ≤ MAX_NUMBER
+
+abbrev pub IsSetup : Setup → Type 0
+IsSetup Bare = ⊤
+IsSetup (Cluster sizes) = AreSizes sizes

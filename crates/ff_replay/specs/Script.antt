@@ -1,14 +1,49 @@
 -- What a script says, and the trace of it.
-use Rattle.std.specs.Prelude.{ℕ, ◌+◌, List, [], ◌∷◌, length, Option, Some, None}
+use Rattle.std.specs.Prelude.{ℕ, ◌+◌, Bool, true, false, ◌==◌, List, [], ◌∷◌, length, codes, Option, Some, None, option_map, if◌then◌else◌}
+use Rattle.std.specs.Str.{bytes_eq}
 use Rattle.cluster_model.specs.declared.entry.Entry.{Entry}
-use Rattle.ff_script.specs.declared.line.Setup.{Setup}
-use Rattle.ff_script.specs.declared.line.Setup.TheVariants.{Bare}
-use Rattle.line_runs.specs.Runs.{LinesMeaning}
-use Rattle.line_runs.specs.Tasks.{TaskValue}
-use Rattle.ff_script.specs.Line.{LineValue, Nothing, SetupLine, EventLine, line_at}
 use Rattle.cluster_model.specs.Event.{EventValue}
 use Rattle.cluster_model.specs.Print.{print}
-use Rattle.ff_world.specs.World.{WorldState, WorldStep, preset_world, world_step, Run, run_of}
+use Rattle.journal_print.specs.Brief.{brief}
+use Rattle.line_runs.specs.Runs.{LinesMeaning}
+use Rattle.line_runs.specs.Tasks.{TaskValue}
+use Rattle.ff_script.specs.Line as bare
+use Rattle.cluster_script.specs.declared.sizes.ClusterSizes.{ClusterSizes}
+use Rattle.cluster_script.specs.ClusterLines as cluster
+use Rattle.ff_world.specs.World.{WorldState, Run, preset_world, run_of}
+use Rattle.cluster_world.specs.ClusterWorlds.{ClusterState, new_cluster}
+use Rattle.cluster_world.specs.ClusterRuns.{ClusterRun, flow_then, cluster_run}
+use Rattle.ff_replay.specs.declared.mode.Mode.{Mode}
+use Rattle.ff_replay.specs.declared.mode.Mode.TheVariants.{Full, Brief}
+use Rattle.ff_replay.specs.declared.setup.Setup.{Setup}
+use Rattle.ff_replay.specs.declared.setup.Setup.TheVariants.{Bare, Cluster}
+
+-- ---- a line
+
+pub data ScriptLine : Type 0 where
+  SaysNothing : ScriptLine
+  SetsUp : (chosen : Setup) → ScriptLine
+  Happens : (event : EventValue) → ScriptLine
+
+-- the line that chooses the setup: `bare`, or `cluster` and three numbers
+abbrev pub cluster_setup : Option ClusterSizes → Option Setup
+cluster_setup sizes = option_map Cluster sizes
+
+abbrev pub setup_in : List ℕ → Option Setup
+setup_in text = if bytes_eq text (codes "bare") then Some Bare else cluster_setup (cluster.cluster_at text)
+
+-- a line of words, by the setup that was chosen
+abbrev pub words_in : Option Setup → List ℕ → Option ScriptLine
+words_in None text = option_map SetsUp (setup_in text)
+words_in (Some Bare) text = option_map Happens (bare.event_at text)
+words_in (Some (Cluster sizes)) text = option_map Happens (cluster.event_at sizes text)
+
+-- A line of a script. An empty line says nothing, nor does one that begins with `#` (35).
+abbrev pub line_in : Option Setup → List ℕ → Option ScriptLine
+line_in setup [] = Some SaysNothing
+line_in setup (c ∷ rest) = if c == 35 then Some SaysNothing else words_in setup (c ∷ rest)
+
+-- ---- a script
 
 -- What the lines before the first that is outside the grammar say: the setup that they choose, and the events; and that line's
 -- number, from 1.
@@ -24,99 +59,101 @@ abbrev pub with_event : EventValue → Script → Script
 with_event event rest = record { setup = rest.setup; events = event ∷ rest.events; bad = rest.bad }
 
 -- what the line with this number does to the lines behind it, which have a setup by then
-abbrev pub by_line : ℕ → Option Setup → Option LineValue → (Option Setup → Script) → Script
+abbrev pub by_line : ℕ → Option Setup → Option ScriptLine → (Option Setup → Script) → Script
 by_line number setup None rest = record { setup = None; events = []; bad = Some number }
-by_line number setup (Some Nothing) rest = rest setup
-by_line number setup (Some (SetupLine chosen)) rest = with_setup chosen (rest (Some chosen))
-by_line number setup (Some (EventLine event)) rest = with_event event (rest setup)
+by_line number setup (Some SaysNothing) rest = rest setup
+by_line number setup (Some (SetsUp chosen)) rest = with_setup chosen (rest (Some chosen))
+by_line number setup (Some (Happens event)) rest = with_event event (rest setup)
 
 -- the lines from this number on, with the setup that stands before them
 abbrev pub script_of : ℕ → Option Setup → List (List ℕ) → Script
 script_of number setup [] = record { setup = None; events = []; bad = None }
-script_of number setup (line ∷ lines) = by_line number setup (line_at setup line) (λ chosen. script_of (number + 1) chosen lines)
+script_of number setup (line ∷ lines) = by_line number setup (line_in setup line) (λ chosen. script_of (number + 1) chosen lines)
 
--- ---- the run of a script
+-- ---- its world
+
+-- of one data server, or of a cluster of these sizes
+pub data ScriptWorld : Type 0 where
+  BareWorld : (world : WorldState) → ScriptWorld
+  ClusterWorld : (sizes : ClusterSizes) (world : ClusterState) → ScriptWorld
+
+-- the world of a setup, before any event
+abbrev pub world_of : Setup → ScriptWorld
+world_of Bare = BareWorld (preset_world Rattle.ff_script.specs.declared.line.Setup.TheVariants.Bare)
+world_of (Cluster sizes) = ClusterWorld sizes (new_cluster sizes.servers sizes.mirrors sizes.clients)
+
+abbrev pub setup_of_world : ScriptWorld → Setup
+setup_of_world (BareWorld w) = Bare
+setup_of_world (ClusterWorld sizes w) = Cluster sizes
+
+abbrev pub entries_in : ScriptWorld → ℕ
+entries_in (BareWorld w) = length w.journal
+entries_in (ClusterWorld sizes w) = length w.journal
 
 -- the setup of the world so far: none before the setup line
-abbrev pub setup_of : Option WorldState → Option Setup
-setup_of None = None
-setup_of (Some w) = Some w.setup
+abbrev pub setup_of : Option ScriptWorld → Option Setup
+setup_of stage = option_map setup_of_world stage
 
 -- how many entries the journal has
-abbrev pub count_of : Option WorldState → ℕ
+abbrev pub count_of : Option ScriptWorld → ℕ
 count_of None = 0
-count_of (Some w) = length w.journal
+count_of (Some w) = entries_in w
+
+-- ---- its run
+
+abbrev pub bare_run : ClusterRun → Run
+bare_run r = record { entries = r.entries; over = r.over }
+
+-- each event happens in the world that the events before it left
+abbrev pub run_in : ScriptWorld → List EventValue → Run
+run_in (BareWorld w) events = run_of w events
+run_in (ClusterWorld sizes w) events = bare_run (cluster_run w events)
+
+-- the same, behind what is left of a flow
+abbrev pub run_behind : Bool → ScriptWorld → List EventValue → Run
+run_behind false w events = run_in w events
+run_behind true (BareWorld w) events = run_of w events
+run_behind true (ClusterWorld sizes w) events = bare_run (flow_then (λ next. cluster_run next events) w)
 
 -- The world that events happen in: the one so far, or the first one of the setup that the lines choose. With no setup there are
 -- no events.
-abbrev pub world_in : Option WorldState → Option Setup → WorldState
+abbrev pub world_in : Option ScriptWorld → Option Setup → ScriptWorld
 world_in (Some w) chosen = w
-world_in None (Some chosen) = preset_world chosen
-world_in None None = preset_world Bare
+world_in None (Some chosen) = world_of chosen
+world_in None None = world_of Bare
 
--- what a script does behind the lines that made this world
-abbrev pub run_by : Option WorldState → Script → Run
-run_by stage script = run_of (world_in stage script.setup) script.events
-
--- What lines say from this number on, behind those that made this world, and the run of them. A run ends before an event that
--- would pass a limit.
-abbrev pub script_from : Option WorldState → ℕ → List (List ℕ) → Script
+-- what lines say from this number on, behind those that made this world
+abbrev pub script_from : Option ScriptWorld → ℕ → List (List ℕ) → Script
 script_from stage number lines = script_of number (setup_of stage) lines
 
-abbrev pub run_from : Option WorldState → ℕ → List (List ℕ) → Run
-run_from stage number lines = run_by stage (script_from stage number lines)
+-- the run of them, behind what is left of a flow. It ends before an event that would pass a limit.
+abbrev pub run_from : Bool → Option ScriptWorld → ℕ → List (List ℕ) → Run
+run_from flows stage number lines = run_behind flows (world_in stage (script_from stage number lines).setup) (script_from stage number lines).events
+
+-- ---- its text
+
+abbrev pub trace_of : Mode → List Entry → List ℕ
+trace_of Full entries = print entries
+trace_of Brief entries = brief entries
 
 -- what lines come to: the text of the journal that they add
-abbrev pub meaning_from : Option WorldState → ℕ → LinesMeaning
-meaning_from stage number lines = record {
-  text = print (run_from stage number lines).entries;
+abbrev pub meaning_from : Mode → Bool → Option ScriptWorld → ℕ → LinesMeaning
+meaning_from mode flows stage number lines = record {
+  text = trace_of mode (run_from flows stage number lines).entries;
   bad = (script_from stage number lines).bad;
-  past = (run_from stage number lines).over;
-  count = count_of stage + length (run_from stage number lines).entries;
+  past = (run_from flows stage number lines).over;
+  count = count_of stage + length (run_from flows stage number lines).entries;
   closing = [];
 }
 
 -- what the lines of a script come to
-abbrev pub script_meaning : LinesMeaning
-script_meaning = meaning_from None 1
+abbrev pub script_meaning : Mode → LinesMeaning
+script_meaning mode = meaning_from mode false None 1
 
 -- the most bytes of a script: 64 MiB
 abbrev pub script_budget : ℕ
 script_budget = 67108864
 
--- the task as its run sees it, where this is the world so far
-abbrev pub script_task : Option WorldState → TaskValue (Unit {0})
-script_task stage = record { meaning = meaning_from stage; after = λ lines. tt; entries = count_of stage; closing = []; state = tt }
-
--- ---- a run, line by line
-
--- What a line does: it is outside the grammar; its event would pass a limit; or the run goes on from another world, with
--- these entries more.
-pub data LinePlayed : Type 0 where
-  Outside : LinePlayed
-  Limited : LinePlayed
-  Goes : (stage : Option WorldState) (entries : List Entry) → LinePlayed
-
-abbrev pub played_step : Option WorldStep → LinePlayed
-played_step None = Limited
-played_step (Some step) = Goes (Some step.world) step.entries
-
--- an event, which stands behind the setup
-abbrev pub played_event : Option WorldState → EventValue → LinePlayed
-played_event None event = Outside
-played_event (Some w) event = played_step (world_step w event)
-
-abbrev pub played_by : Option WorldState → Option LineValue → LinePlayed
-played_by stage None = Outside
-played_by stage (Some Nothing) = Goes stage []
-played_by stage (Some (SetupLine chosen)) = Goes (Some (preset_world chosen)) []
-played_by stage (Some (EventLine event)) = played_event stage event
-
-abbrev pub played : Option WorldState → List ℕ → LinePlayed
-played stage line = played_by stage (line_at (setup_of stage) line)
-
--- the entries that it adds
-abbrev pub entries_by : LinePlayed → List Entry
-entries_by Outside = []
-entries_by Limited = []
-entries_by (Goes stage entries) = entries
+-- the task as its run sees it, where this is the world so far, and whether a flow is under way
+abbrev pub script_task : Mode → Bool → Option ScriptWorld → TaskValue (Unit {0})
+script_task mode flows stage = record { meaning = meaning_from mode flows stage; after = λ lines. tt; entries = count_of stage; closing = []; state = tt }

@@ -1,25 +1,24 @@
 //! A run of a script, line by line.
 
-ghost use Rattle.std.specs.Prelude.{◌≡◌, ◌≢◌, None, Some};
-ghost use Rattle.ff_script.specs.Line.{event_value};
-ghost use Rattle.ff_replay.specs.Script.{setup_of, played, played_step};
-ghost use Rattle.ff_world.specs.World.{world_step};
-ghost use Rattle.ff_replay.specs.Player.{PlayerPlays, player_of, with_trace};
+ghost use Rattle.std.specs.Prelude.{◌≡◌, ◌≢◌, ◌<◌, ℕ, List, false, None, Some, Ok, IfOk};
+ghost use Rattle.line_runs.specs.declared.end.LineStep.TheVariants as step;
+ghost use Rattle.ff_replay.specs.Player.{PlayerPlays, with_trace, played, flowing, is_more, room_of};
 
-use crate::writing::print_entries;
-use ff_script::{Event, Line, Setup, parse_line};
-use ff_world::World;
+use crate::mode::Mode;
+use crate::reading::{is_comment, parse_setup};
+use crate::stage::Stage;
 use ff_xdr::{NoMemory, Out};
 use line_runs::{LineStep, LineTask};
 use std::alloc::Global;
 use std::marker::Model;
-use world_journal::WorldFault;
 
-/// The world that a script has made so far.
+/// The world that a script has made so far, and whether a flow is under way.
 #[derive(Drop)]
 pub struct Player {
     alloc: Global,
-    stage: Option<World>,
+    mode: Mode,
+    stage: Option<Stage>,
+    flows: bool,
 }
 
 impl Model for Player {
@@ -27,89 +26,98 @@ impl Model for Player {
 
     ghost Value = { PlayerValue };
 
-    ghost view = { λ p. player_of p.stage };
-}
-
-/// Lets an event happen in a world, and prints the entries that it adds to the journal.
-fn happen(world: &mut World, event: &Event<'_>, text: &mut Out) -> Result<LineStep, NoMemory>
-    ensures does { world.old.spent ≡ None → PlayerPlays (with_trace (player_of (Some world.old)) text.old) (played_step (world_step world.old.world (event_value event.now))) result (with_trace (player_of (Some world.new)) text.new) }
-    ensures spent { world.old.spent ≢ None → world.new ≡ world.old }
-{
-    let printed = world.journal().len();
-    match world.step(event) {
-        Ok(()) => {
-            print_entries(&world.journal()[printed..], text)?;
-            Ok(LineStep::Done)
-        }
-        Err(WorldFault::Limit { entries }) => Ok(LineStep::Limited(entries)),
-        Err(WorldFault::NoMemory) => Err(NoMemory),
-    }
+    ghost view = { λ p. player_of p.mode p.stage p.flows };
 }
 
 impl Player {
     /// Before the first line; takes no memory.
-    pub fn new(alloc: Global) -> Player
-        ensures { result ≡ record { stage = None; spent = None } }
+    pub fn new(alloc: Global, mode: Mode) -> Player
+        ensures { result ≡ record { mode = mode; stage = None; spent = None; flows = false } }
     {
-        Player { alloc, stage: None }
-    }
-
-    /// The setup that the script has chosen.
-    fn setup(&self) -> Option<Setup>
-        ensures { result ≡ setup_of self.now.stage }
-    {
-        match &self.stage {
-            None => None,
-            Some(world) => Some(world.setup()),
+        Player {
+            alloc,
+            mode,
+            stage: None,
+            flows: false,
         }
     }
 
-    /// Plays a line, and prints the entries that it adds to the journal. At an error a beginning of the
-    /// entries is printed, and the player is not to be used again. A world that is spent stays so, and
-    /// nothing changes.
+    /// Plays a line before the setup.
+    fn set_up(&mut self, line: &[u8]) -> Result<LineStep, NoMemory>
+        ensures does { self.old.spent ≡ None → self.old.stage ≡ None → (trace : List ℕ) → PlayerPlays self.old.mode (with_trace self.old trace) (played None line.now) result (with_trace self.new trace) }
+        ensures flows { self.new.flows ≡ self.old.flows }
+        ensures mode { self.new.mode ≡ self.old.mode }
+        ensures whole { result ≢ Ok step.More }
+    {
+        if is_comment(line) {
+            return Ok(LineStep::Done);
+        }
+        let Some(setup) = parse_setup(line) else {
+            return Ok(LineStep::Outside);
+        };
+        self.stage = Some(Stage::new(self.alloc, setup)?);
+        Ok(LineStep::Done)
+    }
+
+    /// Plays a line, and prints the entries that it adds to the journal; of a flow those of the first
+    /// delivery. At an error a beginning of the entries is printed, and the player is not to be used
+    /// again. A world that is spent stays so.
     pub fn play_line(&mut self, line: &[u8], text: &mut Out) -> Result<LineStep, NoMemory>
-        ensures does { self.old.spent ≡ None → PlayerPlays (with_trace self.old text.old) (played self.old.stage line.now) result (with_trace self.new text.new) }
-        ensures spent { self.old.spent ≢ None → self.new ≡ self.old }
+        ensures does { self.old.spent ≡ None → PlayerPlays self.old.mode (with_trace self.old text.old) (played self.old.stage line.now) result (with_trace self.new text.new) }
+        ensures mode { self.new.mode ≡ self.old.mode }
+        ensures flows { self.old.flows ≡ false → IfOk result (λ done. self.new.flows ≡ is_more done) }
+        ensures spent { self.old.spent ≢ None → self.new.stage ≡ self.old.stage }
     {
-        match parse_line(self.setup(), line) {
-            None => Ok(LineStep::Outside),
-            Some(Line::Nothing) => Ok(LineStep::Done),
-            Some(Line::Setup(setup)) => {
-                self.stage = Some(World::new(self.alloc, setup)?);
-                Ok(LineStep::Done)
-            }
-            Some(Line::Event(event)) => {
-                let Some(world) = &mut self.stage else {
-                    return Ok(LineStep::Outside);
-                };
-                happen(world, &event, text)
-            }
-        }
+        let mode = self.mode;
+        let Some(stage) = &mut self.stage else {
+            return self.set_up(line);
+        };
+        let done = stage.play_line(mode, line, text)?;
+        self.flows = done == LineStep::More;
+        Ok(done)
+    }
+
+    /// Goes on with a flow, by the next delivery.
+    pub fn flow_on(&mut self, text: &mut Out) -> Result<LineStep, NoMemory>
+        ensures does { self.old.spent ≡ None → PlayerPlays self.old.mode (with_trace self.old text.old) (flowing self.old.stage) result (with_trace self.new text.new) }
+        ensures mode { self.new.mode ≡ self.old.mode }
+        ensures flows { IfOk result (λ done. self.new.flows ≡ is_more done) }
+        ensures falls { result ≡ Ok step.More → room_of self.new.stage < room_of self.old.stage }
+    {
+        let mode = self.mode;
+        self.flows = false;
+        let Some(stage) = &mut self.stage else {
+            return Ok(LineStep::Done);
+        };
+        let done = stage.go_on(mode, text)?;
+        self.flows = done == LineStep::More;
+        Ok(done)
     }
 }
 
 impl LineTask for Player {
-    ghost use Rattle.std.proofs.Common.{rules, refl, arith};
     ghost use Rattle.ff_replay.specs.Script.{script_budget, script_task};
+    ghost use Rattle.ff_replay.specs.Player.{IsBetween, IsWithinFlow, room_of};
+    ghost use Rattle.ff_replay.specs.Ending.{at_end_of};
 
     ghost BUDGET = { script_budget };
 
     ghost State = { Unit {0} };
 
-    ghost value = { λ player. script_task player.stage };
+    ghost value = { λ player. script_task player.mode player.flows player.stage };
 
-    ghost fresh = { λ player. player.spent ≡ None };
+    ghost fresh = { λ player. IsBetween player };
 
-    ghost midway = { λ player. ⊥ };
+    ghost midway = { λ player. IsWithinFlow player };
 
-    ghost steps = { λ player. 0 };
+    ghost steps = { λ player. room_of player.stage };
 
     const BUDGET: usize = 67_108_864;
 
     fn count(&self) -> u64 {
         match &self.stage {
             None => 0,
-            Some(world) => world.count(),
+            Some(stage) => stage.count(),
         }
     }
 
@@ -117,14 +125,13 @@ impl LineTask for Player {
         self.play_line(line, text)
     }
 
-    /// A line has one step.
-    fn go_on(&mut self, _text: &mut Out) -> Result<LineStep, NoMemory> {
-        Ok(LineStep::Done)
+    fn go_on(&mut self, text: &mut Out) -> Result<LineStep, NoMemory> {
+        self.flow_on(text)
     }
 
     fn close(&mut self, _text: &mut Out) -> Result<(), NoMemory> {
         Ok(())
     }
 
-    ghost ends = { λ player number fresh. record { effect = Prim.search (rules, arith); same = refl } };
+    ghost ends = { λ player number fresh. at_end_of player.mode player.flows player.stage number fresh.1 };
 }

@@ -1,5 +1,5 @@
 -- The top call: what the words ask for, what was done, and what is said of it.
-use Rattle.std.specs.Prelude.{◌≡◌, ℕ, List, [], ◌∷◌, ◌++◌, codes, decimal, if◌then◌else◌, Option, Some, None, Result, Ok, Err}
+use Rattle.std.specs.Prelude.{◌≡◌, ◌&&◌, ℕ, List, [], ◌∷◌, ◌++◌, codes, decimal, if◌then◌else◌, Option, Some, None, Result, Ok, Err}
 use Rattle.std.specs.Str.{bytes_eq}
 use Rattle.rpc_record.specs.declared.stream.Failed.{Failed}
 use Rattle.rpc_record.specs.declared.stream.Failed.TheVariants as failed
@@ -16,6 +16,7 @@ use Rattle.ff_node.specs.declared.serve.NodeEnd.TheVariants as served
 use Rattle.ff_node.specs.Serve.{link_faults}
 use Rattle.ff_run.specs.Node.{ServesBy}
 use Rattle.line_runs.specs.Writing.{WritesText}
+use Rattle.ff_replay.specs.declared.mode.Mode.TheVariants.{Full, Brief}
 use Rattle.ff_replay.specs.Script.{script_budget, script_meaning}
 use Rattle.record_show.specs.Show.{show_budget, show_meaning}
 use Rattle.ff_run.specs.declared.program.Command.{Command}
@@ -23,13 +24,18 @@ use Rattle.ff_run.specs.declared.program.Command.TheVariants.{Replay, Show, Ds}
 
 -- the command with this name
 abbrev pub command_named : List ℕ → Option Command
-command_named word = if bytes_eq word (codes "replay") then Some Replay else if bytes_eq word (codes "show") then Some Show else if bytes_eq word (codes "ds") then Some Ds else None
+command_named word = if bytes_eq word (codes "replay") then Some (Replay Full) else if bytes_eq word (codes "show") then Some Show else if bytes_eq word (codes "ds") then Some Ds else None
 
--- the words behind the program's name that are a command: its name alone
+-- `replay brief`
+abbrev pub brief_named : List ℕ → List ℕ → Option Command
+brief_named word next = if bytes_eq word (codes "replay") && bytes_eq next (codes "brief") then Some (Replay Brief) else None
+
+-- the words behind the program's name that are a command: its name, and behind `replay` its mode
 abbrev pub command_of : List (List ℕ) → Option Command
 command_of [] = None
 command_of (word ∷ []) = command_named word
-command_of (word ∷ next ∷ rest) = None
+command_of (word ∷ next ∷ []) = brief_named word next
+command_of (word ∷ next ∷ other ∷ rest) = None
 
 -- what the source, the sink and the link tell: the bytes that are not yet read and those that were written, the arrivals to come
 -- and the records sent
@@ -48,7 +54,7 @@ KeepsLink old new = (new.arrivals ≡ old.arrivals) × (new.sent ≡ old.sent)
 
 -- What a command did that ended so, before any serving: the lines of the source were run; or nothing was served.
 abbrev pub RunsCommand : Command → RunEnd → Observed → Observed → Type 0
-RunsCommand Replay end old new = Runs script_budget script_meaning old.unread old.written end new.unread new.written × KeepsLink old new
+RunsCommand (Replay mode) end old new = Runs script_budget (script_meaning mode) old.unread old.written end new.unread new.written × KeepsLink old new
 RunsCommand Show end old new = Runs show_budget show_meaning old.unread old.written end new.unread new.written × KeepsLink old new
 RunsCommand Ds end old new = ServesBy old.unread old.arrivals old.sent (Err end) new.unread new.arrivals new.sent × (new.written ≡ old.written)
 

@@ -5,11 +5,11 @@ ghost use Rattle.std.specs.String.{string_bytes};
 ghost use Rattle.rpc_record.specs.Stream.{counted};
 ghost use Rattle.ff_run.specs.declared.program.ProgramEnd.{ProgramEnd};
 ghost use Rattle.line_runs.specs.Writing.{WritesText};
-ghost use Rattle.ff_run.specs.Run.{command_named, command_of, status_of, note_of, with_number, observed, end_of_serving, Performs, source_faults_after, sink_faults_after, link_faults_after, Reports};
+ghost use Rattle.ff_run.specs.Run.{command_named, brief_named, command_of, status_of, note_of, with_number, observed, end_of_serving, Performs, source_faults_after, sink_faults_after, link_faults_after, Reports};
 
 use crate::serving::serve;
 use ff_node::{Link, NodeEnd};
-use ff_replay::replay;
+use ff_replay::{Mode, replay};
 use ff_xdr::{NoMemory, Out};
 use journal_print::put_numbered;
 use line_runs::{RunEnd, write_all};
@@ -20,8 +20,8 @@ use std::alloc::Global;
 /// What the program is asked to do.
 #[derive(Clone, Copy, Debug, PartialEq, Eq)]
 pub enum Command {
-    /// Run a script, and print its trace.
-    Replay,
+    /// Run a script, and print its trace, or the brief one.
+    Replay(Mode),
     /// Say what records are.
     Show,
     /// Serve as a data server.
@@ -111,6 +111,7 @@ fn asked(words: &[String]) -> Option<Command>
 {
     match words {
         [word] => command_named(word.as_bytes()),
+        [word, next] => brief_named(word.as_bytes(), next.as_bytes()),
         _ => None,
     }
 }
@@ -120,12 +121,20 @@ fn command_named(word: &[u8]) -> Option<Command>
     ensures { result ≡ command_named word.now }
 {
     if word == b"replay".as_slice() {
-        return Some(Command::Replay);
+        return Some(Command::Replay(Mode::Full));
     }
     if word == b"show".as_slice() {
         return Some(Command::Show);
     }
     (word == b"ds".as_slice()).then_some(Command::Ds)
+}
+
+/// The command of these two words.
+fn brief_named(word: &[u8], next: &[u8]) -> Option<Command>
+    ensures { result ≡ brief_named word.now next.now }
+{
+    (word == b"replay".as_slice() && next == b"brief".as_slice())
+        .then_some(Command::Replay(Mode::Brief))
 }
 
 /// What serving came to.
@@ -160,7 +169,7 @@ pub fn run<S: Source, K: Sink, E: Sink, L: Link>(
         × Reports end result (E.held notes.old) (E.held notes.new) (E.faults notes.old) (E.faults notes.new) }
 {
     let end = match asked(words) {
-        Some(Command::Replay) => ProgramEnd::Ended(replay(alloc, source, sink)),
+        Some(Command::Replay(mode)) => ProgramEnd::Ended(replay(alloc, mode, source, sink)),
         Some(Command::Show) => ProgramEnd::Ended(show(alloc, source, sink)),
         Some(Command::Ds) => served(serve(alloc, source, link)),
         None => ProgramEnd::Usage,

@@ -2,7 +2,7 @@
 
 use crate::outcome::Outcome;
 use crate::play::{io_fault, play_rows, play_talk};
-use part_runs::{replayed, shown};
+use part_runs::{briefly, replayed, shown};
 use row_words::RowFault;
 use std::alloc::Global;
 use std::{fs, io, str};
@@ -14,6 +14,8 @@ enum Sort {
     Talk,
     /// A script, with its trace in a file beside it.
     Script,
+    /// A cluster's script, with its brief trace in a file beside it.
+    Cluster,
     /// Records, with what is said of them in a file beside it.
     Records,
 }
@@ -25,6 +27,7 @@ fn sort_of(name: &str) -> Option<(&str, Sort)> {
         "rows" => Sort::Rows,
         "talk" => Sort::Talk,
         "script" => Sort::Script,
+        "cluster" => Sort::Cluster,
         "records" => Sort::Records,
         _ => return None,
     };
@@ -81,6 +84,7 @@ fn play_file<'a>(
         Sort::Rows => play_rows(alloc, file, kind_of(front), text)?,
         Sort::Talk => play_talk(alloc, file, text)?,
         Sort::Script => compared(alloc, file, &replayed(alloc, text.as_bytes())?, beside)?,
+        Sort::Cluster => compared(alloc, file, &briefly(alloc, text.as_bytes())?, beside)?,
         Sort::Records => compared(alloc, file, &shown(alloc, text.as_bytes())?, beside)?,
     };
     Ok(Some(outcome))
@@ -101,6 +105,7 @@ fn names(rt: &HostRuntime) -> io::Result<Vec<String>> {
 fn beside(rt: &HostRuntime, name: &str) -> io::Result<String> {
     let (front, end) = match sort_of(name) {
         Some((front, Sort::Script)) => (front, "trace"),
+        Some((front, Sort::Cluster)) => (front, "brief"),
         Some((front, Sort::Records)) => (front, "lines"),
         _ => return Ok(String::new(rt.alloc())),
     };

@@ -12,5 +12,5 @@ mod text;
 
 pub use configs::ConfigRows;
 pub use lines::LineRows;
-pub use printed::{replayed, shown};
+pub use printed::{briefly, replayed, shown};
 pub use runs::RunRows;

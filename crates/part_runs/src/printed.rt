@@ -22,9 +22,12 @@ fn push_end(ended: &Ended, alloc: Global, text: &mut Vec<u8>) -> Result<(), RowF
     Ok(())
 }
 
-/// What a command prints of a text, and how it ended where it did not end well.
-fn printed(alloc: Global, command: &str, text: &[u8]) -> Result<Vec<u8>, RowFault> {
-    let said = vec![in alloc; String::from_str(alloc, command)?]?;
+/// What a command of these words prints of a text, and how it ended where it did not end well.
+fn printed(alloc: Global, words: &[&str], text: &[u8]) -> Result<Vec<u8>, RowFault> {
+    let mut said = Vec::new(alloc);
+    for word in words {
+        said.push(String::from_str(alloc, word)?)?;
+    }
     let text = text.to_vec(alloc)?;
     let ended = ran(alloc, &said, text, Vec::new(alloc), Failing::none(alloc));
     let mut bytes = ended.sink.bytes().to_vec(alloc)?;
@@ -35,10 +38,15 @@ fn printed(alloc: Global, command: &str, text: &[u8]) -> Result<Vec<u8>, RowFaul
 /// What `replay` prints of a script. Behind it stands a line `status N`, with the note if there is one, where the run did
 /// not end with 0.
 pub fn replayed(alloc: Global, script: &[u8]) -> Result<Vec<u8>, RowFault> {
-    printed(alloc, "replay", script)
+    printed(alloc, &["replay"], script)
+}
+
+/// What `replay brief` prints of a script, with the same line behind it.
+pub fn briefly(alloc: Global, script: &[u8]) -> Result<Vec<u8>, RowFault> {
+    printed(alloc, &["replay", "brief"], script)
 }
 
 /// What `show` prints of records, with the same line behind it.
 pub fn shown(alloc: Global, records: &[u8]) -> Result<Vec<u8>, RowFault> {
-    printed(alloc, "show", records)
+    printed(alloc, &["show"], records)
 }

@@ -1,9 +1,10 @@
 use Rattle.std.proofs.Common.{◌∙◌}
 use Rattle.std.proofs.lemmas.Result.{err_from_is_err_and}
+use Rattle.ff_replay.specs.declared.mode.Mode.TheVariants.{Full}
 use Rattle.ff_replay.proofs.PlayLemmas.{prints_in_part}
-use Rattle.ff_replay.proofs.writing.print_entries.Goals as goal
+use Rattle.ff_replay.proofs.writing.print_whole.Goals as goal
 
 pub returns-in_err-put_entry : goal.returns-in_err-put_entry
 returns-in_err-put_entry c =
     let p = err_from_is_err_and c.from_residual.result c.from_residual.ensures.1 in
-    prints_in_part c.args.out.now c.put_entry.new.out c.loop-entry.entry-index c.args.entries.now c.from_residual.result p.0 p.1 (c.in_err-put_entry.ensures ∙ c.loop-entry.invariant)
+    prints_in_part Full c.args.out.now c.put_entry.new.out c.loop-entry.entry-index c.args.entries.now c.from_residual.result p.0 p.1 (c.in_err-put_entry.ensures ∙ c.loop-entry.invariant)

@@ -1,0 +1,200 @@
+-- What a player did is what a step of a task does.
+use Rattle.std.proofs.Common.{◌≡◌, ℕ, ◌+◌, Bool, true, false, List, [], ◌∷◌, ◌++◌, length, Option, Some, None, Result, Ok, Err, refl, sym, ap, subst, ◌∙◌}
+use Rattle.std.specs.Prelude.{⊤}
+use Rattle.std.specs.Result.{IfOk}
+use Rattle.std.proofs.lemmas.List.{append-nil, append_assoc}
+use Rattle.ff_xdr.specs.declared.error.NoMemory.{NoMemory}
+use Rattle.line_runs.specs.declared.end.LineStep.{LineStep}
+use Rattle.line_runs.specs.declared.end.LineStep.TheVariants as step
+use Rattle.line_runs.specs.Writing.{IsBeginningOf}
+use Rattle.line_runs.specs.Runs.{RunEffect, after_text}
+use Rattle.line_runs.specs.Tasks.{Goes as TaskGoes, BeginsLine, StepsFrom, HasPrintedPart, EndsRun, IsAtLimit, Rests, ahead_of, on_line}
+use Rattle.cluster_script.specs.declared.sizes.ClusterSizes.{ClusterSizes}
+use Rattle.cluster_model.specs.Event.{EventValue, DeliverPacket}
+use Rattle.packet_table.specs.Packets.{next_waiting}
+use Rattle.ff_world.specs.World.{WorldStep, world_step}
+use Rattle.cluster_world.specs.ClusterWorlds.{ClusterState, packets, cluster_step}
+use Rattle.world_journal.specs.declared.fault.WorldFault.{WorldFault}
+use Rattle.ff_replay.specs.declared.mode.Mode.{Mode}
+use Rattle.ff_replay.specs.Script.{ScriptLine, SaysNothing, SetsUp, Happens, ScriptWorld, BareWorld, ClusterWorld, setup_of, line_in, trace_of, meaning_from, script_task}
+use Rattle.ff_replay.specs.Player.{LinePlayed, Outside, Limited, Goes, bare_goes, cluster_goes, flows_by, is_flow, cluster_played, played_by, played, flowed, flowing, PlayerValue, PlayerState, with_trace, GoesFrom, PlayerPlays, is_more, IsOfCluster, IsWithinFlow, IsBetween}
+use Rattle.ff_replay.proofs.ScriptLemmas.{goes_first, outside_first, limited_first, text_first, goes_within, limited_within, flow_not_outside, text_within}
+
+begins_first : (part text more all : List ℕ) → IsBeginningOf part text → all ≡ text ++ more → IsBeginningOf part all
+begins_first part text more all begins is = record {
+  rest = begins.rest ++ more;
+  whole = sym (append_assoc part begins.rest more) ∙ ap (λ t. t ++ more) begins.whole ∙ sym is;
+}
+
+abbrev pub state : Option ScriptWorld → Option WorldFault → List ℕ → PlayerState
+state stage spent trace = record { stage = stage; spent = spent; trace = trace }
+
+-- ---- the first step of a line
+
+goes_line : (mode : Mode) (number : ℕ) (flows : Bool) (old new : PlayerState) (line : List ℕ) → GoesFrom mode old (played old.stage line) flows new
+    → TaskGoes (on_line line (ahead_of number (script_task mode false old.stage))) old.trace (ahead_of (number + 1) (script_task mode flows new.stage)) new.trace
+goes_line mode number flows old new line goes =
+    let stage : new.stage ≡ goes.next = ap (λ (p : PlayerState). p.stage) goes.now in record {
+      more = trace_of mode goes.entries;
+      now = ap (λ (p : PlayerState). p.trace) goes.now;
+      same = λ lines. goes_first mode number old.stage goes.next flows line lines goes.entries goes.is
+          ∙ ap (λ s. after_text (trace_of mode goes.entries) (meaning_from mode flows s (number + 1) lines)) (sym stage);
+      after = λ lines. refl;
+    }
+
+begins_line : (mode : Mode) (number : ℕ) (flows : Bool) (old new : PlayerState) (line : List ℕ) (r : Result LineStep NoMemory) → PlayerPlays mode old (played old.stage line) r new → IfOk r (λ done. flows ≡ is_more done)
+    → BeginsLine number (on_line line (ahead_of number (script_task mode false old.stage))) old.trace r (script_task mode flows new.stage) new.trace
+begins_line mode number flows old new line (Ok step.Done) goes is =
+    subst (λ f. TaskGoes (on_line line (ahead_of number (script_task mode false old.stage))) old.trace (ahead_of (number + 1) (script_task mode f new.stage)) new.trace) (sym is) (goes_line mode number false old new line goes)
+begins_line mode number flows old new line (Ok step.More) goes is =
+    subst (λ f. TaskGoes (on_line line (ahead_of number (script_task mode false old.stage))) old.trace (ahead_of (number + 1) (script_task mode f new.stage)) new.trace) (sym is) (goes_line mode number true old new line goes)
+begins_line mode number flows old new line (Ok step.Outside) refuses is = record {
+  more = [];
+  now = ap (λ (p : PlayerState). p.trace) refuses.1 ∙ sym (append-nil old.trace);
+  why = λ lines. outside_first mode number old.stage line lines refuses.0;
+  adds = λ lines. (outside_first mode number old.stage line lines refuses.0).2;
+  closing = λ lines. refl;
+  after = λ lines. refl;
+}
+begins_line mode number flows old new line (Ok (step.Limited count)) limited is =
+    let first = λ (lines : List (List ℕ)). limited_first mode number old.stage line lines limited.is in record {
+      more = [];
+      now = limited.trace ∙ sym (append-nil old.trace);
+      why = λ lines. ((first lines).0, limited.count_is ∙ (first lines).1);
+      adds = λ lines. (first lines).2;
+      closing = λ lines. refl;
+      after = λ lines. refl;
+    }
+begins_line mode number flows old new line (Err e) begun is = record {
+  part = begun.part;
+  now = begun.trace;
+  begins = λ lines.
+      let first = text_first mode number old.stage line lines (played old.stage line) refl in
+      begins_first begun.part _ first.0 _ begun.begins first.1;
+}
+
+-- What a player did with a line.
+pub does_line : (old new : PlayerValue) (text text' line : List ℕ) (r : Result LineStep NoMemory) (number : ℕ) → old.flows ≡ false → new.mode ≡ old.mode → IfOk r (λ done. new.flows ≡ is_more done)
+    → PlayerPlays old.mode (with_trace old text) (played old.stage line) r (with_trace new text')
+    → BeginsLine number (on_line line (ahead_of number (script_task old.mode old.flows old.stage))) text r (script_task new.mode new.flows new.stage) text'
+does_line old new text text' line r number still mode flows plays =
+    subst (λ f. BeginsLine number (on_line line (ahead_of number (script_task old.mode f old.stage))) text r (script_task new.mode new.flows new.stage) text') (sym still)
+    (subst (λ m. BeginsLine number (on_line line (ahead_of number (script_task old.mode false old.stage))) text r (script_task m new.flows new.stage) text') (sym mode)
+    (begins_line old.mode number new.flows (with_trace old text) (with_trace new text') line r plays flows))
+
+-- ---- a step within a flow
+
+goes_flow : (mode : Mode) (number : ℕ) (flows : Bool) (sizes : ClusterSizes) (w : ClusterState) (spent : Option WorldFault) (text : List ℕ) (new : PlayerState) → GoesFrom mode (state (Some (ClusterWorld sizes w)) spent text) (flowed sizes w) flows new
+    → TaskGoes (ahead_of number (script_task mode true (Some (ClusterWorld sizes w)))) text (ahead_of number (script_task mode flows new.stage)) new.trace
+goes_flow mode number flows sizes w spent text new goes =
+    let stage : new.stage ≡ goes.next = ap (λ (p : PlayerState). p.stage) goes.now in record {
+      more = trace_of mode goes.entries;
+      now = ap (λ (p : PlayerState). p.trace) goes.now;
+      same = λ lines. goes_within mode number sizes w goes.next flows goes.entries lines goes.is
+          ∙ ap (λ s. after_text (trace_of mode goes.entries) (meaning_from mode flows s number lines)) (sym stage);
+      after = λ lines. refl;
+    }
+
+steps_flow : (mode : Mode) (number : ℕ) (flows : Bool) (sizes : ClusterSizes) (w : ClusterState) (spent : Option WorldFault) (text : List ℕ) (new : PlayerState) (r : Result LineStep NoMemory)
+    → PlayerPlays mode (state (Some (ClusterWorld sizes w)) spent text) (flowed sizes w) r new → IfOk r (λ done. flows ≡ is_more done)
+    → StepsFrom number (ahead_of number (script_task mode true (Some (ClusterWorld sizes w)))) text r (script_task mode flows new.stage) new.trace
+steps_flow mode number flows sizes w spent text new (Ok step.Done) goes is =
+    subst (λ f. TaskGoes (ahead_of number (script_task mode true (Some (ClusterWorld sizes w)))) text (ahead_of number (script_task mode f new.stage)) new.trace) (sym is) (goes_flow mode number false sizes w spent text new goes)
+steps_flow mode number flows sizes w spent text new (Ok step.More) goes is =
+    subst (λ f. TaskGoes (ahead_of number (script_task mode true (Some (ClusterWorld sizes w)))) text (ahead_of number (script_task mode f new.stage)) new.trace) (sym is) (goes_flow mode number true sizes w spent text new goes)
+steps_flow mode number flows sizes w spent text new (Ok step.Outside) refuses is = absurd (flow_not_outside sizes w refuses.0)
+steps_flow mode number flows sizes w spent text new (Ok (step.Limited count)) limited is =
+    let first = λ (lines : List (List ℕ)). limited_within mode number sizes w lines limited.is in record {
+      more = [];
+      now = limited.trace ∙ sym (append-nil text);
+      why = λ lines. ((first lines).0, limited.count_is ∙ (first lines).1);
+      adds = λ lines. (first lines).2;
+      closing = λ lines. refl;
+      after = λ lines. refl;
+    }
+steps_flow mode number flows sizes w spent text new (Err e) begun is = record {
+  part = begun.part;
+  now = begun.trace;
+  begins = λ lines.
+      let first = text_within mode number sizes w lines (flowed sizes w) refl in
+      begins_first begun.part _ first.0 _ begun.begins first.1;
+}
+
+by_stage : (mode : Mode) (number : ℕ) (flows : Bool) (stage : Option ScriptWorld) (spent : Option WorldFault) (text : List ℕ) (new : PlayerState) (r : Result LineStep NoMemory) → IsOfCluster stage
+    → PlayerPlays mode (state stage spent text) (flowing stage) r new → IfOk r (λ done. flows ≡ is_more done)
+    → StepsFrom number (ahead_of number (script_task mode true stage)) text r (script_task mode flows new.stage) new.trace
+by_stage mode number flows None spent text new r cluster plays is = absurd cluster
+by_stage mode number flows (Some (BareWorld w)) spent text new r cluster plays is = absurd cluster
+by_stage mode number flows (Some (ClusterWorld sizes w)) spent text new r cluster plays is = steps_flow mode number flows sizes w spent text new r plays is
+
+-- What a player did within a flow.
+pub does_flow : (old new : PlayerValue) (text text' : List ℕ) (r : Result LineStep NoMemory) (number : ℕ) → old.flows ≡ true → IsOfCluster old.stage → new.mode ≡ old.mode → IfOk r (λ done. new.flows ≡ is_more done)
+    → PlayerPlays old.mode (with_trace old text) (flowing old.stage) r (with_trace new text')
+    → StepsFrom number (ahead_of number (script_task old.mode old.flows old.stage)) text r (script_task new.mode new.flows new.stage) text'
+does_flow old new text text' r number under_way cluster mode flows plays =
+    subst (λ f. StepsFrom number (ahead_of number (script_task old.mode f old.stage)) text r (script_task new.mode new.flows new.stage) text') (sym under_way)
+    (subst (λ m. StepsFrom number (ahead_of number (script_task old.mode true old.stage)) text r (script_task m new.flows new.stage) text') (sym mode)
+    (by_stage old.mode number new.flows old.stage old.spent text (with_trace new text') r cluster plays flows))
+
+-- ---- where a step leaves a player
+
+-- a flow is under way in a cluster alone
+abbrev pub FlowsInCluster : LinePlayed → Type 0
+FlowsInCluster Outside = ⊤
+FlowsInCluster Limited = ⊤
+FlowsInCluster (Goes next true entries) = IsOfCluster next
+FlowsInCluster (Goes next false entries) = ⊤
+
+in_bare : (o : Option WorldStep) → FlowsInCluster (bare_goes o)
+in_bare None = tt
+in_bare (Some step) = tt
+
+in_step : (sizes : ClusterSizes) (flows : Bool) (w : ClusterState) (o : Option ClusterState) → FlowsInCluster (cluster_goes sizes flows w o)
+in_step sizes flows w None = tt
+in_step sizes true w (Some next) = tt
+in_step sizes false w (Some next) = tt
+
+in_delivery : (sizes : ClusterSizes) (w : ClusterState) (o : Option ℕ) → FlowsInCluster (flows_by sizes w o)
+in_delivery sizes w None = tt
+in_delivery sizes w (Some number) = in_step sizes true w (cluster_step w (DeliverPacket number))
+
+in_flow : (sizes : ClusterSizes) (w : ClusterState) → FlowsInCluster (flowed sizes w)
+in_flow sizes w = in_delivery sizes w (next_waiting (packets w))
+
+in_played : (flow : Bool) (sizes : ClusterSizes) (w : ClusterState) (event : EventValue) → FlowsInCluster (cluster_played flow sizes w event)
+in_played true sizes w event = in_flow sizes w
+in_played false sizes w event = in_step sizes false w (cluster_step w event)
+
+in_said : (stage : Option ScriptWorld) (v : Option ScriptLine) → FlowsInCluster (played_by stage v)
+in_said stage None = tt
+in_said stage (Some SaysNothing) = tt
+in_said stage (Some (SetsUp chosen)) = tt
+in_said None (Some (Happens event)) = tt
+in_said (Some (BareWorld w)) (Some (Happens event)) = in_bare (world_step w event)
+in_said (Some (ClusterWorld sizes w)) (Some (Happens event)) = in_played (is_flow event) sizes w event
+
+in_line : (stage : Option ScriptWorld) (line : List ℕ) → FlowsInCluster (played stage line)
+in_line stage line = in_said stage (line_in (setup_of stage) line)
+
+in_flowing : (stage : Option ScriptWorld) → FlowsInCluster (flowing stage)
+in_flowing None = tt
+in_flowing (Some (BareWorld w)) = tt
+in_flowing (Some (ClusterWorld sizes w)) = in_flow sizes w
+
+rests_by : (mode : Mode) (before : PlayerState) (new : PlayerValue) (text' : List ℕ) (does : LinePlayed) (r : Result LineStep NoMemory) → FlowsInCluster does → PlayerPlays mode before does r (with_trace new text') → IfOk r (λ done. new.flows ≡ is_more done)
+    → Rests r (IsBetween new) (IsWithinFlow new)
+rests_by mode before new text' does (Ok step.Done) cluster goes is = (ap (λ (p : PlayerState). p.spent) goes.now, is)
+rests_by mode before new text' does (Ok step.More) cluster goes is =
+    let there : IsOfCluster goes.next = subst FlowsInCluster goes.is cluster in
+    (ap (λ (p : PlayerState). p.spent) goes.now, is, subst IsOfCluster (sym (ap (λ (p : PlayerState). p.stage) goes.now)) there)
+rests_by mode before new text' does (Ok step.Outside) cluster refuses is = tt
+rests_by mode before new text' does (Ok (step.Limited count)) cluster limited is = tt
+rests_by mode before new text' does (Err e) cluster begun is = tt
+
+pub rests_line : (old new : PlayerValue) (text text' line : List ℕ) (r : Result LineStep NoMemory) → PlayerPlays old.mode (with_trace old text) (played old.stage line) r (with_trace new text') → IfOk r (λ done. new.flows ≡ is_more done)
+    → Rests r (IsBetween new) (IsWithinFlow new)
+rests_line old new text text' line r plays is = rests_by old.mode (with_trace old text) new text' (played old.stage line) r (in_line old.stage line) plays is
+
+pub rests_flow : (old new : PlayerValue) (text text' : List ℕ) (r : Result LineStep NoMemory) → PlayerPlays old.mode (with_trace old text) (flowing old.stage) r (with_trace new text') → IfOk r (λ done. new.flows ≡ is_more done)
+    → Rests r (IsBetween new) (IsWithinFlow new)
+rests_flow old new text text' r plays is = rests_by old.mode (with_trace old text) new text' (flowing old.stage) r (in_flowing old.stage) plays is
