@@ -5,9 +5,8 @@ use Rattle.std.specs.List.{list_all}
 use Rattle.std.specs.Str.{bytes_eq}
 use Rattle.std.specs.Option.{option_map}
 use Rattle.std.proofs.lemmas.Bool.{leb-true, and_parts}
-use Rattle.cluster_model.specs.declared.ids.NodeId.{NodeId}
 use Rattle.cluster_model.specs.declared.limits.TheConstants.{PIECE_SIZE}
-use Rattle.cluster_model.specs.Event.{EventValue, DeliverPacket, DeliverBetween, Flow, Hold, Pass, Timeout, Tick, Open, Write, Through, Fill, Commit, Read, Return, Rogue, Stray, Reboot, Recall, Resilver, Audit, Restart}
+use Rattle.cluster_model.specs.Event.{EventValue, DeliverPacket, DeliverBetween, Hold, Pass, Timeout, Tick, Open, Write, Through, Fill, Commit, Read, Return, Rogue, Stray, Reboot, Recall, Resilver, Audit, Restart}
 use Rattle.ff_script.specs.Digits.{bytes_of_digits}
 use Rattle.ff_script.specs.Pieces.{◌>>=◌, decimal_at, pieces_at}
 use Rattle.cluster_script.specs.declared.event.ClusterEvent.{ClusterEvent}
@@ -148,14 +147,25 @@ other_rows s args =
     ∷ []
 
 others_all : (s : ClusterSizes) (word : List ℕ) (args : List (List ℕ)) → AllOf IsOfScript (others_by s word args)
-others_all s word args = rows_all word (other_rows s args) None
-    (map_all IsOfScript Rogue (client_by s args) (λ client. tt),
-    (stray_all s args,
-    (map_all IsOfScript Reboot (client_by s args) (λ client. tt),
-    (restart_all s args,
-    (map_all IsOfScript Recall (file_by args) (λ file. tt),
-    (map_all IsOfScript Resilver (file_by args) (λ file. tt),
-    (map_all IsOfScript Audit (file_by args) (λ file. tt), tt))))))) tt
+others_all s word args = rows_all word (other_rows s args) None (
+  map_all IsOfScript Rogue (client_by s args) (λ client. tt),
+  (
+    stray_all s args,
+    (
+      map_all IsOfScript Reboot (client_by s args) (λ client. tt),
+      (
+        restart_all s args,
+        (
+          map_all IsOfScript Recall (file_by args) (λ file. tt),
+          (
+            map_all IsOfScript Resilver (file_by args) (λ file. tt),
+            (map_all IsOfScript Audit (file_by args) (λ file. tt), tt),
+          ),
+        ),
+      ),
+    ),
+  ),
+) tt
 
 abbrev request_rows : ClusterSizes → List (List ℕ) → List Row
 request_rows s args =
@@ -169,14 +179,25 @@ request_rows s args =
     ∷ []
 
 requests_all : (s : ClusterSizes) (word : List ℕ) (args : List (List ℕ)) → AllOf IsOfScript (requests_by s word args)
-requests_all s word args = rows_all word (request_rows s args) (others_by s word args)
-    (open_all s args,
-    (map_given (λ w. IsFew (length w.2)) IsOfScript (λ w. Write w.0 w.1 w.2) (written_by s args) (written_all s args) (λ w few. few),
-    (map_given (λ w. IsFew (length w.2)) IsOfScript (λ w. Through w.0 w.1 w.2) (written_by s args) (written_all s args) (λ w few. few),
-    (fill_all s args,
-    (map_all IsOfScript Commit (client_by s args) (λ client. tt),
-    (read_all s args,
-    (map_all IsOfScript Return (client_by s args) (λ client. tt), tt))))))) (others_all s word args)
+requests_all s word args = rows_all word (request_rows s args) (others_by s word args) (
+  open_all s args,
+  (
+    map_given (λ w. IsFew (length w.2)) IsOfScript (λ w. Write w.0 w.1 w.2) (written_by s args) (written_all s args) (λ w few. few),
+    (
+      map_given (λ w. IsFew (length w.2)) IsOfScript (λ w. Through w.0 w.1 w.2) (written_by s args) (written_all s args) (λ w few. few),
+      (
+        fill_all s args,
+        (
+          map_all IsOfScript Commit (client_by s args) (λ client. tt),
+          (
+            read_all s args,
+            (map_all IsOfScript Return (client_by s args) (λ client. tt), tt),
+          ),
+        ),
+      ),
+    ),
+  ),
+) (others_all s word args)
 
 abbrev move_rows : ClusterSizes → List (List ℕ) → List Row
 move_rows s args =
@@ -189,13 +210,22 @@ move_rows s args =
     ∷ []
 
 moves_all : (s : ClusterSizes) (word : List ℕ) (args : List (List ℕ)) → AllOf IsOfScript (moves_by s word args)
-moves_all s word args = rows_all word (move_rows s args) (requests_by s word args)
-    (deliver_all s args,
-    (flow_all args,
-    (map_all IsOfScript (λ p. Hold p.0 p.1) (pair_by s args) (λ p. tt),
-    (map_all IsOfScript (λ p. Pass p.0 p.1) (pair_by s args) (λ p. tt),
-    (map_all IsOfScript (λ p. Timeout p.0 p.1) (pair_by s args) (λ p. tt),
-    (map_all IsOfScript Tick (one_of args >>= number_within 1 1000) (λ seconds. tt), tt)))))) (requests_all s word args)
+moves_all s word args = rows_all word (move_rows s args) (requests_by s word args) (
+  deliver_all s args,
+  (
+    flow_all args,
+    (
+      map_all IsOfScript (λ p. Hold p.0 p.1) (pair_by s args) (λ p. tt),
+      (
+        map_all IsOfScript (λ p. Pass p.0 p.1) (pair_by s args) (λ p. tt),
+        (
+          map_all IsOfScript (λ p. Timeout p.0 p.1) (pair_by s args) (λ p. tt),
+          (map_all IsOfScript Tick (one_of args >>= number_within 1 1000) (λ seconds. tt), tt),
+        ),
+      ),
+    ),
+  ),
+) (requests_all s word args)
 
 event_all : (s : ClusterSizes) (words : List (List ℕ)) → AllOf IsOfScript (event_by s words)
 event_all s [] = tt

@@ -1,8 +1,8 @@
 -- What an event, or a delivery of a flow, comes to before the events behind it.
-use Rattle.std.proofs.Common.{◌≡◌, ℕ, ◌+◌, Bool, true, false, List, [], ◌∷◌, ◌++◌, length, Option, Some, None, refl, sym, ap, subst, ◌∙◌, arith, if◌then◌else◌}
+use Rattle.std.proofs.Common.{◌≡◌, ℕ, ◌+◌, Bool, true, false, List, [], ◌∷◌, ◌++◌, length, Option, Some, None, refl, sym, ap, subst, arith, if◌then◌else◌}
 use Rattle.std.proofs.lemmas.List.{length-append}
 use Rattle.cluster_model.specs.declared.entry.Entry.{Entry}
-use Rattle.cluster_model.specs.Event.{EventValue, Deliver, DeliverPacket, DeliverBetween, Flow, Hold, Pass, Timeout, Tick, Open, Write, Through, Fill, Commit, Read, Return, Rogue, Stray, Reboot, Recall, Resilver, Audit, Restart}
+use Rattle.cluster_model.specs.Event.{EventValue, DeliverPacket, Flow}
 use Rattle.packet_table.specs.Packets.{next_waiting}
 use Rattle.cluster_script.specs.declared.sizes.ClusterSizes.{ClusterSizes}
 use Rattle.ff_world.specs.World.{WorldState, WorldStep, effect_of, step_by_effect, world_step, Run, run_of}
@@ -10,7 +10,7 @@ use Rattle.ff_world.specs.World as bare
 use Rattle.cluster_world.specs.ClusterWorlds.{ClusterState, packets, behind, within_limits}
 use Rattle.cluster_world.specs.ClusterRuns.{ClusterRun, added, with_step, flow_by, flow_then, event_then, cluster_run}
 use Rattle.ff_replay.specs.Script.{ScriptWorld, BareWorld, ClusterWorld, setup_of_world, entries_in, bare_run, run_in, run_behind}
-use Rattle.ff_replay.specs.Player.{LinePlayed, Outside, Limited, Goes, bare_goes, cluster_goes, flows_by, flowed, flowed_in, is_flow, cluster_played, event_played}
+use Rattle.ff_replay.specs.Player.{LinePlayed, Outside, Limited, Goes, bare_goes, cluster_goes, flows_by, flowed, is_flow, cluster_played, event_played}
 use Rattle.ff_replay.proofs.WorldGrows.{Grows, grows, counted}
 use Rattle.ff_replay.proofs.Flows.{let_in, flows_on}
 

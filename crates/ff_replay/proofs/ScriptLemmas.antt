@@ -1,7 +1,7 @@
 -- What the first line of a script does to what the script says, and a delivery of a flow to what is to come.
 use Rattle.std.proofs.Common.{◌≡◌, ℕ, ◌+◌, Bool, true, false, List, [], ◌∷◌, ◌++◌, length, Option, Some, None, refl, sym, ap, subst, ◌∙◌, arith, ◌==◌, if◌then◌else◌}
 use Rattle.std.specs.Option.{option_map}
-use Rattle.std.proofs.lemmas.List.{append-nil, append_assoc, length-append}
+use Rattle.std.proofs.lemmas.List.{append-nil, length-append}
 use Rattle.cluster_model.specs.declared.entry.Entry.{Entry}
 use Rattle.cluster_model.specs.Event.{EventValue}
 use Rattle.line_runs.specs.Runs.{RunEffect, after_text}
@@ -13,7 +13,7 @@ use Rattle.cluster_world.specs.ClusterWorlds.{ClusterState}
 use Rattle.ff_replay.specs.declared.mode.Mode.{Mode}
 use Rattle.ff_replay.specs.declared.setup.Setup.{Setup}
 use Rattle.ff_replay.specs.declared.setup.Setup.TheVariants.{Bare, Cluster}
-use Rattle.ff_replay.specs.Script.{ScriptLine, SaysNothing, SetsUp, Happens, setup_in, words_in, line_in, Script, by_line, with_event, script_of, ScriptWorld, BareWorld, ClusterWorld, setup_of_world, world_of, setup_of, count_of, world_in, run_in, run_behind, script_from, run_from, trace_of, meaning_from}
+use Rattle.ff_replay.specs.Script.{ScriptLine, SaysNothing, SetsUp, Happens, setup_in, words_in, line_in, Script, by_line, with_event, script_of, ScriptWorld, BareWorld, ClusterWorld, setup_of_world, setup_of, count_of, world_in, run_in, run_behind, script_from, run_from, trace_of, meaning_from}
 use Rattle.ff_replay.specs.Player.{LinePlayed, Outside, Limited, Goes, event_played, played_by, played, flowed, entries_by}
 use Rattle.ff_replay.specs.Ending.{no_trace}
 use Rattle.ff_replay.proofs.PlayLemmas.{trace_append}

@@ -1,5 +1,5 @@
 -- What a delivery of a flow does to a cluster.
-use Rattle.std.proofs.Common.{◌≡◌, ℕ, ◌+◌, ◌-◌, ◌<◌, ◌≤◌, Bool, true, false, length, Option, Some, None, Result, Ok, Err, refl, sym, subst, arith}
+use Rattle.std.proofs.Common.{◌≡◌, ℕ, ◌+◌, ◌-◌, ◌<◌, ◌≤◌, Bool, true, length, Option, Some, None, Result, Ok, Err, refl, sym, subst, arith}
 use Rattle.world_journal.specs.declared.fault.WorldFault.{WorldFault}
 use Rattle.world_journal.specs.Journal.{max_entries}
 use Rattle.packet_table.specs.Packets.{next_waiting}

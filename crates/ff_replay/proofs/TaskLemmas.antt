@@ -1,5 +1,5 @@
 -- What a player did is what a step of a task does.
-use Rattle.std.proofs.Common.{◌≡◌, ℕ, ◌+◌, Bool, true, false, List, [], ◌∷◌, ◌++◌, length, Option, Some, None, Result, Ok, Err, refl, sym, ap, subst, ◌∙◌}
+use Rattle.std.proofs.Common.{◌≡◌, ℕ, ◌+◌, Bool, true, false, List, [], ◌++◌, Option, Some, None, Result, Ok, Err, refl, sym, ap, subst, ◌∙◌}
 use Rattle.std.specs.Prelude.{⊤}
 use Rattle.std.specs.Result.{IfOk}
 use Rattle.std.proofs.lemmas.List.{append-nil, append_assoc}
@@ -7,8 +7,8 @@ use Rattle.ff_xdr.specs.declared.error.NoMemory.{NoMemory}
 use Rattle.line_runs.specs.declared.end.LineStep.{LineStep}
 use Rattle.line_runs.specs.declared.end.LineStep.TheVariants as step
 use Rattle.line_runs.specs.Writing.{IsBeginningOf}
-use Rattle.line_runs.specs.Runs.{RunEffect, after_text}
-use Rattle.line_runs.specs.Tasks.{Goes as TaskGoes, BeginsLine, StepsFrom, HasPrintedPart, EndsRun, IsAtLimit, Rests, ahead_of, on_line}
+use Rattle.line_runs.specs.Runs.{after_text}
+use Rattle.line_runs.specs.Tasks.{Goes as TaskGoes, BeginsLine, StepsFrom, Rests, ahead_of, on_line}
 use Rattle.cluster_script.specs.declared.sizes.ClusterSizes.{ClusterSizes}
 use Rattle.cluster_model.specs.Event.{EventValue, DeliverPacket}
 use Rattle.packet_table.specs.Packets.{next_waiting}

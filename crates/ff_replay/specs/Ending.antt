@@ -1,5 +1,5 @@
 -- Where lines end, nothing more comes of them.
-use Rattle.std.proofs.Common.{◌≡◌, ℕ, ◌+◌, Bool, true, false, List, [], Option, Some, None, refl, sym, ap, subst, arith}
+use Rattle.std.proofs.Common.{◌≡◌, ℕ, ◌+◌, Bool, false, [], Option, Some, None, refl, sym, subst, arith}
 use Rattle.line_runs.specs.Tasks.{IsAtEnd, ahead_of}
 use Rattle.ff_replay.specs.declared.mode.Mode.{Mode}
 use Rattle.ff_replay.specs.declared.mode.Mode.TheVariants.{Full, Brief}

@@ -20,7 +20,7 @@ use Rattle.ff_replay.specs.declared.setup.Setup.{Setup}
 use Rattle.ff_replay.specs.declared.setup.Setup.TheVariants.{Bare, Cluster}
 use Rattle.ff_replay.specs.declared.stage.Stage.{Stage}
 use Rattle.ff_replay.specs.declared.stage.Stage.TheVariants as stage
-use Rattle.ff_replay.specs.Script.{ScriptLine, SaysNothing, SetsUp, Happens, ScriptWorld, BareWorld, ClusterWorld, world_of, setup_of, count_of, entries_in, line_in, trace_of}
+use Rattle.ff_replay.specs.Script.{ScriptLine, SaysNothing, SetsUp, Happens, ScriptWorld, BareWorld, ClusterWorld, world_of, setup_of, count_of, line_in, trace_of}
 
 -- an empty line, or one that begins with `#` (35)
 abbrev pub is_comment : List ℕ → Bool

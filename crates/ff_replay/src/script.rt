@@ -13,12 +13,7 @@ use std::alloc::Global;
 /// Runs a script from `source`, line by line, and writes its trace to `sink`, whole or brief. Where the
 /// source failed, that is the whole trace of the lines that ended in what it gave; where the sink failed
 /// or memory was wanted, a beginning of it.
-pub fn replay<S: Source, K: Sink>(
-    alloc: Global,
-    mode: Mode,
-    source: &mut S,
-    sink: &mut K,
-) -> RunEnd
+pub fn replay<S: Source, K: Sink>(alloc: Global, mode: Mode, source: &mut S, sink: &mut K) -> RunEnd
     ensures told { Runs script_budget (script_meaning mode) (S.left source.old) (K.held sink.old) result (S.left source.new) (K.held sink.new) }
     ensures reads { S.faults source.new ≡ read_faults result (S.faults source.old) }
     ensures writes { K.faults sink.new ≡ write_faults result (K.faults sink.old) }

@@ -32,12 +32,7 @@ fn print_brief(entries: &[Entry], out: &mut Out) -> Result<(), NoMemory>
 }
 
 /// Appends the text of the entries from this place on. At an error `out` has a beginning of it.
-pub fn print_from(
-    mode: Mode,
-    journal: &[Entry],
-    from: usize,
-    out: &mut Out,
-) -> Result<(), NoMemory>
+pub fn print_from(mode: Mode, journal: &[Entry], from: usize, out: &mut Out) -> Result<(), NoMemory>
     ensures { PrintsText out.old (trace_of mode (drop from journal.now)) result out.new }
 {
     let Some(entries) = journal.get(from..) else {

@@ -1,4 +1,4 @@
-use Rattle.std.proofs.Common.{Some, ap, refl, ◌∙◌}
+use Rattle.std.proofs.Common.{Some, ap, ◌∙◌}
 use Rattle.ff_script.specs.Line.{event_value}
 use Rattle.ff_replay.specs.Player.{at_bare}
 use Rattle.ff_replay.proofs.LineLemmas.{alike_read, goes_nowhere, plays_bare}

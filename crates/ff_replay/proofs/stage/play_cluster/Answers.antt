@@ -1,6 +1,6 @@
 use Rattle.std.proofs.Common.{sym, ◌∙◌}
 use Rattle.ff_replay.specs.Player.{at_cluster}
-use Rattle.ff_replay.proofs.LineLemmas.{goes_by_comment, plays_cluster, no_event}
+use Rattle.ff_replay.proofs.LineLemmas.{goes_by_comment, plays_cluster}
 use Rattle.ff_replay.proofs.stage.play_cluster.Goals as goal
 
 pub returns-then-is_comment-clause-does : goal.returns-then-is_comment-clause-does

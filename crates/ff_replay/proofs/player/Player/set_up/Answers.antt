@@ -1,4 +1,4 @@
-use Rattle.std.proofs.Common.{None, ◌≡◌, List, ℕ, sym, subst, ap, refl, Some, false, ◌∙◌}
+use Rattle.std.proofs.Common.{sym, subst, ap, refl, Some, false, ◌∙◌}
 use Rattle.ff_replay.specs.Player.{GoesFrom, PlayerState, with_trace, played}
 use Rattle.ff_replay.proofs.LineLemmas.{goes_by_comment, sets_up}
 use Rattle.ff_replay.proofs.player.Player.set_up.Goals as goal
