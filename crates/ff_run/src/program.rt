@@ -133,8 +133,9 @@ fn command_named(word: &[u8]) -> Option<Command>
 fn brief_named(word: &[u8], next: &[u8]) -> Option<Command>
     ensures { result ≡ brief_named word.now next.now }
 {
-    (word == b"replay".as_slice() && next == b"brief".as_slice())
-        .then_some(Command::Replay(Mode::Brief))
+    (word == b"replay".as_slice() && next == b"brief".as_slice()).then_some(Command::Replay(
+        Mode::Brief,
+    ))
 }
 
 /// What serving came to.
