@@ -12,7 +12,7 @@ use Rattle.cluster_machines.specs.Machines.{MachinesValue, Act, HasActed, receiv
 use Rattle.cluster_world.specs.Drafts.{DraftValue, PassesLimit, with_entry, with_act}
 use Rattle.cluster_world.specs.Sent.{bytes_at_place}
 use Rattle.cluster_world.specs.ClusterWorlds.{ClusterState, packets, packet_comes, delivering}
-use Rattle.cluster_world.specs.WorldSteps.{StageValue, ComesTo, drafted}
+use Rattle.cluster_world.specs.WorldSteps.{StageValue, StageBecomes, drafted}
 use Rattle.cluster_world.proofs.Lengths.{length_part}
 use Rattle.cluster_world.proofs.Comings.{past, fresh}
 
@@ -32,7 +32,7 @@ module _ (w : ClusterState) (number : ℕ) (note : PacketNote) (is_noted : packe
       omega (arith, e, length-append (w.journal ++ Delivered number ∷ []) ((coming note w).entries ++ packets_of note.to w.sent (coming note w).sends), length-append w.journal (Delivered number ∷ []), length_part note.to w.sent (coming note w).entries (coming note w).sends)
 
   -- it does not fit behind the journal
-  pub delivery_past : (old s : StageValue) (fault : WorldFault) (r : Result (Unit {0}) WorldFault) → old.world ≡ w → s.world.journal ≡ w.journal → r ≡ Err fault → PassesLimit (Err fault) d0 (Delivered number ∷ []) [] → ComesTo old (delivering number w) r s
+  pub delivery_past : (old s : StageValue) (fault : WorldFault) (r : Result (Unit {0}) WorldFault) → old.world ≡ w → s.world.journal ≡ w.journal → r ≡ Err fault → PassesLimit (Err fault) d0 (Delivered number ∷ []) [] → StageBecomes old (delivering number w) r s
   delivery_past old s fault r own same is limit =
       let none : length d0.entries ≡ 0 = ap (λ (d : DraftValue). length d.entries) new in
       let before : length old.world.journal ≡ length w.journal = ap (λ (v : ClusterState). length v.journal) own in
@@ -50,7 +50,7 @@ module _ (w : ClusterState) (number : ℕ) (note : PacketNote) (is_noted : packe
     sends = did.sends ∙ ap (λ (ss : List (NodeId × List ℕ)). ss ++ (coming note w).sends) no_sends
 
     -- nor does what the machine did
-    pub answer_past : (old s : StageValue) (fault : WorldFault) (r : Result (Unit {0}) WorldFault) → old.world ≡ w → s.world.journal ≡ w.journal → r ≡ Err fault → PassesLimit (Err fault) d1 after.entries.items after.sends.items → ComesTo old (delivering number w) r s
+    pub answer_past : (old s : StageValue) (fault : WorldFault) (r : Result (Unit {0}) WorldFault) → old.world ≡ w → s.world.journal ≡ w.journal → r ≡ Err fault → PassesLimit (Err fault) d1 after.entries.items after.sends.items → StageBecomes old (delivering number w) r s
     answer_past old s fault r own same is limit =
         let one : length d1.entries ≡ 1 = ap (λ (d : DraftValue). length d.entries) first in
         let own_length : length old.world.journal ≡ length w.journal = ap (λ (v : ClusterState). length v.journal) own in

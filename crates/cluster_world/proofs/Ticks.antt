@@ -15,7 +15,7 @@ use Rattle.world_journal.specs.SentPackets.{packets_of}
 use Rattle.cluster_machines.specs.Machines.{MachinesValue, Act, HasActed, mds_acts, client_acts}
 use Rattle.cluster_world.specs.Drafts.{DraftValue, PassesLimit, with_entry, with_act}
 use Rattle.cluster_world.specs.ClusterWorlds.{ClusterState, entering, acting, client_ticks, clients_tick, mds_ticks, ticking}
-use Rattle.cluster_world.specs.WorldSteps.{StageValue, ComesTo, drafted, drafted_with, Drafts, all_tick}
+use Rattle.cluster_world.specs.WorldSteps.{StageValue, StageBecomes, drafted, drafted_with, Drafts, all_tick}
 use Rattle.cluster_world.proofs.Comings.{past, fresh}
 use Rattle.cluster_world.proofs.Lengths.{length_part, past_limit}
 
@@ -42,7 +42,7 @@ tick_long w seconds = by_parts (record (entering (Tick seconds ∷ []) w) { now 
 
 -- the entry itself does not fit
 pub tick_past : (old : StageValue) (seconds : ℕ) (d : DraftValue) (fault : WorldFault) (r : Result (Unit {0}) WorldFault)
-    → r ≡ Err fault → d ≡ fresh old.world → PassesLimit (Err fault) d (Tick seconds ∷ []) [] → ComesTo old (ticking seconds old.world) r old
+    → r ≡ Err fault → d ≡ fresh old.world → PassesLimit (Err fault) d (Tick seconds ∷ []) [] → StageBecomes old (ticking seconds old.world) r old
 tick_past old seconds d fault r is new limit =
     let none : length d.entries ≡ 0 = ap (λ (d : DraftValue). length d.entries) new in
     past old old (ticking seconds old.world) d (Tick seconds ∷ []) [] fault r is limit (ap (λ (d : DraftValue). d.begun) new) refl
@@ -118,10 +118,10 @@ module _ (w : ClusterState) (seconds later : ℕ) (is_later : later ≡ w.now + 
 
   -- the machines' parts do not fit behind the journal
   pub ticks_past : (old s : StageValue) (m2 : MachinesValue) (d2 : DraftValue) (fault : WorldFault) (r : Result (Unit {0}) WorldFault) → old.world ≡ w → s.world.journal ≡ w.journal → r ≡ Err fault
-      → Drafts (all_tick (length w.machines.clients)) later w.machines d1 (Err fault) m2 d2 → ComesTo old (ticking seconds w) r s
-  ticks_past old s m2 d2 fault r own same is drafts = subst (λ o. ComesTo old (ticking seconds w) o s) (sym is) (by_fault fault drafts)
+      → Drafts (all_tick (length w.machines.clients)) later w.machines d1 (Err fault) m2 d2 → StageBecomes old (ticking seconds w) r s
+  ticks_past old s m2 d2 fault r own same is drafts = subst (λ o. StageBecomes old (ticking seconds w) o s) (sym is) (by_fault fault drafts)
     where
-      by_fault : (fault : WorldFault) → Drafts (all_tick (length w.machines.clients)) later w.machines d1 (Err fault) m2 d2 → ComesTo old (ticking seconds w) (Err fault) s
+      by_fault : (fault : WorldFault) → Drafts (all_tick (length w.machines.clients)) later w.machines d1 (Err fault) m2 d2 → StageBecomes old (ticking seconds w) (Err fault) s
       by_fault (Limit count) p = (
         past_limit (ticking seconds w).journal (subst (λ (v : ClusterState). MAX_ENTRIES < length v.journal) goes_on (p.0 w (sym begun_there))),
         p.1 ∙ begun_there ∙ ap (λ (v : ClusterState). length v.journal) (sym own),

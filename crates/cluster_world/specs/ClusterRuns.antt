@@ -15,13 +15,13 @@ abbrev pub no_more : ClusterRun
 no_more = record { entries = []; over = false }
 
 -- the entries that stand behind those of a world
-abbrev pub added : ClusterState → ClusterState → List Entry
-added old new = drop (length old.journal) new.journal
+abbrev pub entries_added : ClusterState → ClusterState → List Entry
+entries_added old new = drop (length old.journal) new.journal
 
 -- an event, and what runs behind it
 abbrev pub with_step : ClusterState → Option ClusterState → (ClusterState → ClusterRun) → ClusterRun
 with_step w None rest = record { entries = []; over = true }
-with_step w (Some next) rest = record { entries = added w next ++ (rest next).entries; over = (rest next).over }
+with_step w (Some next) rest = record { entries = entries_added w next ++ (rest next).entries; over = (rest next).over }
 
 -- A flow: the first packet that waits comes, and so on until none waits; then the rest runs. Each delivery makes an entry, so there are no
 -- more of them than the limit has entries.

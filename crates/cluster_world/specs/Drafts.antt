@@ -15,7 +15,7 @@ pub record DraftValue : Type 0 where
   pub begun : ℕ
 
 -- they fit behind the journal, and each packet is one of them or of the journal
-pub record IsRoomy (begun sent : ℕ) (entries : List Entry) : Type 0 where
+pub record FitsBehind (begun sent : ℕ) (entries : List Entry) : Type 0 where
   pub few : begun + length entries ≤ MAX_ENTRIES
   pub packets : sent ≤ begun + length entries
 

@@ -34,7 +34,7 @@ pub record StageValue : Type 0 where
   pub packets : PacketsValue
 
 -- the journal is within its limits, each packet is an entry of it, and time passed by its entries
-pub record IsSound (sent now : ℕ) (journal : List Entry) : Type 0 where
+pub record KeepsBounds (sent now : ℕ) (journal : List Entry) : Type 0 where
   pub within : is_within journal ≡ true
   pub sent_few : sent ≤ length journal
   pub early : now ≤ 4294967296 * length journal
@@ -45,10 +45,10 @@ IsNoted s = s.packets ≡ packets_in s.world.journal s.world.held
 
 -- What it comes to that it is to become this world: it has; it would pass a limit; or memory was wanted. In the last two its journal is as
 -- it was, and it is not to be used again.
-abbrev pub ComesTo : StageValue → ClusterState → Result (Unit {0}) WorldFault → StageValue → Type 0
-ComesTo old new (Ok done) s = (is_within new.journal ≡ true) × (s.world ≡ new) × IsNoted s
-ComesTo old new (Err (Limit count)) s = (is_within new.journal ≡ false) × (count ≡ length old.world.journal) × (s.world.journal ≡ old.world.journal)
-ComesTo old new (Err NoMemory) s = s.world.journal ≡ old.world.journal
+abbrev pub StageBecomes : StageValue → ClusterState → Result (Unit {0}) WorldFault → StageValue → Type 0
+StageBecomes old new (Ok done) s = (is_within new.journal ≡ true) × (s.world ≡ new) × IsNoted s
+StageBecomes old new (Err (Limit count)) s = (is_within new.journal ≡ false) × (count ≡ length old.world.journal) × (s.world.journal ≡ old.world.journal)
+StageBecomes old new (Err NoMemory) s = s.world.journal ≡ old.world.journal
 
 -- a machine's part was the whole event, after which the machines are these already
 abbrev pub acted : NodeId → List Entry → List (NodeId × List ℕ) → ClusterState → ClusterState
@@ -91,22 +91,22 @@ pub record Happened (new : ClusterState) (value : ClusterValue) : Type 0 where
   pub spent : value.spent ≡ None
 
 -- it would pass a limit, and the world is spent by it, with the journal as it was
-pub record Stays (old new : ClusterState) (count : ℕ) (value : ClusterValue) : Type 0 where
+pub record StaysAtLimit (old new : ClusterState) (count : ℕ) (value : ClusterValue) : Type 0 where
   pub past : is_within new.journal ≡ false
   pub told : count ≡ length old.journal
   pub journal : value.world.journal ≡ old.journal
   pub spent : value.spent ≡ Some (Limit count)
 
 -- What it comes to that a world, which was not spent, is to become this one: it has; it would pass a limit; or memory was wanted.
-abbrev pub Becomes : ClusterState → ClusterState → Result (Unit {0}) WorldFault → ClusterValue → Type 0
-Becomes old new (Ok done) value = Happened new value
-Becomes old new (Err (Limit count)) value = Stays old new count value
-Becomes old new (Err NoMemory) value = (value.world.journal ≡ old.journal) × (value.spent ≡ Some NoMemory)
+abbrev pub WorldBecomes : ClusterState → ClusterState → Result (Unit {0}) WorldFault → ClusterValue → Type 0
+WorldBecomes old new (Ok done) value = Happened new value
+WorldBecomes old new (Err (Limit count)) value = StaysAtLimit old new count value
+WorldBecomes old new (Err NoMemory) value = (value.world.journal ≡ old.journal) × (value.spent ≡ Some NoMemory)
 
 -- one delivery of a flow: none waits, and nothing has changed; or the first that waits came
 abbrev pub Flows : ClusterState → Option ℕ → Result Bool WorldFault → ClusterValue → Type 0
 Flows old None (Ok more) value = (more ≡ false) × (value.world ≡ old) × (value.spent ≡ None)
 Flows old None (Err fault) value = ⊥
 Flows old (Some number) (Ok more) value = (more ≡ true) × Happened (delivering number old) value
-Flows old (Some number) (Err (Limit count)) value = Stays old (delivering number old) count value
+Flows old (Some number) (Err (Limit count)) value = StaysAtLimit old (delivering number old) count value
 Flows old (Some number) (Err NoMemory) value = (value.world.journal ≡ old.journal) × (value.spent ≡ Some NoMemory)

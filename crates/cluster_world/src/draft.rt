@@ -3,7 +3,7 @@
 ghost use Rattle.std.specs.Prelude.{◌≡◌, ◌+◌, ◌≤◌, ◌<◌, ◌++◌, ◌∷◌, [], ◌↔◌, length, OnOk, IsTrue};
 ghost use Rattle.world_journal.specs.declared.journal.TheConstants.{MAX_ENTRIES};
 ghost use Rattle.world_journal.specs.SentPackets.{packets_of};
-ghost use Rattle.cluster_world.specs.Drafts.{IsRoomy, PassesLimit, with_entry, with_act};
+ghost use Rattle.cluster_world.specs.Drafts.{FitsBehind, PassesLimit, with_entry, with_act};
 
 use cluster_model::{Entry, NodeId, Outbox};
 use ff_xdr::{Data, NoMemory};
@@ -21,13 +21,13 @@ pub struct Draft {
 }
 
 impl Model for Draft {
-    ghost use Rattle.cluster_world.specs.Drafts.{DraftValue, IsRoomy};
+    ghost use Rattle.cluster_world.specs.Drafts.{DraftValue, FitsBehind};
 
     ghost Value = { DraftValue };
 
     ghost view = { λ d. record { entries = d.entries.items; sent = d.sent; begun = d.begun } };
 
-    ghost invariant = { λ d. IsRoomy d.begun d.sent d.entries.items };
+    ghost invariant = { λ d. FitsBehind d.begun d.sent d.entries.items };
 }
 
 impl Draft {

@@ -5,7 +5,7 @@ ghost use Rattle.cluster_model.specs.Event.{Hold, Pass};
 ghost use Rattle.packet_table.specs.Packets.{number_between};
 ghost use Rattle.cluster_world.specs.ClusterWorlds.{packets, delivering, delivering_some, behind};
 ghost use Rattle.cluster_world.specs.Sent.{bytes_at_place};
-ghost use Rattle.cluster_world.specs.WorldSteps.{IsNoted, ComesTo};
+ghost use Rattle.cluster_world.specs.WorldSteps.{IsNoted, StageBecomes};
 
 use crate::stage::Stage;
 use cluster_model::{Entry, NodeId, Outbox};
@@ -25,7 +25,7 @@ impl Stage {
     /// The packet of a number comes, for the first time or again; nothing happens where none has it.
     pub fn deliver(&mut self, number: u64) -> Result<(), WorldFault>
         requires { IsNoted self.old }
-        ensures { ComesTo self.old (delivering number self.old.world) result self.new }
+        ensures { StageBecomes self.old (delivering number self.old.world) result self.new }
     {
         let Some(note) = self.packets.get(number) else {
             return Ok(());
@@ -48,7 +48,7 @@ impl Stage {
         place: u32,
     ) -> Result<(), WorldFault>
         requires { IsNoted self.old }
-        ensures { ComesTo self.old (delivering_some (number_between (packets self.old.world) from to place) self.old.world) result self.new }
+        ensures { StageBecomes self.old (delivering_some (number_between (packets self.old.world) from to place) self.old.world) result self.new }
     {
         match self.packets.between(from, to, u64::from(place)) {
             Some(number) => self.deliver(number),
@@ -59,7 +59,7 @@ impl Stage {
     /// Packets from one machine to another are held.
     pub fn hold(&mut self, from: NodeId, to: NodeId) -> Result<(), WorldFault>
         requires { IsNoted self.old }
-        ensures { ComesTo self.old (behind (Hold from to) self.old.world) result self.new }
+        ensures { StageBecomes self.old (behind (Hold from to) self.old.world) result self.new }
     {
         self.packets.hold(from, to)?;
         self.enter_alone(Entry::Hold { from, to })
@@ -68,7 +68,7 @@ impl Stage {
     /// They are held no longer.
     pub fn pass(&mut self, from: NodeId, to: NodeId) -> Result<(), WorldFault>
         requires { IsNoted self.old }
-        ensures { ComesTo self.old (behind (Pass from to) self.old.world) result self.new }
+        ensures { StageBecomes self.old (behind (Pass from to) self.old.world) result self.new }
     {
         self.packets.pass(from, to);
         self.enter_alone(Entry::Pass { from, to })

@@ -4,7 +4,7 @@ ghost use Rattle.std.specs.Prelude.{◌≡◌, ◌+◌, ◌*◌, ◌<◌, ◌≤
 ghost use Rattle.node_config.specs.declared.config.TheConstants.{MAX_SERVERS, MAX_MIRRORS, MAX_NUMBER};
 ghost use Rattle.cluster_world.specs.Sent.{noting, noting_all};
 ghost use Rattle.cluster_world.specs.ClusterWorlds.{new_cluster, entering};
-ghost use Rattle.cluster_world.specs.WorldSteps.{IsNoted, ComesTo, drafted, acted};
+ghost use Rattle.cluster_world.specs.WorldSteps.{IsNoted, StageBecomes, drafted, acted};
 
 use crate::draft::Draft;
 use cluster_machines::Machines;
@@ -32,13 +32,13 @@ pub struct Stage {
 }
 
 impl Model for Stage {
-    ghost use Rattle.cluster_world.specs.WorldSteps.{StageValue, IsSound};
+    ghost use Rattle.cluster_world.specs.WorldSteps.{StageValue, KeepsBounds};
 
     ghost Value = { StageValue };
 
     ghost view = { λ s. record { world = record { machines = s.machines; verifiers = s.verifiers.items; now = s.moment; held = s.packets.held; sent = s.sent; journal = s.journal }; packets = s.packets } };
 
-    ghost invariant = { λ s. IsSound s.sent s.moment s.journal };
+    ghost invariant = { λ s. KeepsBounds s.sent s.moment s.journal };
 }
 
 /// Notes what an entry says of packets, which stands at this place of the journal.
@@ -100,7 +100,7 @@ impl Stage {
     /// Nothing happens.
     pub fn stay(&mut self) -> Result<(), WorldFault>
         requires { IsNoted self.old }
-        ensures { ComesTo self.old self.old.world result self.new }
+        ensures { StageBecomes self.old self.old.world result self.new }
     {
         // its invariant is known once a field is read
         let _sent = self.sent;
@@ -112,7 +112,7 @@ impl Stage {
         requires noted { IsNoted self.old }
         requires begun { draft.begun ≡ length self.old.world.journal }
         requires early { moment ≤ 4294967296 * (length self.old.world.journal + length draft.entries) }
-        ensures { ComesTo self.old (drafted self.old.world moment draft) result self.new }
+        ensures { StageBecomes self.old (drafted self.old.world moment draft) result self.new }
     {
         let (entries, sent) = draft.into_parts();
         note_all(&mut self.packets, self.journal.count(), &entries)?;
@@ -126,7 +126,7 @@ impl Stage {
     pub fn enter(&mut self, draft: Draft) -> Result<(), WorldFault>
         requires noted { IsNoted self.old }
         requires begun { draft.begun ≡ length self.old.world.journal }
-        ensures { ComesTo self.old (drafted self.old.world self.old.world.now draft) result self.new }
+        ensures { StageBecomes self.old (drafted self.old.world self.old.world.now draft) result self.new }
     {
         let moment = self.moment;
         self.enter_at(draft, moment)
@@ -135,7 +135,7 @@ impl Stage {
     /// One entry is the whole event.
     pub fn enter_alone(&mut self, entry: Entry) -> Result<(), WorldFault>
         requires { IsNoted self.old }
-        ensures { ComesTo self.old (entering (entry ∷ []) self.old.world) result self.new }
+        ensures { StageBecomes self.old (entering (entry ∷ []) self.old.world) result self.new }
     {
         let mut draft = self.draft();
         draft.enter(entry)?;
@@ -145,7 +145,7 @@ impl Stage {
     /// A machine's part is the whole event.
     pub fn act(&mut self, node: NodeId, out: Outbox) -> Result<(), WorldFault>
         requires { IsNoted self.old }
-        ensures { ComesTo self.old (acted node out.entries.items out.sends.items self.old.world) result self.new }
+        ensures { StageBecomes self.old (acted node out.entries.items out.sends.items self.old.world) result self.new }
     {
         let mut draft = self.draft();
         draft.act(node, out)?;

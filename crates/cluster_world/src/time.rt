@@ -4,7 +4,7 @@ ghost use Rattle.std.specs.Prelude.{◌≡◌, ◌≤◌, length};
 ghost use Rattle.std.specs.List.{range_with_len};
 ghost use Rattle.cluster_model.specs.Event.{Timeout, Recall, Resilver, Restart};
 ghost use Rattle.cluster_world.specs.ClusterWorlds.{client_ticks, clients_tick, mds_ticks, ticking, behind};
-ghost use Rattle.cluster_world.specs.WorldSteps.{IsNoted, ComesTo, Drafts, all_tick};
+ghost use Rattle.cluster_world.specs.WorldSteps.{IsNoted, StageBecomes, Drafts, all_tick};
 
 use crate::draft::Draft;
 use crate::stage::Stage;
@@ -75,7 +75,7 @@ impl Stage {
     /// So many seconds pass: each client's part in order, then that of the metadata server.
     pub fn tick(&mut self, seconds: u32) -> Result<(), WorldFault>
         requires { IsNoted self.old }
-        ensures { ComesTo self.old (ticking seconds self.old.world) result self.new }
+        ensures { StageBecomes self.old (ticking seconds self.old.world) result self.new }
     {
         let mut draft = self.draft();
         draft.enter(Entry::Tick { seconds })?;
@@ -87,7 +87,7 @@ impl Stage {
     /// A machine's call to another that was sent first times out.
     pub fn time_out(&mut self, node: NodeId, to: NodeId) -> Result<(), WorldFault>
         requires { IsNoted self.old }
-        ensures { ComesTo self.old (behind (Timeout node to) self.old.world) result self.new }
+        ensures { StageBecomes self.old (behind (Timeout node to) self.old.world) result self.new }
     {
         let mut out = Outbox::new(self.alloc);
         self.machines.time_out(node, to, self.moment, &mut out)?;
@@ -97,7 +97,7 @@ impl Stage {
     /// The layout of a file is recalled.
     pub fn recall(&mut self, file: FileId) -> Result<(), WorldFault>
         requires { IsNoted self.old }
-        ensures { ComesTo self.old (behind (Recall file.0) self.old.world) result self.new }
+        ensures { StageBecomes self.old (behind (Recall file.0) self.old.world) result self.new }
     {
         let mut out = Outbox::new(self.alloc);
         self.machines.recall(file, self.moment, &mut out)?;
@@ -107,7 +107,7 @@ impl Stage {
     /// Mirrors are added to a file.
     pub fn resilver(&mut self, file: FileId) -> Result<(), WorldFault>
         requires { IsNoted self.old }
-        ensures { ComesTo self.old (behind (Resilver file.0) self.old.world) result self.new }
+        ensures { StageBecomes self.old (behind (Resilver file.0) self.old.world) result self.new }
     {
         let mut out = Outbox::new(self.alloc);
         self.machines.resilver(file, &mut out)?;
@@ -117,7 +117,7 @@ impl Stage {
     /// A data server starts again, with these pieces of its pending writes on its disk.
     pub fn restart(&mut self, server: u32, pieces: Pieces) -> Result<(), WorldFault>
         requires { IsNoted self.old }
-        ensures { ComesTo self.old (behind (Restart server pieces) self.old.world) result self.new }
+        ensures { StageBecomes self.old (behind (Restart server pieces) self.old.world) result self.new }
     {
         let mut out = Outbox::new(self.alloc);
         self.machines.restart(server, pieces, &mut out)?;

@@ -5,7 +5,7 @@ ghost use Rattle.cluster_model.specs.declared.limits.TheConstants.{PIECE_SIZE};
 ghost use Rattle.cluster_model.specs.Event.{Open, Write, Through, Fill, Commit, Read, Return, Rogue, Stray, Reboot, Audit};
 ghost use Rattle.cluster_machines.specs.Machines.{nth};
 ghost use Rattle.cluster_world.specs.ClusterWorlds.{behind, verifier_after, may_start, with_verifier};
-ghost use Rattle.cluster_world.specs.WorldSteps.{IsNoted, ComesTo};
+ghost use Rattle.cluster_world.specs.WorldSteps.{IsNoted, StageBecomes};
 
 use crate::stage::Stage;
 use cluster_machines::Machines;
@@ -63,7 +63,7 @@ impl Stage {
     pub fn open(&mut self, client: u32, name: &str) -> Result<(), WorldFault>
         requires noted { IsNoted self.old }
         requires few { length name.now ≤ 255 }
-        ensures { ComesTo self.old (behind (Open client name.now) self.old.world) result self.new }
+        ensures { StageBecomes self.old (behind (Open client name.now) self.old.world) result self.new }
     {
         let mut out = Outbox::new(self.alloc);
         self.machines.open(client, name, &mut out)?;
@@ -75,7 +75,7 @@ impl Stage {
         requires noted { IsNoted self.old }
         requires some { 1 ≤ length bytes.now }
         requires few { length bytes.now ≤ PIECE_SIZE }
-        ensures { ComesTo self.old (behind (Write client at bytes.now) self.old.world) result self.new }
+        ensures { StageBecomes self.old (behind (Write client at bytes.now) self.old.world) result self.new }
     {
         let mut out = Outbox::new(self.alloc);
         self.machines.write(client, at, bytes, &mut out)?;
@@ -87,7 +87,7 @@ impl Stage {
         requires noted { IsNoted self.old }
         requires some { 1 ≤ count }
         requires few { count ≤ PIECE_SIZE }
-        ensures { ComesTo self.old (behind (Fill client at count byte) self.old.world) result self.new }
+        ensures { StageBecomes self.old (behind (Fill client at count byte) self.old.world) result self.new }
     {
         let bytes = equal_bytes(self.alloc, byte, count)?;
         self.write(client, at, &bytes)
@@ -98,7 +98,7 @@ impl Stage {
         requires noted { IsNoted self.old }
         requires some { 1 ≤ length bytes.now }
         requires few { length bytes.now ≤ PIECE_SIZE }
-        ensures { ComesTo self.old (behind (Through client at bytes.now) self.old.world) result self.new }
+        ensures { StageBecomes self.old (behind (Through client at bytes.now) self.old.world) result self.new }
     {
         let mut out = Outbox::new(self.alloc);
         self.machines.through(client, at, bytes, &mut out)?;
@@ -108,7 +108,7 @@ impl Stage {
     /// What was written is to be committed.
     pub fn commit(&mut self, client: u32) -> Result<(), WorldFault>
         requires { IsNoted self.old }
-        ensures { ComesTo self.old (behind (Commit client) self.old.world) result self.new }
+        ensures { StageBecomes self.old (behind (Commit client) self.old.world) result self.new }
     {
         let mut out = Outbox::new(self.alloc);
         self.machines.commit(client, &mut out)?;
@@ -118,7 +118,7 @@ impl Stage {
     /// So many bytes are to be read from this place on.
     pub fn read(&mut self, client: u32, at: u64, count: u32) -> Result<(), WorldFault>
         requires { IsNoted self.old }
-        ensures { ComesTo self.old (behind (Read client at count) self.old.world) result self.new }
+        ensures { StageBecomes self.old (behind (Read client at count) self.old.world) result self.new }
     {
         let mut out = Outbox::new(self.alloc);
         self.machines.read(client, at, count, &mut out)?;
@@ -128,7 +128,7 @@ impl Stage {
     /// The layout is to be given back.
     pub fn return_all(&mut self, client: u32) -> Result<(), WorldFault>
         requires { IsNoted self.old }
-        ensures { ComesTo self.old (behind (Return client) self.old.world) result self.new }
+        ensures { StageBecomes self.old (behind (Return client) self.old.world) result self.new }
     {
         let mut out = Outbox::new(self.alloc);
         self.machines.return_all(client, &mut out)?;
@@ -138,7 +138,7 @@ impl Stage {
     /// A client leaves the protocol, once.
     pub fn turn(&mut self, client: u32) -> Result<(), WorldFault>
         requires { IsNoted self.old }
-        ensures { ComesTo self.old (behind (Rogue client) self.old.world) result self.new }
+        ensures { StageBecomes self.old (behind (Rogue client) self.old.world) result self.new }
     {
         let mut out = Outbox::new(self.alloc);
         self.machines.turn(client, &mut out)?;
@@ -155,7 +155,7 @@ impl Stage {
     ) -> Result<(), WorldFault>
         requires noted { IsNoted self.old }
         requires few { length bytes.now ≤ PIECE_SIZE }
-        ensures { ComesTo self.old (behind (Stray client place at bytes.now) self.old.world) result self.new }
+        ensures { StageBecomes self.old (behind (Stray client place at bytes.now) self.old.world) result self.new }
     {
         let mut out = Outbox::new(self.alloc);
         self.machines.stray(client, place, at, bytes, &mut out)?;
@@ -165,7 +165,7 @@ impl Stage {
     /// A client starts anew, with its next verifier; one that left stays as it is.
     pub fn reboot(&mut self, client: u32) -> Result<(), WorldFault>
         requires { IsNoted self.old }
-        ensures { ComesTo self.old (behind (Reboot client) self.old.world) result self.new }
+        ensures { StageBecomes self.old (behind (Reboot client) self.old.world) result self.new }
     {
         let starts = may_start(&self.machines, client);
         let verifier = next_verifier(&self.verifiers, client);
@@ -178,7 +178,7 @@ impl Stage {
     /// The live mirrors of a file are put into the journal.
     pub fn audit(&mut self, file: FileId) -> Result<(), WorldFault>
         requires { IsNoted self.old }
-        ensures { ComesTo self.old (behind (Audit file.0) self.old.world) result self.new }
+        ensures { StageBecomes self.old (behind (Audit file.0) self.old.world) result self.new }
     {
         let mut out = Outbox::new(self.alloc);
         self.machines.audit(file, &mut out)?;

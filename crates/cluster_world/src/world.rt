@@ -7,7 +7,7 @@ ghost use Rattle.packet_table.specs.Packets.{next_waiting};
 ghost use Rattle.cluster_script.specs.ClusterLines.{cluster_event};
 ghost use Rattle.cluster_machines.specs.Machines.{nth};
 ghost use Rattle.cluster_world.specs.ClusterWorlds.{new_cluster, packets, behind};
-ghost use Rattle.cluster_world.specs.WorldSteps.{IsOfScript, IsNoted, ComesTo, Becomes, Flows};
+ghost use Rattle.cluster_world.specs.WorldSteps.{IsOfScript, IsNoted, StageBecomes, WorldBecomes, Flows};
 
 use crate::stage::Stage;
 use cluster_model::{Entry, Pieces};
@@ -43,7 +43,7 @@ impl Stage {
     fn happen(&mut self, event: &ClusterEvent<'_>) -> Result<(), WorldFault>
         requires noted { IsNoted self.old }
         requires ranges { IsOfScript (cluster_event event.now) }
-        ensures { ComesTo self.old (behind (cluster_event event.now) self.old.world) result self.new }
+        ensures { StageBecomes self.old (behind (cluster_event event.now) self.old.world) result self.new }
     {
         match event {
             ClusterEvent::DeliverPacket(number) => self.deliver(u64::from(*number)),
@@ -151,7 +151,7 @@ impl ClusterWorld {
     /// the world is spent. A flow is played by `deliver_next`, one delivery after the other; here nothing happens for it.
     pub fn step(&mut self, event: &ClusterEvent<'_>) -> Result<(), WorldFault>
         requires { IsOfScript (cluster_event event.now) }
-        ensures meets { self.old.spent ≡ None → Becomes self.old.world (behind (cluster_event event.now) self.old.world) result self.new }
+        ensures meets { self.old.spent ≡ None → WorldBecomes self.old.world (behind (cluster_event event.now) self.old.world) result self.new }
         ensures spent { (fault : WorldFault) → self.old.spent ≡ Some fault → (result ≡ Err fault) × (self.new ≡ self.old) }
     {
         if let Some(fault) = self.spent {

@@ -8,7 +8,7 @@ use Rattle.world_journal.specs.Journal.{max_entries, is_within}
 use Rattle.packet_table.specs.declared.note.PacketNote.{PacketNote}
 use Rattle.packet_table.specs.Packets.{PacketsValue, packet_numbered, waits, next_waiting}
 use Rattle.cluster_world.specs.ClusterWorlds.{ClusterState, packets, packet_comes, delivering, within_limits, cluster_step}
-use Rattle.cluster_world.specs.ClusterRuns.{ClusterRun, added, with_step, flow_by, flow_for, flow_then}
+use Rattle.cluster_world.specs.ClusterRuns.{ClusterRun, entries_added, with_step, flow_by, flow_for, flow_then}
 use Rattle.ff_replay.proofs.WorldGrows.{comes_more}
 
 -- ---- the first that waits is there
@@ -63,7 +63,7 @@ few_within w within = leb-true (length w.journal) max_entries (and_parts _ _ wit
 
 same_step : (more other : ClusterState → ClusterRun) (w : ClusterState) (o : Option ClusterState) → ((next : ClusterState) → o ≡ Some next → more next ≡ other next) → with_step w o more ≡ with_step w o other
 same_step more other w None same = refl
-same_step more other w (Some next) same = ap (λ (r : ClusterRun). record { entries = added w next ++ r.entries; over = r.over }) (same next refl)
+same_step more other w (Some next) same = ap (λ (r : ClusterRun). record { entries = entries_added w next ++ r.entries; over = r.over }) (same next refl)
 
 same_by : (more other rest : ClusterState → ClusterRun) (w : ClusterState) (o : Option ℕ) → next_waiting (packets w) ≡ o
     → ((next : ClusterState) → length next.journal ≤ max_entries → length w.journal + 1 ≤ length next.journal → more next ≡ other next)

@@ -8,7 +8,7 @@ use Rattle.cluster_script.specs.declared.sizes.ClusterSizes.{ClusterSizes}
 use Rattle.ff_world.specs.World.{WorldState, WorldStep, effect_of, step_by_effect, world_step, Run, run_of}
 use Rattle.ff_world.specs.World as bare
 use Rattle.cluster_world.specs.ClusterWorlds.{ClusterState, packets, behind, within_limits}
-use Rattle.cluster_world.specs.ClusterRuns.{ClusterRun, added, with_step, flow_by, flow_then, event_then, cluster_run}
+use Rattle.cluster_world.specs.ClusterRuns.{ClusterRun, entries_added, with_step, flow_by, flow_then, event_then, cluster_run}
 use Rattle.ff_replay.specs.Script.{ScriptWorld, BareWorld, ClusterWorld, setup_of_world, entries_in, bare_run, run_in, run_behind}
 use Rattle.ff_replay.specs.Player.{LinePlayed, Outside, Limited, Goes, bare_goes, cluster_goes, flows_by, flowed, is_flow, cluster_played, event_played}
 use Rattle.ff_replay.proofs.WorldGrows.{Grows, grows, counted}
@@ -51,8 +51,8 @@ cluster_by : (sizes : ClusterSizes) (w left : ClusterState) (flows : Bool) (more
 cluster_by sizes w left flows more events None grown is same = refl
 cluster_by sizes w left flows more events (Some next) grown is same =
     let happened : next ≡ left = (let_in left next is).0 in
-    let count : length next.journal ≡ length w.journal + length (added w next) = subst (λ (n : ClusterState). length n.journal ≡ length w.journal + length (added w n)) (sym happened) (counted w left grown) in
-    (refl, ap (adds (added w next)) (same next), count)
+    let count : length next.journal ≡ length w.journal + length (entries_added w next) = subst (λ (n : ClusterState). length n.journal ≡ length w.journal + length (entries_added w n)) (sym happened) (counted w left grown) in
+    (refl, ap (adds (entries_added w next)) (same next), count)
 
 -- an event that is no flow
 acts_on : (sizes : ClusterSizes) (w : ClusterState) (event : EventValue) (events : List EventValue)

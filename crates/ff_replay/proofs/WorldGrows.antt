@@ -8,7 +8,7 @@ use Rattle.cluster_model.specs.Event.{EventValue, Deliver, DeliverPacket, Delive
 use Rattle.packet_table.specs.declared.note.PacketNote.{PacketNote}
 use Rattle.packet_table.specs.Packets.{packet_numbered, number_between}
 use Rattle.cluster_world.specs.ClusterWorlds.{ClusterState, entering, packets, packet_comes, delivering, delivering_some, client_ticks, clients_tick, mds_ticks, ticking, behind}
-use Rattle.cluster_world.specs.ClusterRuns.{added}
+use Rattle.cluster_world.specs.ClusterRuns.{entries_added}
 
 -- entries were added behind the others
 abbrev pub Grows : ClusterState → ClusterState → Type 0
@@ -76,9 +76,9 @@ grows (Restart server pieces) w = (_, refl)
 pub longer : (old new : ClusterState) → Grows old new → length old.journal ≤ length new.journal
 longer old new more = omega (arith, ap length more.1, length-append old.journal more.0)
 
-pub counted : (old new : ClusterState) → Grows old new → length new.journal ≡ length old.journal + length (added old new)
+pub counted : (old new : ClusterState) → Grows old new → length new.journal ≡ length old.journal + length (entries_added old new)
 counted old new more =
-    let rest : added old new ≡ more.0 = ap (drop (length old.journal)) more.1 ∙ drop_at old.journal more.0 (length old.journal) refl in
+    let rest : entries_added old new ≡ more.0 = ap (drop (length old.journal)) more.1 ∙ drop_at old.journal more.0 (length old.journal) refl in
     omega (arith, ap length more.1, length-append old.journal more.0, ap length rest)
 
 -- a packet that is there makes an entry at least

@@ -9,7 +9,7 @@ use Rattle.cluster_model.specs.declared.ids.NodeId.{NodeId}
 use Rattle.cluster_model.specs.Nodes.{is_node}
 use Rattle.packet_table.specs.declared.note.PacketNote.{PacketNote}
 use Rattle.packet_table.specs.Packets.{is_between, is_pair, is_held, waits, numbers_between, came_at}
-use Rattle.packet_table.specs.PacketLines.{LineValue, pair_key, IsMachine, line_at, numbers_in, front_in, with_number, with_front, ChangesLine, has_come, came_so, numbered_in, IsKnown, HasFront, MovesFront, AreFound, low_before}
+use Rattle.packet_table.specs.PacketLines.{PairLine, pair_key, IsMachine, line_at, numbers_in, front_in, with_number, with_front, ChangesLine, has_come, came_so, numbered_in, IsKnown, HasFront, MovesFront, AreFound, low_before}
 use Rattle.packet_table.proofs.FirstWaiting.{quiet_pushed, quiet_set, quiet_too}
 use Rattle.packet_table.proofs.MachineKeys.{key_test}
 use Rattle.packet_table.proofs.LineLists.{number_of, numbers_pushed, numbers_set, numbers_above, come_at, come_pushed, come_set, before_pushed}
@@ -29,7 +29,7 @@ known_more notes numbers front number known = record {
 }
 
 -- a packet is sent
-module _ (from to : NodeId) (is_from : IsMachine from) (is_to : IsMachine to) (notes : List PacketNote) (held : List (NodeId × NodeId)) (lines lines' : List (ℕ × LineValue)) (low : ℕ) where
+module _ (from to : NodeId) (is_from : IsMachine from) (is_to : IsMachine to) (notes : List PacketNote) (held : List (NodeId × NodeId)) (lines lines' : List (ℕ × PairLine)) (low : ℕ) where
   sent_numbers : (y : PacketNote) → y.from ≡ from → y.to ≡ to → ChangesLine (pair_key from to) (with_number (length notes + 1)) lines lines' → AreFound notes held lines low
       → (f t : NodeId) → IsMachine f → IsMachine t → numbers_in (line_at lines' (pair_key f t)) ≡ numbers_between f t 1 (notes ++ y ∷ [])
   sent_numbers y its_from its_to changes found f t is_f is_t =
@@ -64,7 +64,7 @@ module _ (from to : NodeId) (is_from : IsMachine from) (is_to : IsMachine to) (n
       still : (key : ℕ) → HasFront (notes ++ y ∷ []) (line_at lines key)
       still key = known_still notes (notes ++ y ∷ []) (numbers_in (line_at lines key)) (front_in (line_at lines key)) (λ number. come_pushed notes number y) (found.fronts key)
 
-module _ (notes : List PacketNote) (held : List (NodeId × NodeId)) (lines : List (ℕ × LineValue)) (low : ℕ) where
+module _ (notes : List PacketNote) (held : List (NodeId × NodeId)) (lines : List (ℕ × PairLine)) (low : ℕ) where
   -- a packet came
   came_there : (place : ℕ) (x : PacketNote) → slice_get notes place ≡ Some x → AreFound notes held lines low → AreFound (came_at notes place (Some x)) held lines low
   came_there place x at found = record {
@@ -115,16 +115,16 @@ low_first low (Some m) n is above =
     let e : m ≡ n = same_Some m n is in
     cond_both (nat_lt (m - 1) low) (m - 1) low (λ k. k + 1 ≤ n) (λ _. omega (arith, e, above)) (λ not_below. let least = ltb-false (m - 1) low not_below in omega (arith, e, above, least))
 
-front_kept : (front : ℕ) (line : Option LineValue) → numbers_in (with_front front line) ≡ numbers_in line
+front_kept : (front : ℕ) (line : Option PairLine) → numbers_in (with_front front line) ≡ numbers_in line
 front_kept front None = refl
 front_kept front (Some line) = refl
 
-front_known : (notes : List PacketNote) (front : ℕ) (line : Option LineValue) → HasFront notes line → MovesFront notes (numbers_in line) (front_in line) front → HasFront notes (with_front front line)
+front_known : (notes : List PacketNote) (front : ℕ) (line : Option PairLine) → HasFront notes line → MovesFront notes (numbers_in line) (front_in line) front → HasFront notes (with_front front line)
 front_known notes front None known moves = known
 front_known notes front (Some line) known moves = moves.known
 
 -- packets are held no longer
-module _ (from to : NodeId) (is_from : IsMachine from) (is_to : IsMachine to) (notes : List PacketNote) (held : List (NodeId × NodeId)) (lines lines' : List (ℕ × LineValue)) (low front : ℕ) where
+module _ (from to : NodeId) (is_from : IsMachine from) (is_to : IsMachine to) (notes : List PacketNote) (held : List (NodeId × NodeId)) (lines lines' : List (ℕ × PairLine)) (low front : ℕ) where
   pub passed_found : ChangesLine (pair_key from to) (with_front front) lines lines'
       → MovesFront notes (numbers_in (line_at lines (pair_key from to))) (front_in (line_at lines (pair_key from to))) front
       → AreFound notes held lines low

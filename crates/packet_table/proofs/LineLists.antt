@@ -9,7 +9,7 @@ use Rattle.cluster_model.specs.declared.ids.NodeId.{NodeId}
 use Rattle.cluster_model.specs.Nodes.{is_node}
 use Rattle.packet_table.specs.declared.note.PacketNote.{PacketNote}
 use Rattle.packet_table.specs.Packets.{is_between, numbers_between}
-use Rattle.packet_table.specs.PacketLines.{LineValue, has_come, came_so}
+use Rattle.packet_table.specs.PacketLines.{PairLine, has_come, came_so}
 
 -- the number of one that is between them
 abbrev pub number_of : Bool → ℕ → List ℕ
@@ -88,7 +88,7 @@ before_pushed (n ∷ numbers) zero number within = refl
 before_pushed (n ∷ numbers) (suc place) number within = before_pushed numbers place number (omega (arith, within))
 
 -- what is written over the same changes nothing
-pub line_same : (key : ℕ) (lines : List (ℕ × LineValue)) (was new : LineValue) → Some was ≡ lookup (nat_eq key) lines → new ≡ was → set_value (nat_eq key) lines new ≡ lines
+pub line_same : (key : ℕ) (lines : List (ℕ × PairLine)) (was new : PairLine) → Some was ≡ lookup (nat_eq key) lines → new ≡ was → set_value (nat_eq key) lines new ≡ lines
 line_same key lines was new at same = ap (set_value (nat_eq key) lines) same ∙ set_value_same (nat_eq key) lines was (sym at)
 
 -- a number among them is none before the first packet's

@@ -8,7 +8,7 @@ use Rattle.packet_table.specs.declared.note.PacketNote.{PacketNote}
 use Rattle.packet_table.specs.Packets.{numbers_between, waits}
 
 -- the numbers of the packets from one machine to another, and how many of the first of them are known to have come
-pub record LineValue : Type 0 where
+pub record PairLine : Type 0 where
   pub numbers : List ℕ
   pub front : ℕ
 
@@ -28,29 +28,29 @@ IsMachine Mds = ⊤
 IsMachine (Server n) = n < 2 ^ 32
 IsMachine (Client n) = n < 2 ^ 32
 
-abbrev pub line_at : List (ℕ × LineValue) → ℕ → Option LineValue
+abbrev pub line_at : List (ℕ × PairLine) → ℕ → Option PairLine
 line_at lines key = lookup (nat_eq key) lines
 
-abbrev pub numbers_in : Option LineValue → List ℕ
+abbrev pub numbers_in : Option PairLine → List ℕ
 numbers_in None = []
 numbers_in (Some line) = line.numbers
 
-abbrev pub front_in : Option LineValue → ℕ
+abbrev pub front_in : Option PairLine → ℕ
 front_in None = 0
 front_in (Some line) = line.front
 
 -- ---- what becomes of a line
 
 -- one more number, in a new line where there is none
-abbrev pub with_number : ℕ → Option LineValue → Option LineValue
+abbrev pub with_number : ℕ → Option PairLine → Option PairLine
 with_number number line = Some (record { numbers = numbers_in line ++ number ∷ []; front = front_in line })
 
-abbrev pub with_front : ℕ → Option LineValue → Option LineValue
+abbrev pub with_front : ℕ → Option PairLine → Option PairLine
 with_front front None = None
 with_front front (Some line) = Some (record { numbers = line.numbers; front = front })
 
 -- the line under this key is changed, and no other
-abbrev pub ChangesLine : ℕ → (Option LineValue → Option LineValue) → List (ℕ × LineValue) → List (ℕ × LineValue) → Type 0
+abbrev pub ChangesLine : ℕ → (Option PairLine → Option PairLine) → List (ℕ × PairLine) → List (ℕ × PairLine) → Type 0
 ChangesLine key change old new = (other : ℕ) → line_at new other ≡ (if nat_eq key other then change (line_at old key) else line_at old other)
 
 -- ---- what is true of them
@@ -72,7 +72,7 @@ pub record IsKnown (notes : List PacketNote) (numbers : List ℕ) (front : ℕ) 
   pub within : front ≤ length numbers
   pub came : (place number : ℕ) → place < front → slice_get numbers place ≡ Some number → has_come notes number ≡ true
 
-abbrev pub HasFront : List PacketNote → Option LineValue → Type 0
+abbrev pub HasFront : List PacketNote → Option PairLine → Type 0
 HasFront notes line = IsKnown notes (numbers_in line) (front_in line)
 
 -- where a front has been moved on to: to the first that has not come, or behind all
@@ -82,7 +82,7 @@ pub record MovesFront (notes : List PacketNote) (numbers : List ℕ) (old new : 
   pub stops : (number : ℕ) → slice_get numbers new ≡ Some number → has_come notes number ≡ false
 
 -- each line has its packets, and its front; and none of the first so many packets waits, which are no more than there are
-pub record AreFound (notes : List PacketNote) (held : List (NodeId × NodeId)) (lines : List (ℕ × LineValue)) (low : ℕ) : Type 0 where
+pub record AreFound (notes : List PacketNote) (held : List (NodeId × NodeId)) (lines : List (ℕ × PairLine)) (low : ℕ) : Type 0 where
   pub numbers : (from to : NodeId) → IsMachine from → IsMachine to → numbers_in (line_at lines (pair_key from to)) ≡ numbers_between from to 1 notes
   pub fronts : (key : ℕ) → HasFront notes (line_at lines key)
   pub quiet : low ≤ position_or_len (waits held) notes

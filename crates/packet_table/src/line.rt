@@ -17,9 +17,9 @@ pub struct PacketLine {
 }
 
 impl Model for PacketLine {
-    ghost use Rattle.packet_table.specs.PacketLines.{LineValue};
+    ghost use Rattle.packet_table.specs.PacketLines.{PairLine};
 
-    ghost Value = { LineValue };
+    ghost Value = { PairLine };
 
     ghost view = { λ l. record { numbers = l.numbers.items; front = l.front } };
 }

@@ -4,7 +4,7 @@ use Rattle.packet_table.specs.Packets.{packet_numbered}
 use Rattle.cluster_machines.specs.Machines.{HasActed, receives}
 use Rattle.cluster_world.specs.Sent.{bytes_at_place}
 use Rattle.cluster_world.specs.ClusterWorlds.{packets, delivering}
-use Rattle.cluster_world.specs.WorldSteps.{StageValue, IsNoted, ComesTo}
+use Rattle.cluster_world.specs.WorldSteps.{StageValue, IsNoted, StageBecomes}
 use Rattle.cluster_world.proofs.Comings.{stage_of, comes, fresh}
 use Rattle.cluster_world.proofs.Deliveries.{coming, answer_past, delivered}
 use Rattle.cluster_world.proofs.stage.Stage.deliver.Goals as goal
@@ -20,7 +20,7 @@ returns-in_err-act c =
     (c.bytes_at-message.ensures ∙ ap (λ journal. bytes_at_place journal c.in-Some.note.place) c.entries.ensures) c.in_ok-receive.ensures in
     let p = err_from_is_err_and c.from_residual-in_err-act.result c.from_residual-in_err-act.ensures.1 in
     let after : StageValue = record { world = record old.world { machines = c.receive.new.self }; packets = c.self.inside.packets } in
-    subst (λ (v : StageValue). ComesTo v (delivering c.args.number v.world) c.from_residual-in_err-act.result after) c.self.view_is
+    subst (λ (v : StageValue). StageBecomes v (delivering c.args.number v.world) c.from_residual-in_err-act.result after) c.self.view_is
     (answer_past old.world c.args.number c.in-Some.note is_noted c.draft-draft.result c.enter.new.self new c.in_ok-enter.ensures.ok c.receive.new.self c.new-out.result c.receive.new.out did c.new-out.ensures.entries c.new-out.ensures.sends
     old after c.in_err-act.field-0.0 c.from_residual-in_err-act.result refl refl (p.1 ∙ ap Err p.2) c.in_err-act.ensures.limit)
 
@@ -34,7 +34,7 @@ returns c =
     subst (λ bytes. HasActed (receives c.self.inside.moment c.in-Some.note.from c.in-Some.note.to bytes c.self.inside.machines) c.new-out.result c.receive.new.self c.receive.new.out)
     (c.bytes_at-message.ensures ∙ ap (λ journal. bytes_at_place journal c.in-Some.note.place) c.entries.ensures) c.in_ok-receive.ensures in
     let after : StageValue = record { world = record old.world { machines = c.receive.new.self }; packets = c.self.inside.packets } in
-    subst (λ (v : StageValue). ComesTo v (delivering c.args.number v.world) c.enter-2.result c.enter-2.new.self) c.self.view_is
+    subst (λ (v : StageValue). StageBecomes v (delivering c.args.number v.world) c.enter-2.result c.enter-2.new.self) c.self.view_is
     (comes after old _ _ c.enter-2.result c.enter-2.new.self refl
     (delivered old.world c.args.number c.in-Some.note is_noted c.draft-draft.result c.enter.new.self new c.in_ok-enter.ensures.ok c.receive.new.self c.new-out.result c.receive.new.out did c.new-out.ensures.entries c.new-out.ensures.sends c.act.new.self c.in_ok-act.ensures.ok)
     c.enter-2.ensures)
