@@ -13,7 +13,7 @@ use Rattle.packet_table.specs.Packets.{next_waiting}
 use Rattle.ff_world.specs.World.{WorldStep, WorldValue, world_step}
 use Rattle.cluster_script.specs.declared.sizes.ClusterSizes.{ClusterSizes}
 use Rattle.cluster_world.specs.ClusterWorlds.{ClusterState, packets, cluster_step}
-use Rattle.cluster_world.specs.ClusterRuns.{added}
+use Rattle.cluster_world.specs.ClusterRuns.{entries_added}
 use Rattle.cluster_world.specs.WorldSteps.{ClusterValue}
 use Rattle.ff_replay.specs.declared.mode.Mode.{Mode}
 use Rattle.ff_replay.specs.declared.setup.Setup.{Setup}
@@ -42,7 +42,7 @@ bare_goes (Some step) = Goes (Some (BareWorld step.world)) false step.entries
 
 abbrev pub cluster_goes : ClusterSizes → Bool → ClusterState → Option ClusterState → LinePlayed
 cluster_goes sizes flows w None = Limited
-cluster_goes sizes flows w (Some next) = Goes (Some (ClusterWorld sizes next)) flows (added w next)
+cluster_goes sizes flows w (Some next) = Goes (Some (ClusterWorld sizes next)) flows (entries_added w next)
 
 -- one delivery of a flow
 abbrev pub flows_by : ClusterSizes → ClusterState → Option ℕ → LinePlayed
