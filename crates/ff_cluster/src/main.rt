@@ -1,8 +1,9 @@
 //! A pNFS cluster with flexible-file layouts, replayed from a script.
 #![tactic(auto)]
 
-use ff_node::TcpLink;
 use ff_run::run;
+use node_link::NodeLink;
+use record_tcp::TcpHost;
 use rpc_record::{StdSink, StdSource};
 use std::process::ExitCode;
 use std::{env, io};
@@ -22,7 +23,7 @@ fn main(rt: HostRuntime) -> ExitCode {
     let mut source = StdSource::new(rt.stdin());
     let mut sink = StdSink::new(rt.stdout());
     let mut notes = StdSink::new(rt.stderr());
-    let mut link = TcpLink::new(&rt, rt.alloc());
+    let mut link = NodeLink::new(rt.alloc(), TcpHost::new(&rt, rt.alloc()));
     let words = words(&rt).unwrap_or(Vec::new(rt.alloc()));
     ExitCode::from(run(
         rt.alloc(),

@@ -1,15 +1,18 @@
 -- How serving goes on from turn to turn.
-use Rattle.std.proofs.Common.{◌≡◌, inl, inr, ℕ, ◌+◌, ◌-◌, ◌<◌, true, false, ◌⊎◌, List, [], ◌∷◌, ◌++◌, length, take, get_or, Option, Some, None, Result, Ok, Err, refl, sym, ap, subst, ◌∙◌, arith, append_assoc, append-nil}
-use Rattle.std.proofs.lemmas.List.{take_more}
+use Rattle.std.proofs.Common.{◌≡◌, inl, inr, ℕ, ◌+◌, ◌-◌, ◌<◌, true, false, ◌⊎◌, List, [], ◌∷◌, ◌++◌, length, take, Option, Some, None, Result, Ok, Err, refl, sym, ap, subst, ◌∙◌, arith, eqb, append_assoc, append-nil}
+use Rattle.std.specs.Prelude.{IsErr}
+use Rattle.std.proofs.lemmas.List.{take_at, length-append}
+use Rattle.std.proofs.lemmas.Bool.{eq-eqb, ne_eqb}
+use Rattle.ds_files.specs.Records.{sent_to}
 use Rattle.ff_xdr.specs.declared.error.NoMemory.{NoMemory}
 use Rattle.rpc_record.specs.declared.stream.Failed.{Failed}
 use Rattle.rpc_record.specs.declared.stream.Failed.TheVariants as failed
 use Rattle.cluster_model.specs.declared.ids.NodeId.{NodeId}
-use Rattle.ff_node.specs.declared.link.Arrival.{Arrival}
+use Rattle.node_link.specs.declared.link.Arrival.{Arrival}
 use Rattle.ff_node.specs.declared.serve.NodeEnd.{NodeEnd}
 use Rattle.ff_node.specs.declared.serve.NodeEnd.TheVariants as ends
-use Rattle.ff_node.specs.Link.{Gives, HandsOver}
-use Rattle.ff_node.specs.Serve.{Served, ServedInPart, IsDone, NodeServes, is_closed, state_after, sends_over, TakesTurn, SendsAll, AnswersArrival, end_of, sent_more}
+use Rattle.node_link.specs.Link.{Gives, HandsOver}
+use Rattle.ff_node.specs.Serve.{Served, ServedInPart, IsDone, NodeServes, is_closed, state_after, sends_over, TakesTurn, SendsAll, AnswersArrival, end_of, sent_more, gives_none}
 
 abbrev pub Sent : Type 0
 Sent = List (NodeId × List ℕ)
@@ -32,12 +35,21 @@ pub sends_err : (s : Option Sent) (to : NodeId) (bytes : List ℕ) (e : NoMemory
 sends_err None to bytes e s' h = h
 sends_err (Some sent) to bytes e s' h = h
 
--- one record more
-pub sent_next : (s0 s s' : Option Sent) (records : Sent) (i : ℕ) (item : NodeId × List ℕ) → i < length records → item ≡ get_or records i item
-    → s ≡ sent_more s0 (take i records) → s' ≡ sent_more s (item ∷ []) → s' ≡ sent_more s0 (take (i + 1) records)
-sent_next s0 s s' records i item within is before after =
-    after ∙ ap (λ l. sent_more l (item ∷ [])) before ∙ more_more s0 (take i records) (item ∷ [])
-    ∙ ap (λ l. sent_more s0 (take i records ++ l ∷ [])) is ∙ ap (sent_more s0) (sym (take_more records i item within))
+-- those before an item were sent, and that one was not
+pub stopped : (s0 s s' : Option Sent) (records yielded rest : Sent) (item : NodeId × List ℕ) (r : Result (Unit {0}) NoMemory) → IsErr r → yielded ++ item ∷ rest ≡ records
+    → s ≡ sent_more s0 yielded → s' ≡ s → SendsAll s0 records r s'
+stopped s0 s s' records yielded rest item (Ok x) err all before same = absurd (cc (err))
+stopped s0 s s' records yielded rest item (Err e) err all before same = (
+  length yielded,
+  omega (arith, ap length all, length-append yielded (item ∷ rest)),
+  same ∙ before ∙ ap (sent_more s0) (sym (ap (take (length yielded)) (sym all) ∙ take_at yielded (item ∷ rest) (length yielded) refl)),
+)
+
+-- a reply is one record more
+pub none_given : (old : Sent) (from : NodeId) (reply : Option (List ℕ)) (new : Sent) (before after : ℕ) → before ≡ length old → after ≡ length new → new ≡ old ++ sent_to from reply
+    → eqb after before ≡ gives_none reply
+none_given old from None new before after was is sends = eq-eqb after before (omega (arith, was, is, ap length sends, length-append old []))
+none_given old from (Some reply) new before after was is sends = ne_eqb after before (λ same. absurd (omega (arith, same, was, is, ap length sends, length-append old ((from, reply) ∷ []))))
 
 -- ---- one arrival more
 

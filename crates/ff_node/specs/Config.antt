@@ -1,5 +1,5 @@
 -- The configuration of a node: one line, a JSON object.
-use Rattle.std.specs.Prelude.{◌≡◌, ℕ, ◌^◌, ◌<◌, ◌≤◌, ◌==◌, List, [], ◌∷◌, length, map, Some, Result, Ok, Err, codes, count_by}
+use Rattle.std.specs.Prelude.{◌≡◌, ℕ, ◌≤◌, ◌==◌, List, [], ◌∷◌, length, map, Some, Result, Ok, Err, codes, count_by}
 use Rattle.std.specs.List.{All}
 use Rattle.std.specs.Str.{IsUtf8}
 use Rattle.serde_json.specs.Data.{Data, string, array, object, number, unsigned, Items, no_items, item, Members, no_members, member}

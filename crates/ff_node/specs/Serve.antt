@@ -1,19 +1,20 @@
 -- What a node that serves over a link sends.
-use Rattle.std.specs.Prelude.{⊤, ◌⊎◌, ◌≡◌, ℕ, ◌+◌, ◌<◌, ◌≤◌, Bool, true, false, List, [], ◌∷◌, ◌++◌, length, take, Option, Some, None, Result, Ok, Err}
+use Rattle.std.specs.Prelude.{⊤, ◌⊎◌, ◌≡◌, ℕ, ◌+◌, ◌<◌, ◌≤◌, Bool, true, false, ◌&&◌, List, [], ◌∷◌, ◌++◌, length, take, Option, Some, None, Result, Ok, Err}
 use Rattle.ff_xdr.specs.declared.error.NoMemory.{NoMemory}
 use Rattle.rpc_record.specs.declared.stream.Failed.{Failed}
 use Rattle.rpc_record.specs.declared.stream.Failed.TheVariants as failed
 use Rattle.rpc_record.specs.Stream.{one_more}
 use Rattle.cluster_model.specs.declared.ids.NodeId.{NodeId}
 use Rattle.cluster_model.specs.Server.{ServerState}
+use Rattle.record_link.specs.Messages.{is_call_record}
 use Rattle.ds_files.specs.Receive.{outcome_of}
 use Rattle.ds_files.specs.Records.{sent_to}
-use Rattle.ff_node.specs.declared.link.Arrival.{Arrival}
-use Rattle.ff_node.specs.declared.link.Arrival.TheVariants.{Record, TimedOut, Closed}
+use Rattle.node_link.specs.declared.link.Arrival.{Arrival}
+use Rattle.node_link.specs.declared.link.Arrival.TheVariants.{Record, TimedOut, Closed}
 use Rattle.node_config.specs.declared.config.Config.{Config}
-use Rattle.ff_node.specs.declared.link.Opening.{Opening}
-use Rattle.ff_node.specs.declared.link.Role.{Role}
-use Rattle.ff_node.specs.Link.{opening_of}
+use Rattle.node_link.specs.declared.link.Opening.{Opening}
+use Rattle.node_link.specs.declared.link.Role.{Role}
+use Rattle.node_link.specs.Link.{opening_of}
 use Rattle.ff_node.specs.declared.serve.NodeEnd.{NodeEnd}
 use Rattle.ff_node.specs.declared.serve.NodeEnd.TheVariants as ends
 
@@ -23,6 +24,16 @@ abbrev pub server_step : ServerState → Arrival → ServerState × List (NodeId
 server_step s (Record from bytes) = ((outcome_of s bytes).server, sent_to from (outcome_of s bytes).reply)
 server_step s (TimedOut node) = (s, [])
 server_step s Closed = (s, [])
+
+-- A call is not answered where the rule gives no reply to it.
+abbrev pub gives_none : Option (List ℕ) → Bool
+gives_none None = true
+gives_none (Some reply) = false
+
+abbrev pub server_excuses : ServerState → Arrival → Bool
+server_excuses s (Record from bytes) = is_call_record bytes && gives_none (outcome_of s bytes).reply
+server_excuses s (TimedOut node) = false
+server_excuses s Closed = false
 
 -- a node after these arrivals, by its step, and the records that it sends over them, in order
 abbrev pub state_after : {S : Type 0} → (S → Arrival → S × List (NodeId × List ℕ)) → S → List Arrival → S

@@ -7,7 +7,7 @@ use Rattle.line_runs.specs.Lines.{Cut, Line, Last, PastBudget, cut_line, Drawn}
 use Rattle.line_runs.specs.Playback.{EndFaults}
 use Rattle.cluster_model.specs.Server.{new_server}
 use Rattle.node_config.specs.declared.config.Config.{Config}
-use Rattle.ff_node.specs.declared.link.Arrival.{Arrival}
+use Rattle.node_link.specs.declared.link.Arrival.{Arrival}
 use Rattle.ff_node.specs.declared.serve.NodeEnd.{NodeEnd}
 use Rattle.node_config.specs.Configs.{ConfigValue, config_value}
 use Rattle.ff_node.specs.Config.{Configures, max_line}

@@ -10,7 +10,7 @@ use Rattle.ff_run.specs.declared.program.ProgramEnd.TheVariants.{Usage, Ended, S
 use Rattle.line_runs.specs.declared.end.RunEnd.{RunEnd}
 use Rattle.line_runs.specs.Runs.{Runs, read_faults, write_faults}
 use Rattle.cluster_model.specs.declared.ids.NodeId.{NodeId}
-use Rattle.ff_node.specs.declared.link.Arrival.{Arrival}
+use Rattle.node_link.specs.declared.link.Arrival.{Arrival}
 use Rattle.ff_node.specs.declared.serve.NodeEnd.{NodeEnd}
 use Rattle.ff_node.specs.declared.serve.NodeEnd.TheVariants as served
 use Rattle.ff_node.specs.Serve.{link_faults}

@@ -8,11 +8,12 @@ ghost use Rattle.line_runs.specs.Writing.{WritesText};
 ghost use Rattle.ff_run.specs.Run.{command_named, brief_named, command_of, status_of, note_of, with_number, observed, end_of_serving, Performs, source_faults_after, sink_faults_after, link_faults_after, Reports};
 
 use crate::serving::serve;
-use ff_node::{Link, NodeEnd};
+use ff_node::NodeEnd;
 use ff_replay::{Mode, replay};
 use ff_xdr::{NoMemory, Out};
 use journal_print::put_numbered;
 use line_runs::{RunEnd, write_all};
+use node_link::Link;
 use record_show::show;
 use rpc_record::{Failed, Sink, Source};
 use std::alloc::Global;

@@ -3,8 +3,9 @@
 ghost use Rattle.std.specs.Prelude.{◌≡◌};
 ghost use Rattle.ff_run.specs.Node.{FindsConfig, ReadsFirst, Draws, FirstFaults, ServesBy, served_faults};
 
-use ff_node::{Config, ConfigFault, Link, MAX_LINE, NodeEnd, read_config, serve_ds};
+use ff_node::{Config, ConfigFault, MAX_LINE, NodeEnd, read_config, serve_ds};
 use line_runs::{Ended, LineBuffer, RunEnd};
+use node_link::Link;
 use rpc_record::{Failed, Source};
 use std::alloc::Global;
 

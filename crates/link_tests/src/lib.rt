@@ -1,8 +1,8 @@
-//! Connections and servers over memory, and a server over sockets. There are tests alone.
+//! Servers and links over memory, and over sockets. There are tests alone.
 #![tactic(auto)]
 
 #[cfg(test)]
-mod connection_tests;
+mod link_tests;
 #[cfg(test)]
 mod memory;
 #[cfg(test)]

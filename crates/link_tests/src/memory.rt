@@ -19,3 +19,16 @@ pub const ONE_FOUR: [u8; 15] = [
 
 /// The header of a record that is too long.
 pub const TOO_LONG: [u8; 4] = [0xff; 4];
+
+/// The beginning of a call, and of the reply to it (RFC 5531, section 9).
+pub const CALL: [u8; 8] = [0, 0, 0, 7, 0, 0, 0, 0];
+
+pub const REPLY: [u8; 8] = [0, 0, 0, 7, 0, 0, 0, 1];
+
+/// The same as records.
+pub const CALL_RECORD: [u8; 12] = [0x80, 0, 0, 8, 0, 0, 0, 7, 0, 0, 0, 0];
+
+pub const REPLY_RECORD: [u8; 12] = [0x80, 0, 0, 8, 0, 0, 0, 7, 0, 0, 0, 1];
+
+/// Nothing moves for three seconds.
+pub const NEVER: [usize; 30] = [0; 30];

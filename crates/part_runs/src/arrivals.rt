@@ -1,8 +1,8 @@
 //! What comes over a link, and what was sent over it.
 
 use cluster_model::NodeId;
-use ff_node::Arrival;
 use ff_xdr::Data;
+use node_link::Arrival;
 use row_words::{Answer, RowFault, Words};
 use std::alloc::Global;
 

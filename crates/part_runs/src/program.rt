@@ -1,7 +1,7 @@
 //! A run of the program over memory.
 
-use ff_node::{Arrival, MemoryLink};
 use ff_run::run;
+use node_link::{Arrival, MemoryLink};
 use rpc_record::{MemorySink, MemorySource};
 use std::alloc::Global;
 

@@ -3,8 +3,8 @@
 use crate::arrivals::{put_sent, read_arrivals};
 use crate::program::{Ended, Failing, ran};
 use crate::text::{put_text, read_text};
-use ff_node::SureLink;
 use ff_run::run;
+use node_link::SureLink;
 use row_words::{Answer, Part, RowFault, Words, number64};
 use rpc_record::{StdSink, SureSink, SureSource};
 use std::io;

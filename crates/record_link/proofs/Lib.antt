@@ -1,4 +1,3 @@
 pub mod OutgoingLemmas
 pub mod ConnectionLemmas
-pub mod RankLemmas
-pub mod ConnectionsLemmas
+pub mod PieceLemmas

@@ -51,7 +51,7 @@ drop_none : (n : ℕ) → drop {A = ℕ} n [] ≡ []
 drop_none zero = refl
 drop_none (suc n) = refl
 
-drop_add : (a b : ℕ) (xs : List ℕ) → drop (a + b) xs ≡ drop b (drop a xs)
+pub drop_add : (a b : ℕ) (xs : List ℕ) → drop (a + b) xs ≡ drop b (drop a xs)
 drop_add zero b xs = let none : 0 + b ≡ b = omega arith in ap (λ (n : ℕ). drop n xs) none
 drop_add (suc a) b [] = drop_none (suc a + b) ∙ sym (drop_none b)
 drop_add (suc a) b (x ∷ xs) = let more : suc a + b ≡ suc (a + b) = omega arith in ap (λ (n : ℕ). drop n (x ∷ xs)) more ∙ drop_add a b xs

@@ -4,13 +4,13 @@ use Rattle.ff_xdr.specs.declared.error.NoMemory.{NoMemory}
 use Rattle.rpc_record.specs.declared.frames.RecordFault.{RecordFault}
 use Rattle.rpc_record.specs.declared.frames.RecordFault.TheVariants as fault
 use Rattle.rpc_record.specs.Frames.{Front, Open, Whole, TooLong, TooManyFragments, front_of, is_whole, record_bytes, HasGiven, Takes}
-use Rattle.rpc_record.specs.Stream.{one_more}
 use Rattle.record_link.specs.declared.stream.Halt.{Halt}
 use Rattle.record_link.specs.declared.stream.Halt.TheVariants as halt
 use Rattle.record_link.specs.Stream.{Comes, IsEnd, WritesOut}
+use Rattle.record_link.specs.Messages.{unanswered_behind, unanswered_after}
 
 -- The front of the bytes that were read as records since the last whole one was handed out; the bytes that came behind those;
--- the bytes that are to go; how many records were handed out and not answered; and whether the peer has ended its side.
+-- the bytes that are to go; how many calls were handed out and are not answered; and whether the peer has ended its side.
 pub record ConnectionState : Type 0 where
   pub front : Front
   pub ahead : List ℕ
@@ -63,15 +63,19 @@ Advances fed old (Err fault.TooLong) new = (front_of (fed ++ old.ahead) ≡ TooL
 Advances fed old (Err fault.TooManyFragments) new = (front_of (fed ++ old.ahead) ≡ TooManyFragments) × (new ≡ with_front old TooManyFragments old.ahead)
 Advances fed old (Err fault.NoMemory) new = new ≡ old
 
--- What handing out did: the record that is whole, with one more unanswered; or none is whole.
+-- What handing out did: the record that is whole, and a call is one more unanswered; or none is whole.
 abbrev pub Hands : ConnectionState → Option (List ℕ) → ConnectionState → Type 0
-Hands old (Some message) new = (old.front ≡ Whole message []) × (new ≡ with_unanswered (with_front old (front_of []) old.ahead) (one_more old.unanswered))
+Hands old (Some message) new = (old.front ≡ Whole message []) × (new ≡ with_unanswered (with_front old (front_of []) old.ahead) (unanswered_behind message old.unanswered))
 Hands old None new = (is_whole old.front ≡ false) × (new ≡ old)
 
--- what answering did: the record stands behind what is to go, with one fewer unanswered; or memory was wanted
-abbrev pub PutsAnswer : ConnectionState → List ℕ → Result (Unit {0}) NoMemory → ConnectionState → Type 0
-PutsAnswer old message (Ok x) new = new ≡ with_unanswered (with_to_go old (old.to_go ++ record_bytes message)) (old.unanswered - 1)
-PutsAnswer old message (Err e) new = new ≡ old
+-- what putting a message did: its record stands behind what is to go, and with a reply one fewer is unanswered; or memory was wanted
+abbrev pub PutsRecord : ConnectionState → List ℕ → Result (Unit {0}) NoMemory → ConnectionState → Type 0
+PutsRecord old message (Ok x) new = new ≡ with_unanswered (with_to_go old (old.to_go ++ record_bytes message)) (unanswered_after message old.unanswered)
+PutsRecord old message (Err e) new = new ≡ old
+
+-- one call gets no answer
+abbrev pub excused : ConnectionState → ConnectionState
+excused s = with_unanswered s (s.unanswered - 1)
 
 -- what draining did: of what is to go some went to the stream
 pub record Drains (old : ConnectionState) (gone : Option (List ℕ)) (result : Result (Unit {0}) Halt) (new : ConnectionState) (gone' : Option (List ℕ)) : Type 0 where
@@ -86,6 +90,6 @@ pub record HasCome (came : List ℕ) (messages : List (List ℕ)) (s : Connectio
   pub all : read ++ s.ahead ≡ came
   pub given : HasGiven read messages s.front
 
--- These bytes went, and with those that are to go they are the records of these answers in order.
+-- These bytes went, and with those that are to go they are the records of these messages in order.
 abbrev pub HasGone : List ℕ → List (List ℕ) → ConnectionState → Type 0
-HasGone went answers s = went ++ s.to_go ≡ flat_map record_bytes answers
+HasGone went sent s = went ++ s.to_go ≡ flat_map record_bytes sent

@@ -1,5 +1,6 @@
 pub mod Stream
+pub mod Messages
 pub mod Connection
 pub mod Kept
 pub mod Memory
-pub mod Connections
+pub mod Peers

@@ -1,7 +1,16 @@
 -- What a stream of bytes gives and takes, both ways, where it tells them.
 use Rattle.std.specs.Prelude.{⊤, ◌≡◌, ℕ, ◌+◌, ◌≤◌, List, [], ◌++◌, length, take, Option, None, Some, Result, Ok, Err}
+use Rattle.rpc_record.specs.Stream.{one_more}
 use Rattle.record_link.specs.declared.stream.Halt.{Halt}
 use Rattle.record_link.specs.declared.stream.Halt.TheVariants.{WouldBlock, Ended, Lost, NoMemory}
+
+-- how many calls found the stream to be of no use any more, with this one
+abbrev pub lost_more : {T : Type 0} → Result T Halt → ℕ → ℕ
+lost_more (Ok x) n = n
+lost_more (Err Lost) n = one_more n
+lost_more (Err WouldBlock) n = n
+lost_more (Err Ended) n = n
+lost_more (Err NoMemory) n = n
 
 -- these bytes came next of those that were to come
 abbrev pub Comes : Option (List ℕ) → List ℕ → Option (List ℕ) → Type 0

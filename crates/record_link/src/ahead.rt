@@ -1,7 +1,7 @@
 //! Bytes that came and wait: they are read from a stream, and taken from the front.
 
 ghost use Rattle.std.specs.Prelude.{◌≡◌, ◌<◌, ◌≤◌, ◌-◌, List, ℕ, [], length, take, drop, IfOk, OnOk};
-ghost use Rattle.record_link.specs.Stream.{ReadsAt, ReadsInto};
+ghost use Rattle.record_link.specs.Stream.{ReadsAt, ReadsInto, lost_more};
 
 use crate::stream::{Halt, Stream};
 use ff_xdr::NoMemory;
@@ -36,6 +36,7 @@ fn read_at<S: Stream>(buffer: &mut [u8], mark: usize, stream: &mut S) -> Result<
     ensures told { ReadsAt mark buffer.old (S.coming stream.old) result buffer.new (S.coming stream.new) }
     ensures some { IfOk result (λ n. 0 < n) }
     ensures gone { S.gone stream.new ≡ S.gone stream.old }
+    ensures faults { S.faults stream.new ≡ lost_more result (S.faults stream.old) }
 {
     stream.read(&mut buffer[mark..])
 }
@@ -106,6 +107,7 @@ impl Ahead {
         ensures told { ReadsInto self.old (S.coming stream.old) result self.new (S.coming stream.new) }
         ensures some { IfOk result (λ n. 0 < n) }
         ensures gone { S.gone stream.new ≡ S.gone stream.old }
+        ensures faults { S.faults stream.new ≡ lost_more result (S.faults stream.old) }
     {
         let end = self.end;
         make_room(&mut self.buffer, end)?;

@@ -3,10 +3,12 @@
 ghost use Rattle.std.specs.Prelude.{◌≡◌, ◌≤◌, ◌<◌, ◌++◌, ◌∷◌, List, ℕ, Option, [], length, ◌==◌, IfOk, OnOk, OnErr, IsErrOf, Ok, Some, None};
 ghost use Rattle.std.specs.Option.{option_map};
 ghost use Rattle.rpc_record.specs.Frames.{front_of, max_record, record_bytes, is_whole, with_taken, TakesOut};
-ghost use Rattle.record_link.specs.Stream.{Comes};
-ghost use Rattle.record_link.specs.Connection.{new_connection, is_refused, is_spent, Fills, Advances, Hands, PutsAnswer, Drains, HasCome, HasGone};
+ghost use Rattle.record_link.specs.Stream.{Comes, lost_more};
+ghost use Rattle.record_link.specs.Messages.{unanswered_behind};
+ghost use Rattle.record_link.specs.Connection.{new_connection, is_refused, is_spent, Fills, Advances, Hands, PutsRecord, Drains, HasCome, HasGone, excused};
 
 use crate::ahead::Ahead;
+use crate::message::{unanswered_after, unanswered_behind};
 use crate::outgoing::Outgoing;
 use crate::stream::{Halt, Stream};
 use ff_xdr::{Data, NoMemory};
@@ -70,6 +72,7 @@ impl Connection {
         ensures told { Fills self.old (S.coming stream.old) result self.new (S.coming stream.new) }
         ensures some { IfOk result (λ n. 0 < n) }
         ensures gone { S.gone stream.new ≡ S.gone stream.old }
+        ensures faults { S.faults stream.new ≡ lost_more result (S.faults stream.old) }
     {
         let came = self.ahead.read_from(stream);
         if came == Err(Halt::Ended) {
@@ -102,42 +105,44 @@ impl Connection {
         }
     }
 
-    /// Hands out the record that is whole, which is one more unanswered, or nothing where none is;
-    /// takes no memory.
+    /// Hands out the record that is whole, or nothing where none is; a call is one more unanswered.
+    /// Takes no memory.
     pub fn next_record(&mut self) -> Option<Data>
         ensures told { Hands self.old result self.new }
         ensures goes_on { (came : List ℕ) (messages : List (List ℕ)) → HasCome came messages self.old → HasCome came (with_taken messages result) self.new }
     {
         let message = self.whole.take()?;
-        self.unanswered = self.unanswered.saturating_add(1);
+        self.unanswered = unanswered_behind(message.bytes(), self.unanswered);
         Some(message)
     }
 
-    /// Puts the record of an answer behind what is to go (RFC 5531, section 11), with one fewer
-    /// unanswered. At an error nothing has changed.
-    pub fn answer(&mut self, message: &[u8]) -> Result<(), NoMemory>
-        requires { length message.now ≤ max_record }
-        ensures told { PutsAnswer self.old message.now result self.new }
-        ensures goes_on { (went : List ℕ) (answers : List (List ℕ)) → HasGone went answers self.old → OnOk result (HasGone went (answers ++ message.now ∷ []) self.new) }
+    /// Puts a message behind what is to go, as a record (RFC 5531, section 11); with a reply one fewer
+    /// is unanswered. At an error nothing has changed.
+    pub fn put(&mut self, message: Data) -> Result<(), NoMemory>
+        requires { length message ≤ max_record }
+        ensures told { PutsRecord self.old message result self.new }
+        ensures goes_on { (went : List ℕ) (sent : List (List ℕ)) → HasGone went sent self.old → OnOk result (HasGone went (sent ++ message ∷ []) self.new) }
     {
+        let unanswered = unanswered_after(message.bytes(), self.unanswered);
         self.to_go.put_record(message)?;
-        self.unanswered = self.unanswered.saturating_sub(1);
+        self.unanswered = unanswered;
         Ok(())
+    }
+
+    /// A call that was handed out gets no answer: one fewer is unanswered.
+    pub fn excuse(&mut self)
+        ensures { self.new ≡ excused self.old }
+    {
+        self.unanswered = self.unanswered.saturating_sub(1);
     }
 
     /// Writes what is to go to a stream, until all went or the stream takes no more.
     pub fn drain<S: Stream>(&mut self, stream: &mut S) -> Result<(), Halt>
         ensures told { Drains self.old (S.gone stream.old) result self.new (S.gone stream.new) }
         ensures coming { S.coming stream.new ≡ S.coming stream.old }
+        ensures faults { S.faults stream.new ≡ lost_more result (S.faults stream.old) }
     {
         self.to_go.write_to(stream)
-    }
-
-    /// The bytes that are to go.
-    pub fn to_send(&self) -> &[u8]
-        ensures { result.now ≡ self.now.to_go }
-    {
-        self.to_go.bytes()
     }
 
     /// How many bytes are to go.
@@ -161,7 +166,7 @@ impl Connection {
         (self.ended || self.refused) && self.whole.is_none()
     }
 
-    /// Every record that was handed out is answered.
+    /// Every call that was handed out is answered, or gets no answer.
     pub fn is_answered(&self) -> bool
         ensures { result ≡ (self.now.unanswered == 0) }
     {

@@ -2,6 +2,7 @@
 
 ghost use Rattle.std.specs.Prelude.{◌≡◌, ◌<◌, IfOk};
 ghost use Rattle.record_link.specs.Connection.{Fills, Drains};
+ghost use Rattle.record_link.specs.Stream.{lost_more};
 
 use crate::connection::Connection;
 use crate::stream::{Halt, Stream};
@@ -21,6 +22,7 @@ impl<S: Stream> StreamConnection<S> {
         ensures told { Fills self.old.connection (S.coming self.old.stream) result self.new.connection (S.coming self.new.stream) }
         ensures some { IfOk result (λ n. 0 < n) }
         ensures gone { S.gone self.new.stream ≡ S.gone self.old.stream }
+        ensures faults { S.faults self.new.stream ≡ lost_more result (S.faults self.old.stream) }
     {
         self.connection.fill(&mut self.stream)
     }
@@ -29,6 +31,7 @@ impl<S: Stream> StreamConnection<S> {
     pub fn drain(&mut self) -> Result<(), Halt>
         ensures told { Drains self.old.connection (S.gone self.old.stream) result self.new.connection (S.gone self.new.stream) }
         ensures coming { S.coming self.new.stream ≡ S.coming self.old.stream }
+        ensures faults { S.faults self.new.stream ≡ lost_more result (S.faults self.old.stream) }
     {
         self.connection.drain(&mut self.stream)
     }

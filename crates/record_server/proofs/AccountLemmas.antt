@@ -1,5 +1,5 @@
 -- One connection and its account.
-use Rattle.std.proofs.Common.{◌≡◌, ◌≢◌, ℕ, false, List, [], ◌∷◌, ◌++◌, take, drop, refl, sym, ap, subst, ◌∙◌, Option, Some, None, Result, Ok, Err, append_assoc}
+use Rattle.std.proofs.Common.{◌≡◌, ◌≢◌, ℕ, Bool, true, false, List, [], ◌∷◌, ◌++◌, take, drop, refl, sym, ap, subst, ◌∙◌, Option, Some, None, Result, Ok, Err, append_assoc}
 use Rattle.std.proofs.lemmas.List.{flat_map_more}
 use Rattle.rpc_record.specs.declared.frames.RecordFault.{RecordFault}
 use Rattle.rpc_record.specs.declared.frames.RecordFault.TheVariants as fault
@@ -11,10 +11,10 @@ use Rattle.record_link.specs.declared.stream.Halt.{Halt}
 use Rattle.record_link.specs.declared.stream.Halt.TheVariants as halt
 use Rattle.record_link.specs.Stream.{Comes, gone_more}
 use Rattle.record_link.specs.Connection.{ConnectionState, HasCome, is_refused, Advances}
-use Rattle.record_link.specs.Connections.{PeerState, new_peer, Settles, FillsPeer, HandsPeer, AnswersPeer, DrainsPeer}
+use Rattle.record_link.specs.Peers.{PeerState, new_peer, resumed, excused_peer, is_to_write, is_to_read, after_drain, Settles, FillsPeer, HandsPeer, PutsPeer, DrainsPeer, WritesIf, ReadsIf, VisitsPeer}
 use Rattle.record_link.proofs.ConnectionLemmas.{not_refused, read_on, handed_on}
 use Rattle.record_link.proofs.OutgoingLemmas.{gone_nil, gone_gone}
-use Rattle.record_server.specs.History.{Account, new_account, with_message, with_answer, StandsAs}
+use Rattle.record_server.specs.History.{Account, new_account, with_message, with_sent, StandsAs}
 
 -- the front is that of some bytes
 abbrev pub HasFront : ConnectionState → Type 0
@@ -96,15 +96,15 @@ kept a old new front ahead to_go coming gone good =
         came = stands.came;
         of_stream = subst (λ c. Comes a.to_come stands.came c) (sym coming) stands.of_stream;
         handed = came_kept stands.came a.messages old.connection new.connection front ahead stands.handed;
-        sent = stands.sent;
+        left = stands.left;
         to_stream = gone ∙ stands.to_stream;
-        answered = ap (λ l. stands.sent ++ l) to_go ∙ stands.answered;
+        put = ap (λ l. stands.left ++ l) to_go ∙ stands.put;
       },
       (good.1.0, front ∙ good.1.1),
     )
 
-pub filled_good : (a : Account) (now order : ℕ) (old new : PeerState) (r : Result (Unit {0}) Halt) → r ≢ Err halt.NoMemory → FillsPeer now order old r new → Good a old → Good a new
-filled_good a now order old new (Ok x) some fills good =
+pub filled_good : (a : Account) (now : ℕ) (old new : PeerState) (r : Result (Unit {0}) Halt) → r ≢ Err halt.NoMemory → FillsPeer now old r new → Good a old → Good a new
+filled_good a now old new (Ok x) some fills good =
     let stands = good.0 in
     let mid = fills.1 in
     let fill = fills.2 in
@@ -114,53 +114,119 @@ filled_good a now order old new (Ok x) some fills good =
         came = stands.came ++ fill.0;
         of_stream = comes_more a.to_come old.coming new.coming stands.came fill.0 stands.of_stream fill.3;
         handed = after.come;
-        sent = stands.sent;
+        left = stands.left;
         to_stream = ap (λ e. e.gone) fills.4 ∙ stands.to_stream;
-        answered = ap (λ l. stands.sent ++ l) (after.to_go ∙ ap (λ s. s.to_go) fill.2) ∙ stands.answered;
+        put = ap (λ l. stands.left ++ l) (after.to_go ∙ ap (λ s. s.to_go) fill.2) ∙ stands.put;
       },
       after.front,
     )
-filled_good a now order old new (Err halt.Ended) some fills good =
+filled_good a now old new (Err halt.Ended) some fills good =
     let ended = fills.0 in
     kept a old new (ap (λ s. s.front) ended.0) (ap (λ s. s.ahead) ended.0) (ap (λ s. s.to_go) ended.0) ended.2 (ap (λ e. e.gone) fills.1) good
-filled_good a now order old new (Err halt.WouldBlock) some fills good = subst (λ (e : PeerState). Good a e) (sym fills) good
-filled_good a now order old new (Err halt.Lost) some fills good = subst (λ (e : PeerState). Good a e) (sym fills) good
-filled_good a now order old new (Err halt.NoMemory) some fills good = absurd (some refl)
+filled_good a now old new (Err halt.WouldBlock) some fills good =
+    kept a old new (ap (λ e. e.connection.front) fills) (ap (λ e. e.connection.ahead) fills) (ap (λ e. e.connection.to_go) fills) (ap (λ e. e.coming) fills) (ap (λ e. e.gone) fills) good
+filled_good a now old new (Err halt.Lost) some fills good =
+    kept a old new (ap (λ e. e.connection.front) fills) (ap (λ e. e.connection.ahead) fills) (ap (λ e. e.connection.to_go) fills) (ap (λ e. e.coming) fills) (ap (λ e. e.gone) fills) good
+filled_good a now old new (Err halt.NoMemory) some fills good = absurd (some refl)
 
-pub drained_good : (a : Account) (now : ℕ) (old new : PeerState) (r : Result (Unit {0}) Halt) → DrainsPeer now old r new → Good a old → Good a new
-drained_good a now old new r drains good =
+filled_number : (now : ℕ) (old new : PeerState) (r : Result (Unit {0}) Halt) → FillsPeer now old r new → new.number ≡ old.number
+filled_number now old new (Ok x) fills = ap (λ e. e.number) fills.4
+filled_number now old new (Err halt.Ended) fills = ap (λ e. e.number) fills.1
+filled_number now old new (Err halt.WouldBlock) fills = ap (λ e. e.number) fills
+filled_number now old new (Err halt.Lost) fills = ap (λ e. e.number) fills
+filled_number now old new (Err halt.NoMemory) fills = fills.2
+
+drain_coming : (now : ℕ) (e : PeerState) (r : Result (Unit {0}) Halt) (c : ConnectionState) → (after_drain now e r c).coming ≡ e.coming
+drain_coming now e (Ok x) c = refl
+drain_coming now e (Err halt.WouldBlock) c = refl
+drain_coming now e (Err halt.Ended) c = refl
+drain_coming now e (Err halt.Lost) c = refl
+drain_coming now e (Err halt.NoMemory) c = refl
+
+drain_number : (now : ℕ) (e : PeerState) (r : Result (Unit {0}) Halt) (c : ConnectionState) → (after_drain now e r c).number ≡ e.number
+drain_number now e (Ok x) c = refl
+drain_number now e (Err halt.WouldBlock) c = refl
+drain_number now e (Err halt.Ended) c = refl
+drain_number now e (Err halt.Lost) c = refl
+drain_number now e (Err halt.NoMemory) c = refl
+
+drained_good : (a : Account) (now : ℕ) (old new : PeerState) → DrainsPeer now old new → Good a old → Good a new
+drained_good a now old new drains good =
     let stands = good.0 in
     let rest = drains.drains.rest in
-    let writes = drains.drains.writes in (
+    let writes = drains.drains.writes in
+    let coming : new.coming ≡ old.coming = ap (λ e. e.coming) drains.rest ∙ drain_coming now old drains.result new.connection in (
       record {
         came = stands.came;
-        of_stream = subst (λ c. Comes a.to_come stands.came c) (sym (ap (λ e. e.coming) drains.moved)) stands.of_stream;
+        of_stream = subst (λ c. Comes a.to_come stands.came c) (sym coming) stands.of_stream;
         handed = came_kept stands.came a.messages old.connection new.connection (ap (λ s. s.front) rest) (ap (λ s. s.ahead) rest) stands.handed;
-        sent = stands.sent ++ writes.went;
-        to_stream = writes.told ∙ ap (λ g. gone_more g writes.went) stands.to_stream ∙ gone_gone a.went stands.sent writes.went;
-        answered = append_assoc stands.sent writes.went new.connection.to_go ∙ ap (λ l. stands.sent ++ l) (sym writes.stands) ∙ stands.answered;
+        left = stands.left ++ writes.went;
+        to_stream = writes.told ∙ ap (λ g. gone_more g writes.went) stands.to_stream ∙ gone_gone a.went stands.left writes.went;
+        put = append_assoc stands.left writes.went new.connection.to_go ∙ ap (λ l. stands.left ++ l) (sym writes.stands) ∙ stands.put;
       },
       (good.1.0, ap (λ s. s.front) rest ∙ good.1.1),
     )
 
-pub answered_good : (a : Account) (now : ℕ) (message : List ℕ) (old new : PeerState) → AnswersPeer now old message (Ok tt) new → Good a old → Good (with_answer a message) new
-answered_good a now message old new answers good =
+-- ---- a visit
+
+-- what is kept of one connection
+pub record Goes (a : Account) (old new : PeerState) : Type 0 where
+  pub number : new.number ≡ old.number
+  pub good : Good a old → Good a new
+
+pub writes_go : (a : Account) (test : Bool) (now : ℕ) (old new : PeerState) → WritesIf test now old new → Goes a old new
+writes_go a false now old new same = record { number = ap (λ e. e.number) same; good = λ good. subst (λ (e : PeerState). Good a e) (sym same) good }
+writes_go a true now old new drains = record {
+  number = ap (λ e. e.number) drains.rest ∙ drain_number now old drains.result new.connection;
+  good = λ good. drained_good a now old new drains good;
+}
+
+reads_go : (a : Account) (test : Bool) (now : ℕ) (old new : PeerState) (came : Bool) → ReadsIf test now old (Ok came) new → Goes a old new
+reads_go a false now old new came same = record { number = ap (λ e. e.number) same.1; good = λ good. subst (λ (e : PeerState). Good a e) (sym same.1) good }
+reads_go a true now old new true fills = record {
+  number = filled_number now old new (Ok tt) fills;
+  good = λ good. filled_good a now old new (Ok tt) (λ e. cc (e)) fills good;
+}
+reads_go a true now old new false fills = record {
+  number = filled_number now old new (Err fills.0) fills.2;
+  good = λ good. filled_good a now old new (Err fills.0) (λ e. fills.1 (cc (e))) fills.2 good;
+}
+
+pub visit_goes : (a : Account) (now : ℕ) (old new : PeerState) (came : Bool) → VisitsPeer now old (Ok came) new → Goes a old new
+visit_goes a now old new came visits =
+    let mid = visits.0 in
+    let wrote = writes_go a (is_to_write now old) now old mid visits.1 in
+    let read = reads_go a (is_to_read mid) now mid new came visits.2 in record {
+      number = read.number ∙ wrote.number;
+      good = λ good. read.good (wrote.good good);
+    }
+
+-- ---- the calls
+
+pub resumed_good : (a : Account) (e : PeerState) → Good a e → Good a (resumed e)
+resumed_good a e good = kept a e (resumed e) refl refl refl refl refl good
+
+pub excused_good : (a : Account) (e : PeerState) → Good a e → Good a (excused_peer e)
+excused_good a e good = kept a e (excused_peer e) refl refl refl refl refl good
+
+pub put_good : (a : Account) (message : List ℕ) (old new : PeerState) → PutsPeer old message (Ok tt) new → Good a old → Good (with_sent a message) new
+put_good a message old new puts good =
     let stands = good.0 in
-    let put = answers.0 in (
+    let does = puts.0 in (
       record {
         came = stands.came;
-        of_stream = subst (λ c. Comes a.to_come stands.came c) (sym (ap (λ e. e.coming) answers.1)) stands.of_stream;
-        handed = came_kept stands.came a.messages old.connection new.connection (ap (λ s. s.front) put) (ap (λ s. s.ahead) put) stands.handed;
-        sent = stands.sent;
-        to_stream = ap (λ e. e.gone) answers.1 ∙ stands.to_stream;
-        answered = ap (λ s. stands.sent ++ s.to_go) put ∙ sym (append_assoc stands.sent old.connection.to_go (record_bytes message)) ∙ ap (λ l. l ++ record_bytes message) stands.answered
-            ∙ flat_map_more record_bytes [] a.answers message;
+        of_stream = subst (λ c. Comes a.to_come stands.came c) (sym (ap (λ e. e.coming) puts.1)) stands.of_stream;
+        handed = came_kept stands.came a.messages old.connection new.connection (ap (λ s. s.front) does) (ap (λ s. s.ahead) does) stands.handed;
+        left = stands.left;
+        to_stream = ap (λ e. e.gone) puts.1 ∙ stands.to_stream;
+        put = ap (λ s. stands.left ++ s.to_go) does ∙ sym (append_assoc stands.left old.connection.to_go (record_bytes message)) ∙ ap (λ l. l ++ record_bytes message) stands.put
+            ∙ flat_map_more record_bytes [] a.sent message;
       },
-      (good.1.0, ap (λ s. s.front) put ∙ good.1.1),
+      (good.1.0, ap (λ s. s.front) does ∙ good.1.1),
     )
 
-pub handed_good : (a : Account) (order : ℕ) (message : List ℕ) (old new : PeerState) → HandsPeer order old (Ok (Some message)) new → Good a old → Good (with_message a message) new
-handed_good a order message old new hands good =
+pub handed_good : (a : Account) (message : List ℕ) (old new : PeerState) → HandsPeer old (Ok (Some message)) new → Good a old → Good (with_message a message) new
+handed_good a message old new hands good =
     let stands = good.0 in
     let mid = hands.0 in
     let hand = hands.1 in
@@ -173,22 +239,22 @@ handed_good a order message old new hands good =
         came = stands.came;
         of_stream = subst (λ c. Comes a.to_come stands.came c) (sym (ap (λ e. e.coming) hands.3)) stands.of_stream;
         handed = after.come;
-        sent = stands.sent;
+        left = stands.left;
         to_stream = ap (λ e. e.gone) hands.3 ∙ stands.to_stream;
-        answered = ap (λ l. stands.sent ++ l) (after.to_go ∙ ap (λ s. s.to_go) hand.1) ∙ stands.answered;
+        put = ap (λ l. stands.left ++ l) (after.to_go ∙ ap (λ s. s.to_go) hand.1) ∙ stands.put;
       },
       after.front,
     )
 
-pub new_good : (number now : ℕ) (coming gone : Option (List ℕ)) → Good (new_account coming gone) (new_peer number now coming gone)
-new_good number now coming gone = (
+pub new_good : (number now : ℕ) (coming gone : Option (List ℕ)) (faults : ℕ) → Good (new_account coming gone) (new_peer number now coming gone faults)
+new_good number now coming gone faults = (
   record {
     came = [];
     of_stream = comes_none coming;
     handed = λ not. record { read = []; all = refl; given = refl };
-    sent = [];
+    left = [];
     to_stream = gone_nil gone;
-    answered = refl;
+    put = refl;
   },
   ([], refl),
 )

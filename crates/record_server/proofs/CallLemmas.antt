@@ -1,9 +1,7 @@
 -- What the calls of a server do, as events.
-use Rattle.std.proofs.Common.{◌≡◌, inl, inr, ℕ, Bool, true, false, List, [], ◌∷◌, ◌++◌, map, refl, ap, subst, ◌∙◌, Ok, Some}
-use Rattle.record_link.specs.Connections.{ConnectionsState, with_peers, AnswersOf}
-use Rattle.record_server.specs.Network.{Waiting}
-use Rattle.record_server.specs.Server.{ServingState, serving_state, ServingStep, Wrote, RunsSteps, GoesBySteps, WritesOnce, GivesRecord, SendsRecord}
-use Rattle.record_server.specs.History.{Event, Does, Hands, HasHappened, OnlySteps, answer_events, IsLost}
+use Rattle.std.proofs.Common.{inl, inr, ℕ, List, [], ◌∷◌, ◌++◌, map, refl, subst, None, Some}
+use Rattle.record_server.specs.Server.{ServingState, ServingStep, Makes, IsOfRound, RunsSteps, GoesBy}
+use Rattle.record_server.specs.History.{Event, Does, Hands, HasHappened, OnlySteps, NextHappens, WaitHappens, ConnectHappens, FlushHappens}
 
 runs_happen : (steps : List ServingStep) (old new : ServingState) → RunsSteps steps old new → HasHappened (map Does steps) old new
 runs_happen [] old new same = same
@@ -13,32 +11,22 @@ happens_on : (first second : List Event) (a b c : ServingState) → HasHappened 
 happens_on [] second a b c came more = subst (λ (s : ServingState). HasHappened second s c) came more
 happens_on (event ∷ events) second a b c came more = (came.0, came.1, happens_on events second came.0 b c came.2 more)
 
-pub steps_happen : (old new : ServingState) → GoesBySteps old new → OnlySteps old new
-steps_happen old new goes = (goes.0, runs_happen goes.0 old new goes.1)
+pub goes_happens : (kind : ServingStep → Type 0) (n : ℕ) (old new : ServingState) → GoesBy kind n old new → OnlySteps old new
+goes_happens kind n old new goes = (goes.steps, runs_happen goes.steps old new goes.runs)
 
-pub next_happens : (old new : ServingState) (number : ℕ) (message : List ℕ) → GivesRecord old (Ok (Some (number, message))) new → (steps : List ServingStep) × HasHappened (map Does steps ++ Hands number message ∷ []) old new
-next_happens old new number message gives =
-    let steps = gives.1.0 in
-    (steps, happens_on (map Does steps) (Hands number message ∷ []) old gives.0 new (runs_happen steps old gives.0 gives.1.1) (new, (gives.2, gives.3), refl))
+pub next_happens : NextHappens
+next_happens until old new number message gives =
+    let goes = gives.1 in
+    let steps = goes.steps in
+    (steps, happens_on (map Does steps) (Hands number message ∷ []) old gives.0 new (runs_happen steps old gives.0 goes.runs) (new, gives.2, refl))
 
--- the writing behind an answer
-written : (number : ℕ) (waiting : Waiting) (old new : ConnectionsState) → WritesOnce number old new → (steps : List ServingStep) × HasHappened (map Does steps) (serving_state old waiting) (serving_state new waiting)
-written number waiting old new (inl same) = ([], ap (λ s. serving_state s waiting) same)
-written number waiting old new (inr did) = (Wrote number did.0 ∷ [], (serving_state new waiting, (refl, did.1), refl))
+pub wait_happens : WaitHappens
+wait_happens until old new (inl goes) = goes_happens IsOfRound 0 old new goes.0
+wait_happens until old new (inr goes) = goes_happens IsOfRound _ old new goes
 
-pub send_happens : (waiting : Waiting) (old new : ConnectionsState) (number : ℕ) (message : List ℕ) → SendsRecord number message old (Ok tt) new
-    → (kept : Bool) × (steps : List ServingStep) × IsLost kept number message old × HasHappened (answer_events kept number message ++ map Does steps) (serving_state old waiting) (serving_state new waiting)
-send_happens waiting old new number message sends = by_case sends.1
-  where
-    mid : ConnectionsState
-    mid = sends.0
+pub connect_happens : ConnectHappens
+connect_happens address old new (Some number) did = (Makes number address did.0 did.1 did.2 ∷ [], (new, did.3, refl))
+connect_happens address old new None same = ([], same)
 
-    more : (steps : List ServingStep) × HasHappened (map Does steps) (serving_state mid waiting) (serving_state new waiting)
-    more = written number waiting mid new sends.3
-
-    by_case : AnswersOf number old.time old.peers message (Ok tt) mid.peers
-        → (kept : Bool) × (steps : List ServingStep) × IsLost kept number message old × HasHappened (answer_events kept number message ++ map Does steps) (serving_state old waiting) (serving_state new waiting)
-    by_case (inl lost) =
-        let same : mid ≡ old = sends.2 ∙ ap (λ l. with_peers old l old.orders) lost.2 in
-        (false, more.0, lost.0, subst (λ (s : ConnectionsState). HasHappened (map Does more.0) (serving_state s waiting) (serving_state new waiting)) same more.1)
-    by_case (inr put) = (true, more.0, tt, (serving_state mid waiting, (refl, sends.2, put), more.1))
+pub flush_happens : FlushHappens
+flush_happens old new flushes = goes_happens _ 0 old new flushes.0

@@ -1,6 +1,14 @@
-pub mod StepLemmas
 pub mod AccountLemmas
-pub mod PeerLists
-pub mod HistoryLemmas
 pub mod CallLemmas
 pub mod CrowdLemmas
+pub mod EndLemmas
+pub mod FairLemmas
+pub mod FilterLemmas
+pub mod FindLemmas
+pub mod HistoryLemmas
+pub mod NumberLemmas
+pub mod OrderLemmas
+pub mod PeerLists
+pub mod PlaceLemmas
+pub mod RoundLemmas
+pub mod RunLemmas

@@ -1,8 +1,9 @@
 -- Lists of connections in the order of their numbers, each as its account says.
-use Rattle.std.proofs.Common.{◌≡◌, ◌≢◌, ℕ, zero, suc, ◌+◌, ◌<◌, ◌≤◌, List, [], ◌∷◌, ◌++◌, take, drop, set, sym, ap, subst, ◌∙◌, arith, Some}
-use Rattle.std.specs.Prelude.{slice_get}
+use Rattle.std.proofs.Common.{◌≡◌, ◌≢◌, ℕ, zero, suc, ◌+◌, ◌<◌, ◌≤◌, Bool, true, false, List, [], ◌∷◌, ◌++◌, take, drop, map, set, sym, ap, subst, ◌∙◌, arith, Some}
+use Rattle.std.specs.Prelude.{slice_get, cond}
+use Rattle.std.specs.List.{filter}
 use Rattle.std.proofs.lemmas.Option.{same_Some}
-use Rattle.record_link.specs.Connections.{PeerState}
+use Rattle.record_link.specs.Peers.{PeerState}
 use Rattle.record_server.specs.History.{Account, Accounts}
 use Rattle.record_server.proofs.AccountLemmas.{Good}
 
@@ -70,3 +71,23 @@ each_push accounts accounts' low (x ∷ es) high e next good agree each = (
   subst (λ (a : Account). Good a x) (sym (agree x.number (each_below accounts x.number es high each.2))) each.1,
   each_push accounts accounts' x.number es high e next good agree each.2,
 )
+
+-- some were taken out
+pub each_filter : (accounts : Accounts) (test : PeerState → Bool) (low : ℕ) (es : List PeerState) (high : ℕ) → Each accounts low es high → Each accounts low (filter test es) high
+each_filter accounts test low [] high each = each
+each_filter accounts test low (x ∷ es) high each = by_test (test x) (each_filter accounts test x.number es high each.2)
+  where
+    by_test : (b : Bool) → Each accounts x.number (filter test es) high → Each accounts low (cond b (x ∷ filter test es) (filter test es)) high
+    by_test true rest = (each.0, each.1, rest)
+    by_test false rest = let less = each.0 in each_lower accounts low x.number (filter test es) high (omega (arith, less)) rest
+
+-- each became another of its number
+pub each_map : (accounts : Accounts) (f : PeerState → PeerState) → ((e : PeerState) → (f e).number ≡ e.number) → ((a : Account) (e : PeerState) → Good a e → Good a (f e))
+    → (low : ℕ) (es : List PeerState) (high : ℕ) → Each accounts low es high → Each accounts low (map f es) high
+each_map accounts f same good low [] high each = each
+each_map accounts f same good low (x ∷ es) high each =
+    let number : x.number ≡ (f x).number = sym (same x) in (
+      subst (λ (n : ℕ). low < n) number each.0,
+      subst (λ (n : ℕ). Good (accounts n) (f x)) number (good (accounts x.number) x each.1),
+      subst (λ (n : ℕ). Each accounts n (map f es) high) number (each_map accounts f same good x.number es high each.2),
+    )

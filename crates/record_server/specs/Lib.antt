@@ -1,3 +1,5 @@
 pub mod Network
 pub mod Server
 pub mod History
+pub mod Fairness
+pub mod Memory

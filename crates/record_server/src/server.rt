@@ -1,305 +1,184 @@
 //! A server that keeps many connections.
 
+ghost use Rattle.std.specs.Prelude.{◌≡◌, ℕ, MatchOption};
 ghost use Rattle.std.specs.Bool.{OnTrue};
-ghost use Rattle.std.specs.Prelude.{◌≡◌, MatchOption};
-ghost use Rattle.record_link.specs.declared.rank.Rank.{Rank};
-ghost use Rattle.record_link.specs.Connections.{no_connections, HasNone, HasStream};
-ghost use Rattle.record_server.specs.Server.{serving_state, Admits, ClosesOn, GivesRecord, GoesFor, IsSpent, MakesRoom, SendsRecord, TakesRecord, Turns, WritesOnce};
+ghost use Rattle.record_server.specs.Server.{no_connections, Connects, ExcusesCall, HasNoNumber, IsPlaceOf, IsListed, IsSpent, SendsRecord};
 
 use crate::network::Network;
-use crate::readiness::Readiness;
+use crate::peers::find;
+use device_addr::NetAddr;
 use ff_xdr::{Data, NoMemory};
-use record_link::{Connections, Halt, MAX_CONNECTIONS};
-use rpc_record::Failed;
+use record_link::Peer;
+use rpc_record::MAX_RECORD;
 use std::alloc::Global;
+use std::marker::Model;
 
-/// What looking for a record once came to.
-enum Taken {
-    /// The record, and the number of its connection.
-    Record(u32, Data),
-    /// None is there yet.
-    Nothing,
-    /// No connection is left, and all numbers are given.
-    Closed,
-}
+/// With so many connections open none is accepted, but in the place of one that may be closed.
+pub const MAX_CONNECTIONS: usize = 512;
 
-/// Keeps the connections that a network gives, and hands out the records that come on them.
+/// The most connections that are open, with those that were made.
+pub(crate) const MOST_OPEN: usize = 544;
+
+/// The most records of a connection that are handed out in a round.
+pub(crate) const MOST_HANDED: u32 = 8;
+
+/// Keeps the connections that a network gives and those that are made over it, each under a number that
+/// is given once, in rising order, and hands out the records that come on them.
+///
+/// It goes in rounds: each visits every connection once, in order, and hands out a few records of it.
 #[derive(Drop)]
 pub struct RecordServer<N: Network> {
-    network: N,
-    connections: Connections<N::Conn>,
-    readiness: Readiness,
+    pub(crate) alloc: Global,
+    pub(crate) network: N,
+    pub(crate) peers: Vec<Peer<N::Conn>>,
+    pub(crate) given: u32,
+    pub(crate) time: u64,
+    // how many connections were visited in this round
+    pub(crate) place: usize,
+    // how many records were handed out of the last of them since
+    pub(crate) handed: u32,
+    // a connection may wait to be accepted
+    pub(crate) is_asked: bool,
+    // none is accepted before this time
+    pub(crate) paused: u64,
+    // something came, or was handed out, in this round
+    pub(crate) is_busy: bool,
+}
+
+impl<N: Network> Model for RecordServer<N> {
+    ghost use Rattle.record_server.specs.Server.{ServingState, IsOrderly};
+
+    ghost Value = { ServingState };
+
+    ghost view = { λ s. record {
+      peers = s.peers.items;
+      given = s.given;
+      time = s.time;
+      place = s.place;
+      handed = s.handed;
+      waiting = N.waiting s.network;
+      made = N.made s.network;
+      reported = N.reported s.network;
+      moment = N.moment s.network;
+      faults = N.faults s.network;
+    } };
+
+    ghost invariant = { λ s. IsOrderly s.peers.items s.given s.place };
+}
+
+/// Puts a message on the connection of this number. Where that is gone, or the message is longer than a
+/// record may be, it is lost.
+fn put_on<N: Network>(
+    server: &mut RecordServer<N>,
+    number: u32,
+    message: Data,
+) -> Result<(), NoMemory>
+    ensures { SendsRecord number message server.old result server.new }
+{
+    if message.bytes().len() > MAX_RECORD {
+        return Ok(());
+    }
+    match find(&server.peers, number) {
+        Some(place) => {
+            let peer = &mut server.peers[place];
+            peer.put(message)
+        }
+        None => Ok(()),
+    }
 }
 
 impl<N: Network + Drop> RecordServer<N> {
     /// A server over a network, with no connection yet; takes no memory.
     pub fn new(alloc: Global, network: N) -> RecordServer<N>
-        ensures connections { result.connections ≡ no_connections }
-        ensures network { result.network ≡ network }
+        ensures { result ≡ no_connections (N.waiting network) (N.made network) (N.reported network) (N.moment network) (N.faults network) }
     {
         RecordServer {
+            alloc,
             network,
-            connections: Connections::new(alloc),
-            readiness: Readiness::new(alloc),
+            peers: Vec::new(alloc),
+            given: 0,
+            time: 0,
+            place: 0,
+            handed: 0,
+            is_asked: true,
+            paused: 0,
+            is_busy: false,
         }
+    }
+
+    /// The time, in milliseconds, at which this round began.
+    pub fn time(&self) -> u64
+        ensures { result ≡ self.now.time }
+    {
+        self.time
+    }
+
+    /// The network.
+    pub fn network(&self) -> &N
+        ensures { N.made result.now ≡ self.now.made }
+    {
+        &self.network
     }
 
     /// The stream of the connection of this number, where it is open.
     pub fn stream(&self, number: u32) -> Option<&N::Conn>
-        ensures { MatchOption result (HasNone (Rank.Numbered number) self.now.connections.peers) (λ s. HasStream number self.now.connections.peers (N.Conn.coming s.now) (N.Conn.gone s.now)) }
+        ensures { MatchOption result (HasNoNumber number self.now.peers) (λ s. (place : ℕ) × (found : IsPlaceOf number self.now.peers place) × (N.Conn.coming s.now ≡ found.peer.coming) × (N.Conn.gone s.now ≡ found.peer.gone)) }
     {
-        self.connections.stream(number)
+        match find(&self.peers, number) {
+            Some(place) => Some(self.peers[place].stream()),
+            None => None,
+        }
     }
 
-    /// The next record, and the number of the connection that it came on, from 1. It waits until one
-    /// comes. `None` is that all numbers are given and no connection is left. `Failed::Fault` is that
-    /// no connection can be accepted or waited for.
-    pub fn next(&mut self) -> Result<Option<(u32, Data)>, Failed>
-        ensures { GivesRecord (serving_state self.old.connections (N.waiting self.old.network)) result (serving_state self.new.connections (N.waiting self.new.network)) }
+    /// The connection of this number is open.
+    pub fn is_open(&self, number: u32) -> bool
+        ensures { IsListed result number self.now.peers }
     {
-        for _turn in 0..u64::MAX {
-            match self.take() {
-                Ok(Taken::Record(number, message)) => return Ok(Some((number, message))),
-                Ok(Taken::Closed) => return Ok(None),
-                Ok(Taken::Nothing) => {}
-                Err(failed) => return Err(failed),
-            }
-        }
-        Ok(None)
-    }
-
-    /// Sends a record back on a connection. Where that is no more, the record is lost. It is written
-    /// at once, unless another record of the connection waits to be handed out. At an error nothing
-    /// was sent.
-    pub fn send(&mut self, number: u32, message: &[u8]) -> Result<(), NoMemory>
-        ensures told { SendsRecord number message.now self.old.connections result self.new.connections }
-        ensures network { self.new.network ≡ self.old.network }
-    {
-        self.connections.answer(number, message)?;
-        if !self.connections.has_record(number) {
-            self.write(number);
-        }
-        Ok(())
-    }
-
-    /// Looks for a record once. Where there is none, everything that may be tried is tried once, and
-    /// where nothing comes of that, it waits.
-    fn take(&mut self) -> Result<Taken, Failed>
-        ensures { TakesRecord (serving_state self.old.connections (N.waiting self.old.network)) result (serving_state self.new.connections (N.waiting self.new.network)) }
-    {
-        self.close_over();
-        match self.connections.next_record() {
-            Ok(Some((number, message))) => return Ok(Taken::Record(number, message)),
-            Ok(None) => {}
-            Err(NoMemory) => return Err(Failed::NoMemory),
-        }
-        if self.is_spent() {
-            return Ok(Taken::Closed);
-        }
-        match self.pass() {
-            Ok(()) => Ok(Taken::Nothing),
-            Err(failed) => Err(failed),
-        }
+        find(&self.peers, number).is_some()
     }
 
     /// No connection is left, and all numbers are given.
-    fn is_spent(&self) -> bool
-        ensures { OnTrue result (IsSpent self.now.connections) }
+    pub fn is_spent(&self) -> bool
+        ensures { OnTrue result (IsSpent self.now) }
     {
-        if !self.connections.is_empty() {
-            return false;
-        }
-        self.connections.next_number().is_none()
+        self.peers.is_empty() && self.given == u32::MAX
     }
 
-    /// Tries everything once that may be tried, and waits where nothing comes of that.
-    fn pass(&mut self) -> Result<(), Failed>
-        ensures { Turns (serving_state self.old.connections (N.waiting self.old.network)) result (serving_state self.new.connections (N.waiting self.new.network)) }
+    /// Sends a message on the connection of this number, as a record: it stands behind what is to go, and is
+    /// written by `next` or `flush`. Where the connection is gone, or the message is longer than a record may
+    /// be, it is lost. At an error nothing was sent.
+    pub fn send(&mut self, number: u32, message: Data) -> Result<(), NoMemory>
+        ensures { SendsRecord number message self.old result self.new }
     {
-        match self.turn() {
-            Ok(true) => return Ok(()),
-            Ok(false) => {}
-            Err(failed) => return Err(failed),
-        }
-        if self.connections.over().is_some() {
-            return Ok(());
-        }
-        self.wait()
+        put_on(self, number, message)
     }
 
-    /// Accepts what waits, and writes and reads once on each connection. Answers whether something
-    /// came.
-    fn turn(&mut self) -> Result<bool, Failed>
-        ensures { Turns (serving_state self.old.connections (N.waiting self.old.network)) result (serving_state self.new.connections (N.waiting self.new.network)) }
+    /// A call that came on the connection of this number gets no answer.
+    pub fn excuse(&mut self, number: u32)
+        ensures { ExcusesCall number self.old self.new }
     {
-        match self.accept() {
-            Ok(came) => self.serve_all(came),
-            Err(failed) => Err(failed),
+        if let Some(place) = find(&self.peers, number) {
+            self.peers[place].excuse();
         }
     }
 
-    /// Writes and reads once on each connection. Answers whether something came, now or before.
-    fn serve_all(&mut self, before: bool) -> Result<bool, Failed>
-        ensures { Turns (serving_state self.old.connections (N.waiting self.old.network)) result (serving_state self.new.connections (N.waiting self.new.network)) }
+    /// Begins to make a connection to an address, and answers its number. `None` where it cannot be made
+    /// now: the network refuses it, as many are open as may be, or all numbers are given. At an error nothing
+    /// has changed.
+    pub fn connect(&mut self, address: NetAddr) -> Result<Option<u32>, NoMemory>
+        ensures { Connects address self.old result self.new }
     {
-        let mut came = before;
-        let mut number = 0;
-        for _place in 0..MAX_CONNECTIONS {
-            let Some(next) = self.readiness.after(number) else {
-                return Ok(came);
-            };
-            match self.serve(next) {
-                Ok(more) => came |= more,
-                Err(failed) => return Err(failed),
-            }
-            number = next;
+        if self.peers.len() >= MOST_OPEN || self.given == u32::MAX {
+            return Ok(None);
         }
-        Ok(came)
-    }
-
-    /// Writes and reads once on the connection of this number. Answers whether something came.
-    fn serve(&mut self, number: u32) -> Result<bool, Failed>
-        ensures { Turns (serving_state self.old.connections (N.waiting self.old.network)) result (serving_state self.new.connections (N.waiting self.new.network)) }
-    {
-        self.write(number);
-        self.read(number)
-    }
-
-    /// Reads once, where something may be read and more is wanted. Answers whether something came.
-    fn read(&mut self, number: u32) -> Result<bool, Failed>
-        ensures { Turns (serving_state self.old.connections (N.waiting self.old.network)) result (serving_state self.new.connections (N.waiting self.new.network)) }
-    {
-        if !self.readiness.is_readable(number) {
-            return Ok(false);
-        }
-        if !self.connections.wants_bytes(number) {
-            return Ok(false);
-        }
-        match self.connections.fill(number) {
-            Ok(()) => Ok(true),
-            Err(Halt::WouldBlock) => {
-                self.readiness.stop_reading(number);
-                Ok(false)
-            }
-            Err(Halt::Ended) => {
-                self.readiness.stop_reading(number);
-                Ok(false)
-            }
-            Err(Halt::Lost) => {
-                self.close(number);
-                Ok(false)
-            }
-            Err(Halt::NoMemory) => Err(Failed::NoMemory),
-        }
-    }
-
-    /// Writes what is to go, where something may be written. A connection whose stream fails is closed.
-    fn write(&mut self, number: u32)
-        ensures told { WritesOnce number self.old.connections self.new.connections }
-        ensures network { self.new.network ≡ self.old.network }
-    {
-        if !self.readiness.is_writable(number) {
-            return;
-        }
-        match self.connections.drain(number) {
-            Ok(()) => {}
-            Err(Halt::WouldBlock) => self.readiness.stop_writing(number),
-            Err(Halt::Ended) => self.close(number),
-            Err(Halt::Lost) => self.close(number),
-            Err(Halt::NoMemory) => self.close(number),
-        }
-    }
-
-    /// Closes the connections that are over by now.
-    fn close_over(&mut self)
-        ensures { GoesFor 1 (serving_state self.old.connections (N.waiting self.old.network)) (serving_state self.new.connections (N.waiting self.new.network)) }
-    {
-        self.connections.set_time(self.network.time());
-        for _place in 0..MAX_CONNECTIONS {
-            match self.connections.over() {
-                Some(number) => self.close(number),
-                None => return,
-            }
-        }
-    }
-
-    /// Closes the connection of this number.
-    fn close(&mut self, number: u32)
-        ensures told { ClosesOn number self.old.connections self.new.connections }
-        ensures network { self.new.network ≡ self.old.network }
-    {
-        self.connections.close(number);
-        self.readiness.remove(number);
-    }
-
-    /// Accepts one connection, where one waits. Answers whether one came.
-    fn accept(&mut self) -> Result<bool, Failed>
-        ensures { Turns (serving_state self.old.connections (N.waiting self.old.network)) result (serving_state self.new.connections (N.waiting self.new.network)) }
-    {
-        if !self.readiness.is_asked {
-            return Ok(false);
-        }
-        let Some(number) = self.connections.next_number() else {
-            return Ok(false);
+        self.peers.reserve(1)?;
+        let number = self.given + 1;
+        let Some(conn) = self.network.connect(number, address)? else {
+            return Ok(None);
         };
-        match self.network.accept(number) {
-            Ok(conn) => match self.admit(number, conn) {
-                Ok(()) => Ok(true),
-                Err(NoMemory) => Err(Failed::NoMemory),
-            },
-            Err(Halt::WouldBlock) => {
-                self.readiness.is_asked = false;
-                Ok(false)
-            }
-            Err(Halt::Lost) => Ok(false),
-            Err(Halt::Ended) => Err(Failed::Fault),
-            Err(Halt::NoMemory) => Err(Failed::NoMemory),
-        }
-    }
-
-    /// Keeps a connection under this number, and closes the longest silent one where there are too many.
-    fn admit(&mut self, number: u32, conn: N::Conn) -> Result<(), NoMemory>
-        ensures told { Admits self.old.connections (N.Conn.coming conn) (N.Conn.gone conn) result self.new.connections }
-        ensures network { self.new.network ≡ self.old.network }
-    {
-        self.make_room();
-        self.readiness.add(number)?;
-        self.connections.open(conn)?;
-        Ok(())
-    }
-
-    /// Closes the longest silent connection, where as many are open as may be.
-    fn make_room(&mut self)
-        ensures told { MakesRoom self.old.connections self.new.connections }
-        ensures network { self.new.network ≡ self.old.network }
-    {
-        if let Some(number) = self.connections.crowded() {
-            self.close(number);
-        }
-    }
-
-    /// Waits until something may be ready, for a short time at most. Where that is over, everything is
-    /// tried again.
-    fn wait(&mut self) -> Result<(), Failed>
-        ensures connections { self.new.connections ≡ self.old.connections }
-        ensures waiting { N.waiting self.new.network ≡ N.waiting self.old.network }
-    {
-        let Ok(reported) = self.network.wait() else {
-            return Err(Failed::Fault);
-        };
-        if !reported || self.network.reports(0) {
-            self.readiness.is_asked = true;
-        }
-        let mut number = 0;
-        for _place in 0..MAX_CONNECTIONS {
-            let Some(next) = self.readiness.after(number) else {
-                return Ok(());
-            };
-            if !reported || self.network.reports(next) {
-                self.readiness.resume(next);
-            }
-            number = next;
-        }
-        Ok(())
+        let peer = Peer::new(self.alloc, number, conn, self.time);
+        self.peers.push(peer)?;
+        self.given = number;
+        Ok(Some(number))
     }
 }

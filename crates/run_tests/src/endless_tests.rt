@@ -3,8 +3,8 @@
 ghost use Rattle.std.specs.Prelude.{◌≡◌, ◌≤◌, None, length, IfOk};
 ghost use Rattle.rpc_record.specs.Stream.{counted, Reads};
 
-use ff_node::SureLink;
 use ff_run::run;
+use node_link::SureLink;
 use rpc_record::{Failed, Source, SureSink};
 use std::test::Fail;
 

@@ -1,7 +1,7 @@
 use Rattle.std.proofs.Common.{sym, ap, subst, Some, Ok, Option, List, take, ◌∙◌}
-use Rattle.ff_node.specs.declared.link.Arrival.{Arrival}
+use Rattle.node_link.specs.declared.link.Arrival.{Arrival}
 use Rattle.ff_node.specs.declared.serve.NodeEnd.{NodeEnd}
-use Rattle.ff_node.specs.Link.{Gives}
+use Rattle.node_link.specs.Link.{Gives}
 use Rattle.ff_node.specs.Serve.{TakesTurn, sent_more}
 use Rattle.ff_node.proofs.ServeLemmas.{turn_goes_on, turn_in_part, turn_closed, turn_failed}
 use Rattle.ff_node.proofs.serve.take_turn.Goals as goal

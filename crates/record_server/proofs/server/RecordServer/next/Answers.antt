@@ -1,46 +1,47 @@
-use Rattle.std.proofs.Common.{◌≡◌, ◌+◌, ◌-◌, ◌^◌, arith, inl, inr, ap, ◌∙◌, subst, ℕ, Ok}
-use Rattle.record_server.specs.declared.server.Taken.TheVariants as taken
-use Rattle.record_server.specs.Server.{serving_state, GoesFor}
-use Rattle.record_server.proofs.StepLemmas.{goes, goes_on, goes_for, ends_on, gives_on, none_for, took}
+use Rattle.std.proofs.Common.{◌≡◌, ◌+◌, ◌-◌, ◌^◌, ◌≤◌, ℕ, inl, inr, arith, ap, subst, Some, None}
+use Rattle.std.proofs.lemmas.Result.{err_from_is_err_and}
+use Rattle.rpc_record.specs.declared.stream.Failed.TheVariants as failed
+use Rattle.record_server.specs.Server.{ServingState, GoesBy, GoesRound, IsOfRound}
+use Rattle.record_server.proofs.RunLemmas.{stays, goes_on}
+use Rattle.record_server.proofs.RoundLemmas.{ended_as, gave, failed_behind}
 use Rattle.record_server.proofs.server.RecordServer.next.Goals as goal
 
-pub loop-turn-init : goal.loop-turn-init
-loop-turn-init g c = none_for (serving_state c.args.self.now.connections (g.N.Network.waiting c.args.self.now.network))
+pub loop-round-init : goal.loop-round-init
+loop-round-init g c = stays IsOfRound c.args.self.now
 
-pub returns-in-Ok-Record : goal.returns-in-Ok-Record
-returns-in-Ok-Record g c =
-    let start = serving_state c.args.self.now.connections (g.N.Network.waiting c.args.self.now.network) in
-    let old = serving_state c.loop-turn.self.connections (g.N.Network.waiting c.loop-turn.self.network) in
-    let new = serving_state c.take.new.self.connections (g.N.Network.waiting c.take.new.self.network) in
-    let found = took old new c.take.result (Ok (taken.Record c.in-Ok-Record.number c.in-Ok-Record.message)) (c.in-Ok-Record.is ∙ ap Ok c.in-Ok-Record.field-0-is) c.take.ensures in
-    gives_on start old new (c.in-Ok-Record.number, c.in-Ok-Record.message) (goes c.loop-turn._turn start old c.loop-turn.invariant) found
-
-pub returns-in-Ok-Closed : goal.returns-in-Ok-Closed
-returns-in-Ok-Closed g c =
-    let start = serving_state c.args.self.now.connections (g.N.Network.waiting c.args.self.now.network) in
-    let old = serving_state c.loop-turn.self.connections (g.N.Network.waiting c.loop-turn.self.network) in
-    let new = serving_state c.take.new.self.connections (g.N.Network.waiting c.take.new.self.network) in
-    let spent = took old new c.take.result (Ok taken.Closed) (c.in-Ok-Closed.is ∙ ap Ok c.in-Ok-Closed.field-0-is) c.take.ensures in
-    inl (goes_on start old new (goes c.loop-turn._turn start old c.loop-turn.invariant) spent.0, spent.1)
+pub returns-in-Ok-Some : goal.returns-in-Ok-Some
+returns-in-Ok-Some g c =
+    let ends = ended_as c.loop-round.self c.end_round.new.self c.in-Ok-Some.field-0 (Some c.in-Ok-Some.handed) c.in-Ok-Some.field-0-is c.in-Ok-Some.ensures in
+    gave c.loop-round._round c.args.self.now c.loop-round.self c.end_round.new.self c.in-Ok-Some.handed c.loop-round.invariant ends
 
 pub returns-in-Err : goal.returns-in-Err
-returns-in-Err g c =
-    let start = serving_state c.args.self.now.connections (g.N.Network.waiting c.args.self.now.network) in
-    let old = serving_state c.loop-turn.self.connections (g.N.Network.waiting c.loop-turn.self.network) in
-    let new = serving_state c.take.new.self.connections (g.N.Network.waiting c.take.new.self.network) in
-    ends_on start old new c.in-Err.failed (goes c.loop-turn._turn start old c.loop-turn.invariant) c.in-Err.ensures
+returns-in-Err g c = failed_behind c.loop-round._round c.args.self.now c.loop-round.self c.end_round.new.self failed.NoMemory c.loop-round.invariant c.in-Err.ensures
 
-pub loop-turn-preserved : goal.loop-turn-preserved
-loop-turn-preserved g c =
-    let start = serving_state c.args.self.now.connections (g.N.Network.waiting c.args.self.now.network) in
-    let old = serving_state c.loop-turn.self.connections (g.N.Network.waiting c.loop-turn.self.network) in
-    let new = serving_state c.take.new.self.connections (g.N.Network.waiting c.take.new.self.network) in
-    let none = took old new c.take.result (Ok taken.Nothing) (c.in-Ok-Nothing.is ∙ ap Ok c.in-Ok-Nothing.field-0-is) c.take.ensures in
-    goes_for c.loop-turn._turn 1 (c.loop-turn._turn + 1) start old new (omega (arith)) c.loop-turn.invariant none
+pub returns-then-self-until : goal.returns-then-self-until
+returns-then-self-until g c =
+    let ends = ended_as c.loop-round.self c.end_round.new.self c.in-Ok-None.field-0 None c.in-Ok-None.field-0-is c.in-Ok-None.ensures in
+    let late = subst (λ (n : ℕ). c.args.until ≤ n) (ap (λ (s : ServingState). s.time) c.self.view_is) c.if-self-until.true in
+    inl (goes_on IsOfRound c.loop-round._round 0 0 c.args.self.now c.loop-round.self c.end_round.new.self (omega arith) c.loop-round.invariant ends.0, inl (late, ends.1))
+
+pub returns-then-is_spent : goal.returns-then-is_spent
+returns-then-is_spent g c =
+    let ends = ended_as c.loop-round.self c.end_round.new.self c.in-Ok-None.field-0 None c.in-Ok-None.field-0-is c.in-Ok-None.ensures in
+    inl (goes_on IsOfRound c.loop-round._round 0 0 c.args.self.now c.loop-round.self c.end_round.new.self (omega arith) c.loop-round.invariant ends.0, inr c.if-is_spent.ensures)
+
+pub returns-in_err-begin_round : goal.returns-in_err-begin_round
+returns-in_err-begin_round g c =
+    let ends = ended_as c.loop-round.self c.end_round.new.self c.in-Ok-None.field-0 None c.in-Ok-None.field-0-is c.in-Ok-None.ensures in
+    let came : GoesRound c.args.self.now c.end_round.new.self = goes_on IsOfRound c.loop-round._round 0 0 c.args.self.now c.loop-round.self c.end_round.new.self (omega arith) c.loop-round.invariant ends.0 in
+    let p = err_from_is_err_and c.from_residual.result c.from_residual.ensures.1 in
+    rw (p.1, p.2) (failed_behind 0 c.args.self.now c.end_round.new.self c.begin_round.new.self c.in_err-begin_round.field-0.0 came c.in_err-begin_round.ensures)
+
+pub loop-round-preserved : goal.loop-round-preserved
+loop-round-preserved g c =
+    let ends = ended_as c.loop-round.self c.end_round.new.self c.in-Ok-None.field-0 None c.in-Ok-None.field-0-is c.in-Ok-None.ensures in
+    let came : GoesBy IsOfRound c.loop-round._round c.args.self.now c.end_round.new.self = goes_on IsOfRound c.loop-round._round 0 c.loop-round._round c.args.self.now c.loop-round.self c.end_round.new.self (omega arith) c.loop-round.invariant ends.0 in
+    goes_on IsOfRound c.loop-round._round 1 (c.loop-round._round + 1) c.args.self.now c.end_round.new.self c.begin_round.new.self (omega arith) came c.in_ok-begin_round.ensures
 
 pub returns : goal.returns
 returns g c =
-    let start = serving_state c.args.self.now.connections (g.N.Network.waiting c.args.self.now.network) in
-    let now = serving_state c.loop-turn.self.connections (g.N.Network.waiting c.loop-turn.self.network) in
-    let all : c.loop-turn._turn ≡ 2 ^ 64 - 1 = omega (arith, c.loop-turn.auto._turn-end, c.loop-turn-test.false) in
-    inr (subst (λ (n : ℕ). GoesFor n start now) all c.loop-turn.invariant)
+    let all : c.loop-round._round ≡ 2 ^ 64 - 1 = omega (arith, c.loop-round.auto._round-end, c.loop-round-test.false) in
+    inr (subst (λ (n : ℕ). GoesBy IsOfRound n c.args.self.now c.loop-round.self) all c.loop-round.invariant)

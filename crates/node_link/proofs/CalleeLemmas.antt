@@ -1,0 +1,257 @@
+-- The entries of nodes in a list: where one stands, what is read there, and what a change of it leaves.
+use Rattle.std.proofs.Common.{◌≡◌, ℕ, zero, suc, ◌+◌, ◌<◌, ◌≤◌, ◌⊎◌, inl, inr, Bool, true, false, cond, List, [], ◌∷◌, ◌++◌, length, get_or, set, Some, None, refl, sym, ap, ◌∙◌, arith, subst}
+use Rattle.std.specs.Prelude.{◌&&◌, ◌==◌, slice_get, remove}
+use Rattle.std.specs.List.{position, position_from}
+use Rattle.std.proofs.lemmas.Iterator.Adapters.{position_from-zero}
+use Rattle.std.proofs.lemmas.Option.{same_Some, slice_get_read}
+use Rattle.std.proofs.lemmas.Bool.{cases_lt, eq-eqb, eqb-true, and_from}
+use Rattle.record_link.specs.Messages.{is_reply_record}
+use Rattle.cluster_model.specs.declared.ids.NodeId.{NodeId}
+use Rattle.cluster_model.specs.declared.ids.NodeId.TheVariants.{Mds, Server, Client}
+use Rattle.cluster_model.specs.Nodes.{is_node}
+use Rattle.node_link.specs.declared.callee.Callee.{Callee}
+use Rattle.node_link.specs.Callees.{callee_in, new_callee, with_heard, told, is_connected_to, IsFrom, HasNoEntry, AreOnce, SetsCallee}
+
+-- ---- nodes
+
+pub is_one : (a b : NodeId) → is_node a b ≡ true → a ≡ b
+is_one Mds Mds is = refl
+is_one Mds (Server m) is = absurd (cc)
+is_one Mds (Client m) is = absurd (cc)
+is_one (Server n) Mds is = absurd (cc)
+is_one (Server n) (Server m) is = ap Server (eqb-true n m is)
+is_one (Server n) (Client m) is = absurd (cc)
+is_one (Client n) Mds is = absurd (cc)
+is_one (Client n) (Server m) is = absurd (cc)
+is_one (Client n) (Client m) is = ap Client (eqb-true n m is)
+
+pub is_itself : (a : NodeId) → is_node a a ≡ true
+is_itself Mds = refl
+is_itself (Server n) = eq-eqb n n refl
+is_itself (Client n) = eq-eqb n n refl
+
+not_both : {b : Bool} → b ≡ true → b ≡ false → ⊥
+not_both is other = absurd cc
+
+differs_back : (a b : NodeId) → is_node a b ≡ false → is_node b a ≡ false
+differs_back a b other = by_test (is_node b a) refl
+  where
+    by_test : (t : Bool) → is_node b a ≡ t → t ≡ false
+    by_test true is = absurd (not_both (ap (λ n. is_node n b) (sym (is_one b a is)) ∙ is_itself b) other)
+    by_test false is = refl
+
+-- ---- lists
+
+pub no_entry : (node : NodeId) (xs : List (NodeId × Callee)) → HasNoEntry node xs → callee_in xs node ≡ new_callee node
+no_entry node [] none = refl
+no_entry node (x ∷ xs) none = rw none.0 (no_entry node xs none.1)
+
+-- where it is waited for as before, nothing changes
+pub unchanged : (node : NodeId) (callee : Callee) (xs : List (NodeId × Callee)) → callee_in xs node ≡ callee → SetsCallee node callee xs xs
+unchanged node callee xs is other = by_test (is_node node other) refl
+  where
+    by_test : (t : Bool) → is_node node other ≡ t → callee_in xs other ≡ cond t callee (callee_in xs other)
+    by_test true same = ap (callee_in xs) (sym (is_one node other same)) ∙ is
+    by_test false differs = refl
+
+-- an entry of another node stands before
+past : (x : NodeId × Callee) (node other : NodeId) (callee new old : Callee) → is_node x.0 node ≡ false → new ≡ cond (is_node node other) callee old
+    → cond (is_node x.0 other) x.1 new ≡ cond (is_node node other) callee (cond (is_node x.0 other) x.1 old)
+past x node other callee new old fails rest = by_tests (is_node x.0 other) (is_node node other) refl refl rest
+  where
+    by_tests : (t m : Bool) → is_node x.0 other ≡ t → is_node node other ≡ m → new ≡ cond m callee old → cond t x.1 new ≡ cond m callee (cond t x.1 old)
+    by_tests true true its is rest = absurd (not_both (ap (is_node x.0) (is_one node other is) ∙ its) fails)
+    by_tests true false its is rest = refl
+    by_tests false m its is rest = rest
+
+-- ---- one more
+
+pub pushed_sets : (node : NodeId) (callee : Callee) (xs : List (NodeId × Callee)) → HasNoEntry node xs → SetsCallee node callee xs (xs ++ (node, callee) ∷ [])
+pushed_sets node callee [] none other = refl
+pushed_sets node callee (x ∷ xs) none other = past x node other callee (callee_in (xs ++ (node, callee) ∷ []) other) (callee_in xs other) none.0 (pushed_sets node callee xs none.1 other)
+
+pushed_none : (node other : NodeId) (callee : Callee) (xs : List (NodeId × Callee)) → is_node node other ≡ false → HasNoEntry other xs → HasNoEntry other (xs ++ (node, callee) ∷ [])
+pushed_none node other callee [] differs none = (differs, tt)
+pushed_none node other callee (x ∷ xs) differs none = (none.0, pushed_none node other callee xs differs none.1)
+
+pub pushed_once : (node : NodeId) (callee : Callee) (xs : List (NodeId × Callee)) → HasNoEntry node xs → AreOnce xs → AreOnce (xs ++ (node, callee) ∷ [])
+pushed_once node callee [] none once = (tt, tt)
+pushed_once node callee (x ∷ xs) none once = (pushed_none node x.0 callee xs (differs_back x.0 node none.0) once.0, pushed_once node callee xs none.1 once.1)
+
+-- ---- where the entry of a node stands
+
+abbrev pub is_of : NodeId → NodeId × Callee → Bool
+is_of node entry = is_node entry.0 node
+
+pub record IsPlaceOf (node : NodeId) (xs : List (NodeId × Callee)) (place : ℕ) : Type 0 where
+  pub item : NodeId × Callee
+  pub within : place < length xs
+  pub at : slice_get xs place ≡ Some item
+  pub reads : callee_in xs node ≡ item.1
+  pub sets : (callee : Callee) → SetsCallee node callee xs (set xs place (node, callee))
+  pub set_none : (callee : Callee) (other : NodeId) → HasNoEntry other xs → HasNoEntry other (set xs place (node, callee))
+  pub set_once : (callee : Callee) → AreOnce xs → AreOnce (set xs place (node, callee))
+  pub removes : AreOnce xs → SetsCallee node (new_callee node) xs (remove xs place)
+  pub removed_none : (other : NodeId) → HasNoEntry other xs → HasNoEntry other (remove xs place)
+  pub removed_once : AreOnce xs → AreOnce (remove xs place)
+
+module _ (node : NodeId) where
+  here : (x : NodeId × Callee) (xs : List (NodeId × Callee)) → is_node x.0 node ≡ true → IsPlaceOf node (x ∷ xs) 0
+  here x xs passes = record {
+    item = x;
+    within = omega arith;
+    at = refl;
+    reads = rw passes refl;
+    sets = λ callee other. subst
+        (λ n. cond (is_node node other) callee (callee_in xs other) ≡ cond (is_node node other) callee (cond (is_node n other) x.1 (callee_in xs other)))
+        (sym same) (covered (is_node node other) callee (callee_in xs other));
+    set_none = λ callee other none. (subst (λ n. is_node n other ≡ false) same none.0, none.1);
+    set_once = λ callee once. (subst (λ n. HasNoEntry n xs) same once.0, once.1);
+    removes = λ once other. subst
+        (λ n. callee_in xs other ≡ cond (is_node node other) (new_callee node) (cond (is_node n other) x.1 (callee_in xs other)))
+        (sym same) (uncovered other (subst (λ n. HasNoEntry n xs) same once.0) (is_node node other) refl);
+    removed_none = λ other none. none.1;
+    removed_once = λ once. once.1;
+  }
+    where
+      same : x.0 ≡ node
+      same = is_one x.0 node passes
+
+      covered : (t : Bool) (callee rest : Callee) → cond t callee rest ≡ cond t callee (cond t x.1 rest)
+      covered true callee rest = refl
+      covered false callee rest = refl
+
+      uncovered : (other : NodeId) → HasNoEntry node xs → (t : Bool) → is_node node other ≡ t → callee_in xs other ≡ cond t (new_callee node) (cond t x.1 (callee_in xs other))
+      uncovered other none true is = ap (callee_in xs) (sym (is_one node other is)) ∙ no_entry node xs none
+      uncovered other none false is = refl
+
+  behind : (x : NodeId × Callee) (xs : List (NodeId × Callee)) (k : ℕ) → is_node x.0 node ≡ false → IsPlaceOf node xs k → IsPlaceOf node (x ∷ xs) (suc k)
+  behind x xs k fails there = record {
+    item = there.item;
+    within = let within = there.within in omega arith;
+    at = there.at;
+    reads = rw fails there.reads;
+    sets = λ callee other. past x node other callee (callee_in (set xs k (node, callee)) other) (callee_in xs other) fails (there.sets callee other);
+    set_none = λ callee other none. (none.0, there.set_none callee other none.1);
+    set_once = λ callee once. (there.set_none callee x.0 once.0, there.set_once callee once.1);
+    removes = λ once other. past x node other (new_callee node) (callee_in (remove xs k) other) (callee_in xs other) fails (there.removes once.1 other);
+    removed_none = λ other none. (none.0, there.removed_none other none.1);
+    removed_once = λ once. (there.removed_none x.0 once.0, there.removed_once once.1);
+  }
+
+  found_from : (xs : List (NodeId × Callee)) (i place : ℕ) → position_from (is_of node) i xs ≡ Some place → (k : ℕ) × (place ≡ i + k) × IsPlaceOf node xs k
+  found_from [] i place is = absurd (cc (is))
+  found_from (x ∷ xs) i place is = by_case (is_node x.0 node) refl is (found_from xs (i + 1) place)
+    where
+      by_case : (b : Bool) → is_node x.0 node ≡ b → cond b (Some i) (position_from (is_of node) (i + 1) xs) ≡ Some place
+          → (position_from (is_of node) (i + 1) xs ≡ Some place → (k : ℕ) × (place ≡ (i + 1) + k) × IsPlaceOf node xs k)
+          → (k : ℕ) × (place ≡ i + k) × IsPlaceOf node (x ∷ xs) k
+      by_case true passes is rest = let same : i ≡ place = same_Some i place is in (0, omega arith, here x xs passes)
+      by_case false fails is rest = let r = rest is in let at = r.1 in (suc r.0, omega arith, behind x xs r.0 fails r.2)
+
+  missing_from : (xs : List (NodeId × Callee)) (i : ℕ) → position_from (is_of node) i xs ≡ None → HasNoEntry node xs
+  missing_from [] i is = tt
+  missing_from (x ∷ xs) i is = by_case (is_node x.0 node) refl is (missing_from xs (i + 1))
+    where
+      by_case : (b : Bool) → is_node x.0 node ≡ b → cond b (Some i) (position_from (is_of node) (i + 1) xs) ≡ None
+          → (position_from (is_of node) (i + 1) xs ≡ None → HasNoEntry node xs) → HasNoEntry node (x ∷ xs)
+      by_case true passes is rest = absurd (cc (is))
+      by_case false fails is rest = (fails, rest is)
+
+  pub found : (xs : List (NodeId × Callee)) (place : ℕ) → position (is_of node) xs ≡ Some place → IsPlaceOf node xs place
+  found xs place is =
+      let r = found_from xs 0 place (sym (position_from-zero (is_of node) xs) ∙ is) in
+      let at = r.1 in
+      let same : r.0 ≡ place = omega arith in
+      subst (λ k. IsPlaceOf node xs k) same r.2
+
+  pub missing : (xs : List (NodeId × Callee)) → position (is_of node) xs ≡ None → HasNoEntry node xs
+  missing xs is = missing_from xs 0 (sym (position_from-zero (is_of node) xs) ∙ is)
+
+  -- what is read there
+  pub reads_there : (xs : List (NodeId × Callee)) (place : ℕ) (x : NodeId × Callee) → IsPlaceOf node xs place → x ≡ get_or xs place x → x.1 ≡ callee_in xs node
+  reads_there xs place x there read =
+      ap (λ (e : NodeId × Callee). e.1) (same_Some x there.item (sym (slice_get_read xs (length xs) place x refl there.within read) ∙ there.at)) ∙ sym there.reads
+
+-- ---- entry by entry
+
+none_at : (node : NodeId) (xs : List (NodeId × Callee)) (k : ℕ) (x : NodeId × Callee) → HasNoEntry node xs → slice_get xs k ≡ Some x → is_node x.0 node ≡ false
+none_at node [] k x none at = absurd (cc)
+none_at node (y ∷ ys) zero x none at = ap (λ (e : NodeId × Callee). is_node e.0 node) (sym (same_Some y x at)) ∙ none.0
+none_at node (y ∷ ys) (suc k) x none at = none_at node ys k x none.1 at
+
+-- each entry is what is waited for from its node
+pub at_place : (xs : List (NodeId × Callee)) (k : ℕ) (x : NodeId × Callee) → AreOnce xs → slice_get xs k ≡ Some x → callee_in xs x.0 ≡ x.1
+at_place [] k x once at = absurd (cc)
+at_place (y ∷ ys) zero x once at = subst (λ (e : NodeId × Callee). callee_in (y ∷ ys) e.0 ≡ e.1) (same_Some y x at) (rw (is_itself y.0) refl)
+at_place (y ∷ ys) (suc k) x once at = rw (differs_back x.0 y.0 (none_at y.0 ys k x once.0 at)) (at_place ys k x once.1 at)
+
+-- so it is with each entry before a place
+abbrev pub Before : (NodeId × Callee → Type 0) → List (NodeId × Callee) → ℕ → Type 0
+Before P xs n = (k : ℕ) → k < n → (x : NodeId × Callee) → slice_get xs k ≡ Some x → P x
+
+pub one_further : (P : NodeId × Callee → Type 0) (xs : List (NodeId × Callee)) (n : ℕ) (y : NodeId × Callee) → slice_get xs n ≡ Some y → P y → Before P xs n → Before P xs (n + 1)
+one_further P xs n y at is before k below x there = by_case (cases_lt k n)
+  where
+    by_case : (k < n) ⊎ (n ≤ k) → P x
+    by_case (inl less) = before k less x there
+    by_case (inr more) =
+        let same : k ≡ n = omega arith in
+        subst P (same_Some y x (sym at ∙ ap (slice_get xs) (sym same) ∙ there)) is
+
+-- what holds of each entry, and of a node that has none, holds of all nodes
+pub of_each : (Q : NodeId → Callee → Type 0) (xs : List (NodeId × Callee)) → ((node : NodeId) → Q node (new_callee node)) → Before (λ x. Q x.0 x.1) xs (length xs) → (node : NodeId) → Q node (callee_in xs node)
+of_each Q [] fresh each node = fresh node
+of_each Q (x ∷ xs) fresh each node = by_test (is_node x.0 node) refl (of_each Q xs fresh (λ k below y at. each (suc k) (omega arith) y at) node)
+  where
+    by_test : (t : Bool) → is_node x.0 node ≡ t → Q node (callee_in xs node) → Q node (cond t x.1 (callee_in xs node))
+    by_test true is rest = subst (λ n. Q n x.1) (is_one x.0 node is) (each 0 (omega arith) x refl)
+    by_test false is rest = rest
+
+-- ---- the turns of a loop
+
+read_at : (xs : List (NodeId × Callee)) (n : ℕ) (d : NodeId × Callee) → n < length xs → slice_get xs n ≡ Some (get_or xs n d)
+read_at [] n d below = absurd (omega arith)
+read_at (x ∷ xs) zero d below = refl
+read_at (x ∷ xs) (suc n) d below = read_at xs n d (omega arith)
+
+module _ (xs ys : List (NodeId × Callee)) (n : ℕ) (same : ys ≡ xs) where
+  read_so : (d : NodeId × Callee) → n < length ys → slice_get xs n ≡ Some (get_or ys n d)
+  read_so d below = subst (λ l. slice_get l n ≡ Some (get_or ys n d)) same (read_at ys n d below)
+
+  pub turn : (P : NodeId × Callee → Type 0) (d : NodeId × Callee) → n < length ys → P (get_or ys n d) → Before P xs n → Before P xs (n + 1)
+  turn P d below is before = one_further P xs n (get_or ys n d) (read_so d below) is before
+
+  pub its_own : (d : NodeId × Callee) → n < length ys → AreOnce xs → callee_in xs (get_or ys n d).0 ≡ (get_or ys n d).1
+  its_own d below once = at_place xs n (get_or ys n d) once (read_so d below)
+
+  pub all_of : (Q : NodeId → Callee → Type 0) → length ys ≤ n → ((node : NodeId) → Q node (new_callee node)) → Before (λ x. Q x.0 x.1) xs n → (node : NodeId) → Q node (callee_in xs node)
+  all_of Q end fresh each = of_each Q xs fresh (λ k below x at. each k (omega (arith, ap length same)) x at)
+
+-- ---- which node a record is from
+
+pub from_made : (number : ℕ) (xs : List (NodeId × Callee)) (node : NodeId) (callee : Callee) → callee_in xs node ≡ callee → (is_connected_to node && callee.connection == number) ≡ true → IsFrom number xs node
+from_made number xs Mds callee its is = ap (λ (c : Callee). c.connection) its ∙ eqb-true callee.connection number is
+from_made number xs (Server k) callee its is = ap (λ (c : Callee). c.connection) its ∙ eqb-true callee.connection number is
+from_made number xs (Client k) callee its is = absurd cc
+
+pub new_made : (number : ℕ) (node : NodeId) → is_connected_to node ≡ true → (new_callee node).connection ≡ number → number ≡ 0
+new_made number Mds made is = sym is
+new_made number (Server k) made is = sym is
+new_made number (Client k) made is = absurd cc
+
+pub not_made_as : (number : ℕ) (node : NodeId) (callee : Callee) → (is_connected_to node && callee.connection == number) ≡ false → is_connected_to node ≡ true → callee.connection ≡ number → number ≡ 0
+not_made_as number node callee differs made is = absurd (not_both (and_from (is_connected_to node) (callee.connection == number) made (eq-eqb callee.connection number is)) differs)
+
+-- ---- where nothing was waited for, nothing is
+
+pub heard_new : (message : List ℕ) (now : ℕ) (node : NodeId) → with_heard message now (new_callee node) ≡ new_callee node
+heard_new message now node = by_kind (is_reply_record message) refl
+  where
+    by_kind : (b : Bool) → is_reply_record message ≡ b → with_heard message now (new_callee node) ≡ new_callee node
+    by_kind true is = rw is refl
+    by_kind false is = rw is refl
+
+pub told_new : (is_open : Bool) (now : ℕ) (node : NodeId) → told is_open now (new_callee node) ≡ new_callee node
+told_new true now node = refl
+told_new false now node = refl

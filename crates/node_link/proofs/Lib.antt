@@ -1,0 +1,2 @@
+mod CalleeLemmas
+mod LinkLemmas

@@ -1,0 +1,18 @@
+use Rattle.std.proofs.Common.{position, sym, ap, subst, ◌∙◌}
+use Rattle.node_link.specs.Callees.{callee_in, told, SetsCallee}
+use Rattle.node_link.proofs.CalleeLemmas.{is_of, found, missing, no_entry, unchanged, reads_there, told_new}
+use Rattle.node_link.proofs.callees.Callees.tell.Goals as goal
+
+pub returns-in-Some : goal.returns-in-Some
+returns-in-Some c =
+    let is = ap (position (is_of c.args.node)) (sym c.deref.ensures.value) ∙ sym c.place_of.ensures ∙ c.in-Some.is in
+    let read = reads_there c.args.node c.self.inside.entries.items c.in-Some.place c.index.result.now (found c.args.node c.self.inside.entries.items c.in-Some.place is) c.index.ensures in
+    subst (λ xs. SetsCallee c.args.node (told c.args.is_open c.args.now (callee_in xs c.args.node)) xs c.settle.new.entries.items) c.self.view_is
+    (subst (λ callee. SetsCallee c.args.node callee c.self.inside.entries.items c.settle.new.entries.items) (c.told-callee.ensures ∙ ap (told c.args.is_open c.args.now) read) c.settle.ensures.sets)
+
+pub returns-in_default : goal.returns-in_default
+returns-in_default c =
+    let is = ap (position (is_of c.args.node)) (sym c.deref.ensures.value) ∙ sym c.place_of.ensures ∙ c.in_default.is in
+    let none = no_entry c.args.node c.self.inside.entries.items (missing c.args.node c.self.inside.entries.items is) in
+    subst (λ xs. SetsCallee c.args.node (told c.args.is_open c.args.now (callee_in xs c.args.node)) xs xs) c.self.view_is
+    (unchanged c.args.node (told c.args.is_open c.args.now (callee_in c.self.inside.entries.items c.args.node)) c.self.inside.entries.items (none ∙ sym (told_new c.args.is_open c.args.now c.args.node) ∙ ap (told c.args.is_open c.args.now) (sym none)))

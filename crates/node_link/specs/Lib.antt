@@ -1,0 +1,4 @@
+pub mod Callees
+pub mod Clock
+pub mod Link
+pub mod NodeLinks

@@ -1,6 +1,0 @@
-use Rattle.record_server.specs.Server.{serving_state, GoesBySteps}
-use Rattle.record_server.proofs.server.RecordServer.serve_all.Given as goal
-
-abbrev pub invariant-loop-place : goal.invariant-loop-place
-invariant-loop-place g l =
-    GoesBySteps (serving_state l.fn.self.connections (g.N.Network.waiting l.fn.self.network)) (serving_state l.self.connections (g.N.Network.waiting l.self.network))
