@@ -40,7 +40,10 @@ fn four_connections(rt: HostRuntime) -> Result<(), Fail> {
     let alloc = rt.alloc();
     let mut coming = Vec::new(alloc);
     coming.push(Err(Refused::Lost))?;
-    coming.push(Ok(stream(alloc, &ONE_FOUR, &[5, 0, 64, 3, 0, 0, 64, 0])?))?;
+    let mut bytes = ONE_FOUR.to_vec(alloc)?;
+    bytes.push(0x80)?;
+    let sizes = [5, 0, 10, 3, 0, 0, 64, 0, 0, 0, 0, 0, 0, 0, 0, 0];
+    coming.push(Ok(stream(alloc, &bytes, &sizes)?))?;
     coming.push(Ok(stream(alloc, &ONE, &[])?))?;
     coming.push(Ok(stream(alloc, &TOO_LONG, &[])?))?;
     coming.push(Ok(stream(alloc, &ONE, &[0, 0, 0])?))?;
