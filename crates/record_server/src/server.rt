@@ -150,6 +150,8 @@ impl<N: Network + Drop> RecordServer<N> {
     pub fn send(&mut self, number: u32, message: Data) -> Result<(), NoMemory>
         ensures { SendsRecord number message self.old result self.new }
     {
+        // what was put is to go before a wait
+        self.is_busy = true;
         put_on(self, number, message)
     }
 
