@@ -43,7 +43,8 @@ fn write_pieces(stream: &mut TcpStream, first: &[u8], second: &[u8]) -> io::Resu
         stream.write(first)
     } else {
         let pieces = [IoSlice::new(first), IoSlice::new(second)];
-        stream.write_vectored(&pieces)
+        // the stream's own: the one of `Write` sends the first piece alone
+        TcpStream::write_vectored(stream, &pieces)
     }
 }
 
