@@ -6,11 +6,13 @@ mod data_text;
 mod hex_text;
 mod lines;
 mod lists;
+mod mode;
 mod print;
 mod print_law;
 mod same_lines;
 mod texts;
 
+pub use mode::Mode;
 pub use print::{put_brief, put_entry};
 pub use print_law::distinct_prints;
 pub use same_lines::brief_law;
