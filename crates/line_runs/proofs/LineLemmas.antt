@@ -1,7 +1,7 @@
 -- How a line is cut off bytes that come in pieces, and the lines of a script.
 use Rattle.std.proofs.Common.{◌≡◌, ◌≢◌, ℕ, zero, suc, ◌+◌, ◌-◌, ◌<◌, ◌≤◌, Bool, true, false, cond, List, [], ◌∷◌, ◌++◌, length, take, drop, min, nat_lt, slice_range, get_or, Option, Some, None, Result, Ok, Err, refl, sym, ap, subst, ◌∙◌, arith, ⊎_elim, leb, eqb}
 use Rattle.std.proofs.Math.Dec.{leb-suc-suc}
-use Rattle.std.proofs.lemmas.List.{append-nil, append_assoc, length-append, length-take, drop-take, drop-drop, take-append-drop}
+use Rattle.std.proofs.lemmas.List.{append-nil, append_assoc, length-append, length-take, drop-take, drop-drop, take-append-drop, take_at, take-take}
 use Rattle.std.proofs.lemmas.Bool.{cases_eq, eq-eqb, eqb-true, ne_eqb, le-leb, lt-leb, lt-ltb, cond-true, cond-false}
 use Rattle.memchr.specs.Find.{IsFirstByte, is_byte}
 use Rattle.rpc_record.specs.declared.stream.Failed.{Failed}
@@ -9,7 +9,7 @@ use Rattle.rpc_record.specs.Stream.{Reads}
 use Rattle.rpc_record.specs.declared.stream.Failed.TheVariants.{Fault, NoMemory}
 use Rattle.line_runs.specs.declared.lines.Ended.{Ended}
 use Rattle.line_runs.specs.declared.lines.Ended.TheVariants.{Newline, End, PastBudget as RanOver}
-use Rattle.line_runs.specs.Lines.{Cut, Line, Last, PastBudget, onto, cut_line, onto_first, onto_ended, lines_of, ended_lines, script_lines, Drawn, Keeps, ReadsLine, IsWithinBudget, Refills, TakesLine, HoldsLine, HoldsNoLine}
+use Rattle.line_runs.specs.Lines.{Cut, Line, Last, PastBudget, onto, cut_line, onto_first, onto_ended, lines_of, ended_lines, script_lines, Drawn, Keeps, ReadsLine, IsWithinBudget, Refills, TakesLine, HoldsLine, HoldsNoLine, MovesOut}
 
 -- these bytes in front of the line
 abbrev pub before : List ℕ → Cut → Cut
@@ -120,6 +120,17 @@ pub taken_rest : (piece : List ℕ) (start end at : ℕ) (held : List ℕ) → s
 taken_rest piece start end at held is within =
     let size : length held ≡ min (end - start) (length (drop start piece)) = ap length (sym is) ∙ length-take (end - start) (drop start piece) in
     ap (drop (at + 1)) (sym is) ∙ sym (slice_range-drop piece start end (at + 1) (omega arith))
+
+-- what was copied from the front of the held bytes was moved out of them
+pub moved_out : (piece : List ℕ) (start end n : ℕ) (held copied others : List ℕ) → slice_range piece start end ≡ held → copied ≡ slice_range piece start (start + n) → length copied ≡ n → n ≤ end - start → n ≤ length held
+    → MovesOut held (copied ++ others) n (slice_range piece (start + n) end)
+moved_out piece start end n held copied others is copies size within held_within =
+    let count : (start + n) - start ≡ n = omega arith in
+    record {
+      within = held_within;
+      same = take_at copied others n size ∙ copies ∙ ap (λ k. take k (drop start piece)) count ∙ sym (take-take n (end - start) (drop start piece) within) ∙ ap (take n) is;
+      rest = slice_range-drop piece start end n within ∙ ap (drop n) is;
+    }
 
 -- The cut of more bytes, by the cut of the first of them.
 pub cut_more-line : (n : ℕ) (bs more line rest : List ℕ) → cut_line n bs ≡ Line line rest → cut_line n (bs ++ more) ≡ Line line (rest ++ more)

@@ -1,5 +1,5 @@
 -- Lines of bytes, each ended by a newline, which is the byte 10, and how they are read within a budget.
-use Rattle.std.specs.Prelude.{◌≡◌, ◌≢◌, ◌<◌, ℕ, zero, suc, ◌+◌, ◌≤◌, ◌==◌, nat_le, Bool, true, false, if◌then◌else◌, List, [], ◌∷◌, ◌++◌, length, take, Option, None, Some, Result, Ok, Err}
+use Rattle.std.specs.Prelude.{◌≡◌, ◌≢◌, ◌<◌, ℕ, zero, suc, ◌+◌, ◌≤◌, ◌==◌, nat_le, Bool, true, false, if◌then◌else◌, List, [], ◌∷◌, ◌++◌, length, take, drop, Option, None, Some, Result, Ok, Err}
 use Rattle.std.proofs.Common.{get_or}
 use Rattle.rpc_record.specs.declared.stream.Failed.{Failed}
 use Rattle.rpc_record.specs.declared.stream.Failed.TheVariants.{Fault, NoMemory}
@@ -98,6 +98,17 @@ ReadsLine budget held (Some left) (Ok End) line held' left' = CutsLast budget he
 ReadsLine budget held (Some left) (Ok RanOver) line held' left' = RunsOver budget held left line held' left'
 ReadsLine budget held (Some left) (Err Fault) line held' left' = BreaksOff budget held left line held' left'
 ReadsLine budget held (Some left) (Err NoMemory) line held' left' = Keeps held left line held' left'
+
+-- all bytes that are still to be read, where a source tells those that it has left: these are held before them
+abbrev pub all_left : List ℕ → Option (List ℕ) → Option (List ℕ)
+all_left held None = None
+all_left held (Some left) = Some (held ++ left)
+
+-- so many were moved from the front of what was held to the front of a piece
+pub record MovesOut (held piece : List ℕ) (n : ℕ) (held' : List ℕ) : Type 0 where
+  pub within : n ≤ length held
+  pub same : take n piece ≡ take n held
+  pub rest : held' ≡ drop n held
 
 -- how much of the budget a line took
 abbrev pub IsWithinBudget : ℕ → Ended → List ℕ → Type 0

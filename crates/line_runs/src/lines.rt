@@ -1,7 +1,7 @@
 //! Reading lines through a buffer.
 ghost use Rattle.std.specs.Prelude.{◌≡◌, ◌≢◌, ℕ, ◌+◌, ◌-◌, ◌<◌, ◌≤◌, ◌↔◌, IsTrue, true, List, [], ◌++◌, length, Ok, Err, is_ok, IfOk, IfErr, MatchBool, if◌then◌else◌};
-ghost use Rattle.rpc_record.specs.Stream.{counted};
-ghost use Rattle.line_runs.specs.Lines.{HoldsLine, HoldsNoLine, IsWithinBudget, ReadsLine, Refills, TakesLine};
+ghost use Rattle.rpc_record.specs.Stream.{counted, Reads};
+ghost use Rattle.line_runs.specs.Lines.{HoldsLine, HoldsNoLine, IsWithinBudget, MovesOut, ReadsLine, Refills, TakesLine, all_left};
 
 use memchr::memchr;
 use rpc_record::{Failed, Source};
@@ -84,6 +84,31 @@ impl LineBuffer {
             }
         }
         Ok(Ended::End)
+    }
+
+    /// Reads bytes that are no lines any more: those that are held, and behind them those of `source`. Puts
+    /// them at the front of `piece` and returns how many: 0 only at the end, or for an empty piece.
+    pub fn read<S: Source>(&mut self, source: &mut S, piece: &mut [u8]) -> Result<usize, Failed>
+        ensures within { IfOk result (λ n. n ≤ length piece.new) }
+        ensures told { Reads (all_left self.old (S.left source.old)) piece.new result (all_left self.new (S.left source.new)) }
+        ensures faults { S.faults source.new ≡ counted result (S.faults source.old) }
+    {
+        if self.start == self.end {
+            return source.read(piece);
+        }
+        Ok(self.move_out(piece))
+    }
+
+    /// Moves held bytes out, as many as there are and the piece has room for.
+    fn move_out(&mut self, piece: &mut [u8]) -> usize
+        ensures within { result ≤ length piece.new }
+        ensures moves { MovesOut self.old piece.new result self.new }
+        ensures some { 0 < length self.old → 0 < length piece.new → 0 < result }
+    {
+        let count = piece.len().min(self.end - self.start);
+        piece[..count].copy_from_slice(&self.piece[self.start..self.start + count]);
+        self.start += count;
+        count
     }
 
     /// Reads a piece if no byte is held, and returns whether one is held then. None is only at the end.
