@@ -1,48 +1,52 @@
--- What a node that serves over a link sends.
-use Rattle.std.specs.Prelude.{⊤, ◌⊎◌, ◌≡◌, ℕ, ◌+◌, ◌<◌, ◌≤◌, Bool, true, false, ◌&&◌, List, [], ◌∷◌, ◌++◌, length, take, Option, Some, None, Result, Ok, Err}
+-- What serving as a node did: what came and at which moments, what was sent, and why it ended.
+use Rattle.std.specs.Prelude.{⊤, ◌⊎◌, ◌≡◌, ℕ, ◌+◌, ◌<◌, ◌≤◌, Bool, true, false, List, [], ◌∷◌, ◌++◌, length, map, take, Option, Some, None, Result, Ok, Err}
+use Rattle.std.specs.List.{All}
 use Rattle.ff_xdr.specs.declared.error.NoMemory.{NoMemory}
 use Rattle.rpc_record.specs.declared.stream.Failed.{Failed}
 use Rattle.rpc_record.specs.declared.stream.Failed.TheVariants as failed
 use Rattle.rpc_record.specs.Stream.{one_more}
-use Rattle.cluster_model.specs.declared.ids.NodeId.{NodeId}
-use Rattle.cluster_model.specs.Server.{ServerState}
-use Rattle.record_link.specs.Messages.{is_call_record}
-use Rattle.ds_files.specs.Receive.{outcome_of}
-use Rattle.ds_files.specs.Records.{sent_to}
+use Rattle.cluster_model.specs.declared.answer.FailCause.{FailCause}
 use Rattle.node_link.specs.declared.link.Arrival.{Arrival}
 use Rattle.node_link.specs.declared.link.Arrival.TheVariants.{Record, TimedOut, Closed}
 use Rattle.node_config.specs.declared.config.Config.{Config}
 use Rattle.node_link.specs.declared.link.Opening.{Opening}
 use Rattle.node_link.specs.declared.link.Role.{Role}
+use Rattle.node_link.specs.Clock.{GivesMoment}
 use Rattle.node_link.specs.Link.{opening_of}
-use Rattle.ff_node.specs.declared.serve.NodeEnd.{NodeEnd}
-use Rattle.ff_node.specs.declared.serve.NodeEnd.TheVariants as ends
+use Rattle.ff_node.specs.declared.end.NodeEnd.{NodeEnd}
+use Rattle.ff_node.specs.declared.end.NodeEnd.TheVariants as ends
+use Rattle.ff_node.specs.Nodes.{NodeEvent, NodeRule, SentRecords, state_after, sends_over, IsGoing}
 
--- One step of a data server: a record is answered to the node that it comes from, by the rule of the data server; no other arrival
--- does anything.
-abbrev pub server_step : ServerState → Arrival → ServerState × List (NodeId × List ℕ)
-server_step s (Record from bytes) = ((outcome_of s bytes).server, sent_to from (outcome_of s bytes).reply)
-server_step s (TimedOut node) = (s, [])
-server_step s Closed = (s, [])
+-- ---- what is beside a node
 
--- A call is not answered where the rule gives no reply to it.
-abbrev pub gives_none : Option (List ℕ) → Bool
-gives_none None = true
-gives_none (Some reply) = false
+-- what is still to come over its link and what was sent, as far as the link tells it; the moments that its clock will give, as far as it
+-- tells them, and the last that it gave
+pub record Beside : Type 0 where
+  pub coming : Option (List Arrival)
+  pub sent : Option SentRecords
+  pub moments : Option (List ℕ)
+  pub moment : ℕ
 
-abbrev pub server_excuses : ServerState → Arrival → Bool
-server_excuses s (Record from bytes) = is_call_record bytes && gives_none (outcome_of s bytes).reply
-server_excuses s (TimedOut node) = false
-server_excuses s Closed = false
+abbrev pub beside : Option (List Arrival) → Option SentRecords → Option (List ℕ) → ℕ → Beside
+beside coming sent moments moment = record { coming = coming; sent = sent; moments = moments; moment = moment }
 
--- a node after these arrivals, by its step, and the records that it sends over them, in order
-abbrev pub state_after : {S : Type 0} → (S → Arrival → S × List (NodeId × List ℕ)) → S → List Arrival → S
-state_after step s [] = s
-state_after step s (a ∷ arrivals) = state_after step (step s a).0 arrivals
+-- what is sent after more records
+abbrev pub sent_more : Option SentRecords → SentRecords → Option SentRecords
+sent_more None more = None
+sent_more (Some sent) more = Some (sent ++ more)
 
-abbrev pub sends_over : {S : Type 0} → (S → Arrival → S × List (NodeId × List ℕ)) → S → List Arrival → List (NodeId × List ℕ)
-sends_over step s [] = []
-sends_over step s (a ∷ arrivals) = (step s a).1 ++ sends_over step (step s a).0 arrivals
+abbrev pub with_sent : Beside → SentRecords → Beside
+with_sent b more = record b { sent = sent_more b.sent more }
+
+-- these came from the front of what was to come
+abbrev pub TakesFront : Option (List Arrival) → List Arrival → Option (List Arrival) → Type 0
+TakesFront None arrivals new = new ≡ None
+TakesFront (Some coming) arrivals new = (rest : List Arrival) × (arrivals ++ rest ≡ coming) × (new ≡ Some rest)
+
+-- a clock was asked so many times, and gave these moments, which do not fall
+abbrev pub GivesMoments : Option (List ℕ) → ℕ → List ℕ → Option (List ℕ) → ℕ → Type 0
+GivesMoments coming last [] coming' last' = (coming' ≡ coming) × (last' ≡ last)
+GivesMoments coming last (m ∷ moments) coming' last' = (last ≤ m) × ((next : Option (List ℕ)) × GivesMoment coming last m next × GivesMoments next m moments coming' last')
 
 -- the arrival says that nothing more comes
 abbrev pub is_closed : Arrival → Bool
@@ -50,98 +54,131 @@ is_closed (Record from bytes) = false
 is_closed (TimedOut node) = false
 is_closed Closed = true
 
--- none of these does
-abbrev pub AreOpen : List Arrival → Type 0
-AreOpen [] = ⊤
-AreOpen (a ∷ arrivals) = (is_closed a ≡ false) × AreOpen arrivals
+-- ---- events that were taken and done
 
--- Some arrivals were taken from the front of those that were to come, at most so many; the node and what is sent are by its step.
-pub record Served {S : Type 0} (step : S → Arrival → S × List (NodeId × List ℕ)) (s : S) (turns : ℕ) (coming : List Arrival) (sent : List (NodeId × List ℕ)) (s' : S) (sent' : Option (List (NodeId × List ℕ))) : Type 0 where
-  pub taken : List Arrival
-  pub rest : List Arrival
-  pub front : taken ++ rest ≡ coming
-  pub few : length taken ≤ turns
-  pub live : AreOpen taken
-  pub state : s' ≡ state_after step s taken
-  pub sends : sent' ≡ Some (sent ++ sends_over step s taken)
+-- Each was an arrival, at a moment that the clock gave for it; the node and what is sent are by its rule.
+pub record Served {S : Type 0} (rule : NodeRule S) (s : S) (b : Beside) (s' : S) (b' : Beside) : Type 0 where
+  pub taken : List NodeEvent
+  pub came : TakesFront b.coming (map (λ (e : NodeEvent). e.arrival) taken) b'.coming
+  pub moments : GivesMoments b.moments b.moment (map (λ (e : NodeEvent). e.moment) taken) b'.moments b'.moment
+  pub live : All (λ (e : NodeEvent). is_closed e.arrival ≡ false) taken
+  pub going : IsGoing rule s taken
+  pub state : s' ≡ state_after rule s taken
+  pub sends : b'.sent ≡ sent_more b.sent (sends_over rule s taken)
 
--- The same for want of memory: what is sent is the rule's over the arrivals that were taken, or over those but the last one,
--- and fewer records from the front of those that the last one wants.
-pub record ServedInPart {S : Type 0} (step : S → Arrival → S × List (NodeId × List ℕ)) (s : S) (turns : ℕ) (coming : List Arrival) (sent : List (NodeId × List ℕ)) (coming' : Option (List Arrival)) (sent' : Option (List (NodeId × List ℕ))) : Type 0 where
-  pub answered : List Arrival
-  pub unanswered : List Arrival
-  pub rest : List Arrival
-  pub part : ℕ
-  pub front : answered ++ (unanswered ++ rest) ≡ coming
-  pub left : coming' ≡ Some rest
-  pub one : length unanswered ≤ 1
-  pub few : length answered + length unanswered ≤ turns
-  pub live : AreOpen answered
-  pub unclosed : AreOpen unanswered
-  pub fewer : (part ≡ 0) ⊎ (part < length (sends_over step (state_after step s answered) unanswered))
-  pub sends : sent' ≡ Some (sent ++ (sends_over step s answered ++ take part (sends_over step (state_after step s answered) unanswered)))
+-- ---- why it ended
 
--- a turn more found the link closed: by an arrival, or since there are no more
-abbrev pub ClosedBy : List Arrival → Option (List Arrival) → Type 0
-ClosedBy [] coming' = coming' ≡ Some []
-ClosedBy (a ∷ rest) coming' = (is_closed a ≡ true) × (coming' ≡ Some rest)
+-- a node that ended by itself, and one to which nothing more comes
+abbrev pub end_of_outcome : Result (Unit {0}) FailCause → NodeEnd
+end_of_outcome (Ok x) = ends.Done
+end_of_outcome (Err cause) = ends.Failed cause
 
--- all turns were taken, or one more found the link closed
-abbrev pub IsDone : ℕ → List Arrival → List Arrival → Option (List Arrival) → Type 0
-IsDone turns taken rest coming' = ((length taken ≡ turns) × (coming' ≡ Some rest)) ⊎ ((length taken < turns) × ClosedBy rest coming')
+abbrev pub last_end : Bool → NodeEnd
+last_end true = ends.Done
+last_end false = ends.Turns
 
--- What serving as a node did, where a link tells its arrivals and what is sent: at Done as IsDone says; else some arrivals were
--- taken.
-abbrev pub NodeServes : {S : Type 0} → (S → Arrival → S × List (NodeId × List ℕ)) → S → ℕ → Option (List Arrival) → Option (List (NodeId × List ℕ)) → NodeEnd → S → Option (List Arrival) → Option (List (NodeId × List ℕ)) → Type 0
-NodeServes step s turns None sent end s' coming' sent' = ⊤
-NodeServes step s turns (Some coming) None end s' coming' sent' = ⊤
-NodeServes step s turns (Some coming) (Some sent) ends.Done s' coming' sent' = (served : Served step s turns coming sent s' sent') × IsDone turns served.taken served.rest coming'
-NodeServes step s turns (Some coming) (Some sent) ends.LinkFault s' coming' sent' = (served : Served step s turns coming sent s' sent') × (coming' ≡ Some served.rest)
-NodeServes step s turns (Some coming) (Some sent) ends.NoMemory s' coming' sent' = ServedInPart step s turns coming sent coming' sent'
+-- a call of a link, and an event, that failed
+abbrev pub end_of_link : Failed → NodeEnd
+end_of_link failed.Fault = ends.LinkFault
+end_of_link failed.NoMemory = ends.NoMemory
 
--- what serving as a data server did
-abbrev pub Serves : ServerState → ℕ → Option (List Arrival) → Option (List (NodeId × List ℕ)) → NodeEnd → Option (List Arrival) → Option (List (NodeId × List ℕ)) → Type 0
-Serves server turns coming sent end coming' sent' = (server' : ServerState) × NodeServes server_step server turns coming sent end server' coming' sent'
+abbrev pub end_of_event : Failed → NodeEnd
+end_of_event failed.Fault = ends.WriteFault
+end_of_event failed.NoMemory = ends.NoMemory
 
--- The link was opened so; or opening it failed, and nothing was taken or sent.
-abbrev pub OpensFor : Option Opening → Config → Role → NodeEnd → Option (List Arrival) → Option (List (NodeId × List ℕ)) → Option Opening → Option (List Arrival) → Option (List (NodeId × List ℕ)) → Type 0
-OpensFor opened config role end coming sent opened' coming' sent' =
-    (opened' ≡ Some (opening_of config role)) ⊎ (((end ≡ ends.LinkFault) ⊎ (end ≡ ends.NoMemory)) × (opened' ≡ opened) × (coming' ≡ coming) × (sent' ≡ sent))
+abbrev pub IsUnchanged : {S : Type 0} → S → Beside → S → Beside → Type 0
+IsUnchanged s b s' b' = (s' ≡ s) × (b' ≡ b)
 
--- the count of the link's faults: one more exactly at LinkFault
+-- asking for one more found the link closed: by an arrival, or since there are no more
+abbrev pub FindsClosed : Option (List Arrival) → Option (List Arrival) → Type 0
+FindsClosed None new = new ≡ None
+FindsClosed (Some []) new = new ≡ Some []
+FindsClosed (Some (a ∷ rest)) new = (is_closed a ≡ true) × (new ≡ Some rest)
+
+abbrev pub ClosedFor : {S : Type 0} → S → Beside → S → Beside → Type 0
+ClosedFor s b s' b' = (s' ≡ s) × FindsClosed b.coming b'.coming × (b' ≡ record b { coming = b'.coming })
+
+-- Nothing more came to it: its turns are over, or the link is closed.
+abbrev pub NoMoreComes : {S : Type 0} → ℕ → S → Beside → S → Beside → Type 0
+NoMoreComes left s b s' b' = ((left ≡ 0) × IsUnchanged s b s' b') ⊎ ((0 < left) × ClosedFor s b s' b')
+
+-- An event was taken, and not all done: it failed and nothing was sent for it, and of the node this is left; or, for want of memory, fewer
+-- were sent than the node sends for it.
+abbrev pub FailsIn : {S : Type 0} → NodeRule S → (S → NodeEvent → Failed → S → Type 0) → S → NodeEvent → Option SentRecords → Failed → S → Option SentRecords → Type 0
+FailsIn rule spoils s event sent e s' sent' =
+    (spoils s event e s' × (sent' ≡ sent))
+    ⊎ ((e ≡ failed.NoMemory) × (s' ≡ (rule.step s event).0) × ((part : ℕ) × (part < length (rule.step s event).1) × (sent' ≡ sent_more sent (take part (rule.step s event).1))))
+
+pub record BreaksOff {S : Type 0} (rule : NodeRule S) (spoils : S → NodeEvent → Failed → S → Type 0) (s : S) (b : Beside) (end : NodeEnd) (s' : S) (b' : Beside) : Type 0 where
+  pub event : NodeEvent
+  pub came : TakesFront b.coming (event.arrival ∷ []) b'.coming
+  pub moment : GivesMoments b.moments b.moment (event.moment ∷ []) b'.moments b'.moment
+  pub live : is_closed event.arrival ≡ false
+  pub error : Failed
+  pub fails : FailsIn rule spoils s event b.sent error s' b'.sent
+  pub end_is : end ≡ end_of_event error
+
+-- It had ended by itself; nothing more came to it; asking the link for more failed; or an event was not all done.
+abbrev pub Stops : {S : Type 0} → NodeRule S → (S → NodeEvent → Failed → S → Type 0) → ℕ → S → Beside → NodeEnd → S → Beside → Type 0
+Stops rule spoils left s b end s' b' =
+    ((r : Result (Unit {0}) FailCause) × (rule.outcome s ≡ Some r) × (end ≡ end_of_outcome r) × IsUnchanged s b s' b')
+    ⊎ ((rule.outcome s ≡ None)
+    × (((end ≡ last_end rule.is_server) × NoMoreComes left s b s' b')
+    ⊎ ((0 < left)
+    × (((e : Failed) × (end ≡ end_of_link e) × IsUnchanged s b s' b')
+    ⊎ BreaksOff rule spoils s b end s' b'))))
+
+-- ---- what serving did
+
+-- events were taken and done, fewer than there were turns or as many; and then it stopped
+pub record NodeServes {S : Type 0} (rule : NodeRule S) (spoils : S → NodeEvent → Failed → S → Type 0) (s : S) (turns : ℕ) (b : Beside) (end : NodeEnd) (s' : S) (b' : Beside) : Type 0 where
+  pub mid : S
+  pub beside_mid : Beside
+  pub served : Served rule s b mid beside_mid
+  pub left : ℕ
+  pub turns_are : length served.taken + left ≡ turns
+  pub stops : Stops rule spoils left mid beside_mid end s' b'
+
+-- Before all events these records were sent; or, for want of memory, fewer of them, and no event was taken.
+abbrev pub NodeRuns : {S : Type 0} → NodeRule S → (S → NodeEvent → Failed → S → Type 0) → SentRecords → S → ℕ → Beside → NodeEnd → S → Beside → Type 0
+NodeRuns rule spoils first s turns b end s' b' =
+    NodeServes rule spoils s turns (with_sent b first) end s' b'
+    ⊎ ((end ≡ ends.NoMemory) × (s' ≡ s) × ((part : ℕ) × (part < length first) × (b' ≡ with_sent b (take part first))))
+
+-- The link was opened so, and this was done over it; or opening it failed, and nothing was done.
+abbrev pub OpensThen : Option Opening → Config → Role → Beside → NodeEnd → Option Opening → Beside → Type 0 → Type 0
+OpensThen opened config role b end opened' b' Done =
+    ((opened' ≡ Some (opening_of config role)) × Done) ⊎ ((e : Failed) × (end ≡ end_of_link e) × (opened' ≡ opened) × (b' ≡ b))
+
+-- the counts of the link's faults and of the node's own: one more exactly at LinkFault, and at WriteFault
 abbrev pub link_faults : NodeEnd → ℕ → ℕ
-link_faults ends.Done n = n
 link_faults ends.LinkFault n = one_more n
-link_faults ends.NoMemory n = n
+link_faults end n = n
 
--- how a failed call of a link ends a node
-abbrev pub end_of : Failed → NodeEnd
-end_of failed.Fault = ends.LinkFault
-end_of failed.NoMemory = ends.NoMemory
+abbrev pub node_faults : NodeEnd → ℕ → ℕ
+node_faults ends.WriteFault n = one_more n
+node_faults end n = n
 
--- what is sent after more records, where the link tells it
-abbrev pub sent_more : Option (List (NodeId × List ℕ)) → List (NodeId × List ℕ) → Option (List (NodeId × List ℕ))
-sent_more None more = None
-sent_more (Some sent) more = Some (sent ++ more)
+-- ---- parts of it
 
 -- All of some records were sent, or, for want of memory, fewer from their front.
-abbrev pub SendsAll : Option (List (NodeId × List ℕ)) → List (NodeId × List ℕ) → Result (Unit {0}) NoMemory → Option (List (NodeId × List ℕ)) → Type 0
+abbrev pub SendsAll : Option SentRecords → SentRecords → Result (Unit {0}) NoMemory → Option SentRecords → Type 0
 SendsAll sent records (Ok x) sent' = sent' ≡ sent_more sent records
 SendsAll sent records (Err e) sent' = (n : ℕ) × (n < length records) × (sent' ≡ sent_more sent (take n records))
 
--- What taking an arrival did: the node and what is sent are by its step; for want of memory fewer records were sent.
-abbrev pub AnswersArrival : {S : Type 0} → (S → Arrival → S × List (NodeId × List ℕ)) → S → Arrival → Option (List (NodeId × List ℕ)) → Result (Unit {0}) NoMemory → S → Option (List (NodeId × List ℕ)) → Type 0
-AnswersArrival step s arrival sent (Ok x) s' sent' = (s' ≡ (step s arrival).0) × (sent' ≡ sent_more sent (step s arrival).1)
-AnswersArrival step s arrival sent (Err e) s' sent' = (part : ℕ) × ((part ≡ 0) ⊎ (part < length (step s arrival).1)) × (sent' ≡ sent_more sent (take part (step s arrival).1))
+-- what taking an event did: the node and what is sent are by its rule; or it failed
+abbrev pub DoesEvent : {S : Type 0} → NodeRule S → (S → NodeEvent → Failed → S → Type 0) → S → NodeEvent → Option SentRecords → Result (Unit {0}) Failed → S → Option SentRecords → Type 0
+DoesEvent rule spoils s event sent (Ok x) s' sent' = (s' ≡ (rule.step s event).0) × (sent' ≡ sent_more sent (rule.step s event).1)
+DoesEvent rule spoils s event sent (Err e) s' sent' = FailsIn rule spoils s event sent e s' sent'
 
--- What one turn of serving did: it ended the serving so, or whatever the serving does from there on, it has done from before the
--- turn with one turn more.
-abbrev pub TakesTurn : {S : Type 0} → (S → Arrival → S × List (NodeId × List ℕ)) → S → Option (List Arrival) → Option (List (NodeId × List ℕ)) → Option NodeEnd → S → Option (List Arrival) → Option (List (NodeId × List ℕ)) → Type 0
-TakesTurn step s coming sent (Some end) s' coming' sent' = (turns : ℕ) → NodeServes step s (turns + 1) coming sent end s' coming' sent'
-TakesTurn {S = S} step s coming sent None s' coming' sent' = (turns : ℕ) (end : NodeEnd) (s'' : S) (coming'' : Option (List Arrival)) (sent'' : Option (List (NodeId × List ℕ)))
-    → NodeServes step s' turns coming' sent' end s'' coming'' sent'' → NodeServes step s (turns + 1) coming sent end s'' coming'' sent''
+-- What one turn of serving did: it ended the serving so; or whatever the serving does from there on, it has done from before the turn with
+-- one turn more.
+abbrev pub TakesTurn : {S : Type 0} → NodeRule S → (S → NodeEvent → Failed → S → Type 0) → S → Beside → Option NodeEnd → S → Beside → Type 0
+TakesTurn rule spoils s b (Some end) s' b' = (turns : ℕ) → NodeServes rule spoils s (turns + 1) b end s' b'
+TakesTurn {S = S} rule spoils s b None s' b' = (turns : ℕ) (end : NodeEnd) (s'' : S) (b'' : Beside)
+    → NodeServes rule spoils s' turns b' end s'' b'' → NodeServes rule spoils s (turns + 1) b end s'' b''
 
--- the count of faults after a turn
-abbrev pub turn_faults : Option NodeEnd → ℕ → ℕ
-turn_faults None n = n
-turn_faults (Some end) n = link_faults end n
+-- the counts of faults after a turn
+abbrev pub turn_faults : (NodeEnd → ℕ → ℕ) → Option NodeEnd → ℕ → ℕ
+turn_faults faults None n = n
+turn_faults faults (Some end) n = faults end n

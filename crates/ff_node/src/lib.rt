@@ -1,11 +1,16 @@
-//! A node of the cluster: its configuration, and a data server that serves over a link.
+//! A node of the cluster: its configuration, how it serves over a link, and a data server that does.
 #![tactic(auto)]
 
 mod config;
+mod end;
 mod node;
 mod serve;
+mod server;
+mod still_clock;
 
 pub use config::{ConfigFault, MAX_LINE, read_config};
+pub use end::NodeEnd;
 pub use node::Node;
 pub use node_config::Config;
-pub use serve::{NodeEnd, serve_ds, serve_node};
+pub use serve::serve_node;
+pub use server::serve_ds;

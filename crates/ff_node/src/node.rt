@@ -1,32 +1,52 @@
 //! What a node does with what comes.
 
-ghost use Rattle.std.specs.Prelude.{◌≡◌, ◌++◌, ℕ, Bool, List, IfOk, OnOk};
-ghost use Rattle.cluster_model.specs.declared.ids.NodeId.{NodeId};
+ghost use Rattle.std.specs.Prelude.{◌≡◌, ◌++◌, ℕ, Bool, List, IfErr, IfOk, OnOk};
+ghost use Rattle.rpc_record.specs.Stream.{counted};
+ghost use Rattle.rpc_record.specs.declared.stream.Failed.{Failed};
 ghost use Rattle.node_link.specs.declared.link.Arrival.{Arrival};
 ghost use Rattle.ds_files.specs.Receive.{outcome_of};
 ghost use Rattle.ds_files.specs.Records.{sent_to};
-ghost use Rattle.ff_node.specs.Serve.{gives_none, server_excuses, server_step};
+ghost use Rattle.ff_node.specs.Nodes.{NodeEvent, NodeRule, SpoilsAny, event_at, gives_none, server_excuses, server_rule};
 
-use cluster_model::{NodeId, Outbox};
+use cluster_model::{FailCause, NodeId, Outbox};
 use ds_files::DataServer;
 use ff_xdr::NoMemory;
 use node_link::Arrival;
 use record_link::is_call_record;
+use rpc_record::Failed;
 
-/// A node of the cluster, which changes by what comes and sends records for it.
+/// A node of the cluster, which changes by what comes and sends records for it, and may end by itself.
 pub trait Node {
-    /// The node after an arrival, and the records that it sends for it, in order.
-    ghost step: { Self → Arrival → Self × List (NodeId × List ℕ) };
+    /// What an event makes of it and what it sends then; how it ends by itself; and whether it serves others.
+    ghost rule: { NodeRule Self };
 
-    /// The arrival is a call that gets no answer, now or later.
+    /// The arrival is a call of which the node knows that it gets no answer, now or later.
     ghost excuses: { Self → Arrival → Bool };
 
-    /// Takes an arrival, and puts out the records that it sends for it. Answers whether it is a call that gets
-    /// no answer, now or later. At an error none is put out.
-    fn take(&mut self, arrival: Arrival, out: &mut Outbox) -> Result<bool, NoMemory>
-        ensures state { OnOk result (self.new ≡ (step self.old arrival).0) }
-        ensures sends { OnOk result (out.new.sends.items ≡ out.old.sends.items ++ (step self.old arrival).1) }
-        ensures excuses { IfOk result (λ is_excused. is_excused ≡ excuses self.old arrival) };
+    /// What may be left of it where taking an event failed.
+    ghost spoils: { Self → NodeEvent → Failed → Self → Type 0 };
+
+    /// How many calls have met a fault of the node's own, as of a sink that it writes. The count stands still at
+    /// `u64::MAX`.
+    ghost faults: { Self → ℕ };
+
+    /// Takes an arrival, at a moment in seconds, and puts out the records that it sends for it. Answers whether it
+    /// is a call of which it knows that it gets no answer, now or later. At an error none of what it put out is to
+    /// be sent. `Failed::Fault` is a fault of the node's own, which is counted.
+    fn take(&mut self, moment: u64, arrival: Arrival, out: &mut Outbox) -> Result<bool, Failed>
+        ensures state { OnOk result (self.new ≡ ((rule.step) self.old (event_at moment arrival)).0) }
+        ensures sends { OnOk result (out.new.sends.items ≡ out.old.sends.items ++ ((rule.step) self.old (event_at moment arrival)).1) }
+        ensures excuses { IfOk result (λ is_excused. is_excused ≡ excuses self.old arrival) }
+        ensures spoils { IfErr result (λ e. spoils self.old (event_at moment arrival) e self.new) }
+        ensures faults { faults self.new ≡ counted result (faults self.old) };
+
+    /// What it came to, once it has ended by itself.
+    fn outcome(&self) -> Option<Result<(), FailCause>>
+        ensures { result ≡ (rule.outcome) self.now };
+
+    /// It serves others, and ends well where nothing more comes.
+    fn is_server(&self) -> bool
+        ensures { result ≡ rule.is_server };
 }
 
 /// A data server takes a record. Answers whether it gives no reply to it.
@@ -46,19 +66,31 @@ fn answer(
 }
 
 impl Node for DataServer {
-    ghost step = { server_step };
+    ghost rule = { server_rule };
 
     ghost excuses = { server_excuses };
 
+    ghost spoils = { SpoilsAny };
+
+    ghost faults = { λ _. 0 };
+
     /// A record is answered to the node that it comes from; no other arrival does anything.
-    fn take(&mut self, arrival: Arrival, out: &mut Outbox) -> Result<bool, NoMemory> {
+    fn take(&mut self, _moment: u64, arrival: Arrival, out: &mut Outbox) -> Result<bool, Failed> {
         match arrival {
-            Arrival::Record { from, bytes } => {
-                let gives_none = answer(self, from, bytes.bytes(), out)?;
-                Ok(is_call_record(bytes.bytes()) && gives_none)
-            }
+            Arrival::Record { from, bytes } => match answer(self, from, bytes.bytes(), out) {
+                Ok(gives_none) => Ok(is_call_record(bytes.bytes()) && gives_none),
+                Err(NoMemory) => Err(Failed::NoMemory),
+            },
             Arrival::TimedOut(_) => Ok(false),
             Arrival::Closed => Ok(false),
         }
+    }
+
+    fn outcome(&self) -> Option<Result<(), FailCause>> {
+        None
+    }
+
+    fn is_server(&self) -> bool {
+        true
     }
 }

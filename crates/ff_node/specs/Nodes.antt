@@ -1,0 +1,72 @@
+-- A node by its rule: what comes to it, what it does then, and how it ends by itself.
+use Rattle.std.specs.Prelude.{⊤, ◌≡◌, ℕ, Bool, true, false, ◌&&◌, List, [], ◌∷◌, ◌++◌, Option, Some, None, Result}
+use Rattle.cluster_model.specs.declared.ids.NodeId.{NodeId}
+use Rattle.cluster_model.specs.declared.answer.FailCause.{FailCause}
+use Rattle.cluster_model.specs.Server.{ServerState}
+use Rattle.rpc_record.specs.declared.stream.Failed.{Failed}
+use Rattle.rpc_record.specs.declared.stream.Failed.TheVariants as failed
+use Rattle.record_link.specs.Messages.{is_call_record}
+use Rattle.ds_files.specs.Receive.{outcome_of}
+use Rattle.ds_files.specs.Records.{sent_to}
+use Rattle.node_link.specs.declared.link.Arrival.{Arrival}
+use Rattle.node_link.specs.declared.link.Arrival.TheVariants.{Record, TimedOut, Closed}
+
+-- something comes to a node, at a moment in seconds
+pub record NodeEvent : Type 0 where
+  pub moment : ℕ
+  pub arrival : Arrival
+
+abbrev pub event_at : ℕ → Arrival → NodeEvent
+event_at moment arrival = record { moment = moment; arrival = arrival }
+
+-- records that are sent, each with the node that it goes to
+abbrev pub SentRecords : Type 0
+SentRecords = List (NodeId × List ℕ)
+
+-- What an event makes of a node, and what it sends then, in order; what it came to, once it has ended by itself; and whether it serves
+-- others, so that it ends well where nothing more comes to it.
+pub record NodeRule (S : Type 0) : Type 0 where
+  pub step : S → NodeEvent → S × SentRecords
+  pub outcome : S → Option (Result (Unit {0}) FailCause)
+  pub is_server : Bool
+
+-- a node after these events, by its rule, and the records that it sends over them, in order
+abbrev pub state_after : {S : Type 0} → NodeRule S → S → List NodeEvent → S
+state_after rule s [] = s
+state_after rule s (e ∷ events) = state_after rule (rule.step s e).0 events
+
+abbrev pub sends_over : {S : Type 0} → NodeRule S → S → List NodeEvent → SentRecords
+sends_over rule s [] = []
+sends_over rule s (e ∷ events) = (rule.step s e).1 ++ sends_over rule (rule.step s e).0 events
+
+-- before each of these events it had not ended
+abbrev pub IsGoing : {S : Type 0} → NodeRule S → S → List NodeEvent → Type 0
+IsGoing rule s [] = ⊤
+IsGoing rule s (e ∷ events) = (rule.outcome s ≡ None) × IsGoing rule (rule.step s e).0 events
+
+-- ---- a data server
+
+-- A record is answered to the node that it comes from, by the rule of the data server; no other arrival does anything. Moments do not
+-- count, and it does not end by itself.
+abbrev pub server_takes : ServerState → Arrival → ServerState × SentRecords
+server_takes s (Record from bytes) = ((outcome_of s bytes).server, sent_to from (outcome_of s bytes).reply)
+server_takes s (TimedOut node) = (s, [])
+server_takes s Closed = (s, [])
+
+abbrev pub server_rule : NodeRule ServerState
+server_rule = record { step = λ s e. server_takes s e.arrival; outcome = λ s. None; is_server = true }
+
+-- A call is not answered where the rule gives no reply to it.
+abbrev pub gives_none : Option (List ℕ) → Bool
+gives_none None = true
+gives_none (Some reply) = false
+
+abbrev pub server_excuses : ServerState → Arrival → Bool
+server_excuses s (Record from bytes) = is_call_record bytes && gives_none (outcome_of s bytes).reply
+server_excuses s (TimedOut node) = false
+server_excuses s Closed = false
+
+-- a node that has no fault of its own: nothing is said of it where memory was wanted
+abbrev pub SpoilsAny : {S : Type 0} → S → NodeEvent → Failed → S → Type 0
+SpoilsAny s event failed.Fault s' = ⊥
+SpoilsAny s event failed.NoMemory s' = ⊤
