@@ -69,7 +69,7 @@ fn gives(rt: &impl Abort, link: &mut MemoryNode, node: NodeId, record: &[u8]) {
     }
 }
 
-/// To which addresses connections were made.
+/// The tries to make a connection: under which number, 0 where none was made, and to which address.
 fn made(link: &MemoryNode) -> &[(u32, NetAddr)] {
     match link.server() {
         Some(server) => server.network().made(),
@@ -88,7 +88,7 @@ fn a_client(rt: HostRuntime) -> Result<(), Fail> {
     let mut link = link(&rt, alloc, Role::Client, Vec::new(alloc), to_make)?;
     link.send(NodeId::Mds, Data::of(alloc, &CALL)?)?;
     link.send(NodeId::Server(2), Data::of(alloc, &CALL)?)?;
-    assert!(rt; made(&link) == [(1, at(2049))].as_slice());
+    assert!(rt; made(&link) == [(1, at(2049)), (0, at(2))].as_slice());
     gives(&rt, &mut link, NodeId::Mds, &REPLY);
     gives_up(&rt, &mut link, NodeId::Mds);
     gives_up(&rt, &mut link, NodeId::Server(2));

@@ -1,5 +1,5 @@
 -- The entries of nodes in a list: where one stands, what is read there, and what a change of it leaves.
-use Rattle.std.proofs.Common.{◌≡◌, ℕ, zero, suc, ◌+◌, ◌<◌, ◌≤◌, ◌⊎◌, inl, inr, Bool, true, false, cond, List, [], ◌∷◌, ◌++◌, length, get_or, set, Some, None, refl, sym, ap, ◌∙◌, arith, subst}
+use Rattle.std.proofs.Common.{◌≡◌, ℕ, zero, suc, ◌+◌, ◌<◌, ◌≤◌, ◌⊎◌, inl, inr, min, Bool, true, false, cond, List, [], ◌∷◌, ◌++◌, length, get_or, set, Option, Some, None, refl, sym, ap, ◌∙◌, arith, subst}
 use Rattle.std.specs.Prelude.{◌&&◌, ◌==◌, slice_get, remove}
 use Rattle.std.specs.List.{position, position_from}
 use Rattle.std.proofs.lemmas.Iterator.Adapters.{position_from-zero}
@@ -10,7 +10,7 @@ use Rattle.cluster_model.specs.declared.ids.NodeId.{NodeId}
 use Rattle.cluster_model.specs.declared.ids.NodeId.TheVariants.{Mds, Server, Client}
 use Rattle.cluster_model.specs.Nodes.{is_node}
 use Rattle.node_link.specs.declared.callee.Callee.{Callee}
-use Rattle.node_link.specs.Callees.{callee_in, new_callee, with_heard, told, is_connected_to, IsFrom, HasNoEntry, AreOnce, SetsCallee}
+use Rattle.node_link.specs.Callees.{callee_in, new_callee, with_heard, told, due_of, sooner_of, is_connected_to, IsFrom, IsDueOrLast, HasNoEntry, AreOnce, SetsCallee}
 
 -- ---- nodes
 
@@ -227,6 +227,39 @@ module _ (xs ys : List (NodeId × Callee)) (n : ℕ) (same : ys ≡ xs) where
 
   pub all_of : (Q : NodeId → Callee → Type 0) → length ys ≤ n → ((node : NodeId) → Q node (new_callee node)) → Before (λ x. Q x.0 x.1) xs n → (node : NodeId) → Q node (callee_in xs node)
   all_of Q end fresh each = of_each Q xs fresh (λ k below x at. each k (omega (arith, ap length same)) x at)
+
+-- ---- when something is given up first
+
+-- nothing of it is to be given up before this moment
+abbrev pub NoneBefore : ℕ → NodeId × Callee → Type 0
+NoneBefore moment x = (due : ℕ) → due_of x.1 ≡ Some due → moment ≤ due
+
+below_sooner : (moment : ℕ) (due : Option ℕ) → sooner_of moment due ≤ moment
+below_sooner moment None = omega arith
+below_sooner moment (Some due) = omega arith
+
+sooner_first : (moment due : ℕ) (first : Option ℕ) → first ≡ Some due → sooner_of moment first ≤ due
+sooner_first moment due None is = absurd cc
+sooner_first moment due (Some first) is = let same : first ≡ due = same_Some first due is in omega arith
+
+sooner_due : (xs : List (NodeId × Callee)) (node : NodeId) (moment : ℕ) (due : Option ℕ) → due_of (callee_in xs node) ≡ due → IsDueOrLast xs moment → IsDueOrLast xs (sooner_of moment due)
+sooner_due xs node moment None is last = last
+sooner_due xs node moment (Some due) is last = by_case (cases_lt moment due)
+  where
+    by_case : (moment < due) ⊎ (due ≤ moment) → IsDueOrLast xs (min moment due)
+    by_case (inl less) = let same : moment ≡ min moment due = omega arith in subst (IsDueOrLast xs) same last
+    by_case (inr more) = let same : due ≡ min moment due = omega arith in inl (node, is ∙ ap Some same)
+
+module _ (xs ys : List (NodeId × Callee)) (n : ℕ) (same : ys ≡ xs) where
+  -- the turn at the next entry
+  pub sooner_turn : (moment moment' : ℕ) (d : NodeId × Callee) → n < length ys → AreOnce xs → moment' ≡ sooner_of moment (due_of (get_or ys n d).1) → Before (NoneBefore moment) xs n × IsDueOrLast xs moment
+      → Before (NoneBefore moment') xs (n + 1) × IsDueOrLast xs moment'
+  sooner_turn moment moment' d below once is (before, last) =
+      let due : Option ℕ = due_of (get_or ys n d).1 in
+      let less : moment' ≤ moment = omega (arith, is, below_sooner moment due) in (
+        turn xs ys n same (NoneBefore moment') d below (λ first its. omega (arith, is, sooner_first moment first due its)) (λ k further x at first its. omega (arith, less, before k further x at first its)),
+        subst (IsDueOrLast xs) (sym is) (sooner_due xs (get_or ys n d).0 moment due (ap due_of (its_own xs ys n same d below once)) last),
+      )
 
 -- ---- which node a record is from
 

@@ -1,5 +1,5 @@
 -- What is waited for from other nodes: a call that gets nothing for two seconds is given up, once for these.
-use Rattle.std.specs.Prelude.{⊤, ◌≡◌, ℕ, ◌+◌, ◌-◌, ◌^◌, ◌≤◌, ◌==◌, nat_le, min, Bool, true, false, if◌then◌else◌, List, [], ◌∷◌, Option, Some, None, Result, Ok, Err}
+use Rattle.std.specs.Prelude.{⊤, ◌≡◌, ℕ, ◌⊎◌, ◌+◌, ◌-◌, ◌^◌, ◌≤◌, ◌==◌, nat_le, min, Bool, true, false, if◌then◌else◌, List, [], ◌∷◌, Option, Some, None, Result, Ok, Err}
 use Rattle.rpc_record.specs.Stream.{one_more}
 use Rattle.record_link.specs.Messages.{is_reply_record}
 use Rattle.cluster_model.specs.declared.ids.NodeId.{NodeId}
@@ -61,6 +61,11 @@ unreached now c = record (parted c) { lost = sooner (parted c).lost (Some (later
 abbrev pub due_of : Callee → Option ℕ
 due_of c = sooner c.lost (outstanding c)
 
+-- the sooner of a moment and this one, where there is one
+abbrev pub sooner_of : ℕ → Option ℕ → ℕ
+sooner_of moment None = moment
+sooner_of moment (Some due) = min moment due
+
 abbrev pub is_over_by : ℕ → Option ℕ → Bool
 is_over_by now None = false
 is_over_by now (Some due) = nat_le due now
@@ -117,6 +122,10 @@ IsFrom number callees Mds = (callee_in callees Mds).connection ≡ number
 IsFrom number callees (Server n) = (callee_in callees (Server n)).connection ≡ number
 IsFrom number callees (Client k) = (k ≡ number) × ((node : NodeId) → is_connected_to node ≡ true → (callee_in callees node).connection ≡ number → number ≡ 0)
 
--- nothing is to be given up before this moment
+-- at this moment something of a node is to be given up, or it is the last of all
+abbrev pub IsDueOrLast : CalleesValue → ℕ → Type 0
+IsDueOrLast callees moment = ((node : NodeId) × (due_of (callee_in callees node) ≡ Some moment)) ⊎ (moment ≡ 2 ^ 64 - 1)
+
+-- It is the first moment at which something is to be given up, and the last of all where nothing is.
 abbrev pub IsEarliest : CalleesValue → ℕ → Type 0
-IsEarliest callees moment = (node : NodeId) (due : ℕ) → due_of (callee_in callees node) ≡ Some due → moment ≤ due
+IsEarliest callees moment = ((node : NodeId) (due : ℕ) → due_of (callee_in callees node) ≡ Some due → moment ≤ due) × IsDueOrLast callees moment

@@ -1,5 +1,5 @@
 -- The link of a node over a network: which node is on which connection, and when a call is given up.
-use Rattle.std.specs.Prelude.{⊤, ◌≡◌, ◌⊎◌, ℕ, ◌+◌, ◌<◌, ◌≤◌, Bool, true, false, List, Option, Some, None, Result, Ok, Err}
+use Rattle.std.specs.Prelude.{⊤, ◌≡◌, ◌⊎◌, ℕ, ◌+◌, ◌-◌, ◌^◌, ◌<◌, ◌≤◌, min, Bool, true, false, if◌then◌else◌, List, Option, Some, None, Result, Ok, Err}
 use Rattle.ff_xdr.specs.declared.error.NoMemory.{NoMemory}
 use Rattle.rpc_record.specs.declared.stream.Failed.{Failed}
 use Rattle.rpc_record.specs.declared.stream.Failed.TheVariants as failed
@@ -36,12 +36,12 @@ pub record LinkState : Type 0 where
 abbrev pub AreNew : CalleesValue → Type 0
 AreNew callees = (node : NodeId) → callee_in callees node ≡ new_callee node
 
--- It has no connection, and waits for nothing; other nodes are where the configuration says. Or it is as it was.
+-- It has no connection, and waits for nothing; other nodes are where the configuration says. Or it is as it was, but for its count of faults.
 abbrev pub OpensNetwork : Config → LinkState → Result (Unit {0}) Failed → LinkState → Type 0
 OpensNetwork config old (Ok x) new =
     (new.mds ≡ Some config.mds) × (new.servers ≡ config.servers.items) × AreNew new.callees × (new.quiet ≡ 0)
     × ((waiting : Waiting) × (made : Made) × (reported : List ℕ) × (moment : ℕ) × (faults : ℕ) × (new.server ≡ Some (no_connections waiting made reported moment faults)))
-OpensNetwork config old (Err e) new = new.server ≡ old.server
+OpensNetwork config old (Err e) new = new ≡ record old { faults = new.faults }
 
 -- ---- what comes
 
@@ -54,9 +54,13 @@ abbrev pub is_client_link : Option Opening → Bool
 is_client_link None = false
 is_client_link (Some opening) = is_client_role opening.role
 
--- until when a record is waited for: not beyond the moment at which something is given up, nor beyond a client's silence
+-- until when a client bears that nothing comes
+abbrev pub quiet_end : LinkState → ℕ
+quiet_end s = min (s.quiet + QUIET_LIMIT) (2 ^ 64 - 1)
+
+-- until when a record is waited for: up to the moment at which something is given up, and at a client no longer than it bears that nothing comes
 abbrev pub WaitsUntil : LinkState → ℕ → Type 0
-WaitsUntil s until = IsEarliest s.callees until × (is_client_link s.opened ≡ true → until ≤ s.quiet + QUIET_LIMIT)
+WaitsUntil s until = (earliest : ℕ) × IsEarliest s.callees earliest × (until ≡ (if is_client_link s.opened then min earliest (quiet_end s) else earliest))
 
 abbrev pub AreSame : CalleesValue → CalleesValue → Type 0
 AreSame old new = (node : NodeId) → callee_in new node ≡ callee_in old node
@@ -102,51 +106,53 @@ address_to s Mds = s.mds
 address_to s (Server n) = address_numbered s.servers n
 address_to s (Client k) = None
 
--- the message was sent on this connection
-abbrev pub SendsOn : ℕ → NodeId → Callee → List ℕ → ServingState → CalleesValue → ServingState → CalleesValue → Type 0
-SendsOn number node callee message s callees s' callees' = SendsRecord number message s (Ok tt) s' × Calls (is_call_record message) node (with_called s.time callee) callees callees'
+-- A call did not go to this node, since memory was wanted: what is waited for from it is as it was, or this, as if it had gone.
+abbrev pub IsUnsent : Bool → NodeId → Callee → CalleesValue → CalleesValue → Type 0
+IsUnsent false node callee old new = AreSame old new
+IsUnsent true node callee old new = AreSame old new ⊎ SetsCallee node callee old new
 
--- A connection to the node's address is made for a call; where none can be, the call is lost, and given up in time. Another record is lost
--- with its connection.
-abbrev pub Reaches : Bool → NodeId → Option NetAddr → List ℕ → ServingState → CalleesValue → ServingState → CalleesValue → Type 0
-Reaches false node address message s callees s' callees' = (s' ≡ s) × AreSame callees callees'
-Reaches true node address message s callees s' callees' =
-    ((to : NetAddr) × (address ≡ Some to) × (number : ℕ) × (mid : ServingState) × Connects to s (Ok (Some number)) mid × SendsRecord number message mid (Ok tt) s' × SetsCallee node (with_called s.time (rewired number (callee_in callees node))) callees callees')
-    ⊎ ((s' ≡ s) × SetsCallee node (unreached s.time (callee_in callees node)) callees callees')
+-- the message was sent on this connection; or memory was wanted
+abbrev pub SendsOnOr : ℕ → NodeId → Callee → List ℕ → ServingState → CalleesValue → Result (Unit {0}) NoMemory → ServingState → CalleesValue → Type 0
+SendsOnOr number node callee message s callees (Ok x) s' callees' = SendsRecord number message s (Ok tt) s' × Calls (is_call_record message) node (with_called s.time callee) callees callees'
+SendsOnOr number node callee message s callees (Err e) s' callees' = (s' ≡ s) × IsUnsent (is_call_record message) node (with_called s.time callee) callees callees'
+
+-- a connection was made to an address, under this number; or none was, as there is no address, or it cannot be made
+abbrev pub ConnectsOrNot : Option NetAddr → ServingState → Option ℕ → ServingState → Type 0
+ConnectsOrNot None s number s' = (number ≡ None) × (s' ≡ s)
+ConnectsOrNot (Some to) s number s' = Connects to s (Ok number) s'
+
+-- no connection to a node at this address was made
+abbrev pub IsUnreached : Option NetAddr → ServingState → ServingState → Type 0
+IsUnreached address s s' = ConnectsOrNot address s None s'
+
+-- A connection to the node's address is made for a call; where none can be, the call is lost, and given up in time. Where memory was wanted
+-- nothing was sent: before a connection was tried, behind it, or on the one that was made.
+abbrev pub ReachesOr : NodeId → Option NetAddr → List ℕ → ServingState → CalleesValue → Result (Unit {0}) NoMemory → ServingState → CalleesValue → Type 0
+ReachesOr node address message s callees (Ok x) s' callees' =
+    ((number : ℕ) × (mid : ServingState) × ConnectsOrNot address s (Some number) mid × SendsRecord number message mid (Ok tt) s' × SetsCallee node (with_called s.time (rewired number (callee_in callees node))) callees callees')
+    ⊎ (IsUnreached address s s' × SetsCallee node (unreached s.time (callee_in callees node)) callees callees')
+ReachesOr node address message s callees (Err e) s' callees' =
+    ((s' ≡ s) × AreSame callees callees')
+    ⊎ (IsUnreached address s s' × AreSame callees callees')
+    ⊎ ((number : ℕ) × ConnectsOrNot address s (Some number) s' × IsUnsent true node (with_called s.time (rewired number (callee_in callees node))) callees callees')
+
+-- the same for any record: one that is no call is lost with its connection
+abbrev pub ReachesIf : Bool → NodeId → Option NetAddr → List ℕ → ServingState → CalleesValue → Result (Unit {0}) NoMemory → ServingState → CalleesValue → Type 0
+ReachesIf false node address message s callees result s' callees' = (result ≡ Ok tt) × (s' ≡ s) × AreSame callees callees'
+ReachesIf true node address message s callees result s' callees' = ReachesOr node address message s callees result s' callees'
 
 -- to a node that is called on a connection that is made: on that one, where it is open
-abbrev pub SendsMade : NodeId → Option NetAddr → List ℕ → ServingState → CalleesValue → ServingState → CalleesValue → Type 0
-SendsMade node address message s callees s' callees' =
-    (IsListed true (callee_in callees node).connection s.peers × SendsOn (callee_in callees node).connection node (callee_in callees node) message s callees s' callees')
-    ⊎ (IsListed false (callee_in callees node).connection s.peers × Reaches (is_call_record message) node address message s callees s' callees')
-
-abbrev pub SendsBy : LinkState → NodeId → List ℕ → ServingState → CalleesValue → ServingState → CalleesValue → Type 0
-SendsBy l (Client k) message s callees s' callees' = SendsOn k (Client k) (callee_in callees (Client k)) message s callees s' callees'
-SendsBy l Mds message s callees s' callees' = SendsMade Mds (address_to l Mds) message s callees s' callees'
-SendsBy l (Server n) message s callees s' callees' = SendsMade (Server n) (address_to l (Server n)) message s callees s' callees'
-
--- nothing was sent, though a connection may have been made for it
-abbrev pub IsUnsent : ServingState → ServingState → Type 0
-IsUnsent s s' = (s' ≡ s) ⊎ ((to : NetAddr) × (number : ℕ) × Connects to s (Ok (Some number)) s')
-
--- the parts of sending, where memory may be wanted
-abbrev pub SendsOnOr : ℕ → NodeId → Callee → List ℕ → ServingState → CalleesValue → Result (Unit {0}) NoMemory → ServingState → CalleesValue → Type 0
-SendsOnOr number node callee message s callees (Ok x) s' callees' = SendsOn number node callee message s callees s' callees'
-SendsOnOr number node callee message s callees (Err e) s' callees' = s' ≡ s
-
-abbrev pub ReachesOr : NodeId → Option NetAddr → List ℕ → ServingState → CalleesValue → Result (Unit {0}) NoMemory → ServingState → CalleesValue → Type 0
-ReachesOr node address message s callees (Ok x) s' callees' = Reaches true node address message s callees s' callees'
-ReachesOr node address message s callees (Err e) s' callees' = IsUnsent s s'
-
 abbrev pub SendsMadeOr : NodeId → Option NetAddr → List ℕ → ServingState → CalleesValue → Result (Unit {0}) NoMemory → ServingState → CalleesValue → Type 0
-SendsMadeOr node address message s callees (Ok x) s' callees' = SendsMade node address message s callees s' callees'
-SendsMadeOr node address message s callees (Err e) s' callees' = IsUnsent s s'
+SendsMadeOr node address message s callees result s' callees' =
+    (IsListed true (callee_in callees node).connection s.peers × SendsOnOr (callee_in callees node).connection node (callee_in callees node) message s callees result s' callees')
+    ⊎ (IsListed false (callee_in callees node).connection s.peers × ReachesIf (is_call_record message) node address message s callees result s' callees')
 
 abbrev pub SendsWhere : LinkState → NodeId → List ℕ → ServingState → CalleesValue → Result (Unit {0}) NoMemory → ServingState → CalleesValue → Type 0
-SendsWhere l to message s callees (Ok x) s' callees' = SendsBy l to message s callees s' callees'
-SendsWhere l to message s callees (Err e) s' callees' = IsUnsent s s'
+SendsWhere l (Client k) message s callees result s' callees' = SendsOnOr k (Client k) (callee_in callees (Client k)) message s callees result s' callees'
+SendsWhere l Mds message s callees result s' callees' = SendsMadeOr Mds (address_to l Mds) message s callees result s' callees'
+SendsWhere l (Server n) message s callees result s' callees' = SendsMadeOr (Server n) (address_to l (Server n)) message s callees result s' callees'
 
--- What sending did: where it is open, the message went on the node's connection; else it is lost.
+-- What sending did: where it is open, the message went on the node's connection, or memory was wanted; else it is lost.
 abbrev pub SendsTo : LinkState → NodeId → List ℕ → Result (Unit {0}) NoMemory → LinkState → Type 0
 SendsTo old to message result new =
     ((old.server ≡ None) × (new.server ≡ None) × (result ≡ Ok tt))

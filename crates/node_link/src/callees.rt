@@ -1,10 +1,10 @@
 //! What is waited for from other nodes.
 
-ghost use Rattle.std.specs.Prelude.{◌≡◌, ℕ, ◌≤◌, ◌==◌, ◌&&◌, Some, true, false, MatchOption, position};
+ghost use Rattle.std.specs.Prelude.{◌≡◌, ◌==◌, ◌&&◌, Some, true, false, MatchOption, position};
 ghost use Rattle.std.specs.Bool.{OnTrue};
 ghost use Rattle.cluster_model.specs.declared.ids.NodeId.{NodeId};
 ghost use Rattle.cluster_model.specs.Nodes.{is_node};
-ghost use Rattle.node_link.specs.Callees.{callee_in, new_callee, due_of, with_heard, is_late, is_connected_to, told, AreOnce, IsEarliest, IsFrom, PutsCallee, SetsCallee};
+ghost use Rattle.node_link.specs.Callees.{callee_in, new_callee, due_of, with_heard, is_late, is_connected_to, told, AreOnce, IsEarliest, IsFrom, PutsCallee, SetsCallee, sooner_of};
 
 use crate::callee::Callee;
 use cluster_model::NodeId;
@@ -133,7 +133,7 @@ impl Callees {
         NodeId::Client(number)
     }
 
-    /// A moment before which nothing is to be given up.
+    /// The first moment at which something is to be given up, and the last of all where nothing is.
     pub fn earliest(&self) -> u64
         ensures { IsEarliest self.now result }
     {
@@ -166,8 +166,7 @@ fn is_made_as(node: NodeId, callee: Callee, number: u32) -> bool
 
 /// The sooner of a moment and the one at which the first of what is waited for is given up.
 fn sooner_of(moment: u64, callee: Callee) -> u64
-    ensures sooner { result ≤ moment }
-    ensures given_up { (due : ℕ) → due_of callee ≡ Some due → result ≤ due }
+    ensures { result ≡ sooner_of moment (due_of callee) }
 {
     match callee.due_of() {
         Some(due) => moment.min(due),

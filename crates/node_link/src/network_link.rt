@@ -70,7 +70,9 @@ impl<H: Host + Drop> NodeLink<H> {
     }
 
     /// Its connections, where it is open.
-    pub fn server(&self) -> Option<&RecordServer<H::Net>> {
+    pub fn server(&self) -> Option<&RecordServer<H::Net>>
+        ensures { MatchOption result (self.now.server ≡ None) (λ server. self.now.server ≡ Some server.now) }
+    {
         self.server.as_ref()
     }
 

@@ -1,7 +1,8 @@
 -- What the calls of a server do, as events.
 use Rattle.std.proofs.Common.{inl, inr, ℕ, List, [], ◌∷◌, ◌++◌, map, refl, subst, None, Some}
-use Rattle.record_server.specs.Server.{ServingState, ServingStep, Makes, IsOfRound, RunsSteps, GoesBy}
+use Rattle.record_server.specs.Server.{ServingState, ServingStep, Makes, Misses, Ends, IsOfRound, RunsSteps, GoesBy}
 use Rattle.record_server.specs.History.{Event, Does, Hands, HasHappened, OnlySteps, NextHappens, WaitHappens, ConnectHappens, FlushHappens}
+use Rattle.record_server.proofs.EndLemmas.{pushed_out}
 
 runs_happen : (steps : List ServingStep) (old new : ServingState) → RunsSteps steps old new → HasHappened (map Does steps) old new
 runs_happen [] old new same = same
@@ -26,7 +27,11 @@ wait_happens until old new (inr goes) = goes_happens IsOfRound _ old new goes
 
 pub connect_happens : ConnectHappens
 connect_happens address old new (Some number) did = (Makes number address did.0 did.1 did.2 ∷ [], (new, did.3, refl))
-connect_happens address old new None same = ([], same)
+connect_happens address old new None (inl none) = ([], none.1)
+connect_happens address old new None (inr did) = (Misses address ∷ [], (new, did, refl))
 
 pub flush_happens : FlushHappens
-flush_happens old new flushes = goes_happens _ 0 old new flushes.0
+flush_happens old new flushes =
+    let last : ServingState = flushes.0.0 in
+    let goes = pushed_out old last flushes.0.1 in
+    (goes.steps, goes.kinds, happens_on (map Does goes.steps) (Does Ends ∷ []) old last new (runs_happen goes.steps old last goes.runs) (new, flushes.0.2, refl))

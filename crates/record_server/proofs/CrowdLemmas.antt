@@ -7,7 +7,7 @@ use Rattle.std.proofs.lemmas.Option.{slice_get_within}
 use Rattle.record_link.specs.Peers.{PeerState, new_peer, is_to_close}
 use Rattle.record_server.specs.declared.server.TheConstants.{MOST_OPEN}
 use Rattle.record_server.specs.Network.{Waiting, Made}
-use Rattle.record_server.specs.Server.{ServingState, no_connections, resumed_by, TriesAgain, MakesRoom, ServingStep, Begins, Accepts, Visits, Leaves, Makes, Pushes, Passes, Ends, DoesStep}
+use Rattle.record_server.specs.Server.{ServingState, no_connections, resumed_by, TriesAgain, MakesRoom, ServingStep, Begins, Accepts, Visits, Leaves, Makes, Misses, Pushes, Passes, Ends, DoesStep}
 use Rattle.record_server.specs.History.{Event, Does, Hands, Puts, Excuses, DoesEvent, HasHappened, FewOpen}
 
 abbrev pub FitsOpen : ServingState → Type 0
@@ -50,8 +50,9 @@ step_fits (Visits came) old new did fits = set_fits old new old.place did.1 (ap 
 step_fits Leaves old new did fits = set_fits old new did.0 did.2 (ap (λ s. s.peers) did.6) fits
 step_fits (Makes number address coming went faults) old new did fits =
     omega (arith, did.0, ap (λ s. length s.peers) did.3, length-append old.peers (new_peer number old.time coming went faults ∷ []))
+step_fits (Misses address) old new did fits = omega (arith, fits, ap (λ s. length s.peers) did)
 step_fits (Pushes place) old new did fits = set_fits old new place did.1 (ap (λ s. s.peers) did.4) fits
-step_fits (Passes time) old new did fits = omega (arith, fits, ap (λ s. length s.peers) did.1)
+step_fits (Passes could time) old new did fits = omega (arith, fits, ap (λ s. length s.peers) did.1)
 step_fits Ends old new did fits = omega (arith, fits, ap (λ s. length s.peers) did, filter_fewer (λ e. eqb (length e.connection.to_go) 0) old.peers)
 
 event_fits : (event : Event) (old new : ServingState) → DoesEvent event old new → FitsOpen old → FitsOpen new

@@ -3,7 +3,7 @@ use Rattle.std.proofs.Common.{◌≡◌, ℕ, ◌+◌, ◌-◌, ◌*◌, ◌≤�
 use Rattle.std.specs.List.{All}
 use Rattle.std.proofs.lemmas.List.Elements.{All-head, All-tail}
 use Rattle.record_server.specs.declared.server.TheConstants.{MOST_HANDED}
-use Rattle.record_server.specs.Server.{ServingState, Begins, Accepts, Visits, Leaves, Makes, Pushes, Passes, Ends}
+use Rattle.record_server.specs.Server.{ServingState, Begins, Accepts, Visits, Leaves, Makes, Misses, Pushes, Passes, Ends}
 use Rattle.record_server.specs.History.{Event, Does, Hands, Puts, Excuses, DoesEvent, HasHappened}
 use Rattle.record_server.specs.Fairness.{IsInRound, IsFair, visits_in, hands_in}
 
@@ -37,10 +37,12 @@ fair_behind (Does Leaves) events old mid new round did fair =
     fair_on 0 0 (Does Leaves) events old mid new (omega arith) (omega arith) (same_turn old mid (ap (λ s. s.place) did.6) (ap (λ s. s.handed) did.6)) fair
 fair_behind (Does (Makes number address coming went faults)) events old mid new round did fair =
     fair_on 0 0 (Does (Makes number address coming went faults)) events old mid new (omega arith) (omega arith) (same_turn old mid (ap (λ s. s.place) did.3) (ap (λ s. s.handed) did.3)) fair
+fair_behind (Does (Misses address)) events old mid new round did fair =
+    fair_on 0 0 (Does (Misses address)) events old mid new (omega arith) (omega arith) (same_turn old mid (ap (λ s. s.place) did) (ap (λ s. s.handed) did)) fair
 fair_behind (Does (Pushes place)) events old mid new round did fair =
     fair_on 0 0 (Does (Pushes place)) events old mid new (omega arith) (omega arith) (same_turn old mid (ap (λ s. s.place) did.4) (ap (λ s. s.handed) did.4)) fair
-fair_behind (Does (Passes time)) events old mid new round did fair =
-    fair_on 0 0 (Does (Passes time)) events old mid new (omega arith) (omega arith) (same_turn old mid (ap (λ s. s.place) did.1) (ap (λ s. s.handed) did.1)) fair
+fair_behind (Does (Passes could time)) events old mid new round did fair =
+    fair_on 0 0 (Does (Passes could time)) events old mid new (omega arith) (omega arith) (same_turn old mid (ap (λ s. s.place) did.1) (ap (λ s. s.handed) did.1)) fair
 fair_behind (Does Ends) events old mid new round did fair = absurd round
 fair_behind (Hands number message) events old mid new round did fair =
     let handed = ap (λ s. s.handed) did.rest in

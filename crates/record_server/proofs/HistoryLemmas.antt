@@ -5,7 +5,7 @@ use Rattle.std.specs.List.{filter}
 use Rattle.std.proofs.lemmas.Bool.{eq-eqb, ne_eqb, cond_both}
 use Rattle.record_link.specs.Peers.{PeerState, new_peer, resumed, excused_peer, is_to_close, is_to_write}
 use Rattle.record_server.specs.Network.{Waiting, Made}
-use Rattle.record_server.specs.Server.{ServingState, no_connections, was_reported, resumed_by, TriesAgain, MakesRoom, ServingStep, Begins, Accepts, Visits, Leaves, Makes, Pushes, Passes, Ends, DoesStep}
+use Rattle.record_server.specs.Server.{ServingState, no_connections, was_reported, resumed_by, TriesAgain, MakesRoom, ServingStep, Begins, Accepts, Visits, Leaves, Makes, Misses, Pushes, Passes, Ends, DoesStep}
 use Rattle.record_server.specs.History.{Account, Accounts, new_account, with_account, with_message, with_sent, no_accounts, account_step, account_event, accounts_after, Event, Does, Hands, Puts, Excuses, DoesEvent, HasHappened, AllStand}
 use Rattle.record_server.proofs.AccountLemmas.{Good, writes_go, visit_goes, resumed_good, excused_good, put_good, handed_good, new_good}
 use Rattle.record_server.proofs.NumberLemmas.{resumed_number}
@@ -92,11 +92,12 @@ step_good accounts Leaves old new did all =
 step_good accounts (Makes number address coming went faults) old new did all =
     let opened = opened_good accounts old.given old.time number coming went faults old.peers did.1 all in
     subst (λ (s : ServingState). AllGood (with_account accounts number (new_account coming went)) s) (sym did.3) opened
+step_good accounts (Misses address) old new did all = same_good accounts old new old.peers (ap (λ s. s.peers) did) (ap (λ s. s.given) did) all
 step_good accounts (Pushes place) old new did all =
     let e = did.0 in
     let goes = writes_go (accounts e.number) (is_to_write old.time (resumed e)) old.time (resumed e) did.1 did.3 in
     set_good accounts accounts old new place e did.1 did.2 (ap (λ s. s.peers) did.4) (ap (λ s. s.given) did.4) goes.number (λ good. goes.good (resumed_good (accounts e.number) e good)) (λ k other. refl) all
-step_good accounts (Passes time) old new did all = same_good accounts old new old.peers (ap (λ s. s.peers) did.1) (ap (λ s. s.given) did.1) all
+step_good accounts (Passes could time) old new did all = same_good accounts old new old.peers (ap (λ s. s.peers) did.1) (ap (λ s. s.given) did.1) all
 step_good accounts Ends old new did all =
     same_good accounts old new (filter (λ e. eqb (length e.connection.to_go) 0) old.peers) (ap (λ s. s.peers) did) (ap (λ s. s.given) did) (each_filter accounts (λ e. eqb (length e.connection.to_go) 0) 0 old.peers old.given all)
 

@@ -37,10 +37,6 @@ goes_on kind n m k a b c most came more = record {
 pub fewer : (kind : ServingStep → Type 0) (n m : ℕ) (a b : ServingState) → m ≤ n → GoesBy kind n a b → GoesBy kind m a b
 fewer kind n m a b most came = record { steps = came.steps; kinds = came.kinds; many = omega (arith, most, came.many); runs = came.runs }
 
--- one step behind a run, which is not counted
-pub steps_too : (kind : ServingStep → Type 0) (n : ℕ) (step : ServingStep) (a b c : ServingState) → kind step → GoesBy kind n a b → DoesStep step b c → GoesBy kind n a c
-steps_too kind n step a b c is came did = goes_on kind n 1 n a b c (omega arith) came (one kind step b c is did)
-
 -- one step that is not counted
 pub did : (kind : ServingStep → Type 0) (step : ServingStep) (old new : ServingState) → kind step → DoesStep step old new → GoesBy kind 0 old new
 did kind step old new is does = record {

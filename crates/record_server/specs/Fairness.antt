@@ -1,7 +1,7 @@
 -- How many records are handed out before each connection has its turn.
 use Rattle.std.specs.Prelude.{⊤, ◌≡◌, ℕ, ◌+◌, ◌-◌, ◌*◌, ◌≤◌, List, [], ◌∷◌}
 use Rattle.record_server.specs.declared.server.TheConstants.{MOST_HANDED}
-use Rattle.record_server.specs.Server.{ServingState, Begins, Accepts, Visits, Leaves, Makes, Pushes, Passes, Ends}
+use Rattle.record_server.specs.Server.{ServingState, Begins, Accepts, Visits, Leaves, Makes, Misses, Pushes, Passes, Ends}
 use Rattle.record_server.specs.History.{Event, Does, Hands, Puts, Excuses}
 
 -- no round begins with it, nor ends all
@@ -11,8 +11,9 @@ IsInRound (Does (Accepts number coming went faults)) = ⊤
 IsInRound (Does (Visits came)) = ⊤
 IsInRound (Does Leaves) = ⊤
 IsInRound (Does (Makes number address coming went faults)) = ⊤
+IsInRound (Does (Misses address)) = ⊤
 IsInRound (Does (Pushes place)) = ⊤
-IsInRound (Does (Passes time)) = ⊤
+IsInRound (Does (Passes could time)) = ⊤
 IsInRound (Does Ends) = ⊥
 IsInRound (Hands number message) = ⊤
 IsInRound (Puts number message) = ⊤

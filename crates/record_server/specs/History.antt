@@ -1,5 +1,6 @@
 -- Whole histories of a server, and what they say of each connection.
 use Rattle.std.specs.Prelude.{⊤, ◌≡◌, ℕ, ◌==◌, Bool, true, false, if◌then◌else◌, List, [], ◌∷◌, ◌++◌, length, map, ◌<◌, ◌≤◌, ◌⊎◌, slice_get, Option, None, Some, Ok}
+use Rattle.std.specs.List.{All}
 use Rattle.record_link.specs.Stream.{Comes, gone_more}
 use Rattle.record_link.specs.Connection.{HasCome, HasGone, is_refused}
 use Rattle.record_link.specs.Peers.{PeerState}
@@ -7,7 +8,7 @@ use Rattle.rpc_record.specs.Frames.{max_record}
 use Rattle.device_addr.specs.declared.net_addr.NetAddr.{NetAddr}
 use Rattle.record_server.specs.declared.server.TheConstants.{MOST_OPEN}
 use Rattle.record_server.specs.Network.{Waiting, Made}
-use Rattle.record_server.specs.Server.{ServingState, no_connections, ServingStep, Begins, Accepts, Visits, Leaves, Makes, Pushes, Passes, Ends, DoesStep, HandsOn, PutsOn, ExcusesOn, GivesRecord, SendsRecord, Connects, Flushes, HasNoNumber}
+use Rattle.record_server.specs.Server.{ServingState, no_connections, ServingStep, Begins, Accepts, Visits, Leaves, Makes, Misses, Pushes, Passes, Ends, DoesStep, IsOfEnd, HandsOn, PutsOn, ExcusesOn, GivesRecord, SendsRecord, Connects, Flushes, HasNoNumber}
 
 -- what a server does
 pub data Event : Type 0 where
@@ -65,11 +66,12 @@ with_account accounts number a k = if k == number then a else accounts k
 abbrev pub account_step : ServingStep → Accounts → Accounts
 account_step (Accepts number to_come went faults) accounts = with_account accounts number (new_account to_come went)
 account_step (Makes number address to_come went faults) accounts = with_account accounts number (new_account to_come went)
+account_step (Misses address) accounts = accounts
 account_step (Begins time reported) accounts = accounts
 account_step (Visits came) accounts = accounts
 account_step Leaves accounts = accounts
 account_step (Pushes place) accounts = accounts
-account_step (Passes time) accounts = accounts
+account_step (Passes could time) accounts = accounts
 account_step Ends accounts = accounts
 
 abbrev pub account_event : Event → Accounts → Accounts
@@ -133,9 +135,10 @@ abbrev pub SendHappens : Type 0
 SendHappens = (old new : ServingState) (number : ℕ) (message : List ℕ) → SendsRecord number message old (Ok tt) new
     → (kept : Bool) × IsLost kept number message old × HasHappened (put_events kept number message) old new
 
--- a connection was made, or not
+-- a connection was made, or was to be made, or neither
 abbrev pub ConnectHappens : Type 0
 ConnectHappens = (address : NetAddr) (old new : ServingState) (result : Option ℕ) → Connects address old (Ok result) new → OnlySteps old new
 
+-- turns of the end, and behind them those on which something was still to go were closed
 abbrev pub FlushHappens : Type 0
-FlushHappens = (old new : ServingState) → Flushes old new → OnlySteps old new
+FlushHappens = (old new : ServingState) → Flushes old new → (steps : List ServingStep) × All IsOfEnd steps × HasHappened (map Does steps ++ Does Ends ∷ []) old new

@@ -15,7 +15,7 @@ abbrev pub ComesNext : Waiting → Option (List ℕ) → Waiting → Type 0
 ComesNext None coming new = new ≡ None
 ComesNext (Some waiting) coming new = (rest : List (Option (List ℕ))) × (waiting ≡ coming ∷ rest) × (new ≡ Some rest)
 
--- the connections that were made, by number, and to which address, in order, where the network tells them
+-- the tries to make a connection, in order, where the network tells them: its number, or 0 where none was made, and to which address
 abbrev pub Made : Type 0
 Made = Option (List (ℕ × NetAddr))
 
@@ -23,10 +23,10 @@ abbrev pub made_more : Made → ℕ → NetAddr → Made
 made_more None number address = None
 made_more (Some made) number address = Some (made ++ (number, address) ∷ [])
 
--- what making a connection did to them
+-- what a try to make a connection did to them
 abbrev pub MakesOne : {T : Type 0} → Made → ℕ → NetAddr → Result (Option T) NoMemory → Made → Type 0
 MakesOne made number address (Ok (Some conn)) new = new ≡ made_more made number address
-MakesOne made number address (Ok None) new = new ≡ made
+MakesOne made number address (Ok None) new = new ≡ made_more made 0 address
 MakesOne made number address (Err e) new = new ≡ made
 
 -- the count of faults after a call with this result
@@ -38,6 +38,7 @@ refused_more (Err refused.Busy) n = n
 refused_more (Err refused.Fault) n = one_more n
 refused_more (Err refused.NoMemory) n = n
 
+-- the count of faults after a wait that could be, or could not
 abbrev pub waited_more : Bool → ℕ → ℕ
 waited_more true n = n
 waited_more false n = one_more n

@@ -3,8 +3,8 @@
 -- A round begins when each connection was visited in the one before: those that are over are closed, the network is asked what may be done,
 -- and what waits is accepted. Then each connection in order is visited: what is to go on it is written, and it is read once. Records that
 -- are whole are handed out of the one that was visited last, so many at most, and what was put on it then is written before the next visit.
-use Rattle.std.specs.Prelude.{◌≡◌, ◌≢◌, ◌⊎◌, ⊤, ℕ, ◌+◌, ◌-◌, ◌^◌, ◌<◌, ◌≤◌, ◌==◌, max, Bool, true, false, not, if◌then◌else◌, List, [], ◌∷◌, ◌++◌, length, map, take, drop, slice_get, slice_set, Option, None, Some, Result, Ok, Err}
-use Rattle.std.specs.List.{filter, list_any, All}
+use Rattle.std.specs.Prelude.{◌≡◌, ◌≢◌, ◌⊎◌, ⊤, ℕ, ◌+◌, ◌-◌, ◌^◌, ◌<◌, ◌≤◌, ◌==◌, ◌||◌, max, Bool, true, false, not, if◌then◌else◌, List, [], ◌∷◌, ◌++◌, length, map, take, drop, slice_get, slice_set, Option, None, Some, Result, Ok, Err}
+use Rattle.std.specs.List.{filter, list_all, list_any, All}
 use Rattle.ff_xdr.specs.declared.error.NoMemory.{NoMemory}
 use Rattle.device_addr.specs.declared.net_addr.NetAddr.{NetAddr}
 use Rattle.rpc_record.specs.declared.stream.Failed.{Failed}
@@ -13,11 +13,11 @@ use Rattle.rpc_record.specs.Stream.{one_more}
 use Rattle.rpc_record.specs.Frames.{max_record}
 use Rattle.record_link.specs.Peers.{PeerState, new_peer, is_ready, is_to_close, is_spare, is_to_write, resumed, excused_peer, HandsPeer, PutsPeer, WritesIf, VisitsPeer}
 use Rattle.record_server.specs.declared.server.TheConstants.{MAX_CONNECTIONS, MOST_HANDED, MOST_OPEN}
-use Rattle.record_server.specs.Network.{Waiting, Made, ComesNext, made_more}
+use Rattle.record_server.specs.Network.{Waiting, Made, ComesNext, made_more, waited_more}
 
 -- The connections in the order of their numbers, each with what its own stream tells; how many numbers are given; the time in
 -- milliseconds; how many connections were visited in this round; how many records were handed out of the last of them since; what those
--- that are still to be accepted will give; those that were made, and to which addresses;
+-- that are still to be accepted will give; the tries to make one, and to which addresses;
 -- what the network reported last, and the last moment that it gave; and how many calls of the network have met a fault.
 pub record ServingState : Type 0 where
   pub peers : List PeerState
@@ -123,10 +123,12 @@ pub data ServingStep : Type 0 where
   Leaves : ServingStep
   -- a connection was made to an address under this number, whose stream tells this
   Makes : (number : ℕ) (address : NetAddr) (coming went : Option (List ℕ)) (faults : ℕ) → ServingStep
+  -- one was to be made to an address, and none was
+  Misses : (address : NetAddr) → ServingStep
   -- at the end of all: what is to go on the connection at this place was written
   Pushes : (place : ℕ) → ServingStep
-  -- at the end of all: the clock shows this
-  Passes : (time : ℕ) → ServingStep
+  -- at the end of all: it was waited, or could not be, and the clock shows this
+  Passes : (could : Bool) (time : ℕ) → ServingStep
   -- at the end of all: those on which something is still to go were closed
   Ends : ServingStep
 
@@ -145,10 +147,12 @@ DoesStep Leaves old new =
     × WritesIf (is_to_write old.time e) old.time e after × (new ≡ with_peer old p after)
 DoesStep (Makes number address coming went faults) old new =
     (length old.peers < MOST_OPEN) × (number ≡ old.given + 1) × (number < 2 ^ 32) × (new ≡ record (with_opened old old.peers number coming went faults) { made = made_more old.made number address })
+DoesStep (Misses address) old new = new ≡ record old { made = made_more old.made 0 address }
 DoesStep (Pushes place) old new =
     (e : PeerState) × (after : PeerState) × (slice_get old.peers place ≡ Some e)
     × WritesIf (is_to_write old.time (resumed e)) old.time (resumed e) after × (new ≡ with_peer old place after)
-DoesStep (Passes time) old new = (old.moment ≤ time) × (new ≡ record old { time = max old.time time; reported = new.reported; moment = time; faults = new.faults })
+DoesStep (Passes could time) old new =
+    (old.moment ≤ time) × (new ≡ record old { time = max old.time time; reported = new.reported; moment = time; faults = waited_more could old.faults })
 DoesStep Ends old new = new ≡ record old { peers = filter (λ e. length e.connection.to_go == 0) old.peers; place = 0; handed = 0 }
 
 -- it is one of a round
@@ -158,20 +162,22 @@ IsOfRound (Accepts number coming went faults) = ⊤
 IsOfRound (Visits came) = ⊤
 IsOfRound Leaves = ⊤
 IsOfRound (Makes number address coming went faults) = ⊥
+IsOfRound (Misses address) = ⊥
 IsOfRound (Pushes place) = ⊥
-IsOfRound (Passes time) = ⊥
+IsOfRound (Passes could time) = ⊥
 IsOfRound Ends = ⊥
 
--- it is one of the end
+-- it is one of a turn at the end, before the last of all
 abbrev pub IsOfEnd : ServingStep → Type 0
 IsOfEnd (Begins time reported) = ⊥
 IsOfEnd (Accepts number coming went faults) = ⊥
 IsOfEnd (Visits came) = ⊥
 IsOfEnd Leaves = ⊥
 IsOfEnd (Makes number address coming went faults) = ⊥
+IsOfEnd (Misses address) = ⊥
 IsOfEnd (Pushes place) = ⊤
-IsOfEnd (Passes time) = ⊤
-IsOfEnd Ends = ⊤
+IsOfEnd (Passes could time) = ⊤
+IsOfEnd Ends = ⊥
 
 -- what steps do, one after the other
 abbrev pub RunsSteps : List ServingStep → ServingState → ServingState → Type 0
@@ -323,11 +329,12 @@ pub record ExcusesOn (number : ℕ) (old new : ServingState) : Type 0 where
 abbrev pub ExcusesCall : ℕ → ServingState → ServingState → Type 0
 ExcusesCall number old new = ExcusesOn number old new ⊎ (HasNoNumber number old.peers × (new ≡ old))
 
--- what making a connection to an address did: it is open under the next number; or it cannot be made now
+-- What making a connection to an address did: it is open under the next number. Or there is none: as many are open as may be, or all
+-- numbers are given; or the network was asked for it and made none.
 abbrev pub Connects : NetAddr → ServingState → Result (Option ℕ) NoMemory → ServingState → Type 0
 Connects address old (Ok (Some number)) new =
     (coming : Option (List ℕ)) × (went : Option (List ℕ)) × (faults : ℕ) × DoesStep (Makes number address coming went faults) old new
-Connects address old (Ok None) new = new ≡ old
+Connects address old (Ok None) new = (((MOST_OPEN ≤ length old.peers) ⊎ (old.given ≡ 2 ^ 32 - 1)) × (new ≡ old)) ⊎ DoesStep (Misses address) old new
 Connects address old (Err e) new = new ≡ old
 
 -- nothing is to go on any connection
@@ -339,6 +346,38 @@ abbrev pub PushesAt : ℕ → ℕ → List PeerState → List PeerState → Type
 PushesAt place time old new =
     (e : PeerState) × (after : PeerState) × (slice_get old place ≡ Some e) × WritesIf (is_to_write time (resumed e)) time (resumed e) after × (new ≡ slice_set old place after)
 
--- what flushing did: steps of the end, behind which nothing is to go
+-- nothing is to go, but on connections that are to be closed
+abbrev pub has_settled : List PeerState → Bool
+has_settled peers = list_all (λ e. length e.connection.to_go == 0 || is_to_close e) peers
+
+-- a push for each of these connections, in order, of which the first stands at a place
+abbrev pub pushes_from : ℕ → List PeerState → List ServingStep
+pushes_from place [] = []
+pushes_from place (e ∷ es) = Pushes place ∷ pushes_from (place + 1) es
+
+-- what is to go on each connection was written, in order, if it would go
+abbrev pub PushesAll : ServingState → ServingState → Type 0
+PushesAll old new = RunsSteps (pushes_from 0 old.peers) old new
+
+-- Where all is settled nothing more was done, and none is to come. Else it was waited, and the answer is whether it could be.
+abbrev pub PassesUnless : Bool → ServingState → Bool → ServingState → Type 0
+PassesUnless true old goes_on new = (goes_on ≡ false) × (new ≡ old)
+PassesUnless false old goes_on new = (time : ℕ) × DoesStep (Passes goes_on time) old new
+
+-- what one turn of flushing did, and whether another is to come
+abbrev pub PushesOn : ServingState → Bool → ServingState → Type 0
+PushesOn old goes_on new = (mid : ServingState) × PushesAll old mid × PassesUnless (has_settled mid.peers) mid goes_on new
+
+-- turns behind each of which another is to come, with what each of them left
+abbrev pub PushesTurns : List ServingState → ServingState → ServingState → Type 0
+PushesTurns [] old new = new ≡ old
+PushesTurns (mid ∷ mids) old new = PushesOn old true mid × PushesTurns mids mid new
+
+-- turns of flushing, up to one behind which none is to come, or very many
+abbrev pub PushesOut : ServingState → ServingState → Type 0
+PushesOut old new =
+    (mids : List ServingState) × (last : ServingState) × PushesTurns mids old last × (PushesOn last false new ⊎ ((length mids ≡ 2 ^ 64 - 1) × (new ≡ last)))
+
+-- What flushing did: turns, and behind them those on which something is still to go were closed. So nothing is to go.
 abbrev pub Flushes : ServingState → ServingState → Type 0
-Flushes old new = GoesBy IsOfEnd 0 old new × HasGivenAll new
+Flushes old new = ((last : ServingState) × PushesOut old last × DoesStep Ends last new) × HasGivenAll new

@@ -1,9 +1,7 @@
 //! The end of a server: what is to go goes.
 
-ghost use Rattle.std.specs.Prelude.{◌≡◌, ◌<◌, ◌==◌, ◌||◌, length};
-ghost use Rattle.std.specs.List.{list_all};
-ghost use Rattle.record_link.specs.Peers.{is_to_close};
-ghost use Rattle.record_server.specs.Server.{Flushes, GoesBy, IsOfEnd, PushesAt};
+ghost use Rattle.std.specs.Prelude.{◌≡◌, ◌<◌, ℕ, length};
+ghost use Rattle.record_server.specs.Server.{DoesStep, Ends, Flushes, HasGivenAll, Passes, PushesAll, PushesAt, PushesOn, has_settled};
 
 use crate::network::Network;
 use crate::rounds::WAIT;
@@ -22,7 +20,7 @@ fn push_at<S: Stream>(peers: &mut [Peer<S>], place: usize, time: u64)
 
 /// Nothing is to go on any connection, but on those that are over.
 fn has_settled<S: Stream>(peers: &[Peer<S>]) -> bool
-    ensures { result ≡ list_all (λ e. length e.connection.to_go == 0 || is_to_close e) peers.now }
+    ensures { result ≡ has_settled peers.now }
 {
     peers
         .iter()
@@ -46,7 +44,7 @@ impl<N: Network + Drop> RecordServer<N> {
     /// Writes once what is to go on each connection, and waits where that is not all that will. Answers
     /// whether more may go.
     fn push_on(&mut self) -> bool
-        ensures { GoesBy IsOfEnd 0 self.old self.new }
+        ensures { PushesOn self.old result self.new }
     {
         self.push_all();
         if has_settled(&self.peers) {
@@ -55,9 +53,9 @@ impl<N: Network + Drop> RecordServer<N> {
         self.pass()
     }
 
-    /// Writes once what is to go on each connection.
+    /// Writes once what is to go on each connection, in order.
     fn push_all(&mut self)
-        ensures { GoesBy IsOfEnd 0 self.old self.new }
+        ensures { PushesAll self.old self.new }
     {
         let time = self.time;
         for place in 0..self.peers.len() {
@@ -67,7 +65,7 @@ impl<N: Network + Drop> RecordServer<N> {
 
     /// Waits until something may be written. Answers whether it could.
     fn pass(&mut self) -> bool
-        ensures { GoesBy IsOfEnd 0 self.old self.new }
+        ensures { (time : ℕ) × DoesStep (Passes result time) self.old self.new }
     {
         let could = self.network.wait(WAIT);
         self.time = self.time.max(self.network.time());
@@ -76,7 +74,8 @@ impl<N: Network + Drop> RecordServer<N> {
 
     /// Closes the connections on which something is to go.
     fn close_owing(&mut self)
-        ensures { Flushes self.old self.new }
+        ensures ends { DoesStep Ends self.old self.new }
+        ensures given { HasGivenAll self.new }
     {
         self.peers.retain(|peer| peer.waiting() == 0);
         self.place = 0;

@@ -14,11 +14,12 @@ use std::collections::VecDeque;
 /// A network that gives what it was told to: to each `accept` the next of some streams or refusals, and none
 /// behind them; to each `connect` the next of others, and none behind them. Each wait takes the next of some
 /// times, `None` being that it fails, and behind them as long as it may; it reports nothing, so that all is
-/// tried. It tells which connections it made, and to which addresses.
+/// tried. It tells each try to make a connection.
 #[derive(Drop)]
 pub struct MemoryNetwork {
     coming: VecDeque<Result<MemoryStream, Refused>>,
     to_make: VecDeque<Option<MemoryStream>>,
+    // each try to make a connection: its number, or 0 where none was made, and to which address
     made: Vec<(u32, NetAddr)>,
     waits: VecDeque<Option<u64>>,
     // its clock, which its waits set forward
@@ -57,7 +58,7 @@ impl MemoryNetwork {
 }
 
 impl MemoryNetwork {
-    /// The connections that it made, by number, and to which address.
+    /// The tries to make a connection, in order: its number, or 0 where none was made, and to which address.
     pub fn made(&self) -> &[(u32, NetAddr)]
         ensures { result.now ≡ self.now.made.items }
     {
@@ -96,6 +97,7 @@ impl Network for MemoryNetwork {
 
     fn connect(&mut self, number: u32, address: NetAddr) -> Result<Option<MemoryStream>, NoMemory> {
         let Some(Some(stream)) = self.to_make.pop_front() else {
+            self.made.push((0, address))?;
             return Ok(None);
         };
         self.made.push((number, address))?;

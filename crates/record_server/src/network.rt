@@ -47,7 +47,8 @@ pub trait Network {
     /// where one may be accepted.
     ghost reported: { Self → List ℕ };
 
-    /// The connections that it made, by number, and to which address, in order, where it tells them.
+    /// The tries to make a connection, in order, where it tells them: its number, or 0 where none was
+    /// made, and to which address.
     ghost made: { Self → Made };
 
     /// How many calls have met a fault. The count stands still at `u64::MAX`.

@@ -13,4 +13,4 @@ invariant-loop-place g l = IsPushing l.fn.self (record {
   reported = g.N.Network.reported l.self-inside.network;
   moment = g.N.Network.moment l.self-inside.network;
   faults = g.N.Network.faults l.self-inside.network;
-}) l.time l.place-end
+}) l.time l.place
