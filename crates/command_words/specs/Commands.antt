@@ -74,12 +74,12 @@ IsInGrammar (Get name) = IsCommandName name
 IsInGrammar command = ⊤
 
 -- the words spell a command of the grammar
-pub record AsksFor (words : List (List ℕ)) (command : CommandValue) : Type 0 where
+pub record AsksForCommand (words : List (List ℕ)) (command : CommandValue) : Type 0 where
   pub in_grammar : IsInGrammar command
   pub spelled : Contains (spellings (command_word command) (operand_word command)) words
 
 -- The command that the words ask for was found; or there is none. Where memory was wanted it says nothing.
 abbrev pub FindsCommand : List (List ℕ) → Result (Option Command) NoMemory → Type 0
-FindsCommand words (Ok (Some command)) = AsksFor words (command_value command)
-FindsCommand words (Ok None) = (command : CommandValue) → AsksFor words command → ⊥
+FindsCommand words (Ok (Some command)) = AsksForCommand words (command_value command)
+FindsCommand words (Ok None) = (command : CommandValue) → AsksForCommand words command → ⊥
 FindsCommand words (Err e) = ⊤

@@ -1,5 +1,6 @@
 -- What the steps of reading say: a first word with an operand, a number and a name.
-use Rattle.std.specs.Prelude.{◌≡◌, ◌<◌, ◌^◌, ℕ, List, Option, Some, None, decimal}
+use Rattle.std.specs.Prelude.{◌≡◌, ◌<◌, ◌^◌, ◌&&◌, ℕ, Bool, false, List, [], ◌∷◌, Option, Some, None, codes, decimal}
+use Rattle.std.specs.Str.{bytes_eq}
 use Rattle.command_words.specs.declared.command.Command.{Command}
 use Rattle.command_words.specs.Commands.{CommandValue, command_value, command_word, operand_word, IsInGrammar, IsCommandName}
 
@@ -23,3 +24,10 @@ FindsNumber word None = (number : ℕ) → number < 2 ^ 64 → ¬ (word ≡ deci
 abbrev pub FindsName : List ℕ → Option (List ℕ) → Type 0
 FindsName word (Some name) = (name ≡ word) × IsCommandName word
 FindsName word None = ¬ (IsCommandName word)
+
+-- the words are this first word and this operand, with `--` between them or not
+abbrev pub are_spelled : List (List ℕ) → List ℕ → Option (List ℕ) → Bool
+are_spelled (first ∷ []) word None = bytes_eq first word
+are_spelled (first ∷ last ∷ []) word (Some operand) = bytes_eq first word && bytes_eq last operand
+are_spelled (first ∷ dashes ∷ last ∷ []) word (Some operand) = (bytes_eq first word && bytes_eq dashes (codes "--")) && bytes_eq last operand
+are_spelled words word operand = false

@@ -29,7 +29,7 @@ pub enum Command<'a> {
 }
 
 /// The command of this first word and of the word behind it.
-pub(crate) fn command_of<'a>(word: &str, operand: Option<&'a str>) -> Option<Command<'a>>
+pub(crate) fn command_from<'a>(word: &str, operand: Option<&'a str>) -> Option<Command<'a>>
     ensures { FindsParts word.now (option_map (λ o. o.now) operand.entry) result }
 {
     match (word, operand) {

@@ -2,6 +2,7 @@
 #![tactic(auto)]
 
 mod command;
+mod grammar;
 mod law;
 mod words;
 

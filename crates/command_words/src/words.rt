@@ -1,27 +1,38 @@
 //! What words ask for.
 
-ghost use Rattle.std.specs.Prelude.{map};
+ghost use Rattle.std.specs.Prelude.{◌≡◌, map, option_map};
 ghost use Rattle.std.specs.String.{string_bytes};
 ghost use Rattle.command_words.specs.Commands.{FindsCommand};
+ghost use Rattle.command_words.specs.Spelled.{are_spelled};
 
-use crate::command::{Command, command_of};
+use crate::command::{Command, command_from};
+use crate::grammar::parts_met;
 use ff_xdr::NoMemory;
 use std::alloc::Global;
 
-/// What the words behind the program's name ask for. `None` is that they are no command. Takes no memory.
-pub fn asked<'a>(_alloc: Global, words: &'a [String]) -> Result<Option<Command<'a>>, NoMemory>
+/// What the words behind the program's name ask for. `None` is that they are no command.
+pub fn asked<'a>(alloc: Global, words: &'a [String]) -> Result<Option<Command<'a>>, NoMemory>
     ensures { FindsCommand (map string_bytes words.now) result }
 {
-    match words {
-        [] => Ok(None),
-        [word] => Ok(command_of(word.as_str(), None)),
-        [word, operand] => Ok(command_of(word.as_str(), Some(operand.as_str()))),
-        [word, dashes, operand] => {
-            if dashes.as_str() != "--" {
-                return Ok(None);
-            }
-            Ok(command_of(word.as_str(), Some(operand.as_str())))
+    let Some((word, operand)) = parts_met(alloc, words)? else {
+        return Ok(None);
+    };
+    if !are_spelled(words, word, operand) {
+        return Ok(None);
+    }
+    Ok(command_from(word, operand))
+}
+
+/// The words are the first word and the operand, `--` before it or not.
+fn are_spelled(words: &[String], word: &str, operand: Option<&str>) -> bool
+    ensures { result ≡ are_spelled (map string_bytes words.now) word.now (option_map (λ o. o.now) operand.entry) }
+{
+    match (words, operand) {
+        ([first], None) => first.as_str() == word,
+        ([first, last], Some(operand)) => first.as_str() == word && last.as_str() == operand,
+        ([first, dashes, last], Some(operand)) => {
+            first.as_str() == word && dashes.as_str() == "--" && last.as_str() == operand
         }
-        _ => Ok(None),
+        _ => false,
     }
 }
