@@ -13,7 +13,7 @@ use journal_print::Mode;
 pub enum Command<'a> {
     /// Run a script, and print its trace in this mode.
     Replay(Mode),
-    /// Print the script of this number, 0 to 18,446,744,073,709,551,615.
+    /// Print a script that is made from this number, 0 to 18,446,744,073,709,551,615.
     Gen(u64),
     /// Say what records are.
     Show,

@@ -10,7 +10,10 @@ use crate::grammar::parts_met;
 use ff_xdr::NoMemory;
 use std::alloc::Global;
 
-/// What the words behind the program's name ask for. `None` is that they are no command.
+/// What the words behind the program's name ask for. `None` is that they are no command, and `NoMemory`
+/// that memory to read them was wanted. A number is 0 to 18,446,744,073,709,551,615 in decimal, with no
+/// sign and no leading zero; a name is 1 to 255 letters, digits, `.`, `_` and `-`, and begins with `-` only
+/// if it is `-`. One `--` before such a word, or before `brief` and `count`, means nothing.
 pub fn asked<'a>(alloc: Global, words: &'a [String]) -> Result<Option<Command<'a>>, NoMemory>
     ensures { FindsCommand (map string_bytes words.now) result }
 {
