@@ -13,3 +13,4 @@ mod words;
 pub use event::ClusterEvent;
 pub use line::{parse_cluster, parse_event};
 pub use sizes::ClusterSizes;
+pub use words::name_at;
