@@ -1,5 +1,5 @@
 -- How serving goes on from turn to turn.
-use Rattle.std.proofs.Common.{◌≡◌, inl, inr, ℕ, ◌+◌, ◌-◌, ◌<◌, ◌≤◌, true, false, ◌⊎◌, List, [], ◌∷◌, ◌++◌, length, map, take, Option, Some, None, Result, Ok, Err, refl, sym, ap, subst, ◌∙◌, arith, eqb, append_assoc, append-nil}
+use Rattle.std.proofs.Common.{◌≡◌, inl, inr, ℕ, ◌+◌, ◌-◌, ◌<◌, ◌≤◌, true, false, Bool, ◌⊎◌, List, [], ◌∷◌, ◌++◌, length, map, take, Option, Some, None, Result, Ok, Err, refl, sym, ap, subst, ◌∙◌, arith, eqb, append_assoc, append-nil}
 use Rattle.std.specs.Prelude.{IsErr}
 use Rattle.std.proofs.lemmas.List.{take_at, length-append}
 use Rattle.std.proofs.lemmas.Bool.{eq-eqb, ne_eqb}
@@ -15,20 +15,20 @@ use Rattle.node_link.specs.Clock.{GivesMoment}
 use Rattle.node_link.specs.Link.{Gives, HandsOver}
 use Rattle.ff_node.specs.declared.end.NodeEnd.{NodeEnd}
 use Rattle.ff_node.specs.declared.end.NodeEnd.TheVariants as ends
-use Rattle.ff_node.specs.Nodes.{NodeEvent, NodeRule, SentRecords, state_after, sends_over, gives_none}
-use Rattle.ff_node.specs.Serve.{Beside, beside, sent_more, TakesFront, GivesMoments, is_closed, Served, NodeServes, Stops, BreaksOff, FindsClosed, TakesTurn, SendsAll, FailsIn, end_of_outcome, last_end, end_of_link, end_of_event, link_faults, node_faults}
+use Rattle.ff_node.specs.Nodes.{NodeEvent, NodeRule, SentRecords, state_after, sends_over, text_over, gives_none}
+use Rattle.ff_node.specs.Serve.{Beside, beside, behind, TakesFront, GivesMoments, is_closed, Served, NodeServes, Stops, BreaksOff, FindsClosed, TakesTurn, SendsAll, FailsIn, end_of_outcome, last_end, end_of_link, end_of_event, link_faults, sink_faults}
 
 -- ---- what is sent
 
-pub more_more : (s : Option SentRecords) (xs ys : SentRecords) → sent_more (sent_more s xs) ys ≡ sent_more s (xs ++ ys)
+pub more_more : {X : Type 0} (s : Option (List X)) (xs ys : List X) → behind (behind s xs) ys ≡ behind s (xs ++ ys)
 more_more None xs ys = refl
 more_more (Some sent) xs ys = ap Some (append_assoc sent xs ys)
 
-pub no_more : (s : Option SentRecords) → sent_more s [] ≡ s
+pub no_more : {X : Type 0} (s : Option (List X)) → behind s [] ≡ s
 no_more None = refl
 no_more (Some sent) = ap Some (append-nil sent)
 
-pub sends_ok : (s : Option SentRecords) (to : NodeId) (bytes : List ℕ) (x : Unit {0}) (s' : Option SentRecords) → HandsOver s to bytes (Ok x) s' → s' ≡ sent_more s ((to, bytes) ∷ [])
+pub sends_ok : (s : Option SentRecords) (to : NodeId) (bytes : List ℕ) (x : Unit {0}) (s' : Option SentRecords) → HandsOver s to bytes (Ok x) s' → s' ≡ behind s ((to, bytes) ∷ [])
 sends_ok None to bytes x s' h = h
 sends_ok (Some sent) to bytes x s' h = h
 
@@ -38,12 +38,12 @@ sends_err (Some sent) to bytes e s' h = h
 
 -- those before an item were sent, and that one was not
 pub stopped : (s0 s s' : Option SentRecords) (records yielded rest : SentRecords) (item : NodeId × List ℕ) (r : Result (Unit {0}) NoMemory) → IsErr r → yielded ++ item ∷ rest ≡ records
-    → s ≡ sent_more s0 yielded → s' ≡ s → SendsAll s0 records r s'
+    → s ≡ behind s0 yielded → s' ≡ s → SendsAll s0 records r s'
 stopped s0 s s' records yielded rest item (Ok x) err all before same = absurd (cc (err))
 stopped s0 s s' records yielded rest item (Err e) err all before same = (
   length yielded,
   omega (arith, ap length all, length-append yielded (item ∷ rest)),
-  same ∙ before ∙ ap (sent_more s0) (sym (ap (take (length yielded)) (sym all) ∙ take_at yielded (item ∷ rest) (length yielded) refl)),
+  same ∙ before ∙ ap (behind s0) (sym (ap (take (length yielded)) (sym all) ∙ take_at yielded (item ∷ rest) (length yielded) refl)),
 )
 
 -- a reply is one record more
@@ -54,9 +54,13 @@ none_given old from (Some reply) new before after was is sends = ne_eqb after be
 
 -- ---- what is beside a node
 
-pub same_beside : (coming coming' : Option (List Arrival)) (sent sent' : Option SentRecords) (moments : Option (List ℕ)) (moment : ℕ) → coming' ≡ coming → sent' ≡ sent
-    → beside coming' sent' moments moment ≡ beside coming sent moments moment
-same_beside coming coming' sent sent' moments moment same-coming same-sent = rw (same-coming, same-sent) refl
+pub same_beside : (coming coming' : Option (List Arrival)) (sent sent' : Option SentRecords) (moments : Option (List ℕ)) (moment : ℕ) (held : Option (List ℕ)) → coming' ≡ coming → sent' ≡ sent
+    → beside coming' sent' moments moment held ≡ beside coming sent moments moment held
+same_beside coming coming' sent sent' moments moment held same-coming same-sent = rw (same-coming, same-sent) refl
+
+-- with another link's state, all else is as it was
+pub link_only : (b : Beside) (coming' : Option (List Arrival)) (sent' : Option SentRecords) → sent' ≡ b.sent → beside coming' sent' b.moments b.moment b.held ≡ record b { coming = coming' }
+link_only b coming' sent' same = rw (same) refl
 
 -- this arrival came, and then these
 front_more : (a : Arrival) (coming next : Option (List Arrival)) (others : List Arrival) (last : Option (List Arrival)) → is_closed a ≡ false → Gives coming (Ok a) next → TakesFront next others last → TakesFront coming (a ∷ others) last
@@ -87,7 +91,7 @@ finds_closed a (Some (first ∷ rest)) coming' closed gives = (ap is_closed (sym
 abbrev pub Clocked : Option (List ℕ) → ℕ → ℕ → Option (List ℕ) → ℕ → Type 0
 Clocked moments last m moments' last' = (last ≤ m) × GivesMoment moments last m moments' × (last' ≡ m)
 
-module _ {S : Type 0} (rule : NodeRule S) (spoils : S → NodeEvent → Failed → S → Type 0) where
+module _ {S : Type 0} (rule : NodeRule S) where
   -- ---- nothing was taken
 
   pub served_none : (s : S) (b : Beside) → Served rule s b s b
@@ -99,21 +103,23 @@ module _ {S : Type 0} (rule : NodeRule S) (spoils : S → NodeEvent → Failed �
     going = tt;
     state = refl;
     sends = sym (no_more b.sent);
+    text = sym (no_more b.held);
   }
 
-  pub stops_now : (left : ℕ) (s : S) (b : Beside) (end : NodeEnd) (s' : S) (b' : Beside) → Stops rule spoils left s b end s' b' → NodeServes rule spoils s left b end s' b'
+  pub stops_now : (left : ℕ) (s : S) (b : Beside) (end : NodeEnd) (s' : S) (b' : Beside) → Stops rule left s b end s' b' → NodeServes rule s left b end s' b'
+  unfolding served_none
   stops_now left s b end s' b' stops = record { mid = s; beside_mid = b; served = served_none s b; left = left; turns_are = omega arith; stops = stops }
 
-  pub turn_ended : (s : S) (b : Beside) (end : NodeEnd) (r : Result (Unit {0}) FailCause) → rule.outcome s ≡ Some r → end ≡ end_of_outcome r → TakesTurn rule spoils s b (Some end) s b
+  pub turn_ended : (s : S) (b : Beside) (end : NodeEnd) (r : Result (Unit {0}) FailCause) → rule.outcome s ≡ Some r → end ≡ end_of_outcome r → TakesTurn rule s b (Some end) s b
   turn_ended s b end r ended is = λ turns. stops_now (turns + 1) s b end s b (inl (r, ended, is, refl, refl))
 
-  pub turn_failed : (s : S) (b b' : Beside) (end : NodeEnd) (e : Failed) → rule.outcome s ≡ None → end ≡ end_of_link e → Gives b.coming (Err e) b'.coming → b' ≡ record b { coming = b'.coming } → TakesTurn rule spoils s b (Some end) s b'
+  pub turn_failed : (s : S) (b b' : Beside) (end : NodeEnd) (e : Failed) → rule.outcome s ≡ None → end ≡ end_of_link e → Gives b.coming (Err e) b'.coming → b' ≡ record b { coming = b'.coming } → TakesTurn rule s b (Some end) s b'
   turn_failed s b b' end e goes is gives rest = λ turns.
       let same : b' ≡ b = rest ∙ ap (λ c. record b { coming = c }) (gives_err b.coming b'.coming e gives) in
       stops_now (turns + 1) s b end s b' (inr (goes, inr (omega arith, inl (e, is, refl, same))))
 
   pub turn_closed : (s : S) (b b' : Beside) (end : NodeEnd) (a : Arrival) → rule.outcome s ≡ None → end ≡ last_end rule.is_server → is_closed a ≡ true → Gives b.coming (Ok a) b'.coming → b' ≡ record b { coming = b'.coming }
-      → TakesTurn rule spoils s b (Some end) s b'
+      → TakesTurn rule s b (Some end) s b'
   turn_closed s b b' end a goes is closed gives rest = λ turns.
       stops_now (turns + 1) s b end s b' (inr (goes, inl (is, inr (omega arith, refl, finds_closed a b.coming b'.coming closed gives, rest))))
 
@@ -121,7 +127,7 @@ module _ {S : Type 0} (rule : NodeRule S) (spoils : S → NodeEvent → Failed �
 
   module _ (e : NodeEvent) (s : S) (b b' : Beside) (goes : rule.outcome s ≡ None) (live : is_closed e.arrival ≡ false) (gives : Gives b.coming (Ok e.arrival) b'.coming)
     (clocked : Clocked b.moments b.moment e.moment b'.moments b'.moment) where
-    pub turn_broken : (s' : S) (end : NodeEnd) (error : Failed) → end ≡ end_of_event error → FailsIn rule spoils s e b.sent error s' b'.sent → TakesTurn rule spoils s b (Some end) s' b'
+    pub turn_broken : (s' : S) (end : NodeEnd) (error : Failed) → end ≡ end_of_event error → FailsIn rule s e b.sent b.held error b'.sent b'.held → TakesTurn rule s b (Some end) s' b'
     turn_broken s' end error is fails = λ turns.
         stops_now (turns + 1) s b end s' b' (inr (goes, inr (omega arith, inr (record {
           event = e;
@@ -133,9 +139,11 @@ module _ {S : Type 0} (rule : NodeRule S) (spoils : S → NodeEvent → Failed �
           end_is = is;
         }))))
 
-    served_more : (s' : S) (last : Beside) → b'.sent ≡ sent_more b.sent (rule.step s e).1 → Served rule (rule.step s e).0 b' s' last → Served rule s b s' last
-    served_more s' last sends served =
-        let over = sends_over rule (rule.step s e).0 served.taken in
+    served_more : (s' : S) (last : Beside) → b'.sent ≡ behind b.sent (rule.step s e).sends → b'.held ≡ behind b.held (rule.step s e).text → Served rule (rule.step s e).state b' s' last → Served rule s b s' last
+    served_more s' last sends text served =
+        let after = (rule.step s e).state in
+        let over = sends_over rule after served.taken in
+        let written = text_over rule after served.taken in
         let moments = map (λ (x : NodeEvent). x.moment) served.taken in
         record {
           taken = e ∷ served.taken;
@@ -144,30 +152,32 @@ module _ {S : Type 0} (rule : NodeRule S) (spoils : S → NodeEvent → Failed �
           live = (live, served.live);
           going = (goes, served.going);
           state = served.state;
-          sends = served.sends ∙ ap (λ l. sent_more l over) sends ∙ more_more b.sent (rule.step s e).1 over;
+          sends = served.sends ∙ ap (λ l. behind l over) sends ∙ more_more b.sent (rule.step s e).sends over;
+          text = served.text ∙ ap (λ l. behind l written) text ∙ more_more b.held (rule.step s e).text written;
         }
 
     -- whatever serving does from there on, it did from before
-    serves_more : (turns : ℕ) (end : NodeEnd) (s'' : S) (b'' : Beside) → b'.sent ≡ sent_more b.sent (rule.step s e).1 → NodeServes rule spoils (rule.step s e).0 turns b' end s'' b'' → NodeServes rule spoils s (turns + 1) b end s'' b''
+    serves_more : (turns : ℕ) (end : NodeEnd) (s'' : S) (b'' : Beside) → b'.sent ≡ behind b.sent (rule.step s e).sends → b'.held ≡ behind b.held (rule.step s e).text
+        → NodeServes rule (rule.step s e).state turns b' end s'' b'' → NodeServes rule s (turns + 1) b end s'' b''
     unfolding served_more
-    serves_more turns end s'' b'' sends serves = record {
+    serves_more turns end s'' b'' sends text serves = record {
       mid = serves.mid;
       beside_mid = serves.beside_mid;
-      served = served_more serves.mid serves.beside_mid sends serves.served;
+      served = served_more serves.mid serves.beside_mid sends text serves.served;
       left = serves.left;
       turns_are = let turns_are = serves.turns_are in omega (arith, turns_are);
       stops = serves.stops;
     }
 
-    pub turn_goes_on : (mid : S) → mid ≡ (rule.step s e).0 → b'.sent ≡ sent_more b.sent (rule.step s e).1 → TakesTurn rule spoils s b None mid b'
-    turn_goes_on mid state sends = λ turns end s'' b'' serves. serves_more turns end s'' b'' sends (subst (λ (m : S). NodeServes rule spoils m turns b' end s'' b'') state serves)
+    pub turn_goes_on : (mid : S) → mid ≡ (rule.step s e).state → b'.sent ≡ behind b.sent (rule.step s e).sends → b'.held ≡ behind b.held (rule.step s e).text → TakesTurn rule s b None mid b'
+    turn_goes_on mid state sends text = λ turns end s'' b'' serves. serves_more turns end s'' b'' sends text (subst (λ (m : S). NodeServes rule m turns b' end s'' b'') state serves)
 
   -- ---- all turns
 
-  pub turns_over : (s : S) (b : Beside) (end : NodeEnd) → rule.outcome s ≡ None → end ≡ last_end rule.is_server → NodeServes rule spoils s 0 b end s b
+  pub turns_over : (s : S) (b : Beside) (end : NodeEnd) → rule.outcome s ≡ None → end ≡ last_end rule.is_server → NodeServes rule s 0 b end s b
   turns_over s b end goes is = stops_now 0 s b end s b (inr (goes, inl (is, inl (refl, refl, refl))))
 
-  pub turns_over_ended : (s : S) (b : Beside) (end : NodeEnd) (r : Result (Unit {0}) FailCause) → rule.outcome s ≡ Some r → end ≡ end_of_outcome r → NodeServes rule spoils s 0 b end s b
+  pub turns_over_ended : (s : S) (b : Beside) (end : NodeEnd) (r : Result (Unit {0}) FailCause) → rule.outcome s ≡ Some r → end ≡ end_of_outcome r → NodeServes rule s 0 b end s b
   turns_over_ended s b end r ended is = stops_now 0 s b end s b (inl (r, ended, is, refl, refl))
 
 pub a_turn : (i n : ℕ) → i < n → (n - (i + 1)) + 1 ≡ n - i
@@ -178,3 +188,19 @@ a_turn i n below = omega arith
 pub no_link_fault : (r : Result (Unit {0}) FailCause) (n : ℕ) → link_faults (end_of_outcome r) n ≡ n
 no_link_fault (Ok x) n = refl
 no_link_fault (Err cause) n = refl
+
+pub no_sink_fault : (r : Result (Unit {0}) FailCause) (n : ℕ) → sink_faults (end_of_outcome r) n ≡ n
+no_sink_fault (Ok x) n = refl
+no_sink_fault (Err cause) n = refl
+
+pub no_fault_at_last : (is_server : Bool) (n : ℕ) → (link_faults (last_end is_server) n ≡ n) × (sink_faults (last_end is_server) n ≡ n)
+no_fault_at_last true n = (refl, refl)
+no_fault_at_last false n = (refl, refl)
+
+pub link_counted : (e : Failed) (n : ℕ) → (link_faults (end_of_link e) n ≡ counted {T = Arrival} (Err e) n) × (sink_faults (end_of_link e) n ≡ n)
+link_counted failed.Fault n = (refl, refl)
+link_counted failed.NoMemory n = (refl, refl)
+
+pub sink_counted : (e : Failed) (n : ℕ) → (sink_faults (end_of_event e) n ≡ counted {T = Unit {0}} (Err e) n) × (link_faults (end_of_event e) n ≡ n)
+sink_counted failed.Fault n = (refl, refl)
+sink_counted failed.NoMemory n = (refl, refl)

@@ -3,8 +3,6 @@ use Rattle.std.specs.Prelude.{⊤, ◌≡◌, ℕ, Bool, true, false, ◌&&◌, 
 use Rattle.cluster_model.specs.declared.ids.NodeId.{NodeId}
 use Rattle.cluster_model.specs.declared.answer.FailCause.{FailCause}
 use Rattle.cluster_model.specs.Server.{ServerState}
-use Rattle.rpc_record.specs.declared.stream.Failed.{Failed}
-use Rattle.rpc_record.specs.declared.stream.Failed.TheVariants as failed
 use Rattle.record_link.specs.Messages.{is_call_record}
 use Rattle.ds_files.specs.Receive.{outcome_of}
 use Rattle.ds_files.specs.Records.{sent_to}
@@ -23,35 +21,45 @@ event_at moment arrival = record { moment = moment; arrival = arrival }
 abbrev pub SentRecords : Type 0
 SentRecords = List (NodeId × List ℕ)
 
--- What an event makes of a node, and what it sends then, in order; what it came to, once it has ended by itself; and whether it serves
--- others, so that it ends well where nothing more comes to it.
+-- what an event makes of a node; what it sends then, in order; and the bytes that it writes to its sink
+pub record NodeStep (S : Type 0) : Type 0 where
+  pub state : S
+  pub sends : SentRecords
+  pub text : List ℕ
+
+-- What an event does to a node; what the node came to, once it has ended by itself; and whether it serves others, so that it ends well
+-- where nothing more comes to it.
 pub record NodeRule (S : Type 0) : Type 0 where
-  pub step : S → NodeEvent → S × SentRecords
+  pub step : S → NodeEvent → NodeStep S
   pub outcome : S → Option (Result (Unit {0}) FailCause)
   pub is_server : Bool
 
--- a node after these events, by its rule, and the records that it sends over them, in order
+-- a node after these events, by its rule; the records that it sends over them, in order; and the bytes that it writes
 abbrev pub state_after : {S : Type 0} → NodeRule S → S → List NodeEvent → S
 state_after rule s [] = s
-state_after rule s (e ∷ events) = state_after rule (rule.step s e).0 events
+state_after rule s (e ∷ events) = state_after rule (rule.step s e).state events
 
 abbrev pub sends_over : {S : Type 0} → NodeRule S → S → List NodeEvent → SentRecords
 sends_over rule s [] = []
-sends_over rule s (e ∷ events) = (rule.step s e).1 ++ sends_over rule (rule.step s e).0 events
+sends_over rule s (e ∷ events) = (rule.step s e).sends ++ sends_over rule (rule.step s e).state events
+
+abbrev pub text_over : {S : Type 0} → NodeRule S → S → List NodeEvent → List ℕ
+text_over rule s [] = []
+text_over rule s (e ∷ events) = (rule.step s e).text ++ text_over rule (rule.step s e).state events
 
 -- before each of these events it had not ended
 abbrev pub IsGoing : {S : Type 0} → NodeRule S → S → List NodeEvent → Type 0
 IsGoing rule s [] = ⊤
-IsGoing rule s (e ∷ events) = (rule.outcome s ≡ None) × IsGoing rule (rule.step s e).0 events
+IsGoing rule s (e ∷ events) = (rule.outcome s ≡ None) × IsGoing rule (rule.step s e).state events
 
 -- ---- a data server
 
 -- A record is answered to the node that it comes from, by the rule of the data server; no other arrival does anything. Moments do not
 -- count, and it does not end by itself.
-abbrev pub server_takes : ServerState → Arrival → ServerState × SentRecords
-server_takes s (Record from bytes) = ((outcome_of s bytes).server, sent_to from (outcome_of s bytes).reply)
-server_takes s (TimedOut node) = (s, [])
-server_takes s Closed = (s, [])
+abbrev pub server_takes : ServerState → Arrival → NodeStep ServerState
+server_takes s (Record from bytes) = record { state = (outcome_of s bytes).server; sends = sent_to from (outcome_of s bytes).reply; text = [] }
+server_takes s (TimedOut node) = record { state = s; sends = []; text = [] }
+server_takes s Closed = record { state = s; sends = []; text = [] }
 
 abbrev pub server_rule : NodeRule ServerState
 server_rule = record { step = λ s e. server_takes s e.arrival; outcome = λ s. None; is_server = true }
@@ -65,8 +73,3 @@ abbrev pub server_excuses : ServerState → Arrival → Bool
 server_excuses s (Record from bytes) = is_call_record bytes && gives_none (outcome_of s bytes).reply
 server_excuses s (TimedOut node) = false
 server_excuses s Closed = false
-
--- a node that has no fault of its own: nothing is said of it where memory was wanted
-abbrev pub SpoilsAny : {S : Type 0} → S → NodeEvent → Failed → S → Type 0
-SpoilsAny s event failed.Fault s' = ⊥
-SpoilsAny s event failed.NoMemory s' = ⊤

@@ -13,30 +13,32 @@ use Rattle.node_link.specs.declared.link.Opening.{Opening}
 use Rattle.node_link.specs.declared.link.Role.{Role}
 use Rattle.node_link.specs.Clock.{GivesMoment}
 use Rattle.node_link.specs.Link.{opening_of}
+use Rattle.line_runs.specs.Writing.{IsBeginningOf}
 use Rattle.ff_node.specs.declared.end.NodeEnd.{NodeEnd}
 use Rattle.ff_node.specs.declared.end.NodeEnd.TheVariants as ends
-use Rattle.ff_node.specs.Nodes.{NodeEvent, NodeRule, SentRecords, state_after, sends_over, IsGoing}
+use Rattle.ff_node.specs.Nodes.{NodeEvent, NodeRule, SentRecords, state_after, sends_over, IsGoing, text_over}
 
 -- ---- what is beside a node
 
 -- what is still to come over its link and what was sent, as far as the link tells it; the moments that its clock will give, as far as it
--- tells them, and the last that it gave
+-- tells them, and the last that it gave; and what its sink holds, as far as that tells it
 pub record Beside : Type 0 where
   pub coming : Option (List Arrival)
   pub sent : Option SentRecords
   pub moments : Option (List ℕ)
   pub moment : ℕ
+  pub held : Option (List ℕ)
 
-abbrev pub beside : Option (List Arrival) → Option SentRecords → Option (List ℕ) → ℕ → Beside
-beside coming sent moments moment = record { coming = coming; sent = sent; moments = moments; moment = moment }
+abbrev pub beside : Option (List Arrival) → Option SentRecords → Option (List ℕ) → ℕ → Option (List ℕ) → Beside
+beside coming sent moments moment held = record { coming = coming; sent = sent; moments = moments; moment = moment; held = held }
 
--- what is sent after more records
-abbrev pub sent_more : Option SentRecords → SentRecords → Option SentRecords
-sent_more None more = None
-sent_more (Some sent) more = Some (sent ++ more)
+-- what was sent, or is held, with more behind it
+abbrev pub behind : {X : Type 0} → Option (List X) → List X → Option (List X)
+behind None more = None
+behind (Some old) more = Some (old ++ more)
 
 abbrev pub with_sent : Beside → SentRecords → Beside
-with_sent b more = record b { sent = sent_more b.sent more }
+with_sent b more = record b { sent = behind b.sent more }
 
 -- these came from the front of what was to come
 abbrev pub TakesFront : Option (List Arrival) → List Arrival → Option (List Arrival) → Type 0
@@ -56,7 +58,7 @@ is_closed Closed = true
 
 -- ---- events that were taken and done
 
--- Each was an arrival, at a moment that the clock gave for it; the node and what is sent are by its rule.
+-- Each was an arrival, at a moment that the clock gave for it; the node, what is sent and what is written are by its rule.
 pub record Served {S : Type 0} (rule : NodeRule S) (s : S) (b : Beside) (s' : S) (b' : Beside) : Type 0 where
   pub taken : List NodeEvent
   pub came : TakesFront b.coming (map (λ (e : NodeEvent). e.arrival) taken) b'.coming
@@ -64,7 +66,8 @@ pub record Served {S : Type 0} (rule : NodeRule S) (s : S) (b : Beside) (s' : S)
   pub live : All (λ (e : NodeEvent). is_closed e.arrival ≡ false) taken
   pub going : IsGoing rule s taken
   pub state : s' ≡ state_after rule s taken
-  pub sends : b'.sent ≡ sent_more b.sent (sends_over rule s taken)
+  pub sends : b'.sent ≡ behind b.sent (sends_over rule s taken)
+  pub text : b'.held ≡ behind b.held (text_over rule s taken)
 
 -- ---- why it ended
 
@@ -102,47 +105,53 @@ ClosedFor s b s' b' = (s' ≡ s) × FindsClosed b.coming b'.coming × (b' ≡ re
 abbrev pub NoMoreComes : {S : Type 0} → ℕ → S → Beside → S → Beside → Type 0
 NoMoreComes left s b s' b' = ((left ≡ 0) × IsUnchanged s b s' b') ⊎ ((0 < left) × ClosedFor s b s' b')
 
--- An event was taken, and not all done: it failed and nothing was sent for it, and of the node this is left; or, for want of memory, fewer
--- were sent than the node sends for it.
-abbrev pub FailsIn : {S : Type 0} → NodeRule S → (S → NodeEvent → Failed → S → Type 0) → S → NodeEvent → Option SentRecords → Failed → S → Option SentRecords → Type 0
-FailsIn rule spoils s event sent e s' sent' =
-    (spoils s event e s' × (sent' ≡ sent))
-    ⊎ ((e ≡ failed.NoMemory) × (s' ≡ (rule.step s event).0) × ((part : ℕ) × (part < length (rule.step s event).1) × (sent' ≡ sent_more sent (take part (rule.step s event).1))))
+-- the sink took a beginning of these bytes
+abbrev pub TookBeginning : Option (List ℕ) → List ℕ → Option (List ℕ) → Type 0
+TookBeginning None text new = new ≡ None
+TookBeginning (Some held) text new = (part : List ℕ) × IsBeginningOf part text × (new ≡ Some (held ++ part))
 
-pub record BreaksOff {S : Type 0} (rule : NodeRule S) (spoils : S → NodeEvent → Failed → S → Type 0) (s : S) (b : Beside) (end : NodeEnd) (s' : S) (b' : Beside) : Type 0 where
+-- An event was taken, and not all done: it failed, nothing was sent for it and a beginning of its bytes was written; or, for want of
+-- memory, fewer records were sent than the node sends for it.
+abbrev pub FailsIn : {S : Type 0} → NodeRule S → S → NodeEvent → Option SentRecords → Option (List ℕ) → Failed → Option SentRecords → Option (List ℕ) → Type 0
+FailsIn rule s event sent held e sent' held' =
+    (TookBeginning held (rule.step s event).text held' × (sent' ≡ sent))
+    ⊎ ((e ≡ failed.NoMemory) × (held' ≡ behind held (rule.step s event).text)
+    × ((part : ℕ) × (part < length (rule.step s event).sends) × (sent' ≡ behind sent (take part (rule.step s event).sends))))
+
+pub record BreaksOff {S : Type 0} (rule : NodeRule S) (s : S) (b : Beside) (end : NodeEnd) (b' : Beside) : Type 0 where
   pub event : NodeEvent
   pub came : TakesFront b.coming (event.arrival ∷ []) b'.coming
   pub moment : GivesMoments b.moments b.moment (event.moment ∷ []) b'.moments b'.moment
   pub live : is_closed event.arrival ≡ false
   pub error : Failed
-  pub fails : FailsIn rule spoils s event b.sent error s' b'.sent
+  pub fails : FailsIn rule s event b.sent b.held error b'.sent b'.held
   pub end_is : end ≡ end_of_event error
 
 -- It had ended by itself; nothing more came to it; asking the link for more failed; or an event was not all done.
-abbrev pub Stops : {S : Type 0} → NodeRule S → (S → NodeEvent → Failed → S → Type 0) → ℕ → S → Beside → NodeEnd → S → Beside → Type 0
-Stops rule spoils left s b end s' b' =
+abbrev pub Stops : {S : Type 0} → NodeRule S → ℕ → S → Beside → NodeEnd → S → Beside → Type 0
+Stops rule left s b end s' b' =
     ((r : Result (Unit {0}) FailCause) × (rule.outcome s ≡ Some r) × (end ≡ end_of_outcome r) × IsUnchanged s b s' b')
     ⊎ ((rule.outcome s ≡ None)
     × (((end ≡ last_end rule.is_server) × NoMoreComes left s b s' b')
     ⊎ ((0 < left)
     × (((e : Failed) × (end ≡ end_of_link e) × IsUnchanged s b s' b')
-    ⊎ BreaksOff rule spoils s b end s' b'))))
+    ⊎ BreaksOff rule s b end b'))))
 
 -- ---- what serving did
 
 -- events were taken and done, fewer than there were turns or as many; and then it stopped
-pub record NodeServes {S : Type 0} (rule : NodeRule S) (spoils : S → NodeEvent → Failed → S → Type 0) (s : S) (turns : ℕ) (b : Beside) (end : NodeEnd) (s' : S) (b' : Beside) : Type 0 where
+pub record NodeServes {S : Type 0} (rule : NodeRule S) (s : S) (turns : ℕ) (b : Beside) (end : NodeEnd) (s' : S) (b' : Beside) : Type 0 where
   pub mid : S
   pub beside_mid : Beside
   pub served : Served rule s b mid beside_mid
   pub left : ℕ
   pub turns_are : length served.taken + left ≡ turns
-  pub stops : Stops rule spoils left mid beside_mid end s' b'
+  pub stops : Stops rule left mid beside_mid end s' b'
 
 -- Before all events these records were sent; or, for want of memory, fewer of them, and no event was taken.
-abbrev pub NodeRuns : {S : Type 0} → NodeRule S → (S → NodeEvent → Failed → S → Type 0) → SentRecords → S → ℕ → Beside → NodeEnd → S → Beside → Type 0
-NodeRuns rule spoils first s turns b end s' b' =
-    NodeServes rule spoils s turns (with_sent b first) end s' b'
+abbrev pub NodeRuns : {S : Type 0} → NodeRule S → SentRecords → S → ℕ → Beside → NodeEnd → S → Beside → Type 0
+NodeRuns rule first s turns b end s' b' =
+    NodeServes rule s turns (with_sent b first) end s' b'
     ⊎ ((end ≡ ends.NoMemory) × (s' ≡ s) × ((part : ℕ) × (part < length first) × (b' ≡ with_sent b (take part first))))
 
 -- The link was opened so, and this was done over it; or opening it failed, and nothing was done.
@@ -150,33 +159,38 @@ abbrev pub OpensThen : Option Opening → Config → Role → Beside → NodeEnd
 OpensThen opened config role b end opened' b' Done =
     ((opened' ≡ Some (opening_of config role)) × Done) ⊎ ((e : Failed) × (end ≡ end_of_link e) × (opened' ≡ opened) × (b' ≡ b))
 
--- the counts of the link's faults and of the node's own: one more exactly at LinkFault, and at WriteFault
+-- the counts of the link's faults and of the sink's: one more exactly at LinkFault, and at WriteFault
 abbrev pub link_faults : NodeEnd → ℕ → ℕ
 link_faults ends.LinkFault n = one_more n
 link_faults end n = n
 
-abbrev pub node_faults : NodeEnd → ℕ → ℕ
-node_faults ends.WriteFault n = one_more n
-node_faults end n = n
+abbrev pub sink_faults : NodeEnd → ℕ → ℕ
+sink_faults ends.WriteFault n = one_more n
+sink_faults end n = n
 
 -- ---- parts of it
 
 -- All of some records were sent, or, for want of memory, fewer from their front.
 abbrev pub SendsAll : Option SentRecords → SentRecords → Result (Unit {0}) NoMemory → Option SentRecords → Type 0
-SendsAll sent records (Ok x) sent' = sent' ≡ sent_more sent records
-SendsAll sent records (Err e) sent' = (n : ℕ) × (n < length records) × (sent' ≡ sent_more sent (take n records))
+SendsAll sent records (Ok x) sent' = sent' ≡ behind sent records
+SendsAll sent records (Err e) sent' = (n : ℕ) × (n < length records) × (sent' ≡ behind sent (take n records))
 
--- what taking an event did: the node and what is sent are by its rule; or it failed
-abbrev pub DoesEvent : {S : Type 0} → NodeRule S → (S → NodeEvent → Failed → S → Type 0) → S → NodeEvent → Option SentRecords → Result (Unit {0}) Failed → S → Option SentRecords → Type 0
-DoesEvent rule spoils s event sent (Ok x) s' sent' = (s' ≡ (rule.step s event).0) × (sent' ≡ sent_more sent (rule.step s event).1)
-DoesEvent rule spoils s event sent (Err e) s' sent' = FailsIn rule spoils s event sent e s' sent'
+-- what taking an event did: the node, what is sent and what is written are by its rule; or it failed
+abbrev pub DoesEvent : {S : Type 0} → NodeRule S → S → NodeEvent → Option SentRecords → Option (List ℕ) → Result (Unit {0}) Failed → S → Option SentRecords → Option (List ℕ) → Type 0
+DoesEvent rule s event sent held (Ok x) s' sent' held' = (s' ≡ (rule.step s event).state) × (sent' ≡ behind sent (rule.step s event).sends) × (held' ≡ behind held (rule.step s event).text)
+DoesEvent rule s event sent held (Err e) s' sent' held' = FailsIn rule s event sent held e sent' held'
+
+-- what a node wrote for an event: its bytes, or at an error a beginning of them
+abbrev pub WritesFor : {T : Type 0} → Option (List ℕ) → List ℕ → Result T Failed → Option (List ℕ) → Type 0
+WritesFor held text (Ok x) new = new ≡ behind held text
+WritesFor held text (Err e) new = TookBeginning held text new
 
 -- What one turn of serving did: it ended the serving so; or whatever the serving does from there on, it has done from before the turn with
 -- one turn more.
-abbrev pub TakesTurn : {S : Type 0} → NodeRule S → (S → NodeEvent → Failed → S → Type 0) → S → Beside → Option NodeEnd → S → Beside → Type 0
-TakesTurn rule spoils s b (Some end) s' b' = (turns : ℕ) → NodeServes rule spoils s (turns + 1) b end s' b'
-TakesTurn {S = S} rule spoils s b None s' b' = (turns : ℕ) (end : NodeEnd) (s'' : S) (b'' : Beside)
-    → NodeServes rule spoils s' turns b' end s'' b'' → NodeServes rule spoils s (turns + 1) b end s'' b''
+abbrev pub TakesTurn : {S : Type 0} → NodeRule S → S → Beside → Option NodeEnd → S → Beside → Type 0
+TakesTurn rule s b (Some end) s' b' = (turns : ℕ) → NodeServes rule s (turns + 1) b end s' b'
+TakesTurn {S = S} rule s b None s' b' = (turns : ℕ) (end : NodeEnd) (s'' : S) (b'' : Beside)
+    → NodeServes rule s' turns b' end s'' b'' → NodeServes rule s (turns + 1) b end s'' b''
 
 -- the counts of faults after a turn
 abbrev pub turn_faults : (NodeEnd → ℕ → ℕ) → Option NodeEnd → ℕ → ℕ

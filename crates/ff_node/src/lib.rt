@@ -4,13 +4,14 @@
 mod config;
 mod end;
 mod node;
+mod nothing;
 mod serve;
 mod server;
-mod still_clock;
 
 pub use config::{ConfigFault, MAX_LINE, read_config};
 pub use end::NodeEnd;
 pub use node::Node;
 pub use node_config::Config;
+pub use nothing::NoSink;
 pub use serve::serve_node;
 pub use server::serve_ds;

@@ -3,14 +3,14 @@
 ghost use Rattle.std.specs.Prelude.{◌≡◌, MatchOption};
 ghost use Rattle.rpc_record.specs.Stream.{counted};
 ghost use Rattle.ff_node.specs.Nodes.{event_at};
-ghost use Rattle.ff_node.specs.Serve.{DoesEvent, NodeRuns, NodeServes, SendsAll, TakesTurn, beside, end_of_outcome, is_closed, last_end, link_faults, node_faults, turn_faults};
+ghost use Rattle.ff_node.specs.Serve.{DoesEvent, NodeRuns, NodeServes, SendsAll, TakesTurn, beside, end_of_outcome, is_closed, last_end, link_faults, sink_faults, turn_faults};
 
 use crate::end::NodeEnd;
 use crate::node::Node;
 use cluster_model::{NodeId, Outbox};
 use ff_xdr::{Data, NoMemory};
 use node_link::{Arrival, Clock, Link};
-use rpc_record::Failed;
+use rpc_record::{Failed, Sink};
 use std::alloc::Global;
 
 /// Sends all of the records, in order. At an error fewer were sent.
@@ -47,23 +47,24 @@ fn sender(arrival: &Arrival) -> Option<NodeId> {
 }
 
 /// Takes an arrival at its moment, and sends what the node sends for it. Where it is a call that gets no answer,
-/// the link is told. At an error less was sent; a fault is the node's own.
-fn do_event<N: Node, L: Link>(
+/// the link is told. At an error less was sent; a fault is the sink's.
+fn do_event<N: Node, L: Link, K: Sink>(
     alloc: Global,
     moment: u64,
     arrival: Arrival,
     node: &mut N,
     link: &mut L,
+    sink: &mut K,
 ) -> Result<(), Failed>
-    ensures does { DoesEvent N.rule N.spoils node.old (event_at moment arrival) (L.sent link.old) result node.new (L.sent link.new) }
-    ensures own { N.faults node.new ≡ counted result (N.faults node.old) }
+    ensures does { DoesEvent N.rule node.old (event_at moment arrival) (L.sent link.old) (K.held sink.old) result node.new (L.sent link.new) (K.held sink.new) }
+    ensures writes { K.faults sink.new ≡ counted result (K.faults sink.old) }
     ensures coming { L.coming link.new ≡ L.coming link.old }
     ensures opened { L.opened link.new ≡ L.opened link.old }
     ensures faults { L.faults link.new ≡ L.faults link.old }
 {
     let from = sender(&arrival);
     let mut out = Outbox::new(alloc);
-    let is_excused = node.take(moment, arrival, &mut out)?;
+    let is_excused = node.take(moment, arrival, &mut out, sink)?;
     if send_all(out.sends, link).is_err() {
         return Err(Failed::NoMemory);
     }
@@ -75,16 +76,17 @@ fn do_event<N: Node, L: Link>(
 
 /// Takes what comes next at the clock's moment, and sends what the node sends for it. Returns the node's end, if it
 /// has ended.
-fn take_turn<N: Node, L: Link, C: Clock>(
+fn take_turn<N: Node, L: Link, C: Clock, K: Sink>(
     alloc: Global,
     node: &mut N,
     link: &mut L,
     clock: &mut C,
+    sink: &mut K,
 ) -> Option<NodeEnd>
-    ensures told { TakesTurn N.rule N.spoils node.old (beside (L.coming link.old) (L.sent link.old) (C.coming clock.old) (C.moment clock.old)) result node.new (beside (L.coming link.new) (L.sent link.new) (C.coming clock.new) (C.moment clock.new)) }
+    ensures told { TakesTurn N.rule node.old (beside (L.coming link.old) (L.sent link.old) (C.coming clock.old) (C.moment clock.old) (K.held sink.old)) result node.new (beside (L.coming link.new) (L.sent link.new) (C.coming clock.new) (C.moment clock.new) (K.held sink.new)) }
     ensures opened { L.opened link.new ≡ L.opened link.old }
     ensures faults { L.faults link.new ≡ turn_faults link_faults result (L.faults link.old) }
-    ensures own { N.faults node.new ≡ turn_faults node_faults result (N.faults node.old) }
+    ensures writes { K.faults sink.new ≡ turn_faults sink_faults result (K.faults sink.old) }
 {
     if let Some(outcome) = node.outcome() {
         return Some(NodeEnd::of_outcome(outcome));
@@ -97,7 +99,7 @@ fn take_turn<N: Node, L: Link, C: Clock>(
         return Some(NodeEnd::of_last(node.is_server()));
     }
     let moment = clock.now();
-    match do_event(alloc, moment, arrival, node, link) {
+    match do_event(alloc, moment, arrival, node, link, sink) {
         Ok(()) => None,
         Err(failed) => Some(NodeEnd::of_event(failed)),
     }
@@ -105,7 +107,7 @@ fn take_turn<N: Node, L: Link, C: Clock>(
 
 /// How a node ends whose turns are over.
 fn end_after_turns<N: Node>(node: &N) -> NodeEnd
-    ensures ended { MatchOption ((N.rule).outcome node.now) (result ≡ last_end (N.rule).is_server) (λ r. result ≡ end_of_outcome r) }
+    ensures { MatchOption ((N.rule.outcome) node.now) (result ≡ last_end N.rule.is_server) (λ r. result ≡ end_of_outcome r) }
 {
     match node.outcome() {
         Some(outcome) => NodeEnd::of_outcome(outcome),
@@ -114,30 +116,31 @@ fn end_after_turns<N: Node>(node: &N) -> NodeEnd
 }
 
 /// Serves as a node over a link that is open: sends its first records, and then takes so many arrivals, or fewer
-/// where it ends before; each at a moment for which the clock is asked once. What the node sends for it is sent. The
-/// node is as it is then.
+/// where it ends before; each at a moment for which the clock is asked once. What the node sends for it is sent, and
+/// what it writes goes to the sink. The node is as it is then.
 ///
 /// However it ends, what it sent went to the streams that take it.
 ///
 /// `NodeEnd::LinkFault` is a fault of the link in asking for what comes, and nothing else is;
-/// `NodeEnd::WriteFault` is one of the node's own. For want of memory one arrival may have been taken, and less sent
+/// `NodeEnd::WriteFault` is one of the sink. For want of memory one arrival may have been taken, and less sent
 /// than the node sends for it.
-pub fn serve_node<N: Node, L: Link, C: Clock>(
+pub fn serve_node<N: Node, L: Link, C: Clock, K: Sink>(
     alloc: Global,
     turns: u32,
     first: Vec<(NodeId, Data)>,
     node: &mut N,
     link: &mut L,
     clock: &mut C,
+    sink: &mut K,
 ) -> NodeEnd
-    ensures told { NodeRuns N.rule N.spoils first.items node.old turns (beside (L.coming link.old) (L.sent link.old) (C.coming clock.old) (C.moment clock.old)) result node.new (beside (L.coming link.new) (L.sent link.new) (C.coming clock.new) (C.moment clock.new)) }
+    ensures told { NodeRuns N.rule first.items node.old turns (beside (L.coming link.old) (L.sent link.old) (C.coming clock.old) (C.moment clock.old) (K.held sink.old)) result node.new (beside (L.coming link.new) (L.sent link.new) (C.coming clock.new) (C.moment clock.new) (K.held sink.new)) }
     ensures opened { L.opened link.new ≡ L.opened link.old }
     ensures faults { L.faults link.new ≡ link_faults result (L.faults link.old) }
-    ensures own { N.faults node.new ≡ node_faults result (N.faults node.old) }
+    ensures writes { K.faults sink.new ≡ sink_faults result (K.faults sink.old) }
     ensures given { L.has_given link.new }
 {
     let end = match send_all(first, link) {
-        Ok(()) => take_turns(alloc, turns, node, link, clock),
+        Ok(()) => take_turns(alloc, turns, node, link, clock, sink),
         Err(NoMemory) => NodeEnd::NoMemory,
     };
     link.finish();
@@ -145,20 +148,21 @@ pub fn serve_node<N: Node, L: Link, C: Clock>(
 }
 
 /// The same behind the first records; some of what was sent may not have gone yet.
-fn take_turns<N: Node, L: Link, C: Clock>(
+fn take_turns<N: Node, L: Link, C: Clock, K: Sink>(
     alloc: Global,
     turns: u32,
     node: &mut N,
     link: &mut L,
     clock: &mut C,
+    sink: &mut K,
 ) -> NodeEnd
-    ensures told { NodeServes N.rule N.spoils node.old turns (beside (L.coming link.old) (L.sent link.old) (C.coming clock.old) (C.moment clock.old)) result node.new (beside (L.coming link.new) (L.sent link.new) (C.coming clock.new) (C.moment clock.new)) }
+    ensures told { NodeServes N.rule node.old turns (beside (L.coming link.old) (L.sent link.old) (C.coming clock.old) (C.moment clock.old) (K.held sink.old)) result node.new (beside (L.coming link.new) (L.sent link.new) (C.coming clock.new) (C.moment clock.new) (K.held sink.new)) }
     ensures opened { L.opened link.new ≡ L.opened link.old }
     ensures faults { L.faults link.new ≡ link_faults result (L.faults link.old) }
-    ensures own { N.faults node.new ≡ node_faults result (N.faults node.old) }
+    ensures writes { K.faults sink.new ≡ sink_faults result (K.faults sink.old) }
 {
     for _turn in 0..turns {
-        if let Some(end) = take_turn(alloc, node, link, clock) {
+        if let Some(end) = take_turn(alloc, node, link, clock, sink) {
             return end;
         }
     }

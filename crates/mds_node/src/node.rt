@@ -1,0 +1,85 @@
+//! A metadata server as a node.
+
+ghost use Rattle.std.specs.Prelude.{◌≡◌, ◌≤◌, false, length, IfOk};
+ghost use Rattle.node_config.specs.Configs.{config_value};
+ghost use Rattle.node_config.specs.declared.config.TheConstants.{MAX_MIRRORS, MAX_SERVERS};
+ghost use Rattle.mds_rule.specs.MdsStates.{new_mds};
+ghost use Rattle.mds_node.specs.MdsNodes.{mds_hears, mds_node_rule};
+
+use cluster_model::{FailCause, Outbox};
+use ff_node::Node;
+use ff_xdr::NoMemory;
+use mds_core::Mds;
+use node_config::Config;
+use node_link::Arrival;
+use rpc_record::{Failed, Sink};
+use std::alloc::Global;
+use std::marker::Model;
+
+/// A metadata server as a node. Each call that comes to it gets an answer, at once or when what it waits for is done.
+#[derive(Drop)]
+pub(crate) struct MdsNode {
+    mds: Mds,
+}
+
+impl Model for MdsNode {
+    ghost use Rattle.mds_rule.specs.MdsStates.{MdsValue};
+
+    ghost Value = { MdsValue };
+
+    ghost view = { λ n. n.mds.mds };
+}
+
+impl MdsNode {
+    /// A new one, with no clients and no files. Takes memory.
+    pub(crate) fn new(alloc: Global, config: &Config) -> Result<MdsNode, NoMemory>
+        requires mirrored { 1 ≤ config.now.mirrors }
+        requires few { config.now.mirrors ≤ MAX_MIRRORS }
+        requires within { config.now.mirrors ≤ length config.now.servers.items }
+        requires servers { length config.now.servers.items ≤ MAX_SERVERS }
+        ensures { IfOk result (λ node. node ≡ new_mds (config_value config.now).servers (config_value config.now).mirrors) }
+    {
+        Ok(MdsNode {
+            mds: Mds::new(alloc, config)?,
+        })
+    }
+
+    /// A record came, or a call timed out, at `now`, in seconds.
+    fn hear(&mut self, now: u64, arrival: Arrival, out: &mut Outbox) -> Result<(), NoMemory> {
+        match arrival {
+            Arrival::Record { from, bytes } => self.mds.on_record(from, bytes.bytes(), now, out),
+            Arrival::TimedOut(node) => self.mds.on_timeout(node, now, out),
+            Arrival::Closed => Ok(()),
+        }
+    }
+}
+
+impl Node for MdsNode {
+    ghost rule = { mds_node_rule };
+
+    ghost excuses = { λ _ _. false };
+
+    fn take<K: Sink>(
+        &mut self,
+        moment: u64,
+        arrival: Arrival,
+        out: &mut Outbox,
+        _sink: &mut K,
+    ) -> Result<bool, Failed> {
+        if self.mds.tick(moment, out).is_err() {
+            return Err(Failed::NoMemory);
+        }
+        match self.hear(moment, arrival, out) {
+            Ok(()) => Ok(false),
+            Err(NoMemory) => Err(Failed::NoMemory),
+        }
+    }
+
+    fn outcome(&self) -> Option<Result<(), FailCause>> {
+        None
+    }
+
+    fn is_server(&self) -> bool {
+        true
+    }
+}
