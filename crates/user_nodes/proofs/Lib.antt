@@ -1,1 +1,4 @@
+pub mod AskLemmas
 pub mod PieceLemmas
+pub mod ReadLemmas
+pub mod WriteLemmas

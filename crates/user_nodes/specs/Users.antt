@@ -31,7 +31,7 @@ records_of s = map spelled_send s.sends
 
 -- ---- what its user asks, one after the other
 
-abbrev pub all_requested : List UserRequest → ClientValue → ClientStep
+unfoldable pub all_requested : List UserRequest → ClientValue → ClientStep
 all_requested [] c = sends_none c
 all_requested (r ∷ requests) c = and_then (client_requested r c) (all_requested requests)
 
