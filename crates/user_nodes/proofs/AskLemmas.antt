@@ -71,6 +71,11 @@ stepped_asked r c d before after stepped =
 pub asked_one : (r : UserRequest) (old new : ClientOfUser) (before after : Outbox) (x : Unit {0}) → StepsBy (client_requested r) old before (Ok x) new after → HasAsked (r ∷ []) old.client before.sends.items new.client after.sends.items
 asked_one r old new before after x steps = stepped_asked r old.client new.client before after steps.2
 
+pub asked_if_ok : (r : UserRequest) (old new : ClientOfUser) (before after : Outbox) (result : Result (Unit {0}) NoMemory) → is_ok result ≡ true → StepsBy (client_requested r) old before result new after
+    → HasAsked (r ∷ []) old.client before.sends.items new.client after.sends.items
+asked_if_ok r old new before after (Ok x) is steps = asked_one r old new before after x steps
+asked_if_ok r old new before after (Err e) is steps = absurd (false≢true is)
+
 -- what holds at Ok, of one that is
 pub held_at_ok : (P : Type 0) (result : Result (Unit {0}) NoMemory) → is_ok result ≡ true → OnOk result P → P
 held_at_ok P (Ok x) is at_ok = at_ok

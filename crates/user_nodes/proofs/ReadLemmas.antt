@@ -1,12 +1,13 @@
 -- How all bytes are read, piece by piece, and their writes asked for.
-use Rattle.std.proofs.Common.{◌≡◌, ℕ, ◌+◌, ◌*◌, ◌<◌, ◌≤◌, List, [], ◌++◌, length, take, drop, Option, Some, None, Ok, refl, sym, ap, subst, ◌∙◌, arith, append_assoc, append-nil}
+use Rattle.std.proofs.Common.{◌≡◌, ℕ, ◌+◌, ◌*◌, ◌<◌, ◌≤◌, List, [], ◌∷◌, ◌++◌, length, take, drop, Option, Some, None, Ok, refl, sym, ap, subst, ◌∙◌, arith, append_assoc, append-nil}
 use Rattle.std.proofs.lemmas.List.{take-append-drop, take_all, take_at, drop_at, drop_all, length-take-le, length-take, length-append}
 use Rattle.rpc_record.specs.declared.stream.Failed.{Failed}
 use Rattle.cluster_model.specs.declared.limits.TheConstants.{PIECE_SIZE}
+use Rattle.client_state.specs.declared.request.UserRequest.TheVariants.{Open, Commit, Return}
 use Rattle.client_state.specs.ClientStates.{ClientValue}
 use Rattle.ff_node.specs.Nodes.{SentRecords}
 use Rattle.user_nodes.specs.Users.{HasAsked}
-use Rattle.user_nodes.specs.Puts.{ReadsPiece, ReadsAll, AsksWrites, writes_of, writes_at, most_read}
+use Rattle.user_nodes.specs.Puts.{ReadsPiece, ReadsAll, AsksWrites, AsksPut, writes_of, writes_at, most_read}
 use Rattle.user_nodes.proofs.AskLemmas.{asked_none, asked_more}
 use Rattle.user_nodes.proofs.WriteLemmas.{writes_more}
 
@@ -84,3 +85,13 @@ module _ (n : ℕ) (unread : Option (List ℕ)) (c : ClientValue) (sends : SentR
 
 pub pieces_all : (unread : Option (List ℕ)) (c c' : ClientValue) (sends sends' : SentRecords) (left : Option (List ℕ)) (x : Unit {0}) → HasAskedPieces 1025 unread c sends left c' sends' → AsksWrites unread c sends (Ok x) left c' sends'
 pieces_all unread c c' sends sends' left x so_far = (so_far.0, reads_most unread so_far.0 left so_far.1 so_far.2, so_far.3)
+
+-- the file is opened, all is written, and then comes what ends the put
+pub put_asked : (name : List ℕ) (unread left : Option (List ℕ)) (c opened written c' : ClientValue) (sends after_open after_writes sends' : SentRecords) (x y : Unit {0}) → HasAsked (Open name ∷ []) c sends opened after_open
+    → AsksWrites unread opened after_open (Ok x) left written after_writes → HasAsked (Commit ∷ Return ∷ []) written after_writes c' sends' → AsksPut name unread c sends (Ok y) left c' sends'
+put_asked name unread left c opened written c' sends after_open after_writes sends' x y first (bytes, read, asked) last = (
+  bytes,
+  read,
+  asked_more (Open name ∷ []) (writes_of bytes ++ Commit ∷ Return ∷ []) c opened c' sends after_open sends' first
+  (asked_more (writes_of bytes) (Commit ∷ Return ∷ []) opened written c' after_open after_writes sends' asked last),
+)
