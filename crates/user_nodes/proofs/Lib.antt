@@ -1,3 +1,4 @@
+pub mod AnswerLemmas
 pub mod AskLemmas
 pub mod PieceLemmas
 pub mod ReadLemmas
