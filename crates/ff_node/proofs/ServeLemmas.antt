@@ -1,6 +1,6 @@
 -- How serving goes on from turn to turn.
 use Rattle.std.proofs.Common.{◌≡◌, inl, inr, ℕ, ◌+◌, ◌-◌, ◌<◌, ◌≤◌, true, false, Bool, ◌⊎◌, List, [], ◌∷◌, ◌++◌, length, map, take, Option, Some, None, Result, Ok, Err, refl, sym, ap, subst, ◌∙◌, arith, eqb, append_assoc, append-nil}
-use Rattle.std.specs.Prelude.{IsErr}
+use Rattle.std.specs.Prelude.{IsErr, MatchOption}
 use Rattle.std.proofs.lemmas.List.{take_at, length-append}
 use Rattle.std.proofs.lemmas.Bool.{eq-eqb, ne_eqb}
 use Rattle.ds_files.specs.Records.{sent_to}
@@ -16,7 +16,7 @@ use Rattle.node_link.specs.Link.{Gives, HandsOver}
 use Rattle.ff_node.specs.declared.end.NodeEnd.{NodeEnd}
 use Rattle.ff_node.specs.declared.end.NodeEnd.TheVariants as ends
 use Rattle.ff_node.specs.Nodes.{NodeEvent, NodeRule, SentRecords, state_after, sends_over, text_over, gives_none}
-use Rattle.ff_node.specs.Serve.{Beside, beside, behind, TakesFront, GivesMoments, is_closed, Served, NodeServes, Stops, BreaksOff, FindsClosed, TakesTurn, SendsAll, FailsIn, end_of_outcome, last_end, end_of_link, end_of_event, link_faults, sink_faults}
+use Rattle.ff_node.specs.Serve.{Beside, beside, behind, TookBeginning, TakesFront, GivesMoments, is_closed, Served, NodeServes, Stops, BreaksOff, FindsClosed, TakesTurn, SendsAll, FailsIn, end_of_outcome, last_end, end_of_link, end_of_event, link_faults, sink_faults}
 
 -- ---- what is sent
 
@@ -27,6 +27,14 @@ more_more (Some sent) xs ys = ap Some (append_assoc sent xs ys)
 pub no_more : {X : Type 0} (s : Option (List X)) → behind s [] ≡ s
 no_more None = refl
 no_more (Some sent) = ap Some (append-nil sent)
+
+-- a node that writes nothing
+pub wrote_none : (held : Option (List ℕ)) → held ≡ behind held []
+wrote_none held = sym (no_more held)
+
+pub began_none : (held : Option (List ℕ)) → TookBeginning held [] held
+began_none None = refl
+began_none (Some held) = ([], record { rest = []; whole = refl }, sym (no_more (Some held)))
 
 pub sends_ok : (s : Option SentRecords) (to : NodeId) (bytes : List ℕ) (x : Unit {0}) (s' : Option SentRecords) → HandsOver s to bytes (Ok x) s' → s' ≡ behind s ((to, bytes) ∷ [])
 sends_ok None to bytes x s' h = h
@@ -111,33 +119,39 @@ module _ {S : Type 0} (rule : NodeRule S) where
   stops_now left s b end s' b' stops = record { mid = s; beside_mid = b; served = served_none s b; left = left; turns_are = omega arith; stops = stops }
 
   pub turn_ended : (s : S) (b : Beside) (end : NodeEnd) (r : Result (Unit {0}) FailCause) → rule.outcome s ≡ Some r → end ≡ end_of_outcome r → TakesTurn rule s b (Some end) s b
-  turn_ended s b end r ended is = λ turns. stops_now (turns + 1) s b end s b (inl (r, ended, is, refl, refl))
+  turn_ended s b end r ended is = λ turns. stops_now (turns + 1) s b end s b (inl (r, ended, is, (refl, refl)))
 
   pub turn_failed : (s : S) (b b' : Beside) (end : NodeEnd) (e : Failed) → rule.outcome s ≡ None → end ≡ end_of_link e → Gives b.coming (Err e) b'.coming → b' ≡ record b { coming = b'.coming } → TakesTurn rule s b (Some end) s b'
   turn_failed s b b' end e goes is gives rest = λ turns.
       let same : b' ≡ b = rest ∙ ap (λ c. record b { coming = c }) (gives_err b.coming b'.coming e gives) in
-      stops_now (turns + 1) s b end s b' (inr (goes, inr (omega arith, inl (e, is, refl, same))))
+      stops_now (turns + 1) s b end s b' (inr (goes, inr (omega arith, inl (e, is, (refl, same)))))
 
   pub turn_closed : (s : S) (b b' : Beside) (end : NodeEnd) (a : Arrival) → rule.outcome s ≡ None → end ≡ last_end rule.is_server → is_closed a ≡ true → Gives b.coming (Ok a) b'.coming → b' ≡ record b { coming = b'.coming }
       → TakesTurn rule s b (Some end) s b'
   turn_closed s b b' end a goes is closed gives rest = λ turns.
-      stops_now (turns + 1) s b end s b' (inr (goes, inl (is, inr (omega arith, refl, finds_closed a b.coming b'.coming closed gives, rest))))
+      stops_now (turns + 1) s b end s b' (inr (goes, inl (is, inr (omega arith, (refl, finds_closed a b.coming b'.coming closed gives, rest)))))
 
   -- ---- an event was taken
 
   module _ (e : NodeEvent) (s : S) (b b' : Beside) (goes : rule.outcome s ≡ None) (live : is_closed e.arrival ≡ false) (gives : Gives b.coming (Ok e.arrival) b'.coming)
-    (clocked : Clocked b.moments b.moment e.moment b'.moments b'.moment) where
+      (clocked : Clocked b.moments b.moment e.moment b'.moments b'.moment) where
     pub turn_broken : (s' : S) (end : NodeEnd) (error : Failed) → end ≡ end_of_event error → FailsIn rule s e b.sent b.held error b'.sent b'.held → TakesTurn rule s b (Some end) s' b'
     turn_broken s' end error is fails = λ turns.
-        stops_now (turns + 1) s b end s' b' (inr (goes, inr (omega arith, inr (record {
-          event = e;
-          came = one_taken e.arrival b.coming b'.coming live gives;
-          moment = (clocked.0, (b'.moments, clocked.1, refl, clocked.2));
-          live = live;
-          error = error;
-          fails = fails;
-          end_is = is;
-        }))))
+        stops_now (turns + 1) s b end s' b' (inr (
+          goes,
+          inr (
+            omega arith,
+            inr (record {
+              event = e;
+              came = one_taken e.arrival b.coming b'.coming live gives;
+              moment = (clocked.0, (b'.moments, clocked.1, (refl, clocked.2)));
+              live = live;
+              error = error;
+              fails = fails;
+              end_is = is;
+            }),
+          ),
+        ))
 
     served_more : (s' : S) (last : Beside) → b'.sent ≡ behind b.sent (rule.step s e).sends → b'.held ≡ behind b.held (rule.step s e).text → Served rule (rule.step s e).state b' s' last → Served rule s b s' last
     served_more s' last sends text served =
@@ -175,10 +189,14 @@ module _ {S : Type 0} (rule : NodeRule S) where
   -- ---- all turns
 
   pub turns_over : (s : S) (b : Beside) (end : NodeEnd) → rule.outcome s ≡ None → end ≡ last_end rule.is_server → NodeServes rule s 0 b end s b
-  turns_over s b end goes is = stops_now 0 s b end s b (inr (goes, inl (is, inl (refl, refl, refl))))
+  turns_over s b end goes is = stops_now 0 s b end s b (inr (goes, inl (is, inl (refl, (refl, refl)))))
 
   pub turns_over_ended : (s : S) (b : Beside) (end : NodeEnd) (r : Result (Unit {0}) FailCause) → rule.outcome s ≡ Some r → end ≡ end_of_outcome r → NodeServes rule s 0 b end s b
-  turns_over_ended s b end r ended is = stops_now 0 s b end s b (inl (r, ended, is, refl, refl))
+  turns_over_ended s b end r ended is = stops_now 0 s b end s b (inl (r, ended, is, (refl, refl)))
+
+  pub turns_end : (s : S) (b : Beside) (end : NodeEnd) (o : Option (Result (Unit {0}) FailCause)) → rule.outcome s ≡ o → MatchOption o (end ≡ last_end rule.is_server) (λ r. end ≡ end_of_outcome r) → NodeServes rule s 0 b end s b
+  turns_end s b end None is ends = turns_over s b end is ends
+  turns_end s b end (Some r) is ends = turns_over_ended s b end r is ends
 
 pub a_turn : (i n : ℕ) → i < n → (n - (i + 1)) + 1 ≡ n - i
 a_turn i n below = omega arith

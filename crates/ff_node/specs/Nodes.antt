@@ -56,13 +56,17 @@ IsGoing rule s (e ∷ events) = (rule.outcome s ≡ None) × IsGoing rule (rule.
 
 -- A record is answered to the node that it comes from, by the rule of the data server; no other arrival does anything. Moments do not
 -- count, and it does not end by itself.
-abbrev pub server_takes : ServerState → Arrival → NodeStep ServerState
-server_takes s (Record from bytes) = record { state = (outcome_of s bytes).server; sends = sent_to from (outcome_of s bytes).reply; text = [] }
-server_takes s (TimedOut node) = record { state = s; sends = []; text = [] }
-server_takes s Closed = record { state = s; sends = []; text = [] }
+abbrev pub server_takes : ServerState → Arrival → ServerState × SentRecords
+server_takes s (Record from bytes) = ((outcome_of s bytes).server, sent_to from (outcome_of s bytes).reply)
+server_takes s (TimedOut node) = (s, [])
+server_takes s Closed = (s, [])
 
 abbrev pub server_rule : NodeRule ServerState
-server_rule = record { step = λ s e. server_takes s e.arrival; outcome = λ s. None; is_server = true }
+server_rule = record {
+  step = λ s e. record { state = (server_takes s e.arrival).0; sends = (server_takes s e.arrival).1; text = [] };
+  outcome = λ s. None;
+  is_server = true;
+}
 
 -- A call is not answered where the rule gives no reply to it.
 abbrev pub gives_none : Option (List ℕ) → Bool

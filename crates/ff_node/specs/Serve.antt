@@ -1,6 +1,5 @@
 -- What serving as a node did: what came and at which moments, what was sent, and why it ended.
 use Rattle.std.specs.Prelude.{⊤, ◌⊎◌, ◌≡◌, ℕ, ◌+◌, ◌<◌, ◌≤◌, Bool, true, false, List, [], ◌∷◌, ◌++◌, length, map, take, Option, Some, None, Result, Ok, Err}
-use Rattle.std.specs.List.{All}
 use Rattle.ff_xdr.specs.declared.error.NoMemory.{NoMemory}
 use Rattle.rpc_record.specs.declared.stream.Failed.{Failed}
 use Rattle.rpc_record.specs.declared.stream.Failed.TheVariants as failed
@@ -56,6 +55,11 @@ is_closed (Record from bytes) = false
 is_closed (TimedOut node) = false
 is_closed Closed = true
 
+-- none of these does
+abbrev pub AreOpen : List NodeEvent → Type 0
+AreOpen [] = ⊤
+AreOpen (e ∷ events) = (is_closed e.arrival ≡ false) × AreOpen events
+
 -- ---- events that were taken and done
 
 -- Each was an arrival, at a moment that the clock gave for it; the node, what is sent and what is written are by its rule.
@@ -63,7 +67,7 @@ pub record Served {S : Type 0} (rule : NodeRule S) (s : S) (b : Beside) (s' : S)
   pub taken : List NodeEvent
   pub came : TakesFront b.coming (map (λ (e : NodeEvent). e.arrival) taken) b'.coming
   pub moments : GivesMoments b.moments b.moment (map (λ (e : NodeEvent). e.moment) taken) b'.moments b'.moment
-  pub live : All (λ (e : NodeEvent). is_closed e.arrival ≡ false) taken
+  pub live : AreOpen taken
   pub going : IsGoing rule s taken
   pub state : s' ≡ state_after rule s taken
   pub sends : b'.sent ≡ behind b.sent (sends_over rule s taken)

@@ -7,8 +7,8 @@ ghost use Rattle.ff_node.specs.Nodes.{server_rule};
 ghost use Rattle.ff_node.specs.Serve.{NodeRuns, OpensThen, beside, link_faults, sink_faults};
 
 use crate::end::NodeEnd;
-use crate::serve::serve_node;
 use crate::nothing::{NoSink, StillClock};
+use crate::serve::serve_node;
 use ds_files::DataServer;
 use node_config::Config;
 use node_link::{Link, Role};
