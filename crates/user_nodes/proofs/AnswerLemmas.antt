@@ -5,9 +5,11 @@ use Rattle.std.specs.List.{list_any}
 use Rattle.cluster_model.specs.declared.answer.UserAnswer.{UserAnswer}
 use Rattle.cluster_model.specs.declared.answer.UserAnswer.TheVariants.{Opened, Written, Committed, Bytes, Returned, Failed}
 use Rattle.cluster_model.specs.declared.answer.FailCause.{FailCause}
+use Rattle.client_state.specs.ClientStates.{ClientValue}
+use Rattle.client_state.specs.ClientSends.{ClientStep}
 use Rattle.user_nodes.specs.declared.put.Progress.{Progress}
-use Rattle.user_nodes.specs.Users.{is_opened, is_committed, is_returned, first_failure, first_of_two}
-use Rattle.user_nodes.specs.Puts.{with_answers}
+use Rattle.user_nodes.specs.Users.{is_opened, is_committed, is_returned, first_failure, first_of_two, answers_taken}
+use Rattle.user_nodes.specs.Puts.{PutValue, put_after, with_answers}
 
 pub first_is : {X : Type 0} (xs : List X) (x : X) → slice_get xs 0 ≡ Some x → xs ≡ x ∷ drop 1 xs
 first_is [] x is = absurd (cc)
@@ -41,3 +43,10 @@ with_more p a answers = λ i. record {
 -- the first is taken, and counts
 pub counts_first : (p p' : Progress) (a : UserAnswer) (answers : List UserAnswer) → slice_get answers 0 ≡ Some a → p' ≡ with_answers p (a ∷ []) → with_answers p' (drop 1 answers) ≡ with_answers p answers
 counts_first p p' a answers first noted = ap (λ q. with_answers q (drop 1 answers)) noted ∙ with_more p a (drop 1 answers) ∙ ap (with_answers p) (sym (first_is answers a first))
+
+-- all were taken from the client of a step
+pub after_answers : (s : ClientStep) (p : Progress) (c : ClientValue) (n : PutValue) → c ≡ s.client → n.client ≡ answers_taken c → n.progress ≡ with_answers p c.answers → n ≡ put_after s p
+after_answers s p c n stepped taken counted = λ i. record {
+  client = (taken ∙ ap answers_taken stepped) i;
+  progress = (counted ∙ ap (λ (d : ClientValue). with_answers p d.answers) stepped) i;
+}

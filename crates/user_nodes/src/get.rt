@@ -1,6 +1,6 @@
 //! `get`: a file becomes bytes of a sink.
 
-ghost use Rattle.std.specs.Prelude.{◌≡◌, ◌≤◌, ◌∷◌, ◌++◌, [], length, OnOk, IfOk};
+ghost use Rattle.std.specs.Prelude.{◌≡◌, ◌≤◌, ◌∷◌, ◌++◌, [], false, length, OnOk, IfOk};
 ghost use Rattle.rpc_record.specs.Stream.{counted};
 ghost use Rattle.ff_node.specs.Serve.{WritesFor, beside, link_faults, sink_faults};
 ghost use Rattle.user_nodes.specs.Users.{answers_taken, records_of};

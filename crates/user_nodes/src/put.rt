@@ -1,6 +1,6 @@
 //! `put`: bytes of a source become a file.
 
-ghost use Rattle.std.specs.Prelude.{◌≡◌, ◌≤◌, ◌∷◌, [], None, length};
+ghost use Rattle.std.specs.Prelude.{◌≡◌, ◌≤◌, ◌∷◌, [], None, false, length};
 ghost use Rattle.rpc_record.specs.Stream.{counted};
 ghost use Rattle.line_runs.specs.Lines.{all_left};
 ghost use Rattle.ff_node.specs.Serve.{beside, link_faults, sink_faults};
