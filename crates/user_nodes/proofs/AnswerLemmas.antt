@@ -15,15 +15,19 @@ pub first_is : {X : Type 0} (xs : List X) (x : X) → slice_get xs 0 ≡ Some x 
 first_is [] x is = absurd (cc)
 first_is (y ∷ xs) x is = let same : y ≡ x = cc in ap (λ z. z ∷ xs) same
 
+pub none_is : {X : Type 0} (xs : List X) → slice_get xs 0 ≡ None → xs ≡ []
+none_is [] is = refl
+none_is (y ∷ xs) is = absurd (cc)
+
 any_after : (one others : Bool) → ((one || false) || others) ≡ (one || others)
 any_after true others = refl
 any_after false others = refl
 
-any_more : {X : Type 0} (test : X → Bool) (was : Bool) (x : X) (xs : List X) → ((was || list_any test (x ∷ [])) || list_any test xs) ≡ (was || list_any test (x ∷ xs))
+pub any_more : {X : Type 0} (test : X → Bool) (was : Bool) (x : X) (xs : List X) → ((was || list_any test (x ∷ [])) || list_any test xs) ≡ (was || list_any test (x ∷ xs))
 any_more test true x xs = refl
 any_more test false x xs = any_after (test x) (list_any test xs)
 
-failed_more : (was : Option FailCause) (a : UserAnswer) (answers : List UserAnswer) → first_of_two (first_of_two was (first_failure (a ∷ []))) (first_failure answers) ≡ first_of_two was (first_failure (a ∷ answers))
+pub failed_more : (was : Option FailCause) (a : UserAnswer) (answers : List UserAnswer) → first_of_two (first_of_two was (first_failure (a ∷ []))) (first_failure answers) ≡ first_of_two was (first_failure (a ∷ answers))
 failed_more (Some cause) a answers = refl
 failed_more None (Failed cause) answers = refl
 failed_more None (Opened file) answers = refl

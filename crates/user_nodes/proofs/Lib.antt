@@ -1,5 +1,6 @@
 pub mod AnswerLemmas
 pub mod AskLemmas
+pub mod GetLemmas
 pub mod PieceLemmas
 pub mod ReadLemmas
 pub mod RunLemmas

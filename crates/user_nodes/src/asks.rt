@@ -1,11 +1,11 @@
-//! What `put` asks of its client: a file is opened, each piece of the bytes is written as it is read, all is
-//! committed, and the layout is given back.
+//! What is asked of a client. Of `put`: a file is opened, each piece of the bytes is written as it is read, all is
+//! committed, and the layout is given back. Of `get`: the file is opened, and its first piece is read.
 
-ghost use Rattle.std.specs.Prelude.{◌≡◌, ◌<◌, ◌≤◌, ◌*◌, ◌∷◌, [], length, IfErr, OnOk};
+ghost use Rattle.std.specs.Prelude.{◌≡◌, ◌<◌, ◌≤◌, ◌*◌, ◌∷◌, [], length, OnOk};
 ghost use Rattle.rpc_record.specs.Stream.{counted};
 ghost use Rattle.cluster_model.specs.declared.limits.TheConstants.{PIECE_SIZE};
 ghost use Rattle.line_runs.specs.Lines.{all_left};
-ghost use Rattle.client_state.specs.declared.request.UserRequest.TheVariants.{Commit, Return};
+ghost use Rattle.client_state.specs.declared.request.UserRequest.TheVariants.{Commit, Open, Read, Return};
 ghost use Rattle.user_nodes.specs.Users.{HasAsked};
 ghost use Rattle.user_nodes.specs.Puts.{AsksPut, AsksWrites, writes_at};
 
@@ -94,4 +94,13 @@ pub(crate) fn ask_put<S: Source>(
         Ok(()) => Ok(()),
         Err(NoMemory) => Err(Failed::NoMemory),
     }
+}
+
+/// Asks for the beginning of a get.
+pub(crate) fn ask_get(client: &mut Client, name: &str, out: &mut Outbox) -> Result<(), NoMemory>
+    requires { length name.now ≤ 255 }
+    ensures { OnOk result (HasAsked (Open name.now ∷ Read 0 PIECE_SIZE ∷ []) client.old.client out.old.sends.items client.new.client out.new.sends.items) }
+{
+    client.open(name, out)?;
+    client.read(0, PIECE_SIZE, out)
 }

@@ -2,10 +2,12 @@
 
 ghost use Rattle.std.specs.Prelude.{◌≡◌, ◌≤◌, ◌∷◌, ◌++◌, [], false, length, OnOk, IfOk};
 ghost use Rattle.rpc_record.specs.Stream.{counted};
+ghost use Rattle.client_state.specs.QueueSteps.{HasStepped};
 ghost use Rattle.ff_node.specs.Serve.{WritesFor, beside, link_faults, sink_faults};
 ghost use Rattle.user_nodes.specs.Users.{answers_taken, records_of};
 ghost use Rattle.user_nodes.specs.Gets.{GetsFile, answer_bytes, answered_bytes, get_begins, get_from, get_rule, goes_on_after, reads_next, saw_more, saw_none, seen_outcome, size_behind};
 
+use crate::asks::ask_get;
 use crate::user::{client_does, new_client, outcome_by};
 use cluster_model::{FailCause, Outbox, PIECE_SIZE, UserAnswer};
 use ff_node::{Node, NodeEnd, serve_node};
@@ -64,6 +66,13 @@ impl Seen {
     {
         outcome_by(self.failed, self.has_end)
     }
+
+    /// Bytes came, and the file goes on behind them.
+    fn goes_on(&self) -> bool
+        ensures { result ≡ goes_on_after self.now }
+    {
+        self.has_bytes && self.outcome().is_none()
+    }
 }
 
 /// The bytes that were read.
@@ -111,8 +120,7 @@ impl GetNode {
         ensures sends { OnOk result (out.new.sends.items ≡ out.old.sends.items ++ records_of (get_begins own moment name.now)) }
     {
         let mut client = new_client(alloc, own, moment)?;
-        client.open(name, out)?;
-        client.read(0, PIECE_SIZE, out)?;
+        ask_get(&mut client, name, out)?;
         Ok(GetNode {
             client,
             size: 0,
@@ -130,25 +138,26 @@ impl GetNode {
         ensures faults { K.faults sink.new ≡ counted result (K.faults sink.old) }
     {
         let mut seen = Seen::new();
+        let mut size = self.size;
         'answers: while let Some(answer) = self.client.answers() {
             seen.note(&answer);
             let bytes = bytes_of(&answer);
             write_all(sink, bytes)?;
-            self.size = self.size.saturating_add(bytes.len() as u64);
+            size = size.saturating_add(bytes.len() as u64);
         }
+        self.size = size;
         Ok(seen)
     }
+}
 
-    /// Asks for the next bytes where some came and it goes on behind them.
-    fn read_on(&mut self, seen: Seen, out: &mut Outbox) -> Result<(), NoMemory>
-        ensures client { OnOk result (self.new ≡ record self.old { client = (reads_next self.old.size (goes_on_after seen) self.old.client).client }) }
-        ensures sends { OnOk result (out.new.sends.items ≡ out.old.sends.items ++ records_of (reads_next self.old.size (goes_on_after seen) self.old.client)) }
-    {
-        if seen.has_bytes && seen.outcome().is_none() {
-            return self.client.read(self.size, PIECE_SIZE, out);
-        }
-        Ok(())
+/// Asks for the next bytes, from this place on, where some came and it goes on behind them.
+fn read_on(client: &mut Client, at: u64, seen: Seen, out: &mut Outbox) -> Result<(), NoMemory>
+    ensures { OnOk result (HasStepped (reads_next at (goes_on_after seen) client.old.client) out.old client.new.client out.new) }
+{
+    if seen.goes_on() {
+        return client.read(at, PIECE_SIZE, out);
     }
+    Ok(())
 }
 
 impl Node for GetNode {
@@ -169,7 +178,7 @@ impl Node for GetNode {
         }
         let seen = self.take_answers(sink)?;
         self.outcome = self.outcome.or(seen.outcome());
-        match self.read_on(seen, out) {
+        match read_on(&mut self.client, self.size, seen, out) {
             Ok(()) => Ok(false),
             Err(NoMemory) => Err(Failed::NoMemory),
         }
