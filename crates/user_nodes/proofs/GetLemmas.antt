@@ -1,5 +1,5 @@
 -- How a get goes on from answer to answer.
-use Rattle.std.proofs.Common.{◌≡◌, ℕ, ◌+◌, ◌-◌, ◌^◌, ◌<◌, ◌≤◌, min, Bool, true, false, List, [], ◌∷◌, ◌++◌, length, drop, Option, Some, None, Result, Ok, Err, refl, sym, ap, subst, ◌∙◌, arith, append_assoc}
+use Rattle.std.proofs.Common.{◌≡◌, ℕ, ◌+◌, ◌-◌, ◌^◌, ◌<◌, ◌≤◌, min, Bool, true, false, List, [], ◌∷◌, ◌++◌, length, drop, Option, Some, None, Result, Ok, Err, refl, sym, ap, subst, ◌∙◌, arith, append_assoc, append-nil}
 use Rattle.std.proofs.lemmas.List.{length-append}
 use Rattle.std.specs.Prelude.{OnOk, IsErr, slice_get}
 use Rattle.std.proofs.lemmas.Bool.{false≢true}
@@ -15,11 +15,13 @@ use Rattle.client_state.specs.QueueSteps.{HasStepped}
 use Rattle.mirror_client.specs.ClientRule.{client_requested}
 use Rattle.mirror_client.specs.ClientSteps.{ClientOfUser, StepsBy}
 use Rattle.client_state.specs.ClientStates.{ClientValue}
+use Rattle.client_state.specs.ClientSends.{ClientStep}
+use Rattle.ff_node.specs.Nodes.{SentRecords}
 use Rattle.ff_node.specs.Serve.{behind, TookBeginning, WritesFor}
 use Rattle.ff_node.proofs.ServeLemmas.{more_more}
 use Rattle.user_nodes.specs.declared.get.Seen.{Seen}
-use Rattle.user_nodes.specs.Users.{answers_taken}
-use Rattle.user_nodes.specs.Gets.{GetValue, reads_next, answer_bytes, answered_bytes, has_bytes, says_end, saw_more, size_behind}
+use Rattle.user_nodes.specs.Users.{answers_taken, records_of}
+use Rattle.user_nodes.specs.Gets.{GetValue, reads_next, answer_bytes, answered_bytes, has_bytes, says_end, saw_more, saw_none, seen_outcome, goes_on_after, goes_on_reading, size_behind, first_outcome, get_outcome, get_does}
 use Rattle.user_nodes.proofs.AnswerLemmas.{any_more, failed_more, first_is, none_is}
 
 -- the next read is asked for
@@ -106,3 +108,53 @@ all_taken n c d size none fits last client sizes o outcome =
       size = (same ∙ sizes) i;
       outcome = outcome i;
     }
+
+-- ---- a step
+
+took_none : (held : Option (List ℕ)) (text : List ℕ) → TookBeginning held text held
+took_none None text = refl
+took_none (Some old) text = ([], record { rest = text; whole = refl }, ap Some (sym (append-nil old)))
+
+took_all : (held : Option (List ℕ)) (text : List ℕ) (held' : Option (List ℕ)) → held' ≡ behind held text → TookBeginning held text held'
+took_all None text held' is = is
+took_all (Some old) text held' is = (text, record { rest = []; whole = append-nil text }, is)
+
+pub took_for : {T : Type 0} (held : Option (List ℕ)) (text : List ℕ) (held' : Option (List ℕ)) (result : Result T Failed) → IsErr result → TookBeginning held text held' → WritesFor held text result held'
+took_for held text held' (Ok x) fails took = absurd (cc (fails))
+took_for held text held' (Err e) fails took = took
+
+module _ (s : ClientStep) (n : GetValue) where
+  -- the client did not do the step
+  pub step_fails : (held : Option (List ℕ)) → TookBeginning held (get_does s n.size n.outcome).text held
+  step_fails held = took_none held (answered_bytes s.client.answers)
+
+  module _ (c : ClientValue) (stepped : c ≡ s.client) where
+    pub bytes_after : {T : Type 0} (held held' : Option (List ℕ)) (result : Result T Failed) → WritesFor held (answered_bytes c.answers) result held' → WritesFor held (get_does s n.size n.outcome).text result held'
+    bytes_after held held' result writes = subst (λ (d : ClientValue). WritesFor held (answered_bytes d.answers) result held') stepped writes
+
+    -- its bytes were written, and then something failed
+    pub all_then_fails : (held held' : Option (List ℕ)) (x : Seen) → WritesFor held (answered_bytes c.answers) (Ok x) held' → TookBeginning held (get_does s n.size n.outcome).text held'
+    all_then_fails held held' x writes = took_all held (answered_bytes s.client.answers) held' (subst (λ (d : ClientValue). held' ≡ behind held (answered_bytes d.answers)) stepped writes)
+
+    module _ (seen : Seen) (saw : seen ≡ saw_more saw_none c.answers) (mid : GetValue)
+      (taken : mid ≡ record { client = answers_taken c; size = size_behind n.size c.answers; outcome = n.outcome }) where
+      goes_on : reads_next mid.size (goes_on_after seen) mid.client ≡ reads_next (size_behind n.size s.client.answers) (goes_on_reading s.client.answers) (answers_taken s.client)
+      goes_on =
+          ap (λ (m : GetValue). reads_next m.size (goes_on_after seen) m.client) taken ∙ ap (λ (t : Seen). reads_next (size_behind n.size c.answers) (goes_on_after t) (answers_taken c)) saw
+          ∙ ap (λ (d : ClientValue). reads_next (size_behind n.size d.answers) (goes_on_reading d.answers) (answers_taken d)) stepped
+
+      pub state_after_step : (last : GetValue) → last.client ≡ (reads_next mid.size (goes_on_after seen) mid.client).client → last.size ≡ mid.size → last.outcome ≡ first_outcome mid.outcome (seen_outcome seen)
+          → last ≡ (get_does s n.size n.outcome).state
+      state_after_step last client size outcome = λ i. record {
+        client = (client ∙ ap (λ (t : ClientStep). t.client) goes_on) i;
+        size = (size ∙ ap (λ (m : GetValue). m.size) taken ∙ ap (λ (d : ClientValue). size_behind n.size d.answers) stepped) i;
+        outcome =
+            (outcome ∙ ap (λ (m : GetValue). first_outcome m.outcome (seen_outcome seen)) taken ∙ ap (λ (t : Seen). first_outcome n.outcome (seen_outcome t)) saw
+            ∙ ap (λ (d : ClientValue). first_outcome n.outcome (get_outcome d.answers)) stepped) i;
+      }
+
+      pub sends_after_step : (before between after : SentRecords) → between ≡ before ++ records_of s → after ≡ between ++ records_of (reads_next mid.size (goes_on_after seen) mid.client)
+          → after ≡ before ++ (get_does s n.size n.outcome).sends
+      sends_after_step before between after first second =
+          let next = reads_next (size_behind n.size s.client.answers) (goes_on_reading s.client.answers) (answers_taken s.client) in
+          second ∙ ap (λ (t : ClientStep). between ++ records_of t) goes_on ∙ ap (λ (l : SentRecords). l ++ records_of next) first ∙ append_assoc before (records_of s) (records_of next)

@@ -5,7 +5,7 @@ ghost use Rattle.rpc_record.specs.Stream.{counted};
 ghost use Rattle.client_state.specs.QueueSteps.{HasStepped};
 ghost use Rattle.ff_node.specs.Serve.{WritesFor, beside, link_faults, sink_faults};
 ghost use Rattle.user_nodes.specs.Users.{answers_taken, records_of};
-ghost use Rattle.user_nodes.specs.Gets.{GetsFile, answer_bytes, answered_bytes, get_begins, get_from, get_rule, goes_on_after, reads_next, saw_more, saw_none, seen_outcome, size_behind};
+ghost use Rattle.user_nodes.specs.Gets.{GetsFile, answer_bytes, answered_bytes, first_outcome, get_begins, get_from, get_rule, goes_on_after, reads_next, saw_more, saw_none, seen_outcome, size_behind};
 
 use crate::asks::ask_get;
 use crate::user::{client_does, new_client, outcome_by};
@@ -148,6 +148,17 @@ impl GetNode {
         self.size = size;
         Ok(seen)
     }
+
+    /// Keeps what the get came to by these answers, and asks for the next bytes where it goes on.
+    fn go_on(&mut self, seen: Seen, out: &mut Outbox) -> Result<(), NoMemory>
+        ensures client { OnOk result (self.new.client ≡ (reads_next self.old.size (goes_on_after seen) self.old.client).client) }
+        ensures size { self.new.size ≡ self.old.size }
+        ensures outcome { self.new.outcome ≡ first_outcome self.old.outcome (seen_outcome seen) }
+        ensures sends { OnOk result (out.new.sends.items ≡ out.old.sends.items ++ records_of (reads_next self.old.size (goes_on_after seen) self.old.client)) }
+    {
+        self.outcome = self.outcome.or(seen.outcome());
+        read_on(&mut self.client, self.size, seen, out)
+    }
 }
 
 /// Asks for the next bytes, from this place on, where some came and it goes on behind them.
@@ -177,11 +188,10 @@ impl Node for GetNode {
             return Err(Failed::NoMemory);
         }
         let seen = self.take_answers(sink)?;
-        self.outcome = self.outcome.or(seen.outcome());
-        match read_on(&mut self.client, self.size, seen, out) {
-            Ok(()) => Ok(false),
-            Err(NoMemory) => Err(Failed::NoMemory),
+        if self.go_on(seen, out).is_err() {
+            return Err(Failed::NoMemory);
         }
+        Ok(false)
     }
 
     fn outcome(&self) -> Option<Result<(), FailCause>> {
