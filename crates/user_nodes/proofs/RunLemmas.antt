@@ -14,6 +14,7 @@ use Rattle.ff_node.specs.Nodes.{NodeRule, SentRecords}
 use Rattle.ff_node.specs.Serve.{Beside, beside, NodeRuns, end_of_link}
 use Rattle.user_nodes.specs.Users.{AsksClock, records_of}
 use Rattle.user_nodes.specs.Puts.{BeginsPut, PutValue, PutsBytes, PutsNothing, PutsFile, end_of_source, no_progress, put_after, put_begins, put_rule}
+use Rattle.user_nodes.specs.Gets.{GetValue, GetsFile, get_begins, get_from, get_rule}
 
 -- ---- what is beside a node
 
@@ -59,4 +60,28 @@ module _ (config : Config) (name : List ℕ) (unread : Option (List ℕ)) (opene
         begun,
         (rises, gives, refl),
         inl (begins.0, begins.1, inl (is-opened, (served, run_is put_rule (records_of step) sends (put_after step no_progress) p served config.turns begun b after end begins.3 begins.2 same runs))),
+      )
+
+-- ---- a get
+
+module _ (config : Config) (name : List ℕ) (opened : Option Opening) (coming : Option (List Arrival)) (sent : Option SentRecords) (moments : Option (List ℕ)) (last : ℕ) (held : Option (List ℕ)) (moment : ℕ)
+  (moments' : Option (List ℕ)) (rises : last ≤ moment) (gives : GivesMoment moments last moment moments') where
+  abbrev get_before : Beside
+  get_before = beside coming sent moments last held
+
+  abbrev get_begun : Beside
+  get_begun = beside coming sent moments' moment held
+
+  pub get_unopened : (e : Failed) (end : NodeEnd) (opened' : Option Opening) (after : Beside) → end ≡ end_of_link e → opened' ≡ opened → after ≡ get_begun → GetsFile config name opened get_before end opened' after
+  get_unopened e end opened' after is same-opened same = (moment, get_begun, (rises, gives, refl), inr (e, is, same-opened, same))
+
+  pub get_served : (n served : GetValue) (none sends : SentRecords) (b after : Beside) (end : NodeEnd) (opened' : Option Opening) → n ≡ get_from (get_begins config.own moment name) → none ≡ []
+      → sends ≡ none ++ records_of (get_begins config.own moment name) → opened' ≡ Some (opening_of config role.Client) → b ≡ get_begun → NodeRuns get_rule sends n config.turns b end served after
+      → GetsFile config name opened get_before end opened' after
+  get_served n served none sends b after end opened' begins empty first is-opened same runs =
+      let step = get_begins config.own moment name in (
+        moment,
+        get_begun,
+        (rises, gives, refl),
+        inl (is-opened, (served, run_is get_rule (records_of step) sends (get_from step) n served config.turns get_begun b after end (first ∙ ap (λ (l : SentRecords). l ++ records_of step) empty) begins same runs)),
       )
