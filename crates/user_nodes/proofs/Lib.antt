@@ -1,5 +1,6 @@
 pub mod AnswerLemmas
 pub mod AskLemmas
+pub mod CopyLemmas
 pub mod GetLemmas
 pub mod PieceLemmas
 pub mod ReadLemmas
