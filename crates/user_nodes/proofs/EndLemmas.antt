@@ -1,5 +1,5 @@
 -- What clients answered in a put or a get that ended well.
-use Rattle.std.proofs.Common.{◌≡◌, ℕ, zero, suc, ◌<◌, Bool, true, false, ◌||◌, ◌&&◌, List, [], ◌∷◌, ◌++◌, length, Option, Some, None, Result, Ok, Err, refl, sym, ap, subst, ◌∙◌, arith, append_assoc}
+use Rattle.std.proofs.Common.{◌≡◌, ℕ, zero, suc, ◌<◌, Bool, true, false, ◌||◌, ◌&&◌, List, [], ◌∷◌, ◌++◌, length, Option, Some, None, Result, Ok, Err, refl, sym, ap, subst, ◌∙◌, arith, append_assoc, append-nil}
 use Rattle.std.proofs.lemmas.Bool.{false≢true}
 use Rattle.std.specs.List.{Contains, list_any}
 use Rattle.cluster_model.specs.declared.ids.FileId.{FileId}
@@ -13,7 +13,7 @@ use Rattle.ff_node.specs.Serve.{Beside, NodeServes}
 use Rattle.user_nodes.specs.declared.put.Progress.{Progress}
 use Rattle.user_nodes.specs.Users.{client_does, is_opened, is_committed, is_returned, first_failure, first_of_two, outcome_by}
 use Rattle.user_nodes.specs.Puts.{PutValue, no_progress, put_after, put_outcome, put_rule, with_answers}
-use Rattle.user_nodes.specs.Gets.{GetValue, answer_bytes, answered_bytes, get_from, get_outcome, get_rule, says_end}
+use Rattle.user_nodes.specs.Gets.{GetValue, answer_bytes, answered_bytes, first_outcome, get_from, get_outcome, get_rule, says_end}
 use Rattle.user_nodes.specs.Copies.{IsGot, IsPut, NeverFailed, all_put_answers, answers_over, put_answers}
 use Rattle.user_nodes.proofs.AnswerLemmas.{with_more}
 use Rattle.user_nodes.proofs.RunLemmas.{done_by_itself}
@@ -145,3 +145,66 @@ put_done s turns b last b' serves =
     let counts : serves.mid.progress ≡ with_answers no_progress (all_put_answers s events) =
     ap (λ (p : PutValue). p.progress) serves.served.state ∙ put_counts begun events ∙ with_append no_progress s.client.answers (put_answers begun events) in
     is_put (all_put_answers s events) by_itself.0 (ap put_outcome (sym counts) ∙ by_itself.1)
+
+-- ---- a get
+
+-- what answers join to
+failure_behind : (a : UserAnswer) (answers more : List UserAnswer) → first_failure (a ∷ answers) ≡ None → first_failure (a ∷ more) ≡ first_failure more
+failure_behind (Failed cause) answers more none = absurd (cc)
+failure_behind (Opened file) answers more none = refl
+failure_behind Written answers more none = refl
+failure_behind (Committed writes) answers more none = refl
+failure_behind (Bytes eof bytes) answers more none = refl
+failure_behind Returned answers more none = refl
+
+none_failed_join : (answers more : List UserAnswer) → first_failure answers ≡ None → first_failure (answers ++ more) ≡ first_failure more
+none_failed_join [] more none = refl
+none_failed_join (a ∷ answers) more none = failure_behind a answers (answers ++ more) none ∙ none_failed_join answers more (none_failed_later a answers none)
+
+or_true : (b : Bool) → (b || true) ≡ true
+or_true true = refl
+or_true false = refl
+
+any_join : (test : UserAnswer → Bool) (answers more : List UserAnswer) → list_any test more ≡ true → list_any test (answers ++ more) ≡ true
+any_join test [] more some = some
+any_join test (a ∷ answers) more some = ap (λ b. test a || b) (any_join test answers more some) ∙ or_true (test a)
+
+-- no request failed, and the end was read
+abbrev Ends : List UserAnswer → Type 0
+Ends answers = (first_failure answers ≡ None) × (list_any says_end answers ≡ true)
+
+-- it came to an end in a step, which is the last
+ends_in : (answers : List UserAnswer) (next : GetValue) (events : List NodeEvent) (r : Result (Unit {0}) FailCause) (x : Unit {0}) → get_outcome answers ≡ Some r → next.outcome ≡ Some r → IsGoing get_rule next events
+    → (state_after get_rule next events).outcome ≡ Some (Ok x) → Ends (answers ++ answers_over next events)
+ends_in answers next [] r x came is going done =
+    subst (λ l. Ends l) (sym (append-nil answers)) (done_by (first_failure answers) (list_any says_end answers) x (came ∙ sym is ∙ done))
+ends_in answers next (e ∷ events) r x came is going done = absurd (cc (is, going.0))
+
+-- it did not, and goes on
+ends_later : (answers more : List UserAnswer) → get_outcome answers ≡ None → Ends more → Ends (answers ++ more)
+ends_later answers more none (no_failure, ended) = (
+  none_failed_join answers more (not_yet (first_failure answers) (list_any says_end answers) none) ∙ no_failure,
+  any_join says_end answers more ended,
+)
+
+by_outcome : (events : List NodeEvent) (answers : List UserAnswer) (next : GetValue) (o : Option (Result (Unit {0}) FailCause)) → get_outcome answers ≡ o → next.outcome ≡ o → (next.outcome ≡ None → Ends (answers_over next events))
+    → ((r : Result (Unit {0}) FailCause) → get_outcome answers ≡ Some r → next.outcome ≡ Some r → Ends (answers ++ answers_over next events)) → Ends (answers ++ answers_over next events)
+by_outcome events answers next None is came later now = ends_later answers (answers_over next events) is (later came)
+by_outcome events answers next (Some r) is came later now = now r is came
+
+get_ends : (g : GetValue) (events : List NodeEvent) (x : Unit {0}) → g.outcome ≡ None → IsGoing get_rule g events → (state_after get_rule g events).outcome ≡ Some (Ok x) → Ends (answers_over g events)
+get_ends g [] x none going done = absurd (cc (none, done))
+get_ends g (e ∷ events) x none going done =
+    let answers = (client_does e g.client).client.answers in
+    let next = (get_rule.step g e).state in
+    let came : next.outcome ≡ get_outcome answers = ap (λ o. first_outcome o (get_outcome answers)) none in
+    by_outcome events answers next (get_outcome answers) refl came (λ goes. get_ends next events x goes going.1 done) (λ r is came_to. ends_in answers next events r x is came_to going.1 done)
+
+pub get_done : (s : ClientStep) (turns : ℕ) (b : Beside) (last : GetValue) (b' : Beside) (serves : NodeServes get_rule (get_from s) turns b ends.Done last b') → IsGot (answers_over (get_from s) serves.served.taken)
+get_done s turns b last b' serves =
+    let events = serves.served.taken in
+    let answers = answers_over (get_from s) events in
+    let by_itself = done_by_itself get_rule refl serves.left serves.mid serves.beside_mid last b' serves.stops in
+    let ended = get_ends (get_from s) events by_itself.0 refl serves.served.going (ap (λ (g : GetValue). g.outcome) (sym serves.served.state) ∙ by_itself.1) in
+    let end = has_one says_end answers ended.1 in
+    record { never_failed = never_failed answers ended.0; ended = is_an_end answers end.0 end.1 end.2 }
