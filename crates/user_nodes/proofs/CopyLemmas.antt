@@ -1,12 +1,12 @@
 -- What a put writes and a get reads, told by bytes and answers.
-use Rattle.std.proofs.Common.{◌≡◌, ℕ, zero, suc, ◌+◌, ◌-◌, ◌*◌, ◌/◌, ◌<◌, ◌≤◌, Bool, true, false, ◌||◌, ◌⊎◌, List, [], ◌∷◌, ◌++◌, length, map, take, drop, Option, Some, None, Result, Ok, Err, refl, sym, ap, subst, ◌∙◌, arith, append_assoc, append-nil, lit<, lit≤}
+use Rattle.std.proofs.Common.{◌≡◌, ℕ, zero, suc, ◌+◌, ◌-◌, ◌*◌, ◌/◌, ◌<◌, ◌≤◌, List, [], ◌∷◌, ◌++◌, length, map, take, drop, refl, sym, ap, subst, ◌∙◌, arith, append_assoc, append-nil, lit<, lit≤}
 use Rattle.std.proofs.Math.Nat.{lt-div-mul-add, div-mul-le_self}
-use Rattle.std.specs.List.{Contains, flat_map, range_with_len, list_any}
-use Rattle.std.proofs.lemmas.List.{length-append, length-drop, length-take-le, take-append-drop, take_all, drop-drop, drop_all}
+use Rattle.std.specs.List.{range_with_len}
+use Rattle.std.proofs.lemmas.List.{length-drop, length-take-le, take-append-drop, take_all, drop-drop, drop_all}
 use Rattle.cluster_model.specs.declared.limits.TheConstants.{PIECE_SIZE}
 use Rattle.client_state.specs.declared.request.UserRequest.{UserRequest}
-use Rattle.client_state.specs.declared.request.UserRequest.TheVariants.{Write, Open, Commit, Return}
-use Rattle.user_nodes.specs.Puts.{piece_written, writes_of, put_requests}
+use Rattle.client_state.specs.declared.request.UserRequest.TheVariants.{Write, Commit, Return}
+use Rattle.user_nodes.specs.Puts.{writes_of, put_requests}
 use Rattle.user_nodes.specs.Copies.{request_bytes, bytes_written, WritesOn}
 
 -- ---- bytes of requests

@@ -1,5 +1,5 @@
 -- What clients answered in a put or a get that ended well.
-use Rattle.std.proofs.Common.{◌≡◌, ℕ, zero, suc, ◌<◌, Bool, true, false, ◌||◌, ◌&&◌, List, [], ◌∷◌, ◌++◌, length, Option, Some, None, Result, Ok, Err, refl, sym, ap, subst, ◌∙◌, arith, append_assoc, append-nil}
+use Rattle.std.proofs.Common.{◌≡◌, ℕ, zero, suc, Bool, true, false, ◌||◌, ◌&&◌, List, [], ◌∷◌, ◌++◌, Option, Some, None, Result, Ok, refl, sym, ap, subst, ◌∙◌, arith, append_assoc, append-nil}
 use Rattle.std.proofs.lemmas.Bool.{false≢true}
 use Rattle.std.specs.List.{Contains, list_any}
 use Rattle.cluster_model.specs.declared.ids.FileId.{FileId}
@@ -8,7 +8,7 @@ use Rattle.cluster_model.specs.declared.answer.UserAnswer.TheVariants.{Opened, W
 use Rattle.cluster_model.specs.declared.answer.FailCause.{FailCause}
 use Rattle.client_state.specs.ClientSends.{ClientStep}
 use Rattle.ff_node.specs.declared.end.NodeEnd.TheVariants as ends
-use Rattle.ff_node.specs.Nodes.{NodeEvent, NodeRule, IsGoing, state_after, text_over}
+use Rattle.ff_node.specs.Nodes.{NodeEvent, IsGoing, state_after, text_over}
 use Rattle.ff_node.specs.Serve.{Beside, NodeServes}
 use Rattle.user_nodes.specs.declared.put.Progress.{Progress}
 use Rattle.user_nodes.specs.Users.{client_does, is_opened, is_committed, is_returned, first_failure, first_of_two, outcome_by}

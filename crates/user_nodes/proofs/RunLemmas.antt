@@ -1,5 +1,5 @@
 -- What putting and getting did, by what was done one after the other.
-use Rattle.std.proofs.Common.{◌≡◌, ℕ, ◌≤◌, false, ◌⊎◌, inl, inr, List, [], ◌++◌, Option, Some, None, Result, Ok, Err, refl, sym, ap, subst, ◌∙◌}
+use Rattle.std.proofs.Common.{◌≡◌, ℕ, ◌≤◌, false, ◌⊎◌, inl, inr, List, [], ◌++◌, Option, Some, None, Result, Ok, Err, refl, ap, subst, ◌∙◌}
 use Rattle.rpc_record.specs.declared.stream.Failed.{Failed}
 use Rattle.rpc_record.specs.declared.stream.Failed.TheVariants as failed
 use Rattle.cluster_model.specs.declared.answer.FailCause.{FailCause}
@@ -8,13 +8,13 @@ use Rattle.node_link.specs.declared.link.Arrival.{Arrival}
 use Rattle.node_link.specs.declared.link.Opening.{Opening}
 use Rattle.node_link.specs.declared.link.Role.TheVariants as role
 use Rattle.node_link.specs.Clock.{GivesMoment}
-use Rattle.node_link.specs.Link.{opening_of, OpensLink}
+use Rattle.node_link.specs.Link.{opening_of}
 use Rattle.ff_node.specs.declared.end.NodeEnd.{NodeEnd}
 use Rattle.ff_node.specs.declared.end.NodeEnd.TheVariants as ends
 use Rattle.ff_node.specs.Nodes.{NodeRule, SentRecords}
 use Rattle.ff_node.specs.Serve.{Beside, beside, NodeRuns, Stops, end_of_link, end_of_outcome, end_of_event, last_end}
-use Rattle.user_nodes.specs.Users.{AsksClock, records_of}
-use Rattle.user_nodes.specs.Puts.{BeginsPut, PutValue, PutsBytes, PutsNothing, PutsFile, end_of_source, no_progress, put_after, put_begins, put_rule}
+use Rattle.user_nodes.specs.Users.{records_of}
+use Rattle.user_nodes.specs.Puts.{BeginsPut, PutValue, PutsFile, end_of_source, no_progress, put_after, put_begins, put_rule}
 use Rattle.user_nodes.specs.Gets.{GetValue, GetsFile, get_begins, get_from, get_rule}
 
 -- ---- what is beside a node
@@ -62,7 +62,7 @@ source_ends failed.Fault end is = inl is
 source_ends failed.NoMemory end is = inr is
 
 module _ (config : Config) (name : List ℕ) (unread : Option (List ℕ)) (opened : Option Opening) (coming : Option (List Arrival)) (sent : Option SentRecords) (moments : Option (List ℕ)) (last : ℕ)
-  (moment : ℕ) (moments' : Option (List ℕ)) (rises : last ≤ moment) (gives : GivesMoment moments last moment moments') where
+    (moment : ℕ) (moments' : Option (List ℕ)) (rises : last ≤ moment) (gives : GivesMoment moments last moment moments') where
   abbrev before : Beside
   before = beside coming sent moments last None
 
@@ -90,7 +90,7 @@ module _ (config : Config) (name : List ℕ) (unread : Option (List ℕ)) (opene
 -- ---- a get
 
 module _ (config : Config) (name : List ℕ) (opened : Option Opening) (coming : Option (List Arrival)) (sent : Option SentRecords) (moments : Option (List ℕ)) (last : ℕ) (held : Option (List ℕ)) (moment : ℕ)
-  (moments' : Option (List ℕ)) (rises : last ≤ moment) (gives : GivesMoment moments last moment moments') where
+    (moments' : Option (List ℕ)) (rises : last ≤ moment) (gives : GivesMoment moments last moment moments') where
   abbrev get_before : Beside
   get_before = beside coming sent moments last held
 

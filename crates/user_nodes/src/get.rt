@@ -237,13 +237,5 @@ pub fn run_get<L: Link, C: Clock, K: Sink>(
         link.finish();
         return NodeEnd::of_link(failed);
     }
-    serve_node(
-        alloc,
-        config.turns,
-        out.sends,
-        &mut node,
-        link,
-        clock,
-        sink,
-    )
+    serve_node(alloc, config.turns, out.sends, &mut node, link, clock, sink)
 }

@@ -63,10 +63,7 @@ impl Progress {
     fn outcome(&self) -> Option<Result<(), FailCause>>
         ensures { result ≡ put_outcome self.now }
     {
-        outcome_by(
-            self.failed,
-            self.opened && self.committed && self.returned,
-        )
+        outcome_by(self.failed, self.opened && self.committed && self.returned)
     }
 }
 
