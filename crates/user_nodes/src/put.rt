@@ -54,8 +54,7 @@ impl Progress {
             UserAnswer::Committed { .. } => self.committed = true,
             UserAnswer::Returned => self.returned = true,
             UserAnswer::Failed(cause) => self.failed = self.failed.or(Some(*cause)),
-            UserAnswer::Written => {}
-            UserAnswer::Bytes { .. } => {}
+            UserAnswer::Written | UserAnswer::Bytes { .. } => {}
         }
     }
 
