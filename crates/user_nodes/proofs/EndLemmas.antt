@@ -144,7 +144,7 @@ put_done s turns b last b' serves =
     let by_itself = done_by_itself put_rule refl serves.left serves.mid serves.beside_mid last b' serves.stops in
     let counts : serves.mid.progress ≡ with_answers no_progress (all_put_answers s events) =
     ap (λ (p : PutValue). p.progress) serves.served.state ∙ put_counts begun events ∙ with_append no_progress s.client.answers (put_answers begun events) in
-    is_put (all_put_answers s events) by_itself.0 (ap put_outcome (sym counts) ∙ by_itself.1)
+    is_put (all_put_answers s events) by_itself.0.0 (ap put_outcome (sym counts) ∙ by_itself.0.1)
 
 -- ---- a get
 
@@ -205,6 +205,6 @@ get_done s turns b last b' serves =
     let events = serves.served.taken in
     let answers = answers_over (get_from s) events in
     let by_itself = done_by_itself get_rule refl serves.left serves.mid serves.beside_mid last b' serves.stops in
-    let ended = get_ends (get_from s) events by_itself.0 refl serves.served.going (ap (λ (g : GetValue). g.outcome) (sym serves.served.state) ∙ by_itself.1) in
+    let ended = get_ends (get_from s) events by_itself.0.0 refl serves.served.going (ap (λ (g : GetValue). g.outcome) (sym serves.served.state) ∙ by_itself.0.1) in
     let end = has_one says_end answers ended.1 in
     record { never_failed = never_failed answers ended.0; ended = is_an_end answers end.0 end.1 end.2 }

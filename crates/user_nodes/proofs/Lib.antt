@@ -1,6 +1,7 @@
 pub mod AnswerLemmas
 pub mod AskLemmas
 pub mod CopyLemmas
+pub mod DoneLemmas
 pub mod EndLemmas
 pub mod GetLemmas
 pub mod PieceLemmas

@@ -48,8 +48,8 @@ module _ {S : Type 0} (rule : NodeRule S) (is_user : rule.is_server ≡ false) (
   no_event failed.Fault done = absurd (cc (done))
   no_event failed.NoMemory done = absurd (cc (done))
 
-  pub done_by_itself : Stops rule left s b ends.Done s' b' → (x : Unit {0}) × (rule.outcome s ≡ Some (Ok x))
-  done_by_itself (inl (r, is, done, same)) = outcome_is r done is
+  pub done_by_itself : Stops rule left s b ends.Done s' b' → ((x : Unit {0}) × (rule.outcome s ≡ Some (Ok x))) × (b' ≡ b)
+  done_by_itself (inl (r, is, done, same)) = (outcome_is r done is, same.1)
   done_by_itself (inr (none, inl (done, more))) = absurd (no_last done)
   done_by_itself (inr (none, inr (some, inl (e, done, same)))) = absurd (no_link e done)
   done_by_itself (inr (none, inr (some, inr breaks))) = absurd (no_event breaks.error breaks.end_is)

@@ -1,5 +1,5 @@
 -- What a put writes and a get reads, told by bytes and answers.
-use Rattle.std.specs.Prelude.{⊤, ◌≡◌, ℕ, ◌+◌, ◌≤◌, true, List, [], ◌∷◌, ◌++◌, length}
+use Rattle.std.specs.Prelude.{⊤, ◌≡◌, ℕ, ◌+◌, ◌≤◌, true, List, [], ◌∷◌, ◌++◌, length, map, Option}
 use Rattle.std.specs.List.{Contains, flat_map}
 use Rattle.cluster_model.specs.declared.limits.TheConstants.{PIECE_SIZE}
 use Rattle.cluster_model.specs.declared.ids.FileId.{FileId}
@@ -9,10 +9,12 @@ use Rattle.cluster_model.specs.declared.answer.FailCause.{FailCause}
 use Rattle.client_state.specs.declared.request.UserRequest.{UserRequest}
 use Rattle.client_state.specs.declared.request.UserRequest.TheVariants.{Write}
 use Rattle.client_state.specs.ClientSends.{ClientStep}
+use Rattle.node_config.specs.declared.config.Config.{Config}
 use Rattle.ff_node.specs.Nodes.{NodeEvent}
+use Rattle.ff_node.specs.Serve.{Beside, TakesFront, behind}
 use Rattle.user_nodes.specs.Users.{client_does}
-use Rattle.user_nodes.specs.Puts.{PutValue, no_progress, put_after, put_rule}
-use Rattle.user_nodes.specs.Gets.{GetValue, get_rule}
+use Rattle.user_nodes.specs.Puts.{PutValue, ReadsAll, no_progress, put_after, put_begins, put_rule}
+use Rattle.user_nodes.specs.Gets.{GetValue, answered_bytes, get_begins, get_from, get_rule}
 
 -- ---- what a put writes
 
@@ -60,3 +62,22 @@ pub record IsPut (answers : List UserAnswer) : Type 0 where
 pub record IsGot (answers : List UserAnswer) : Type 0 where
   pub never_failed : NeverFailed answers
   pub ended : (bytes : List ℕ) × Contains answers (Bytes true bytes)
+
+-- ---- what ended well
+
+-- A put: these are the bytes that were read, and over the events that came its client answered as for a put that is done.
+pub record PutWell (config : Config) (name : List ℕ) (unread : Option (List ℕ)) (b : Beside) (left : Option (List ℕ)) (b' : Beside) : Type 0 where
+  pub bytes : List ℕ
+  pub read : ReadsAll unread bytes left
+  pub moment : ℕ
+  pub events : List NodeEvent
+  pub came : TakesFront b.coming (map (λ (e : NodeEvent). e.arrival) events) b'.coming
+  pub answered : IsPut (all_put_answers (put_begins config.own moment name bytes) events)
+
+-- A get: over the events that came its client answered as for a get that is done, and the sink got the bytes of its answers.
+pub record GotWell (config : Config) (name : List ℕ) (b b' : Beside) : Type 0 where
+  pub moment : ℕ
+  pub events : List NodeEvent
+  pub came : TakesFront b.coming (map (λ (e : NodeEvent). e.arrival) events) b'.coming
+  pub answered : IsGot (answers_over (get_from (get_begins config.own moment name)) events)
+  pub written : b'.held ≡ behind b.held (answered_bytes (answers_over (get_from (get_begins config.own moment name)) events))

@@ -99,8 +99,8 @@ impl Model for GetNode {
 }
 
 impl GetNode {
-    /// A new client that was asked to open the file with this name of at most 255 bytes, and to read its first piece.
-    /// The moment, in seconds, tells this start of it from the next. Its first records go to `out`.
+    /// A new client that was asked to open the file of this name, and to read its first piece. The moment, in seconds,
+    /// tells this start of it from the next. Its first records go to `out`.
     fn begin(
         alloc: Global,
         own: u32,
@@ -196,16 +196,16 @@ impl Node for GetNode {
     }
 }
 
-/// Gets the file of this name, of at most 255 bytes, from the metadata server of the configuration, by the
-/// configuration's own client, and writes its bytes to the sink. The clock is asked for the moment, in seconds, which
-/// tells this start of the client from the next; then the link is opened, and over it the file is opened and read,
-/// piece by piece, until its end (RFC 8881), within as many arrivals as the configuration has turns. What is read is
-/// written to the sink at once.
+/// Gets the file of this name, by the client and at the metadata server of the configuration, and writes its bytes to
+/// the sink. The clock is asked for the moment, in seconds, which tells this start of the client from the next. Then
+/// the link is opened, and over it the file is opened and read, a piece of 65,536 bytes at a time, until its end
+/// (RFC 8881), within as many arrivals as the configuration has turns. A piece is written before the next is asked for.
 ///
-/// `NodeEnd::Done` is that all of it was read and written. `NodeEnd::Failed` says why the first request was not done
-/// that was not. `NodeEnd::WriteFault` is a fault of the sink, and `NodeEnd::LinkFault` one of the link in opening it
-/// or in asking for what comes. However it ends, the sink has a beginning of what was read, and what the client sent
-/// went to the streams that take it.
+/// `NodeEnd::Done` is that the end was read and all is written, and `NodeEnd::Failed` says of the first request that was
+/// not done why. `NodeEnd::WriteFault` is a fault of the sink, and `NodeEnd::LinkFault` one of the link in opening it or
+/// in asking for what comes; nothing else is. `NodeEnd::Turns` is that the end was not read. For want of memory less may
+/// have been sent than the client sends. However it ends, the sink has a beginning of what was read, and what the client
+/// sent went to the streams that take it.
 pub fn run_get<L: Link, C: Clock, K: Sink>(
     alloc: Global,
     config: &Config,

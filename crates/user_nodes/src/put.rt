@@ -92,8 +92,8 @@ impl PutNode {
         }
     }
 
-    /// A new client that was asked to put all bytes that the buffer holds and the source has left, as a file of at most
-    /// 255 bytes of name. The moment, in seconds, tells this start of it from the next. Its first records go to `out`.
+    /// A new client that was asked to put all bytes that the buffer holds and the source has left, as the file of this
+    /// name. The moment, in seconds, tells this start of it from the next. Its first records go to `out`.
     ///
     /// `Failed::Fault` is the source's, and `Failed::NoMemory` want of memory.
     fn begin<S: Source>(
@@ -160,16 +160,16 @@ fn end_of_source(failed: Failed) -> NodeEnd
     }
 }
 
-/// Puts the bytes that the buffer holds, and behind them those of the source, as the file of this name, of at most 255
-/// bytes, at the metadata server of the configuration, by the configuration's own client. The clock is asked for the
-/// moment, in seconds, which tells this start of the client from the next; then all is read, of a source at most one
-/// piece more than a file may have; then the link is opened, and over it the file is opened, written to all of its
-/// mirrors, committed, and its layout given back (RFC 8881, RFC 8435), within as many arrivals as the configuration has
-/// turns.
+/// Puts the bytes that the buffer holds, and behind them those of the source, as the file of this name, by the client
+/// and at the metadata server of the configuration. The clock is asked for the moment, in seconds, which tells this
+/// start of the client from the next. Then all is read, of a source at most one piece of 65,536 bytes more than a file
+/// may have. Then the link is opened, and over it the file is opened, written to all of its mirrors, committed, and its
+/// layout given back (RFC 8881, RFC 8435), within as many arrivals as the configuration has turns.
 ///
-/// `NodeEnd::Done` is that all of it was answered. `NodeEnd::Failed` says why the first request was not done that was
-/// not. `NodeEnd::ReadFault` is a fault of the source, and `NodeEnd::LinkFault` one of the link in opening it or in
-/// asking for what comes. However it ends, what it sent went to the streams that take it.
+/// `NodeEnd::Done` is that all of this was answered, and `NodeEnd::Failed` says of the first request that was not done
+/// why. `NodeEnd::ReadFault` is a fault of the source, and `NodeEnd::LinkFault` one of the link in opening it or in
+/// asking for what comes; nothing else is. `NodeEnd::Turns` is that an answer is missing. For want of memory less may
+/// have been sent than the client sends. However it ends, what it sent went to the streams that take it.
 pub fn run_put<S: Source, L: Link, C: Clock>(
     alloc: Global,
     config: &Config,

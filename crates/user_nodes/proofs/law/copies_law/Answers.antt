@@ -1,5 +1,6 @@
 use Rattle.user_nodes.proofs.CopyLemmas.{put_writes, put_places}
-use Rattle.user_nodes.proofs.EndLemmas.{get_reads, put_done, get_done}
+use Rattle.user_nodes.proofs.DoneLemmas.{put_well, got_well}
+use Rattle.user_nodes.proofs.EndLemmas.{get_reads}
 use Rattle.user_nodes.proofs.law.copies_law.Goals as goal
 
 pub returns-clause-writes : goal.returns-clause-writes
@@ -12,7 +13,7 @@ pub returns-clause-reads : goal.returns-clause-reads
 returns-clause-reads c = get_reads
 
 pub returns-clause-put : goal.returns-clause-put
-returns-clause-put c = put_done
+returns-clause-put c = λ config name unread left opened opened' b b'. put_well config name unread left opened opened' b b'
 
 pub returns-clause-got : goal.returns-clause-got
-returns-clause-got c = get_done
+returns-clause-got c = λ config name opened opened' b b'. got_well config name opened opened' b b'
