@@ -8,7 +8,7 @@ use Rattle.cluster_model.specs.declared.answer.FailCause.{FailCause}
 use Rattle.client_state.specs.ClientStates.{ClientValue}
 use Rattle.client_state.specs.ClientSends.{ClientStep}
 use Rattle.user_nodes.specs.declared.put.Progress.{Progress}
-use Rattle.user_nodes.specs.Users.{is_opened, is_committed, is_returned, first_failure, first_of_two, answers_taken}
+use Rattle.user_nodes.specs.Users.{says_opened, says_committed, says_returned, first_failure, first_of_two, answers_taken}
 use Rattle.user_nodes.specs.Puts.{PutValue, put_after, with_answers}
 
 pub first_is : {X : Type 0} (xs : List X) (x : X) → slice_get xs 0 ≡ Some x → xs ≡ x ∷ drop 1 xs
@@ -38,9 +38,9 @@ failed_more None Returned answers = refl
 
 pub with_more : (p : Progress) (a : UserAnswer) (answers : List UserAnswer) → with_answers (with_answers p (a ∷ [])) answers ≡ with_answers p (a ∷ answers)
 with_more p a answers = λ i. record {
-  opened = any_more is_opened p.opened a answers i;
-  committed = any_more is_committed p.committed a answers i;
-  returned = any_more is_returned p.returned a answers i;
+  opened = any_more says_opened p.opened a answers i;
+  committed = any_more says_committed p.committed a answers i;
+  returned = any_more says_returned p.returned a answers i;
   failed = failed_more p.failed a answers i;
 }
 

@@ -14,7 +14,7 @@ use Rattle.mirror_client.specs.ClientRule.{client_requested}
 use Rattle.mirror_client.specs.ClientSteps.{ClientOfUser, StepsBy}
 use Rattle.ff_node.specs.Nodes.{SentRecords}
 use Rattle.user_nodes.specs.Users.{records_of, all_requested, HasAsked}
-use Rattle.user_nodes.specs.Puts.{writes_at}
+use Rattle.user_nodes.specs.Puts.{write_if_any}
 
 -- ---- steps
 
@@ -90,12 +90,12 @@ asked_then requests r c sends mid new between after (Err e) asked steps = tt
 
 -- ---- a piece is written
 
-pub wrote_none : (at : ℕ) (bytes : List ℕ) (c : ClientValue) (sends : SentRecords) → true ≡ length bytes == 0 → HasAsked (writes_at at bytes) c sends c sends
+pub wrote_none : (at : ℕ) (bytes : List ℕ) (c : ClientValue) (sends : SentRecords) → true ≡ length bytes == 0 → HasAsked (write_if_any at bytes) c sends c sends
 wrote_none at [] c sends none = asked_none c sends
 wrote_none at (b ∷ bytes) c sends none = absurd (omega (arith, eqb-true (length (b ∷ bytes)) 0 (sym none)))
 
 pub wrote_some : (at place : ℕ) (bytes : List ℕ) (old new : ClientOfUser) (before after : Outbox) (result : Result (Unit {0}) NoMemory) → false ≡ length bytes == 0 → place ≡ at
-    → StepsBy (client_requested (Write place bytes)) old before result new after → OnOk result (HasAsked (writes_at at bytes) old.client before.sends.items new.client after.sends.items)
+    → StepsBy (client_requested (Write place bytes)) old before result new after → OnOk result (HasAsked (write_if_any at bytes) old.client before.sends.items new.client after.sends.items)
 wrote_some at place bytes old new before after (Err e) some same steps = tt
 wrote_some at place [] old new before after (Ok x) some same steps = absurd (cc)
 wrote_some at place (b ∷ bytes) old new before after (Ok x) some same steps =

@@ -11,7 +11,7 @@ use Rattle.ff_node.specs.declared.end.NodeEnd.TheVariants as ends
 use Rattle.ff_node.specs.Nodes.{NodeEvent, IsGoing, state_after, text_over}
 use Rattle.ff_node.specs.Serve.{Beside, NodeServes}
 use Rattle.user_nodes.specs.declared.put.Progress.{Progress}
-use Rattle.user_nodes.specs.Users.{client_does, is_opened, is_committed, is_returned, first_failure, first_of_two, outcome_by}
+use Rattle.user_nodes.specs.Users.{client_does, says_opened, says_committed, says_returned, first_failure, first_of_two, done_or_failed}
 use Rattle.user_nodes.specs.Puts.{PutValue, no_progress, put_after, put_outcome, put_rule, with_answers}
 use Rattle.user_nodes.specs.Gets.{GetValue, answer_bytes, answered_bytes, first_outcome, get_from, get_outcome, get_rule, says_end}
 use Rattle.user_nodes.specs.Copies.{IsGot, IsPut, NeverFailed, all_put_answers, answers_over, put_answers}
@@ -69,15 +69,15 @@ has_one : (test : UserAnswer → Bool) (answers : List UserAnswer) → list_any 
 has_one test [] some = absurd (false≢true some)
 has_one test (a ∷ answers) some = one_of test a answers (test a) refl some (has_one test answers)
 
-is_an_opening : (answers : List UserAnswer) (a : UserAnswer) → is_opened a ≡ true → Contains answers a → (file : FileId) × Contains answers (Opened file)
+is_an_opening : (answers : List UserAnswer) (a : UserAnswer) → says_opened a ≡ true → Contains answers a → (file : FileId) × Contains answers (Opened file)
 is_an_opening answers (Opened file) is at = (file, at)
 is_an_opening answers a is at = absurd (false≢true is)
 
-is_a_commit : (answers : List UserAnswer) (a : UserAnswer) → is_committed a ≡ true → Contains answers a → (writes : ℕ) × Contains answers (Committed writes)
+is_a_commit : (answers : List UserAnswer) (a : UserAnswer) → says_committed a ≡ true → Contains answers a → (writes : ℕ) × Contains answers (Committed writes)
 is_a_commit answers (Committed writes) is at = (writes, at)
 is_a_commit answers a is at = absurd (false≢true is)
 
-is_a_return : (answers : List UserAnswer) (a : UserAnswer) → is_returned a ≡ true → Contains answers a → Contains answers Returned
+is_a_return : (answers : List UserAnswer) (a : UserAnswer) → says_returned a ≡ true → Contains answers a → Contains answers Returned
 is_a_return answers Returned is at = at
 is_a_return answers a is at = absurd (false≢true is)
 
@@ -101,12 +101,12 @@ never_failed (a ∷ answers) none cause (suc k, below, is) = never_failed answer
 
 -- ---- outcomes
 
-done_by : (failure : Option FailCause) (done : Bool) (x : Unit {0}) → outcome_by failure done ≡ Some (Ok x) → (failure ≡ None) × (done ≡ true)
+done_by : (failure : Option FailCause) (done : Bool) (x : Unit {0}) → done_or_failed failure done ≡ Some (Ok x) → (failure ≡ None) × (done ≡ true)
 done_by (Some cause) done x is = absurd (cc)
 done_by None true x is = (refl, refl)
 done_by None false x is = absurd (cc)
 
-not_yet : (failure : Option FailCause) (done : Bool) → outcome_by failure done ≡ None → failure ≡ None
+not_yet : (failure : Option FailCause) (done : Bool) → done_or_failed failure done ≡ None → failure ≡ None
 not_yet (Some cause) done is = absurd (cc)
 not_yet None done is = refl
 
@@ -124,12 +124,12 @@ put_counts p (e ∷ events) =
 
 is_put : (answers : List UserAnswer) (x : Unit {0}) → put_outcome (with_answers no_progress answers) ≡ Some (Ok x) → IsPut answers
 is_put answers x done =
-    let by = done_by (first_failure answers) ((list_any is_opened answers && list_any is_committed answers) && list_any is_returned answers) x done in
-    let two = both (list_any is_opened answers && list_any is_committed answers) (list_any is_returned answers) by.1 in
-    let one = both (list_any is_opened answers) (list_any is_committed answers) two.0 in
-    let opening = has_one is_opened answers one.0 in
-    let commit = has_one is_committed answers one.1 in
-    let return = has_one is_returned answers two.1 in
+    let by = done_by (first_failure answers) ((list_any says_opened answers && list_any says_committed answers) && list_any says_returned answers) x done in
+    let two = both (list_any says_opened answers && list_any says_committed answers) (list_any says_returned answers) by.1 in
+    let one = both (list_any says_opened answers) (list_any says_committed answers) two.0 in
+    let opening = has_one says_opened answers one.0 in
+    let commit = has_one says_committed answers one.1 in
+    let return = has_one says_returned answers two.1 in
     record {
       never_failed = never_failed answers by.0;
       opened = is_an_opening answers opening.0 opening.1 opening.2;

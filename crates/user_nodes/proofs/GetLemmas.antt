@@ -21,7 +21,7 @@ use Rattle.ff_node.specs.Serve.{behind, TookBeginning, WritesFor}
 use Rattle.ff_node.proofs.ServeLemmas.{more_more}
 use Rattle.user_nodes.specs.declared.get.Seen.{Seen}
 use Rattle.user_nodes.specs.Users.{answers_taken, records_of}
-use Rattle.user_nodes.specs.Gets.{GetValue, reads_next, answer_bytes, answered_bytes, has_bytes, says_end, saw_more, saw_none, seen_outcome, goes_on_after, goes_on_reading, size_behind, first_outcome, get_outcome, get_does}
+use Rattle.user_nodes.specs.Gets.{GetValue, reads_next, answer_bytes, answered_bytes, says_bytes, says_end, saw_more, saw_none, seen_outcome, goes_on_after, goes_on_reading, size_behind, first_outcome, get_outcome, get_does}
 use Rattle.user_nodes.proofs.AnswerLemmas.{any_more, failed_more, first_is, none_is}
 
 -- the next read is asked for
@@ -65,7 +65,7 @@ module _ (a : UserAnswer) (answers : List UserAnswer) (first : slice_get answers
   saw_first s s' noted =
       let rest = drop 1 answers in
       let one : saw_more (saw_more s (a ∷ [])) rest ≡ saw_more s (a ∷ rest) = λ i. record {
-        has_bytes = any_more has_bytes s.has_bytes a rest i;
+        has_bytes = any_more says_bytes s.has_bytes a rest i;
         has_end = any_more says_end s.has_end a rest i;
         failed = failed_more s.failed a rest i;
       } in

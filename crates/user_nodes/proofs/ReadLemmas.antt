@@ -6,7 +6,7 @@ use Rattle.client_state.specs.declared.request.UserRequest.TheVariants.{Open, Co
 use Rattle.client_state.specs.ClientStates.{ClientValue}
 use Rattle.ff_node.specs.Nodes.{SentRecords}
 use Rattle.user_nodes.specs.Users.{HasAsked}
-use Rattle.user_nodes.specs.Puts.{ReadsPiece, ReadsAll, AsksWrites, AsksPut, writes_of, writes_at, most_read}
+use Rattle.user_nodes.specs.Puts.{ReadsPiece, ReadsAll, AsksWrites, AsksPut, writes_of, write_if_any, most_read}
 use Rattle.user_nodes.proofs.AskLemmas.{asked_none, asked_more}
 use Rattle.user_nodes.proofs.WriteLemmas.{writes_more}
 
@@ -65,11 +65,11 @@ pieces_none unread c sends = ([], refl, reads_none unread, asked_none c sends)
 module _ (n : ℕ) (unread : Option (List ℕ)) (c : ClientValue) (sends : SentRecords) where
   -- a piece was read, and its write asked for
   module _ (left left' : Option (List ℕ)) (piece : List ℕ) (count : ℕ) (mid c' : ClientValue) (between sends' : SentRecords) (size : length piece ≡ PIECE_SIZE) (within : count ≤ length piece)
-      (so_far : HasAskedPieces n unread c sends left mid between) (reads : ReadsPiece left piece (Ok count) left') (asked : HasAsked (writes_at (n * PIECE_SIZE) (take count piece)) mid between c' sends') where
+      (so_far : HasAskedPieces n unread c sends left mid between) (reads : ReadsPiece left piece (Ok count) left') (asked : HasAsked (write_if_any (n * PIECE_SIZE) (take count piece)) mid between c' sends') where
     all_asked : HasAsked (writes_of (so_far.0 ++ take count piece)) c sends c' sends'
     all_asked =
         subst (λ l. HasAsked l c sends c' sends') (sym (writes_more n so_far.0 (take count piece) so_far.1 (omega (arith, length-take-le count piece within))))
-        (asked_more (writes_of so_far.0) (writes_at (n * PIECE_SIZE) (take count piece)) c mid c' sends between sends' so_far.3 asked)
+        (asked_more (writes_of so_far.0) (write_if_any (n * PIECE_SIZE) (take count piece)) c mid c' sends between sends' so_far.3 asked)
 
     pub pieces_more : length piece ≤ count → HasAskedPieces (n + 1) unread c sends left' c' sends'
     pieces_more full = (

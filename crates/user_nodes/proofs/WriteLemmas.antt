@@ -7,7 +7,7 @@ use Rattle.std.proofs.Math.Nat.{mul-le-mul_right}
 use Rattle.cluster_model.specs.declared.limits.TheConstants.{PIECE_SIZE}
 use Rattle.client_state.specs.declared.request.UserRequest.{UserRequest}
 use Rattle.client_state.specs.declared.request.UserRequest.TheVariants.{Write}
-use Rattle.user_nodes.specs.Puts.{writes_of, writes_at}
+use Rattle.user_nodes.specs.Puts.{writes_of, write_if_any}
 
 -- ---- ranges
 
@@ -63,6 +63,6 @@ module _ (k : ℕ) (some : 0 < k) where
 
 -- ---- one piece more
 
-pub writes_more : (n : ℕ) (bytes more : List ℕ) → length bytes ≡ n * PIECE_SIZE → length more ≤ PIECE_SIZE → writes_of (bytes ++ more) ≡ writes_of bytes ++ writes_at (n * PIECE_SIZE) more
+pub writes_more : (n : ℕ) (bytes more : List ℕ) → length bytes ≡ n * PIECE_SIZE → length more ≤ PIECE_SIZE → writes_of (bytes ++ more) ≡ writes_of bytes ++ write_if_any (n * PIECE_SIZE) more
 writes_more n bytes [] size few = ap writes_of (append-nil bytes) ∙ sym (append-nil (writes_of bytes))
 writes_more n bytes (b ∷ more) size few = piece_more PIECE_SIZE (lit< tt) n bytes (b ∷ more) size (omega arith) few

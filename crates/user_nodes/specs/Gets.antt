@@ -16,7 +16,7 @@ use Rattle.ff_node.specs.declared.end.NodeEnd.{NodeEnd}
 use Rattle.ff_node.specs.Nodes.{NodeRule, NodeStep}
 use Rattle.ff_node.specs.Serve.{Beside, OpensThen, NodeRuns}
 use Rattle.user_nodes.specs.declared.get.Seen.{Seen}
-use Rattle.user_nodes.specs.Users.{client_does, records_of, all_requested, first_failure, first_of_two, answers_taken, outcome_by, AsksClock}
+use Rattle.user_nodes.specs.Users.{client_does, records_of, all_requested, first_failure, first_of_two, answers_taken, done_or_failed, AsksClock}
 
 -- ---- its answers
 
@@ -25,12 +25,13 @@ abbrev pub answer_bytes : UserAnswer → List ℕ
 answer_bytes (Bytes eof bytes) = bytes
 answer_bytes answer = []
 
+-- the bytes of all answers, one after the other
 abbrev pub answered_bytes : List UserAnswer → List ℕ
 answered_bytes answers = flat_map answer_bytes answers
 
-abbrev pub has_bytes : UserAnswer → Bool
-has_bytes (Bytes eof bytes) = true
-has_bytes answer = false
+abbrev pub says_bytes : UserAnswer → Bool
+says_bytes (Bytes eof bytes) = true
+says_bytes answer = false
 
 -- the file ends behind them
 abbrev pub says_end : UserAnswer → Bool
@@ -39,24 +40,28 @@ says_end answer = false
 
 -- ---- what the answers of a step say
 
+-- no answer came yet
 abbrev pub saw_none : Seen
 saw_none = record { has_bytes = false; has_end = false; failed = None }
 
+-- with these too
 abbrev pub saw_more : Seen → List UserAnswer → Seen
 saw_more s answers = record {
-  has_bytes = s.has_bytes || list_any has_bytes answers;
+  has_bytes = s.has_bytes || list_any says_bytes answers;
   has_end = s.has_end || list_any says_end answers;
   failed = first_of_two s.failed (first_failure answers);
 }
 
 -- a request failed, or the file's end was read
 abbrev pub seen_outcome : Seen → Option (Result (Unit {0}) FailCause)
-seen_outcome s = outcome_by s.failed s.has_end
+seen_outcome s = done_or_failed s.failed s.has_end
 
+-- it has come to no end yet
 abbrev pub is_unended : Option (Result (Unit {0}) FailCause) → Bool
 is_unended None = true
 is_unended (Some r) = false
 
+-- bytes came, and nothing ended the get
 abbrev pub goes_on_after : Seen → Bool
 goes_on_after s = s.has_bytes && is_unended (seen_outcome s)
 
@@ -70,8 +75,9 @@ pub record GetValue : Type 0 where
 
 -- a request failed, or the file's end was read
 abbrev pub get_outcome : List UserAnswer → Option (Result (Unit {0}) FailCause)
-get_outcome answers = outcome_by (first_failure answers) (list_any says_end answers)
+get_outcome answers = done_or_failed (first_failure answers) (list_any says_end answers)
 
+-- the first of two
 abbrev pub first_outcome : Option (Result (Unit {0}) FailCause) → Option (Result (Unit {0}) FailCause) → Option (Result (Unit {0}) FailCause)
 first_outcome (Some r) other = Some r
 first_outcome None other = other
@@ -81,8 +87,9 @@ abbrev pub reads_next : ℕ → Bool → ClientValue → ClientStep
 reads_next size true c = client_requested (Read size PIECE_SIZE) c
 reads_next size false c = sends_none c
 
+-- the same, by the answers of a step
 abbrev pub goes_on_reading : List UserAnswer → Bool
-goes_on_reading answers = list_any has_bytes answers && is_unended (get_outcome answers)
+goes_on_reading answers = list_any says_bytes answers && is_unended (get_outcome answers)
 
 -- the count stands still at the end of a u64
 abbrev pub size_behind : ℕ → List UserAnswer → ℕ

@@ -19,7 +19,7 @@ use Rattle.ff_node.specs.declared.end.NodeEnd.TheVariants as ends
 use Rattle.ff_node.specs.Nodes.{NodeRule, NodeStep, SentRecords}
 use Rattle.ff_node.specs.Serve.{Beside, OpensThen, NodeRuns}
 use Rattle.user_nodes.specs.declared.put.Progress.{Progress}
-use Rattle.user_nodes.specs.Users.{client_does, records_of, all_requested, HasAsked, is_opened, is_committed, is_returned, first_failure, first_of_two, answers_taken, outcome_by, AsksClock}
+use Rattle.user_nodes.specs.Users.{client_does, records_of, all_requested, HasAsked, says_opened, says_committed, says_returned, first_failure, first_of_two, answers_taken, done_or_failed, AsksClock}
 
 -- ---- what is asked
 
@@ -52,15 +52,16 @@ ReadsPiece (Some bytes) piece (Ok n) left = (take n piece ≡ take (length piece
 ReadsPiece (Some bytes) piece (Err e) left = (n : ℕ) × (n ≤ length piece) × (left ≡ Some (drop n bytes))
 
 -- a write of these from this place on; none, where there are no bytes
-abbrev pub writes_at : ℕ → List ℕ → List UserRequest
-writes_at at [] = []
-writes_at at (b ∷ bytes) = Write at (b ∷ bytes) ∷ []
+abbrev pub write_if_any : ℕ → List ℕ → List UserRequest
+write_if_any at [] = []
+write_if_any at (b ∷ bytes) = Write at (b ∷ bytes) ∷ []
 
--- What asking for the writes did, and for all: what was read is written, in pieces. At an error less was asked for.
+-- What asking for the writes did: what was read is written, in pieces. At an error less was asked for.
 abbrev pub AsksWrites : Option (List ℕ) → ClientValue → SentRecords → Result (Unit {0}) Failed → Option (List ℕ) → ClientValue → SentRecords → Type 0
 AsksWrites unread c sends (Ok x) left c' sends' = (bytes : List ℕ) × ReadsAll unread bytes left × HasAsked (writes_of bytes) c sends c' sends'
 AsksWrites unread c sends (Err e) left c' sends' = ⊤
 
+-- The same of all of a put.
 abbrev pub AsksPut : List ℕ → Option (List ℕ) → ClientValue → SentRecords → Result (Unit {0}) Failed → Option (List ℕ) → ClientValue → SentRecords → Type 0
 AsksPut name unread c sends (Ok x) left c' sends' = (bytes : List ℕ) × ReadsAll unread bytes left × HasAsked (put_requests name bytes) c sends c' sends'
 AsksPut name unread c sends (Err e) left c' sends' = ⊤
@@ -71,17 +72,18 @@ AsksPut name unread c sends (Err e) left c' sends' = ⊤
 abbrev pub no_progress : Progress
 no_progress = record { opened = false; committed = false; returned = false; failed = None }
 
+-- with these too
 abbrev pub with_answers : Progress → List UserAnswer → Progress
 with_answers p answers = record {
-  opened = p.opened || list_any is_opened answers;
-  committed = p.committed || list_any is_committed answers;
-  returned = p.returned || list_any is_returned answers;
+  opened = p.opened || list_any says_opened answers;
+  committed = p.committed || list_any says_committed answers;
+  returned = p.returned || list_any says_returned answers;
   failed = first_of_two p.failed (first_failure answers);
 }
 
 -- It is done once the file was opened, all was committed and the layout was given back, and no request failed.
 abbrev pub put_outcome : Progress → Option (Result (Unit {0}) FailCause)
-put_outcome p = outcome_by p.failed ((p.opened && p.committed) && p.returned)
+put_outcome p = done_or_failed p.failed ((p.opened && p.committed) && p.returned)
 
 pub record PutValue : Type 0 where
   pub client : ClientValue

@@ -40,17 +40,17 @@ HasAsked requests c sends c' sends' = (c' ≡ (all_requested requests c).client)
 
 -- ---- what its answers say
 
-abbrev pub is_opened : UserAnswer → Bool
-is_opened (Opened file) = true
-is_opened answer = false
+abbrev pub says_opened : UserAnswer → Bool
+says_opened (Opened file) = true
+says_opened answer = false
 
-abbrev pub is_committed : UserAnswer → Bool
-is_committed (Committed writes) = true
-is_committed answer = false
+abbrev pub says_committed : UserAnswer → Bool
+says_committed (Committed writes) = true
+says_committed answer = false
 
-abbrev pub is_returned : UserAnswer → Bool
-is_returned Returned = true
-is_returned answer = false
+abbrev pub says_returned : UserAnswer → Bool
+says_returned Returned = true
+says_returned answer = false
 
 -- the first that says that a request was not done
 abbrev pub first_failure : List UserAnswer → Option FailCause
@@ -68,10 +68,10 @@ abbrev pub answers_taken : ClientValue → ClientValue
 answers_taken c = record c { answers = [] }
 
 -- what came to an end: it failed by this, or, if not, it is done
-abbrev pub outcome_by : Option FailCause → Bool → Option (Result (Unit {0}) FailCause)
-outcome_by (Some cause) done = Some (Err cause)
-outcome_by None true = Some (Ok tt)
-outcome_by None false = None
+abbrev pub done_or_failed : Option FailCause → Bool → Option (Result (Unit {0}) FailCause)
+done_or_failed (Some cause) done = Some (Err cause)
+done_or_failed None true = Some (Ok tt)
+done_or_failed None false = None
 
 -- ---- its beginning
 

@@ -7,7 +7,7 @@ ghost use Rattle.cluster_model.specs.declared.limits.TheConstants.{PIECE_SIZE};
 ghost use Rattle.line_runs.specs.Lines.{all_left};
 ghost use Rattle.client_state.specs.declared.request.UserRequest.TheVariants.{Commit, Open, Read, Return};
 ghost use Rattle.user_nodes.specs.Users.{HasAsked};
-ghost use Rattle.user_nodes.specs.Puts.{AsksPut, AsksWrites, writes_at};
+ghost use Rattle.user_nodes.specs.Puts.{AsksPut, AsksWrites, write_if_any};
 
 use crate::pieces::read_piece;
 use cluster_model::{MAX_FILE, Outbox, PIECE_SIZE};
@@ -21,7 +21,7 @@ use std::alloc::Global;
 const MOST_PIECES: u64 = MAX_FILE / PIECE_SIZE as u64 + 1;
 
 /// Asks for a write of the piece with this number, from 0; of nothing where the piece is empty.
-fn write_piece(
+fn ask_write(
     client: &mut Client,
     number: u64,
     piece: &[u8],
@@ -29,7 +29,7 @@ fn write_piece(
 ) -> Result<(), NoMemory>
     requires within { number < MOST_PIECES }
     requires few { length piece.now ≤ PIECE_SIZE }
-    ensures { OnOk result (HasAsked (writes_at (number * PIECE_SIZE) piece.now) client.old.client out.old.sends.items client.new.client out.new.sends.items) }
+    ensures { OnOk result (HasAsked (write_if_any (number * PIECE_SIZE) piece.now) client.old.client out.old.sends.items client.new.client out.new.sends.items) }
 {
     if piece.is_empty() {
         return Ok(());
@@ -52,7 +52,7 @@ fn ask_writes<S: Source>(
 {
     'pieces: for number in 0..MOST_PIECES {
         let count = read_piece(buffer, source, piece)?;
-        if write_piece(client, number, &piece[..count], out).is_err() {
+        if ask_write(client, number, &piece[..count], out).is_err() {
             return Err(Failed::NoMemory);
         }
         if count < piece.len() {

@@ -8,7 +8,7 @@ ghost use Rattle.user_nodes.specs.Users.{answers_taken, records_of};
 ghost use Rattle.user_nodes.specs.Gets.{GetsFile, answer_bytes, answered_bytes, first_outcome, get_begins, get_from, get_rule, goes_on_after, reads_next, saw_more, saw_none, seen_outcome, size_behind};
 
 use crate::asks::ask_get;
-use crate::user::{client_does, new_client, outcome_by};
+use crate::user::{client_does, done_or_failed, fresh_client};
 use cluster_model::{FailCause, Outbox, PIECE_SIZE, UserAnswer};
 use ff_node::{Node, NodeEnd, serve_node};
 use ff_xdr::NoMemory;
@@ -61,7 +61,7 @@ impl Seen {
     fn outcome(&self) -> Option<Result<(), FailCause>>
         ensures { result ≡ seen_outcome self.now }
     {
-        outcome_by(self.failed, self.has_end)
+        done_or_failed(self.failed, self.has_end)
     }
 
     /// Bytes came, and the file goes on behind them.
@@ -73,7 +73,7 @@ impl Seen {
 }
 
 /// The bytes that were read.
-fn bytes_of(answer: &UserAnswer) -> &[u8]
+fn answer_bytes(answer: &UserAnswer) -> &[u8]
     ensures { result.now ≡ answer_bytes answer.now }
 {
     match answer {
@@ -112,7 +112,7 @@ impl GetNode {
         ensures node { IfOk result (λ node. node ≡ get_from (get_begins own moment name.now)) }
         ensures sends { OnOk result (out.new.sends.items ≡ out.old.sends.items ++ records_of (get_begins own moment name.now)) }
     {
-        let mut client = new_client(alloc, own, moment)?;
+        let mut client = fresh_client(alloc, own, moment)?;
         ask_get(&mut client, name, out)?;
         Ok(GetNode {
             client,
@@ -134,7 +134,7 @@ impl GetNode {
         let mut size = self.size;
         'answers: while let Some(answer) = self.client.answers() {
             seen.note(&answer);
-            let bytes = bytes_of(&answer);
+            let bytes = answer_bytes(&answer);
             write_all(sink, bytes)?;
             size = size.saturating_add(bytes.len() as u64);
         }

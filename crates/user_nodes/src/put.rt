@@ -8,7 +8,7 @@ ghost use Rattle.user_nodes.specs.Users.{answers_taken};
 ghost use Rattle.user_nodes.specs.Puts.{BeginsPut, PutsFile, end_of_source, no_progress, put_outcome, put_rule, source_faults, with_answers};
 
 use crate::asks::ask_put;
-use crate::user::{client_does, new_client, outcome_by};
+use crate::user::{client_does, done_or_failed, fresh_client};
 use cluster_model::{FailCause, Outbox, UserAnswer};
 use ff_node::{NoSink, Node, NodeEnd, serve_node};
 use line_runs::LineBuffer;
@@ -62,7 +62,7 @@ impl Progress {
     fn outcome(&self) -> Option<Result<(), FailCause>>
         ensures { result ≡ put_outcome self.now }
     {
-        outcome_by(self.failed, self.opened && self.committed && self.returned)
+        done_or_failed(self.failed, self.opened && self.committed && self.returned)
     }
 }
 
@@ -109,7 +109,7 @@ impl PutNode {
         ensures begins { BeginsPut own moment name.now (all_left buffer.old (S.left source.old)) out.old.sends.items result (all_left buffer.new (S.left source.new)) out.new.sends.items }
         ensures faults { S.faults source.new ≡ counted result (S.faults source.old) }
     {
-        let Ok(mut client) = new_client(alloc, own, moment) else {
+        let Ok(mut client) = fresh_client(alloc, own, moment) else {
             return Err(Failed::NoMemory);
         };
         ask_put(alloc, &mut client, name, buffer, source, out)?;

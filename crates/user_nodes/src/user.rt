@@ -4,7 +4,7 @@ ghost use Rattle.std.specs.Prelude.{◌≡◌, ◌++◌, IfOk, OnOk};
 ghost use Rattle.client_state.specs.ClientStates.{fresh_client};
 ghost use Rattle.client_state.specs.QueueSteps.{HasStepped};
 ghost use Rattle.ff_node.specs.Nodes.{event_at};
-ghost use Rattle.user_nodes.specs.Users.{client_does, client_hears, outcome_by, records_of};
+ghost use Rattle.user_nodes.specs.Users.{client_does, client_hears, done_or_failed, records_of};
 
 use cluster_model::{FailCause, Outbox};
 use ff_xdr::NoMemory;
@@ -16,7 +16,7 @@ use std::alloc::Global;
 const FIRST_XID: u32 = 1;
 
 /// A new client, whose start is told from the next by this moment, in seconds.
-pub(crate) fn new_client(alloc: Global, own: u32, moment: u64) -> Result<Client, NoMemory>
+pub(crate) fn fresh_client(alloc: Global, own: u32, moment: u64) -> Result<Client, NoMemory>
     ensures { IfOk result (λ client. client.client ≡ fresh_client own moment 1) }
 {
     Client::new(alloc, own, moment.to_be_bytes(), FIRST_XID)
@@ -53,8 +53,11 @@ pub(crate) fn client_does(
 }
 
 /// What a node came to: a request failed by this, or, if none did, all is done or something is still to come.
-pub(crate) fn outcome_by(failed: Option<FailCause>, is_done: bool) -> Option<Result<(), FailCause>>
-    ensures { result ≡ outcome_by failed is_done }
+pub(crate) fn done_or_failed(
+    failed: Option<FailCause>,
+    is_done: bool,
+) -> Option<Result<(), FailCause>>
+    ensures { result ≡ done_or_failed failed is_done }
 {
     match failed {
         Some(cause) => Some(Err(cause)),

@@ -8,7 +8,7 @@ use Rattle.user_nodes.proofs.get.GetNode.take_answers.Goals as goal
 pub returns-in_err-write_all-clause-writes : goal.returns-in_err-write_all-clause-writes
 returns-in_err-write_all-clause-writes g c =
     written_part c.in-Some.answer c.answers.self-inside.client.client.answers (sym c.in-Some.ensures.oldest) (g.K.Sink.held c.args.sink.now) (g.K.Sink.held c.answers.sink) (g.K.Sink.held c.write_all.new.sink)
-    (answered_bytes c.args.self.now.client.answers) c.bytes_of-bytes.result.now c.in_err-write_all.field-0.0 c.from_residual.result c.bytes_of-bytes.ensures c.answers.invariant.written
+    (answered_bytes c.args.self.now.client.answers) c.answer_bytes-bytes.result.now c.in_err-write_all.field-0.0 c.from_residual.result c.answer_bytes-bytes.ensures c.answers.invariant.written
     c.in_err-write_all.ensures.told c.from_residual.ensures.0
 
 pub answers-preserved-in_ok-write_all : goal.answers-preserved-in_ok-write_all
@@ -22,11 +22,11 @@ answers-preserved-in_ok-write_all g c =
       client = ap (λ (s : ClientOfUser). answers_taken s.client) c.in-Some.ensures.rest ∙ c.answers.invariant.client;
       outcome = c.answers.invariant.outcome;
       seen = ap (saw_more c.note.new.self) left ∙ saw_first c.in-Some.answer was oldest c.answers.seen c.note.new.self c.note.ensures ∙ c.answers.invariant.seen;
-      size = ap (size_behind c.saturating_add-size.result) left ∙ size_first c.in-Some.answer was oldest c.answers.size c.saturating_add-size.result c.bytes_of-bytes.result.now c.bytes_of-bytes.ensures c.saturating_add-size.ensures ∙ c.answers.invariant.size;
+      size = ap (size_behind c.saturating_add-size.result) left ∙ size_first c.in-Some.answer was oldest c.answers.size c.saturating_add-size.result c.answer_bytes-bytes.result.now c.answer_bytes-bytes.ensures c.saturating_add-size.ensures ∙ c.answers.invariant.size;
       fits = search rules;
       written =
           subst (λ (s : ClientOfUser). HasWrittenFor held all (answered_bytes s.client.answers) (g.K.Sink.held c.write_all.new.sink)) (sym c.in-Some.ensures.rest)
-          (written_first c.in-Some.answer was oldest held (g.K.Sink.held c.answers.sink) (g.K.Sink.held c.write_all.new.sink) all c.bytes_of-bytes.result.now c.in_ok-write_all.field-0 c.bytes_of-bytes.ensures
+          (written_first c.in-Some.answer was oldest held (g.K.Sink.held c.answers.sink) (g.K.Sink.held c.write_all.new.sink) all c.answer_bytes-bytes.result.now c.in_ok-write_all.field-0 c.answer_bytes-bytes.ensures
           c.answers.invariant.written c.in_ok-write_all.ensures.told);
       faults = search rules;
     }

@@ -1,7 +1,7 @@
 use Rattle.std.proofs.Common.{◌*◌, ap}
 use Rattle.cluster_model.specs.declared.limits.TheConstants.{PIECE_SIZE}
 use Rattle.user_nodes.proofs.AskLemmas.{wrote_none, wrote_some}
-use Rattle.user_nodes.proofs.asks.write_piece.Goals as goal
+use Rattle.user_nodes.proofs.asks.ask_write.Goals as goal
 
 pub returns-then-is_empty : goal.returns-then-is_empty
 returns-then-is_empty c = wrote_none (c.args.number * PIECE_SIZE) c.args.piece.now c.args.client.now.client c.args.out.now.sends.items c.if-is_empty.ensures
