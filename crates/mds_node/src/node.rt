@@ -1,9 +1,10 @@
 //! A metadata server as a node.
 
-ghost use Rattle.std.specs.Prelude.{◌≡◌, ◌≤◌, false, length, IfOk};
+ghost use Rattle.std.specs.Prelude.{◌≡◌, ◌≤◌, ◌++◌, false, length, IfOk, OnOk};
 ghost use Rattle.node_config.specs.Configs.{config_value};
 ghost use Rattle.node_config.specs.declared.config.TheConstants.{MAX_MIRRORS, MAX_SERVERS};
 ghost use Rattle.mds_rule.specs.MdsStates.{new_mds};
+ghost use Rattle.mds_rule.specs.Spelled.{records_sent};
 ghost use Rattle.mds_node.specs.MdsNodes.{mds_hears, mds_node_rule};
 
 use cluster_model::{FailCause, Outbox};
@@ -45,7 +46,10 @@ impl MdsNode {
     }
 
     /// A record came, or a call timed out, at `now`, in seconds.
-    fn hear(&mut self, now: u64, arrival: Arrival, out: &mut Outbox) -> Result<(), NoMemory> {
+    fn hear(&mut self, now: u64, arrival: Arrival, out: &mut Outbox) -> Result<(), NoMemory>
+        ensures state { OnOk result (self.new ≡ (mds_hears now arrival self.old).mds) }
+        ensures sends { OnOk result (out.new.sends.items ≡ out.old.sends.items ++ records_sent (mds_hears now arrival self.old)) }
+    {
         match arrival {
             Arrival::Record { from, bytes } => self.mds.on_record(from, bytes.bytes(), now, out),
             Arrival::TimedOut(node) => self.mds.on_timeout(node, now, out),
