@@ -37,13 +37,13 @@ kinds =
     ∷ []
 
 -- the first of some words
-abbrev pub first_word : List (List ℕ) → List ℕ
-first_word [] = []
-first_word (word ∷ rest) = word
+abbrev pub leading_word : List (List ℕ) → List ℕ
+leading_word [] = []
+leading_word (word ∷ rest) = word
 
 -- the first word of an entry's line
 abbrev pub kind_word : Entry → List ℕ
-kind_word entry = first_word (words_of entry)
+kind_word entry = leading_word (words_of entry)
 
 -- its line begins with this word
 abbrev pub is_of_kind : List ℕ → Entry → Bool
