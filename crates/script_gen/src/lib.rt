@@ -4,5 +4,7 @@
 mod draws;
 mod line;
 mod script;
+mod script_law;
 
 pub use script::generate;
+pub use script_law::generated_law;
