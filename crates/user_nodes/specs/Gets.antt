@@ -1,5 +1,5 @@
 -- What `get` does: a client reads a file through the metadata server, and its bytes are written to a sink.
-use Rattle.std.specs.Prelude.{◌≡◌, ◌⊎◌, ℕ, ◌+◌, ◌-◌, ◌^◌, min, Bool, true, false, not, ◌&&◌, List, [], ◌∷◌, ◌++◌, length, flat_map, Option, Some, None, Result, if◌then◌else◌}
+use Rattle.std.specs.Prelude.{◌≡◌, ◌⊎◌, ℕ, ◌+◌, ◌-◌, ◌^◌, min, Bool, true, false, ◌||◌, ◌&&◌, List, [], ◌∷◌, ◌++◌, length, flat_map, Option, Some, None, Result}
 use Rattle.std.specs.List.{list_any}
 use Rattle.cluster_model.specs.declared.limits.TheConstants.{PIECE_SIZE}
 use Rattle.cluster_model.specs.declared.answer.UserAnswer.{UserAnswer}
@@ -17,7 +17,8 @@ use Rattle.ff_node.specs.declared.end.NodeEnd.{NodeEnd}
 use Rattle.ff_node.specs.declared.end.NodeEnd.TheVariants as ends
 use Rattle.ff_node.specs.Nodes.{NodeEvent, NodeRule, NodeStep}
 use Rattle.ff_node.specs.Serve.{Beside, OpensThen, NodeRuns}
-use Rattle.user_nodes.specs.Users.{client_does, records_of, all_requested, first_failure, answers_taken, outcome_by, AsksClock}
+use Rattle.user_nodes.specs.declared.get.Seen.{Seen}
+use Rattle.user_nodes.specs.Users.{client_does, records_of, all_requested, first_failure, first_of_two, answers_taken, outcome_by, AsksClock}
 
 -- ---- its answers
 
@@ -37,6 +38,29 @@ has_bytes answer = false
 abbrev pub says_end : UserAnswer → Bool
 says_end (Bytes eof bytes) = eof
 says_end answer = false
+
+-- ---- what the answers of a step say
+
+abbrev pub saw_none : Seen
+saw_none = record { has_bytes = false; has_end = false; failed = None }
+
+abbrev pub saw_more : Seen → List UserAnswer → Seen
+saw_more s answers = record {
+  has_bytes = s.has_bytes || list_any has_bytes answers;
+  has_end = s.has_end || list_any says_end answers;
+  failed = first_of_two s.failed (first_failure answers);
+}
+
+-- a request failed, or the file's end was read
+abbrev pub seen_outcome : Seen → Option (Result (Unit {0}) FailCause)
+seen_outcome s = outcome_by s.failed s.has_end
+
+abbrev pub is_unended : Option (Result (Unit {0}) FailCause) → Bool
+is_unended None = true
+is_unended (Some r) = false
+
+abbrev pub goes_on_after : Seen → Bool
+goes_on_after s = s.has_bytes && is_unended (seen_outcome s)
 
 -- ---- its rule
 
@@ -58,10 +82,6 @@ first_outcome None other = other
 abbrev pub reads_next : ℕ → Bool → ClientValue → ClientStep
 reads_next size true c = client_requested (Read size PIECE_SIZE) c
 reads_next size false c = sends_none c
-
-abbrev pub is_unended : Option (Result (Unit {0}) FailCause) → Bool
-is_unended None = true
-is_unended (Some r) = false
 
 abbrev pub goes_on_reading : List UserAnswer → Bool
 goes_on_reading answers = list_any has_bytes answers && is_unended (get_outcome answers)

@@ -1,6 +1,9 @@
 -- What `put` does: a client writes bytes to the mirrors of a file, and has them committed.
-use Rattle.std.specs.Prelude.{⊤, ◌≡◌, ◌⊎◌, ℕ, ◌+◌, ◌*◌, ◌/◌, Bool, true, false, ◌||◌, ◌&&◌, List, [], ◌∷◌, ◌++◌, length, map, take, drop, Option, Some, None, Result}
+use Rattle.std.specs.Prelude.{⊤, ◌≡◌, ◌⊎◌, ℕ, ◌+◌, ◌-◌, ◌*◌, ◌/◌, ◌≤◌, Bool, true, false, ◌||◌, ◌&&◌, List, [], ◌∷◌, ◌++◌, length, map, take, drop, Option, Some, None, Result, Ok, Err}
 use Rattle.std.specs.List.{list_any, range_with_len}
+use Rattle.rpc_record.specs.declared.stream.Failed.{Failed}
+use Rattle.rpc_record.specs.declared.stream.Failed.TheVariants as failed
+use Rattle.rpc_record.specs.Stream.{one_more}
 use Rattle.cluster_model.specs.declared.limits.TheConstants.{MAX_FILE, PIECE_SIZE}
 use Rattle.cluster_model.specs.declared.answer.UserAnswer.{UserAnswer}
 use Rattle.cluster_model.specs.declared.answer.FailCause.{FailCause}
@@ -13,10 +16,10 @@ use Rattle.client_state.specs.ClientStates.{ClientValue, fresh_client}
 use Rattle.client_state.specs.ClientSends.{ClientStep}
 use Rattle.ff_node.specs.declared.end.NodeEnd.{NodeEnd}
 use Rattle.ff_node.specs.declared.end.NodeEnd.TheVariants as ends
-use Rattle.ff_node.specs.Nodes.{NodeEvent, NodeRule, NodeStep}
+use Rattle.ff_node.specs.Nodes.{NodeEvent, NodeRule, NodeStep, SentRecords}
 use Rattle.ff_node.specs.Serve.{Beside, OpensThen, NodeRuns}
 use Rattle.user_nodes.specs.declared.put.Progress.{Progress}
-use Rattle.user_nodes.specs.Users.{client_does, records_of, all_requested, is_opened, is_committed, is_returned, first_failure, answers_taken, outcome_by, AsksClock}
+use Rattle.user_nodes.specs.Users.{client_does, records_of, all_requested, HasAsked, is_opened, is_committed, is_returned, first_failure, first_of_two, answers_taken, outcome_by, AsksClock}
 
 -- ---- what is asked
 
@@ -41,15 +44,32 @@ abbrev pub ReadsAll : Option (List ℕ) → List ℕ → Option (List ℕ) → T
 ReadsAll None bytes left = left ≡ None
 ReadsAll (Some told) bytes left = (bytes ≡ take most_read told) × (left ≡ Some (drop most_read told))
 
+-- What reading a piece did: it has the first of the bytes, as many as there are and it has room for, and those behind them are left. At
+-- an error some that it has room for were taken.
+abbrev pub ReadsPiece : Option (List ℕ) → List ℕ → Result ℕ Failed → Option (List ℕ) → Type 0
+ReadsPiece None piece result left = left ≡ None
+ReadsPiece (Some bytes) piece (Ok n) left = (take n piece ≡ take (length piece) bytes) × (left ≡ Some (drop (length piece) bytes))
+ReadsPiece (Some bytes) piece (Err e) left = (n : ℕ) × (n ≤ length piece) × (left ≡ Some (drop n bytes))
+
+-- a write of these from this place on; none, where there are no bytes
+abbrev pub writes_at : ℕ → List ℕ → List UserRequest
+writes_at at [] = []
+writes_at at (b ∷ bytes) = Write at (b ∷ bytes) ∷ []
+
+-- What asking for the writes did, and for all: what was read is written, in pieces. At an error less was asked for.
+abbrev pub AsksWrites : Option (List ℕ) → ClientValue → SentRecords → Result (Unit {0}) Failed → Option (List ℕ) → ClientValue → SentRecords → Type 0
+AsksWrites unread c sends (Ok x) left c' sends' = (bytes : List ℕ) × ReadsAll unread bytes left × HasAsked (writes_of bytes) c sends c' sends'
+AsksWrites unread c sends (Err e) left c' sends' = ⊤
+
+abbrev pub AsksPut : List ℕ → Option (List ℕ) → ClientValue → SentRecords → Result (Unit {0}) Failed → Option (List ℕ) → ClientValue → SentRecords → Type 0
+AsksPut name unread c sends (Ok x) left c' sends' = (bytes : List ℕ) × ReadsAll unread bytes left × HasAsked (put_requests name bytes) c sends c' sends'
+AsksPut name unread c sends (Err e) left c' sends' = ⊤
+
 -- ---- its rule
 
 -- no answer came yet
 abbrev pub no_progress : Progress
 no_progress = record { opened = false; committed = false; returned = false; failed = None }
-
-abbrev pub first_of_two : Option FailCause → Option FailCause → Option FailCause
-first_of_two (Some cause) other = Some cause
-first_of_two None other = other
 
 abbrev pub with_answers : Progress → List UserAnswer → Progress
 with_answers p answers = record {
@@ -81,7 +101,23 @@ put_rule = record { step = λ p e. put_does (client_does e p.client) p.progress;
 abbrev pub put_begins : ℕ → ℕ → List ℕ → List ℕ → ClientStep
 put_begins own moment name bytes = all_requested (put_requests name bytes) (fresh_client own moment 1)
 
+-- What beginning a put did: all was read, and asked of a new client.
+abbrev pub BeginsPut : ℕ → ℕ → List ℕ → Option (List ℕ) → SentRecords → Result PutValue Failed → Option (List ℕ) → SentRecords → Type 0
+BeginsPut own moment name unread sends (Ok p) left sends' =
+    (bytes : List ℕ) × ReadsAll unread bytes left × (p ≡ put_after (put_begins own moment name bytes) no_progress) × (sends' ≡ sends ++ records_of (put_begins own moment name bytes))
+BeginsPut own moment name unread sends (Err e) left sends' = ⊤
+
 -- ---- what it did
+
+-- how a source that failed ends a put, and want of memory
+abbrev pub end_of_source : Failed → NodeEnd
+end_of_source failed.Fault = ends.ReadFault
+end_of_source failed.NoMemory = ends.NoMemory
+
+-- the count of the source's faults: one more exactly at ReadFault
+abbrev pub source_faults : NodeEnd → ℕ → ℕ
+source_faults ends.ReadFault n = one_more n
+source_faults end n = n
 
 -- All was read and the link was opened, and a client served that was asked to put these bytes.
 abbrev pub PutsBytes : Config → List ℕ → Option (List ℕ) → ℕ → Option Opening → Beside → NodeEnd → Option (List ℕ) → Option Opening → Beside → Type 0

@@ -1,5 +1,5 @@
 -- A client as a node: what comes to it, what its user asks of it, and what its answers say.
-use Rattle.std.specs.Prelude.{◌≡◌, ℕ, ◌≤◌, ◌*◌, Bool, true, false, ◌||◌, List, [], ◌∷◌, map, Option, Some, None, Result, Ok, Err}
+use Rattle.std.specs.Prelude.{◌≡◌, ℕ, ◌≤◌, ◌*◌, Bool, true, false, ◌||◌, List, [], ◌∷◌, ◌++◌, map, Option, Some, None, Result, Ok, Err}
 use Rattle.std.specs.List.{list_any}
 use Rattle.cluster_model.specs.declared.answer.UserAnswer.{UserAnswer}
 use Rattle.cluster_model.specs.declared.answer.UserAnswer.TheVariants.{Opened, Written, Committed, Bytes, Returned, Failed}
@@ -31,9 +31,13 @@ records_of s = map spelled_send s.sends
 
 -- ---- what its user asks, one after the other
 
-abbrev pub all_requested : List UserRequest → ClientValue → ClientStep
+unfoldable pub all_requested : List UserRequest → ClientValue → ClientStep
 all_requested [] c = sends_none c
 all_requested (r ∷ requests) c = and_then (client_requested r c) (all_requested requests)
+
+-- a client was asked these, and sends what comes of it behind what it sent before
+abbrev pub HasAsked : List UserRequest → ClientValue → SentRecords → ClientValue → SentRecords → Type 0
+HasAsked requests c sends c' sends' = (c' ≡ (all_requested requests c).client) × (sends' ≡ sends ++ records_of (all_requested requests c))
 
 -- ---- what its answers say
 
@@ -54,6 +58,11 @@ abbrev pub first_failure : List UserAnswer → Option FailCause
 first_failure [] = None
 first_failure (Failed cause ∷ answers) = Some cause
 first_failure (answer ∷ answers) = first_failure answers
+
+-- the first of two
+abbrev pub first_of_two : Option FailCause → Option FailCause → Option FailCause
+first_of_two (Some cause) other = Some cause
+first_of_two None other = other
 
 -- its answers were taken from it
 abbrev pub answers_taken : ClientValue → ClientValue

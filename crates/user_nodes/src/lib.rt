@@ -1,6 +1,7 @@
 //! A client that puts a file, or gets it, as a node.
 #![tactic(auto)]
 
+mod asks;
 mod get;
 mod pieces;
 mod put;

@@ -1,7 +1,23 @@
 //! `put`: bytes of a source become a file.
 
-ghost use Rattle.std.specs.Prelude.{◌≡◌, ◌≤◌, ◌∷◌, [], length};
+ghost use Rattle.std.specs.Prelude.{◌≡◌, ◌≤◌, ◌∷◌, [], None, false, length};
 ghost use Rattle.rpc_record.specs.Stream.{counted};
+ghost use Rattle.line_runs.specs.Lines.{all_left};
+ghost use Rattle.ff_node.specs.Serve.{beside, link_faults, sink_faults};
+ghost use Rattle.user_nodes.specs.Users.{answers_taken};
+ghost use Rattle.user_nodes.specs.Puts.{BeginsPut, PutsFile, end_of_source, no_progress, put_outcome, put_rule, source_faults, with_answers};
+
+use crate::asks::ask_put;
+use crate::user::{client_does, new_client, outcome_by};
+use cluster_model::{FailCause, Outbox, UserAnswer};
+use ff_node::{NoSink, Node, NodeEnd, serve_node};
+use line_runs::LineBuffer;
+use mirror_client::Client;
+use node_config::Config;
+use node_link::{Arrival, Clock, Link, Role};
+use rpc_record::{Failed, Sink, Source};
+use std::alloc::Global;
+use std::marker::Model;
 
 /// Which answers came.
 #[derive(Clone, Copy, Debug, PartialEq, Eq)]
@@ -14,4 +30,186 @@ pub(crate) struct Progress {
     pub returned: bool,
     /// Why a request was not done, of the first that was not.
     pub failed: Option<FailCause>,
+}
+
+impl Progress {
+    /// No answer came yet.
+    fn new() -> Progress
+        ensures { result ≡ no_progress }
+    {
+        Progress {
+            opened: false,
+            committed: false,
+            returned: false,
+            failed: None,
+        }
+    }
+
+    /// Notes an answer.
+    fn note(&mut self, answer: &UserAnswer)
+        ensures { self.new ≡ with_answers self.old (answer.now ∷ []) }
+    {
+        match answer {
+            UserAnswer::Opened(_) => self.opened = true,
+            UserAnswer::Committed { .. } => self.committed = true,
+            UserAnswer::Returned => self.returned = true,
+            UserAnswer::Failed(cause) => self.failed = self.failed.or(Some(*cause)),
+            UserAnswer::Written => {}
+            UserAnswer::Bytes { .. } => {}
+        }
+    }
+
+    /// What the put came to.
+    fn outcome(&self) -> Option<Result<(), FailCause>>
+        ensures { result ≡ put_outcome self.now }
+    {
+        outcome_by(
+            self.failed,
+            self.opened && self.committed && self.returned,
+        )
+    }
+}
+
+/// A client that was asked to put a file.
+#[derive(Drop)]
+pub(crate) struct PutNode {
+    client: Client,
+    progress: Progress,
+}
+
+impl Model for PutNode {
+    ghost use Rattle.user_nodes.specs.Puts.{PutValue};
+
+    ghost Value = { PutValue };
+
+    ghost view = { λ n. record { client = n.client.client; progress = n.progress } };
+}
+
+impl PutNode {
+    /// Takes the client's answers, and notes them.
+    fn take_answers(&mut self)
+        ensures client { self.new.client ≡ answers_taken self.old.client }
+        ensures progress { self.new.progress ≡ with_answers self.old.progress self.old.client.answers }
+    {
+        'answers: while let Some(answer) = self.client.answers() {
+            self.progress.note(&answer);
+        }
+    }
+
+    /// A new client that was asked to put all bytes that the buffer holds and the source has left, as a file of at most
+    /// 255 bytes of name. The moment, in seconds, tells this start of it from the next. Its first records go to `out`.
+    ///
+    /// `Failed::Fault` is the source's, and `Failed::NoMemory` want of memory.
+    fn begin<S: Source>(
+        alloc: Global,
+        own: u32,
+        moment: u64,
+        name: &str,
+        buffer: &mut LineBuffer,
+        source: &mut S,
+        out: &mut Outbox,
+    ) -> Result<PutNode, Failed>
+        requires { length name.now ≤ 255 }
+        ensures begins { BeginsPut own moment name.now (all_left buffer.old (S.left source.old)) out.old.sends.items result (all_left buffer.new (S.left source.new)) out.new.sends.items }
+        ensures faults { S.faults source.new ≡ counted result (S.faults source.old) }
+    {
+        let Ok(mut client) = new_client(alloc, own, moment) else {
+            return Err(Failed::NoMemory);
+        };
+        ask_put(alloc, &mut client, name, buffer, source, out)?;
+        let mut node = PutNode {
+            client,
+            progress: Progress::new(),
+        };
+        node.take_answers();
+        Ok(node)
+    }
+}
+
+impl Node for PutNode {
+    ghost rule = { put_rule };
+
+    ghost excuses = { λ _ _. false };
+
+    fn take<K: Sink>(
+        &mut self,
+        moment: u64,
+        arrival: Arrival,
+        out: &mut Outbox,
+        _sink: &mut K,
+    ) -> Result<bool, Failed> {
+        if client_does(&mut self.client, moment, arrival, out).is_err() {
+            return Err(Failed::NoMemory);
+        }
+        self.take_answers();
+        Ok(false)
+    }
+
+    fn outcome(&self) -> Option<Result<(), FailCause>> {
+        self.progress.outcome()
+    }
+
+    fn is_server(&self) -> bool {
+        false
+    }
+}
+
+/// How a source that failed ends a node, or want of memory.
+fn end_of_source(failed: Failed) -> NodeEnd
+    ensures { result ≡ end_of_source failed }
+{
+    match failed {
+        Failed::Fault => NodeEnd::ReadFault,
+        Failed::NoMemory => NodeEnd::NoMemory,
+    }
+}
+
+/// Puts the bytes that the buffer holds, and behind them those of the source, as the file of this name, of at most 255
+/// bytes, at the metadata server of the configuration, by the configuration's own client. The clock is asked for the
+/// moment, in seconds, which tells this start of the client from the next; then all is read, of a source at most one
+/// piece more than a file may have; then the link is opened, and over it the file is opened, written to all of its
+/// mirrors, committed, and its layout given back (RFC 8881, RFC 8435), within as many arrivals as the configuration has
+/// turns.
+///
+/// `NodeEnd::Done` is that all of it was answered. `NodeEnd::Failed` says why the first request was not done that was
+/// not. `NodeEnd::ReadFault` is a fault of the source, and `NodeEnd::LinkFault` one of the link in opening it or in
+/// asking for what comes. However it ends, what it sent went to the streams that take it.
+pub fn run_put<S: Source, L: Link, C: Clock>(
+    alloc: Global,
+    config: &Config,
+    name: &str,
+    buffer: &mut LineBuffer,
+    source: &mut S,
+    link: &mut L,
+    clock: &mut C,
+) -> NodeEnd
+    requires { length name.now ≤ 255 }
+    ensures told { PutsFile config.now name.now (all_left buffer.old (S.left source.old)) (L.opened link.old) (beside (L.coming link.old) (L.sent link.old) (C.coming clock.old) (C.moment clock.old) None) result (all_left buffer.new (S.left source.new)) (L.opened link.new) (beside (L.coming link.new) (L.sent link.new) (C.coming clock.new) (C.moment clock.new) None) }
+    ensures faults { L.faults link.new ≡ link_faults result (L.faults link.old) }
+    ensures reads { S.faults source.new ≡ source_faults result (S.faults source.old) }
+    ensures writes { sink_faults result 0 ≡ 0 }
+    ensures given { L.has_given link.new }
+{
+    let moment = clock.now();
+    let mut out = Outbox::new(alloc);
+    let mut node = match PutNode::begin(alloc, config.own, moment, name, buffer, source, &mut out) {
+        Ok(node) => node,
+        Err(failed) => {
+            link.finish();
+            return end_of_source(failed);
+        }
+    };
+    if let Err(failed) = link.open(config, Role::Client) {
+        link.finish();
+        return NodeEnd::of_link(failed);
+    }
+    serve_node(
+        alloc,
+        config.turns,
+        out.sends,
+        &mut node,
+        link,
+        clock,
+        &mut NoSink,
+    )
 }
