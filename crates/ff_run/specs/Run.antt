@@ -16,7 +16,7 @@ use Rattle.ff_node.specs.declared.serve.NodeEnd.TheVariants as served
 use Rattle.ff_node.specs.Serve.{link_faults}
 use Rattle.ff_run.specs.Node.{ServesBy}
 use Rattle.line_runs.specs.Writing.{WritesText}
-use Rattle.ff_replay.specs.declared.mode.Mode.TheVariants.{Full, Brief}
+use Rattle.journal_print.specs.declared.mode.Mode.TheVariants.{Full, Brief}
 use Rattle.ff_replay.specs.Script.{script_budget, script_meaning}
 use Rattle.record_show.specs.Show.{show_budget, show_meaning}
 use Rattle.ff_run.specs.declared.program.Command.{Command}
