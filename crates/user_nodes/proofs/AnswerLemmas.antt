@@ -1,5 +1,5 @@
 -- Answers that are taken one by one.
-use Rattle.std.proofs.Common.{◌≡◌, Bool, true, false, ◌||◌, List, [], ◌∷◌, length, drop, Option, Some, None, ◌+◌, ◌<◌, refl, sym, ap, ◌∙◌, arith}
+use Rattle.std.proofs.Common.{◌≡◌, Bool, true, false, ◌||◌, List, [], ◌∷◌, drop, Option, Some, None, refl, sym, ap, ◌∙◌}
 use Rattle.std.specs.Prelude.{slice_get}
 use Rattle.std.specs.List.{list_any}
 use Rattle.cluster_model.specs.declared.answer.UserAnswer.{UserAnswer}
@@ -36,7 +36,7 @@ failed_more None (Committed writes) answers = refl
 failed_more None (Bytes eof bytes) answers = refl
 failed_more None Returned answers = refl
 
-with_more : (p : Progress) (a : UserAnswer) (answers : List UserAnswer) → with_answers (with_answers p (a ∷ [])) answers ≡ with_answers p (a ∷ answers)
+pub with_more : (p : Progress) (a : UserAnswer) (answers : List UserAnswer) → with_answers (with_answers p (a ∷ [])) answers ≡ with_answers p (a ∷ answers)
 with_more p a answers = λ i. record {
   opened = any_more is_opened p.opened a answers i;
   committed = any_more is_committed p.committed a answers i;

@@ -1,5 +1,5 @@
 -- What comes of requests, one after the other.
-use Rattle.std.proofs.Common.{◌≡◌, ℕ, true, false, List, [], ◌∷◌, ◌++◌, map, Result, Ok, Err, length, refl, sym, ap, subst, ◌∙◌, append_assoc, append-nil, arith}
+use Rattle.std.proofs.Common.{◌≡◌, ℕ, true, false, List, [], ◌∷◌, ◌++◌, Result, Ok, Err, length, refl, sym, ap, subst, ◌∙◌, append_assoc, append-nil, arith}
 use Rattle.std.proofs.lemmas.Bool.{eqb-true, false≢true}
 use Rattle.std.proofs.lemmas.List.{map-append}
 use Rattle.std.specs.Prelude.{◌==◌, OnOk, is_ok}
@@ -60,7 +60,7 @@ asked_more requests more c mid c' sends between sends' first second =
     let after = all_requested more before.client in (
       second.0 ∙ ap (λ (d : ClientValue). (all_requested more d).client) first.0 ∙ sym (ap (λ (s : ClientStep). s.client) whole),
       second.1 ∙ ap (λ (d : ClientValue). between ++ records_of (all_requested more d)) first.0 ∙ ap (λ (l : SentRecords). l ++ records_of after) first.1
-      ∙ append_assoc sends (records_of before) (records_of after) ∙ ap (λ (l : SentRecords). sends ++ l) (sym (map-append spelled_send before.sends after.sends) ∙ sym (ap records_of whole)),
+          ∙ append_assoc sends (records_of before) (records_of after) ∙ ap (λ (l : SentRecords). sends ++ l) (sym (map-append spelled_send before.sends after.sends) ∙ sym (ap records_of whole)),
     )
 
 stepped_asked : (r : UserRequest) (c d : ClientValue) (before after : Outbox) → HasStepped (client_requested r c) before d after → HasAsked (r ∷ []) c before.sends.items d after.sends.items

@@ -1,5 +1,5 @@
 -- How a get goes on from answer to answer.
-use Rattle.std.proofs.Common.{◌≡◌, ℕ, ◌+◌, ◌-◌, ◌^◌, ◌<◌, ◌≤◌, min, Bool, true, false, List, [], ◌∷◌, ◌++◌, length, drop, Option, Some, None, Result, Ok, Err, refl, sym, ap, subst, ◌∙◌, arith, append_assoc, append-nil}
+use Rattle.std.proofs.Common.{◌≡◌, ℕ, ◌+◌, ◌-◌, ◌^◌, ◌<◌, min, Bool, true, false, List, [], ◌∷◌, ◌++◌, length, drop, Option, Some, None, Result, Ok, Err, refl, sym, ap, subst, ◌∙◌, arith, append_assoc, append-nil}
 use Rattle.std.proofs.lemmas.List.{length-append}
 use Rattle.std.specs.Prelude.{OnOk, IsErr, slice_get}
 use Rattle.std.proofs.lemmas.Bool.{false≢true}
@@ -137,7 +137,7 @@ module _ (s : ClientStep) (n : GetValue) where
     all_then_fails held held' x writes = took_all held (answered_bytes s.client.answers) held' (subst (λ (d : ClientValue). held' ≡ behind held (answered_bytes d.answers)) stepped writes)
 
     module _ (seen : Seen) (saw : seen ≡ saw_more saw_none c.answers) (mid : GetValue)
-      (taken : mid ≡ record { client = answers_taken c; size = size_behind n.size c.answers; outcome = n.outcome }) where
+        (taken : mid ≡ record { client = answers_taken c; size = size_behind n.size c.answers; outcome = n.outcome }) where
       goes_on : reads_next mid.size (goes_on_after seen) mid.client ≡ reads_next (size_behind n.size s.client.answers) (goes_on_reading s.client.answers) (answers_taken s.client)
       goes_on =
           ap (λ (m : GetValue). reads_next m.size (goes_on_after seen) m.client) taken ∙ ap (λ (t : Seen). reads_next (size_behind n.size c.answers) (goes_on_after t) (answers_taken c)) saw

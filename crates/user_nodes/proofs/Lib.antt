@@ -1,5 +1,7 @@
 pub mod AnswerLemmas
 pub mod AskLemmas
+pub mod CopyLemmas
+pub mod EndLemmas
 pub mod GetLemmas
 pub mod PieceLemmas
 pub mod ReadLemmas

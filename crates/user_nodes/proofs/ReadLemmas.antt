@@ -1,7 +1,6 @@
 -- How all bytes are read, piece by piece, and their writes asked for.
-use Rattle.std.proofs.Common.{◌≡◌, ℕ, ◌+◌, ◌*◌, ◌<◌, ◌≤◌, List, [], ◌∷◌, ◌++◌, length, take, drop, Option, Some, None, Ok, refl, sym, ap, subst, ◌∙◌, arith, append_assoc, append-nil}
+use Rattle.std.proofs.Common.{◌≡◌, ℕ, ◌+◌, ◌*◌, ◌<◌, ◌≤◌, List, [], ◌∷◌, ◌++◌, length, take, drop, Option, Some, None, Ok, refl, sym, ap, subst, ◌∙◌, arith, append_assoc}
 use Rattle.std.proofs.lemmas.List.{take-append-drop, take_all, take_at, drop_at, drop_all, length-take-le, length-take, length-append}
-use Rattle.rpc_record.specs.declared.stream.Failed.{Failed}
 use Rattle.cluster_model.specs.declared.limits.TheConstants.{PIECE_SIZE}
 use Rattle.client_state.specs.declared.request.UserRequest.TheVariants.{Open, Commit, Return}
 use Rattle.client_state.specs.ClientStates.{ClientValue}
@@ -66,7 +65,7 @@ pieces_none unread c sends = ([], refl, reads_none unread, asked_none c sends)
 module _ (n : ℕ) (unread : Option (List ℕ)) (c : ClientValue) (sends : SentRecords) where
   -- a piece was read, and its write asked for
   module _ (left left' : Option (List ℕ)) (piece : List ℕ) (count : ℕ) (mid c' : ClientValue) (between sends' : SentRecords) (size : length piece ≡ PIECE_SIZE) (within : count ≤ length piece)
-    (so_far : HasAskedPieces n unread c sends left mid between) (reads : ReadsPiece left piece (Ok count) left') (asked : HasAsked (writes_at (n * PIECE_SIZE) (take count piece)) mid between c' sends') where
+      (so_far : HasAskedPieces n unread c sends left mid between) (reads : ReadsPiece left piece (Ok count) left') (asked : HasAsked (writes_at (n * PIECE_SIZE) (take count piece)) mid between c' sends') where
     all_asked : HasAsked (writes_of (so_far.0 ++ take count piece)) c sends c' sends'
     all_asked =
         subst (λ l. HasAsked l c sends c' sends') (sym (writes_more n so_far.0 (take count piece) so_far.1 (omega (arith, length-take-le count piece within))))
@@ -93,5 +92,5 @@ put_asked name unread left c opened written c' sends after_open after_writes sen
   bytes,
   read,
   asked_more (Open name ∷ []) (writes_of bytes ++ Commit ∷ Return ∷ []) c opened c' sends after_open sends' first
-  (asked_more (writes_of bytes) (Commit ∷ Return ∷ []) opened written c' after_open after_writes sends' asked last),
+      (asked_more (writes_of bytes) (Commit ∷ Return ∷ []) opened written c' after_open after_writes sends' asked last),
 )

@@ -1,19 +1,20 @@
 -- What putting and getting did, by what was done one after the other.
-use Rattle.std.proofs.Common.{◌≡◌, ℕ, ◌≤◌, ◌⊎◌, inl, inr, List, [], ◌++◌, Option, Some, None, Result, Ok, Err, refl, sym, ap, subst, ◌∙◌}
+use Rattle.std.proofs.Common.{◌≡◌, ℕ, ◌≤◌, false, ◌⊎◌, inl, inr, List, [], ◌++◌, Option, Some, None, Result, Ok, Err, refl, ap, subst, ◌∙◌}
 use Rattle.rpc_record.specs.declared.stream.Failed.{Failed}
 use Rattle.rpc_record.specs.declared.stream.Failed.TheVariants as failed
+use Rattle.cluster_model.specs.declared.answer.FailCause.{FailCause}
 use Rattle.node_config.specs.declared.config.Config.{Config}
 use Rattle.node_link.specs.declared.link.Arrival.{Arrival}
 use Rattle.node_link.specs.declared.link.Opening.{Opening}
 use Rattle.node_link.specs.declared.link.Role.TheVariants as role
 use Rattle.node_link.specs.Clock.{GivesMoment}
-use Rattle.node_link.specs.Link.{opening_of, OpensLink}
+use Rattle.node_link.specs.Link.{opening_of}
 use Rattle.ff_node.specs.declared.end.NodeEnd.{NodeEnd}
 use Rattle.ff_node.specs.declared.end.NodeEnd.TheVariants as ends
 use Rattle.ff_node.specs.Nodes.{NodeRule, SentRecords}
-use Rattle.ff_node.specs.Serve.{Beside, beside, NodeRuns, end_of_link}
-use Rattle.user_nodes.specs.Users.{AsksClock, records_of}
-use Rattle.user_nodes.specs.Puts.{BeginsPut, PutValue, PutsBytes, PutsNothing, PutsFile, end_of_source, no_progress, put_after, put_begins, put_rule}
+use Rattle.ff_node.specs.Serve.{Beside, beside, NodeRuns, Stops, end_of_link, end_of_outcome, end_of_event, last_end}
+use Rattle.user_nodes.specs.Users.{records_of}
+use Rattle.user_nodes.specs.Puts.{BeginsPut, PutValue, PutsFile, end_of_source, no_progress, put_after, put_begins, put_rule}
 use Rattle.user_nodes.specs.Gets.{GetValue, GetsFile, get_begins, get_from, get_rule}
 
 -- ---- what is beside a node
@@ -29,6 +30,30 @@ run_is rule first first' s s' last turns b b' after end same-first same-state sa
     subst (λ (f : SentRecords). NodeRuns rule f s turns b end last after) same-first
     (subst (λ (t : _). NodeRuns rule first' t turns b end last after) same-state (subst (λ (x : Beside). NodeRuns rule first' s' turns x end last after) same-beside runs))
 
+-- ---- a node that ends well and is no server has ended by itself
+
+module _ {S : Type 0} (rule : NodeRule S) (is_user : rule.is_server ≡ false) (left : ℕ) (s : S) (b : Beside) (s' : S) (b' : Beside) where
+  outcome_is : (r : Result (Unit {0}) FailCause) → ends.Done ≡ end_of_outcome r → rule.outcome s ≡ Some r → (x : Unit {0}) × (rule.outcome s ≡ Some (Ok x))
+  outcome_is (Ok x) done is = (x, is)
+  outcome_is (Err cause) done is = absurd (cc (done))
+
+  no_last : ends.Done ≡ last_end rule.is_server → ⊥
+  no_last done = let turns : ends.Done ≡ ends.Turns = done ∙ ap last_end is_user in absurd (cc (turns))
+
+  no_link : (e : Failed) → ends.Done ≡ end_of_link e → ⊥
+  no_link failed.Fault done = absurd (cc (done))
+  no_link failed.NoMemory done = absurd (cc (done))
+
+  no_event : (e : Failed) → ends.Done ≡ end_of_event e → ⊥
+  no_event failed.Fault done = absurd (cc (done))
+  no_event failed.NoMemory done = absurd (cc (done))
+
+  pub done_by_itself : Stops rule left s b ends.Done s' b' → (x : Unit {0}) × (rule.outcome s ≡ Some (Ok x))
+  done_by_itself (inl (r, is, done, same)) = outcome_is r done is
+  done_by_itself (inr (none, inl (done, more))) = absurd (no_last done)
+  done_by_itself (inr (none, inr (some, inl (e, done, same)))) = absurd (no_link e done)
+  done_by_itself (inr (none, inr (some, inr breaks))) = absurd (no_event breaks.error breaks.end_is)
+
 -- ---- a put
 
 -- how a source that failed ends a put
@@ -37,7 +62,7 @@ source_ends failed.Fault end is = inl is
 source_ends failed.NoMemory end is = inr is
 
 module _ (config : Config) (name : List ℕ) (unread : Option (List ℕ)) (opened : Option Opening) (coming : Option (List Arrival)) (sent : Option SentRecords) (moments : Option (List ℕ)) (last : ℕ)
-  (moment : ℕ) (moments' : Option (List ℕ)) (rises : last ≤ moment) (gives : GivesMoment moments last moment moments') where
+    (moment : ℕ) (moments' : Option (List ℕ)) (rises : last ≤ moment) (gives : GivesMoment moments last moment moments') where
   abbrev before : Beside
   before = beside coming sent moments last None
 
@@ -65,7 +90,7 @@ module _ (config : Config) (name : List ℕ) (unread : Option (List ℕ)) (opene
 -- ---- a get
 
 module _ (config : Config) (name : List ℕ) (opened : Option Opening) (coming : Option (List Arrival)) (sent : Option SentRecords) (moments : Option (List ℕ)) (last : ℕ) (held : Option (List ℕ)) (moment : ℕ)
-  (moments' : Option (List ℕ)) (rises : last ≤ moment) (gives : GivesMoment moments last moment moments') where
+    (moments' : Option (List ℕ)) (rises : last ≤ moment) (gives : GivesMoment moments last moment moments') where
   abbrev get_before : Beside
   get_before = beside coming sent moments last held
 

@@ -7,7 +7,7 @@ use Rattle.std.proofs.Math.Nat.{mul-le-mul_right}
 use Rattle.cluster_model.specs.declared.limits.TheConstants.{PIECE_SIZE}
 use Rattle.client_state.specs.declared.request.UserRequest.{UserRequest}
 use Rattle.client_state.specs.declared.request.UserRequest.TheVariants.{Write}
-use Rattle.user_nodes.specs.Puts.{piece_written, writes_of, writes_at}
+use Rattle.user_nodes.specs.Puts.{writes_of, writes_at}
 
 -- ---- ranges
 

@@ -1,5 +1,5 @@
 -- What `get` does: a client reads a file through the metadata server, and its bytes are written to a sink.
-use Rattle.std.specs.Prelude.{◌≡◌, ◌⊎◌, ℕ, ◌+◌, ◌-◌, ◌^◌, min, Bool, true, false, ◌||◌, ◌&&◌, List, [], ◌∷◌, ◌++◌, length, flat_map, Option, Some, None, Result}
+use Rattle.std.specs.Prelude.{ℕ, ◌+◌, ◌-◌, ◌^◌, min, Bool, true, false, ◌||◌, ◌&&◌, List, [], ◌∷◌, ◌++◌, length, flat_map, Option, Some, None, Result}
 use Rattle.std.specs.List.{list_any}
 use Rattle.cluster_model.specs.declared.limits.TheConstants.{PIECE_SIZE}
 use Rattle.cluster_model.specs.declared.answer.UserAnswer.{UserAnswer}
@@ -8,14 +8,12 @@ use Rattle.cluster_model.specs.declared.answer.FailCause.{FailCause}
 use Rattle.node_config.specs.declared.config.Config.{Config}
 use Rattle.node_link.specs.declared.link.Opening.{Opening}
 use Rattle.node_link.specs.declared.link.Role.TheVariants as role
-use Rattle.client_state.specs.declared.request.UserRequest.{UserRequest}
 use Rattle.client_state.specs.declared.request.UserRequest.TheVariants.{Open, Read}
 use Rattle.client_state.specs.ClientStates.{ClientValue, fresh_client}
 use Rattle.client_state.specs.ClientSends.{ClientStep, sends_none}
 use Rattle.mirror_client.specs.ClientRule.{client_requested}
 use Rattle.ff_node.specs.declared.end.NodeEnd.{NodeEnd}
-use Rattle.ff_node.specs.declared.end.NodeEnd.TheVariants as ends
-use Rattle.ff_node.specs.Nodes.{NodeEvent, NodeRule, NodeStep}
+use Rattle.ff_node.specs.Nodes.{NodeRule, NodeStep}
 use Rattle.ff_node.specs.Serve.{Beside, OpensThen, NodeRuns}
 use Rattle.user_nodes.specs.declared.get.Seen.{Seen}
 use Rattle.user_nodes.specs.Users.{client_does, records_of, all_requested, first_failure, first_of_two, answers_taken, outcome_by, AsksClock}

@@ -1,3 +1,4 @@
 pub mod Users
 pub mod Puts
 pub mod Gets
+pub mod Copies

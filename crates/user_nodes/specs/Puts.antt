@@ -1,5 +1,5 @@
 -- What `put` does: a client writes bytes to the mirrors of a file, and has them committed.
-use Rattle.std.specs.Prelude.{⊤, ◌≡◌, ◌⊎◌, ℕ, ◌+◌, ◌-◌, ◌*◌, ◌/◌, ◌≤◌, Bool, true, false, ◌||◌, ◌&&◌, List, [], ◌∷◌, ◌++◌, length, map, take, drop, Option, Some, None, Result, Ok, Err}
+use Rattle.std.specs.Prelude.{⊤, ◌≡◌, ◌⊎◌, ℕ, ◌+◌, ◌-◌, ◌*◌, ◌/◌, ◌≤◌, false, ◌||◌, ◌&&◌, List, [], ◌∷◌, ◌++◌, length, map, take, drop, Option, Some, None, Result, Ok, Err}
 use Rattle.std.specs.List.{list_any, range_with_len}
 use Rattle.rpc_record.specs.declared.stream.Failed.{Failed}
 use Rattle.rpc_record.specs.declared.stream.Failed.TheVariants as failed
@@ -16,7 +16,7 @@ use Rattle.client_state.specs.ClientStates.{ClientValue, fresh_client}
 use Rattle.client_state.specs.ClientSends.{ClientStep}
 use Rattle.ff_node.specs.declared.end.NodeEnd.{NodeEnd}
 use Rattle.ff_node.specs.declared.end.NodeEnd.TheVariants as ends
-use Rattle.ff_node.specs.Nodes.{NodeEvent, NodeRule, NodeStep, SentRecords}
+use Rattle.ff_node.specs.Nodes.{NodeRule, NodeStep, SentRecords}
 use Rattle.ff_node.specs.Serve.{Beside, OpensThen, NodeRuns}
 use Rattle.user_nodes.specs.declared.put.Progress.{Progress}
 use Rattle.user_nodes.specs.Users.{client_does, records_of, all_requested, HasAsked, is_opened, is_committed, is_returned, first_failure, first_of_two, answers_taken, outcome_by, AsksClock}

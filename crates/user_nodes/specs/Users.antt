@@ -1,8 +1,7 @@
 -- A client as a node: what comes to it, what its user asks of it, and what its answers say.
-use Rattle.std.specs.Prelude.{◌≡◌, ℕ, ◌≤◌, ◌*◌, Bool, true, false, ◌||◌, List, [], ◌∷◌, ◌++◌, map, Option, Some, None, Result, Ok, Err}
-use Rattle.std.specs.List.{list_any}
+use Rattle.std.specs.Prelude.{◌≡◌, ℕ, ◌≤◌, Bool, true, false, List, [], ◌∷◌, ◌++◌, map, Option, Some, None, Result, Ok, Err}
 use Rattle.cluster_model.specs.declared.answer.UserAnswer.{UserAnswer}
-use Rattle.cluster_model.specs.declared.answer.UserAnswer.TheVariants.{Opened, Written, Committed, Bytes, Returned, Failed}
+use Rattle.cluster_model.specs.declared.answer.UserAnswer.TheVariants.{Opened, Committed, Returned, Failed}
 use Rattle.cluster_model.specs.declared.answer.FailCause.{FailCause}
 use Rattle.node_link.specs.declared.link.Arrival.{Arrival}
 use Rattle.node_link.specs.declared.link.Arrival.TheVariants.{Record, TimedOut, Closed}

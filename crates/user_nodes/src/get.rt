@@ -53,10 +53,7 @@ impl Seen {
                 self.has_end = self.has_end || *eof;
             }
             UserAnswer::Failed(cause) => self.failed = self.failed.or(Some(*cause)),
-            UserAnswer::Opened(_) => {}
-            UserAnswer::Written => {}
-            UserAnswer::Committed { .. } => {}
-            UserAnswer::Returned => {}
+            _ => {}
         }
     }
 
@@ -81,11 +78,7 @@ fn bytes_of(answer: &UserAnswer) -> &[u8]
 {
     match answer {
         UserAnswer::Bytes { bytes, .. } => bytes.bytes(),
-        UserAnswer::Opened(_) => &[],
-        UserAnswer::Written => &[],
-        UserAnswer::Committed { .. } => &[],
-        UserAnswer::Returned => &[],
-        UserAnswer::Failed(_) => &[],
+        _ => &[],
     }
 }
 
@@ -237,13 +230,5 @@ pub fn run_get<L: Link, C: Clock, K: Sink>(
         link.finish();
         return NodeEnd::of_link(failed);
     }
-    serve_node(
-        alloc,
-        config.turns,
-        out.sends,
-        &mut node,
-        link,
-        clock,
-        sink,
-    )
+    serve_node(alloc, config.turns, out.sends, &mut node, link, clock, sink)
 }

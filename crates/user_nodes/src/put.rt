@@ -54,8 +54,7 @@ impl Progress {
             UserAnswer::Committed { .. } => self.committed = true,
             UserAnswer::Returned => self.returned = true,
             UserAnswer::Failed(cause) => self.failed = self.failed.or(Some(*cause)),
-            UserAnswer::Written => {}
-            UserAnswer::Bytes { .. } => {}
+            UserAnswer::Written | UserAnswer::Bytes { .. } => {}
         }
     }
 
@@ -63,10 +62,7 @@ impl Progress {
     fn outcome(&self) -> Option<Result<(), FailCause>>
         ensures { result ≡ put_outcome self.now }
     {
-        outcome_by(
-            self.failed,
-            self.opened && self.committed && self.returned,
-        )
+        outcome_by(self.failed, self.opened && self.committed && self.returned)
     }
 }
 

@@ -1,4 +1,4 @@
-use Rattle.std.proofs.Common.{◌≡◌, ◌≤◌, ◌<◌, length, ◌-◌, ◌+◌, rules, arith, ◌∙◌, subst, take, ℕ, Ok}
+use Rattle.std.proofs.Common.{◌≡◌, length, ◌-◌, rules, arith, ◌∙◌, subst, ℕ, Ok}
 use Rattle.std.proofs.lemmas.List.{places}
 use Rattle.std.proofs.lemmas.Slice.{take-put_mid_below}
 use borrow.Rule.Slice.PartMut.{put_mid}

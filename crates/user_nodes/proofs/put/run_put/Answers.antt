@@ -1,5 +1,4 @@
 use Rattle.std.proofs.Common.{None, Ok, subst, ◌∙◌}
-use Rattle.cluster_model.specs.declared.ids.NodeId.{NodeId}
 use Rattle.ff_node.specs.Nodes.{SentRecords}
 use Rattle.line_runs.specs.Lines.{all_left}
 use Rattle.ff_node.specs.Serve.{beside}
