@@ -1,8 +1,8 @@
-//! A pNFS cluster with flexible-file layouts, replayed from a script.
+//! A pNFS cluster with flexible-file layouts: replayed from a script, or as processes over TCP.
 #![tactic(auto)]
 
 use ff_run::run;
-use node_link::NodeLink;
+use node_link::{NodeLink, SystemClock};
 use record_tcp::TcpHost;
 use rpc_record::{StdSink, StdSource};
 use std::process::ExitCode;
@@ -17,13 +17,14 @@ fn words(rt: &HostRuntime) -> io::Result<Vec<String>> {
     Ok(words)
 }
 
-/// Runs the program on the standard input and output, with its notes on the standard error and its link
-/// over TCP. Words that are not UTF-8 are no command.
+/// Runs the program on the standard input and output, with its notes on the standard error, its link
+/// over TCP and the system's clock. Words that are not UTF-8 are no command.
 fn main(rt: HostRuntime) -> ExitCode {
     let mut source = StdSource::new(rt.stdin());
     let mut sink = StdSink::new(rt.stdout());
     let mut notes = StdSink::new(rt.stderr());
     let mut link = NodeLink::new(rt.alloc(), TcpHost::new(&rt, rt.alloc()));
+    let mut clock = SystemClock::new(&rt);
     let words = words(&rt).unwrap_or(Vec::new(rt.alloc()));
     ExitCode::from(run(
         rt.alloc(),
@@ -32,5 +33,6 @@ fn main(rt: HostRuntime) -> ExitCode {
         &mut sink,
         &mut notes,
         &mut link,
+        &mut clock,
     ))
 }

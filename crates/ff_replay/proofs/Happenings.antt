@@ -1,6 +1,6 @@
 -- What an event, or a delivery of a flow, comes to before the events behind it.
 use Rattle.std.proofs.Common.{◌≡◌, ℕ, ◌+◌, Bool, true, false, List, [], ◌∷◌, ◌++◌, length, Option, Some, None, refl, sym, ap, subst, arith, if◌then◌else◌}
-use Rattle.std.proofs.lemmas.List.{length-append}
+use Rattle.std.proofs.lemmas.List.{append-nil}
 use Rattle.cluster_model.specs.declared.entry.Entry.{Entry}
 use Rattle.cluster_model.specs.Event.{EventValue, DeliverPacket, Flow}
 use Rattle.packet_table.specs.Packets.{next_waiting}
@@ -9,9 +9,9 @@ use Rattle.ff_world.specs.World.{WorldState, WorldStep, effect_of, step_by_effec
 use Rattle.ff_world.specs.World as bare
 use Rattle.cluster_world.specs.ClusterWorlds.{ClusterState, packets, behind, within_limits}
 use Rattle.cluster_world.specs.ClusterRuns.{ClusterRun, entries_added, with_step, flow_by, flow_then, event_then, cluster_run}
-use Rattle.ff_replay.specs.Script.{ScriptWorld, BareWorld, ClusterWorld, setup_of_world, entries_in, bare_run, run_in, run_behind}
+use Rattle.ff_replay.specs.Script.{ScriptWorld, BareWorld, ClusterWorld, setup_of_world, journal_in, bare_run, run_in, run_behind}
 use Rattle.ff_replay.specs.Player.{LinePlayed, Outside, Limited, Goes, bare_goes, cluster_goes, flows_by, flowed, is_flow, cluster_played, event_played}
-use Rattle.ff_replay.proofs.WorldGrows.{Grows, grows, counted}
+use Rattle.ff_replay.proofs.WorldGrows.{Grows, grows, journaled}
 use Rattle.ff_replay.proofs.Flows.{let_in, flows_on}
 
 -- these entries before a run's
@@ -23,7 +23,7 @@ abbrev pub GoesOn : ScriptWorld → LinePlayed → List EventValue → Run → T
 GoesOn w Outside events run = ⊥
 GoesOn w Limited events run = run ≡ record { entries = []; over = true }
 GoesOn w (Goes None flows entries) events run = ⊥
-GoesOn w (Goes (Some next) flows entries) events run = (setup_of_world next ≡ setup_of_world w) × (run ≡ adds entries (run_behind flows next events)) × (entries_in next ≡ entries_in w + length entries)
+GoesOn w (Goes (Some next) flows entries) events run = (setup_of_world next ≡ setup_of_world w) × (run ≡ adds entries (run_behind flows next events)) × (journal_in next ≡ journal_in w ++ entries)
 
 -- ---- of one data server
 
@@ -35,13 +35,13 @@ let_through false effect step is = absurd (cc)
 stepped : (w : WorldState) (event : EventValue) (step : WorldStep) → world_step w event ≡ Some step → step ≡ step_by_effect w (effect_of w event)
 stepped w event step is = let_through _ (step_by_effect w (effect_of w event)) step is
 
--- the journal's length goes with the entries
-bare_counted : (w : WorldState) (event : EventValue) (step : WorldStep) → step ≡ step_by_effect w (effect_of w event) → length step.world.journal ≡ length w.journal + length step.entries
-bare_counted w event step is = rw is (length-append w.journal (effect_of w event).entries)
+-- the entries stand behind those of the journal
+bare_journaled : (w : WorldState) (event : EventValue) (step : WorldStep) → step ≡ step_by_effect w (effect_of w event) → step.world.journal ≡ w.journal ++ step.entries
+bare_journaled w event step is = rw is refl
 
 bare_by : (w : WorldState) (event : EventValue) (events : List EventValue) (o : Option WorldStep) → world_step w event ≡ o → GoesOn (BareWorld w) (bare_goes o) events (bare.with_step o (λ next. run_of next events))
 bare_by w event events None is = refl
-bare_by w event events (Some step) is = (refl, refl, bare_counted w event step (stepped w event step is))
+bare_by w event events (Some step) is = (refl, refl, bare_journaled w event step (stepped w event step is))
 
 -- ---- of a cluster
 
@@ -51,8 +51,8 @@ cluster_by : (sizes : ClusterSizes) (w left : ClusterState) (flows : Bool) (more
 cluster_by sizes w left flows more events None grown is same = refl
 cluster_by sizes w left flows more events (Some next) grown is same =
     let happened : next ≡ left = (let_in left next is).0 in
-    let count : length next.journal ≡ length w.journal + length (entries_added w next) = subst (λ (n : ClusterState). length n.journal ≡ length w.journal + length (entries_added w n)) (sym happened) (counted w left grown) in
-    (refl, ap (adds (entries_added w next)) (same next), count)
+    let journal : next.journal ≡ w.journal ++ entries_added w next = subst (λ (n : ClusterState). n.journal ≡ w.journal ++ entries_added w n) (sym happened) (journaled w left grown) in
+    (refl, ap (adds (entries_added w next)) (same next), journal)
 
 -- an event that is no flow
 acts_on : (sizes : ClusterSizes) (w : ClusterState) (event : EventValue) (events : List EventValue)
@@ -61,7 +61,7 @@ acts_on sizes w event events = cluster_by sizes w (behind event w) false (λ nex
 
 flow_by_next : (sizes : ClusterSizes) (w : ClusterState) (events : List EventValue) (o : Option ℕ)
     → GoesOn (ClusterWorld sizes w) (flows_by sizes w o) events (bare_run (flow_by (flow_then (λ next. cluster_run next events)) (λ next. cluster_run next events) w o))
-flow_by_next sizes w events None = (refl, refl, omega arith)
+flow_by_next sizes w events None = (refl, refl, sym (append-nil w.journal))
 flow_by_next sizes w events (Some number) =
     cluster_by sizes w (behind (DeliverPacket number) w) true (flow_then (λ next. cluster_run next events)) events (within_limits (behind (DeliverPacket number) w)) (grows (DeliverPacket number) w) refl (λ next. refl)
 

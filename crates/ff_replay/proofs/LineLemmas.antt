@@ -16,7 +16,7 @@ use Rattle.cluster_script.specs.ClusterLines as cluster
 use Rattle.cluster_script.specs.ClusterLines.{cluster_event}
 use Rattle.cluster_world.specs.ClusterWorlds.{ClusterState}
 use Rattle.cluster_world.specs.WorldSteps.{ClusterValue}
-use Rattle.ff_replay.specs.declared.mode.Mode.{Mode}
+use Rattle.journal_print.specs.declared.mode.Mode.{Mode}
 use Rattle.ff_replay.specs.declared.setup.Setup.{Setup}
 use Rattle.ff_replay.specs.declared.setup.Setup.TheVariants.{Bare, Cluster}
 use Rattle.ff_replay.specs.Script.{ScriptLine, SaysNothing, SetsUp, Happens, setup_in, words_in, line_in, BareWorld, ClusterWorld, world_of, setup_of}

@@ -6,8 +6,8 @@ use Rattle.cluster_model.specs.declared.entry.Entry.{Entry}
 use Rattle.cluster_model.specs.Print.{print, line_of}
 use Rattle.journal_print.specs.Brief.{brief, brief_line}
 use Rattle.line_runs.specs.Writing.{IsBeginningOf, PrintsText}
-use Rattle.ff_replay.specs.declared.mode.Mode.{Mode}
-use Rattle.ff_replay.specs.declared.mode.Mode.TheVariants.{Full, Brief}
+use Rattle.journal_print.specs.declared.mode.Mode.{Mode}
+use Rattle.journal_print.specs.declared.mode.Mode.TheVariants.{Full, Brief, Count}
 use Rattle.ff_replay.specs.Script.{trace_of}
 use Rattle.ff_replay.specs.Ending.{no_trace}
 
@@ -23,6 +23,7 @@ brief_append (x ∷ xs) ys = ap (λ t. brief_line x ++ t) (brief_append xs ys) �
 pub trace_append : (mode : Mode) (xs ys : List Entry) → trace_of mode (xs ++ ys) ≡ trace_of mode xs ++ trace_of mode ys
 trace_append Full xs ys = print_append xs ys
 trace_append Brief xs ys = brief_append xs ys
+trace_append Count xs ys = refl
 
 -- the text of the first entries begins the text of all
 begins_take : (mode : Mode) (i : ℕ) (xs : List Entry) → IsBeginningOf (trace_of mode (take i xs)) (trace_of mode xs)

@@ -1,7 +1,7 @@
 -- What the first line of a script does to what the script says, and a delivery of a flow to what is to come.
 use Rattle.std.proofs.Common.{◌≡◌, ℕ, ◌+◌, Bool, true, false, List, [], ◌∷◌, ◌++◌, length, Option, Some, None, refl, sym, ap, subst, ◌∙◌, arith, ◌==◌, if◌then◌else◌}
 use Rattle.std.specs.Option.{option_map}
-use Rattle.std.proofs.lemmas.List.{append-nil, length-append}
+use Rattle.std.proofs.lemmas.List.{append-nil, append_assoc, length-append}
 use Rattle.cluster_model.specs.declared.entry.Entry.{Entry}
 use Rattle.cluster_model.specs.Event.{EventValue}
 use Rattle.line_runs.specs.Runs.{RunEffect, after_text}
@@ -10,10 +10,10 @@ use Rattle.cluster_script.specs.ClusterLines as cluster
 use Rattle.ff_script.specs.Line.{event_at}
 use Rattle.ff_world.specs.World.{Run}
 use Rattle.cluster_world.specs.ClusterWorlds.{ClusterState}
-use Rattle.ff_replay.specs.declared.mode.Mode.{Mode}
+use Rattle.journal_print.specs.declared.mode.Mode.{Mode}
 use Rattle.ff_replay.specs.declared.setup.Setup.{Setup}
 use Rattle.ff_replay.specs.declared.setup.Setup.TheVariants.{Bare, Cluster}
-use Rattle.ff_replay.specs.Script.{ScriptLine, SaysNothing, SetsUp, Happens, setup_in, words_in, line_in, Script, by_line, with_event, script_of, ScriptWorld, BareWorld, ClusterWorld, setup_of_world, setup_of, count_of, world_in, run_in, run_behind, script_from, run_from, trace_of, meaning_from}
+use Rattle.ff_replay.specs.Script.{ScriptLine, SaysNothing, SetsUp, Happens, setup_in, words_in, line_in, Script, by_line, with_event, script_of, ScriptWorld, BareWorld, ClusterWorld, setup_of_world, setup_of, journal_so_far, count_of, world_in, run_in, run_behind, script_from, run_from, trace_of, closing_of, meaning_from}
 use Rattle.ff_replay.specs.Player.{LinePlayed, Outside, Limited, Goes, event_played, played_by, played, flowed, entries_by}
 use Rattle.ff_replay.specs.Ending.{no_trace}
 use Rattle.ff_replay.proofs.PlayLemmas.{trace_append}
@@ -61,7 +61,7 @@ abbrev pub Splits : ℕ → Option ScriptWorld → LinePlayed → (Option Setup 
 Splits number stage Outside rest s run = (s.bad ≡ Some number) × (run ≡ record { entries = []; over = false })
 Splits number stage Limited rest s run = run ≡ record { entries = []; over = true }
 Splits number stage (Goes next flows entries) rest s run =
-    (s.bad ≡ (rest (setup_of next)).bad) × (run ≡ adds entries (run_by flows next (rest (setup_of next)))) × (count_of next ≡ count_of stage + length entries)
+    (s.bad ≡ (rest (setup_of next)).bad) × (run ≡ adds entries (run_by flows next (rest (setup_of next)))) × (journal_so_far next ≡ journal_so_far stage ++ entries)
 
 by_happening : (number : ℕ) (w : ScriptWorld) (event : EventValue) (does : LinePlayed) (rest : Option Setup → Script) (run : Run) → GoesOn w does (rest (Some (setup_of_world w))).events run
     → Splits number (Some w) does rest (with_event event (rest (Some (setup_of_world w)))) run
@@ -82,9 +82,9 @@ no_events number (Some (ClusterWorld sizes w)) = refl
 by_value : (number : ℕ) (stage : Option ScriptWorld) (v : Option ScriptLine) (rest : Option Setup → Script) → Meets (setup_of stage) v
     → Splits number stage (played_by stage v) rest (by_line number (setup_of stage) v rest) (run_by false stage (by_line number (setup_of stage) v rest))
 by_value number stage None rest met = (refl, no_events number stage)
-by_value number stage (Some SaysNothing) rest met = (refl, refl, omega arith)
-by_value number None (Some (SetsUp Bare)) rest met = (refl, refl, omega arith)
-by_value number None (Some (SetsUp (Cluster sizes))) rest met = (refl, refl, omega arith)
+by_value number stage (Some SaysNothing) rest met = (refl, refl, sym (append-nil (journal_so_far stage)))
+by_value number None (Some (SetsUp Bare)) rest met = (refl, refl, refl)
+by_value number None (Some (SetsUp (Cluster sizes))) rest met = (refl, refl, refl)
 by_value number (Some w) (Some (SetsUp chosen)) rest met = absurd met
 by_value number None (Some (Happens event)) rest met = absurd met
 by_value number (Some w) (Some (Happens event)) rest met =
@@ -98,26 +98,53 @@ line_on number stage line lines p is =
 
 -- ---- the effect of it
 
--- what a run of a script comes to, where there were so many entries before
-abbrev pub effect : Mode → ℕ → Option ℕ → Run → RunEffect
-effect mode count bad run = record { text = trace_of mode run.entries; bad = bad; past = run.over; count = count + length run.entries; closing = [] }
+-- how many entries there are, by the journal
+count_is : (stage : Option ScriptWorld) → count_of stage ≡ length (journal_so_far stage)
+count_is None = refl
+count_is (Some (BareWorld w)) = refl
+count_is (Some (ClusterWorld sizes w)) = refl
 
-goes_effect : (mode : Mode) (count number : ℕ) (next : Option ScriptWorld) (flows : Bool) (entries : List Entry) (lines : List (List ℕ)) (bad : Option ℕ) (run : Run)
-    → bad ≡ (script_from next number lines).bad → run ≡ adds entries (run_from flows next number lines) → count_of next ≡ count + length entries
-    → effect mode count bad run ≡ after_text (trace_of mode entries) (meaning_from mode flows next number lines)
-goes_effect mode count number next flows entries lines bad run bad_is run_is count_is =
+-- what a run of a script comes to behind this world
+abbrev pub effect : Mode → Option ScriptWorld → Option ℕ → Run → RunEffect
+effect mode stage bad run = record {
+  text = trace_of mode run.entries;
+  bad = bad;
+  past = run.over;
+  count = count_of stage + length run.entries;
+  closing = closing_of mode (journal_so_far stage ++ run.entries);
+}
+
+goes_effect : (mode : Mode) (stage : Option ScriptWorld) (number : ℕ) (next : Option ScriptWorld) (flows : Bool) (entries : List Entry) (lines : List (List ℕ)) (bad : Option ℕ) (run : Run)
+    → bad ≡ (script_from next number lines).bad → run ≡ adds entries (run_from flows next number lines) → journal_so_far next ≡ journal_so_far stage ++ entries
+    → effect mode stage bad run ≡ after_text (trace_of mode entries) (meaning_from mode flows next number lines)
+goes_effect mode stage number next flows entries lines bad run bad_is run_is journal_is =
     let after : Run = run_from flows next number lines in
-    let all : count + length (entries ++ after.entries) ≡ count_of next + length after.entries = omega (arith, count_is, length-append entries after.entries) in
-    let make : List ℕ → ℕ → RunEffect = λ t n. record { text = t; bad = (script_from next number lines).bad; past = after.over; count = n; closing = [] } in
-    (λ i. effect mode count (bad_is i) (run_is i)) ∙ (λ i. make (trace_append mode entries after.entries i) (all i))
+    let all : count_of stage + length (entries ++ after.entries) ≡ count_of next + length after.entries =
+    omega (arith, count_is stage, count_is next, ap length journal_is, length-append (journal_so_far stage) entries, length-append entries after.entries) in
+    let whole : journal_so_far stage ++ (entries ++ after.entries) ≡ journal_so_far next ++ after.entries =
+    sym (append_assoc (journal_so_far stage) entries after.entries) ∙ ap (λ j. j ++ after.entries) (sym journal_is) in
+    let make : List ℕ → ℕ → List Entry → RunEffect = λ t n j. record { text = t; bad = (script_from next number lines).bad; past = after.over; count = n; closing = closing_of mode j } in
+    (λ i. effect mode stage (bad_is i) (run_is i)) ∙ (λ i. make (trace_append mode entries after.entries i) (all i) (whole i))
 
-limited_effect : (mode : Mode) (count : ℕ) (bad : Option ℕ) (run : Run) → run ≡ record { entries = []; over = true }
-    → ((effect mode count bad run).past ≡ true) × (count ≡ (effect mode count bad run).count) × ((effect mode count bad run).text ≡ [])
-limited_effect mode count bad run is = (
-  ap (λ (r : Run). r.over) is,
-  (let none : length run.entries ≡ 0 = ap (λ (r : Run). length r.entries) is in omega (arith, none)),
-  ap (λ (r : Run). trace_of mode r.entries) is ∙ no_trace mode,
-)
+-- of a run with no entries the closing text is that of the journal so far
+no_more : (mode : Mode) (stage : Option ScriptWorld) (bad : Option ℕ) (run : Run) → run.entries ≡ [] → ((effect mode stage bad run).text ≡ []) × ((effect mode stage bad run).closing ≡ closing_of mode (journal_so_far stage))
+no_more mode stage bad run none = (ap (trace_of mode) none ∙ no_trace mode, ap (λ entries. closing_of mode (journal_so_far stage ++ entries)) none ∙ ap (closing_of mode) (append-nil (journal_so_far stage)))
+
+-- a limit would be passed by the next event
+pub record EndsAtLimit (mode : Mode) (stage : Option ScriptWorld) (said : RunEffect) : Type 0 where
+  pub past : said.past ≡ true
+  pub count : count_of stage ≡ said.count
+  pub text : said.text ≡ []
+  pub closing : said.closing ≡ closing_of mode (journal_so_far stage)
+
+limited_effect : (mode : Mode) (stage : Option ScriptWorld) (bad : Option ℕ) (run : Run) → run ≡ record { entries = []; over = true } → EndsAtLimit mode stage (effect mode stage bad run)
+limited_effect mode stage bad run is =
+    let none : run.entries ≡ [] = ap (λ (r : Run). r.entries) is in record {
+      past = ap (λ (r : Run). r.over) is;
+      count = (let few : length run.entries ≡ 0 = ap length none in omega (arith, few));
+      text = (no_more mode stage bad run none).0;
+      closing = (no_more mode stage bad run none).1;
+    }
 
 -- ---- the first line, and what is to come
 
@@ -126,28 +153,37 @@ pub goes_first : (mode : Mode) (number : ℕ) (stage next : Option ScriptWorld) 
     → meaning_from mode false stage number (line ∷ lines) ≡ after_text (trace_of mode entries) (meaning_from mode flows next (number + 1) lines)
 goes_first mode number stage next flows line lines entries is =
     let split = line_on number stage line lines (Goes next flows entries) is in
-    goes_effect mode (count_of stage) (number + 1) next flows entries lines _ _ split.0 split.1 split.2
+    goes_effect mode stage (number + 1) next flows entries lines _ _ split.0 split.1 split.2
+
+-- the line with this number is outside the grammar
+pub record EndsOutside (mode : Mode) (number : ℕ) (stage : Option ScriptWorld) (said : RunEffect) : Type 0 where
+  pub bad : said.bad ≡ Some number
+  pub past : said.past ≡ false
+  pub text : said.text ≡ []
+  pub closing : said.closing ≡ closing_of mode (journal_so_far stage)
 
 -- it is outside the grammar
 pub outside_first : (mode : Mode) (number : ℕ) (stage : Option ScriptWorld) (line : List ℕ) (lines : List (List ℕ)) → played stage line ≡ Outside
-    → ((meaning_from mode false stage number (line ∷ lines)).bad ≡ Some number) × ((meaning_from mode false stage number (line ∷ lines)).past ≡ false) × ((meaning_from mode false stage number (line ∷ lines)).text ≡ [])
+    → EndsOutside mode number stage (meaning_from mode false stage number (line ∷ lines))
 outside_first mode number stage line lines is =
-    let split = line_on number stage line lines Outside is in (
-      split.0,
-      ap (λ (r : Run). r.over) split.1,
-      ap (λ (r : Run). trace_of mode r.entries) split.1 ∙ no_trace mode,
-    )
+    let split = line_on number stage line lines Outside is in
+    let none = no_more mode stage (script_from stage number (line ∷ lines)).bad (run_from false stage number (line ∷ lines)) (ap (λ (r : Run). r.entries) split.1) in record {
+      bad = split.0;
+      past = ap (λ (r : Run). r.over) split.1;
+      text = none.0;
+      closing = none.1;
+    }
 
 -- its event would pass a limit
 pub limited_first : (mode : Mode) (number : ℕ) (stage : Option ScriptWorld) (line : List ℕ) (lines : List (List ℕ)) → played stage line ≡ Limited
-    → ((meaning_from mode false stage number (line ∷ lines)).past ≡ true) × (count_of stage ≡ (meaning_from mode false stage number (line ∷ lines)).count) × ((meaning_from mode false stage number (line ∷ lines)).text ≡ [])
-limited_first mode number stage line lines is = limited_effect mode (count_of stage) (script_from stage number (line ∷ lines)).bad _ (line_on number stage line lines Limited is)
+    → EndsAtLimit mode stage (meaning_from mode false stage number (line ∷ lines))
+limited_first mode number stage line lines is = limited_effect mode stage (script_from stage number (line ∷ lines)).bad _ (line_on number stage line lines Limited is)
 
 -- the text of the first line begins the text of all
 pub text_first : (mode : Mode) (number : ℕ) (stage : Option ScriptWorld) (line : List ℕ) (lines : List (List ℕ)) (p : LinePlayed) → played stage line ≡ p
     → (more : List ℕ) × ((meaning_from mode false stage number (line ∷ lines)).text ≡ trace_of mode (entries_by p) ++ more)
-text_first mode number stage line lines Outside is = ([], (outside_first mode number stage line lines is).2 ∙ sym (append-nil _ ∙ no_trace mode))
-text_first mode number stage line lines Limited is = ([], (limited_first mode number stage line lines is).2 ∙ sym (append-nil _ ∙ no_trace mode))
+text_first mode number stage line lines Outside is = ([], (outside_first mode number stage line lines is).text ∙ sym (append-nil _ ∙ no_trace mode))
+text_first mode number stage line lines Limited is = ([], (limited_first mode number stage line lines is).text ∙ sym (append-nil _ ∙ no_trace mode))
 text_first mode number stage line lines (Goes next flows entries) is =
     (trace_of mode (run_from flows next (number + 1) lines).entries, ap (λ (c : RunEffect). c.text) (goes_first mode number stage next flows line lines entries is))
 
@@ -165,15 +201,15 @@ pub goes_within : (mode : Mode) (number : ℕ) (sizes : ClusterSizes) (w : Clust
 goes_within mode number sizes w None flows entries lines is = absurd (flow_now sizes w number lines (Goes None flows entries) is)
 goes_within mode number sizes w (Some next) flows entries lines is =
     let on = flow_now sizes w number lines (Goes (Some next) flows entries) is in
-    goes_effect mode (count_of (Some (ClusterWorld sizes w))) number (Some next) flows entries lines _ _
+    goes_effect mode (Some (ClusterWorld sizes w)) number (Some next) flows entries lines _ _
     (ap (λ c. (script_of number (Some c) lines).bad) (sym on.0))
     (on.1 ∙ ap (λ c. adds entries (run_behind flows next (script_of number (Some c) lines).events)) (sym on.0))
     on.2
 
 -- it would pass a limit
 pub limited_within : (mode : Mode) (number : ℕ) (sizes : ClusterSizes) (w : ClusterState) (lines : List (List ℕ)) → flowed sizes w ≡ Limited
-    → ((meaning_from mode true (Some (ClusterWorld sizes w)) number lines).past ≡ true) × (length w.journal ≡ (meaning_from mode true (Some (ClusterWorld sizes w)) number lines).count) × ((meaning_from mode true (Some (ClusterWorld sizes w)) number lines).text ≡ [])
-limited_within mode number sizes w lines is = limited_effect mode (length w.journal) (script_of number (Some (Cluster sizes)) lines).bad _ (flow_now sizes w number lines Limited is)
+    → EndsAtLimit mode (Some (ClusterWorld sizes w)) (meaning_from mode true (Some (ClusterWorld sizes w)) number lines)
+limited_within mode number sizes w lines is = limited_effect mode (Some (ClusterWorld sizes w)) (script_of number (Some (Cluster sizes)) lines).bad _ (flow_now sizes w number lines Limited is)
 
 -- a flow is within the grammar
 pub flow_not_outside : (sizes : ClusterSizes) (w : ClusterState) → flowed sizes w ≡ Outside → ⊥
@@ -183,6 +219,6 @@ flow_not_outside sizes w is = flow_now sizes w 1 [] Outside is
 pub text_within : (mode : Mode) (number : ℕ) (sizes : ClusterSizes) (w : ClusterState) (lines : List (List ℕ)) (p : LinePlayed) → flowed sizes w ≡ p
     → (more : List ℕ) × ((meaning_from mode true (Some (ClusterWorld sizes w)) number lines).text ≡ trace_of mode (entries_by p) ++ more)
 text_within mode number sizes w lines Outside is = absurd (flow_not_outside sizes w is)
-text_within mode number sizes w lines Limited is = ([], (limited_within mode number sizes w lines is).2 ∙ sym (append-nil _ ∙ no_trace mode))
+text_within mode number sizes w lines Limited is = ([], (limited_within mode number sizes w lines is).text ∙ sym (append-nil _ ∙ no_trace mode))
 text_within mode number sizes w lines (Goes next flows entries) is =
     (trace_of mode (run_from flows next number lines).entries, ap (λ (c : RunEffect). c.text) (goes_within mode number sizes w next flows entries lines is))

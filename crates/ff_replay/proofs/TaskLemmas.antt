@@ -15,9 +15,9 @@ use Rattle.packet_table.specs.Packets.{next_waiting}
 use Rattle.ff_world.specs.World.{WorldStep, world_step}
 use Rattle.cluster_world.specs.ClusterWorlds.{ClusterState, packets, cluster_step}
 use Rattle.world_journal.specs.declared.fault.WorldFault.{WorldFault}
-use Rattle.ff_replay.specs.declared.mode.Mode.{Mode}
-use Rattle.ff_replay.specs.Script.{ScriptLine, SaysNothing, SetsUp, Happens, ScriptWorld, BareWorld, ClusterWorld, setup_of, line_in, trace_of, meaning_from, script_task}
-use Rattle.ff_replay.specs.Player.{LinePlayed, Outside, Limited, Goes, bare_goes, cluster_goes, flows_by, is_flow, cluster_played, played_by, played, flowed, flowing, PlayerValue, PlayerState, with_trace, GoesFrom, PlayerPlays, is_more, IsOfCluster, IsWithinFlow, IsBetween}
+use Rattle.journal_print.specs.declared.mode.Mode.{Mode}
+use Rattle.ff_replay.specs.Script.{ScriptLine, SaysNothing, SetsUp, Happens, ScriptWorld, BareWorld, ClusterWorld, setup_of, journal_so_far, line_in, trace_of, closing_of, meaning_from, script_task}
+use Rattle.ff_replay.specs.Player.{LinePlayed, Outside, Limited, Goes, bare_goes, cluster_goes, flows_by, is_flow, cluster_played, played_by, played, flowed, flowing, PlayerValue, PlayerState, with_trace, GoesFrom, PlayerPlays, is_unfinished, IsOfCluster, IsWithinFlow, IsBetween}
 use Rattle.ff_replay.proofs.ScriptLemmas.{goes_first, outside_first, limited_first, text_first, goes_within, limited_within, flow_not_outside, text_within}
 
 begins_first : (part text more all : List ℕ) → IsBeginningOf part text → all ≡ text ++ more → IsBeginningOf part all
@@ -42,7 +42,7 @@ goes_line mode number flows old new line goes =
       after = λ lines. refl;
     }
 
-begins_line : (mode : Mode) (number : ℕ) (flows : Bool) (old new : PlayerState) (line : List ℕ) (r : Result LineStep NoMemory) → PlayerPlays mode old (played old.stage line) r new → IfOk r (λ done. flows ≡ is_more done)
+begins_line : (mode : Mode) (number : ℕ) (flows : Bool) (old new : PlayerState) (line : List ℕ) (r : Result LineStep NoMemory) → PlayerPlays mode old (played old.stage line) r new → IfOk r (λ done. flows ≡ is_unfinished done)
     → BeginsLine number (on_line line (ahead_of number (script_task mode false old.stage))) old.trace r (script_task mode flows new.stage) new.trace
 begins_line mode number flows old new line (Ok step.Done) goes is =
     subst (λ f. TaskGoes (on_line line (ahead_of number (script_task mode false old.stage))) old.trace (ahead_of (number + 1) (script_task mode f new.stage)) new.trace) (sym is) (goes_line mode number false old new line goes)
@@ -51,18 +51,18 @@ begins_line mode number flows old new line (Ok step.More) goes is =
 begins_line mode number flows old new line (Ok step.Outside) refuses is = record {
   more = [];
   now = ap (λ (p : PlayerState). p.trace) refuses.1 ∙ sym (append-nil old.trace);
-  why = λ lines. outside_first mode number old.stage line lines refuses.0;
-  adds = λ lines. (outside_first mode number old.stage line lines refuses.0).2;
-  closing = λ lines. refl;
+  why = λ lines. let first = outside_first mode number old.stage line lines refuses.0 in (first.bad, first.past, first.text);
+  adds = λ lines. (outside_first mode number old.stage line lines refuses.0).text;
+  closing = λ lines. (outside_first mode number old.stage line lines refuses.0).closing ∙ ap (λ (p : PlayerState). closing_of mode (journal_so_far p.stage)) (sym refuses.1);
   after = λ lines. refl;
 }
 begins_line mode number flows old new line (Ok (step.Limited count)) limited is =
     let first = λ (lines : List (List ℕ)). limited_first mode number old.stage line lines limited.is in record {
       more = [];
       now = limited.trace ∙ sym (append-nil old.trace);
-      why = λ lines. ((first lines).0, limited.count_is ∙ (first lines).1);
-      adds = λ lines. (first lines).2;
-      closing = λ lines. refl;
+      why = λ lines. ((first lines).past, limited.count_is ∙ (first lines).count);
+      adds = λ lines. (first lines).text;
+      closing = λ lines. (first lines).closing ∙ ap (closing_of mode) (sym limited.journal);
       after = λ lines. refl;
     }
 begins_line mode number flows old new line (Err e) begun is = record {
@@ -74,7 +74,7 @@ begins_line mode number flows old new line (Err e) begun is = record {
 }
 
 -- What a player did with a line.
-pub does_line : (old new : PlayerValue) (text text' line : List ℕ) (r : Result LineStep NoMemory) (number : ℕ) → old.flows ≡ false → new.mode ≡ old.mode → IfOk r (λ done. new.flows ≡ is_more done)
+pub does_line : (old new : PlayerValue) (text text' line : List ℕ) (r : Result LineStep NoMemory) (number : ℕ) → old.flows ≡ false → new.mode ≡ old.mode → IfOk r (λ done. new.flows ≡ is_unfinished done)
     → PlayerPlays old.mode (with_trace old text) (played old.stage line) r (with_trace new text')
     → BeginsLine number (on_line line (ahead_of number (script_task old.mode old.flows old.stage))) text r (script_task new.mode new.flows new.stage) text'
 does_line old new text text' line r number still mode flows plays =
@@ -96,7 +96,7 @@ goes_flow mode number flows sizes w spent text new goes =
     }
 
 steps_flow : (mode : Mode) (number : ℕ) (flows : Bool) (sizes : ClusterSizes) (w : ClusterState) (spent : Option WorldFault) (text : List ℕ) (new : PlayerState) (r : Result LineStep NoMemory)
-    → PlayerPlays mode (state (Some (ClusterWorld sizes w)) spent text) (flowed sizes w) r new → IfOk r (λ done. flows ≡ is_more done)
+    → PlayerPlays mode (state (Some (ClusterWorld sizes w)) spent text) (flowed sizes w) r new → IfOk r (λ done. flows ≡ is_unfinished done)
     → StepsFrom number (ahead_of number (script_task mode true (Some (ClusterWorld sizes w)))) text r (script_task mode flows new.stage) new.trace
 steps_flow mode number flows sizes w spent text new (Ok step.Done) goes is =
     subst (λ f. TaskGoes (ahead_of number (script_task mode true (Some (ClusterWorld sizes w)))) text (ahead_of number (script_task mode f new.stage)) new.trace) (sym is) (goes_flow mode number false sizes w spent text new goes)
@@ -107,9 +107,9 @@ steps_flow mode number flows sizes w spent text new (Ok (step.Limited count)) li
     let first = λ (lines : List (List ℕ)). limited_within mode number sizes w lines limited.is in record {
       more = [];
       now = limited.trace ∙ sym (append-nil text);
-      why = λ lines. ((first lines).0, limited.count_is ∙ (first lines).1);
-      adds = λ lines. (first lines).2;
-      closing = λ lines. refl;
+      why = λ lines. ((first lines).past, limited.count_is ∙ (first lines).count);
+      adds = λ lines. (first lines).text;
+      closing = λ lines. (first lines).closing ∙ ap (closing_of mode) (sym limited.journal);
       after = λ lines. refl;
     }
 steps_flow mode number flows sizes w spent text new (Err e) begun is = record {
@@ -121,14 +121,14 @@ steps_flow mode number flows sizes w spent text new (Err e) begun is = record {
 }
 
 by_stage : (mode : Mode) (number : ℕ) (flows : Bool) (stage : Option ScriptWorld) (spent : Option WorldFault) (text : List ℕ) (new : PlayerState) (r : Result LineStep NoMemory) → IsOfCluster stage
-    → PlayerPlays mode (state stage spent text) (flowing stage) r new → IfOk r (λ done. flows ≡ is_more done)
+    → PlayerPlays mode (state stage spent text) (flowing stage) r new → IfOk r (λ done. flows ≡ is_unfinished done)
     → StepsFrom number (ahead_of number (script_task mode true stage)) text r (script_task mode flows new.stage) new.trace
 by_stage mode number flows None spent text new r cluster plays is = absurd cluster
 by_stage mode number flows (Some (BareWorld w)) spent text new r cluster plays is = absurd cluster
 by_stage mode number flows (Some (ClusterWorld sizes w)) spent text new r cluster plays is = steps_flow mode number flows sizes w spent text new r plays is
 
 -- What a player did within a flow.
-pub does_flow : (old new : PlayerValue) (text text' : List ℕ) (r : Result LineStep NoMemory) (number : ℕ) → old.flows ≡ true → IsOfCluster old.stage → new.mode ≡ old.mode → IfOk r (λ done. new.flows ≡ is_more done)
+pub does_flow : (old new : PlayerValue) (text text' : List ℕ) (r : Result LineStep NoMemory) (number : ℕ) → old.flows ≡ true → IsOfCluster old.stage → new.mode ≡ old.mode → IfOk r (λ done. new.flows ≡ is_unfinished done)
     → PlayerPlays old.mode (with_trace old text) (flowing old.stage) r (with_trace new text')
     → StepsFrom number (ahead_of number (script_task old.mode old.flows old.stage)) text r (script_task new.mode new.flows new.stage) text'
 does_flow old new text text' r number under_way cluster mode flows plays =
@@ -181,7 +181,7 @@ in_flowing None = tt
 in_flowing (Some (BareWorld w)) = tt
 in_flowing (Some (ClusterWorld sizes w)) = in_flow sizes w
 
-rests_by : (mode : Mode) (before : PlayerState) (new : PlayerValue) (text' : List ℕ) (does : LinePlayed) (r : Result LineStep NoMemory) → FlowsInCluster does → PlayerPlays mode before does r (with_trace new text') → IfOk r (λ done. new.flows ≡ is_more done)
+rests_by : (mode : Mode) (before : PlayerState) (new : PlayerValue) (text' : List ℕ) (does : LinePlayed) (r : Result LineStep NoMemory) → FlowsInCluster does → PlayerPlays mode before does r (with_trace new text') → IfOk r (λ done. new.flows ≡ is_unfinished done)
     → Rests r (IsBetween new) (IsWithinFlow new)
 rests_by mode before new text' does (Ok step.Done) cluster goes is = (ap (λ (p : PlayerState). p.spent) goes.now, is)
 rests_by mode before new text' does (Ok step.More) cluster goes is =
@@ -191,10 +191,10 @@ rests_by mode before new text' does (Ok step.Outside) cluster refuses is = tt
 rests_by mode before new text' does (Ok (step.Limited count)) cluster limited is = tt
 rests_by mode before new text' does (Err e) cluster begun is = tt
 
-pub rests_line : (old new : PlayerValue) (text text' line : List ℕ) (r : Result LineStep NoMemory) → PlayerPlays old.mode (with_trace old text) (played old.stage line) r (with_trace new text') → IfOk r (λ done. new.flows ≡ is_more done)
+pub rests_line : (old new : PlayerValue) (text text' line : List ℕ) (r : Result LineStep NoMemory) → PlayerPlays old.mode (with_trace old text) (played old.stage line) r (with_trace new text') → IfOk r (λ done. new.flows ≡ is_unfinished done)
     → Rests r (IsBetween new) (IsWithinFlow new)
 rests_line old new text text' line r plays is = rests_by old.mode (with_trace old text) new text' (played old.stage line) r (in_line old.stage line) plays is
 
-pub rests_flow : (old new : PlayerValue) (text text' : List ℕ) (r : Result LineStep NoMemory) → PlayerPlays old.mode (with_trace old text) (flowing old.stage) r (with_trace new text') → IfOk r (λ done. new.flows ≡ is_more done)
+pub rests_flow : (old new : PlayerValue) (text text' : List ℕ) (r : Result LineStep NoMemory) → PlayerPlays old.mode (with_trace old text) (flowing old.stage) r (with_trace new text') → IfOk r (λ done. new.flows ≡ is_unfinished done)
     → Rests r (IsBetween new) (IsWithinFlow new)
 rests_flow old new text text' r plays is = rests_by old.mode (with_trace old text) new text' (flowing old.stage) r (in_flowing old.stage) plays is

@@ -70,16 +70,17 @@ grows (Resilver file) w = (_, refl)
 grows (Audit file) w = (_, refl)
 grows (Restart server pieces) w = (_, refl)
 
+-- those that were added, as a cut of the journal
+pub journaled : (old new : ClusterState) → Grows old new → new.journal ≡ old.journal ++ entries_added old new
+journaled old new more =
+    let rest : entries_added old new ≡ more.0 = ap (drop (length old.journal)) more.1 ∙ drop_at old.journal more.0 (length old.journal) refl in
+    more.1 ∙ ap (λ added. old.journal ++ added) (sym rest)
+
 -- ---- how many there are
 
--- the journal is not shorter, and its length goes with the entries that were added
+-- the journal is not shorter
 pub longer : (old new : ClusterState) → Grows old new → length old.journal ≤ length new.journal
 longer old new more = omega (arith, ap length more.1, length-append old.journal more.0)
-
-pub counted : (old new : ClusterState) → Grows old new → length new.journal ≡ length old.journal + length (entries_added old new)
-counted old new more =
-    let rest : entries_added old new ≡ more.0 = ap (drop (length old.journal)) more.1 ∙ drop_at old.journal more.0 (length old.journal) refl in
-    omega (arith, ap length more.1, length-append old.journal more.0, ap length rest)
 
 -- a packet that is there makes an entry at least
 pub comes_more : (number : ℕ) (note : PacketNote) (w : ClusterState) → length w.journal + 1 ≤ length (packet_comes number (Some note) w).journal

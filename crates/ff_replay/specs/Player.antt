@@ -15,12 +15,12 @@ use Rattle.cluster_script.specs.declared.sizes.ClusterSizes.{ClusterSizes}
 use Rattle.cluster_world.specs.ClusterWorlds.{ClusterState, packets, cluster_step}
 use Rattle.cluster_world.specs.ClusterRuns.{entries_added}
 use Rattle.cluster_world.specs.WorldSteps.{ClusterValue}
-use Rattle.ff_replay.specs.declared.mode.Mode.{Mode}
+use Rattle.journal_print.specs.declared.mode.Mode.{Mode}
 use Rattle.ff_replay.specs.declared.setup.Setup.{Setup}
 use Rattle.ff_replay.specs.declared.setup.Setup.TheVariants.{Bare, Cluster}
 use Rattle.ff_replay.specs.declared.stage.Stage.{Stage}
 use Rattle.ff_replay.specs.declared.stage.Stage.TheVariants as stage
-use Rattle.ff_replay.specs.Script.{ScriptLine, SaysNothing, SetsUp, Happens, ScriptWorld, BareWorld, ClusterWorld, world_of, setup_of, count_of, line_in, trace_of}
+use Rattle.ff_replay.specs.Script.{ScriptLine, SaysNothing, SetsUp, Happens, ScriptWorld, BareWorld, ClusterWorld, world_of, setup_of, count_of, journal_so_far, line_in, trace_of}
 
 -- an empty line, or one that begins with `#` (35)
 abbrev pub is_comment : List ℕ → Bool
@@ -141,8 +141,8 @@ pub record PlayerState : Type 0 where
 abbrev pub with_trace : PlayerValue → List ℕ → PlayerState
 with_trace p trace = record { stage = p.stage; spent = p.spent; trace = trace }
 
-abbrev pub at_stage : Stage → List ℕ → PlayerState
-at_stage s trace = record { stage = Some (stage_world s); spent = stage_spent s; trace = trace }
+abbrev pub player_at : Stage → List ℕ → PlayerState
+player_at s trace = record { stage = Some (stage_world s); spent = stage_spent s; trace = trace }
 
 abbrev pub at_bare : WorldValue → List ℕ → PlayerState
 at_bare w trace = record { stage = Some (BareWorld w.world); spent = w.spent; trace = trace }
@@ -157,11 +157,12 @@ pub record GoesFrom (mode : Mode) (old : PlayerState) (does : LinePlayed) (flows
   pub is : does ≡ Goes next flows entries
   pub now : new ≡ record { stage = next; spent = None; trace = old.trace ++ trace_of mode entries }
 
--- the run is at a limit, and all entries so far are printed
+-- the run is at a limit, all entries so far are printed, and the journal is as it was
 pub record PlayerStopsAtLimit (old : PlayerState) (does : LinePlayed) (count : ℕ) (new : PlayerState) : Type 0 where
   pub is : does ≡ Limited
   pub count_is : count ≡ count_of old.stage
   pub trace : new.trace ≡ old.trace
+  pub journal : journal_so_far new.stage ≡ journal_so_far old.stage
 
 -- memory was wanted, and a beginning of the entries is printed
 pub record PlayerPrintedPart (mode : Mode) (old : PlayerState) (does : LinePlayed) (new : PlayerState) : Type 0 where
@@ -179,11 +180,11 @@ PlayerPlays mode old does (Ok (step.Limited count)) new = PlayerStopsAtLimit old
 PlayerPlays mode old does (Err e) new = PlayerPrintedPart mode old does new
 
 -- a flow is under way just where there is more of the line
-abbrev pub is_more : LineStep → Bool
-is_more step.More = true
-is_more step.Done = false
-is_more step.Outside = false
-is_more (step.Limited count) = false
+abbrev pub is_unfinished : LineStep → Bool
+is_unfinished step.More = true
+is_unfinished step.Done = false
+is_unfinished step.Outside = false
+is_unfinished (step.Limited count) = false
 
 -- ---- what a script's line gives to a world
 

@@ -1,10 +1,11 @@
 -- What a script says, and the trace of it.
-use Rattle.std.specs.Prelude.{ℕ, ◌+◌, Bool, true, false, ◌==◌, List, [], ◌∷◌, length, codes, Option, Some, None, option_map, if◌then◌else◌}
+use Rattle.std.specs.Prelude.{ℕ, ◌+◌, Bool, true, false, ◌==◌, List, [], ◌∷◌, ◌++◌, length, codes, Option, Some, None, option_map, if◌then◌else◌}
 use Rattle.std.specs.Str.{bytes_eq}
 use Rattle.cluster_model.specs.declared.entry.Entry.{Entry}
 use Rattle.cluster_model.specs.Event.{EventValue}
 use Rattle.cluster_model.specs.Print.{print}
 use Rattle.journal_print.specs.Brief.{brief}
+use Rattle.journal_print.specs.Counts.{counts}
 use Rattle.line_runs.specs.Runs.{LinesMeaning}
 use Rattle.line_runs.specs.Tasks.{TaskValue}
 use Rattle.ff_script.specs.Line as bare
@@ -13,8 +14,8 @@ use Rattle.cluster_script.specs.ClusterLines as cluster
 use Rattle.ff_world.specs.World.{WorldState, Run, preset_world, run_of}
 use Rattle.cluster_world.specs.ClusterWorlds.{ClusterState, new_cluster}
 use Rattle.cluster_world.specs.ClusterRuns.{ClusterRun, flow_then, cluster_run}
-use Rattle.ff_replay.specs.declared.mode.Mode.{Mode}
-use Rattle.ff_replay.specs.declared.mode.Mode.TheVariants.{Full, Brief}
+use Rattle.journal_print.specs.declared.mode.Mode.{Mode}
+use Rattle.journal_print.specs.declared.mode.Mode.TheVariants.{Full, Brief, Count}
 use Rattle.ff_replay.specs.declared.setup.Setup.{Setup}
 use Rattle.ff_replay.specs.declared.setup.Setup.TheVariants.{Bare, Cluster}
 
@@ -82,6 +83,11 @@ abbrev pub world_of : Setup → ScriptWorld
 world_of Bare = BareWorld (preset_world Rattle.ff_script.specs.declared.line.Setup.TheVariants.Bare)
 world_of (Cluster sizes) = ClusterWorld sizes (new_cluster sizes.servers sizes.mirrors sizes.clients)
 
+-- the journal so far
+abbrev pub journal_in : ScriptWorld → List Entry
+journal_in (BareWorld w) = w.journal
+journal_in (ClusterWorld sizes w) = w.journal
+
 abbrev pub setup_of_world : ScriptWorld → Setup
 setup_of_world (BareWorld w) = Bare
 setup_of_world (ClusterWorld sizes w) = Cluster sizes
@@ -93,6 +99,11 @@ entries_in (ClusterWorld sizes w) = length w.journal
 -- the setup of the world so far: none before the setup line
 abbrev pub setup_of : Option ScriptWorld → Option Setup
 setup_of stage = option_map setup_of_world stage
+
+-- the journal so far: none before the setup line
+abbrev pub journal_so_far : Option ScriptWorld → List Entry
+journal_so_far None = []
+journal_so_far (Some w) = journal_in w
 
 -- how many entries the journal has
 abbrev pub count_of : Option ScriptWorld → ℕ
@@ -132,18 +143,26 @@ run_from flows stage number lines = run_behind flows (world_in stage (script_fro
 
 -- ---- its text
 
+-- the text of entries, as they come: none where they are only counted
 abbrev pub trace_of : Mode → List Entry → List ℕ
 trace_of Full entries = print entries
 trace_of Brief entries = brief entries
+trace_of Count entries = []
 
--- what lines come to: the text of the journal that they add
+-- the text of a whole journal, where the lines end: its counts where entries are only counted
+abbrev pub closing_of : Mode → List Entry → List ℕ
+closing_of Full journal = []
+closing_of Brief journal = []
+closing_of Count journal = counts journal
+
+-- what lines come to: the text of the journal that they add, and behind it what is said of the whole journal by then
 abbrev pub meaning_from : Mode → Bool → Option ScriptWorld → ℕ → LinesMeaning
 meaning_from mode flows stage number lines = record {
   text = trace_of mode (run_from flows stage number lines).entries;
   bad = (script_from stage number lines).bad;
   past = (run_from flows stage number lines).over;
   count = count_of stage + length (run_from flows stage number lines).entries;
-  closing = [];
+  closing = closing_of mode (journal_so_far stage ++ (run_from flows stage number lines).entries);
 }
 
 -- what the lines of a script come to
@@ -156,4 +175,4 @@ script_budget = 67108864
 
 -- the task as its run sees it, where this is the world so far, and whether a flow is under way
 abbrev pub script_task : Mode → Bool → Option ScriptWorld → TaskValue (Unit {0})
-script_task mode flows stage = record { meaning = meaning_from mode flows stage; after = λ lines. tt; entries = count_of stage; closing = []; state = tt }
+script_task mode flows stage = record { meaning = meaning_from mode flows stage; after = λ lines. tt; entries = count_of stage; closing = closing_of mode (journal_so_far stage); state = tt }

@@ -1,7 +1,6 @@
-//! The run of a script, line by line, and its trace, whole or brief.
+//! The run of a script, line by line, and its trace: whole, brief, or counts alone.
 #![tactic(auto)]
 
-mod mode;
 mod player;
 mod reading;
 mod script;
@@ -9,6 +8,6 @@ mod setup;
 mod stage;
 mod writing;
 
-pub use mode::Mode;
+pub use journal_print::Mode;
 pub use script::replay;
 pub use setup::Setup;

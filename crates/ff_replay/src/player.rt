@@ -2,12 +2,15 @@
 
 ghost use Rattle.std.specs.Prelude.{◌≡◌, ◌≢◌, ◌<◌, ℕ, List, false, None, Some, Ok, IfOk};
 ghost use Rattle.line_runs.specs.declared.end.LineStep.TheVariants as step;
-ghost use Rattle.ff_replay.specs.Player.{PlayerPlays, with_trace, played, flowing, is_more, room_of};
+ghost use Rattle.ff_replay.specs.Script.{journal_so_far};
+ghost use Rattle.ff_replay.specs.Player.{PlayerPlays, with_trace, played, flowing, is_unfinished, room_of};
 
-use crate::mode::Mode;
 use crate::reading::{is_comment, parse_setup};
 use crate::stage::Stage;
+use crate::writing::print_closing;
+use cluster_model::Entry;
 use ff_xdr::{NoMemory, Out};
+use journal_print::Mode;
 use line_runs::{LineStep, LineTask};
 use std::alloc::Global;
 use std::marker::Model;
@@ -42,6 +45,16 @@ impl Player {
         }
     }
 
+    /// The journal so far; before the setup it has no entry.
+    fn journal(&self) -> &[Entry]
+        ensures { result.now ≡ journal_so_far self.now.stage }
+    {
+        match &self.stage {
+            None => &[],
+            Some(stage) => stage.journal(),
+        }
+    }
+
     /// Plays a line before the setup.
     fn set_up(&mut self, line: &[u8]) -> Result<LineStep, NoMemory>
         ensures does { self.old.spent ≡ None → self.old.stage ≡ None → (trace : List ℕ) → PlayerPlays self.old.mode (with_trace self.old trace) (played None line.now) result (with_trace self.new trace) }
@@ -65,7 +78,7 @@ impl Player {
     pub fn play_line(&mut self, line: &[u8], text: &mut Out) -> Result<LineStep, NoMemory>
         ensures does { self.old.spent ≡ None → PlayerPlays self.old.mode (with_trace self.old text.old) (played self.old.stage line.now) result (with_trace self.new text.new) }
         ensures mode { self.new.mode ≡ self.old.mode }
-        ensures flows { self.old.flows ≡ false → IfOk result (λ done. self.new.flows ≡ is_more done) }
+        ensures flows { self.old.flows ≡ false → IfOk result (λ done. self.new.flows ≡ is_unfinished done) }
         ensures spent { self.old.spent ≢ None → self.new.stage ≡ self.old.stage }
     {
         let mode = self.mode;
@@ -81,7 +94,7 @@ impl Player {
     pub fn flow_on(&mut self, text: &mut Out) -> Result<LineStep, NoMemory>
         ensures does { self.old.spent ≡ None → PlayerPlays self.old.mode (with_trace self.old text.old) (flowing self.old.stage) result (with_trace self.new text.new) }
         ensures mode { self.new.mode ≡ self.old.mode }
-        ensures flows { IfOk result (λ done. self.new.flows ≡ is_more done) }
+        ensures flows { IfOk result (λ done. self.new.flows ≡ is_unfinished done) }
         ensures falls { result ≡ Ok step.More → room_of self.new.stage < room_of self.old.stage }
     {
         let mode = self.mode;
@@ -129,8 +142,8 @@ impl LineTask for Player {
         self.flow_on(text)
     }
 
-    fn close(&mut self, _text: &mut Out) -> Result<(), NoMemory> {
-        Ok(())
+    fn close(&mut self, text: &mut Out) -> Result<(), NoMemory> {
+        print_closing(self.mode, self.journal(), text)
     }
 
     ghost ends = { λ player number fresh. at_end_of player.mode player.flows player.stage number fresh.1 };

@@ -9,18 +9,19 @@ ghost use Rattle.cluster_script.specs.ClusterLines.{cluster_event};
 ghost use Rattle.cluster_world.specs.ClusterWorlds.{cluster_step};
 ghost use Rattle.cluster_world.specs.WorldSteps.{IsOfScript};
 ghost use Rattle.ff_world.specs.World.{world_step};
-ghost use Rattle.ff_replay.specs.Script.{setup_of_world, entries_in, world_of};
-ghost use Rattle.ff_replay.specs.Player.{PlayerPlays, IsSetup, stage_world, stage_spent, at_stage, at_bare, at_cluster, is_flow, flowed, flowed_in, bare_goes, cluster_goes, cluster_played, played};
+ghost use Rattle.ff_replay.specs.Script.{setup_of_world, entries_in, journal_in, world_of};
+ghost use Rattle.ff_replay.specs.Player.{PlayerPlays, IsSetup, stage_world, stage_spent, player_at, at_bare, at_cluster, is_flow, flowed, flowed_in, bare_goes, cluster_goes, cluster_played, played};
 
-use crate::mode::Mode;
 use crate::reading::{is_comment, is_flow, parse_cluster_event};
 use crate::setup::Setup;
 use crate::writing::print_from;
+use cluster_model::Entry;
 use cluster_script::{ClusterEvent, ClusterSizes};
 use cluster_world::ClusterWorld;
 use ff_script::{Event, Line, parse_line};
 use ff_world::World;
 use ff_xdr::{NoMemory, Out};
+use journal_print::Mode;
 use line_runs::LineStep;
 use std::alloc::Global;
 use world_journal::WorldFault;
@@ -165,6 +166,16 @@ impl Stage {
         }
     }
 
+    /// The journal so far.
+    pub fn journal(&self) -> &[Entry]
+        ensures { result.now ≡ journal_in (stage_world self.now) }
+    {
+        match self {
+            Stage::Bare(world) => world.journal(),
+            Stage::Cluster(_, world) => world.journal(),
+        }
+    }
+
     /// How many entries the journal has.
     pub fn count(&self) -> u64
         ensures { result ≡ entries_in (stage_world self.now) }
@@ -183,7 +194,7 @@ impl Stage {
         line: &[u8],
         text: &mut Out,
     ) -> Result<LineStep, NoMemory>
-        ensures does { stage_spent self.old ≡ None → PlayerPlays mode (at_stage self.old text.old) (played (Some (stage_world self.old)) line.now) result (at_stage self.new text.new) }
+        ensures does { stage_spent self.old ≡ None → PlayerPlays mode (player_at self.old text.old) (played (Some (stage_world self.old)) line.now) result (player_at self.new text.new) }
         ensures spent { stage_spent self.old ≢ None → self.new ≡ self.old }
     {
         match self {
@@ -195,7 +206,7 @@ impl Stage {
     /// Goes on with a flow, and prints the entries that this adds to the journal. In a world of one data
     /// server there is none.
     pub fn go_on(&mut self, mode: Mode, text: &mut Out) -> Result<LineStep, NoMemory>
-        ensures does { stage_spent self.old ≡ None → PlayerPlays mode (at_stage self.old text.old) (flowed_in (stage_world self.old)) result (at_stage self.new text.new) }
+        ensures does { stage_spent self.old ≡ None → PlayerPlays mode (player_at self.old text.old) (flowed_in (stage_world self.old)) result (player_at self.new text.new) }
         ensures falls { result ≡ Ok step.More → max_entries - entries_in (stage_world self.new) < max_entries - entries_in (stage_world self.old) }
     {
         match self {

@@ -1,66 +1,118 @@
--- What the command `ds` does: it serves by the configuration in the source's first line.
-use Rattle.std.specs.Prelude.{⊤, ◌≡◌, ℕ, ◌+◌, ◌≤◌, List, length, Option, Some, None, Result, Ok, Err}
-use Rattle.cluster_model.specs.declared.ids.NodeId.{NodeId}
+-- What the commands `ds`, `mds`, `put` and `get` do: a node runs by the configuration in the source's first line.
+use Rattle.std.specs.Prelude.{⊤, ◌≡◌, ℕ, ◌+◌, ◌≤◌, Bool, true, false, List, [], length, Option, Some, None, Result, Ok, Err}
+use Rattle.cluster_model.specs.Server.{ServerState, new_server}
 use Rattle.line_runs.specs.declared.end.RunEnd.{RunEnd}
 use Rattle.line_runs.specs.declared.end.RunEnd.TheVariants.{Done, BadLine, ReadFault, WriteFault, NoMemory, Limit}
-use Rattle.line_runs.specs.Lines.{Cut, Line, Last, PastBudget, cut_line, Drawn}
+use Rattle.line_runs.specs.Lines.{Cut, Line, Last, PastBudget, cut_line, Drawn, all_left}
 use Rattle.line_runs.specs.Playback.{EndFaults}
-use Rattle.cluster_model.specs.Server.{new_server}
 use Rattle.node_config.specs.declared.config.Config.{Config}
-use Rattle.node_link.specs.declared.link.Arrival.{Arrival}
-use Rattle.ff_node.specs.declared.serve.NodeEnd.{NodeEnd}
 use Rattle.node_config.specs.Configs.{ConfigValue, config_value}
+use Rattle.node_link.specs.declared.link.Opening.{Opening}
+use Rattle.node_link.specs.declared.link.Role.TheVariants as role
+use Rattle.mds_rule.specs.MdsStates.{MdsValue, new_mds}
+use Rattle.command_words.specs.Commands.{CommandValue, Replay, Gen, Show, Ds, Mds, Put, Get}
+use Rattle.ff_node.specs.declared.end.NodeEnd.{NodeEnd}
 use Rattle.ff_node.specs.Config.{Configures, max_line}
-use Rattle.ff_node.specs.Serve.{Serves, link_faults}
+use Rattle.ff_node.specs.Nodes.{server_rule}
+use Rattle.ff_node.specs.Serve.{Beside, OpensThen, NodeRuns, link_faults, sink_faults}
+use Rattle.mds_node.specs.MdsNodes.{mds_node_rule}
+use Rattle.user_nodes.specs.Puts.{PutsFile, source_faults}
+use Rattle.user_nodes.specs.Gets.{GetsFile}
+use Rattle.ff_run.specs.declared.serving.Task.{Task}
+use Rattle.ff_run.specs.declared.serving.Task.TheVariants as code
 
--- the first line, where it is not too long
+-- ---- what is told
+
+-- what the source has left; what the link was opened with; and what is beside a node: the link, the clock and the sink
+pub record Observed : Type 0 where
+  pub unread : Option (List ℕ)
+  pub opened : Option Opening
+  pub around : Beside
+
+abbrev pub observed : Option (List ℕ) → Option Opening → Beside → Observed
+observed unread opened around = record { unread = unread; opened = opened; around = around }
+
+-- ---- the configuration
+
+-- the first line, where it is not too long, and what is behind it
 abbrev pub line_of_cut : Cut → Option (List ℕ)
 line_of_cut (Line line rest) = Some line
 line_of_cut (Last line) = Some line
 line_of_cut PastBudget = None
 
--- the first line of bytes: with its newline it has at most one byte more than a configuration
+abbrev pub rest_of_cut : Cut → List ℕ
+rest_of_cut (Line line rest) = rest
+rest_of_cut (Last line) = []
+rest_of_cut PastBudget = []
+
+-- the front of bytes: with its newline the first line has at most one byte more than a configuration
+abbrev pub first_cut : List ℕ → Cut
+first_cut bytes = cut_line (max_line + 1) bytes
+
 abbrev pub first_line : List ℕ → Option (List ℕ)
-first_line bytes = line_of_cut (cut_line (max_line + 1) bytes)
+first_line bytes = line_of_cut (first_cut bytes)
 
--- the line configures a data server: its own number is that of one of the servers
-pub record ConfiguresServer (line : List ℕ) (c : ConfigValue) : Type 0 where
+-- what a source has left behind its first line, where it tells its bytes
+abbrev pub left_behind : Option (List ℕ) → Option (List ℕ)
+left_behind None = None
+left_behind (Some bytes) = Some (rest_of_cut (first_cut bytes))
+
+-- the command that a task is of
+abbrev pub task_command : Task → CommandValue
+task_command code.Ds = Ds
+task_command code.Mds = Mds
+task_command (code.Put name) = Put name.now
+task_command (code.Get name) = Get name.now
+
+-- a name that a client can open
+abbrev pub IsShortName : Task → Type 0
+IsShortName (code.Put name) = length name.now ≤ 255
+IsShortName (code.Get name) = length name.now ≤ 255
+IsShortName task = ⊤
+
+-- of a data server
+abbrev pub is_of_server : CommandValue → Bool
+is_of_server Ds = true
+is_of_server command = false
+
+-- The line configures a node for a command: the own number of a data server is that of one of the servers.
+pub record ConfiguresFor (command : CommandValue) (line : List ℕ) (c : ConfigValue) : Type 0 where
   pub configures : Configures line c
-  pub own : c.own ≤ length c.servers
+  pub own : is_of_server command ≡ true → c.own ≤ length c.servers
 
--- What was found in a line: the configuration of a data server, or none.
-abbrev pub FindsConfig : List ℕ → Result Config RunEnd → Type 0
-FindsConfig line (Ok config) = ConfiguresServer line (config_value config)
-FindsConfig line (Err (BadLine n)) = (n ≡ 1) × ((c : ConfigValue) → ConfiguresServer line c → ⊥)
-FindsConfig line (Err NoMemory) = ⊤
-FindsConfig line (Err Done) = ⊥
-FindsConfig line (Err ReadFault) = ⊥
-FindsConfig line (Err WriteFault) = ⊥
-FindsConfig line (Err (Limit count)) = ⊥
+-- What was found in a line: the configuration of such a node, or none.
+abbrev pub FindsConfig : CommandValue → List ℕ → Result Config RunEnd → Type 0
+FindsConfig command line (Ok config) = ConfiguresFor command line (config_value config)
+FindsConfig command line (Err (BadLine n)) = (n ≡ 1) × ((c : ConfigValue) → ConfiguresFor command line c → ⊥)
+FindsConfig command line (Err NoMemory) = ⊤
+FindsConfig command line (Err Done) = ⊥
+FindsConfig command line (Err ReadFault) = ⊥
+FindsConfig command line (Err WriteFault) = ⊥
+FindsConfig command line (Err (Limit count)) = ⊥
 
--- The first line of a source configures a data server so, where the source tells its bytes.
-abbrev pub IsConfigOf : Option (List ℕ) → ConfigValue → Type 0
-IsConfigOf None c = (line : List ℕ) × ConfiguresServer line c
-IsConfigOf (Some bytes) c = (line : List ℕ) × (first_line bytes ≡ Some line) × ConfiguresServer line c
+-- The first line of a source configures such a node so, where the source tells its bytes.
+abbrev pub IsConfigOf : CommandValue → Option (List ℕ) → ConfigValue → Type 0
+IsConfigOf command None c = (line : List ℕ) × ConfiguresFor command line c
+IsConfigOf command (Some bytes) c = (line : List ℕ) × (first_line bytes ≡ Some line) × ConfiguresFor command line c
 
 -- It configures none.
-abbrev pub HasNoConfig : Option (List ℕ) → Type 0
-HasNoConfig None = ⊤
-HasNoConfig (Some bytes) = (line : List ℕ) (c : ConfigValue) → first_line bytes ≡ Some line → ConfiguresServer line c → ⊥
+abbrev pub HasNoConfig : CommandValue → Option (List ℕ) → Type 0
+HasNoConfig command None = ⊤
+HasNoConfig command (Some bytes) = (line : List ℕ) (c : ConfigValue) → first_line bytes ≡ Some line → ConfiguresFor command line c → ⊥
 
--- Why nothing was served: the first line is none that configures a data server; the source failed; or memory was wanted.
-abbrev pub Unserved : Option (List ℕ) → RunEnd → Type 0
-Unserved left (BadLine n) = (n ≡ 1) × HasNoConfig left
-Unserved left ReadFault = ⊤
-Unserved left NoMemory = ⊤
-Unserved left Done = ⊥
-Unserved left WriteFault = ⊥
-Unserved left (Limit count) = ⊥
+-- Why no node ran: the first line is none that configures such a node; the source failed; or memory was wanted.
+abbrev pub Unserved : CommandValue → Option (List ℕ) → RunEnd → Type 0
+Unserved command left (BadLine n) = (n ≡ 1) × HasNoConfig command left
+Unserved command left ReadFault = ⊤
+Unserved command left NoMemory = ⊤
+Unserved command left Done = ⊥
+Unserved command left WriteFault = ⊥
+Unserved command left (Limit count) = ⊥
 
 -- the configuration that was read, or why there is none
-abbrev pub ReadsFirst : Option (List ℕ) → Result Config RunEnd → Type 0
-ReadsFirst left (Ok config) = IsConfigOf left (config_value config)
-ReadsFirst left (Err end) = Unserved left end
+abbrev pub ReadsFirst : CommandValue → Option (List ℕ) → Result Config RunEnd → Type 0
+ReadsFirst command left (Ok config) = IsConfigOf command left (config_value config)
+ReadsFirst command left (Err end) = Unserved command left end
 
 -- the count of the source's faults after it
 abbrev pub FirstFaults : {T : Type 0} → Result T RunEnd → ℕ → ℕ → Type 0
@@ -84,13 +136,71 @@ Draws (Some bytes) (Err Done) left' = ⊥
 Draws (Some bytes) (Err WriteFault) left' = ⊥
 Draws (Some bytes) (Err (Limit count)) left' = ⊥
 
--- What serving did, where the source told these bytes, these arrivals were to come and these records were sent: a new data server
--- served by the configuration; or nothing was served, and the link is as it was. The source gave what was drawn.
-abbrev pub ServesBy : Option (List ℕ) → Option (List Arrival) → Option (List (NodeId × List ℕ)) → Result NodeEnd RunEnd → Option (List ℕ) → Option (List Arrival) → Option (List (NodeId × List ℕ)) → Type 0
-ServesBy left coming sent (Ok end) left' coming' sent' = (c : ConfigValue) × IsConfigOf left c × Serves (new_server c.own 1) c.turns coming sent end coming' sent' × Draws {T = NodeEnd} left (Ok end) left'
-ServesBy left coming sent (Err end) left' coming' sent' = Unserved left end × (coming' ≡ coming) × (sent' ≡ sent) × Draws {T = NodeEnd} left (Err end) left'
+-- Where a configuration was found, what is behind the first line is held in the buffer, and then left in the source.
+abbrev pub HoldsRest : Option (List ℕ) → Result Config RunEnd → List ℕ → Option (List ℕ) → Type 0
+HoldsRest left (Ok config) held left' = all_left held left' ≡ left_behind left
+HoldsRest left (Err end) held left' = ⊤
 
--- the count of the link's faults after it
+-- ---- a node
+
+-- without the sink, and without the sink and the clock
+abbrev pub no_sink : Beside → Beside
+no_sink b = record b { held = None }
+
+abbrev pub link_alone : Beside → Beside
+link_alone b = record b { moments = None; moment = 0; held = None }
+
+abbrev pub KeepsSink : Beside → Beside → Type 0
+KeepsSink b b' = b'.held ≡ b.held
+
+abbrev pub KeepsClock : Beside → Beside → Type 0
+KeepsClock b b' = (b'.moments ≡ b.moments) × (b'.moment ≡ b.moment)
+
+-- What running a node did that is configured so. A data server and the metadata server are new; `put` had the bytes behind the first line,
+-- of which some may be held back.
+abbrev pub RunsNode : CommandValue → Config → Observed → NodeEnd → Observed → Type 0
+RunsNode Ds config old end new =
+    OpensThen old.opened config role.Server (link_alone old.around) end new.opened (link_alone new.around)
+    ((server : ServerState) × NodeRuns server_rule [] (new_server config.own 1) config.turns (link_alone old.around) end server (link_alone new.around))
+    × KeepsClock old.around new.around × KeepsSink old.around new.around
+RunsNode Mds config old end new =
+    OpensThen old.opened config role.Mds (no_sink old.around) end new.opened (no_sink new.around)
+    ((mds : MdsValue) × NodeRuns mds_node_rule [] (new_mds (config_value config).servers (config_value config).mirrors) config.turns (no_sink old.around) end mds (no_sink new.around))
+    × KeepsSink old.around new.around
+RunsNode (Put name) config old end new =
+    ((held : List ℕ) × PutsFile config name (left_behind old.unread) old.opened (no_sink old.around) end (all_left held new.unread) new.opened (no_sink new.around))
+    × KeepsSink old.around new.around
+RunsNode (Get name) config old end new = GetsFile config name old.opened old.around end new.opened new.around
+RunsNode (Replay mode) config old end new = ⊥
+RunsNode (Gen number) config old end new = ⊥
+RunsNode Show config old end new = ⊥
+
+-- what was drawn from the source for it; `put` says of its bytes itself
+abbrev pub DrawsFor : CommandValue → Option (List ℕ) → NodeEnd → Option (List ℕ) → Type 0
+DrawsFor (Put name) left end left' = ⊤
+DrawsFor command left end left' = Draws {T = NodeEnd} left (Ok end) left'
+
+-- but for `put` a node leaves the source as it is
+abbrev pub KeepsSource : CommandValue → Option (List ℕ) → Option (List ℕ) → Type 0
+KeepsSource (Put name) left left' = ⊤
+KeepsSource command left left' = left' ≡ left
+
+-- What a command of nodes did: a node ran by the configuration in the first line; or there is none, and link, clock and sink are as they were.
+abbrev pub ServesTask : CommandValue → Observed → Result NodeEnd RunEnd → Observed → Type 0
+ServesTask command old (Ok end) new =
+    (config : Config) × IsConfigOf command old.unread (config_value config) × RunsNode command config old end new × DrawsFor command old.unread end new.unread
+ServesTask command old (Err end) new =
+    Unserved command old.unread end × Draws {T = NodeEnd} old.unread (Err end) new.unread × (new.opened ≡ old.opened) × (new.around ≡ old.around)
+
+-- the counts of faults after it
 abbrev pub served_faults : Result NodeEnd RunEnd → ℕ → ℕ
 served_faults (Ok end) n = link_faults end n
 served_faults (Err end) n = n
+
+abbrev pub served_writes : Result NodeEnd RunEnd → ℕ → ℕ
+served_writes (Ok end) n = sink_faults end n
+served_writes (Err end) n = n
+
+abbrev pub ServedReads : Result NodeEnd RunEnd → ℕ → ℕ → Type 0
+ServedReads (Ok end) old new = new ≡ source_faults end old
+ServedReads (Err end) old new = EndFaults end old new

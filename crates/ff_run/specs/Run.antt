@@ -1,62 +1,44 @@
 -- The top call: what the words ask for, what was done, and what is said of it.
-use Rattle.std.specs.Prelude.{◌≡◌, ◌&&◌, ℕ, List, [], ◌∷◌, ◌++◌, codes, decimal, if◌then◌else◌, Option, Some, None, Result, Ok, Err}
-use Rattle.std.specs.Str.{bytes_eq}
+use Rattle.std.specs.Prelude.{◌≡◌, ◌⊎◌, ℕ, List, [], ◌∷◌, ◌++◌, codes, decimal, Option, Result, Ok, Err}
 use Rattle.rpc_record.specs.declared.stream.Failed.{Failed}
 use Rattle.rpc_record.specs.declared.stream.Failed.TheVariants as failed
 use Rattle.rpc_record.specs.Stream.{counted}
-use Rattle.line_runs.specs.declared.end.RunEnd.TheVariants.{Done, BadLine, ReadFault, WriteFault, NoMemory, Limit}
-use Rattle.ff_run.specs.declared.program.ProgramEnd.{ProgramEnd}
-use Rattle.ff_run.specs.declared.program.ProgramEnd.TheVariants.{Usage, Ended, Served}
+use Rattle.cluster_model.specs.declared.answer.FailCause.{FailCause}
+use Rattle.cluster_model.specs.declared.answer.FailCause.TheVariants.{Revoked, AllMirrors, Refused}
 use Rattle.line_runs.specs.declared.end.RunEnd.{RunEnd}
+use Rattle.line_runs.specs.declared.end.RunEnd.TheVariants.{Done, BadLine, ReadFault, WriteFault, NoMemory, Limit}
 use Rattle.line_runs.specs.Runs.{Runs, read_faults, write_faults}
-use Rattle.cluster_model.specs.declared.ids.NodeId.{NodeId}
-use Rattle.node_link.specs.declared.link.Arrival.{Arrival}
-use Rattle.ff_node.specs.declared.serve.NodeEnd.{NodeEnd}
-use Rattle.ff_node.specs.declared.serve.NodeEnd.TheVariants as served
-use Rattle.ff_node.specs.Serve.{link_faults}
-use Rattle.ff_run.specs.Node.{ServesBy}
 use Rattle.line_runs.specs.Writing.{WritesText}
-use Rattle.ff_replay.specs.declared.mode.Mode.TheVariants.{Full, Brief}
+use Rattle.ff_node.specs.declared.end.NodeEnd.{NodeEnd}
+use Rattle.ff_node.specs.declared.end.NodeEnd.TheVariants as served
+use Rattle.ff_node.specs.Serve.{link_faults, sink_faults}
+use Rattle.user_nodes.specs.Puts.{source_faults}
+use Rattle.script_gen.specs.Generated.{generated}
 use Rattle.ff_replay.specs.Script.{script_budget, script_meaning}
 use Rattle.record_show.specs.Show.{show_budget, show_meaning}
-use Rattle.ff_run.specs.declared.program.Command.{Command}
-use Rattle.ff_run.specs.declared.program.Command.TheVariants.{Replay, Show, Ds}
+use Rattle.command_words.specs.Commands.{CommandValue, Replay, Gen, Show, AsksForCommand}
+use Rattle.ff_run.specs.declared.program.ProgramEnd.{ProgramEnd}
+use Rattle.ff_run.specs.declared.program.ProgramEnd.TheVariants.{Usage, Ended, Served}
+use Rattle.ff_run.specs.Node.{Observed, ServesTask}
 
--- the command with this name
-abbrev pub command_named : List ℕ → Option Command
-command_named word = if bytes_eq word (codes "replay") then Some (Replay Full) else if bytes_eq word (codes "show") then Some Show else if bytes_eq word (codes "ds") then Some Ds else None
+-- but for the source and the sink all is as it was
+abbrev pub KeepsNodes : Observed → Observed → Type 0
+KeepsNodes old new = (new.opened ≡ old.opened) × (new.around ≡ record old.around { held = new.around.held })
 
--- `replay brief`
-abbrev pub brief_named : List ℕ → List ℕ → Option Command
-brief_named word next = if bytes_eq word (codes "replay") && bytes_eq next (codes "brief") then Some (Replay Brief) else None
+-- how writing a text ends a command
+abbrev pub end_of_writing : Result (Unit {0}) Failed → RunEnd
+end_of_writing (Ok x) = Done
+end_of_writing (Err failed.Fault) = WriteFault
+end_of_writing (Err failed.NoMemory) = NoMemory
 
--- the words behind the program's name that are a command: its name, and behind `replay` its mode
-abbrev pub command_of : List (List ℕ) → Option Command
-command_of [] = None
-command_of (word ∷ []) = command_named word
-command_of (word ∷ next ∷ []) = brief_named word next
-command_of (word ∷ next ∷ other ∷ rest) = None
-
--- what the source, the sink and the link tell: the bytes that are not yet read and those that were written, the arrivals to come
--- and the records sent
-pub record Observed : Type 0 where
-  pub unread : Option (List ℕ)
-  pub written : Option (List ℕ)
-  pub arrivals : Option (List Arrival)
-  pub sent : Option (List (NodeId × List ℕ))
-
-abbrev pub observed : Option (List ℕ) → Option (List ℕ) → Option (List Arrival) → Option (List (NodeId × List ℕ)) → Observed
-observed unread written arrivals sent = record { unread = unread; written = written; arrivals = arrivals; sent = sent }
-
--- the link is as it was
-abbrev pub KeepsLink : Observed → Observed → Type 0
-KeepsLink old new = (new.arrivals ≡ old.arrivals) × (new.sent ≡ old.sent)
-
--- What a command did that ended so, before any serving: the lines of the source were run; or nothing was served.
-abbrev pub RunsCommand : Command → RunEnd → Observed → Observed → Type 0
-RunsCommand (Replay mode) end old new = Runs script_budget (script_meaning mode) old.unread old.written end new.unread new.written × KeepsLink old new
-RunsCommand Show end old new = Runs show_budget show_meaning old.unread old.written end new.unread new.written × KeepsLink old new
-RunsCommand Ds end old new = ServesBy old.unread old.arrivals old.sent (Err end) new.unread new.arrivals new.sent × (new.written ≡ old.written)
+-- What a command did that ended so, before any node ran: the lines of the source were run; a script was generated; or no node ran.
+abbrev pub RunsCommand : CommandValue → RunEnd → Observed → Observed → Type 0
+RunsCommand (Replay mode) end old new = Runs script_budget (script_meaning mode) old.unread old.around.held end new.unread new.around.held × KeepsNodes old new
+RunsCommand Show end old new = Runs show_budget show_meaning old.unread old.around.held end new.unread new.around.held × KeepsNodes old new
+RunsCommand (Gen number) end old new =
+    ((writing : Result (Unit {0}) Failed) × (end ≡ end_of_writing writing) × WritesText old.around.held (generated number) writing new.around.held)
+    × (new.unread ≡ old.unread) × KeepsNodes old new
+RunsCommand command end old new = ServesTask command old (Err end) new
 
 -- what serving came to
 abbrev pub end_of_serving : Result NodeEnd RunEnd → ProgramEnd
@@ -73,12 +55,22 @@ status_of (Ended WriteFault) = 5
 status_of (Ended NoMemory) = 8
 status_of (Ended (Limit n)) = 9
 status_of (Served served.Done) = 0
+status_of (Served served.ReadFault) = 4
+status_of (Served served.WriteFault) = 5
 status_of (Served served.LinkFault) = 7
 status_of (Served served.NoMemory) = 8
+status_of (Served (served.Failed cause)) = 10
+status_of (Served served.Turns) = 11
 
 -- words, a number and a newline
 abbrev pub with_number : List ℕ → ℕ → List ℕ
 with_number word n = word ++ (decimal n ++ 10 ∷ [])
+
+-- the cause of a failure, as in the trace
+abbrev pub failure_note : FailCause → List ℕ
+failure_note Revoked = codes "failed revoked\n"
+failure_note AllMirrors = codes "failed allmirrors\n"
+failure_note (Refused status) = with_number (codes "failed refused ") status
 
 -- the line that the notes get, which is none where all went well
 abbrev pub note_of : ProgramEnd → List ℕ
@@ -90,8 +82,12 @@ note_of (Ended WriteFault) = codes "write fault\n"
 note_of (Ended NoMemory) = codes "no memory\n"
 note_of (Ended (Limit n)) = with_number (codes "limit ") n
 note_of (Served served.Done) = []
+note_of (Served served.ReadFault) = codes "read fault\n"
+note_of (Served served.WriteFault) = codes "write fault\n"
 note_of (Served served.LinkFault) = codes "link fault\n"
 note_of (Served served.NoMemory) = codes "no memory\n"
+note_of (Served (served.Failed cause)) = failure_note cause
+note_of (Served served.Turns) = codes "turns\n"
 
 -- a note that could not be written is a fault or want of memory of its own
 abbrev pub status_after : ProgramEnd → Result (Unit {0}) Failed → ℕ
@@ -99,23 +95,29 @@ status_after end (Ok x) = status_of end
 status_after end (Err failed.Fault) = 5
 status_after end (Err failed.NoMemory) = 8
 
--- what the program did for the command: nothing, since the words are none; it ran the command, which ended so; or it served as a
--- data server
-abbrev pub Performs : Option Command → ProgramEnd → Observed → Observed → Type 0
-Performs asked Usage old new = (asked ≡ None) × (new ≡ old)
-Performs asked (Ended end) old new = (command : Command) × (asked ≡ Some command) × RunsCommand command end old new
-Performs asked (Served end) old new = (asked ≡ Some Ds) × ServesBy old.unread old.arrivals old.sent (Ok end) new.unread new.arrivals new.sent × (new.written ≡ old.written)
+-- What the program did for a command: it ended so before any node ran, or a node ran.
+abbrev pub PerformsCommand : CommandValue → ProgramEnd → Observed → Observed → Type 0
+PerformsCommand command Usage old new = ⊥
+PerformsCommand command (Ended end) old new = RunsCommand command end old new
+PerformsCommand command (Served end) old new = ServesTask command old (Ok end) new
+
+-- What it did for its words: nothing, since they ask for no command; or, for want of memory, nothing; or it performed the command that they
+-- ask for.
+abbrev pub Performs : List (List ℕ) → ProgramEnd → Observed → Observed → Type 0
+Performs words Usage old new = ((command : CommandValue) → AsksForCommand words command → ⊥) × (new ≡ old)
+Performs words end old new =
+    ((command : CommandValue) × AsksForCommand words command × PerformsCommand command end old new) ⊎ ((end ≡ Ended NoMemory) × (new ≡ old))
 
 -- the source's count of faults, and the sink's
 abbrev pub source_faults_after : ProgramEnd → ℕ → ℕ
 source_faults_after Usage n = n
 source_faults_after (Ended end) n = read_faults end n
-source_faults_after (Served end) n = n
+source_faults_after (Served end) n = source_faults end n
 
 abbrev pub sink_faults_after : ProgramEnd → ℕ → ℕ
 sink_faults_after Usage n = n
 sink_faults_after (Ended end) n = write_faults end n
-sink_faults_after (Served end) n = n
+sink_faults_after (Served end) n = sink_faults end n
 
 -- the link's count of faults
 abbrev pub link_faults_after : ProgramEnd → ℕ → ℕ

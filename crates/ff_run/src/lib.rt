@@ -1,8 +1,8 @@
-//! The program over any source, sink, notes and link: what its words ask for, what is done, and what is said of it.
+//! The program over any source, sink, notes, link and clock: what its words ask for, what is done, and what is said of it.
 #![tactic(auto)]
 
 mod program;
 mod serving;
 
-pub use program::{Command, ProgramEnd, run};
-pub use serving::serve;
+pub use program::{ProgramEnd, run};
+pub use serving::{Task, serve};

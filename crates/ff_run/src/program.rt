@@ -3,40 +3,35 @@
 ghost use Rattle.std.specs.Prelude.{◌≡◌, ◌++◌, map, OnOk};
 ghost use Rattle.std.specs.String.{string_bytes};
 ghost use Rattle.rpc_record.specs.Stream.{counted};
-ghost use Rattle.ff_run.specs.declared.program.ProgramEnd.{ProgramEnd};
 ghost use Rattle.line_runs.specs.Writing.{WritesText};
-ghost use Rattle.ff_run.specs.Run.{command_named, brief_named, command_of, status_of, note_of, with_number, observed, end_of_serving, Performs, source_faults_after, sink_faults_after, link_faults_after, Reports};
+ghost use Rattle.command_words.specs.Commands.{IsInGrammar, command_value};
+ghost use Rattle.ff_node.specs.Serve.{beside};
+ghost use Rattle.ff_run.specs.declared.program.ProgramEnd.{ProgramEnd};
+ghost use Rattle.ff_run.specs.Node.{observed};
+ghost use Rattle.ff_run.specs.Run.{Performs, PerformsCommand, Reports, end_of_serving, end_of_writing, failure_note, link_faults_after, note_of, sink_faults_after, source_faults_after, status_of, with_number};
 
-use crate::serving::serve;
+use crate::serving::{Task, serve};
+use cluster_model::FailCause;
+use command_words::{Command, asked};
 use ff_node::NodeEnd;
-use ff_replay::{Mode, replay};
+use ff_replay::replay;
 use ff_xdr::{NoMemory, Out};
 use journal_print::put_numbered;
 use line_runs::{RunEnd, write_all};
-use node_link::Link;
+use node_link::{Clock, Link};
 use record_show::show;
 use rpc_record::{Failed, Sink, Source};
+use script_gen::generate;
 use std::alloc::Global;
-
-/// What the program is asked to do.
-#[derive(Clone, Copy, Debug, PartialEq, Eq)]
-pub enum Command {
-    /// Run a script, and print its trace, or the brief one.
-    Replay(Mode),
-    /// Say what records are.
-    Show,
-    /// Serve as a data server.
-    Ds,
-}
 
 /// How the program ends.
 #[derive(Clone, Copy, Debug, PartialEq, Eq)]
 pub enum ProgramEnd {
     /// Nothing: its words are no command.
     Usage,
-    /// It ran a command, which ended so.
+    /// It ran a command, which ended so before any node ran.
     Ended(RunEnd),
-    /// It served, until that ended so.
+    /// A node ran, and ended so.
     Served(NodeEnd),
 }
 
@@ -54,8 +49,12 @@ impl ProgramEnd {
             ProgramEnd::Ended(RunEnd::NoMemory) => 8,
             ProgramEnd::Ended(RunEnd::Limit(_)) => 9,
             ProgramEnd::Served(NodeEnd::Done) => 0,
+            ProgramEnd::Served(NodeEnd::ReadFault) => 4,
+            ProgramEnd::Served(NodeEnd::WriteFault) => 5,
             ProgramEnd::Served(NodeEnd::LinkFault) => 7,
             ProgramEnd::Served(NodeEnd::NoMemory) => 8,
+            ProgramEnd::Served(NodeEnd::Failed(_)) => 10,
+            ProgramEnd::Served(NodeEnd::Turns) => 11,
         }
     }
 
@@ -75,8 +74,12 @@ impl ProgramEnd {
             ProgramEnd::Ended(RunEnd::NoMemory) => write_all(notes, b"no memory\n"),
             ProgramEnd::Ended(RunEnd::Limit(count)) => tell_number(alloc, b"limit ", count, notes),
             ProgramEnd::Served(NodeEnd::Done) => Ok(()),
+            ProgramEnd::Served(NodeEnd::ReadFault) => write_all(notes, b"read fault\n"),
+            ProgramEnd::Served(NodeEnd::WriteFault) => write_all(notes, b"write fault\n"),
             ProgramEnd::Served(NodeEnd::LinkFault) => write_all(notes, b"link fault\n"),
             ProgramEnd::Served(NodeEnd::NoMemory) => write_all(notes, b"no memory\n"),
+            ProgramEnd::Served(NodeEnd::Failed(cause)) => tell_failure(alloc, cause, notes),
+            ProgramEnd::Served(NodeEnd::Turns) => write_all(notes, b"turns\n"),
         }
     }
 }
@@ -106,40 +109,21 @@ fn put_note(line: &mut Out, word: &[u8], number: u64) -> Result<(), NoMemory>
     line.raw(b"\n")
 }
 
-/// What the words behind the program's name ask for. `None` is that they are no command.
-fn asked(words: &[String]) -> Option<Command>
-    ensures { result ≡ command_of (map string_bytes words.now) }
+/// Writes the line of a failure.
+fn tell_failure<E: Sink>(alloc: Global, cause: FailCause, notes: &mut E) -> Result<(), Failed>
+    ensures told { WritesText (E.held notes.old) (failure_note cause) result (E.held notes.new) }
+    ensures faults { E.faults notes.new ≡ counted result (E.faults notes.old) }
 {
-    match words {
-        [word] => command_named(word.as_bytes()),
-        [word, next] => brief_named(word.as_bytes(), next.as_bytes()),
-        _ => None,
+    match cause {
+        FailCause::Revoked => write_all(notes, b"failed revoked\n"),
+        FailCause::AllMirrors => write_all(notes, b"failed allmirrors\n"),
+        FailCause::Refused(status) => {
+            tell_number(alloc, b"failed refused ", u64::from(status), notes)
+        }
     }
 }
 
-/// The command with this name.
-fn command_named(word: &[u8]) -> Option<Command>
-    ensures { result ≡ command_named word.now }
-{
-    if word == b"replay".as_slice() {
-        return Some(Command::Replay(Mode::Full));
-    }
-    if word == b"show".as_slice() {
-        return Some(Command::Show);
-    }
-    (word == b"ds".as_slice()).then_some(Command::Ds)
-}
-
-/// The command of these two words.
-fn brief_named(word: &[u8], next: &[u8]) -> Option<Command>
-    ensures { result ≡ brief_named word.now next.now }
-{
-    (word == b"replay".as_slice() && next == b"brief".as_slice()).then_some(Command::Replay(
-        Mode::Brief,
-    ))
-}
-
-/// What serving came to.
+/// What running a node came to.
 fn served(ended: Result<NodeEnd, RunEnd>) -> ProgramEnd
     ensures { result ≡ end_of_serving ended }
 {
@@ -149,32 +133,71 @@ fn served(ended: Result<NodeEnd, RunEnd>) -> ProgramEnd
     }
 }
 
+/// How writing a text ends a command.
+fn written(writing: Result<(), Failed>) -> RunEnd
+    ensures { result ≡ end_of_writing writing }
+{
+    match writing {
+        Ok(()) => RunEnd::Done,
+        Err(Failed::Fault) => RunEnd::WriteFault,
+        Err(Failed::NoMemory) => RunEnd::NoMemory,
+    }
+}
+
+/// Does what a command asks for.
+fn perform<S: Source, K: Sink, L: Link, C: Clock>(
+    alloc: Global,
+    command: Command<'_>,
+    source: &mut S,
+    sink: &mut K,
+    link: &mut L,
+    clock: &mut C,
+) -> ProgramEnd
+    requires { IsInGrammar (command_value command) }
+    ensures told { PerformsCommand (command_value command) result (observed (S.left source.old) (L.opened link.old) (beside (L.coming link.old) (L.sent link.old) (C.coming clock.old) (C.moment clock.old) (K.held sink.old))) (observed (S.left source.new) (L.opened link.new) (beside (L.coming link.new) (L.sent link.new) (C.coming clock.new) (C.moment clock.new) (K.held sink.new))) }
+    ensures reads { S.faults source.new ≡ source_faults_after result (S.faults source.old) }
+    ensures writes { K.faults sink.new ≡ sink_faults_after result (K.faults sink.old) }
+    ensures faults { L.faults link.new ≡ link_faults_after result (L.faults link.old) }
+{
+    let task = match command {
+        Command::Replay(mode) => return ProgramEnd::Ended(replay(alloc, mode, source, sink)),
+        Command::Gen(number) => return ProgramEnd::Ended(written(generate(alloc, number, sink))),
+        Command::Show => return ProgramEnd::Ended(show(alloc, source, sink)),
+        Command::Ds => Task::Ds,
+        Command::Mds => Task::Mds,
+        Command::Put(name) => Task::Put(name),
+        Command::Get(name) => Task::Get(name),
+    };
+    served(serve(alloc, task, source, sink, link, clock))
+}
+
 /// Runs the program: `words` are those behind its name, `source` its standard input, `sink` its
-/// standard output, `notes` its standard error and `link` what joins it to other nodes. The status is 0
-/// where the source was read to its end, or all turns were served or the link closed; 2 where the words
-/// are no command, 3 where a line is outside the grammar, 4 where the source failed, 5 where the sink or
-/// the notes did, 7 where the link did, 8 where memory was wanted, and 9 where the source is longer than
-/// 64 MiB or a journal would pass a limit.
-pub fn run<S: Source, K: Sink, E: Sink, L: Link>(
+/// standard output, `notes` its standard error, `link` what joins it to other nodes and `clock` its clock, in
+/// seconds. The status is 0 where the source was read to its end, all was written, or all turns were served or the
+/// link closed; 2 where the words are no command, 3 where a line is outside the grammar, 4 where the source failed, 5
+/// where the sink or the notes did, 7 where the link did, 8 where memory was wanted, 9 where the source is longer
+/// than 64 MiB or a journal would pass a limit, 10 where a request of `put` or `get` was not done, and 11 where their
+/// turns were over, or the link was closed, before all was answered.
+pub fn run<S: Source, K: Sink, E: Sink, L: Link, C: Clock>(
     alloc: Global,
     words: &[String],
     source: &mut S,
     sink: &mut K,
     notes: &mut E,
     link: &mut L,
+    clock: &mut C,
 ) -> u8
     ensures { (end : ProgramEnd)
-        × Performs (command_of (map string_bytes words.now)) end (observed (S.left source.old) (K.held sink.old) (L.coming link.old) (L.sent link.old)) (observed (S.left source.new) (K.held sink.new) (L.coming link.new) (L.sent link.new))
+        × Performs (map string_bytes words.now) end (observed (S.left source.old) (L.opened link.old) (beside (L.coming link.old) (L.sent link.old) (C.coming clock.old) (C.moment clock.old) (K.held sink.old))) (observed (S.left source.new) (L.opened link.new) (beside (L.coming link.new) (L.sent link.new) (C.coming clock.new) (C.moment clock.new) (K.held sink.new)))
         × (S.faults source.new ≡ source_faults_after end (S.faults source.old))
         × (K.faults sink.new ≡ sink_faults_after end (K.faults sink.old))
         × (L.faults link.new ≡ link_faults_after end (L.faults link.old))
         × Reports end result (E.held notes.old) (E.held notes.new) (E.faults notes.old) (E.faults notes.new) }
 {
-    let end = match asked(words) {
-        Some(Command::Replay(mode)) => ProgramEnd::Ended(replay(alloc, mode, source, sink)),
-        Some(Command::Show) => ProgramEnd::Ended(show(alloc, source, sink)),
-        Some(Command::Ds) => served(serve(alloc, source, link)),
-        None => ProgramEnd::Usage,
+    let end = match asked(alloc, words) {
+        Ok(Some(command)) => perform(alloc, command, source, sink, link, clock),
+        Ok(None) => ProgramEnd::Usage,
+        Err(NoMemory) => ProgramEnd::Ended(RunEnd::NoMemory),
     };
     match end.tell(alloc, notes) {
         Ok(()) => end.status(),

@@ -2,3 +2,4 @@ pub mod Joins
 pub mod LineData
 pub mod Reading
 pub mod Distinct
+pub mod CountLemmas

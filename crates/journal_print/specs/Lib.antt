@@ -1,2 +1,3 @@
 pub mod Brief
+pub mod Counts
 pub mod Shown

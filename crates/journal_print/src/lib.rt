@@ -2,6 +2,7 @@
 //! whole texts.
 #![tactic(auto)]
 
+mod counts;
 mod data_text;
 mod hex_text;
 mod lines;
@@ -12,6 +13,7 @@ mod print_law;
 mod same_lines;
 mod texts;
 
+pub use counts::put_counts;
 pub use mode::Mode;
 pub use print::{put_brief, put_entry};
 pub use print_law::distinct_prints;

@@ -1,10 +1,12 @@
 //! A metadata server as a node.
 
-ghost use Rattle.std.specs.Prelude.{◌≡◌, ◌≤◌, false, length, IfOk};
+ghost use Rattle.std.specs.Prelude.{◌≡◌, ◌≤◌, ◌++◌, false, length, IfOk, OnOk};
 ghost use Rattle.node_config.specs.Configs.{config_value};
 ghost use Rattle.node_config.specs.declared.config.TheConstants.{MAX_MIRRORS, MAX_SERVERS};
 ghost use Rattle.mds_rule.specs.MdsStates.{new_mds};
-ghost use Rattle.mds_node.specs.MdsNodes.{mds_hears, mds_node_rule};
+ghost use Rattle.mds_rule.specs.Spelled.{records_sent};
+ghost use Rattle.mds_node.specs.MdsNodes.{mds_does, mds_hears, mds_node_rule};
+ghost use Rattle.ff_node.specs.Nodes.{event_at};
 
 use cluster_model::{FailCause, Outbox};
 use ff_node::Node;
@@ -44,8 +46,21 @@ impl MdsNode {
         })
     }
 
+    /// Time passes to `now`, in seconds, and then a record comes, or a call times out.
+    fn do_event(&mut self, now: u64, arrival: Arrival, out: &mut Outbox) -> Result<(), NoMemory>
+        ensures state { OnOk result (self.new ≡ (mds_does (event_at now arrival) self.old).mds) }
+        ensures sends { OnOk result (out.new.sends.items ≡ out.old.sends.items ++ records_sent (mds_does (event_at now arrival) self.old)) }
+    {
+        self.mds.tick(now, out)?;
+        self.hear(now, arrival, out)?;
+        Ok(())
+    }
+
     /// A record came, or a call timed out, at `now`, in seconds.
-    fn hear(&mut self, now: u64, arrival: Arrival, out: &mut Outbox) -> Result<(), NoMemory> {
+    fn hear(&mut self, now: u64, arrival: Arrival, out: &mut Outbox) -> Result<(), NoMemory>
+        ensures state { OnOk result (self.new ≡ (mds_hears now arrival self.old).mds) }
+        ensures sends { OnOk result (out.new.sends.items ≡ out.old.sends.items ++ records_sent (mds_hears now arrival self.old)) }
+    {
         match arrival {
             Arrival::Record { from, bytes } => self.mds.on_record(from, bytes.bytes(), now, out),
             Arrival::TimedOut(node) => self.mds.on_timeout(node, now, out),
@@ -66,10 +81,7 @@ impl Node for MdsNode {
         out: &mut Outbox,
         _sink: &mut K,
     ) -> Result<bool, Failed> {
-        if self.mds.tick(moment, out).is_err() {
-            return Err(Failed::NoMemory);
-        }
-        match self.hear(moment, arrival, out) {
+        match self.do_event(moment, arrival, out) {
             Ok(()) => Ok(false),
             Err(NoMemory) => Err(Failed::NoMemory),
         }

@@ -1,6 +1,6 @@
 use Rattle.std.proofs.Common.{◌∙◌}
 use Rattle.std.proofs.lemmas.Result.{err_from_is_err_and}
-use Rattle.ff_replay.specs.declared.mode.Mode.TheVariants.{Brief}
+use Rattle.journal_print.specs.declared.mode.Mode.TheVariants.{Brief}
 use Rattle.ff_replay.proofs.PlayLemmas.{prints_in_part}
 use Rattle.ff_replay.proofs.writing.print_brief.Goals as goal
 

@@ -1,0 +1,42 @@
+-- An event of a metadata server: the tick, and what arrived.
+use Rattle.std.proofs.Common.{◌≡◌, ℕ, ◌++◌, sym, ap, ◌∙◌, append_assoc, refl, subst, [], Err}
+use Rattle.std.proofs.lemmas.List.{map-append}
+use Rattle.rpc_record.specs.declared.stream.Failed.{Failed}
+use Rattle.rpc_record.specs.declared.stream.Failed.TheVariants.{Fault, NoMemory}
+use Rattle.rpc_record.specs.Stream.{counted}
+use Rattle.mds_rule.specs.MdsStates.{MdsValue}
+use Rattle.mds_rule.specs.Events.{takes_tick}
+use Rattle.mds_rule.specs.Spelled.{records_sent, spelled_send}
+use Rattle.ff_node.specs.Nodes.{NodeEvent, SentRecords}
+use Rattle.ff_node.specs.Serve.{Beside, NodeRuns, end_of_link, link_faults, sink_faults}
+use Rattle.ff_node.specs.declared.end.NodeEnd.{NodeEnd}
+use Rattle.mds_node.specs.MdsNodes.{mds_hears, mds_does, mds_node_rule}
+
+pub state_does : (e : NodeEvent) (m mid last : MdsValue) → mid ≡ (takes_tick e.moment m).mds → last ≡ (mds_hears e.moment e.arrival mid).mds → last ≡ (mds_does e m).mds
+state_does e m mid last ticked heard = heard ∙ ap (λ (x : MdsValue). (mds_hears e.moment e.arrival x).mds) ticked
+
+pub sends_does : (e : NodeEvent) (m mid : MdsValue) (old between last : SentRecords) → mid ≡ (takes_tick e.moment m).mds → between ≡ old ++ records_sent (takes_tick e.moment m)
+    → last ≡ between ++ records_sent (mds_hears e.moment e.arrival mid) → last ≡ old ++ records_sent (mds_does e m)
+sends_does e m mid old between last ticked first then =
+    let a = takes_tick e.moment m in
+    let b = mds_hears e.moment e.arrival a.mds in
+    then ∙ ap (λ (x : MdsValue). between ++ records_sent (mds_hears e.moment e.arrival x)) ticked ∙ ap (λ l. l ++ records_sent b) first
+    ∙ append_assoc old (records_sent a) (records_sent b) ∙ ap (λ l. old ++ l) (sym (map-append spelled_send a.sends b.sends))
+
+-- ---- a link that could not be opened
+
+pub open_counted : (e : Failed) (n : ℕ) → counted {T = Unit {0}} (Err e) n ≡ link_faults (end_of_link e) n
+open_counted Fault n = refl
+open_counted NoMemory n = refl
+
+pub open_writes : (e : Failed) → sink_faults (end_of_link e) 0 ≡ 0
+open_writes Fault = refl
+open_writes NoMemory = refl
+
+-- a new server ran over a link that was opened
+pub runs_new : (first : SentRecords) (m fresh last : MdsValue) (turns : ℕ) (b was b' : Beside) (end : NodeEnd) → first ≡ [] → m ≡ fresh → b ≡ was
+    → NodeRuns mds_node_rule first m turns b end last b' → NodeRuns mds_node_rule [] fresh turns was end last b'
+runs_new first m fresh last turns b was b' end none new same runs =
+    subst (λ (x : Beside). NodeRuns mds_node_rule [] fresh turns x end last b') same
+    (subst (λ (x : MdsValue). NodeRuns mds_node_rule [] x turns b end last b') new
+    (subst (λ (x : SentRecords). NodeRuns mds_node_rule x m turns b end last b') none runs))
