@@ -42,16 +42,18 @@ impl Task<'_> {
 fn config_in(alloc: Global, task: Task<'_>, line: &[u8]) -> Result<Config, RunEnd>
     ensures { FindsConfig (task_command task) line.now result }
 {
-    match read_config(alloc, line) {
-        Ok(config) => {
-            if task.is_of_server() && config.own as usize > config.servers.len() {
-                return Err(RunEnd::BadLine(1));
-            }
-            Ok(config)
-        }
-        Err(ConfigFault::Bad) => Err(RunEnd::BadLine(1)),
-        Err(ConfigFault::NoMemory) => Err(RunEnd::NoMemory),
+    let config = match read_config(alloc, line) {
+        Ok(config) => config,
+        Err(ConfigFault::Bad) => return Err(RunEnd::BadLine(1)),
+        Err(ConfigFault::NoMemory) => return Err(RunEnd::NoMemory),
+    };
+    if config.own as usize <= config.servers.len() {
+        return Ok(config);
     }
+    if task.is_of_server() {
+        return Err(RunEnd::BadLine(1));
+    }
+    Ok(config)
 }
 
 /// The configuration in the first line of a source. The buffer, which is empty, holds bytes behind it then.

@@ -29,7 +29,14 @@ fn printed(alloc: Global, words: &[&str], text: &[u8]) -> Result<Vec<u8>, RowFau
         said.push(String::from_str(alloc, word)?)?;
     }
     let text = text.to_vec(alloc)?;
-    let ended = ran(alloc, &said, text, Vec::new(alloc), Failing::none(alloc));
+    let ended = ran(
+        alloc,
+        &said,
+        text,
+        Vec::new(alloc),
+        Vec::new(alloc),
+        Failing::none(alloc),
+    );
     let mut bytes = ended.sink.bytes().to_vec(alloc)?;
     push_end(&ended, alloc, &mut bytes)?;
     Ok(bytes)

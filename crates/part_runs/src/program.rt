@@ -1,7 +1,7 @@
 //! A run of the program over memory.
 
 use ff_run::run;
-use node_link::{Arrival, MemoryLink};
+use node_link::{Arrival, MemoryClock, MemoryLink};
 use rpc_record::{MemorySink, MemorySource};
 use std::alloc::Global;
 
@@ -35,19 +35,30 @@ pub struct Ended {
     pub link: MemoryLink,
 }
 
-/// Runs the program with these words, over a source of these bytes and a link over which these come.
+/// Runs the program with these words, over a source of these bytes, a link over which these come and a clock that
+/// gives these moments.
 pub fn ran(
     alloc: Global,
     said: &[String],
     text: Vec<u8>,
     arrivals: Vec<Arrival>,
+    moments: Vec<u64>,
     failing: Failing,
 ) -> Ended {
     let mut source = MemorySource::new(text, failing.source);
     let mut sink = MemorySink::new(alloc, failing.sink);
     let mut notes = MemorySink::new(alloc, failing.notes);
     let mut link = MemoryLink::new(alloc, arrivals, failing.link);
-    let status = run(alloc, said, &mut source, &mut sink, &mut notes, &mut link);
+    let mut clock = MemoryClock::new(moments);
+    let status = run(
+        alloc,
+        said,
+        &mut source,
+        &mut sink,
+        &mut notes,
+        &mut link,
+        &mut clock,
+    );
     Ended {
         status,
         sink,

@@ -4,9 +4,10 @@ use crate::arrivals::{put_sent, read_arrivals};
 use crate::program::{Ended, Failing, ran};
 use crate::text::{put_text, read_text};
 use ff_run::run;
-use node_link::SureLink;
+use node_link::{MemoryClock, SureLink};
 use row_words::{Answer, Part, RowFault, Words, number64};
 use rpc_record::{StdSink, SureSink, SureSource};
+use std::alloc::Global;
 use std::io;
 
 /// Plays rows of runs, each of which is a run of its own.
@@ -70,9 +71,29 @@ fn play_run(words: &mut Words<'_>, answer: &mut Answer) -> Result<(), RowFault> 
     let failing = read_failing(words)?;
     let text = read_text(words)?;
     words.end()?;
-    let ended = ran(alloc, &said, text, Vec::new(alloc), failing);
+    let ended = ran(
+        alloc,
+        &said,
+        text,
+        Vec::new(alloc),
+        Vec::new(alloc),
+        failing,
+    );
     put_end(&ended, answer)?;
     put_text(ended.sink.bytes(), answer)
+}
+
+/// The moments that a clock gives, in seconds, with commas between them; `-` is none.
+fn read_moments(words: &mut Words<'_>) -> Result<Vec<u64>, RowFault> {
+    let mut moments = Vec::new(words.alloc());
+    let word = words.word()?;
+    if word == "-" {
+        return Ok(moments);
+    }
+    for item in word.split(',') {
+        moments.push(number64(item)?)?;
+    }
+    Ok(moments)
 }
 
 /// `ds FAILING ARRIVALS TEXT`: the status, the note, how many calls of the link failed, and what was sent.
@@ -83,10 +104,58 @@ fn play_ds(words: &mut Words<'_>, answer: &mut Answer) -> Result<(), RowFault> {
     let text = read_text(words)?;
     words.end()?;
     let said = vec![in alloc; String::from_str(alloc, "ds")?]?;
-    let ended = ran(alloc, &said, text, arrivals, failing);
+    let ended = ran(alloc, &said, text, arrivals, Vec::new(alloc), failing);
     put_end(&ended, answer)?;
     answer.number(ended.link.faults())?;
     put_sent(ended.link.sent(), answer)
+}
+
+/// `node WORDS FAILING MOMENTS ARRIVALS TEXT`: the status, the note, how many calls of the link failed, what was written
+/// and what was sent.
+fn play_node(words: &mut Words<'_>, answer: &mut Answer) -> Result<(), RowFault> {
+    let alloc = words.alloc();
+    let said = read_said(words)?;
+    let failing = read_failing(words)?;
+    let moments = read_moments(words)?;
+    let arrivals = read_arrivals(words)?;
+    let text = read_text(words)?;
+    words.end()?;
+    let ended = ran(alloc, &said, text, arrivals, moments, failing);
+    put_end(&ended, answer)?;
+    answer.number(ended.link.faults())?;
+    put_text(ended.sink.bytes(), answer)?;
+    put_sent(ended.link.sent(), answer)
+}
+
+/// Runs the program with these two words over this source and nothing else.
+fn ran_words(
+    alloc: Global,
+    word: &str,
+    operand: &str,
+    text: Vec<u8>,
+) -> Result<Ended, RowFault> {
+    let said = vec![in alloc; String::from_str(alloc, word)?, String::from_str(alloc, operand)?]?;
+    Ok(ran(
+        alloc,
+        &said,
+        text,
+        Vec::new(alloc),
+        Vec::new(alloc),
+        Failing::none(alloc),
+    ))
+}
+
+/// `counted N`: the status and the note of a replay that counts what the script of this number brings, and what it
+/// prints.
+fn play_counted(words: &mut Words<'_>, answer: &mut Answer) -> Result<(), RowFault> {
+    let alloc = words.alloc();
+    let number = words.word()?;
+    words.end()?;
+    let script = ran_words(alloc, "gen", number, Vec::new(alloc))?;
+    let text = script.sink.bytes().to_vec(alloc)?;
+    let ended = ran_words(alloc, "replay", "count", text)?;
+    put_end(&ended, answer)?;
+    put_text(ended.sink.bytes(), answer)
 }
 
 /// `status WORDS TEXT`: the status and the note of a run whose text nobody keeps.
@@ -98,7 +167,16 @@ fn play_status(words: &mut Words<'_>, answer: &mut Answer) -> Result<(), RowFaul
     let mut sink = StdSink::new(io::sink());
     let mut notes = SureSink::new(alloc);
     let mut link = SureLink::new(alloc, Vec::new(alloc));
-    let status = run(alloc, &said, &mut source, &mut sink, &mut notes, &mut link);
+    let mut clock = MemoryClock::new(Vec::new(alloc));
+    let status = run(
+        alloc,
+        &said,
+        &mut source,
+        &mut sink,
+        &mut notes,
+        &mut link,
+        &mut clock,
+    );
     answer.number(u64::from(status))?;
     put_text(notes.bytes(), answer)
 }
@@ -108,6 +186,8 @@ impl Part for RunRows {
         match words.word()? {
             "run" => play_run(words, answer),
             "ds" => play_ds(words, answer),
+            "node" => play_node(words, answer),
+            "counted" => play_counted(words, answer),
             "status" => play_status(words, answer),
             _ => Err(RowFault::Outside),
         }

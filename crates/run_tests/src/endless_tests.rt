@@ -4,7 +4,7 @@ ghost use Rattle.std.specs.Prelude.{◌≡◌, ◌≤◌, None, length, IfOk};
 ghost use Rattle.rpc_record.specs.Stream.{counted, Reads};
 
 use ff_run::run;
-use node_link::SureLink;
+use node_link::{MemoryClock, SureLink};
 use rpc_record::{Failed, Source, SureSink};
 use std::test::Fail;
 
@@ -43,6 +43,7 @@ fn a_script_is_too_long(rt: HostRuntime) -> Result<(), Fail> {
         &mut sink,
         &mut notes,
         &mut link,
+        &mut MemoryClock::new(Vec::new(rt.alloc())),
     );
     assert_eq!(rt; status, 9);
     assert_eq!(rt; sink.bytes(), b"".as_slice());
