@@ -10,13 +10,11 @@ use Rattle.line_runs.specs.Lines.{Drawn, all_left, cut_line, ReadsLine}
 use Rattle.line_runs.proofs.LineLemmas.{cut_more-line, cut_more-over}
 use Rattle.node_config.specs.declared.config.Config.{Config}
 use Rattle.ff_node.specs.declared.end.NodeEnd.{NodeEnd}
-use Rattle.ff_node.specs.declared.end.NodeEnd.TheVariants as ends
-use Rattle.rpc_record.specs.declared.stream.Failed.{Failed}
-use Rattle.command_words.specs.Commands.{CommandValue}
+use Rattle.command_words.specs.Commands.{CommandValue, Replay, Gen, Show, Ds, Mds, Put, Get}
 use Rattle.node_config.specs.Configs.{ConfigValue}
 use Rattle.ff_node.specs.Config.{Configures, max_line}
 use Rattle.ff_node.proofs.OneConfig.{one_config}
-use Rattle.ff_run.specs.Node.{DrawsFirst, Draws, HoldsRest, line_of_cut, rest_of_cut, first_line, left_behind, is_of_server, ConfiguresFor, FindsConfig, HasNoConfig, ReadsFirst, FirstFaults}
+use Rattle.ff_run.specs.Node.{DrawsFirst, Draws, DrawsFor, KeepsSource, HoldsRest, line_of_cut, rest_of_cut, first_line, left_behind, is_of_server, ConfiguresFor, FindsConfig, HasNoConfig, ReadsFirst, FirstFaults}
 
 -- ---- one line configures one node
 
@@ -141,10 +139,28 @@ rest_newline None left' line held' (Ok config) read = ap (all_left held') read
 rest_newline (Some bytes) left' line held' (Ok config) read =
     let drawn = read.drawn in
     ap (all_left held') drawn.told
-        ∙ ap Some (sym (ap rest_of_cut (ap (cut_line (max_line + 1)) (sym drawn.whole) ∙ cut_more-line (max_line + 1) drawn.front drawn.rest line held' read.cut)))
+    ∙ ap Some (sym (ap rest_of_cut (ap (cut_line (max_line + 1)) (sym drawn.whole) ∙ cut_more-line (max_line + 1) drawn.front drawn.rest line held' read.cut)))
 
 pub rest_end : (left left' : Option (List ℕ)) (line held' : List ℕ) (r : Result Config RunEnd) → ReadsLine (max_line + 1) [] left (Ok End) line held' left' → HoldsRest left r held' left'
 rest_end left left' line held' (Err end) read = tt
 rest_end None left' line held' (Ok config) read = ap (all_left held') read
 rest_end (Some bytes) left' line held' (Ok config) read =
     ap (all_left held') read.none_left ∙ ap (λ l. Some (l ++ [])) read.none_held ∙ ap Some (sym (ap rest_of_cut read.cut))
+
+-- ---- what was drawn for a node
+
+same_draws : (left left' : Option (List ℕ)) (config : Config) (end : NodeEnd) → Draws {T = Config} left (Ok config) left' → Draws {T = NodeEnd} left (Ok end) left'
+same_draws None left' config end draws = draws
+same_draws (Some bytes) left' config end draws = draws
+
+kept_draws : (left mid left' : Option (List ℕ)) (config : Config) (end : NodeEnd) → Draws {T = Config} left (Ok config) mid → left' ≡ mid → Draws {T = NodeEnd} left (Ok end) left'
+kept_draws left mid left' config end draws same = same_draws left left' config end (subst (λ l. Draws {T = Config} left (Ok config) l) (sym same) draws)
+
+pub draws_for : (command : CommandValue) (left mid left' : Option (List ℕ)) (config : Config) (end : NodeEnd) → Draws {T = Config} left (Ok config) mid → KeepsSource command mid left' → DrawsFor command left end left'
+draws_for (Put name) left mid left' config end draws same = tt
+draws_for (Get name) left mid left' config end draws same = kept_draws left mid left' config end draws same
+draws_for Ds left mid left' config end draws same = kept_draws left mid left' config end draws same
+draws_for Mds left mid left' config end draws same = kept_draws left mid left' config end draws same
+draws_for Show left mid left' config end draws same = kept_draws left mid left' config end draws same
+draws_for (Gen number) left mid left' config end draws same = kept_draws left mid left' config end draws same
+draws_for (Replay mode) left mid left' config end draws same = kept_draws left mid left' config end draws same

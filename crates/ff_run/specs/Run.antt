@@ -40,11 +40,6 @@ RunsCommand (Gen number) end old new =
     × (new.unread ≡ old.unread) × KeepsNodes old new
 RunsCommand command end old new = ServesTask command old (Err end) new
 
--- what serving came to
-abbrev pub end_of_serving : Result NodeEnd RunEnd → ProgramEnd
-end_of_serving (Ok end) = Served end
-end_of_serving (Err end) = Ended end
-
 -- the status that the program ends with
 abbrev pub status_of : ProgramEnd → ℕ
 status_of Usage = 2

@@ -7,8 +7,8 @@ ghost use Rattle.line_runs.specs.Writing.{WritesText};
 ghost use Rattle.command_words.specs.Commands.{IsInGrammar, command_value};
 ghost use Rattle.ff_node.specs.Serve.{beside};
 ghost use Rattle.ff_run.specs.declared.program.ProgramEnd.{ProgramEnd};
-ghost use Rattle.ff_run.specs.Node.{observed};
-ghost use Rattle.ff_run.specs.Run.{Performs, PerformsCommand, Reports, end_of_serving, end_of_writing, failure_note, link_faults_after, note_of, sink_faults_after, source_faults_after, status_of, with_number};
+ghost use Rattle.ff_run.specs.Node.{IsShortName, observed, task_command};
+ghost use Rattle.ff_run.specs.Run.{Performs, PerformsCommand, Reports, end_of_writing, failure_note, link_faults_after, note_of, sink_faults_after, source_faults_after, status_of, with_number};
 
 use crate::serving::{Task, serve};
 use cluster_model::FailCause;
@@ -123,16 +123,6 @@ fn tell_failure<E: Sink>(alloc: Global, cause: FailCause, notes: &mut E) -> Resu
     }
 }
 
-/// What running a node came to.
-fn served(ended: Result<NodeEnd, RunEnd>) -> ProgramEnd
-    ensures { result ≡ end_of_serving ended }
-{
-    match ended {
-        Ok(end) => ProgramEnd::Served(end),
-        Err(end) => ProgramEnd::Ended(end),
-    }
-}
-
 /// How writing a text ends a command.
 fn written(writing: Result<(), Failed>) -> RunEnd
     ensures { result ≡ end_of_writing writing }
@@ -141,6 +131,27 @@ fn written(writing: Result<(), Failed>) -> RunEnd
         Ok(()) => RunEnd::Done,
         Err(Failed::Fault) => RunEnd::WriteFault,
         Err(Failed::NoMemory) => RunEnd::NoMemory,
+    }
+}
+
+/// Runs a node for a task.
+fn run_task<S: Source, K: Sink, L: Link, C: Clock>(
+    alloc: Global,
+    task: Task<'_>,
+    source: &mut S,
+    sink: &mut K,
+    link: &mut L,
+    clock: &mut C,
+) -> ProgramEnd
+    requires { IsShortName task }
+    ensures told { PerformsCommand (task_command task.entry) result (observed (S.left source.old) (L.opened link.old) (beside (L.coming link.old) (L.sent link.old) (C.coming clock.old) (C.moment clock.old) (K.held sink.old))) (observed (S.left source.new) (L.opened link.new) (beside (L.coming link.new) (L.sent link.new) (C.coming clock.new) (C.moment clock.new) (K.held sink.new))) }
+    ensures reads { S.faults source.new ≡ source_faults_after result (S.faults source.old) }
+    ensures writes { K.faults sink.new ≡ sink_faults_after result (K.faults sink.old) }
+    ensures faults { L.faults link.new ≡ link_faults_after result (L.faults link.old) }
+{
+    match serve(alloc, task, source, sink, link, clock) {
+        Ok(end) => ProgramEnd::Served(end),
+        Err(end) => ProgramEnd::Ended(end),
     }
 }
 
@@ -154,21 +165,41 @@ fn perform<S: Source, K: Sink, L: Link, C: Clock>(
     clock: &mut C,
 ) -> ProgramEnd
     requires { IsInGrammar (command_value command) }
-    ensures told { PerformsCommand (command_value command) result (observed (S.left source.old) (L.opened link.old) (beside (L.coming link.old) (L.sent link.old) (C.coming clock.old) (C.moment clock.old) (K.held sink.old))) (observed (S.left source.new) (L.opened link.new) (beside (L.coming link.new) (L.sent link.new) (C.coming clock.new) (C.moment clock.new) (K.held sink.new))) }
+    ensures told { PerformsCommand (command_value command.entry) result (observed (S.left source.old) (L.opened link.old) (beside (L.coming link.old) (L.sent link.old) (C.coming clock.old) (C.moment clock.old) (K.held sink.old))) (observed (S.left source.new) (L.opened link.new) (beside (L.coming link.new) (L.sent link.new) (C.coming clock.new) (C.moment clock.new) (K.held sink.new))) }
     ensures reads { S.faults source.new ≡ source_faults_after result (S.faults source.old) }
     ensures writes { K.faults sink.new ≡ sink_faults_after result (K.faults sink.old) }
     ensures faults { L.faults link.new ≡ link_faults_after result (L.faults link.old) }
 {
-    let task = match command {
-        Command::Replay(mode) => return ProgramEnd::Ended(replay(alloc, mode, source, sink)),
-        Command::Gen(number) => return ProgramEnd::Ended(written(generate(alloc, number, sink))),
-        Command::Show => return ProgramEnd::Ended(show(alloc, source, sink)),
-        Command::Ds => Task::Ds,
-        Command::Mds => Task::Mds,
-        Command::Put(name) => Task::Put(name),
-        Command::Get(name) => Task::Get(name),
-    };
-    served(serve(alloc, task, source, sink, link, clock))
+    match command {
+        Command::Replay(mode) => ProgramEnd::Ended(replay(alloc, mode, source, sink)),
+        Command::Gen(number) => ProgramEnd::Ended(written(generate(alloc, number, sink))),
+        Command::Show => ProgramEnd::Ended(show(alloc, source, sink)),
+        Command::Ds => run_task(alloc, Task::Ds, source, sink, link, clock),
+        Command::Mds => run_task(alloc, Task::Mds, source, sink, link, clock),
+        Command::Put(name) => run_task(alloc, Task::Put(name), source, sink, link, clock),
+        Command::Get(name) => run_task(alloc, Task::Get(name), source, sink, link, clock),
+    }
+}
+
+/// Does what the words ask for.
+fn do_words<S: Source, K: Sink, L: Link, C: Clock>(
+    alloc: Global,
+    words: &[String],
+    source: &mut S,
+    sink: &mut K,
+    link: &mut L,
+    clock: &mut C,
+) -> ProgramEnd
+    ensures told { Performs (map string_bytes words.now) result (observed (S.left source.old) (L.opened link.old) (beside (L.coming link.old) (L.sent link.old) (C.coming clock.old) (C.moment clock.old) (K.held sink.old))) (observed (S.left source.new) (L.opened link.new) (beside (L.coming link.new) (L.sent link.new) (C.coming clock.new) (C.moment clock.new) (K.held sink.new))) }
+    ensures reads { S.faults source.new ≡ source_faults_after result (S.faults source.old) }
+    ensures writes { K.faults sink.new ≡ sink_faults_after result (K.faults sink.old) }
+    ensures faults { L.faults link.new ≡ link_faults_after result (L.faults link.old) }
+{
+    match asked(alloc, words) {
+        Ok(Some(command)) => perform(alloc, command, source, sink, link, clock),
+        Ok(None) => ProgramEnd::Usage,
+        Err(NoMemory) => ProgramEnd::Ended(RunEnd::NoMemory),
+    }
 }
 
 /// Runs the program: `words` are those behind its name, `source` its standard input, `sink` its
@@ -194,11 +225,7 @@ pub fn run<S: Source, K: Sink, E: Sink, L: Link, C: Clock>(
         × (L.faults link.new ≡ link_faults_after end (L.faults link.old))
         × Reports end result (E.held notes.old) (E.held notes.new) (E.faults notes.old) (E.faults notes.new) }
 {
-    let end = match asked(alloc, words) {
-        Ok(Some(command)) => perform(alloc, command, source, sink, link, clock),
-        Ok(None) => ProgramEnd::Usage,
-        Err(NoMemory) => ProgramEnd::Ended(RunEnd::NoMemory),
-    };
+    let end = do_words(alloc, words, source, sink, link, clock);
     match end.tell(alloc, notes) {
         Ok(()) => end.status(),
         Err(Failed::Fault) => 5,

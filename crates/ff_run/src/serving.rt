@@ -32,7 +32,7 @@ pub enum Task<'a> {
 impl Task<'_> {
     /// The node is a data server.
     fn is_of_server(self) -> bool
-        ensures { result ≡ is_of_server (task_command self) }
+        ensures { result ≡ is_of_server (task_command self.entry) }
     {
         matches!(self, Task::Ds)
     }
@@ -40,7 +40,7 @@ impl Task<'_> {
 
 /// The configuration of a node for a task in a line. The own number of a data server is that of one of the servers.
 fn config_in(alloc: Global, task: Task<'_>, line: &[u8]) -> Result<Config, RunEnd>
-    ensures { FindsConfig (task_command task) line.now result }
+    ensures { FindsConfig (task_command task.entry) line.now result }
 {
     let config = match read_config(alloc, line) {
         Ok(config) => config,
@@ -64,7 +64,7 @@ fn read_first<S: Source>(
     source: &mut S,
 ) -> Result<Config, RunEnd>
     requires { buffer.old ≡ [] }
-    ensures told { ReadsFirst (task_command task) (S.left source.old) result }
+    ensures told { ReadsFirst (task_command task.entry) (S.left source.old) result }
     ensures drawn { Draws (S.left source.old) result (S.left source.new) }
     ensures rest { HoldsRest (S.left source.old) result buffer.new (S.left source.new) }
     ensures faults { FirstFaults result (S.faults source.old) (S.faults source.new) }
@@ -92,8 +92,8 @@ fn run_node<S: Source, K: Sink, L: Link, C: Clock>(
 ) -> NodeEnd
     requires short { IsShortName task }
     requires ranged { IsInRange (config_value config.now) }
-    ensures told { (before : Option (List ℕ)) → all_left buffer.old (S.left source.old) ≡ left_behind before → RunsNode (task_command task) config.now (observed before (L.opened link.old) (beside (L.coming link.old) (L.sent link.old) (C.coming clock.old) (C.moment clock.old) (K.held sink.old))) result (observed (S.left source.new) (L.opened link.new) (beside (L.coming link.new) (L.sent link.new) (C.coming clock.new) (C.moment clock.new) (K.held sink.new))) }
-    ensures drawn { KeepsSource (task_command task) (S.left source.old) (S.left source.new) }
+    ensures told { (before : Option (List ℕ)) → all_left buffer.old (S.left source.old) ≡ left_behind before → RunsNode (task_command task.entry) config.now (observed before (L.opened link.old) (beside (L.coming link.old) (L.sent link.old) (C.coming clock.old) (C.moment clock.old) (K.held sink.old))) result (observed (S.left source.new) (L.opened link.new) (beside (L.coming link.new) (L.sent link.new) (C.coming clock.new) (C.moment clock.new) (K.held sink.new))) }
+    ensures drawn { KeepsSource (task_command task.entry) (S.left source.old) (S.left source.new) }
     ensures reads { S.faults source.new ≡ source_faults result (S.faults source.old) }
     ensures writes { K.faults sink.new ≡ sink_faults result (K.faults sink.old) }
     ensures faults { L.faults link.new ≡ link_faults result (L.faults link.old) }
@@ -118,7 +118,7 @@ pub fn serve<S: Source, K: Sink, L: Link, C: Clock>(
     clock: &mut C,
 ) -> Result<NodeEnd, RunEnd>
     requires { IsShortName task }
-    ensures told { ServesTask (task_command task) (observed (S.left source.old) (L.opened link.old) (beside (L.coming link.old) (L.sent link.old) (C.coming clock.old) (C.moment clock.old) (K.held sink.old))) result (observed (S.left source.new) (L.opened link.new) (beside (L.coming link.new) (L.sent link.new) (C.coming clock.new) (C.moment clock.new) (K.held sink.new))) }
+    ensures told { ServesTask (task_command task.entry) (observed (S.left source.old) (L.opened link.old) (beside (L.coming link.old) (L.sent link.old) (C.coming clock.old) (C.moment clock.old) (K.held sink.old))) result (observed (S.left source.new) (L.opened link.new) (beside (L.coming link.new) (L.sent link.new) (C.coming clock.new) (C.moment clock.new) (K.held sink.new))) }
     ensures reads { ServedReads result (S.faults source.old) (S.faults source.new) }
     ensures writes { K.faults sink.new ≡ served_writes result (K.faults sink.old) }
     ensures faults { L.faults link.new ≡ served_faults result (L.faults link.old) }
@@ -127,14 +127,5 @@ pub fn serve<S: Source, K: Sink, L: Link, C: Clock>(
         return Err(RunEnd::NoMemory);
     };
     let config = read_first(alloc, task, &mut buffer, source)?;
-    Ok(run_node(
-        alloc,
-        task,
-        &config,
-        &mut buffer,
-        source,
-        sink,
-        link,
-        clock,
-    ))
+    Ok(run_node(alloc, task, &config, &mut buffer, source, sink, link, clock))
 }

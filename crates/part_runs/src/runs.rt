@@ -128,13 +128,11 @@ fn play_node(words: &mut Words<'_>, answer: &mut Answer) -> Result<(), RowFault>
 }
 
 /// Runs the program with these two words over this source and nothing else.
-fn ran_words(
-    alloc: Global,
-    word: &str,
-    operand: &str,
-    text: Vec<u8>,
-) -> Result<Ended, RowFault> {
-    let said = vec![in alloc; String::from_str(alloc, word)?, String::from_str(alloc, operand)?]?;
+fn ran_words(alloc: Global, word: &str, operand: &str, text: Vec<u8>) -> Result<Ended, RowFault> {
+    let said = vec![in alloc;
+        String::from_str(alloc, word)?,
+        String::from_str(alloc, operand)?,
+    ]?;
     Ok(ran(
         alloc,
         &said,

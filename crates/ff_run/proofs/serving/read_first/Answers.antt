@@ -47,3 +47,15 @@ returns-clause-drawn g c =
     let left = g.S.Source.left in
     let read = subst (λ (ended : Ended). ReadsLine (max_line + 1) [] (left c.args.source.now) (Ok ended) c.read_line.new.line.items c.read_line.new.self (left c.read_line.new.source)) c.in-Ok-End.field-0-is (rw c.requires at c.in-Ok-End.ensures.told) in
     draws_end (task_command c.args.task) (left c.args.source.now) (left c.read_line.new.source) c.read_line.new.line.items c.read_line.new.self c.config_in-in-Ok-End.result read (rw c.deref-in-Ok-End.ensures.value at c.config_in-in-Ok-End.ensures)
+
+pub returns-in-Ok-Newline-clause-rest : goal.returns-in-Ok-Newline-clause-rest
+returns-in-Ok-Newline-clause-rest g c =
+    let left = g.S.Source.left in
+    let read = subst (λ (ended : Ended). ReadsLine (max_line + 1) [] (left c.args.source.now) (Ok ended) c.read_line.new.line.items c.read_line.new.self (left c.read_line.new.source)) c.in-Ok-Newline.field-0-is (rw c.requires at c.in-Ok-Newline.ensures.told) in
+    rest_newline (left c.args.source.now) (left c.read_line.new.source) c.read_line.new.line.items c.read_line.new.self c.config_in.result read
+
+pub returns-clause-rest : goal.returns-clause-rest
+returns-clause-rest g c =
+    let left = g.S.Source.left in
+    let read = subst (λ (ended : Ended). ReadsLine (max_line + 1) [] (left c.args.source.now) (Ok ended) c.read_line.new.line.items c.read_line.new.self (left c.read_line.new.source)) c.in-Ok-End.field-0-is (rw c.requires at c.in-Ok-End.ensures.told) in
+    rest_end (left c.args.source.now) (left c.read_line.new.source) c.read_line.new.line.items c.read_line.new.self c.config_in-in-Ok-End.result read
