@@ -1,0 +1,9 @@
+pub mod GateLemmas
+pub mod LogLemmas
+pub mod BodyLemmas
+pub mod ReadyLemmas
+pub mod TornLogs
+pub mod AppendLemmas
+pub mod HeadLemmas
+pub mod FrontLemmas
+pub mod ReadLemmas

@@ -1,0 +1,4 @@
+pub mod Logs
+pub mod Appends
+pub mod Bodies
+pub mod Heads

@@ -1,0 +1,4 @@
+pub mod Placed
+pub mod Leaving
+pub mod Images
+pub mod CrashLemmas
