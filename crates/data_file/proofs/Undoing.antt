@@ -1,6 +1,6 @@
 -- The undo log of a file.
 use Rattle.std.proofs.Common.{◌≡◌, ℕ, zero, suc, ◌+◌, ◌-◌, ◌<◌, ◌≤◌, Bool, true, false, min, List, [], ◌∷◌, ◌++◌, length, take, drop, get_or, replicate, Option, Some, None, inl, inr, reverse, refl, sym, ap, subst, ◌∙◌, arith, rules}
-use Rattle.std.specs.Prelude.{slice_get, nat_le, if◌then◌else◌}
+use Rattle.std.specs.Prelude.{slice_get, nat_le, option_map, if◌then◌else◌}
 use Rattle.std.proofs.lemmas.Bool.{cases_lt}
 use Rattle.std.proofs.lemmas.Bool.Decides.{nat_tests}
 use Rattle.std.proofs.lemmas.List.{same_lists, places, append_assoc, length-take, length-drop, get_or-take, get_or-drop, take-append-drop, reverse-append}
@@ -12,7 +12,7 @@ use Rattle.cluster_model.specs.Content.{overlay, overlay_all, joined, shown_of, 
 use Rattle.cluster_model.specs.File.{StoredFile, shown, written, times_after}
 use Rattle.cluster_model.proofs.Placing.{length-overlay-le, length-overlay-ge, length-overlay-end, take-drop-overlay, overlay_all_push}
 use Rattle.data_file.specs.Kept.{kept_content, IsKeptOf}
-use Rattle.data_file.specs.Undo.{Undo, undo_of, undone, write_of, unrolled, IsUndoable, AreUndoable, IsLogged}
+use Rattle.data_file.specs.Undo.{Undo, undo_of, undone, write_of, unrolled, IsUndoable, AreUndoable, IsLogged, place_of}
 
 -- bytes put at a place in two parts: those behind the end first, and then those that stand in it
 pub overlay_parts : (xs : List ℕ) (at : ℕ) (over behind : List ℕ) → length over ≤ length xs - at → (length over < length xs - at → length behind ≡ 0) → 0 < length over + length behind
@@ -89,6 +89,44 @@ pub shows : (us : List Undo) (bytes : List ℕ) → AreUndoable us bytes → sho
 shows [] bytes h = refl
 shows (u ∷ us) bytes h = ap (λ (xs : List ℕ). overlay_all xs (unrolled us bytes).pending) h.0.again ∙ shows us bytes h.1
 
+-- the bytes before are no more
+pub shorter : (us : List Undo) (bytes : List ℕ) → AreUndoable us bytes → length (unrolled us bytes).stable ≤ length bytes
+shorter [] bytes h = omega arith
+shorter (u ∷ us) bytes h =
+    let later : List ℕ = (unrolled us bytes).stable in
+    omega (arith, h.0.longer, shorter us bytes h.1, length-take u.before (overlay later u.at u.old))
+
+-- there are as many pending writes as entries
+pub pending_length : (us : List Undo) (bytes : List ℕ) → length (unrolled us bytes).pending ≡ length us
+pending_length [] bytes = refl
+pending_length (u ∷ us) bytes = ap suc (pending_length us bytes)
+
+-- a write that stands in the bytes is where its entry says, and as long
+place_is : (u : Undo) (bytes : List ℕ) → u.at + u.count ≤ length bytes → place_of (write_of bytes u) ≡ (u.at, u.count)
+place_is u bytes within =
+    let size : length (take u.count (drop u.at bytes)) ≡ min u.count (length bytes - u.at) = simp (length-take, length-drop) refl in
+    ap (λ (n : ℕ). let p : ℕ × ℕ = (u.at, n) in p) (size ∙ omega (arith, within))
+
+-- so each of the pending writes is
+pub places_are : (us : List Undo) (bytes : List ℕ) → AreUndoable us bytes → (index : ℕ) → option_map place_of (slice_get (unrolled us bytes).pending index) ≡ option_map (λ (u : Undo). let p : ℕ × ℕ = (u.at, u.count) in p) (slice_get us index)
+places_are [] bytes h index = refl
+places_are (u ∷ us) bytes h zero =
+    let later : List ℕ = (unrolled us bytes).stable in
+    ap (λ (p : ℕ × ℕ). Some p) (place_is u later (omega (arith, h.0.within)))
+places_are (u ∷ us) bytes h (suc index) = places_are us bytes h.1 index
+
+-- each entry is of a write with bytes, within the bytes after the last
+pub record IsPlaced (u : Undo) (n : ℕ) : Type 0 where
+  pub some : 0 < u.count
+  pub within : u.at + u.count ≤ n
+
+pub placed : (us : List Undo) (bytes : List ℕ) → AreUndoable us bytes → (index : ℕ) (u : Undo) → slice_get us index ≡ Some u → IsPlaced u (length bytes)
+placed [] bytes h index u e = absurd (cc)
+placed (v ∷ us) bytes h zero u e =
+    let is : v ≡ u = same_Some v u e in
+    subst (λ (w : Undo). IsPlaced w (length bytes)) is (record { some = h.0.some; within = omega (arith, h.0.within, shorter us bytes h.1) })
+placed (v ∷ us) bytes h (suc index) u e = placed us bytes h.1 index u e
+
 -- a write that joins the pending ones
 pub unrolled_joined : (us : List Undo) (xs : List ℕ) (at : ℕ) (bs : List ℕ) → 0 < length bs → unrolled (us ++ undo_of xs at (length bs) ∷ []) (overlay xs at bs) ≡ joined (unrolled us xs) at bs
 unrolled_joined us xs at [] h = absurd (omega arith)
@@ -120,13 +158,6 @@ module _ (log us : List Undo) (u : Undo) (bytes : List ℕ) (is : log ≡ us ++ 
 
   pub last_unrolled : unrolled log bytes ≡ record { stable = (unrolled us (undone bytes u)).stable; pending = (unrolled us (undone bytes u)).pending ++ write_of bytes u ∷ [] }
   last_unrolled = ap (λ (vs : List Undo). unrolled vs bytes) is ∙ unrolled_push us u bytes
-
--- the bytes before are no more
-pub shorter : (us : List Undo) (bytes : List ℕ) → AreUndoable us bytes → length (unrolled us bytes).stable ≤ length bytes
-shorter [] bytes h = omega arith
-shorter (u ∷ us) bytes h =
-    let later : List ℕ = (unrolled us bytes).stable in
-    omega (arith, h.0.longer, shorter us bytes h.1, length-take u.before (overlay later u.at u.old))
 
 -- each of the writes ends within the bytes
 ends_within : (us : List Undo) (bytes : List ℕ) → AreUndoable us bytes → (i : ℕ) (w : Pending) → slice_get (unrolled us bytes).pending i ≡ Some w → w.at + length w.bytes ≤ length bytes

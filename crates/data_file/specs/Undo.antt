@@ -22,6 +22,10 @@ undone bytes u = take u.before (overlay bytes u.at u.old)
 abbrev pub write_of : List ℕ → Undo → Pending
 write_of bytes u = record { at = u.at; bytes = take u.count (drop u.at bytes) }
 
+-- where a write stands, and how many bytes it has
+abbrev pub place_of : Pending → ℕ × ℕ
+place_of w = (w.at, length w.bytes)
+
 -- The bytes before the first of the writes, and the writes, by the bytes after the last.
 abbrev pub unrolled : List Undo → List ℕ → Content
 unrolled [] bytes = record { stable = bytes; pending = [] }

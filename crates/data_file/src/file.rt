@@ -1,11 +1,11 @@
 //! A file of a data server.
 
-ghost use Rattle.std.specs.Prelude.{◌≡◌, true, false, ◌+◌, ◌≤◌, length, take, drop, OnOk, OnErr, IfOk, slice_get};
+ghost use Rattle.std.specs.Prelude.{◌≡◌, true, false, ◌+◌, ◌<◌, ◌≤◌, length, take, drop, OnOk, OnErr, IfOk, IfSome, option_map, slice_get};
 ghost use Rattle.cluster_model.specs.declared.limits.TheConstants.{MAX_FILE};
 ghost use Rattle.cluster_model.specs.Content.{overlay_all, piece_of};
 ghost use Rattle.cluster_model.specs.File.{shown, new_file, all_at, times_after, times_set, time_set, written, committed, set};
 ghost use Rattle.data_file.specs.Kept.{kept_content, IsKeptOf, crashed};
-ghost use Rattle.data_file.specs.Undo.{unrolled, AreUndoable, IsLogged};
+ghost use Rattle.data_file.specs.Undo.{unrolled, AreUndoable, IsLogged, place_of};
 
 use crate::keeping::Kept;
 use crate::overlay::{overlay_onto, part_of};
@@ -50,8 +50,8 @@ fn time_set(new: NewTime, tick: Tick, old: Tick) -> Tick
     }
 }
 
-/// The times after a SETATTR at the tick.
-fn times_set(times: Times, tick: Tick, changes: &Changes) -> Times
+/// The times after a SETATTR at the tick (RFC 1813, section 3.3.2).
+pub fn times_set(times: Times, tick: Tick, changes: &Changes) -> Times
     ensures { result ≡ times_set times tick changes.now }
 {
     Times {
@@ -179,6 +179,24 @@ impl DataFile {
         ensures { result ≡ self.now.times }
     {
         self.times
+    }
+
+    /// How many writes are pending.
+    pub fn pending_count(&self) -> usize
+        ensures { result ≡ length self.now.content.pending }
+    {
+        self.log.len()
+    }
+
+    /// Where a pending write stands: the place of its first byte, and how many it has, at least one. The first write has the
+    /// index 0.
+    pub fn pending_at(&self, index: usize) -> Option<(u64, u64)>
+        ensures exact { result ≡ option_map place_of (slice_get self.now.content.pending index) }
+        ensures some { IfSome result (λ place. 0 < place.1) }
+        ensures bounded { IfSome result (λ place. place.0 + place.1 ≤ MAX_FILE) }
+    {
+        let entry = self.log.get(index)?;
+        Some((entry.at(), entry.count()))
     }
 
     /// Puts the bytes at the byte `at`, at the tick (RFC 1813, section 3.3.7).

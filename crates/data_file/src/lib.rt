@@ -7,5 +7,5 @@ mod keeping;
 mod overlay;
 mod undo;
 
-pub use file::DataFile;
+pub use file::{DataFile, times_set};
 pub use keeping::Kept;

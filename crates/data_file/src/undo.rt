@@ -45,6 +45,20 @@ impl UndoEntry {
         })
     }
 
+    /// The place of the write's first byte.
+    pub fn at(&self) -> u64
+        ensures { result ≡ self.now.at }
+    {
+        self.at as u64
+    }
+
+    /// How many bytes the write has.
+    pub fn count(&self) -> u64
+        ensures { result ≡ self.now.count }
+    {
+        self.count as u64
+    }
+
     /// The write, by the bytes after it.
     fn write(&self, alloc: Global, bytes: &[u8]) -> Result<PendingWrite, AllocError>
         requires within { self.now.at + self.now.count ≤ length bytes.now }

@@ -1,28 +1,22 @@
 -- A refusal changes nothing.
-use Rattle.std.proofs.Common.{◌≡◌, ℕ, List, [], ◌++◌, length, Option, Some, None, Result, Ok, Err, refl, sym, ap, ◌∙◌, subst, append-nil}
-use Rattle.std.specs.Prelude.{OnOk, OnErr, not, is_some, ◌==◌}
+use Rattle.std.proofs.Common.{◌≡◌, ℕ, List, [], length, Option, Some, None, refl}
+use Rattle.std.specs.Prelude.{not, is_some, ◌==◌}
 use Rattle.std.specs.Option.{option_map}
 use Rattle.rpc_record.specs.Rpc.{Credential}
 use Rattle.nfs3_wire.specs.declared.stable_how.StableHow.{StableHow}
 use Rattle.nfs3_wire.specs.Calls.{Nfs3Call, Null, GetAttr, SetAttr, Lookup, Read, Write, Create, FsInfo, Commit}
 use Rattle.cluster_model.specs.declared.change.Changes.{Changes}
-use Rattle.cluster_model.specs.declared.entry.Entry.{Entry}
-use Rattle.cluster_model.specs.declared.ids.NodeId.{NodeId}
-use Rattle.cluster_model.specs.declared.outbox.Outbox.{Outbox}
 use Rattle.cluster_model.specs.File.{StoredFile}
 use Rattle.cluster_model.specs.Server.{ServerState, Caller, Refusal, NoEffect, server_after, write_refusal, commit_refusal, set_refusal}
-use Rattle.nfs3_wire.specs.Replies.{Nfs3Reply}
-use Rattle.ds_files.specs.declared.logging.Logging.{Logging}
-use Rattle.ds_files.specs.Posts.{Acts, IsAsBefore, entries_made, outcome_made}
-use Rattle.ds_files.proofs.Journals.{none_made}
 use Rattle.ds_procedures.specs.Objects.{Object, caller_of}
 use Rattle.ds_procedures.specs.Write.{write_plan, write_unless}
 use Rattle.ds_procedures.specs.Commit.{commit_plan, commit_unless}
 use Rattle.ds_procedures.specs.Setattr.{changes_of, tick_of, set_plan, set_unless}
 use Rattle.ds_procedures.specs.Create.{CreateCase, NotMade, IsThere, Makes, create_case, create_in, create_plan}
-use Rattle.ds_procedures.specs.Plans.{Plan, Step, carried_out}
+use Rattle.ds_procedures.specs.Plans.{Plan, carried_out}
 use Rattle.ds_procedures.specs.Steps.{plan_of, step_of}
-use Rattle.ds_files.specs.Receive.{Received, Silent, Refused, Asked, outcome_by, outcome_of_step}
+use Rattle.ds_files.specs.Receive.{Received, Silent, Refused, Asked, outcome_by}
+use Rattle.ds_files.specs.Decisions.{call_effect, effect_by}
 use Rattle.ds_files.specs.Laws.{IsRefusedReply, IsQuery, HasNoEffect, IsTurnedAway}
 use Rattle.ds_files.proofs.AtObject.{at_object}
 
@@ -80,24 +74,16 @@ queries s (FsInfo handle) cred h = (refl, refl)
 queries s (Commit handle offset count) cred h = absurd h
 
 -- nor does a record that is turned away
-pub turned_away : (s : ServerState) (received : Received) → IsTurnedAway s received → ((outcome_by s received).server ≡ s) × ((outcome_by s received).entries ≡ [])
-turned_away s Silent h = (refl, refl)
-turned_away s (Refused reply) h = (refl, refl)
-turned_away s (Asked xid call cred) h = refusals s call cred h
+pub no_effect : (s : ServerState) (what : Received) → IsTurnedAway s what → effect_by s what ≡ NoEffect
+no_effect s Silent h = refl
+no_effect s (Refused reply) h = refl
+no_effect s (Asked xid call cred) h = harmless s call (caller_of cred) h
 
--- what a step that has no effect leaves
-acts_stay : (j : Logging) (s new : ServerState) (xid : ℕ) (t : Step) (node : NodeId) (before after : Outbox) → HasNoEffect s t → Acts (outcome_made j (outcome_of_step xid t)) node new before after → (new ≡ s) × (after.entries.items ≡ before.entries.items)
-acts_stay j s new xid t node before after none acts =
-    (acts.state ∙ none.0, acts.entries ∙ ap (λ (entries : List Entry). before.entries.items ++ entries_made j entries) none.1 ∙ ap (λ (entries : List Entry). before.entries.items ++ entries) (none_made j) ∙ append-nil before.entries.items)
+pub no_entries : (s : ServerState) (what : Received) → IsTurnedAway s what → (outcome_by s what).entries ≡ []
+no_entries s Silent h = refl
+no_entries s (Refused reply) h = refl
+no_entries s (Asked xid call cred) h = (refusals s call cred h).1
 
--- the same after a record whose call was served
-pub served_stays : {E : Type 0} (j : Logging) (result : Result Unit E) (s new : ServerState) (received : Received) (xid : ℕ) (call : Nfs3Call) (cred : Credential) (node : NodeId) (before after : Outbox) → Asked xid call cred ≡ received
-    → OnOk result (Acts (outcome_made j (outcome_of_step xid (step_of s call cred))) node new before after) → OnErr result ((new ≡ s) × IsAsBefore before after) → IsTurnedAway s received → (new ≡ s) × (after.entries.items ≡ before.entries.items)
-served_stays j (Ok u) s new received xid call cred node before after is ok err h = acts_stay j s new xid (step_of s call cred) node before after (refusals s call cred (subst (λ (r : Received). IsTurnedAway s r) (sym is) h)) ok
-served_stays j (Err e) s new received xid call cred node before after is ok err h = (err.0, err.1.entries)
-
--- what a plan that was carried out leaves, where it answers a refusal
-pub applied_stays : (s new : ServerState) (call : Nfs3Call) (cred : Credential) (p : Plan) (reply : Nfs3Reply) → p ≡ plan_of s call (caller_of cred) → reply ≡ p.reply → new ≡ server_after s p.effect → IsRefusedReply reply → new ≡ s
-applied_stays s new call cred p reply is same after h =
-    let none : p.effect ≡ NoEffect = rw is (harmless s call (caller_of cred) (subst IsRefusedReply (same ∙ ap (λ (q : Plan). q.reply) is) h)) in
-    after ∙ ap (server_after s) none
+-- a call that is refused leaves the server as it is
+pub refused_stays : (s : ServerState) (call : Nfs3Call) (cred : Credential) → IsRefusedReply (step_of s call cred).reply → server_after s (call_effect s call cred) ≡ s
+refused_stays s call cred h = (refusals s call cred h).0

@@ -4,6 +4,7 @@ pub mod CallsAgain
 pub mod AtObject
 pub mod Asked
 pub mod Harmless
+pub mod Deciding
 pub mod Keeping
 pub mod Restarted
 pub mod Runs

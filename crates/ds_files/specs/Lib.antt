@@ -4,5 +4,6 @@ pub mod Receive
 pub mod Records
 pub mod Posts
 pub mod Laws
+pub mod Decisions
 pub mod Presets
 pub mod Stored

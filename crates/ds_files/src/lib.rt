@@ -2,6 +2,7 @@
 #![tactic(auto)]
 
 mod carry;
+mod decision;
 mod entered;
 mod laws;
 mod logging;
@@ -12,6 +13,9 @@ mod restart;
 mod server;
 
 pub use cluster_model::{Cred, Entry, MirrorId, NodeId, Outbox, Piece, Tick, Times};
-pub use ds_procedures::Answer3;
+pub use decision::{CallDecision, Decision};
+pub use ds_procedures::{Answer3, Effect};
 pub use laws::{effects, entries, refusals, restarts, strangers, ticks};
+pub use logging::Logging;
+pub use record::{post, take_back};
 pub use server::{DataServer, RestartFault};

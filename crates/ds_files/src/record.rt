@@ -1,6 +1,6 @@
 //! Replies as bytes, and what a step puts out.
 
-ghost use Rattle.std.specs.Prelude.{◌≡◌, ◌++◌, take, IfOk, OnOk, OnErr, Some};
+ghost use Rattle.std.specs.Prelude.{◌≡◌, ◌++◌, take, IfOk, OnOk, OnErr};
 ghost use Rattle.ff_xdr.specs.Form.{arm_spelling};
 ghost use Rattle.rpc_record.specs.Replies.{rpc_reply, reply_bytes, ReplyFits, success};
 ghost use Rattle.nfs3_wire.specs.Replies as nfs;
@@ -36,21 +36,38 @@ pub fn success(alloc: Global, xid: u32, response: &Response<'_>) -> Result<Data,
     Ok(Data::from_vec(out.into_bytes()))
 }
 
-/// Puts a record for a node and the entries of a step out. At an error all is as before.
+/// Puts a record out for a node, where there is one. At an error all is as before.
+fn send(out: &mut Outbox, node: NodeId, reply: Option<Data>) -> Result<(), NoMemory>
+    ensures ok { OnOk result (out.new.sends.items ≡ out.old.sends.items ++ sent_to node reply) }
+    ensures err { OnErr result (out.new.sends.items ≡ out.old.sends.items) }
+    ensures entries { out.new.entries.items ≡ out.old.entries.items }
+{
+    match reply {
+        None => Ok(()),
+        Some(bytes) => {
+            out.sends.push((node, bytes))?;
+            Ok(())
+        }
+    }
+}
+
+/// Puts out what a decision has: the reply to a node, where there is one, and the entries of the
+/// step. At an error all is as before.
 pub fn post(
     out: &mut Outbox,
     node: NodeId,
-    bytes: Data,
+    reply: Option<Data>,
     mut entries: Vec<Entry>,
 ) -> Result<(), NoMemory>
-    ensures sends { OnOk result (out.new.sends.items ≡ out.old.sends.items ++ sent_to node (Some bytes)) }
+    ensures sends { OnOk result (out.new.sends.items ≡ out.old.sends.items ++ sent_to node reply) }
     ensures entries { OnOk result (out.new.entries.items ≡ out.old.entries.items ++ entries.items) }
     ensures sends_stay { OnErr result (out.new.sends.items ≡ out.old.sends.items) }
     ensures entries_stay { OnErr result (out.new.entries.items ≡ out.old.entries.items) }
 {
-    out.sends.push((node, bytes))?;
+    let sends = out.sends.len();
+    send(out, node, reply)?;
     if out.entries.append(&mut entries).is_err() {
-        let _ = out.sends.pop();
+        out.sends.truncate(sends);
         return Err(NoMemory);
     }
     Ok(())

@@ -1,19 +1,23 @@
 //! A data server.
 
-ghost use Rattle.std.specs.Prelude.{◌≡◌, ◌≤◌, ◌↔◌, IfOk, OnOk, OnErr, Some, None, Err, option_copied};
+ghost use Rattle.std.specs.Prelude.{◌≡◌, ◌+◌, ◌<◌, ◌≤◌, ◌^◌, ◌↔◌, IfOk, OnOk, OnErr, Some, None, Err, length, option_copied};
 ghost use Rattle.rpc_record.specs.Rpc.{plain_credential};
 ghost use Rattle.nfs3_wire.specs.Calls.{plain_call};
-ghost use Rattle.cluster_model.specs.Server.{new_server, preset_server, restart_of, max_ticks};
+ghost use Rattle.cluster_model.specs.Server.{new_server, preset_server, restart_of, server_after, max_ticks};
 ghost use Rattle.ds_files.specs.Presets.{preset_after};
 ghost use Rattle.ds_files.specs.Stored.{stored_at};
 ghost use Rattle.ds_procedures.specs.Steps.{step_of};
+ghost use Rattle.ds_procedures.specs.Superblocks.{IsServer, server_of};
 ghost use Rattle.ds_procedures.specs.Answer.{answer_of};
-ghost use Rattle.ds_files.specs.Receive.{received, outcome_of, outcome_of_step};
+ghost use Rattle.ds_procedures.specs.CodePlans.{plain_effect};
+ghost use Rattle.ds_files.specs.Receive.{Asked, received, outcome_of};
+ghost use Rattle.ds_files.specs.Decisions.{CanDo, Decides, DecidesCall};
 ghost use Rattle.ds_files.specs.Laws.{IsRefusedReply, IsTurnedAway};
 ghost use Rattle.ds_files.specs.declared.logging.Logging.TheVariants.{Off};
 ghost use Rattle.ds_files.specs.Posts.{Acts, IsAsBefore, outcome_made};
 
 use crate::carry::carry_out;
+use crate::decision::{CallDecision, Decision};
 use crate::entered::{entries_made, entries_of};
 use crate::logging::Logging;
 use crate::receive::receive;
@@ -22,7 +26,7 @@ use crate::record::{encode, post, success, take_back};
 use crate::restart::restart_server;
 use cluster_model::{NodeId, Outbox, Piece, Tick, Times};
 use data_file::DataFile;
-use ds_procedures::{Answer3, Names, Superblock, plan_of};
+use ds_procedures::{Answer3, Effect, Names, Superblock, plan_of};
 use ff_xdr::NoMemory;
 use nfs3_wire::Call3;
 use rpc_record::AuthSys;
@@ -81,6 +85,29 @@ impl DataServer {
     {
         let place = fileid.checked_sub(2)?;
         self.files.get(place as usize)
+    }
+
+    /// How many data files there are: so few that each has a fileid, and the next one too.
+    pub fn file_count(&self) -> usize
+        ensures exact { result ≡ length self.now.files }
+        ensures bounded { result + 2 < 2 ^ 64 }
+    {
+        self.files.len()
+    }
+
+    /// The last tick that was given, of count 0 where none was in this boot.
+    pub fn clock(&self) -> Tick
+        ensures { result ≡ self.now.clock }
+    {
+        self.head.clock
+    }
+
+    /// A server of these parts. Takes no memory.
+    pub fn of_parts(alloc: Global, head: Superblock, files: Vec<DataFile>) -> DataServer
+        requires { IsServer head files.items }
+        ensures { result ≡ server_of head files.items }
+    {
+        DataServer { alloc, head, files }
     }
 
     /// A root and no files, by the server's number and its boot number, which is at least 1. Takes no
@@ -145,39 +172,34 @@ impl DataServer {
         Ok(DataServer { alloc, head, files })
     }
 
-    /// Does a call by a credential, by the rule of a data server. Refusals are answers, and change
-    /// nothing. At an error nothing has changed.
-    pub fn apply(&mut self, call: &Call3<'_>, cred: &AuthSys<'_>) -> Result<Answer3, NoMemory>
-        ensures answer { IfOk result (λ answer. answer ≡ answer_of (step_of self.old (plain_call call.now) (plain_credential cred.now))) }
-        ensures ok { OnOk result (self.new ≡ (step_of self.old (plain_call call.now) (plain_credential cred.now)).server) }
-        ensures err { OnErr result (self.new ≡ self.old) }
-        ensures refused { IfOk result (λ answer. IsRefusedReply answer.reply → self.new ≡ self.old) }
+    /// What a call by a credential comes to, by the rule of a data server. Nothing is changed.
+    pub fn decide_call<'c>(
+        &self,
+        call: &Call3<'c>,
+        cred: &AuthSys<'_>,
+    ) -> Result<CallDecision<'c>, NoMemory>
+        ensures { IfOk result (λ decision. DecidesCall self.now (plain_call call.now) (plain_credential cred.now) decision.answer (plain_effect decision.effect)) }
     {
         let plan = plan_of(self.alloc, &self.head, &self.files, call, cred);
         let effect = plan.effect;
         let entries = entries_of(self.alloc, &self.head, &self.files, &effect, cred.uid)?;
         let answer = plan.response.keep(self.alloc, entries)?;
-        carry_out(self.alloc, &mut self.head, &mut self.files, &effect)?;
-        Ok(answer)
+        Ok(CallDecision { answer, effect })
     }
 
-    /// Answers a call by a credential with the number `xid` to a node. At an error nothing has changed.
-    fn serve(
-        &mut self,
-        node: NodeId,
+    /// What a call by a credential with the number `xid` comes to. Nothing is changed.
+    fn decide_asked<'m>(
+        &self,
         xid: u32,
-        call: &Call3<'_>,
+        call: &Call3<'m>,
         cred: &AuthSys<'_>,
         logging: Logging,
-        out: &mut Outbox,
-    ) -> Result<(), NoMemory>
-        ensures ok { OnOk result (Acts (outcome_made logging (outcome_of_step xid (step_of self.old (plain_call call.now) (plain_credential cred.now)))) node self.new out.old out.new) }
-        ensures err { OnErr result ((self.new ≡ self.old) × IsAsBefore out.old out.new) }
+    ) -> Result<Decision<'m>, NoMemory>
+        ensures { IfOk result (λ decision. Decides self.now (Asked xid (plain_call call.now) (plain_credential cred.now)) logging decision.reply decision.entries.items (plain_effect decision.effect)) }
     {
-        let (sends, entered) = (out.sends.len(), out.entries.len());
         let plan = plan_of(self.alloc, &self.head, &self.files, call, cred);
         let effect = plan.effect;
-        let bytes = success(self.alloc, xid, &plan.response)?;
+        let reply = success(self.alloc, xid, &plan.response)?;
         let entries = entries_made(
             logging,
             self.alloc,
@@ -186,12 +208,57 @@ impl DataServer {
             &effect,
             cred.uid,
         )?;
-        post(out, node, bytes, entries)?;
-        if let Err(error) = carry_out(self.alloc, &mut self.head, &mut self.files, &effect) {
-            take_back(out, sends, entered);
-            return Err(error);
+        Ok(Decision {
+            reply: Some(reply),
+            entries,
+            effect,
+        })
+    }
+
+    /// What a record comes to: the reply, the entries of the step where a journal is kept, and what is
+    /// to be done. Nothing is changed.
+    #[tactic(auto, using(crate::proofs::Journals::none_made))]
+    pub fn decide<'m>(&self, message: &'m [u8], logging: Logging) -> Result<Decision<'m>, NoMemory>
+        ensures { IfOk result (λ decision. Decides self.now (received message.now) logging decision.reply decision.entries.items (plain_effect decision.effect)) }
+    {
+        match receive(message) {
+            Received::Silent => Ok(Decision {
+                reply: None,
+                entries: Vec::new(self.alloc),
+                effect: Effect::Nothing,
+            }),
+            Received::Refused(reply) => {
+                let bytes = encode(self.alloc, &reply)?;
+                Ok(Decision {
+                    reply: Some(bytes),
+                    entries: Vec::new(self.alloc),
+                    effect: Effect::Nothing,
+                })
+            }
+            Received::Asked { xid, call, cred } => self.decide_asked(xid, &call, &cred, logging),
         }
-        Ok(())
+    }
+
+    /// Does what was decided. At an error nothing has changed.
+    pub fn carry_out(&mut self, effect: &Effect<'_>) -> Result<(), NoMemory>
+        requires { CanDo self.old (plain_effect effect.now) }
+        ensures ok { OnOk result (self.new ≡ server_after self.old (plain_effect effect.now)) }
+        ensures err { OnErr result (self.new ≡ self.old) }
+    {
+        carry_out(self.alloc, &mut self.head, &mut self.files, effect)
+    }
+
+    /// Does a call by a credential, by the rule of a data server. Refusals are answers, and change
+    /// nothing. At an error nothing has changed.
+    pub fn apply(&mut self, call: &Call3<'_>, cred: &AuthSys<'_>) -> Result<Answer3, NoMemory>
+        ensures answer { IfOk result (λ answer. answer ≡ answer_of (step_of self.old (plain_call call.now) (plain_credential cred.now))) }
+        ensures ok { OnOk result (self.new ≡ (step_of self.old (plain_call call.now) (plain_credential cred.now)).server) }
+        ensures err { OnErr result (self.new ≡ self.old) }
+        ensures refused { IfOk result (λ answer. IsRefusedReply answer.reply → self.new ≡ self.old) }
+    {
+        let decision = self.decide_call(call, cred)?;
+        self.carry_out(&decision.effect)?;
+        Ok(decision.answer)
     }
 
     /// Starts again, in the next boot. These pieces of the pending writes had reached the disk, in this
@@ -210,7 +277,6 @@ impl DataServer {
 
     /// Takes a record from a node, and puts out the reply to it, and the entries of the step where a
     /// journal is kept. At an error all is as before.
-    #[tactic(auto, using(crate::proofs::Journals::none_made))]
     fn take_record(
         &mut self,
         from: NodeId,
@@ -222,17 +288,15 @@ impl DataServer {
         ensures err { OnErr result ((self.new ≡ self.old) × IsAsBefore out.old out.new) }
         ensures turned_away { IsTurnedAway self.old (received message.now) → (self.new ≡ self.old) × (out.new.entries.items ≡ out.old.entries.items) }
     {
-        match receive(message) {
-            Received::Silent => Ok(()),
-            Received::Refused(reply) => {
-                let bytes = encode(self.alloc, &reply)?;
-                post(out, from, bytes, Vec::new(self.alloc))?;
-                Ok(())
-            }
-            Received::Asked { xid, call, cred } => {
-                self.serve(from, xid, &call, &cred, logging, out)
-            }
+        let decision = self.decide(message, logging)?;
+        let effect = decision.effect;
+        let (sends, entered) = (out.sends.len(), out.entries.len());
+        post(out, from, decision.reply, decision.entries)?;
+        if let Err(error) = self.carry_out(&effect) {
+            take_back(out, sends, entered);
+            return Err(error);
         }
+        Ok(())
     }
 
     /// Takes a record from a node, and puts out the reply to it and the entries of the step. Nothing

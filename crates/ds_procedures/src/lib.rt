@@ -23,8 +23,10 @@ mod write;
 
 pub use answer::{Answer3, Response};
 pub use create::root_after;
+pub use lookup::MAX_NAME;
 pub use names::Names;
 pub use plan::{Effect, Plan};
 pub use procedures::plan_of;
+pub use setattr::MODE_BITS;
 pub use superblock::Superblock;
 pub use write::size_refusal;

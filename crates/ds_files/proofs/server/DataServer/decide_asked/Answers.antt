@@ -1,0 +1,16 @@
+use Rattle.std.proofs.Common.{Some, ap}
+use Rattle.rpc_record.specs.Rpc.{plain_credential}
+use Rattle.nfs3_wire.specs.Calls.{plain_call}
+use Rattle.ds_procedures.specs.CodePlans.{plain_plan}
+use Rattle.ds_files.proofs.Deciding.{decides_asked}
+use Rattle.ds_files.proofs.server.DataServer.decide_asked.Goals as goal
+
+pub returns : goal.returns
+returns c =
+    let head = c.self.inside.head in
+    let files = c.self.inside.files.items in
+    let is = rw c.deref.ensures.value at c.plan_of-plan.ensures.plan in
+    let ready = rw c.deref.ensures.value at c.plan_of-plan.ensures.ready in
+    let made = rw c.deref-2.ensures.value at c.in_ok-entries.ensures in
+    decides_asked head files c.args.self.now (plain_call c.args.call.now) (plain_credential c.args.cred.now) (plain_plan c.plan_of-plan.result) c.self.invariant c.self.view_is is ready
+    c.args.xid c.args.logging (Some c.in_ok-reply.reply) c.in_ok-entries.entries.items (ap Some c.in_ok-reply.ensures) made
