@@ -1,0 +1,4 @@
+pub mod Joined
+pub mod Spans
+pub mod Changes
+pub mod Logging

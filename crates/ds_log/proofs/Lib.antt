@@ -1,0 +1,9 @@
+pub mod RangeLemmas
+pub mod Reread
+pub mod LastingLemmas
+pub mod HeldRanges
+pub mod Rooms
+pub mod Starting
+pub mod Lasts
+pub mod Plays
+pub mod Worked
