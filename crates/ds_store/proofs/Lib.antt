@@ -1,0 +1,5 @@
+pub mod Numbers
+pub mod Appending
+pub mod Keeping
+pub mod Records
+pub mod Booting

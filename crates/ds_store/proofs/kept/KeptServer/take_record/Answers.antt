@@ -1,0 +1,17 @@
+use Rattle.std.proofs.Common.{Ok, Err}
+use Rattle.cluster_model.specs.Server.{server_after}
+use Rattle.ds_procedures.specs.CodePlans.{plain_effect}
+use Rattle.ds_store.proofs.Keeping.{going, after_decision, steps}
+use Rattle.ds_store.proofs.kept.KeptServer.take_record.Goals as goal
+
+pub returns-in-Err-clause-steps : goal.returns-in-Err-clause-steps
+returns-in-Err-clause-steps g c =
+    let k = c.args.self.now in
+    steps (server_after k.server (plain_effect c.in_ok-decision.decision.effect)) _ k (g.D.Disk.told c.args.disk.now) (Err c.in-Err.fault) c.keep.new.self (g.D.Disk.told c.keep.new.disk)
+    (after_decision _ k (plain_effect c.in_ok-decision.decision.effect) c.args.message.now c.self.view_is c.in_ok-decision.ensures.effect_is) (going _ k c.self.view_is c.in_default.not-Some) c.in-Err.ensures.becomes c.in-Err.ensures.crash
+
+pub returns-clause-steps : goal.returns-clause-steps
+returns-clause-steps g c =
+    let k = c.args.self.now in
+    steps (server_after k.server (plain_effect c.in_ok-decision.decision.effect)) _ k (g.D.Disk.told c.args.disk.now) (Ok c.in_default-keep.field-0) c.keep.new.self (g.D.Disk.told c.keep.new.disk)
+    (after_decision _ k (plain_effect c.in_ok-decision.decision.effect) c.args.message.now c.self.view_is c.in_ok-decision.ensures.effect_is) (going _ k c.self.view_is c.in_default.not-Some) c.in_default-keep.ensures.becomes c.in_default-keep.ensures.crash

@@ -1,0 +1,4 @@
+pub mod Kept
+pub mod Opens
+pub mod Reading
+pub mod Stores
