@@ -18,8 +18,8 @@ use Rattle.ds_log.specs.declared.range.Range.{Range}
 use Rattle.ds_log.specs.PlainRanges.{plain_range}
 use Rattle.ds_log.specs.PlainBodies.{plain_ranges}
 use Rattle.ds_log.proofs.Reread.{body_again}
-use Rattle.ds_changes.specs.Joined.{IsShown, AreApart, AreJoined}
-use Rattle.ds_changes.specs.Logging.{Spelled, Spells, IsRange, range_sizes, AreFew, IsOwn}
+use Rattle.ds_changes.specs.Joined.{IsShown, AreRangesApart, AreJoined}
+use Rattle.ds_changes.specs.Logging.{Spelled, Spells, IsRange, range_sizes, AreFewRanges, IsOwn}
 
 -- ---- ranges
 
@@ -49,12 +49,12 @@ ranges_fit [] all = tt
 ranges_fit (r ∷ rs) all = ((omega (arith, all.0.ends), omega (arith, all.0.ends)), ranges_fit rs all.1)
 
 -- few ranges are no more than a word counts
-pub few_count : (rs : List Pending) → AreFew rs → length rs < 2 ^ 32
+pub few_count : (rs : List Pending) → AreFewRanges rs → length rs < 2 ^ 32
 few_count rs few = omega (arith, count_le rs few.each, few.few)
 
 -- ---- bodies
 
-module _ (fileid : ℕ) (mtime ctime : Tick) (rs : List Pending) (few : AreFew rs) where
+module _ (fileid : ℕ) (mtime ctime : Tick) (rs : List Pending) (few : AreFewRanges rs) where
   pub bytes_fit : fileid < 2 ^ 64 → Fits tick_form (tick_value mtime) → Fits tick_form (tick_value ctime) → Fits body_form (body_value (HoldsBytes fileid mtime ctime rs))
   bytes_fit f m c = (f, (m, (c, (omega (arith, few_count rs few, length-map rs range_value), ranges_fit rs few.each))))
 
@@ -98,11 +98,11 @@ shown_end shown r is =
     let long : length r.bytes ≡ min (length r.bytes) (length shown - r.at) = sym (ap length is.same) ∙ simp (length-take, length-drop) refl in
     omega (arith, long, is.some)
 
-sizes_within : (shown : List ℕ) (r : Pending) (rs : List Pending) → AllByRecursion (IsShown shown) (r ∷ rs) → AreApart (r ∷ rs) → r.at + range_sizes (r ∷ rs) ≤ length shown
+sizes_within : (shown : List ℕ) (r : Pending) (rs : List Pending) → AllByRecursion (IsShown shown) (r ∷ rs) → AreRangesApart (r ∷ rs) → r.at + range_sizes (r ∷ rs) ≤ length shown
 sizes_within shown r [] all apart = omega (arith, shown_end shown r all.0)
 sizes_within shown r (q ∷ rs) all apart = omega (arith, apart.0, sizes_within shown q rs all.1 apart.1)
 
-sizes_le : (shown : List ℕ) (rs : List Pending) → AllByRecursion (IsShown shown) rs → AreApart rs → range_sizes rs ≤ length shown
+sizes_le : (shown : List ℕ) (rs : List Pending) → AllByRecursion (IsShown shown) rs → AreRangesApart rs → range_sizes rs ≤ length shown
 sizes_le shown [] all apart = omega arith
 sizes_le shown (r ∷ rs) all apart = omega (arith, sizes_within shown r rs all apart)
 
@@ -118,7 +118,7 @@ sizes_append : (rs own : List Pending) → range_sizes (rs ++ own) ≡ range_siz
 sizes_append [] own = omega arith
 sizes_append (r ∷ rs) own = omega (arith, sizes_append rs own)
 
-pub few_joined : (pending : List Pending) (shown : List ℕ) (rs own : List Pending) → length shown ≤ max_file → AreJoined pending shown rs → IsOwn own → AreFew (rs ++ own)
+pub few_joined : (pending : List Pending) (shown : List ℕ) (rs own : List Pending) → length shown ≤ max_file → AreJoined pending shown rs → IsOwn own → AreFewRanges (rs ++ own)
 few_joined pending shown rs own size joined is = record {
   each = both_ranges rs own (each_range shown rs size joined.shows) is.each;
   few = omega (arith, sizes_append rs own, sizes_le shown rs joined.shows joined.apart, is.few, size);

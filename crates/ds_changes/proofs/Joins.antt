@@ -6,7 +6,7 @@ use Rattle.std.proofs.lemmas.List.{length-take, length-drop}
 use Rattle.std.proofs.lemmas.List.Sorted.{IsPermutation-sym}
 use Rattle.cluster_model.specs.Content.{Pending, overlay_all}
 use Rattle.ds_changes.specs.declared.span.Span.{Span}
-use Rattle.ds_changes.specs.Joined.{IsIn, IsShown, AreApart, AreJoined}
+use Rattle.ds_changes.specs.Joined.{IsInRanges, IsShown, AreRangesApart, AreJoined}
 use Rattle.ds_changes.specs.Spans.{span_of, IsInSpans, IsSpan, AreSpansApart, JoinSpans, range_at}
 use Rattle.ds_changes.proofs.Covering.{reach}
 use Rattle.ds_changes.proofs.Spanning.{all_permuted, in_permuted, spans_in, in_spans}
@@ -23,12 +23,12 @@ range_length shown s ends =
 -- ---- each span
 
 module _ (shown : List ℕ) where
-  to_span : (place : ℕ) (ss : List Span) → AllByRecursion IsSpan ss → AllByRecursion (EndsBy (length shown)) ss → IsIn place (map (range_at shown) ss) → IsInSpans place ss
+  to_span : (place : ℕ) (ss : List Span) → AllByRecursion IsSpan ss → AllByRecursion (EndsBy (length shown)) ss → IsInRanges place (map (range_at shown) ss) → IsInSpans place ss
   to_span place [] sound ends is = is
   to_span place (s ∷ ss) sound ends (inl of) = inl (of.0, omega (arith, of.1, range_length shown s ends.0, sound.0.some))
   to_span place (s ∷ ss) sound ends (inr is) = inr (to_span place ss sound.1 ends.1 is)
 
-  of_span : (place : ℕ) (ss : List Span) → AllByRecursion IsSpan ss → AllByRecursion (EndsBy (length shown)) ss → IsInSpans place ss → IsIn place (map (range_at shown) ss)
+  of_span : (place : ℕ) (ss : List Span) → AllByRecursion IsSpan ss → AllByRecursion (EndsBy (length shown)) ss → IsInSpans place ss → IsInRanges place (map (range_at shown) ss)
   of_span place [] sound ends is = is
   of_span place (s ∷ ss) sound ends (inl of) = inl (of.0, omega (arith, of.1, range_length shown s ends.0, sound.0.some))
   of_span place (s ∷ ss) sound ends (inr is) = inr (of_span place ss sound.1 ends.1 is)
@@ -41,7 +41,7 @@ module _ (shown : List ℕ) where
         all_shown ss sound.1 ends.1,
       )
 
-  apart_ranges : (ss : List Span) → AllByRecursion IsSpan ss → AllByRecursion (EndsBy (length shown)) ss → AreSpansApart ss → AreApart (map (range_at shown) ss)
+  apart_ranges : (ss : List Span) → AllByRecursion IsSpan ss → AllByRecursion (EndsBy (length shown)) ss → AreSpansApart ss → AreRangesApart (map (range_at shown) ss)
   apart_ranges [] sound ends apart = tt
   apart_ranges (s ∷ []) sound ends apart = tt
   apart_ranges (s ∷ (t ∷ ss)) sound ends apart = (omega (arith, range_length shown s ends.0, sound.0.some, apart.0), apart_ranges (t ∷ ss) sound.1 ends.1 apart.1)
@@ -57,10 +57,10 @@ module _ (shown : List ℕ) where
 -- ---- the spans of pending writes
 
 module _ (stable : List ℕ) (pending : List Pending) (spans sorted joined : List Span) (are : spans ≡ map span_of pending) (moved : IsPermutation spans sorted) (j : JoinSpans sorted joined) where
-  to_pending : (place : ℕ) → IsInSpans place joined → IsIn place pending
+  to_pending : (place : ℕ) → IsInSpans place joined → IsInRanges place pending
   to_pending place is = spans_in place pending (subst (IsInSpans place) are (in_permuted place sorted spans (IsPermutation-sym spans sorted moved) ((j.covers place).0 is)))
 
-  of_pending : (place : ℕ) → IsIn place pending → IsInSpans place joined
+  of_pending : (place : ℕ) → IsInRanges place pending → IsInSpans place joined
   of_pending place is = (j.covers place).1 (in_permuted place spans sorted moved (subst (IsInSpans place) (sym are) (in_spans place pending is)))
 
   pub joined_ranges : AreJoined pending (overlay_all stable pending) (map (range_at (overlay_all stable pending)) joined)

@@ -9,8 +9,8 @@ use Rattle.std.proofs.lemmas.List.Sorted.{Contains-permutation}
 use Rattle.cluster_model.specs.Content.{Pending}
 use Rattle.data_file.specs.Undo.{place_of}
 use Rattle.ds_changes.specs.declared.span.Span.{Span}
-use Rattle.ds_changes.specs.Joined.{IsIn}
-use Rattle.ds_changes.specs.Spans.{span_of, IsOfSpan, IsInSpans, IsSpan, AreRising, AreSpansApart, JoinSpans, Adds}
+use Rattle.ds_changes.specs.Joined.{IsInRanges}
+use Rattle.ds_changes.specs.Spans.{span_of, IsOfSpan, IsInSpans, IsSpan, AreSpansRising, AreSpansApart, JoinSpans, AddsSpan}
 
 -- ---- lists
 
@@ -71,12 +71,12 @@ in_permuted place ss ts p is = let found = contains_of place ss is in in_by plac
 
 -- ---- the spans of pending writes
 
-pub spans_in : (place : ℕ) (ws : List Pending) → IsInSpans place (map span_of ws) → IsIn place ws
+pub spans_in : (place : ℕ) (ws : List Pending) → IsInSpans place (map span_of ws) → IsInRanges place ws
 spans_in place [] is = is
 spans_in place (w ∷ ws) (inl of) = inl of
 spans_in place (w ∷ ws) (inr is) = inr (spans_in place ws is)
 
-pub in_spans : (place : ℕ) (ws : List Pending) → IsIn place ws → IsInSpans place (map span_of ws)
+pub in_spans : (place : ℕ) (ws : List Pending) → IsInRanges place ws → IsInSpans place (map span_of ws)
 in_spans place [] is = is
 in_spans place (w ∷ ws) (inl of) = inl of
 in_spans place (w ∷ ws) (inr is) = inr (in_spans place ws is)
@@ -121,15 +121,15 @@ taken_within ws spans n p found is known some = let less = within_taken ws n p (
 
 -- ---- spans in order
 
-rising_behind : (s : Span) (ss : List Span) → IsNonDecreasingBy (λ (t : Span). t.at) (s ∷ ss) → AreRising s.at ss
+rising_behind : (s : Span) (ss : List Span) → IsNonDecreasingBy (λ (t : Span). t.at) (s ∷ ss) → AreSpansRising s.at ss
 rising_behind s [] h = tt
 rising_behind s (t ∷ ss) h = (h 0 1 s (omega arith) (omega arith), rising_behind t ss (λ i j d le less. h (suc i) (suc j) d (omega (arith, le)) (omega (arith, less))))
 
-pub rising : (ss : List Span) → IsNonDecreasingBy (λ (t : Span). t.at) ss → AreRising 0 ss
+pub rising : (ss : List Span) → IsNonDecreasingBy (λ (t : Span). t.at) ss → AreSpansRising 0 ss
 rising [] h = tt
 rising (s ∷ ss) h = (omega arith, rising_behind s ss h)
 
-pub rising_lower : (low lower : ℕ) (ss : List Span) → lower ≤ low → AreRising low ss → AreRising lower ss
+pub rising_lower : (low lower : ℕ) (ss : List Span) → lower ≤ low → AreSpansRising low ss → AreSpansRising lower ss
 rising_lower low lower [] le h = tt
 rising_lower low lower (s ∷ ss) le h = (omega (arith, le, h.0), h.1)
 
@@ -153,7 +153,7 @@ either_end place a b le meets of =
       | inr past ↦ inr (omega (arith, past, meets), omega (arith, past, of.1))
     ]
 
-pub grows : (done : List Span) (a b : Span) → a.at ≤ b.at → b.at ≤ a.end → Adds (done ++ a ∷ []) b (done ++ (record { at = a.at; end = max a.end b.end }) ∷ [])
+pub grows : (done : List Span) (a b : Span) → a.at ≤ b.at → b.at ≤ a.end → AddsSpan (done ++ a ∷ []) b (done ++ (record { at = a.at; end = max a.end b.end }) ∷ [])
 grows done a b le meets =
     let next : Span = record { at = a.at; end = max a.end b.end } in
     record {
@@ -180,7 +180,7 @@ grows done a b le meets =
     backward place (inl is) = in_next place (in_either place done (a ∷ []) is)
     backward place (inr of) = in_right place done _ (inl (omega (arith, le, of.0), omega (arith, of.1)))
 
-pub begins : (done : List Span) (a b : Span) → a.end < b.at → Adds (done ++ a ∷ []) b ((done ++ a ∷ []) ++ b ∷ [])
+pub begins : (done : List Span) (a b : Span) → a.end < b.at → AddsSpan (done ++ a ∷ []) b ((done ++ a ∷ []) ++ b ∷ [])
 begins done a b less = record {
   covers = λ place. (λ is. forward place (in_either place (done ++ a ∷ []) (b ∷ []) is), λ either. backward place either);
   sound = λ all one. all_push IsSpan (done ++ a ∷ []) b all one;
@@ -204,9 +204,9 @@ pub record Joining (spans so_far : List Span) (low : ℕ) (rest : List Span) : T
   pub sound : AllByRecursion IsSpan so_far
   pub left : AllByRecursion IsSpan rest
   pub apart : AreSpansApart so_far
-  pub rising : AreRising low rest
+  pub rising : AreSpansRising low rest
 
-pub joining_first : (spans : List Span) (s : Span) (rest : List Span) → spans ≡ s ∷ rest → AllByRecursion IsSpan spans → AreRising 0 spans → Joining spans ([] ++ s ∷ []) s.at rest
+pub joining_first : (spans : List Span) (s : Span) (rest : List Span) → spans ≡ s ∷ rest → AllByRecursion IsSpan spans → AreSpansRising 0 spans → Joining spans ([] ++ s ∷ []) s.at rest
 joining_first spans s rest is all up =
     let parts = subst (AllByRecursion IsSpan) is all in
     record {
@@ -214,10 +214,10 @@ joining_first spans s rest is all up =
       sound = (parts.0, tt);
       left = parts.1;
       apart = tt;
-      rising = (subst (AreRising 0) is up).1;
+      rising = (subst (AreSpansRising 0) is up).1;
     }
 
-pub joining_next : (spans so_far : List Span) (low : ℕ) (rest : List Span) (s : Span) (others new : List Span) (next : ℕ) → Joining spans so_far low rest → rest ≡ s ∷ others → Adds so_far s new → next ≤ s.at → Joining spans new next others
+pub joining_next : (spans so_far : List Span) (low : ℕ) (rest : List Span) (s : Span) (others new : List Span) (next : ℕ) → Joining spans so_far low rest → rest ≡ s ∷ others → AddsSpan so_far s new → next ≤ s.at → Joining spans new next others
 joining_next spans so_far low rest s others new next k is adds le =
     let parts = subst (AllByRecursion IsSpan) is k.left in
     record {
@@ -225,7 +225,7 @@ joining_next spans so_far low rest s others new next k is adds le =
       sound = adds.sound k.sound parts.0;
       left = parts.1;
       apart = adds.apart k.apart;
-      rising = rising_lower s.at next others le (subst (AreRising low) is k.rising).1;
+      rising = rising_lower s.at next others le (subst (AreSpansRising low) is k.rising).1;
     }
   where
     old_or : (place : ℕ) → IsInSpans place so_far ⊎ IsOfSpan place s → IsInSpans place (so_far ++ s ∷ others)

@@ -8,7 +8,7 @@ use Rattle.cluster_model.specs.Content.{Pending}
 use Rattle.ds_files.specs.Decisions.{CanDo}
 use Rattle.ds_log.specs.Bodies.{HoldsBytes}
 use Rattle.ds_changes.specs.Changes.{StableBody, OpBody, BodyOf}
-use Rattle.ds_changes.specs.Logging.{Spells, LogsBy, Logs, AreFew, IsOwn, IsWith}
+use Rattle.ds_changes.specs.Logging.{Spells, LogsBy, Logs, AreFewRanges, IsOwn, IsWith}
 use Rattle.ds_changes.proofs.BodySizes.{few_joined}
 use Rattle.ds_changes.proofs.Keeping.{at_index}
 
@@ -30,8 +30,8 @@ not_there s index op can none = let found = at_index s index can.ready.0 in absu
 
 -- ---- what becomes stable
 
-pub few_with : (f : StoredFile) (own ranges : List Pending) → length (shown f) ≤ max_file → IsOwn own → IsWith f own ranges → AreFew ranges
-few_with f own ranges size is w = subst AreFew (sym w.are) (few_joined f.content.pending (shown f) w.before own size w.joined is)
+pub few_with : (f : StoredFile) (own ranges : List Pending) → length (shown f) ≤ max_file → IsOwn own → IsWith f own ranges → AreFewRanges ranges
+few_with f own ranges size is w = subst AreFewRanges (sym w.are) (few_joined f.content.pending (shown f) w.before own size w.joined is)
 
 pub stable_spelled : (index : ℕ) (f : StoredFile) (times : Times) (own ranges : List Pending) (bytes : List ℕ) → (f.content.pending ≢ []) ⊎ (own ≢ []) → IsWith f own ranges → Spells (λ b. b ≡ HoldsBytes (index + 2) times.mtime times.ctime ranges) bytes
     → Spells (λ b. StableBody index f times own (Some b)) bytes

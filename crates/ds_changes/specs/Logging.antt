@@ -45,7 +45,7 @@ range_sizes [] = 0
 range_sizes (r ∷ rs) = length r.bytes + range_sizes rs
 
 -- no more bytes than two files may have
-pub record AreFew (rs : List Pending) : Type 0 where
+pub record AreFewRanges (rs : List Pending) : Type 0 where
   pub each : AllByRecursion IsRange rs
   pub few : range_sizes rs ≤ 2 * max_file
 

@@ -23,9 +23,9 @@ pub record IsSpan (s : Span) : Type 0 where
   pub bounded : s.end ≤ MAX_FILE
 
 -- each begins where the one before does, or behind it; and the first not before a place
-abbrev pub AreRising : ℕ → List Span → Type 0
-AreRising low [] = Unit {0}
-AreRising low (s ∷ ss) = (low ≤ s.at) × AreRising s.at ss
+abbrev pub AreSpansRising : ℕ → List Span → Type 0
+AreSpansRising low [] = Unit {0}
+AreSpansRising low (s ∷ ss) = (low ≤ s.at) × AreSpansRising s.at ss
 
 -- each ends before the next begins
 abbrev pub AreSpansApart : List Span → Type 0
@@ -40,7 +40,7 @@ pub record JoinSpans (spans joined : List Span) : Type 0 where
   pub apart : AreSpansApart joined
 
 -- what is joined so far with one span more, which begins behind the last's beginning
-pub record Adds (old : List Span) (span : Span) (new : List Span) : Type 0 where
+pub record AddsSpan (old : List Span) (span : Span) (new : List Span) : Type 0 where
   pub covers : (place : ℕ) → IsInSpans place new ↔ (IsInSpans place old ⊎ IsOfSpan place span)
   pub sound : AllByRecursion IsSpan old → IsSpan span → AllByRecursion IsSpan new
   pub apart : AreSpansApart old → AreSpansApart new

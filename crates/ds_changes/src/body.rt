@@ -10,7 +10,7 @@ ghost use Rattle.ds_log.specs.Bodies.{HoldsBytes, tick_form, tick_value, body_fo
 ghost use Rattle.ds_log.specs.PlainBodies.{plain_body};
 ghost use Rattle.ds_log.specs.PlainRanges.{plain_range};
 ghost use Rattle.ds_changes.specs.Changes.{OpBody, BodyOf};
-ghost use Rattle.ds_changes.specs.Logging.{Spelled, Spells, AreFew};
+ghost use Rattle.ds_changes.specs.Logging.{Spelled, Spells, AreFewRanges};
 
 use cluster_model::{Changes, Tick};
 use data_file::{DataFile, times_set};
@@ -86,7 +86,7 @@ pub fn bytes_held(
     ctime: Tick,
     ranges: &[Range<'_>],
 ) -> Result<Vec<u8>, NoMemory>
-    requires few { AreFew (map plain_range ranges.now) }
+    requires few { AreFewRanges (map plain_range ranges.now) }
     requires mtime { Fits tick_form (tick_value mtime) }
     requires ctime { Fits tick_form (tick_value ctime) }
     ensures { IfOk result (λ bytes. Spells (λ body. body ≡ HoldsBytes fileid mtime ctime (map plain_range ranges.now)) bytes.items) }

@@ -2,7 +2,7 @@
 
 ghost use Rattle.std.specs.Prelude.{◌≡◌, ◌≤◌, [], ◌∷◌, ◌++◌, IfOk};
 ghost use Rattle.std.specs.List.{AllByRecursion};
-ghost use Rattle.ds_changes.specs.Spans.{AreRising, IsSpan, JoinSpans, Adds};
+ghost use Rattle.ds_changes.specs.Spans.{AreSpansRising, IsSpan, JoinSpans, AddsSpan};
 
 use crate::span::Span;
 use ff_xdr::NoMemory;
@@ -12,7 +12,7 @@ use std::alloc::Global;
 /// others may join then: the same, where no place is between them, else the new one.
 fn add(done: &mut Vec<Span>, last: Span, span: Span) -> Result<Span, NoMemory>
     requires { last.at ≤ span.at }
-    ensures added { IfOk result (λ next. Adds (done.old.items ++ last ∷ []) span (done.new.items ++ next ∷ [])) }
+    ensures added { IfOk result (λ next. AddsSpan (done.old.items ++ last ∷ []) span (done.new.items ++ next ∷ [])) }
     ensures behind { IfOk result (λ next. next.at ≤ span.at) }
 {
     if span.at <= last.end {
@@ -28,7 +28,7 @@ fn add(done: &mut Vec<Span>, last: Span, span: Span) -> Result<Span, NoMemory>
 /// The spans joined: all that are within each other, or side by side, are one. They come in the order of
 /// their first places.
 pub fn join_spans(alloc: Global, spans: &[Span]) -> Result<Vec<Span>, NoMemory>
-    requires rising { AreRising 0 spans.now }
+    requires rising { AreSpansRising 0 spans.now }
     requires sound { AllByRecursion IsSpan spans.now }
     ensures { IfOk result (λ joined. JoinSpans spans.now joined.items) }
 {

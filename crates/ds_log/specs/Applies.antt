@@ -20,10 +20,10 @@ abbrev pub Applies : ServerState → List ℕ → Bool → ServerState → Type 
 Applies old bytes fits new = CameTo (applied_bytes old bytes) old fits new
 
 -- memory is wanted for a new file and for bytes, and for no other body
-abbrev pub TakesMemory : Option Logged → Type 0
-TakesMemory (Some (Creates name fileid owner group mode tick)) = ⊤
-TakesMemory (Some (HoldsBytes fileid mtime ctime ranges)) = ⊤
-TakesMemory _ = ⊥
+abbrev pub NeedsMemory : Option Logged → Type 0
+NeedsMemory (Some (Creates name fileid owner group mode tick)) = ⊤
+NeedsMemory (Some (HoldsBytes fileid mtime ctime ranges)) = ⊤
+NeedsMemory _ = ⊥
 
 -- the index of the file with a fileid, where there is one
 abbrev pub IsIndexOf : ℕ → ℕ → Option ℕ → Type 0

@@ -7,7 +7,7 @@ ghost use Rattle.ds_log.specs.Bodies.{Boots};
 ghost use Rattle.ds_log.specs.PlainBodies.{plain_body};
 ghost use Rattle.ds_log.specs.Durable.{applied};
 ghost use Rattle.ds_log.specs.Lasting.{IsLasting};
-ghost use Rattle.ds_log.specs.Applies.{CameTo, TakesMemory};
+ghost use Rattle.ds_log.specs.Applies.{CameTo, NeedsMemory};
 
 use crate::body::LogBody;
 use crate::creating::{NewFile, create};
@@ -40,7 +40,7 @@ pub fn apply_body(
     requires { IsLasting head.old files.old.items }
     ensures came { IfOk result (λ fits. CameTo (applied (server_of head.old files.old.items) (plain_body body.now)) (server_of head.old files.old.items) fits (server_of head.new files.new.items)) }
     ensures keeps { IsLasting head.new files.new.items }
-    ensures wanted { OnErr result (TakesMemory (Some (plain_body body.now))) }
+    ensures wanted { OnErr result (NeedsMemory (Some (plain_body body.now))) }
 {
     match body {
         LogBody::Boot(boot) => Ok(begin_boot(head, *boot)),

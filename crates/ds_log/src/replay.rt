@@ -4,7 +4,7 @@ ghost use Rattle.std.specs.Prelude.{◌≡◌, ◌<◌, Some, [], IfOk, OnErr};
 ghost use Rattle.cluster_model.specs.Server.{restart_of, max_boot};
 ghost use Rattle.ds_log.specs.Bodies.{body_in};
 ghost use Rattle.ds_log.specs.Durable.{unbooted};
-ghost use Rattle.ds_log.specs.Applies.{Applies, TakesMemory};
+ghost use Rattle.ds_log.specs.Applies.{Applies, NeedsMemory};
 ghost use Rattle.ds_log.specs.Steady.{IsSteady};
 
 use crate::applying::apply_body;
@@ -70,7 +70,7 @@ impl Replayed {
     /// to be used again.
     pub fn apply(&mut self, body: &[u8]) -> Result<bool, NoMemory>
         ensures applied { IfOk result (λ fits. Applies self.old body.now fits self.new) }
-        ensures wanted { OnErr result (TakesMemory (body_in body.now)) }
+        ensures wanted { OnErr result (NeedsMemory (body_in body.now)) }
     {
         let Ok(body) = LogBody::from_bytes(body) else {
             return Ok(false);

@@ -9,7 +9,7 @@ use Rattle.cluster_model.specs.File.{StoredFile, restarted}
 use Rattle.cluster_model.specs.Server.{ServerState, files_restarted, server_restarted, restart_of, max_boot}
 use Rattle.store_disk.specs.Disks.{DiskLife, LeavesSince}
 use Rattle.store_disk.proofs.Leaving.{since_both, since_same, since_weaker}
-use Rattle.gate_log.specs.Appends.{Appends, HoldsLog, IsReady, whole_log, LeavesAsReady, LeavesReady, MakesReady}
+use Rattle.gate_log.specs.Appends.{Appends, HoldsLog, IsMadeReady, whole_log, LeavesAsReady, LeavesReady, MakesReady}
 use Rattle.ff_xdr.specs.Form.{spelling, word}
 use Rattle.ff_xdr.proofs.Fields.{length-word}
 use Rattle.ds_log.specs.Bodies.{Boots, body_form, body_in, body_value}
@@ -20,7 +20,7 @@ use Rattle.ds_store.specs.declared.fault.OpenCause.TheVariants.{Disk, BadLog, Bo
 use Rattle.ds_store.specs.Kept.{IsLogOf, KeptState, SaysEither}
 use Rattle.ds_store.specs.Opens.{LeavesOpened, LeavesOpening, LeavesRefused, OpensLog, cause_of}
 use Rattle.ds_store.specs.declared.opening.LogReader.{LogReader}
-use Rattle.ds_store.specs.Reading.{BeginsBoot, HasLasting, HasSaid, ReadsAll, ReadsLog, SaysBoot, SaysBooting}
+use Rattle.ds_store.specs.Reading.{BeginsBoot, HasLasting, HasSaid, ReadsWholeLog, ReadsLog, SaysBoot, SaysBooting}
 use Rattle.ds_store.proofs.Appending.{appended_since, appended_keeps, images}
 
 -- ---- its record
@@ -86,7 +86,7 @@ boots_not said end (Some life) has =
 
 -- ---- what a log was opened as
 
-said_log : (number : ℕ) (old life : DiskLife) (n : ℕ) (s : ServerState) (end : ℕ) → IsReady old life n → HasSaid number s end life → log_state number old.now.seen ≡ Ok s
+said_log : (number : ℕ) (old life : DiskLife) (n : ℕ) (s : ServerState) (end : ℕ) → IsMadeReady old life n → HasSaid number s end life → log_state number old.now.seen ≡ Ok s
 said_log number old life n s end ready has =
     ap (log_state_of number) (sym ready.log ∙ has.keeps.log.log)
     ∙ subst (λ (k : ℕ). log_state_of k (whole_log has.keeps.bodies) ≡ Ok (durable s)) has.numbered has.keeps.says
@@ -111,7 +111,7 @@ module _ (number n : ℕ) (t : Option DiskLife) where
   opens_not None cause makes reads = tt
   opens_not (Some old) cause makes reads = by_cause cause ((subst (λ (o : Option DiskLife). ReadsLog number n o (Err cause)) makes.1 reads) old makes.2)
     where
-      by_cause : (e : OpenCause) → ReadsAll number makes.0 (Err e) → OpensLog number (Some old) (Err e)
+      by_cause : (e : OpenCause) → ReadsWholeLog number makes.0 (Err e) → OpensLog number (Some old) (Err e)
       by_cause (BadLog place) bad = ap (log_state_of number) (sym makes.2.log) ∙ bad
       by_cause BootsSpent bad = absurd bad
       by_cause Disk bad = tt

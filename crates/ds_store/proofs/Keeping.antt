@@ -12,7 +12,7 @@ use Rattle.ds_changes.proofs.Keeping.{steady_after}
 use Rattle.ds_changes.proofs.Lasting.{body_logged, nothing_logged}
 use Rattle.ds_store.specs.declared.fault.StoreFault.{StoreFault}
 use Rattle.ds_store.specs.declared.fault.StoreFault.TheVariants.{Disk, Broken, NoMemory}
-use Rattle.ds_store.specs.Kept.{Becomes, IsCrashSafe, IsLogOf, IsRecordOf, KeptState, LogsStep, SpendsBy, Stands, StepsBy}
+use Rattle.ds_store.specs.Kept.{Becomes, IsCrashSafe, IsLogOf, IsRecordOf, KeptState, LogsStep, SpendsBy, StandsOnDisk, StepsSafely}
 use Rattle.ds_store.proofs.Numbers.{number_after}
 use Rattle.ds_store.proofs.Appending.{in_part, since_nothing}
 
@@ -37,24 +37,24 @@ pub going : (inside k : KeptState) → inside ≡ k → ((fault : StoreFault) �
 going inside k same other = ap (λ (s : KeptState). s.spent) (sym same) ∙ none_of inside.spent other
 
 pub steps : {T : Type 0} (after wanted : ServerState) (k : KeptState) (disk : Option DiskLife) (result : Result T StoreFault) (new : KeptState) (disk' : Option DiskLife) → after ≡ wanted → k.spent ≡ None
-    → Becomes after k disk result new disk' → IsCrashSafe k.server after disk result disk' → StepsBy k.spent wanted k disk result new disk'
+    → Becomes after k disk result new disk' → IsCrashSafe k.server after disk result disk' → StepsSafely k.spent wanted k disk result new disk'
 steps after wanted k disk result new disk' same none becomes crash =
-    subst (λ (s : ServerState). StepsBy k.spent s k disk result new disk') same
-    (subst (λ (o : Option StoreFault). StepsBy o after k disk result new disk') (sym none) (becomes, crash))
+    subst (λ (s : ServerState). StepsSafely k.spent s k disk result new disk') same
+    (subst (λ (o : Option StoreFault). StepsSafely o after k disk result new disk') (sym none) (becomes, crash))
 
 -- what was decided of a record makes the server of its outcome
 pub after_decision : (inside k : KeptState) (what : Effect) (message : List ℕ) → inside ≡ k → what ≡ effect_of inside.server message → server_after k.server what ≡ (outcome_of k.server message).server
 after_decision inside k what message same is = ap (server_after k.server) (is ∙ ap (λ (b : KeptState). effect_of b.server message) same) ∙ after_record k.server message
 
 -- memory was wanted before anything was done
-pub stays : {T : Type 0} (after : ServerState) (k : KeptState) (disk : Option DiskLife) (result : Result T StoreFault) → k.spent ≡ None → Stands k disk → result ≡ Err NoMemory → StepsBy k.spent after k disk result k disk
+pub stays : {T : Type 0} (after : ServerState) (k : KeptState) (disk : Option DiskLife) (result : Result T StoreFault) → k.spent ≡ None → StandsOnDisk k disk → result ≡ Err NoMemory → StepsSafely k.spent after k disk result k disk
 stays after k disk result none stands is =
-    subst (λ (r : Result _ StoreFault). StepsBy k.spent after k disk r k disk) (sym is)
+    subst (λ (r : Result _ StoreFault). StepsSafely k.spent after k disk r k disk) (sym is)
     (steps after after k disk (Err NoMemory) k disk refl none (inr (refl, refl)) (in_part k.server after disk NoMemory disk (since_nothing k.server after k.end disk (stands none))))
 
 -- ---- what is to be done is done in memory, and then its record is appended
 
-module _ (k before : KeptState) (same : k ≡ before) (what : Effect) (server : ServerState) (made : server ≡ server_after k.server what) (going : before.spent ≡ None) (disk : Option DiskLife) (stands : Stands before disk) where
+module _ (k before : KeptState) (same : k ≡ before) (what : Effect) (server : ServerState) (made : server ≡ server_after k.server what) (going : before.spent ≡ None) (disk : Option DiskLife) (stands : StandsOnDisk before disk) where
   holds : IsLogOf k.server k.end disk
   holds = subst (λ (b : KeptState). IsLogOf b.server b.end disk) (sym same) (stands going)
 
@@ -84,11 +84,11 @@ module _ (k before : KeptState) (same : k ≡ before) (what : Effect) (server : 
         subst (λ (s : ServerState). IsCrashSafe before.server s disk result disk') wanted
         (subst (λ (b : KeptState). IsCrashSafe b.server server disk result disk') same step.crash)
 
-    stands_by : (r : Result (Unit {0}) StoreFault) → result ≡ r → SpendsBy r last.spent → Stands last disk'
+    stands_by : (r : Result (Unit {0}) StoreFault) → result ≡ r → SpendsBy r last.spent → StandsOnDisk last disk'
     stands_by (Ok x) is spent none = step.kept x is
     stands_by (Err Disk) is spent none = absurd (cc (spent, none))
     stands_by (Err Broken) is spent none = absurd spent
     stands_by (Err NoMemory) is spent none = absurd (cc (spent, none))
 
-    pub stands_then : Stands last disk'
+    pub stands_then : StandsOnDisk last disk'
     stands_then = stands_by result refl spends

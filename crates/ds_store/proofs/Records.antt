@@ -5,7 +5,7 @@ use Rattle.cluster_model.specs.Server.{ServerState}
 use Rattle.store_disk.specs.Disks.{DiskLife}
 use Rattle.store_disk.proofs.Leaving.{Told}
 use Rattle.gate_log.specs.Logs.{Log, Gate, Absent, Closed, Broken, Opens, gate_of, log_from, log_of, log_size, with_body}
-use Rattle.gate_log.specs.Appends.{IsReady, whole_log}
+use Rattle.gate_log.specs.Appends.{IsMadeReady, whole_log}
 use Rattle.gate_log.proofs.LogLemmas.{log_by_gate, with_bodies, many_log, few_log}
 use Rattle.gate_log.proofs.ReadLemmas.{HasRead, read_none, read_more, read_absent, read_broken, keeps_read}
 use Rattle.ds_log.specs.Durable.{applied_bytes, durable, ended_well, log_state, log_state_of, played, unbooted}
@@ -16,7 +16,7 @@ use Rattle.ds_store.specs.declared.fault.OpenCause.TheVariants.{Disk, BadLog, Bo
 use Rattle.ds_store.specs.declared.opening.LogReader.{LogReader}
 use Rattle.ds_store.specs.declared.opening.Reading.{Reading}
 use Rattle.ds_store.specs.declared.opening.Reading.TheVariants.{More, Ended}
-use Rattle.ds_store.specs.Reading.{HasSaid, IsBadAt, ReadsAll, ReadsBad, ReadsEnd, ReadsLog, ReadsMore, ReadsNext, ReadsRecord}
+use Rattle.ds_store.specs.Reading.{HasSaid, IsBadAt, ReadsWholeLog, ReadsBad, ReadsEnd, ReadsLog, ReadsMore, ReadsNext, ReadsRecord}
 use Rattle.ds_store.proofs.Numbers.{played_number}
 
 -- So many bodies were read, and they say this server.
@@ -40,7 +40,7 @@ abbrev cut_log : List (List ℕ) → Log
 cut_log bodies = record { bodies = bodies; is_whole = false }
 
 -- the log of a disk that is ready is the one from its first byte on
-ready_log : (old life : DiskLife) (n : ℕ) → IsReady old life n → log_of life.now.seen ≡ log_from life.now.seen
+ready_log : (old life : DiskLife) (n : ℕ) → IsMadeReady old life n → log_of life.now.seen ≡ log_from life.now.seen
 ready_log old life n ready = elim (cases_lt 1 (length life.now.seen)) [
   | inl many ↦ many_log life.now.seen many
   | inr few ↦ few_log life.now.seen few ∙ sym (log_by_gate life.now.seen Closed (ready.closed (omega (arith, few, ready.size))))
@@ -51,7 +51,7 @@ bodies_with : (bodies : List (List ℕ)) (log : Log) → (with_bodies bodies log
 bodies_with [] log = refl
 bodies_with (body ∷ bodies) log = ap (λ (bs : List (List ℕ)). body ∷ bs) (bodies_with bodies log)
 
-module _ (number : ℕ) (old life : DiskLife) (n at : ℕ) (s : ServerState) (ready : IsReady old life n) (p : HasPlayed number life.now.seen at s) where
+module _ (number : ℕ) (old life : DiskLife) (n at : ℕ) (s : ServerState) (ready : IsMadeReady old life n) (p : HasPlayed number life.now.seen at s) where
   pub said : (at' : ℕ) (s' : ServerState) → ReadsEnd life.now.seen at s at' s' → HasSaid number s' at' life
   said at' s' end =
       let lasts = played_lasts (unbooted number) s 0 p.bodies (unbooted_lasts number) p.says in
@@ -115,7 +115,7 @@ module _ (number size : ℕ) (reader new : LogReader) (size_is : reader.size ≡
   not_said None cause p reads = tt
   not_said (Some life) cause p reads = λ old ready. by_cause cause old ready (reads (size_is ∙ ready.size))
     where
-      by_cause : (e : OpenCause) (old : DiskLife) (ready : IsReady old life size) → ReadsRecord life.now.seen reader.at reader.said (Err e) new.at new.said → ReadsAll number life (Err e)
+      by_cause : (e : OpenCause) (old : DiskLife) (ready : IsMadeReady old life size) → ReadsRecord life.now.seen reader.at reader.said (Err e) new.at new.said → ReadsWholeLog number life (Err e)
       by_cause (BadLog place) old ready bad = is_bad number old life size reader.at reader.said ready (p ready.size) place bad
       by_cause BootsSpent old ready bad = absurd bad
       by_cause Disk old ready bad = tt

@@ -49,8 +49,8 @@ IsLogOf s end None = ⊤
 IsLogOf s end (Some life) = KeepsServer s end life
 
 -- unless it is to be opened again, the disk holds its log
-abbrev pub Stands : KeptState → Option DiskLife → Type 0
-Stands k disk = k.spent ≡ None → IsLogOf k.server k.end disk
+abbrev pub StandsOnDisk : KeptState → Option DiskLife → Type 0
+StandsOnDisk k disk = k.spent ≡ None → IsLogOf k.server k.end disk
 
 -- ---- what a call does
 
@@ -68,9 +68,9 @@ Becomes after old disk (Err Broken) new disk' = ⊥
 Becomes after old disk (Err NoMemory) new disk' = (new.spent ≡ Some NoMemory) ⊎ ((new ≡ old) × (disk' ≡ disk))
 
 -- What a call did that makes this server of it. One that is to be opened again answers why, and nothing has changed.
-abbrev pub StepsBy : {T : Type 0} → Option StoreFault → ServerState → KeptState → Option DiskLife → Result T StoreFault → KeptState → Option DiskLife → Type 0
-StepsBy None after old disk result new disk' = Becomes after old disk result new disk' × IsCrashSafe old.server after disk result disk'
-StepsBy (Some fault) after old disk result new disk' = (result ≡ Err fault) × (new ≡ old) × (disk' ≡ disk)
+abbrev pub StepsSafely : {T : Type 0} → Option StoreFault → ServerState → KeptState → Option DiskLife → Result T StoreFault → KeptState → Option DiskLife → Type 0
+StepsSafely None after old disk result new disk' = Becomes after old disk result new disk' × IsCrashSafe old.server after disk result disk'
+StepsSafely (Some fault) after old disk result new disk' = (result ≡ Err fault) × (new ≡ old) × (disk' ≡ disk)
 
 -- the disk's count of faults after a call
 abbrev pub store_counted : {T : Type 0} → Result T StoreFault → ℕ → ℕ

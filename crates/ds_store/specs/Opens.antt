@@ -9,7 +9,7 @@ use Rattle.gate_log.specs.Appends.{IsSynced, SameLog}
 use Rattle.ds_log.specs.Durable.{log_state}
 use Rattle.ds_store.specs.declared.fault.OpenCause.{OpenCause}
 use Rattle.ds_store.specs.declared.fault.OpenCause.TheVariants.{Disk, BadLog, BootsSpent, NoMemory}
-use Rattle.ds_store.specs.Kept.{KeptState, SaysServer, Stands}
+use Rattle.ds_store.specs.Kept.{KeptState, SaysServer, StandsOnDisk}
 
 -- how a failed call of the disk ends opening
 abbrev pub cause_of : Failed → OpenCause
@@ -56,7 +56,7 @@ LeavesRefused (Some old) (Err NoMemory) new = ⊤
 LeavesRefused (Some old) (Ok k) new = ⊤
 
 abbrev pub StandsOpened : Result KeptState OpenCause → Option DiskLife → Type 0
-StandsOpened (Ok k) new = Stands k new
+StandsOpened (Ok k) new = StandsOnDisk k new
 StandsOpened (Err cause) new = ⊤
 
 abbrev pub open_counted : {T : Type 0} → Result T OpenCause → ℕ → ℕ

@@ -3,7 +3,7 @@ use Rattle.std.specs.Prelude.{⊤, ◌≡◌, ◌⊎◌, ℕ, ◌+◌, List, [],
 use Rattle.cluster_model.specs.Server.{ServerState, max_boot, restart_of}
 use Rattle.store_disk.specs.Disks.{DiskLife}
 use Rattle.gate_log.specs.Logs.{Gate, Absent, Closed, Broken, Opens, gate_of}
-use Rattle.gate_log.specs.Appends.{IsReady}
+use Rattle.gate_log.specs.Appends.{IsMadeReady}
 use Rattle.ds_log.specs.Bodies.{Boots, body_in}
 use Rattle.ds_log.specs.Durable.{applied_bytes, durable, log_state}
 use Rattle.ds_store.specs.declared.fault.OpenCause.{OpenCause}
@@ -61,17 +61,17 @@ pub record HasSaid (number : ℕ) (s : ServerState) (end : ℕ) (life : DiskLife
   pub lasts : durable s ≡ s
   pub keeps : KeepsServer s end life
 
-abbrev pub ReadsAll : ℕ → DiskLife → Result LogReader OpenCause → Type 0
-ReadsAll number life (Ok reader) = HasSaid number reader.said reader.at life
-ReadsAll number life (Err (BadLog place)) = log_state number life.now.seen ≡ Err place
-ReadsAll number life (Err BootsSpent) = ⊥
-ReadsAll number life (Err Disk) = ⊤
-ReadsAll number life (Err NoMemory) = ⊤
+abbrev pub ReadsWholeLog : ℕ → DiskLife → Result LogReader OpenCause → Type 0
+ReadsWholeLog number life (Ok reader) = HasSaid number reader.said reader.at life
+ReadsWholeLog number life (Err (BadLog place)) = log_state number life.now.seen ≡ Err place
+ReadsWholeLog number life (Err BootsSpent) = ⊥
+ReadsWholeLog number life (Err Disk) = ⊤
+ReadsWholeLog number life (Err NoMemory) = ⊤
 
 -- the same of a disk that may tell nothing, once it is ready
 abbrev pub ReadsLog : ℕ → ℕ → Option DiskLife → Result LogReader OpenCause → Type 0
 ReadsLog number size None result = ⊤
-ReadsLog number size (Some life) result = (old : DiskLife) → IsReady old life size → ReadsAll number life result
+ReadsLog number size (Some life) result = (old : DiskLife) → IsMadeReady old life size → ReadsWholeLog number life result
 
 -- ---- the next boot
 

@@ -12,7 +12,7 @@ ghost use Rattle.ds_files.specs.Receive.{outcome_of};
 ghost use Rattle.ds_files.specs.declared.logging.Logging.TheVariants.{On, Off};
 ghost use Rattle.ds_log.specs.Durable.{applied_bytes, durable};
 ghost use Rattle.ds_log.specs.Steady.{IsSteady};
-ghost use Rattle.ds_store.specs.Kept.{Becomes, IsCrashSafe, IsLogOf, IsRecordOf, LogsStep, Posts, SpendsBy, Stands, StepsBy, store_counted};
+ghost use Rattle.ds_store.specs.Kept.{Becomes, IsCrashSafe, IsLogOf, IsRecordOf, LogsStep, Posts, SpendsBy, StandsOnDisk, StepsSafely, store_counted};
 
 use crate::fault::StoreFault;
 use cluster_model::{NodeId, Outbox};
@@ -117,10 +117,10 @@ impl KeptServer {
     fn keep<D: Disk>(&mut self, disk: &mut D, effect: &Effect<'_>) -> Result<(), StoreFault>
         requires can { CanDo self.old.server (plain_effect effect.now) }
         requires going { self.old.spent ≡ None }
-        requires stands { Stands self.old (D.told disk.old) }
+        requires stands { StandsOnDisk self.old (D.told disk.old) }
         ensures becomes { Becomes (server_after self.old.server (plain_effect effect.now)) self.old (D.told disk.old) result self.new (D.told disk.new) }
         ensures crash { IsCrashSafe self.old.server (server_after self.old.server (plain_effect effect.now)) (D.told disk.old) result (D.told disk.new) }
-        ensures stands { Stands self.new (D.told disk.new) }
+        ensures stands { StandsOnDisk self.new (D.told disk.new) }
         ensures faults { D.faults disk.new ≡ store_counted result (D.faults disk.old) }
     {
         let message = record_of(self.alloc, &self.server, effect)?;
@@ -141,10 +141,10 @@ impl KeptServer {
         call: &Call3<'_>,
         cred: &AuthSys<'_>,
     ) -> Result<Answer3, StoreFault>
-        requires { Stands self.old (D.told disk.old) }
+        requires { StandsOnDisk self.old (D.told disk.old) }
         ensures answer { IfOk result (λ answer. answer ≡ answer_of (step_of self.old.server (plain_call call.now) (plain_credential cred.now))) }
-        ensures steps { StepsBy self.old.spent (step_of self.old.server (plain_call call.now) (plain_credential cred.now)).server self.old (D.told disk.old) result self.new (D.told disk.new) }
-        ensures stands { Stands self.new (D.told disk.new) }
+        ensures steps { StepsSafely self.old.spent (step_of self.old.server (plain_call call.now) (plain_credential cred.now)).server self.old (D.told disk.old) result self.new (D.told disk.new) }
+        ensures stands { StandsOnDisk self.new (D.told disk.new) }
         ensures faults { D.faults disk.new ≡ store_counted result (D.faults disk.old) }
     {
         if let Some(fault) = self.spent {
@@ -165,10 +165,10 @@ impl KeptServer {
         logging: Logging,
         out: &mut Outbox,
     ) -> Result<(), StoreFault>
-        requires { Stands self.old (D.told disk.old) }
+        requires { StandsOnDisk self.old (D.told disk.old) }
         ensures posts { Posts logging (outcome_of self.old.server message.now) from result out.old out.new }
-        ensures steps { StepsBy self.old.spent (outcome_of self.old.server message.now).server self.old (D.told disk.old) result self.new (D.told disk.new) }
-        ensures stands { Stands self.new (D.told disk.new) }
+        ensures steps { StepsSafely self.old.spent (outcome_of self.old.server message.now).server self.old (D.told disk.old) result self.new (D.told disk.new) }
+        ensures stands { StandsOnDisk self.new (D.told disk.new) }
         ensures faults { D.faults disk.new ≡ store_counted result (D.faults disk.old) }
     {
         if let Some(fault) = self.spent {
@@ -194,10 +194,10 @@ impl KeptServer {
         message: &[u8],
         out: &mut Outbox,
     ) -> Result<(), StoreFault>
-        requires { Stands self.old (D.told disk.old) }
+        requires { StandsOnDisk self.old (D.told disk.old) }
         ensures posts { Posts On (outcome_of self.old.server message.now) from result out.old out.new }
-        ensures steps { StepsBy self.old.spent (outcome_of self.old.server message.now).server self.old (D.told disk.old) result self.new (D.told disk.new) }
-        ensures stands { Stands self.new (D.told disk.new) }
+        ensures steps { StepsSafely self.old.spent (outcome_of self.old.server message.now).server self.old (D.told disk.old) result self.new (D.told disk.new) }
+        ensures stands { StandsOnDisk self.new (D.told disk.new) }
         ensures faults { D.faults disk.new ≡ store_counted result (D.faults disk.old) }
     {
         self.take_record(disk, from, message, Logging::On, out)
@@ -212,10 +212,10 @@ impl KeptServer {
         message: &[u8],
         out: &mut Outbox,
     ) -> Result<(), StoreFault>
-        requires { Stands self.old (D.told disk.old) }
+        requires { StandsOnDisk self.old (D.told disk.old) }
         ensures posts { Posts Off (outcome_of self.old.server message.now) from result out.old out.new }
-        ensures steps { StepsBy self.old.spent (outcome_of self.old.server message.now).server self.old (D.told disk.old) result self.new (D.told disk.new) }
-        ensures stands { Stands self.new (D.told disk.new) }
+        ensures steps { StepsSafely self.old.spent (outcome_of self.old.server message.now).server self.old (D.told disk.old) result self.new (D.told disk.new) }
+        ensures stands { StandsOnDisk self.new (D.told disk.new) }
         ensures faults { D.faults disk.new ≡ store_counted result (D.faults disk.old) }
     {
         self.take_record(disk, from, message, Logging::Off, out)

@@ -1,6 +1,6 @@
 //! Opening a log.
 
-ghost use Rattle.std.specs.Prelude.{◌≡◌, ◌-◌, ◌^◌, ◌<◌, ◌≤◌, Ok, Err, IfOk, length};
+ghost use Rattle.std.specs.Prelude.{◌≡◌, None, ◌-◌, ◌^◌, ◌<◌, ◌≤◌, Ok, Err, IfOk, length};
 ghost use Rattle.ds_store.specs.declared.fault.OpenCause.TheVariants as causes;
 ghost use Rattle.ds_store.specs.declared.opening.Reading.TheVariants.{More, Ended};
 ghost use Rattle.ds_store.specs.Opens.{LeavesOpened, LeavesRefused, OpensLog, StandsOpened, open_counted};
@@ -55,8 +55,7 @@ impl LogReader {
             return Err(OpenCause::BadLog(self.at));
         }
         match find_gate(disk, self.size, self.at, &mut self.body)? {
-            Found::Absent => Err(OpenCause::BadLog(self.at)),
-            Found::Broken => Err(OpenCause::BadLog(self.at)),
+            Found::Absent | Found::Broken => Err(OpenCause::BadLog(self.at)),
             Found::Closed => Ok(Reading::Ended),
             Found::Opens => {
                 if !self.said.apply(&self.body)? {
@@ -113,6 +112,7 @@ fn begin_boot<D: Disk>(
 ) -> Result<KeptServer, OpenCause>
     requires { end < 2 ^ 64 - 1 }
     ensures begins { BeginsBoot said result }
+    ensures fresh { IfOk result (λ k. k.spent ≡ None) }
     ensures crash { HasLasting said end (D.told disk.old) → LeavesSince (D.told disk.old) (D.told disk.new) (SaysBooting said) }
     ensures spent { result ≡ Err causes.BootsSpent → D.told disk.new ≡ D.told disk.old }
     ensures stands { HasLasting said end (D.told disk.old) → StandsOpened result (D.told disk.new) }
@@ -136,6 +136,7 @@ impl KeptServer {
     /// lawful. After `BadLog` and `BootsSpent` it has the same log, all of it synced.
     pub fn open<D: Disk>(alloc: Global, number: u32, disk: &mut D) -> Result<KeptServer, OpenCause>
         ensures opened { OpensLog number (D.told disk.old) result }
+        ensures fresh { IfOk result (λ k. k.spent ≡ None) }
         ensures crash { LeavesOpened number (D.told disk.old) (D.told disk.new) }
         ensures refused { LeavesRefused (D.told disk.old) result (D.told disk.new) }
         ensures stands { StandsOpened result (D.told disk.new) }

@@ -7,7 +7,7 @@ ghost use Rattle.ds_procedures.specs.Answer.{answer_of};
 ghost use Rattle.ds_procedures.specs.Steps.{step_of};
 ghost use Rattle.ds_files.specs.Receive.{outcome_of};
 ghost use Rattle.ds_files.specs.declared.logging.Logging.TheVariants.{On};
-ghost use Rattle.ds_store.specs.Kept.{Posts, Stands, StepsBy, store_counted};
+ghost use Rattle.ds_store.specs.Kept.{Posts, StandsOnDisk, StepsSafely, store_counted};
 ghost use Rattle.ds_store.specs.Stores.{OpensStore};
 
 use crate::fault::{OpenCause, StoreFault};
@@ -47,14 +47,14 @@ pub struct Store<D: Disk> {
 }
 
 impl<D: Disk> Model for Store<D> {
-    ghost use Rattle.ds_store.specs.Kept.{Stands};
+    ghost use Rattle.ds_store.specs.Kept.{StandsOnDisk};
     ghost use Rattle.ds_store.specs.Stores.{StoreState};
 
     ghost Value = { StoreState };
 
     ghost view = { λ s. record { kept = s.parts.server; told = D.told s.parts.disk; faults = D.faults s.parts.disk } };
 
-    ghost invariant = { λ s. Stands s.parts.server (D.told s.parts.disk) };
+    ghost invariant = { λ s. StandsOnDisk s.parts.server (D.told s.parts.disk) };
 }
 
 /// Does a call by a credential.
@@ -63,10 +63,10 @@ fn apply_to<D: Disk>(
     call: &Call3<'_>,
     cred: &AuthSys<'_>,
 ) -> Result<Answer3, StoreFault>
-    requires { Stands parts.old.server (D.told parts.old.disk) }
+    requires { StandsOnDisk parts.old.server (D.told parts.old.disk) }
     ensures answer { IfOk result (λ answer. answer ≡ answer_of (step_of parts.old.server.server (plain_call call.now) (plain_credential cred.now))) }
-    ensures steps { StepsBy parts.old.server.spent (step_of parts.old.server.server (plain_call call.now) (plain_credential cred.now)).server parts.old.server (D.told parts.old.disk) result parts.new.server (D.told parts.new.disk) }
-    ensures stands { Stands parts.new.server (D.told parts.new.disk) }
+    ensures steps { StepsSafely parts.old.server.spent (step_of parts.old.server.server (plain_call call.now) (plain_credential cred.now)).server parts.old.server (D.told parts.old.disk) result parts.new.server (D.told parts.new.disk) }
+    ensures stands { StandsOnDisk parts.new.server (D.told parts.new.disk) }
     ensures faults { D.faults parts.new.disk ≡ store_counted result (D.faults parts.old.disk) }
 {
     parts.server.apply(&mut parts.disk, call, cred)
@@ -79,10 +79,10 @@ fn take_record<D: Disk>(
     message: &[u8],
     out: &mut Outbox,
 ) -> Result<(), StoreFault>
-    requires { Stands parts.old.server (D.told parts.old.disk) }
+    requires { StandsOnDisk parts.old.server (D.told parts.old.disk) }
     ensures posts { Posts On (outcome_of parts.old.server.server message.now) from result out.old out.new }
-    ensures steps { StepsBy parts.old.server.spent (outcome_of parts.old.server.server message.now).server parts.old.server (D.told parts.old.disk) result parts.new.server (D.told parts.new.disk) }
-    ensures stands { Stands parts.new.server (D.told parts.new.disk) }
+    ensures steps { StepsSafely parts.old.server.spent (outcome_of parts.old.server.server message.now).server parts.old.server (D.told parts.old.disk) result parts.new.server (D.told parts.new.disk) }
+    ensures stands { StandsOnDisk parts.new.server (D.told parts.new.disk) }
     ensures faults { D.faults parts.new.disk ≡ store_counted result (D.faults parts.old.disk) }
 {
     parts.server.on_record(&mut parts.disk, from, message, out)
@@ -122,7 +122,7 @@ impl<D: Disk + Drop> Store<D> {
     /// Does a call by a credential, as `KeptServer::apply` does.
     pub fn apply(&mut self, call: &Call3<'_>, cred: &AuthSys<'_>) -> Result<Answer3, StoreFault>
         ensures answer { IfOk result (λ answer. answer ≡ answer_of (step_of self.old.kept.server (plain_call call.now) (plain_credential cred.now))) }
-        ensures steps { StepsBy self.old.kept.spent (step_of self.old.kept.server (plain_call call.now) (plain_credential cred.now)).server self.old.kept self.old.told result self.new.kept self.new.told }
+        ensures steps { StepsSafely self.old.kept.spent (step_of self.old.kept.server (plain_call call.now) (plain_credential cred.now)).server self.old.kept self.old.told result self.new.kept self.new.told }
         ensures faults { self.new.faults ≡ store_counted result self.old.faults }
     {
         apply_to(&mut self.parts, call, cred)
@@ -136,7 +136,7 @@ impl<D: Disk + Drop> Store<D> {
         out: &mut Outbox,
     ) -> Result<(), StoreFault>
         ensures posts { Posts On (outcome_of self.old.kept.server message.now) from result out.old out.new }
-        ensures steps { StepsBy self.old.kept.spent (outcome_of self.old.kept.server message.now).server self.old.kept self.old.told result self.new.kept self.new.told }
+        ensures steps { StepsSafely self.old.kept.spent (outcome_of self.old.kept.server message.now).server self.old.kept self.old.told result self.new.kept self.new.told }
         ensures faults { self.new.faults ≡ store_counted result self.old.faults }
     {
         take_record(&mut self.parts, from, message, out)

@@ -3,7 +3,7 @@ use Rattle.std.proofs.Common.{◌≡◌, ℕ, ◌+◌, ◌-◌, ◌≤◌, List,
 use Rattle.std.proofs.lemmas.List.{places, length-take, length-drop, take-take, take-append-drop, take-append-le, drop-take, drop-drop, drop_at}
 use Rattle.std.proofs.lemmas.Slice.{take-put_mid_below}
 use borrow.Rule.Slice.PartMut.{put_mid, post_of}
-use Rattle.store_disk.specs.Disks.{DiskLife, ReadsAt}
+use Rattle.store_disk.specs.Disks.{DiskLife, ReadsBytesAt}
 use Rattle.gate_log.specs.Heads.{HasFilled}
 
 take_plus : (n m : ℕ) (xs : List ℕ) → take (n + m) xs ≡ take n xs ++ take m (drop n xs)
@@ -32,11 +32,11 @@ module _ (piece new : List ℕ) (done : ℕ) (within : done ≤ length piece) (l
       (ap (take count) put_parts ∙ take-append-le count new (post_of done (length piece - done) piece) few ∙ found ∙ ap (take count) (sym (drop-drop done at bytes)))
       ∙ sym (take_plus done count (drop at bytes))
 
-  pub filled_on : (told later : Option DiskLife) (count at : ℕ) → later ≡ told → HasFilled told at piece done → count ≤ length new → ReadsAt told (at + done) new (Ok count)
+  pub filled_on : (told later : Option DiskLife) (count at : ℕ) → later ≡ told → HasFilled told at piece done → count ≤ length new → ReadsBytesAt told (at + done) new (Ok count)
       → HasFilled later at put (done + count)
   filled_on told later count at same filled few reads = subst (λ (o : Option DiskLife). HasFilled o at put (done + count)) (sym same) (here told filled reads)
     where
-      here : (o : Option DiskLife) → HasFilled o at piece done → ReadsAt o (at + done) new (Ok count) → HasFilled o at put (done + count)
+      here : (o : Option DiskLife) → HasFilled o at piece done → ReadsBytesAt o (at + done) new (Ok count) → HasFilled o at put (done + count)
       here None f r = tt
       here (Some life) f r =
           (front_on count at life.now.seen f.0 few r.same, omega (arith, f.1, r.within, length-drop at life.now.seen, length-drop (at + done) life.now.seen))

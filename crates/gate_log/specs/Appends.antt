@@ -38,7 +38,7 @@ abbrev pub LeavesReady : DiskLife → List ℕ → Type 0
 LeavesReady life left = IsImage life.now left ⊎ SameLog life.now.seen left
 
 -- All is synced then, it has a gate byte, so many bytes, and the same log.
-pub record IsReady (old new : DiskLife) (n : ℕ) : Type 0 where
+pub record IsMadeReady (old new : DiskLife) (n : ℕ) : Type 0 where
   pub synced : IsSynced new
   pub size : n ≡ length new.now.seen
   pub gated : 0 < n
@@ -48,7 +48,7 @@ pub record IsReady (old new : DiskLife) (n : ℕ) : Type 0 where
 
 abbrev pub MakesReady : Option DiskLife → Result ℕ Failed → Option DiskLife → Type 0
 MakesReady None result new = new ≡ None
-MakesReady (Some old) (Ok n) new = (life : DiskLife) × (new ≡ Some life) × IsReady old life n
+MakesReady (Some old) (Ok n) new = (life : DiskLife) × (new ≡ Some life) × IsMadeReady old life n
 MakesReady (Some old) (Err e) new = ⊤
 
 abbrev pub LeavesAsReady : Option DiskLife → Option DiskLife → Type 0

@@ -10,6 +10,6 @@ with_gates body = word (length body) ++ body ++ 0 ∷ []
 abbrev pub body_in : List ℕ → List ℕ
 body_in bytes = take (length bytes - 5) (drop 4 bytes)
 
-pub record HasBody (bytes : List ℕ) : Type 0 where
+pub record HasGatedBody (bytes : List ℕ) : Type 0 where
   pub bytes_are : bytes ≡ with_gates (body_in bytes)
   pub short : length (body_in bytes) < 2 ^ 32

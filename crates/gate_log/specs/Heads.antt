@@ -9,13 +9,13 @@ use Rattle.gate_log.specs.declared.reading.Head.{Head}
 use Rattle.gate_log.specs.declared.reading.Head.TheVariants as head
 
 -- n bytes from a place on stand at the front of the piece: as many as it has room for, or as stand there
-pub record FillsFrom (bytes : List ℕ) (at : ℕ) (piece : List ℕ) (n : ℕ) : Type 0 where
+pub record FillsPiece (bytes : List ℕ) (at : ℕ) (piece : List ℕ) (n : ℕ) : Type 0 where
   pub same : take n piece ≡ take n (drop at bytes)
   pub most : n ≡ min (length piece) (length (drop at bytes))
 
 abbrev pub ReadsFront : Option DiskLife → ℕ → List ℕ → Result ℕ Failed → Type 0
 ReadsFront None at piece result = ⊤
-ReadsFront (Some life) at piece (Ok n) = FillsFrom life.now.seen at piece n
+ReadsFront (Some life) at piece (Ok n) = FillsPiece life.now.seen at piece n
 ReadsFront (Some life) at piece (Err e) = ⊤
 
 -- so many bytes from a place on stand at the front of the piece already, where the disk tells

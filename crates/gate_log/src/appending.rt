@@ -36,11 +36,11 @@ impl Model for Gated {
 
     ghost Value = { List ℕ };
 
-    ghost use Rattle.gate_log.specs.Bodies.{HasBody, body_in};
+    ghost use Rattle.gate_log.specs.Bodies.{HasGatedBody, body_in};
 
     ghost view = { λ gated. body_in gated.bytes.items };
 
-    ghost invariant = { λ gated. HasBody gated.bytes.items };
+    ghost invariant = { λ gated. HasGatedBody gated.bytes.items };
 }
 
 impl Gated {

@@ -4,7 +4,7 @@ use Rattle.std.proofs.lemmas.Grind.{fold-append}
 use Rattle.std.proofs.lemmas.List.{length-take, length-replicate}
 use Rattle.cluster_model.specs.Content.{overlay}
 use Rattle.cluster_model.proofs.Placing.{take-drop-overlay}
-use Rattle.store_disk.specs.Disks.{DiskLife, Torn, Cut, IsImage, new_life}
+use Rattle.store_disk.specs.Disks.{DiskLife, Torn, TornLength, IsImage, new_life}
 use Rattle.store_disk.specs.MemoryDisks.{after_call, life_after}
 use Rattle.store_disk.specs.Crashes.{left_by, torn_piece, torn_cut, seen_behind, left_behind, Tracks}
 use Rattle.store_disk.specs.declared.crash.Tear.{Tear}
@@ -23,7 +23,7 @@ short_piece AllOnes count piece h = omega (arith, length-replicate {A = ℕ} cou
 tears_write : (tear : Tear) (at count : ℕ) (left piece : List ℕ) → length piece ≤ count → Torn at count left (overlay left at (torn_piece tear count piece))
 tears_write tear at count left piece h = torn_within left at (torn_piece tear count piece) count (short_piece tear count piece h)
 
-tears_cut : (tear : Tear) (to : ℕ) (left : List ℕ) → Cut to left (torn_cut tear left to)
+tears_cut : (tear : Tear) (to : ℕ) (left : List ℕ) → TornLength to left (torn_cut tear left to)
 tears_cut AsBefore to left = cut_none left to
 tears_cut AsWritten to left = cut_whole left to
 tears_cut FirstHalf to left = cut_whole left to

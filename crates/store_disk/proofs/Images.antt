@@ -3,7 +3,7 @@ use Rattle.std.proofs.Common.{◌≡◌, ℕ, List, length, Option, Some, None, 
 use Rattle.cluster_model.specs.Content.{overlay}
 use Rattle.rpc_record.specs.declared.stream.Failed.{Failed}
 use Rattle.rpc_record.specs.declared.stream.Failed.TheVariants.{Fault, NoMemory}
-use Rattle.store_disk.specs.Disks.{DiskState, DiskLife, AllImages, LeavesSince, Torn, Cut, goes_on, synced_state, with_write, with_length, resized, WritesAt, CutsTo, Syncs}
+use Rattle.store_disk.specs.Disks.{DiskState, DiskLife, AllImages, LeavesSince, Torn, TornLength, goes_on, synced_state, with_write, with_length, resized, WritesAt, CutsTo, Syncs}
 use Rattle.store_disk.proofs.Placed.{torn_whole, torn_none, cut_whole, cut_none}
 use Rattle.store_disk.proofs.Leaving.{Told, leaves_none, leaves_step, since_both, since_new}
 
@@ -26,10 +26,10 @@ write_images P bytes at count seen h torn left (inl is) = subst P (sym is) (h se
 write_images P bytes at count seen h torn left (inr was) = h left (subst (λ (before : List ℕ). Torn at count before left) was.1 was.2)
 
 -- one cut of what was synced
-pub cut_images : (P : List ℕ → Type 0) (bytes : List ℕ) (to : ℕ) (seen : List ℕ) → ((left : List ℕ) → Cut to bytes left → P left) → Cut to bytes seen
+pub cut_images : (P : List ℕ → Type 0) (bytes : List ℕ) (to : ℕ) (seen : List ℕ) → ((left : List ℕ) → TornLength to bytes left → P left) → TornLength to bytes seen
     → AllImages P (with_length (synced_state bytes) to seen)
 cut_images P bytes to seen h cut left (inl is) = subst P (sym is) (h seen cut)
-cut_images P bytes to seen h cut left (inr was) = h left (subst (λ (before : List ℕ). Cut to before left) was.1 was.2)
+cut_images P bytes to seen h cut left (inr was) = h left (subst (λ (before : List ℕ). TornLength to before left) was.1 was.2)
 
 -- ---- a write to what was synced
 
@@ -75,9 +75,9 @@ write_now at piece bytes (Some life) x new can is =
 -- these bytes were synced, and whatever a crash makes of a cut of them has P
 pub record CanCut (P : List ℕ → Type 0) (to : ℕ) (bytes : List ℕ) (life : DiskLife) : Type 0 where
   pub synced : life.now ≡ synced_state bytes
-  pub cut : (left : List ℕ) → Cut to bytes left → P left
+  pub cut : (left : List ℕ) → TornLength to bytes left → P left
 
-cut_step : (P : List ℕ → Type 0) (to : ℕ) (bytes seen : List ℕ) (life : DiskLife) → CanCut P to bytes life → Cut to bytes seen
+cut_step : (P : List ℕ → Type 0) (to : ℕ) (bytes seen : List ℕ) (life : DiskLife) → CanCut P to bytes life → TornLength to bytes seen
     → AllImages P life.now × AllImages P (with_length life.now to seen)
 cut_step P to bytes seen life can cut = (
   images_of P life.now bytes can.synced (can.cut bytes (cut_none bytes to)),
@@ -88,11 +88,11 @@ pub cut_leaves : (P : List ℕ → Type 0) (to : ℕ) (bytes : List ℕ) (old : 
     → Told old (CanCut P to bytes) → CutsTo old to result new → LeavesSince old new P
 cut_leaves P to bytes None result new can is = is
 cut_leaves P to bytes (Some life) (Ok x) new can is =
-    let cut : Cut to bytes (resized life.now.seen to) = subst (λ (old : List ℕ). Cut to bytes (resized old to)) (sym (seen_of life bytes can.synced)) (cut_whole bytes to) in
+    let cut : TornLength to bytes (resized life.now.seen to) = subst (λ (old : List ℕ). TornLength to bytes (resized old to)) (sym (seen_of life bytes can.synced)) (cut_whole bytes to) in
     let both = cut_step P to bytes (resized life.now.seen to) life can cut in
     (goes_on life (with_length life.now to (resized life.now.seen to)), is, leaves_step P life _ both.0 both.1)
 cut_leaves P to bytes (Some life) (Err Fault) new can is =
-    let cut : Cut to bytes is.0 = subst (λ (old : List ℕ). Cut to old is.0) (seen_of life bytes can.synced) is.1 in
+    let cut : TornLength to bytes is.0 = subst (λ (old : List ℕ). TornLength to old is.0) (seen_of life bytes can.synced) is.1 in
     let both = cut_step P to bytes is.0 life can cut in
     (goes_on life (with_length life.now to is.0), is.2, leaves_step P life _ both.0 both.1)
 cut_leaves P to bytes (Some life) (Err NoMemory) new can is =

@@ -2,7 +2,7 @@
 use Rattle.std.proofs.Common.{◌≡◌, ℕ, List, [], ◌∷◌, ◌++◌, Option, Some, None, refl, sym, ap, subst, ◌∙◌}
 use Rattle.std.specs.List.{AllByRecursion}
 use Rattle.std.proofs.lemmas.List.{append_assoc}
-use Rattle.store_disk.specs.Disks.{DiskState, DiskLife, AllImages, Leaves, LeavesSince, LeavesNow, goes_on}
+use Rattle.store_disk.specs.Disks.{DiskState, DiskLife, AllImages, LeavesBetween, LeavesSince, LeavesNow, goes_on}
 
 abbrev Images : (List ℕ → Type 0) → List DiskState → Type 0
 Images P states = AllByRecursion (AllImages P) states
@@ -24,15 +24,15 @@ weaker_all P Q w [] h = tt
 weaker_all P Q w (s ∷ states) h = ((λ bytes image. w bytes (h.0 bytes image)), weaker_all P Q w states h.1)
 
 -- nothing was done
-pub leaves_none : (P : List ℕ → Type 0) (life : DiskLife) → AllImages P life.now → Leaves P life life
+pub leaves_none : (P : List ℕ → Type 0) (life : DiskLife) → AllImages P life.now → LeavesBetween P life life
 leaves_none P life h = record { since = []; goes = refl; images = (h, tt) }
 
 -- one change or one sync
-pub leaves_step : (P : List ℕ → Type 0) (life : DiskLife) (s : DiskState) → AllImages P life.now → AllImages P s → Leaves P life (goes_on life s)
+pub leaves_step : (P : List ℕ → Type 0) (life : DiskLife) (s : DiskState) → AllImages P life.now → AllImages P s → LeavesBetween P life (goes_on life s)
 leaves_step P life s h g = record { since = s ∷ []; goes = refl; images = (g, (h, tt)) }
 
 -- one after the other
-pub leaves_both : (P : List ℕ → Type 0) (a b c : DiskLife) → Leaves P a b → Leaves P b c → Leaves P a c
+pub leaves_both : (P : List ℕ → Type 0) (a b c : DiskLife) → LeavesBetween P a b → LeavesBetween P b c → LeavesBetween P a c
 leaves_both P a b c h g = record {
   since = g.since ++ h.since;
   goes = g.goes ∙ ap (λ (states : List DiskState). g.since ++ states) h.goes ∙ sym (append_assoc g.since h.since (a.now ∷ a.past));
@@ -40,11 +40,11 @@ leaves_both P a b c h g = record {
 }
 
 -- less is said of what crashes leave
-pub leaves_weaker : (P Q : List ℕ → Type 0) (a b : DiskLife) → ((bytes : List ℕ) → P bytes → Q bytes) → Leaves P a b → Leaves Q a b
+pub leaves_weaker : (P Q : List ℕ → Type 0) (a b : DiskLife) → ((bytes : List ℕ) → P bytes → Q bytes) → LeavesBetween P a b → LeavesBetween Q a b
 leaves_weaker P Q a b w h = record { since = h.since; goes = h.goes; images = weaker_all P Q w (h.since ++ a.now ∷ []) h.images }
 
 -- what a crash left at the first moment
-pub leaves_old : (P : List ℕ → Type 0) (a b : DiskLife) → Leaves P a b → AllImages P a.now
+pub leaves_old : (P : List ℕ → Type 0) (a b : DiskLife) → LeavesBetween P a b → AllImages P a.now
 leaves_old P a b h = last P h.since a.now h.images
 
 newest : (P : List ℕ → Type 0) (states : List DiskState) (now : DiskState) (past earlier : List DiskState) (old : DiskState) → now ∷ past ≡ states ++ old ∷ earlier → Images P (states ++ old ∷ []) → AllImages P now
@@ -52,7 +52,7 @@ newest P [] now past earlier old is h = let same : old ≡ now = cc (is) in subs
 newest P (s ∷ states) now past earlier old is h = let same : s ≡ now = cc (is) in subst (AllImages P) same h.0
 
 -- what a crash leaves at the last moment
-pub leaves_new : (P : List ℕ → Type 0) (a b : DiskLife) → Leaves P a b → AllImages P b.now
+pub leaves_new : (P : List ℕ → Type 0) (a b : DiskLife) → LeavesBetween P a b → AllImages P b.now
 leaves_new P a b h = newest P h.since b.now b.past a.past a.now h.goes h.images
 
 -- ---- the same of a disk that may tell nothing

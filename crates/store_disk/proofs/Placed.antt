@@ -3,7 +3,7 @@ use Rattle.std.proofs.Common.{◌≡◌, ℕ, ◌+◌, ◌-◌, ◌<◌, ◌≤�
 use Rattle.std.proofs.lemmas.List.{same_lists, places, take_min, length-take, length-append, length-replicate}
 use Rattle.cluster_model.specs.Content.{overlay}
 use Rattle.cluster_model.proofs.Placing.{length-overlay}
-use Rattle.store_disk.specs.Disks.{Torn, Cut, resized}
+use Rattle.store_disk.specs.Disks.{Torn, TornLength, resized}
 
 -- bytes that are put where zeros were added for them
 pub overlay_grown : (xs : List ℕ) (at : ℕ) (bs : List ℕ) → 0 < length bs → overlay (xs ++ replicate (at + length bs - length xs) 0) at bs ≡ overlay xs at bs
@@ -34,7 +34,7 @@ torn_whole old at bs = torn_within old at bs (length bs) (omega arith)
 
 -- ---- what a crash may make of a cut
 
-pub cut_whole : (old : List ℕ) (to : ℕ) → Cut to old (resized old to)
+pub cut_whole : (old : List ℕ) (to : ℕ) → TornLength to old (resized old to)
 cut_whole old to =
     let long : length (resized old to) ≡ to = simp (length-take, length-append, length-replicate) (omega arith) in
     record {
@@ -43,5 +43,5 @@ cut_whole old to =
       below = same_lists _ _ (search (rules, places)) (λ k d l. grind (arith, places));
     }
 
-pub cut_none : (old : List ℕ) (to : ℕ) → Cut to old old
+pub cut_none : (old : List ℕ) (to : ℕ) → TornLength to old old
 cut_none old to = record { no_shorter = omega arith; no_longer = omega arith; below = same_lists _ _ (search (rules, places)) (λ k d l. grind (arith, places)) }

@@ -18,7 +18,7 @@ pub record Torn (at count : ℕ) (old new : List ℕ) : Type 0 where
   pub behind : drop (at + count) new ≡ drop (at + count) old
 
 -- of a change of the length: any length from the one to the other, and what stands below both as it was
-pub record Cut (to : ℕ) (old new : List ℕ) : Type 0 where
+pub record TornLength (to : ℕ) (old new : List ℕ) : Type 0 where
   pub no_shorter : min (length old) to ≤ length new
   pub no_longer : length new ≤ max (length old) to
   pub below : take (min (length old) to) new ≡ take to old
@@ -29,7 +29,7 @@ pub data Change : Type 0 where
 
 abbrev pub Tears : Change → List ℕ → List ℕ → Type 0
 Tears (Wrote at count) old new = Torn at count old new
-Tears (Resized to) old new = Cut to old new
+Tears (Resized to) old new = TornLength to old new
 
 -- ---- a disk as it stands
 
@@ -70,7 +70,7 @@ abbrev pub new_life : List ℕ → DiskLife
 new_life bytes = record { now = synced_state bytes; past = [] }
 
 -- Whenever a crash came from the one moment to the other, it left bytes with P.
-pub record Leaves (P : List ℕ → Type 0) (old new : DiskLife) : Type 0 where
+pub record LeavesBetween (P : List ℕ → Type 0) (old new : DiskLife) : Type 0 where
   pub since : List DiskState
   pub goes : new.now ∷ new.past ≡ since ++ old.now ∷ old.past
   pub images : AllByRecursion (AllImages P) (since ++ old.now ∷ [])
@@ -78,7 +78,7 @@ pub record Leaves (P : List ℕ → Type 0) (old new : DiskLife) : Type 0 where
 -- the same of a disk that may tell nothing
 abbrev pub LeavesSince : Option DiskLife → Option DiskLife → (List ℕ → Type 0) → Type 0
 LeavesSince None new P = new ≡ None
-LeavesSince (Some old) new P = (life : DiskLife) × (new ≡ Some life) × Leaves P old life
+LeavesSince (Some old) new P = (life : DiskLife) × (new ≡ Some life) × LeavesBetween P old life
 
 -- a crash now leaves bytes with P
 abbrev pub LeavesNow : Option DiskLife → (List ℕ → Type 0) → Type 0
@@ -99,10 +99,10 @@ pub record FindsAt (bytes : List ℕ) (at : ℕ) (piece : List ℕ) (n : ℕ) : 
   pub same : take n piece ≡ take n (drop at bytes)
   pub at_end : n ≡ 0 → 0 < length piece → drop at bytes ≡ []
 
-abbrev pub ReadsAt : Option DiskLife → ℕ → List ℕ → Result ℕ Failed → Type 0
-ReadsAt None at piece result = ⊤
-ReadsAt (Some life) at piece (Ok n) = FindsAt life.now.seen at piece n
-ReadsAt (Some life) at piece (Err e) = ⊤
+abbrev pub ReadsBytesAt : Option DiskLife → ℕ → List ℕ → Result ℕ Failed → Type 0
+ReadsBytesAt None at piece result = ⊤
+ReadsBytesAt (Some life) at piece (Ok n) = FindsAt life.now.seen at piece n
+ReadsBytesAt (Some life) at piece (Err e) = ⊤
 
 -- behind a write of these bytes, of which a read gives this
 abbrev pub with_write : DiskState → ℕ → ℕ → List ℕ → DiskState
@@ -126,7 +126,7 @@ with_length s to seen = record { seen = seen; synced = s.synced; changes = Resiz
 abbrev pub CutsTo : Option DiskLife → ℕ → Result (Unit {0}) Failed → Option DiskLife → Type 0
 CutsTo None to result new = new ≡ None
 CutsTo (Some life) to (Ok x) new = new ≡ Some (goes_on life (with_length life.now to (resized life.now.seen to)))
-CutsTo (Some life) to (Err Fault) new = (left : List ℕ) × Cut to life.now.seen left × (new ≡ Some (goes_on life (with_length life.now to left)))
+CutsTo (Some life) to (Err Fault) new = (left : List ℕ) × TornLength to life.now.seen left × (new ≡ Some (goes_on life (with_length life.now to left)))
 CutsTo (Some life) to (Err NoMemory) new = new ≡ Some life
 
 -- A sync takes what a read gives. One that failed took nothing that counts.

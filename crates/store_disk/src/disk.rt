@@ -2,7 +2,7 @@
 
 ghost use Rattle.std.specs.Prelude.{◌≡◌, ℕ, ◌+◌, ◌^◌, ◌<◌, ◌≤◌, Option, length, IfOk, OnOk};
 ghost use Rattle.rpc_record.specs.Stream.{counted};
-ghost use Rattle.store_disk.specs.Disks.{CutsTo, DiskLife, Measures, ReadsAt, Syncs, WritesAt};
+ghost use Rattle.store_disk.specs.Disks.{CutsTo, DiskLife, Measures, ReadsBytesAt, Syncs, WritesAt};
 
 use rpc_record::Failed;
 
@@ -25,7 +25,7 @@ pub trait Disk {
     /// or fewer, and 0 only where the disk ends at or before `at`, or for an empty piece. `Failed::Fault` is counted.
     fn read(&mut self, at: u64, piece: &mut [u8]) -> Result<usize, Failed>
         ensures within { IfOk result (λ n. n ≤ length piece.new) }
-        ensures told { ReadsAt (told self.old) at piece.new result }
+        ensures told { ReadsBytesAt (told self.old) at piece.new result }
         ensures same { told self.new ≡ told self.old }
         ensures faults { faults self.new ≡ counted result (faults self.old) };
 

@@ -2,7 +2,7 @@
 
 ghost use Rattle.std.specs.Prelude.{◌↔◌, ◌≡◌, ◌+◌, ◌-◌, ◌^◌, ◌<◌, ◌≤◌, min, length, None, Some, Ok, Err, IfOk, OnOk, IsTrue, MatchResult, drop, if◌then◌else◌};
 ghost use Rattle.rpc_record.specs.Stream.{counted};
-ghost use Rattle.store_disk.specs.Disks.{CutsTo, IsImage, Measures, ReadsAt, Syncs, WritesAt, new_life, with_length, with_write};
+ghost use Rattle.store_disk.specs.Disks.{CutsTo, IsImage, Measures, ReadsBytesAt, Syncs, WritesAt, new_life, with_length, with_write};
 ghost use Rattle.store_disk.specs.Crashes.{crashed, tear_of};
 ghost use Rattle.store_disk.specs.MemoryDisks.{FailsBy, LeavesBytes, LosesChange, MakesCall, is_to_fail};
 
@@ -135,7 +135,7 @@ impl Disk for MemoryDisk {
     /// Fails where it is to fail, and leaves the piece then.
     fn read(&mut self, at: u64, piece: &mut [u8]) -> Result<usize, Failed>
         ensures within { IfOk result (λ n. n ≤ length piece.new) }
-        ensures told { ReadsAt (Some self.old.life) at piece.new result }
+        ensures told { ReadsBytesAt (Some self.old.life) at piece.new result }
         ensures same { Some self.new.life ≡ Some self.old.life }
         ensures faults { self.new.faults ≡ counted result self.old.faults }
         ensures exact { result ≡ (if is_to_fail self.old.failing self.old.stop self.old.calls then Err Failed.Fault else Ok (min (length piece.old) (length self.old.life.now.seen - at))) }

@@ -2,7 +2,7 @@
 
 ghost use Rattle.std.specs.Prelude.{⊤, ◌≡◌, ◌+◌, ◌^◌, ◌<◌, ◌≤◌, None, Ok, IfOk, OnOk, length};
 ghost use Rattle.rpc_record.specs.Stream.{counted};
-ghost use Rattle.store_disk.specs.Disks.{CutsTo, Measures, ReadsAt, Syncs, WritesAt};
+ghost use Rattle.store_disk.specs.Disks.{CutsTo, Measures, ReadsBytesAt, Syncs, WritesAt};
 
 use crate::disk::Disk;
 use rpc_record::Failed;
@@ -28,7 +28,7 @@ impl Disk for NoDisk {
 
     fn read(&mut self, at: u64, piece: &mut [u8]) -> Result<usize, Failed>
         ensures within { IfOk result (λ n. n ≤ length piece.new) }
-        ensures told { ReadsAt None at piece.new result }
+        ensures told { ReadsBytesAt None at piece.new result }
         ensures same { ⊤ }
         ensures faults { 0 ≡ counted result 0 }
         ensures sure { result ≡ Ok 0 }

@@ -2,7 +2,7 @@
 
 ghost use Rattle.std.specs.Prelude.{◌∷◌, ◌≡◌, ◌≢◌, ◌+◌, ◌-◌, ◌^◌, ◌<◌, ◌≤◌, min, length, drop, Some, Ok, Err, IfOk, OnOk, OnErr};
 ghost use Rattle.rpc_record.specs.Stream.{counted};
-ghost use Rattle.store_disk.specs.Disks.{CutsTo, IsImage, Measures, ReadsAt, Syncs, WritesAt, goes_on, new_life, resized, synced_state, with_length, with_write};
+ghost use Rattle.store_disk.specs.Disks.{CutsTo, IsImage, Measures, ReadsBytesAt, Syncs, WritesAt, goes_on, new_life, resized, synced_state, with_length, with_write};
 ghost use Rattle.store_disk.specs.Crashes.{left_by};
 ghost use Rattle.cluster_model.specs.Content.{overlay};
 
@@ -137,7 +137,7 @@ impl Disk for SureDisk {
     /// Gives as many bytes as the piece has room for or stand there, and leaves the rest of the piece as it was.
     fn read(&mut self, at: u64, piece: &mut [u8]) -> Result<usize, Failed>
         ensures within { IfOk result (λ n. n ≤ length piece.new) }
-        ensures told { ReadsAt (Some self.old) at piece.new result }
+        ensures told { ReadsBytesAt (Some self.old) at piece.new result }
         ensures same { Some self.new ≡ Some self.old }
         ensures faults { 0 ≡ counted result 0 }
         ensures sure { result ≡ Ok (min (length piece.old) (length self.old.now.seen - at)) }

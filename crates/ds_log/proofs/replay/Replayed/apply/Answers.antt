@@ -3,7 +3,7 @@ use Rattle.std.specs.Prelude.{IfOk, OnErr}
 use Rattle.cluster_model.specs.Server.{ServerState}
 use Rattle.ds_procedures.specs.Superblocks.{server_of}
 use Rattle.ds_log.specs.Bodies.{Logged}
-use Rattle.ds_log.specs.Applies.{Applies, TakesMemory}
+use Rattle.ds_log.specs.Applies.{Applies, NeedsMemory}
 use Rattle.ds_log.proofs.Reread.{read_applies, read_is}
 use Rattle.ds_log.proofs.replay.Replayed.apply.Goals as goal
 
@@ -14,4 +14,4 @@ returns-clause-applied c =
     subst (λ (s : ServerState). IfOk c.apply_body.result (λ fits. Applies s c.args.body.now fits new)) c.self.view_is (read_applies old new c.args.body.now c.in-Ok.body c.apply_body.result c.in-Ok.ensures c.apply_body.ensures.came)
 
 pub returns-clause-wanted : goal.returns-clause-wanted
-returns-clause-wanted c = subst (λ (o : Option Logged). OnErr c.apply_body.result (TakesMemory o)) (sym (read_is c.args.body.now c.in-Ok.body c.in-Ok.ensures)) c.apply_body.ensures.wanted
+returns-clause-wanted c = subst (λ (o : Option Logged). OnErr c.apply_body.result (NeedsMemory o)) (sym (read_is c.args.body.now c.in-Ok.body c.in-Ok.ensures)) c.apply_body.ensures.wanted
