@@ -1,22 +1,22 @@
 -- How serving goes on from turn to turn.
-use Rattle.std.proofs.Common.{◌≡◌, inl, inr, ℕ, ◌+◌, ◌-◌, ◌<◌, ◌≤◌, true, false, Bool, ◌⊎◌, List, [], ◌∷◌, ◌++◌, length, map, take, Option, Some, None, Result, Ok, Err, refl, sym, ap, subst, ◌∙◌, arith, eqb, append_assoc, append-nil}
+use Rattle.std.proofs.Common.{◌≡◌, inl, inr, ℕ, ◌+◌, ◌-◌, ◌<◌, ◌≤◌, true, false, Bool, List, [], ◌∷◌, ◌++◌, length, map, take, Option, Some, None, Result, Ok, Err, refl, sym, ap, subst, ◌∙◌, arith, append_assoc, append-nil}
 use Rattle.std.specs.Prelude.{IsErr, MatchOption}
 use Rattle.std.proofs.lemmas.List.{take_at, length-append}
-use Rattle.std.proofs.lemmas.Bool.{eq-eqb, ne_eqb}
-use Rattle.ds_files.specs.Records.{sent_to}
 use Rattle.ff_xdr.specs.declared.error.NoMemory.{NoMemory}
 use Rattle.rpc_record.specs.declared.stream.Failed.{Failed}
 use Rattle.rpc_record.specs.declared.stream.Failed.TheVariants as failed
-use Rattle.rpc_record.specs.Stream.{one_more, counted}
+use Rattle.rpc_record.specs.Stream.{counted}
 use Rattle.cluster_model.specs.declared.ids.NodeId.{NodeId}
 use Rattle.cluster_model.specs.declared.answer.FailCause.{FailCause}
 use Rattle.node_link.specs.declared.link.Arrival.{Arrival}
 use Rattle.node_link.specs.Clock.{GivesMoment}
 use Rattle.node_link.specs.Link.{Gives, HandsOver}
 use Rattle.ff_node.specs.declared.end.NodeEnd.{NodeEnd}
-use Rattle.ff_node.specs.declared.end.NodeEnd.TheVariants as ends
-use Rattle.ff_node.specs.Nodes.{NodeEvent, NodeRule, SentRecords, state_after, sends_over, text_over, gives_none}
-use Rattle.ff_node.specs.Serve.{Beside, beside, behind, TookBeginning, TakesFront, GivesMoments, is_closed, Served, NodeServes, Stops, BreaksOff, FindsClosed, TakesTurn, SendsAll, FailsIn, end_of_outcome, last_end, end_of_link, end_of_event, link_faults, sink_faults}
+use Rattle.ff_node.specs.Nodes.{NodeEvent, NodeRule, SentRecords, sends_over, text_over}
+use Rattle.store_disk.specs.Disks.{DiskLife}
+use Rattle.ff_node.specs.declared.fault.EventFault.{EventFault}
+use Rattle.ff_node.specs.declared.fault.EventFault.TheVariants as fault
+use Rattle.ff_node.specs.Serve.{Beside, beside, behind, TookBeginning, TakesFront, GivesMoments, is_closed, Served, NodeServesOn, Stops, FindsClosed, TakesTurn, SendsAll, FailsIn, broken_at, end_of_outcome, last_end, end_of_link, end_of_event, link_faults, sink_faults, disk_faults, sink_counted, disk_counted}
 
 -- ---- what is sent
 
@@ -53,12 +53,6 @@ stopped s0 s s' records yielded rest item (Err e) err all before same = (
   omega (arith, ap length all, length-append yielded (item ∷ rest)),
   same ∙ before ∙ ap (behind s0) (sym (ap (take (length yielded)) (sym all) ∙ take_at yielded (item ∷ rest) (length yielded) refl)),
 )
-
--- a reply is one record more
-pub none_given : (old : SentRecords) (from : NodeId) (reply : Option (List ℕ)) (new : SentRecords) (before after : ℕ) → before ≡ length old → after ≡ length new → new ≡ old ++ sent_to from reply
-    → eqb after before ≡ gives_none reply
-none_given old from None new before after was is sends = eq-eqb after before (omega (arith, was, is, ap length sends, length-append old []))
-none_given old from (Some reply) new before after was is sends = ne_eqb after before (λ same. absurd (omega (arith, same, was, is, ap length sends, length-append old ((from, reply) ∷ []))))
 
 -- ---- what is beside a node
 
@@ -114,30 +108,31 @@ module _ {S : Type 0} (rule : NodeRule S) where
     text = sym (no_more b.held);
   }
 
-  pub stops_now : (left : ℕ) (s : S) (b : Beside) (end : NodeEnd) (s' : S) (b' : Beside) → Stops rule left s b end s' b' → NodeServes rule s left b end s' b'
-  unfolding served_none
-  stops_now left s b end s' b' stops = record { mid = s; beside_mid = b; served = served_none s b; left = left; turns_are = omega arith; stops = stops }
+  module _ (leaves : S → Option NodeEvent → Option DiskLife → Type 0) (disk : Option DiskLife) where
+    pub stops_now : (left : ℕ) (s : S) (b : Beside) (end : NodeEnd) (s' : S) (b' : Beside) (stops : Stops rule left s b end s' b') → leaves s (broken_at stops) disk → NodeServesOn leaves rule s left b end s' b' disk
+    unfolding served_none
+    stops_now left s b end s' b' stops has = record { mid = s; beside_mid = b; served = served_none s b; left = left; turns_are = omega arith; stops = stops; stands = has }
 
-  pub turn_ended : (s : S) (b : Beside) (end : NodeEnd) (r : Result (Unit {0}) FailCause) → rule.outcome s ≡ Some r → end ≡ end_of_outcome r → TakesTurn rule s b (Some end) s b
-  turn_ended s b end r ended is = λ turns. stops_now (turns + 1) s b end s b (inl (r, ended, is, (refl, refl)))
+    pub turn_ended : (s : S) (b : Beside) (end : NodeEnd) (r : Result (Unit {0}) FailCause) → rule.outcome s ≡ Some r → end ≡ end_of_outcome r → leaves s None disk → TakesTurn leaves rule s b (Some end) s b disk
+    turn_ended s b end r ended is has = λ turns. stops_now (turns + 1) s b end s b (inl (r, ended, is, (refl, refl))) has
 
-  pub turn_failed : (s : S) (b b' : Beside) (end : NodeEnd) (e : Failed) → rule.outcome s ≡ None → end ≡ end_of_link e → Gives b.coming (Err e) b'.coming → b' ≡ record b { coming = b'.coming } → TakesTurn rule s b (Some end) s b'
-  turn_failed s b b' end e goes is gives rest = λ turns.
-      let same : b' ≡ b = rest ∙ ap (λ c. record b { coming = c }) (gives_err b.coming b'.coming e gives) in
-      stops_now (turns + 1) s b end s b' (inr (goes, inr (omega arith, inl (e, is, (refl, same)))))
+    pub turn_failed : (s : S) (b b' : Beside) (end : NodeEnd) (e : Failed) → rule.outcome s ≡ None → end ≡ end_of_link e → Gives b.coming (Err e) b'.coming → b' ≡ record b { coming = b'.coming } → leaves s None disk → TakesTurn leaves rule s b (Some end) s b' disk
+    turn_failed s b b' end e goes is gives rest has = λ turns.
+        let same : b' ≡ b = rest ∙ ap (λ c. record b { coming = c }) (gives_err b.coming b'.coming e gives) in
+        stops_now (turns + 1) s b end s b' (inr (goes, inr (omega arith, inl (e, is, (refl, same))))) has
 
-  pub turn_closed : (s : S) (b b' : Beside) (end : NodeEnd) (a : Arrival) → rule.outcome s ≡ None → end ≡ last_end rule.is_server → is_closed a ≡ true → Gives b.coming (Ok a) b'.coming → b' ≡ record b { coming = b'.coming }
-      → TakesTurn rule s b (Some end) s b'
-  turn_closed s b b' end a goes is closed gives rest = λ turns.
-      stops_now (turns + 1) s b end s b' (inr (goes, inl (is, inr (omega arith, (refl, finds_closed a b.coming b'.coming closed gives, rest)))))
+    pub turn_closed : (s : S) (b b' : Beside) (end : NodeEnd) (a : Arrival) → rule.outcome s ≡ None → end ≡ last_end rule.is_server → is_closed a ≡ true → Gives b.coming (Ok a) b'.coming → b' ≡ record b { coming = b'.coming }
+        → leaves s None disk → TakesTurn leaves rule s b (Some end) s b' disk
+    turn_closed s b b' end a goes is closed gives rest has = λ turns.
+        stops_now (turns + 1) s b end s b' (inr (goes, inl (is, inr (omega arith, (refl, finds_closed a b.coming b'.coming closed gives, rest))))) has
 
   -- ---- an event was taken
 
-  module _ (e : NodeEvent) (s : S) (b b' : Beside) (goes : rule.outcome s ≡ None) (live : is_closed e.arrival ≡ false) (gives : Gives b.coming (Ok e.arrival) b'.coming)
+  module _ (leaves : S → Option NodeEvent → Option DiskLife → Type 0) (e : NodeEvent) (s : S) (b b' : Beside) (goes : rule.outcome s ≡ None) (live : is_closed e.arrival ≡ false) (gives : Gives b.coming (Ok e.arrival) b'.coming)
       (clocked : Clocked b.moments b.moment e.moment b'.moments b'.moment) where
-    pub turn_broken : (s' : S) (end : NodeEnd) (error : Failed) → end ≡ end_of_event error → FailsIn rule s e b.sent b.held error b'.sent b'.held → TakesTurn rule s b (Some end) s' b'
-    turn_broken s' end error is fails = λ turns.
-        stops_now (turns + 1) s b end s' b' (inr (
+    pub turn_broken : (s' : S) (end : NodeEnd) (disk : Option DiskLife) (error : EventFault) → end ≡ end_of_event error → FailsIn rule s e b.sent b.held error b'.sent b'.held → leaves s (Some e) disk → TakesTurn leaves rule s b (Some end) s' b' disk
+    turn_broken s' end disk error is fails has = λ turns.
+        stops_now leaves disk (turns + 1) s b end s' b' (inr (
           goes,
           inr (
             omega arith,
@@ -151,7 +146,7 @@ module _ {S : Type 0} (rule : NodeRule S) where
               end_is = is;
             }),
           ),
-        ))
+        )) has
 
     served_more : (s' : S) (last : Beside) → b'.sent ≡ behind b.sent (rule.step s e).sends → b'.held ≡ behind b.held (rule.step s e).text → Served rule (rule.step s e).state b' s' last → Served rule s b s' last
     served_more s' last sends text served =
@@ -171,32 +166,35 @@ module _ {S : Type 0} (rule : NodeRule S) where
         }
 
     -- whatever serving does from there on, it did from before
-    serves_more : (turns : ℕ) (end : NodeEnd) (s'' : S) (b'' : Beside) → b'.sent ≡ behind b.sent (rule.step s e).sends → b'.held ≡ behind b.held (rule.step s e).text
-        → NodeServes rule (rule.step s e).state turns b' end s'' b'' → NodeServes rule s (turns + 1) b end s'' b''
+    serves_more : (turns : ℕ) (end : NodeEnd) (s'' : S) (b'' : Beside) (last : Option DiskLife) → b'.sent ≡ behind b.sent (rule.step s e).sends → b'.held ≡ behind b.held (rule.step s e).text
+        → NodeServesOn leaves rule (rule.step s e).state turns b' end s'' b'' last → NodeServesOn leaves rule s (turns + 1) b end s'' b'' last
     unfolding served_more
-    serves_more turns end s'' b'' sends text serves = record {
+    serves_more turns end s'' b'' last sends text serves = record {
       mid = serves.mid;
       beside_mid = serves.beside_mid;
       served = served_more serves.mid serves.beside_mid sends text serves.served;
       left = serves.left;
       turns_are = let turns_are = serves.turns_are in omega (arith, turns_are);
       stops = serves.stops;
+      stands = serves.stands;
     }
 
-    pub turn_goes_on : (mid : S) → mid ≡ (rule.step s e).state → b'.sent ≡ behind b.sent (rule.step s e).sends → b'.held ≡ behind b.held (rule.step s e).text → TakesTurn rule s b None mid b'
-    turn_goes_on mid state sends text = λ turns end s'' b'' serves. serves_more turns end s'' b'' sends text (subst (λ (m : S). NodeServes rule m turns b' end s'' b'') state serves)
+    pub turn_goes_on : (mid : S) (disk : Option DiskLife) → mid ≡ (rule.step s e).state → b'.sent ≡ behind b.sent (rule.step s e).sends → b'.held ≡ behind b.held (rule.step s e).text → TakesTurn leaves rule s b None mid b' disk
+    turn_goes_on mid disk state sends text = λ turns end s'' b'' last serves. serves_more turns end s'' b'' last sends text (subst (λ (m : S). NodeServesOn leaves rule m turns b' end s'' b'' last) state serves)
 
   -- ---- all turns
 
-  pub turns_over : (s : S) (b : Beside) (end : NodeEnd) → rule.outcome s ≡ None → end ≡ last_end rule.is_server → NodeServes rule s 0 b end s b
-  turns_over s b end goes is = stops_now 0 s b end s b (inr (goes, inl (is, inl (refl, (refl, refl)))))
+  module _ (leaves : S → Option NodeEvent → Option DiskLife → Type 0) (disk : Option DiskLife) where
+    pub turns_over : (s : S) (b : Beside) (end : NodeEnd) → rule.outcome s ≡ None → end ≡ last_end rule.is_server → leaves s None disk → NodeServesOn leaves rule s 0 b end s b disk
+    turns_over s b end goes is has = stops_now leaves disk 0 s b end s b (inr (goes, inl (is, inl (refl, (refl, refl))))) has
 
-  pub turns_over_ended : (s : S) (b : Beside) (end : NodeEnd) (r : Result (Unit {0}) FailCause) → rule.outcome s ≡ Some r → end ≡ end_of_outcome r → NodeServes rule s 0 b end s b
-  turns_over_ended s b end r ended is = stops_now 0 s b end s b (inl (r, ended, is, (refl, refl)))
+    pub turns_over_ended : (s : S) (b : Beside) (end : NodeEnd) (r : Result (Unit {0}) FailCause) → rule.outcome s ≡ Some r → end ≡ end_of_outcome r → leaves s None disk → NodeServesOn leaves rule s 0 b end s b disk
+    turns_over_ended s b end r ended is has = stops_now leaves disk 0 s b end s b (inl (r, ended, is, (refl, refl))) has
 
-  pub turns_end : (s : S) (b : Beside) (end : NodeEnd) (o : Option (Result (Unit {0}) FailCause)) → rule.outcome s ≡ o → MatchOption o (end ≡ last_end rule.is_server) (λ r. end ≡ end_of_outcome r) → NodeServes rule s 0 b end s b
-  turns_end s b end None is ends = turns_over s b end is ends
-  turns_end s b end (Some r) is ends = turns_over_ended s b end r is ends
+    pub turns_end : (s : S) (b : Beside) (end : NodeEnd) (o : Option (Result (Unit {0}) FailCause)) → rule.outcome s ≡ o → MatchOption o (end ≡ last_end rule.is_server) (λ r. end ≡ end_of_outcome r) → leaves s None disk
+        → NodeServesOn leaves rule s 0 b end s b disk
+    turns_end s b end None is ends has = turns_over s b end is ends has
+    turns_end s b end (Some r) is ends has = turns_over_ended s b end r is ends has
 
 pub a_turn : (i n : ℕ) → i < n → (n - (i + 1)) + 1 ≡ n - i
 a_turn i n below = omega arith
@@ -211,14 +209,20 @@ pub no_sink_fault : (r : Result (Unit {0}) FailCause) (n : ℕ) → sink_faults 
 no_sink_fault (Ok x) n = refl
 no_sink_fault (Err cause) n = refl
 
-pub no_fault_at_last : (is_server : Bool) (n : ℕ) → (link_faults (last_end is_server) n ≡ n) × (sink_faults (last_end is_server) n ≡ n)
-no_fault_at_last true n = (refl, refl)
-no_fault_at_last false n = (refl, refl)
+pub no_disk_fault : (r : Result (Unit {0}) FailCause) (n : ℕ) → disk_faults (end_of_outcome r) n ≡ n
+no_disk_fault (Ok x) n = refl
+no_disk_fault (Err cause) n = refl
 
-pub link_counted : (e : Failed) (n : ℕ) → (link_faults (end_of_link e) n ≡ counted {T = Arrival} (Err e) n) × (sink_faults (end_of_link e) n ≡ n)
-link_counted failed.Fault n = (refl, refl)
-link_counted failed.NoMemory n = (refl, refl)
+pub no_fault_at_last : (is_server : Bool) (n : ℕ) → (link_faults (last_end is_server) n ≡ n) × (sink_faults (last_end is_server) n ≡ n) × (disk_faults (last_end is_server) n ≡ n)
+no_fault_at_last true n = (refl, refl, refl)
+no_fault_at_last false n = (refl, refl, refl)
 
-pub sink_counted : (e : Failed) (n : ℕ) → (sink_faults (end_of_event e) n ≡ counted {T = Unit {0}} (Err e) n) × (link_faults (end_of_event e) n ≡ n)
-sink_counted failed.Fault n = (refl, refl)
-sink_counted failed.NoMemory n = (refl, refl)
+pub link_counted : (e : Failed) (n : ℕ) → (link_faults (end_of_link e) n ≡ counted {T = Arrival} (Err e) n) × (sink_faults (end_of_link e) n ≡ n) × (disk_faults (end_of_link e) n ≡ n)
+link_counted failed.Fault n = (refl, refl, refl)
+link_counted failed.NoMemory n = (refl, refl, refl)
+
+pub event_counted : (e : EventFault) (n : ℕ)
+    → (sink_faults (end_of_event e) n ≡ sink_counted {T = Unit {0}} (Err e) n) × (disk_faults (end_of_event e) n ≡ disk_counted {T = Unit {0}} (Err e) n) × (link_faults (end_of_event e) n ≡ n)
+event_counted fault.Sink n = (refl, refl, refl)
+event_counted fault.Disk n = (refl, refl, refl)
+event_counted fault.NoMemory n = (refl, refl, refl)

@@ -1,13 +1,8 @@
 -- A node by its rule: what comes to it, what it does then, and how it ends by itself.
-use Rattle.std.specs.Prelude.{⊤, ◌≡◌, ℕ, Bool, true, false, ◌&&◌, List, [], ◌∷◌, ◌++◌, Option, Some, None, Result}
+use Rattle.std.specs.Prelude.{⊤, ◌≡◌, ℕ, Bool, List, [], ◌∷◌, ◌++◌, Option, None, Result}
 use Rattle.cluster_model.specs.declared.ids.NodeId.{NodeId}
 use Rattle.cluster_model.specs.declared.answer.FailCause.{FailCause}
-use Rattle.cluster_model.specs.Server.{ServerState}
-use Rattle.record_link.specs.Messages.{is_call_record}
-use Rattle.ds_files.specs.Receive.{outcome_of}
-use Rattle.ds_files.specs.Records.{sent_to}
 use Rattle.node_link.specs.declared.link.Arrival.{Arrival}
-use Rattle.node_link.specs.declared.link.Arrival.TheVariants.{Record, TimedOut, Closed}
 
 -- something comes to a node, at a moment in seconds
 pub record NodeEvent : Type 0 where
@@ -51,29 +46,3 @@ text_over rule s (e ∷ events) = (rule.step s e).text ++ text_over rule (rule.s
 abbrev pub IsGoing : {S : Type 0} → NodeRule S → S → List NodeEvent → Type 0
 IsGoing rule s [] = ⊤
 IsGoing rule s (e ∷ events) = (rule.outcome s ≡ None) × IsGoing rule (rule.step s e).state events
-
--- ---- a data server
-
--- A record is answered to the node that it comes from, by the rule of the data server; no other arrival does anything. Moments do not
--- count, and it does not end by itself.
-abbrev pub server_takes : ServerState → Arrival → ServerState × SentRecords
-server_takes s (Record from bytes) = ((outcome_of s bytes).server, sent_to from (outcome_of s bytes).reply)
-server_takes s (TimedOut node) = (s, [])
-server_takes s Closed = (s, [])
-
-abbrev pub server_rule : NodeRule ServerState
-server_rule = record {
-  step = λ s e. record { state = (server_takes s e.arrival).0; sends = (server_takes s e.arrival).1; text = [] };
-  outcome = λ s. None;
-  is_server = true;
-}
-
--- A call is not answered where the rule gives no reply to it.
-abbrev pub gives_none : Option (List ℕ) → Bool
-gives_none None = true
-gives_none (Some reply) = false
-
-abbrev pub server_excuses : ServerState → Arrival → Bool
-server_excuses s (Record from bytes) = is_call_record bytes && gives_none (outcome_of s bytes).reply
-server_excuses s (TimedOut node) = false
-server_excuses s Closed = false

@@ -1,8 +1,11 @@
 -- What serving as a node did: what came and at which moments, what was sent, and why it ended.
 use Rattle.std.specs.Prelude.{⊤, ◌⊎◌, ◌≡◌, ℕ, ◌+◌, ◌<◌, ◌≤◌, Bool, true, false, List, [], ◌∷◌, ◌++◌, length, map, take, Option, Some, None, Result, Ok, Err}
+use Rattle.std.proofs.Common.{inl, inr}
 use Rattle.ff_xdr.specs.declared.error.NoMemory.{NoMemory}
 use Rattle.rpc_record.specs.declared.stream.Failed.{Failed}
 use Rattle.rpc_record.specs.declared.stream.Failed.TheVariants as failed
+use Rattle.ff_node.specs.declared.fault.EventFault.{EventFault}
+use Rattle.ff_node.specs.declared.fault.EventFault.TheVariants as fault
 use Rattle.rpc_record.specs.Stream.{one_more}
 use Rattle.cluster_model.specs.declared.answer.FailCause.{FailCause}
 use Rattle.node_link.specs.declared.link.Arrival.{Arrival}
@@ -13,6 +16,7 @@ use Rattle.node_link.specs.declared.link.Role.{Role}
 use Rattle.node_link.specs.Clock.{GivesMoment}
 use Rattle.node_link.specs.Link.{opening_of}
 use Rattle.line_runs.specs.Writing.{IsBeginningOf}
+use Rattle.store_disk.specs.Disks.{DiskLife}
 use Rattle.ff_node.specs.declared.end.NodeEnd.{NodeEnd}
 use Rattle.ff_node.specs.declared.end.NodeEnd.TheVariants as ends
 use Rattle.ff_node.specs.Nodes.{NodeEvent, NodeRule, SentRecords, state_after, sends_over, IsGoing, text_over}
@@ -89,9 +93,14 @@ abbrev pub end_of_link : Failed → NodeEnd
 end_of_link failed.Fault = ends.LinkFault
 end_of_link failed.NoMemory = ends.NoMemory
 
-abbrev pub end_of_event : Failed → NodeEnd
-end_of_event failed.Fault = ends.WriteFault
-end_of_event failed.NoMemory = ends.NoMemory
+abbrev pub fault_of_sink : Failed → EventFault
+fault_of_sink failed.Fault = fault.Sink
+fault_of_sink failed.NoMemory = fault.NoMemory
+
+abbrev pub end_of_event : EventFault → NodeEnd
+end_of_event fault.Sink = ends.WriteFault
+end_of_event fault.Disk = ends.DiskFault
+end_of_event fault.NoMemory = ends.NoMemory
 
 abbrev pub IsUnchanged : {S : Type 0} → S → Beside → S → Beside → Type 0
 IsUnchanged s b s' b' = (s' ≡ s) × (b' ≡ b)
@@ -116,10 +125,10 @@ TookBeginning (Some held) text new = (part : List ℕ) × IsBeginningOf part tex
 
 -- An event was taken, and not all done: it failed, nothing was sent for it and a beginning of its bytes was written; or, for want of
 -- memory, fewer records were sent than the node sends for it.
-abbrev pub FailsIn : {S : Type 0} → NodeRule S → S → NodeEvent → Option SentRecords → Option (List ℕ) → Failed → Option SentRecords → Option (List ℕ) → Type 0
+abbrev pub FailsIn : {S : Type 0} → NodeRule S → S → NodeEvent → Option SentRecords → Option (List ℕ) → EventFault → Option SentRecords → Option (List ℕ) → Type 0
 FailsIn rule s event sent held e sent' held' =
     (TookBeginning held (rule.step s event).text held' × (sent' ≡ sent))
-    ⊎ ((e ≡ failed.NoMemory) × (held' ≡ behind held (rule.step s event).text)
+    ⊎ ((e ≡ fault.NoMemory) × (held' ≡ behind held (rule.step s event).text)
     × ((part : ℕ) × (part < length (rule.step s event).sends) × (sent' ≡ behind sent (take part (rule.step s event).sends))))
 
 pub record BreaksOff {S : Type 0} (rule : NodeRule S) (s : S) (b : Beside) (end : NodeEnd) (b' : Beside) : Type 0 where
@@ -127,7 +136,7 @@ pub record BreaksOff {S : Type 0} (rule : NodeRule S) (s : S) (b : Beside) (end 
   pub came : TakesFront b.coming (event.arrival ∷ []) b'.coming
   pub moment : GivesMoments b.moments b.moment (event.moment ∷ []) b'.moments b'.moment
   pub live : is_closed event.arrival ≡ false
-  pub error : Failed
+  pub error : EventFault
   pub fails : FailsIn rule s event b.sent b.held error b'.sent b'.held
   pub end_is : end ≡ end_of_event error
 
@@ -143,20 +152,39 @@ Stops rule left s b end s' b' =
 
 -- ---- what serving did
 
--- events were taken and done, fewer than there were turns or as many; and then it stopped
-pub record NodeServes {S : Type 0} (rule : NodeRule S) (s : S) (turns : ℕ) (b : Beside) (end : NodeEnd) (s' : S) (b' : Beside) : Type 0 where
+-- the event at which it broke off, where it did
+abbrev pub broken_at : {S : Type 0} {rule : NodeRule S} {left : ℕ} {s : S} {b : Beside} {end : NodeEnd} {s' : S} {b' : Beside} → Stops rule left s b end s' b' → Option NodeEvent
+broken_at (inl ended) = None
+broken_at (inr (goes, inl none)) = None
+broken_at (inr (goes, inr (more, inl failed))) = None
+broken_at (inr (goes, inr (more, inr breaks))) = Some breaks.event
+
+-- Events were taken and done, fewer than there were turns or as many; and then it stopped. `leaves` holds of the state that it had come to, the
+-- event at which it broke off, where it did, and the disk then.
+pub record NodeServesOn {S : Type 0} (leaves : S → Option NodeEvent → Option DiskLife → Type 0) (rule : NodeRule S) (s : S) (turns : ℕ) (b : Beside) (end : NodeEnd) (s' : S) (b' : Beside) (disk : Option DiskLife) : Type 0 where
   pub mid : S
   pub beside_mid : Beside
   pub served : Served rule s b mid beside_mid
   pub left : ℕ
   pub turns_are : length served.taken + left ≡ turns
   pub stops : Stops rule left mid beside_mid end s' b'
+  pub stands : leaves mid (broken_at stops) disk
 
 -- Before all events these records were sent; or, for want of memory, fewer of them, and no event was taken.
+abbrev pub NodeRunsOn : {S : Type 0} → (S → Option NodeEvent → Option DiskLife → Type 0) → NodeRule S → SentRecords → S → ℕ → Beside → NodeEnd → S → Beside → Option DiskLife → Type 0
+NodeRunsOn leaves rule first s turns b end s' b' disk =
+    NodeServesOn leaves rule s turns (with_sent b first) end s' b' disk
+    ⊎ ((end ≡ ends.NoMemory) × (s' ≡ s) × ((part : ℕ) × (part < length first) × (b' ≡ with_sent b (take part first))) × leaves s None disk)
+
+-- the same of a node that has no disk
+abbrev pub LeavesNothing : {S : Type 0} → S → Option NodeEvent → Option DiskLife → Type 0
+LeavesNothing s event disk = ⊤
+
+abbrev pub NodeServes : {S : Type 0} → NodeRule S → S → ℕ → Beside → NodeEnd → S → Beside → Type 0
+NodeServes rule s turns b end s' b' = NodeServesOn LeavesNothing rule s turns b end s' b' None
+
 abbrev pub NodeRuns : {S : Type 0} → NodeRule S → SentRecords → S → ℕ → Beside → NodeEnd → S → Beside → Type 0
-NodeRuns rule first s turns b end s' b' =
-    NodeServes rule s turns (with_sent b first) end s' b'
-    ⊎ ((end ≡ ends.NoMemory) × (s' ≡ s) × ((part : ℕ) × (part < length first) × (b' ≡ with_sent b (take part first))))
+NodeRuns rule first s turns b end s' b' = NodeRunsOn LeavesNothing rule first s turns b end s' b' None
 
 -- The link was opened so, and this was done over it; or opening it failed, and nothing was done.
 abbrev pub OpensThen : Option Opening → Config → Role → Beside → NodeEnd → Option Opening → Beside → Type 0 → Type 0
@@ -172,6 +200,20 @@ abbrev pub sink_faults : NodeEnd → ℕ → ℕ
 sink_faults ends.WriteFault n = one_more n
 sink_faults end n = n
 
+-- the count of the disk's
+abbrev pub disk_faults : NodeEnd → ℕ → ℕ
+disk_faults ends.DiskFault n = one_more n
+disk_faults end n = n
+
+-- the counts of the sink's faults and of the disk's after an event with this result
+abbrev pub sink_counted : {T : Type 0} → Result T EventFault → ℕ → ℕ
+sink_counted (Err fault.Sink) n = one_more n
+sink_counted result n = n
+
+abbrev pub disk_counted : {T : Type 0} → Result T EventFault → ℕ → ℕ
+disk_counted (Err fault.Disk) n = one_more n
+disk_counted result n = n
+
 -- ---- parts of it
 
 -- All of some records were sent, or, for want of memory, fewer from their front.
@@ -180,21 +222,21 @@ SendsAll sent records (Ok x) sent' = sent' ≡ behind sent records
 SendsAll sent records (Err e) sent' = (n : ℕ) × (n < length records) × (sent' ≡ behind sent (take n records))
 
 -- what taking an event did: the node, what is sent and what is written are by its rule; or it failed
-abbrev pub DoesEvent : {S : Type 0} → NodeRule S → S → NodeEvent → Option SentRecords → Option (List ℕ) → Result (Unit {0}) Failed → S → Option SentRecords → Option (List ℕ) → Type 0
+abbrev pub DoesEvent : {S : Type 0} → NodeRule S → S → NodeEvent → Option SentRecords → Option (List ℕ) → Result (Unit {0}) EventFault → S → Option SentRecords → Option (List ℕ) → Type 0
 DoesEvent rule s event sent held (Ok x) s' sent' held' = (s' ≡ (rule.step s event).state) × (sent' ≡ behind sent (rule.step s event).sends) × (held' ≡ behind held (rule.step s event).text)
 DoesEvent rule s event sent held (Err e) s' sent' held' = FailsIn rule s event sent held e sent' held'
 
 -- what a node wrote for an event: its bytes, or at an error a beginning of them
-abbrev pub WritesFor : {T : Type 0} → Option (List ℕ) → List ℕ → Result T Failed → Option (List ℕ) → Type 0
+abbrev pub WritesFor : {T E : Type 0} → Option (List ℕ) → List ℕ → Result T E → Option (List ℕ) → Type 0
 WritesFor held text (Ok x) new = new ≡ behind held text
 WritesFor held text (Err e) new = TookBeginning held text new
 
 -- What one turn of serving did: it ended the serving so; or whatever the serving does from there on, it has done from before the turn with
 -- one turn more.
-abbrev pub TakesTurn : {S : Type 0} → NodeRule S → S → Beside → Option NodeEnd → S → Beside → Type 0
-TakesTurn rule s b (Some end) s' b' = (turns : ℕ) → NodeServes rule s (turns + 1) b end s' b'
-TakesTurn {S = S} rule s b None s' b' = (turns : ℕ) (end : NodeEnd) (s'' : S) (b'' : Beside)
-    → NodeServes rule s' turns b' end s'' b'' → NodeServes rule s (turns + 1) b end s'' b''
+abbrev pub TakesTurn : {S : Type 0} → (S → Option NodeEvent → Option DiskLife → Type 0) → NodeRule S → S → Beside → Option NodeEnd → S → Beside → Option DiskLife → Type 0
+TakesTurn leaves rule s b (Some end) s' b' disk = (turns : ℕ) → NodeServesOn leaves rule s (turns + 1) b end s' b' disk
+TakesTurn {S = S} leaves rule s b None s' b' disk = (turns : ℕ) (end : NodeEnd) (s'' : S) (b'' : Beside) (last : Option DiskLife)
+    → NodeServesOn leaves rule s' turns b' end s'' b'' last → NodeServesOn leaves rule s (turns + 1) b end s'' b'' last
 
 -- the counts of faults after a turn
 abbrev pub turn_faults : (NodeEnd → ℕ → ℕ) → Option NodeEnd → ℕ → ℕ

@@ -3,6 +3,7 @@
 ghost use Rattle.std.specs.Prelude.{◌≡◌};
 ghost use Rattle.ff_node.specs.Serve.{end_of_event, end_of_link, end_of_outcome, last_end};
 
+use crate::fault::EventFault;
 use cluster_model::FailCause;
 use rpc_record::Failed;
 
@@ -15,6 +16,12 @@ pub enum NodeEnd {
     ReadFault,
     /// The sink failed.
     WriteFault,
+    /// The disk failed.
+    DiskFault,
+    /// The disk's log is bad at this byte.
+    BadLog(u64),
+    /// The boot number in the disk's log is the last that there is.
+    BootsSpent,
     /// The link met a fault.
     LinkFault,
     /// Memory was wanted.
@@ -58,12 +65,13 @@ impl NodeEnd {
     }
 
     /// How an event that failed ends a node.
-    pub(crate) fn of_event(failed: Failed) -> NodeEnd
-        ensures { result ≡ end_of_event failed }
+    pub(crate) fn of_event(fault: EventFault) -> NodeEnd
+        ensures { result ≡ end_of_event fault }
     {
-        match failed {
-            Failed::Fault => NodeEnd::WriteFault,
-            Failed::NoMemory => NodeEnd::NoMemory,
+        match fault {
+            EventFault::Sink => NodeEnd::WriteFault,
+            EventFault::Disk => NodeEnd::DiskFault,
+            EventFault::NoMemory => NodeEnd::NoMemory,
         }
     }
 }

@@ -1,17 +1,17 @@
-//! A node of the cluster: its configuration, how it serves over a link, and a data server that does.
+//! A node of the cluster: its configuration, and how it serves over a link.
 #![tactic(auto)]
 
 mod config;
 mod end;
+mod fault;
 mod node;
 mod nothing;
 mod serve;
-mod server;
 
 pub use config::{ConfigFault, MAX_LINE, read_config};
 pub use end::NodeEnd;
+pub use fault::EventFault;
 pub use node::Node;
 pub use node_config::Config;
-pub use nothing::NoSink;
+pub use nothing::{NoSink, StillClock};
 pub use serve::serve_node;
-pub use server::serve_ds;

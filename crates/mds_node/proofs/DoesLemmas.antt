@@ -8,7 +8,7 @@ use Rattle.mds_rule.specs.MdsStates.{MdsValue}
 use Rattle.mds_rule.specs.Events.{takes_tick}
 use Rattle.mds_rule.specs.Spelled.{records_sent, spelled_send}
 use Rattle.ff_node.specs.Nodes.{NodeEvent, SentRecords}
-use Rattle.ff_node.specs.Serve.{Beside, NodeRuns, end_of_link, link_faults, sink_faults}
+use Rattle.ff_node.specs.Serve.{Beside, NodeRuns, end_of_link, link_faults, sink_faults, disk_faults}
 use Rattle.ff_node.specs.declared.end.NodeEnd.{NodeEnd}
 use Rattle.mds_node.specs.MdsNodes.{mds_hears, mds_does, mds_node_rule}
 
@@ -32,6 +32,10 @@ open_counted NoMemory n = refl
 pub open_writes : (e : Failed) → sink_faults (end_of_link e) 0 ≡ 0
 open_writes Fault = refl
 open_writes NoMemory = refl
+
+pub open_keeps : (e : Failed) → disk_faults (end_of_link e) 0 ≡ 0
+open_keeps Fault = refl
+open_keeps NoMemory = refl
 
 -- a new server ran over a link that was opened
 pub runs_new : (first : SentRecords) (m fresh last : MdsValue) (turns : ℕ) (b was b' : Beside) (end : NodeEnd) → first ≡ [] → m ≡ fresh → b ≡ was

@@ -1,22 +1,24 @@
 //! A metadata server as a node.
 
-ghost use Rattle.std.specs.Prelude.{◌≡◌, ◌≤◌, ◌++◌, false, length, IfOk, OnOk};
+ghost use Rattle.std.specs.Prelude.{⊤, ◌≡◌, ◌≤◌, ◌++◌, false, length, IfOk, OnOk};
 ghost use Rattle.node_config.specs.Configs.{config_value};
 ghost use Rattle.node_config.specs.declared.config.TheConstants.{MAX_MIRRORS, MAX_SERVERS};
-ghost use Rattle.mds_rule.specs.MdsStates.{new_mds};
+ghost use Rattle.mds_rule.specs.MdsStates.{MdsValue, new_mds};
 ghost use Rattle.mds_rule.specs.Spelled.{records_sent};
 ghost use Rattle.mds_node.specs.MdsNodes.{mds_does, mds_hears, mds_node_rule};
 ghost use Rattle.ff_node.specs.Nodes.{event_at};
+ghost use Rattle.ff_node.specs.Serve.{LeavesNothing};
 
 use cluster_model::{FailCause, Outbox};
-use ff_node::Node;
+use ff_node::{EventFault, Node};
 use ff_xdr::NoMemory;
 use mds_core::Mds;
 use node_config::Config;
 use node_link::Arrival;
-use rpc_record::{Failed, Sink};
+use rpc_record::Sink;
 use std::alloc::Global;
 use std::marker::Model;
+use store_disk::Disk;
 
 /// A metadata server as a node. Each call that comes to it gets an answer, at once or when what it waits for is done.
 #[derive(Drop)]
@@ -70,20 +72,33 @@ impl MdsNode {
 }
 
 impl Node for MdsNode {
+    ghost State = { MdsValue };
+
+    ghost state = { λ n. n };
+
     ghost rule = { mds_node_rule };
 
     ghost excuses = { λ _ _. false };
 
-    fn take<K: Sink>(
+    ghost stands = { λ _ _. ⊤ };
+
+    ghost leaves = { LeavesNothing };
+
+    ghost stood = { λ _ _ _. tt };
+
+    ghost stepped = { λ _ _ _ _ _ _. tt };
+
+    fn take<K: Sink, D: Disk>(
         &mut self,
         moment: u64,
         arrival: Arrival,
         out: &mut Outbox,
         _sink: &mut K,
-    ) -> Result<bool, Failed> {
+        _disk: &mut D,
+    ) -> Result<bool, EventFault> {
         match self.do_event(moment, arrival, out) {
             Ok(()) => Ok(false),
-            Err(NoMemory) => Err(Failed::NoMemory),
+            Err(NoMemory) => Err(EventFault::NoMemory),
         }
     }
 

@@ -5,7 +5,7 @@ ghost use Rattle.node_config.specs.Configs.{config_value};
 ghost use Rattle.node_config.specs.declared.config.TheConstants.{MAX_MIRRORS, MAX_SERVERS};
 ghost use Rattle.node_link.specs.declared.link.Role.{Role};
 ghost use Rattle.mds_rule.specs.MdsStates.{MdsValue, new_mds};
-ghost use Rattle.ff_node.specs.Serve.{NodeRuns, OpensThen, beside, link_faults, sink_faults};
+ghost use Rattle.ff_node.specs.Serve.{NodeRuns, OpensThen, beside, disk_faults, link_faults, sink_faults};
 ghost use Rattle.mds_node.specs.MdsNodes.{mds_node_rule};
 
 use crate::node::MdsNode;
@@ -13,6 +13,7 @@ use ff_node::{NoSink, NodeEnd, serve_node};
 use node_config::Config;
 use node_link::{Clock, Link, Role};
 use std::alloc::Global;
+use store_disk::NoDisk;
 
 /// Serves as the metadata server of the configuration's cluster, with no files, over a link, for as many arrivals as the
 /// configuration has turns. At each arrival the clock is asked for the moment, in seconds; time passes to it, and then
@@ -35,6 +36,7 @@ pub fn serve_mds<L: Link, C: Clock>(
         ((mds : MdsValue) × NodeRuns mds_node_rule [] (new_mds (config_value config.now).servers (config_value config.now).mirrors) config.now.turns (beside (L.coming link.old) (L.sent link.old) (C.coming clock.old) (C.moment clock.old) None) result mds (beside (L.coming link.new) (L.sent link.new) (C.coming clock.new) (C.moment clock.new) None)) }
     ensures faults { L.faults link.new ≡ link_faults result (L.faults link.old) }
     ensures writes { sink_faults result 0 ≡ 0 }
+    ensures keeps { disk_faults result 0 ≡ 0 }
     ensures given { L.has_given link.new }
 {
     let Ok(mut node) = MdsNode::new(alloc, config) else {
@@ -53,5 +55,6 @@ pub fn serve_mds<L: Link, C: Clock>(
         link,
         clock,
         &mut NoSink,
+        &mut NoDisk,
     )
 }

@@ -28,7 +28,7 @@ same_coming b moment begun asks = (ap (λ (x : Beside). x.coming) asks.2, ap (λ
 module _ (config : Config) (name : List ℕ) (unread left : Option (List ℕ)) (opened opened' : Option Opening) (b b' : Beside) where
   put_ran : (moment : ℕ) (begun : Beside) → AsksClock b moment begun → PutsBytes config name unread moment opened begun ends.Done left opened' b' → PutWell config name unread b left b'
   put_ran moment begun asks (bytes, read, inr (e, done, same-opened, same)) = absurd (no_link e done)
-  put_ran moment begun asks (bytes, read, inl (is-opened, (last, inr (done, state, same)))) = absurd (cc (done))
+  put_ran moment begun asks (bytes, read, inl (is-opened, (last, inr (done, state, same, none)))) = absurd (cc (done))
   put_ran moment begun asks (bytes, read, inl (is-opened, (last, inl serves))) =
       let step = put_begins config.own moment name bytes in
       let sent = with_sent begun (records_of step) in
@@ -55,7 +55,7 @@ module _ (config : Config) (name : List ℕ) (unread left : Option (List ℕ)) (
 module _ (config : Config) (name : List ℕ) (opened opened' : Option Opening) (b b' : Beside) where
   pub got_well : GetsFile config name opened b ends.Done opened' b' → GotWell config name b b'
   got_well (moment, begun, asks, inr (e, done, same-opened, same)) = absurd (no_link e done)
-  got_well (moment, begun, asks, inl (is-opened, (last, inr (done, state, same)))) = absurd (cc (done))
+  got_well (moment, begun, asks, inl (is-opened, (last, inr (done, state, same, none)))) = absurd (cc (done))
   got_well (moment, begun, asks, inl (is-opened, (last, inl serves))) =
       let step = get_begins config.own moment name in
       let sent = with_sent begun (records_of step) in

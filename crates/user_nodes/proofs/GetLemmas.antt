@@ -119,7 +119,7 @@ took_all : (held : Option (List ℕ)) (text : List ℕ) (held' : Option (List �
 took_all None text held' is = is
 took_all (Some old) text held' is = (text, record { rest = []; whole = append-nil text }, is)
 
-pub took_for : {T : Type 0} (held : Option (List ℕ)) (text : List ℕ) (held' : Option (List ℕ)) (result : Result T Failed) → IsErr result → TookBeginning held text held' → WritesFor held text result held'
+pub took_for : {T E : Type 0} (held : Option (List ℕ)) (text : List ℕ) (held' : Option (List ℕ)) (result : Result T E) → IsErr result → TookBeginning held text held' → WritesFor held text result held'
 took_for held text held' (Ok x) fails took = absurd (cc (fails))
 took_for held text held' (Err e) fails took = took
 
@@ -129,12 +129,12 @@ module _ (s : ClientStep) (n : GetValue) where
   step_fails held = took_none held (answered_bytes s.client.answers)
 
   module _ (c : ClientValue) (stepped : c ≡ s.client) where
-    pub bytes_after : {T : Type 0} (held held' : Option (List ℕ)) (result : Result T Failed) → WritesFor held (answered_bytes c.answers) result held' → WritesFor held (get_does s n.size n.outcome).text result held'
+    pub bytes_after : {T E : Type 0} (held held' : Option (List ℕ)) (result : Result T E) → WritesFor held (answered_bytes c.answers) result held' → WritesFor held (get_does s n.size n.outcome).text result held'
     bytes_after held held' result writes = subst (λ (d : ClientValue). WritesFor held (answered_bytes d.answers) result held') stepped writes
 
     -- its bytes were written, and then something failed
-    pub all_then_fails : (held held' : Option (List ℕ)) (x : Seen) → WritesFor held (answered_bytes c.answers) (Ok x) held' → TookBeginning held (get_does s n.size n.outcome).text held'
-    all_then_fails held held' x writes = took_all held (answered_bytes s.client.answers) held' (subst (λ (d : ClientValue). held' ≡ behind held (answered_bytes d.answers)) stepped writes)
+    pub all_then_fails : (E : Type 0) (held held' : Option (List ℕ)) (x : Seen) → WritesFor {E = E} held (answered_bytes c.answers) (Ok x) held' → TookBeginning held (get_does s n.size n.outcome).text held'
+    all_then_fails E held held' x writes = took_all held (answered_bytes s.client.answers) held' (subst (λ (d : ClientValue). held' ≡ behind held (answered_bytes d.answers)) stepped writes)
 
     module _ (seen : Seen) (saw : seen ≡ saw_more saw_none c.answers) (mid : GetValue)
         (taken : mid ≡ record { client = answers_taken c; size = size_behind n.size c.answers; outcome = n.outcome }) where

@@ -11,6 +11,8 @@ use Rattle.node_link.specs.Clock.{GivesMoment}
 use Rattle.node_link.specs.Link.{opening_of}
 use Rattle.ff_node.specs.declared.end.NodeEnd.{NodeEnd}
 use Rattle.ff_node.specs.declared.end.NodeEnd.TheVariants as ends
+use Rattle.ff_node.specs.declared.fault.EventFault.{EventFault}
+use Rattle.ff_node.specs.declared.fault.EventFault.TheVariants as faults
 use Rattle.ff_node.specs.Nodes.{NodeRule, SentRecords}
 use Rattle.ff_node.specs.Serve.{Beside, beside, NodeRuns, Stops, end_of_link, end_of_outcome, end_of_event, last_end}
 use Rattle.user_nodes.specs.Users.{records_of}
@@ -44,9 +46,10 @@ module _ {S : Type 0} (rule : NodeRule S) (is_user : rule.is_server ≡ false) (
   no_link failed.Fault done = absurd (cc (done))
   no_link failed.NoMemory done = absurd (cc (done))
 
-  no_event : (e : Failed) → ends.Done ≡ end_of_event e → ⊥
-  no_event failed.Fault done = absurd (cc (done))
-  no_event failed.NoMemory done = absurd (cc (done))
+  no_event : (e : EventFault) → ends.Done ≡ end_of_event e → ⊥
+  no_event faults.Sink done = absurd (cc (done))
+  no_event faults.Disk done = absurd (cc (done))
+  no_event faults.NoMemory done = absurd (cc (done))
 
   pub done_by_itself : Stops rule left s b ends.Done s' b' → ((x : Unit {0}) × (rule.outcome s ≡ Some (Ok x))) × (b' ≡ b)
   done_by_itself (inl (r, is, done, same)) = (outcome_is r done is, same.1)

@@ -1,16 +1,16 @@
 //! `get`: a file becomes bytes of a sink.
 
-ghost use Rattle.std.specs.Prelude.{◌≡◌, ◌≤◌, ◌∷◌, ◌++◌, [], false, length, OnOk, IfOk};
+ghost use Rattle.std.specs.Prelude.{⊤, ◌≡◌, ◌≤◌, ◌∷◌, ◌++◌, [], false, length, OnOk, IfOk};
 ghost use Rattle.rpc_record.specs.Stream.{counted};
 ghost use Rattle.client_state.specs.QueueSteps.{HasStepped};
-ghost use Rattle.ff_node.specs.Serve.{WritesFor, beside, link_faults, sink_faults};
+ghost use Rattle.ff_node.specs.Serve.{LeavesNothing, WritesFor, beside, disk_faults, link_faults, sink_faults};
 ghost use Rattle.user_nodes.specs.Users.{answers_taken, records_of};
-ghost use Rattle.user_nodes.specs.Gets.{GetsFile, answer_bytes, answered_bytes, first_outcome, get_begins, get_from, get_rule, goes_on_after, reads_next, saw_more, saw_none, seen_outcome, size_behind};
+ghost use Rattle.user_nodes.specs.Gets.{GetValue, GetsFile, answer_bytes, answered_bytes, first_outcome, get_begins, get_from, get_rule, goes_on_after, reads_next, saw_more, saw_none, seen_outcome, size_behind};
 
 use crate::asks::ask_get;
 use crate::user::{client_does, done_or_failed, fresh_client};
 use cluster_model::{FailCause, Outbox, PIECE_SIZE, UserAnswer};
-use ff_node::{Node, NodeEnd, serve_node};
+use ff_node::{EventFault, Node, NodeEnd, serve_node};
 use ff_xdr::NoMemory;
 use line_runs::write_all;
 use mirror_client::Client;
@@ -19,6 +19,7 @@ use node_link::{Arrival, Clock, Link, Role};
 use rpc_record::{Failed, Sink};
 use std::alloc::Global;
 use std::marker::Model;
+use store_disk::{Disk, NoDisk};
 
 /// What the answers of a step say.
 #[derive(Clone, Copy, Debug, PartialEq, Eq)]
@@ -165,24 +166,40 @@ fn read_on(client: &mut Client, at: u64, seen: Seen, out: &mut Outbox) -> Result
 }
 
 impl Node for GetNode {
+    ghost State = { GetValue };
+
+    ghost state = { λ n. n };
+
     ghost rule = { get_rule };
 
     ghost excuses = { λ _ _. false };
 
+    ghost stands = { λ _ _. ⊤ };
+
+    ghost leaves = { LeavesNothing };
+
+    ghost stood = { λ _ _ _. tt };
+
+    ghost stepped = { λ _ _ _ _ _ _. tt };
+
     /// The bytes that came are written before the next are asked for.
-    fn take<K: Sink>(
+    fn take<K: Sink, D: Disk>(
         &mut self,
         moment: u64,
         arrival: Arrival,
         out: &mut Outbox,
         sink: &mut K,
-    ) -> Result<bool, Failed> {
+        _disk: &mut D,
+    ) -> Result<bool, EventFault> {
         if client_does(&mut self.client, moment, arrival, out).is_err() {
-            return Err(Failed::NoMemory);
+            return Err(EventFault::NoMemory);
         }
-        let seen = self.take_answers(sink)?;
+        let seen = match self.take_answers(sink) {
+            Ok(seen) => seen,
+            Err(failed) => return Err(EventFault::of_sink(failed)),
+        };
         if self.go_on(seen, out).is_err() {
-            return Err(Failed::NoMemory);
+            return Err(EventFault::NoMemory);
         }
         Ok(false)
     }
@@ -218,6 +235,7 @@ pub fn run_get<L: Link, C: Clock, K: Sink>(
     ensures told { GetsFile config.now name.now (L.opened link.old) (beside (L.coming link.old) (L.sent link.old) (C.coming clock.old) (C.moment clock.old) (K.held sink.old)) result (L.opened link.new) (beside (L.coming link.new) (L.sent link.new) (C.coming clock.new) (C.moment clock.new) (K.held sink.new)) }
     ensures faults { L.faults link.new ≡ link_faults result (L.faults link.old) }
     ensures writes { K.faults sink.new ≡ sink_faults result (K.faults sink.old) }
+    ensures keeps { disk_faults result 0 ≡ 0 }
     ensures given { L.has_given link.new }
 {
     let moment = clock.now();
@@ -230,5 +248,14 @@ pub fn run_get<L: Link, C: Clock, K: Sink>(
         link.finish();
         return NodeEnd::of_link(failed);
     }
-    serve_node(alloc, config.turns, out.sends, &mut node, link, clock, sink)
+    serve_node(
+        alloc,
+        config.turns,
+        out.sends,
+        &mut node,
+        link,
+        clock,
+        sink,
+        &mut NoDisk,
+    )
 }

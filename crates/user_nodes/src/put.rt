@@ -1,16 +1,16 @@
 //! `put`: bytes of a source become a file.
 
-ghost use Rattle.std.specs.Prelude.{◌≡◌, ◌≤◌, ◌∷◌, [], None, false, length};
+ghost use Rattle.std.specs.Prelude.{⊤, ◌≡◌, ◌≤◌, ◌∷◌, [], None, false, length};
 ghost use Rattle.rpc_record.specs.Stream.{counted};
 ghost use Rattle.line_runs.specs.Lines.{all_left};
-ghost use Rattle.ff_node.specs.Serve.{beside, link_faults, sink_faults};
+ghost use Rattle.ff_node.specs.Serve.{LeavesNothing, beside, disk_faults, link_faults, sink_faults};
 ghost use Rattle.user_nodes.specs.Users.{answers_taken};
-ghost use Rattle.user_nodes.specs.Puts.{BeginsPut, PutsFile, end_of_source, no_progress, put_outcome, put_rule, source_faults, with_answers};
+ghost use Rattle.user_nodes.specs.Puts.{BeginsPut, PutValue, PutsFile, end_of_source, no_progress, put_outcome, put_rule, source_faults, with_answers};
 
 use crate::asks::ask_put;
 use crate::user::{client_does, done_or_failed, fresh_client};
 use cluster_model::{FailCause, Outbox, UserAnswer};
-use ff_node::{NoSink, Node, NodeEnd, serve_node};
+use ff_node::{EventFault, NoSink, Node, NodeEnd, serve_node};
 use line_runs::LineBuffer;
 use mirror_client::Client;
 use node_config::Config;
@@ -18,6 +18,7 @@ use node_link::{Arrival, Clock, Link, Role};
 use rpc_record::{Failed, Sink, Source};
 use std::alloc::Global;
 use std::marker::Model;
+use store_disk::{Disk, NoDisk};
 
 /// Which answers came.
 #[derive(Clone, Copy, Debug, PartialEq, Eq)]
@@ -123,19 +124,32 @@ impl PutNode {
 }
 
 impl Node for PutNode {
+    ghost State = { PutValue };
+
+    ghost state = { λ n. n };
+
     ghost rule = { put_rule };
 
     ghost excuses = { λ _ _. false };
 
-    fn take<K: Sink>(
+    ghost stands = { λ _ _. ⊤ };
+
+    ghost leaves = { LeavesNothing };
+
+    ghost stood = { λ _ _ _. tt };
+
+    ghost stepped = { λ _ _ _ _ _ _. tt };
+
+    fn take<K: Sink, D: Disk>(
         &mut self,
         moment: u64,
         arrival: Arrival,
         out: &mut Outbox,
         _sink: &mut K,
-    ) -> Result<bool, Failed> {
+        _disk: &mut D,
+    ) -> Result<bool, EventFault> {
         if client_does(&mut self.client, moment, arrival, out).is_err() {
-            return Err(Failed::NoMemory);
+            return Err(EventFault::NoMemory);
         }
         self.take_answers();
         Ok(false)
@@ -184,6 +198,7 @@ pub fn run_put<S: Source, L: Link, C: Clock>(
     ensures faults { L.faults link.new ≡ link_faults result (L.faults link.old) }
     ensures reads { S.faults source.new ≡ source_faults result (S.faults source.old) }
     ensures writes { sink_faults result 0 ≡ 0 }
+    ensures keeps { disk_faults result 0 ≡ 0 }
     ensures given { L.has_given link.new }
 {
     let moment = clock.now();
@@ -207,5 +222,6 @@ pub fn run_put<S: Source, L: Link, C: Clock>(
         link,
         clock,
         &mut NoSink,
+        &mut NoDisk,
     )
 }

@@ -1,7 +1,7 @@
 use Rattle.std.proofs.Common.{None, inl, sym, ap, ◌∙◌}
-use Rattle.ff_node.specs.Serve.{beside, link_faults, sink_faults}
+use Rattle.ff_node.specs.Serve.{beside, disk_faults, link_faults, sink_faults}
 use Rattle.ff_node.proofs.ServeLemmas.{same_beside}
-use Rattle.mds_node.proofs.DoesLemmas.{open_counted, open_writes, runs_new}
+use Rattle.mds_node.proofs.DoesLemmas.{open_counted, open_keeps, open_writes, runs_new}
 use Rattle.mds_node.proofs.serve.serve_mds.Goals as goal
 
 pub returns-in-Err-clause-faults : goal.returns-in-Err-clause-faults
@@ -11,6 +11,9 @@ returns-in-Err-clause-faults g c =
 
 pub returns-in-Err-clause-writes : goal.returns-in-Err-clause-writes
 returns-in-Err-clause-writes g c = ap (λ e. sink_faults e 0) c.of_link.ensures ∙ open_writes c.in-Err.failed
+
+pub returns-in-Err-clause-keeps : goal.returns-in-Err-clause-keeps
+returns-in-Err-clause-keeps g c = ap (λ e. disk_faults e 0) c.of_link.ensures ∙ open_keeps c.in-Err.failed
 
 pub returns-clause-told : goal.returns-clause-told
 returns-clause-told g c =

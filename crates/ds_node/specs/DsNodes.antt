@@ -1,0 +1,96 @@
+-- What a data server does as a node: its log is opened, and each record is answered by its rule, behind its record in the log.
+use Rattle.std.specs.Prelude.{◌≡◌, ◌⊎◌, ℕ, Bool, true, false, ◌&&◌, List, [], Option, Some, None, Ok, Err}
+use Rattle.cluster_model.specs.Server.{ServerState}
+use Rattle.record_link.specs.Messages.{is_call_record}
+use Rattle.node_config.specs.declared.config.Config.{Config}
+use Rattle.node_link.specs.declared.link.Arrival.{Arrival}
+use Rattle.node_link.specs.declared.link.Arrival.TheVariants.{Record, TimedOut, Closed}
+use Rattle.store_disk.specs.Disks.{DiskLife, LeavesNow}
+use Rattle.ds_files.specs.Receive.{outcome_of}
+use Rattle.ds_files.specs.Records.{sent_to}
+use Rattle.ds_store.specs.declared.fault.OpenCause.{OpenCause}
+use Rattle.ds_store.specs.declared.fault.OpenCause.TheVariants as cause
+use Rattle.ds_store.specs.declared.fault.StoreFault.{StoreFault}
+use Rattle.ds_store.specs.declared.fault.StoreFault.TheVariants as store
+use Rattle.ds_store.specs.Kept.{KeptState, SaysServer, SaysEither, StandsOnDisk}
+use Rattle.ds_store.specs.Opens.{LeavesOpened, OpensLog}
+use Rattle.ff_node.specs.declared.end.NodeEnd.{NodeEnd}
+use Rattle.ff_node.specs.declared.end.NodeEnd.TheVariants as ends
+use Rattle.ff_node.specs.declared.fault.EventFault.{EventFault}
+use Rattle.ff_node.specs.declared.fault.EventFault.TheVariants as event
+use Rattle.ff_node.specs.Nodes.{NodeEvent, NodeRule, SentRecords}
+use Rattle.ff_node.specs.Serve.{Beside, NodeRunsOn, end_of_link}
+use Rattle.rpc_record.specs.declared.stream.Failed.{Failed}
+use Rattle.node_link.specs.declared.link.Opening.{Opening}
+use Rattle.node_link.specs.declared.link.Role.TheVariants as role
+use Rattle.node_link.specs.Link.{opening_of}
+
+-- A record is answered to the node that it comes from, by the rule of the data server; no other arrival does anything. Moments do not
+-- count, and it does not end by itself.
+abbrev pub server_takes : ServerState → Arrival → ServerState × SentRecords
+server_takes s (Record from bytes) = ((outcome_of s bytes).server, sent_to from (outcome_of s bytes).reply)
+server_takes s (TimedOut node) = (s, [])
+server_takes s Closed = (s, [])
+
+abbrev pub server_rule : NodeRule ServerState
+server_rule = record {
+  step = λ s e. record { state = (server_takes s e.arrival).0; sends = (server_takes s e.arrival).1; text = [] };
+  outcome = λ s. None;
+  is_server = true;
+}
+
+-- A call is not answered where the rule gives no reply to it.
+abbrev pub gives_none : Option (List ℕ) → Bool
+gives_none None = true
+gives_none (Some reply) = false
+
+abbrev pub server_excuses : ServerState → Arrival → Bool
+server_excuses s (Record from bytes) = is_call_record bytes && gives_none (outcome_of s bytes).reply
+server_excuses s (TimedOut node) = false
+server_excuses s Closed = false
+
+-- A crash leaves the log of the server as it is; or, where it broke off at an event, of the server as it is before it or behind it.
+abbrev pub server_leaves : ServerState → Option NodeEvent → Option DiskLife → Type 0
+server_leaves s None disk = LeavesNow disk (SaysServer s)
+server_leaves s (Some e) disk = LeavesNow disk (SaysEither s (server_takes s e.arrival).0)
+
+-- how a call that was not done ends an event
+abbrev pub event_fault : StoreFault → EventFault
+event_fault store.Disk = event.Disk
+event_fault store.Broken = event.Disk
+event_fault store.NoMemory = event.NoMemory
+
+-- how a log that could not be opened ends it
+abbrev pub end_of_opening : OpenCause → NodeEnd
+end_of_opening cause.Disk = ends.DiskFault
+end_of_opening (cause.BadLog place) = ends.BadLog place
+end_of_opening cause.BootsSpent = ends.BootsSpent
+end_of_opening cause.NoMemory = ends.NoMemory
+
+-- The log was opened, and the server that it says served, in its next boot.
+pub record ServesLog (config : Config) (before : Option DiskLife) (b : Beside) (end : NodeEnd) (b' : Beside) (after : Option DiskLife) : Type 0 where
+  pub kept : KeptState
+  pub opened : OpensLog config.own before (Ok kept)
+  pub last : ServerState
+  pub runs : NodeRunsOn server_leaves server_rule [] kept.server config.turns b end last b' after
+
+-- The log could not be opened, and nothing was served.
+pub record OpensNoLog (config : Config) (before : Option DiskLife) (b : Beside) (end : NodeEnd) (b' : Beside) (after : Option DiskLife) : Type 0 where
+  pub cause : OpenCause
+  pub opens : OpensLog config.own before (Err cause)
+  pub end_is : end ≡ end_of_opening cause
+  pub same : b' ≡ b
+  pub left : LeavesOpened config.own before after
+
+-- the disk has the log of a server that goes on
+abbrev pub StandsOn : KeptState → Option DiskLife → Type 0
+StandsOn k disk = (k.spent ≡ None) × StandsOnDisk k disk
+
+abbrev pub ServesDisk : Config → Option DiskLife → Beside → NodeEnd → Beside → Option DiskLife → Type 0
+ServesDisk config before b end b' after = ServesLog config before b end b' after ⊎ OpensNoLog config before b end b' after
+
+-- The link was opened, and this was done over it; or opening it failed, and nothing was done.
+abbrev pub ServesAsDs : Config → Option Opening → Option DiskLife → Beside → NodeEnd → Option Opening → Option DiskLife → Beside → Type 0
+ServesAsDs config opened disk b end opened' disk' b' =
+    ((opened' ≡ Some (opening_of config role.Server)) × ServesDisk config disk b end b' disk')
+    ⊎ ((e : Failed) × (end ≡ end_of_link e) × (opened' ≡ opened) × (disk' ≡ disk) × (b' ≡ b))

@@ -1,0 +1,2 @@
+pub mod DsNodes
+pub mod Standing

@@ -1,0 +1,125 @@
+//! A data server as a node.
+
+ghost use Rattle.std.specs.Prelude.{◌≡◌, ◌++◌, ℕ, None, IfOk, OnOk, OnErr};
+ghost use Rattle.cluster_model.specs.Server.{ServerState};
+ghost use Rattle.ds_files.specs.Receive.{outcome_of};
+ghost use Rattle.ds_files.specs.Records.{sent_to};
+ghost use Rattle.ds_store.specs.Kept.{SaysEither, StandsOnDisk};
+ghost use Rattle.store_disk.specs.Disks.{LeavesNow};
+ghost use Rattle.ff_node.specs.Serve.{disk_counted, sink_counted};
+ghost use Rattle.ds_node.specs.Standing.{stepped, stood};
+ghost use Rattle.ds_node.specs.DsNodes.{StandsOn, event_fault, gives_none, server_excuses, server_leaves, server_rule};
+
+use cluster_model::{FailCause, NodeId, Outbox};
+use ds_store::{KeptServer, StoreFault};
+use ff_node::{EventFault, Node};
+use node_link::Arrival;
+use record_link::is_call_record;
+use rpc_record::Sink;
+use std::marker::Model;
+use store_disk::Disk;
+
+/// A data server as a node.
+#[derive(Drop)]
+pub(crate) struct DsNode {
+    kept: KeptServer,
+}
+
+impl Model for DsNode {
+    ghost use Rattle.ds_store.specs.Kept.{KeptState};
+
+    ghost Value = { KeptState };
+
+    ghost view = { λ n. n.kept };
+}
+
+/// How a call that was not done ends an event.
+fn fault_of(fault: StoreFault) -> EventFault
+    ensures { result ≡ event_fault fault }
+{
+    match fault {
+        StoreFault::Disk => EventFault::Disk,
+        StoreFault::Broken => EventFault::Disk,
+        StoreFault::NoMemory => EventFault::NoMemory,
+    }
+}
+
+impl DsNode {
+    pub(crate) fn new(kept: KeptServer) -> DsNode
+        ensures { result ≡ kept }
+    {
+        DsNode { kept }
+    }
+
+    /// Takes a record. Answers whether it gives no reply to it.
+    fn answer<D: Disk>(
+        &mut self,
+        from: NodeId,
+        bytes: &[u8],
+        out: &mut Outbox,
+        disk: &mut D,
+    ) -> Result<bool, EventFault>
+        requires { StandsOn self.old (D.told disk.old) }
+        ensures state { OnOk result (self.new.server ≡ (outcome_of self.old.server bytes.now).server) }
+        ensures sends { OnOk result (out.new.sends.items ≡ out.old.sends.items ++ sent_to from (outcome_of self.old.server bytes.now).reply) }
+        ensures none { IfOk result (λ none. none ≡ gives_none (outcome_of self.old.server bytes.now).reply) }
+        ensures stands { OnOk result (StandsOn self.new (D.told disk.new)) }
+        ensures broken { OnErr result (LeavesNow (D.told disk.new) (SaysEither self.old.server (outcome_of self.old.server bytes.now).server)) }
+        ensures faults { D.faults disk.new ≡ disk_counted result (D.faults disk.old) }
+        ensures sink { (n : ℕ) → sink_counted result n ≡ n }
+    {
+        let before = out.sends.len();
+        if let Err(fault) = self.kept.answer_record(disk, from, bytes, out) {
+            return Err(fault_of(fault));
+        }
+        Ok(out.sends.len() == before)
+    }
+}
+
+impl Node for DsNode {
+    ghost State = { ServerState };
+
+    ghost state = { λ n. n.server };
+
+    ghost rule = { server_rule };
+
+    ghost excuses = { λ n a. server_excuses n.server a };
+
+    ghost stands = { StandsOn };
+
+    ghost leaves = { server_leaves };
+
+    ghost stood = { stood };
+
+    ghost stepped = { stepped };
+
+    /// A record is answered to the node that it comes from; no other arrival does anything.
+    fn take<K: Sink, D: Disk>(
+        &mut self,
+        _moment: u64,
+        arrival: Arrival,
+        out: &mut Outbox,
+        _sink: &mut K,
+        disk: &mut D,
+    ) -> Result<bool, EventFault> {
+        match arrival {
+            Arrival::Record { from, bytes } => {
+                let gives_none = match self.answer(from, bytes.bytes(), out, disk) {
+                    Ok(gives_none) => gives_none,
+                    Err(fault) => return Err(fault),
+                };
+                Ok(is_call_record(bytes.bytes()) && gives_none)
+            }
+            Arrival::TimedOut(_) => Ok(false),
+            Arrival::Closed => Ok(false),
+        }
+    }
+
+    fn outcome(&self) -> Option<Result<(), FailCause>> {
+        None
+    }
+
+    fn is_server(&self) -> bool {
+        true
+    }
+}
