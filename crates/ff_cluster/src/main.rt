@@ -2,11 +2,15 @@
 #![tactic(auto)]
 
 use ff_run::run;
+use file_disk::FileDisk;
 use node_link::{NodeLink, SystemClock};
 use record_tcp::TcpHost;
 use rpc_record::{StdSink, StdSource};
 use std::process::ExitCode;
 use std::{env, io};
+
+/// The file of a data server's log, in the working folder.
+const LOG_FILE: &str = "ff_store.log";
 
 /// The words behind the program's name.
 fn words(rt: &HostRuntime) -> io::Result<Vec<String>> {
@@ -17,12 +21,13 @@ fn words(rt: &HostRuntime) -> io::Result<Vec<String>> {
     Ok(words)
 }
 
-/// Runs the program on the standard input and output, with its notes on the standard error, its link
-/// over TCP and the system's clock. Words that are not UTF-8 are no command.
+/// Runs the program on the standard input and output, with its notes on the standard error, its disk
+/// in the working folder, its link over TCP and the system's clock. Words that are not UTF-8 are no command.
 fn main(rt: HostRuntime) -> ExitCode {
     let mut source = StdSource::new(rt.stdin());
     let mut sink = StdSink::new(rt.stdout());
     let mut notes = StdSink::new(rt.stderr());
+    let mut disk = FileDisk::new(&rt, LOG_FILE);
     let mut link = NodeLink::new(rt.alloc(), TcpHost::new(&rt, rt.alloc()));
     let mut clock = SystemClock::new(&rt);
     let words = words(&rt).unwrap_or(Vec::new(rt.alloc()));
@@ -32,6 +37,7 @@ fn main(rt: HostRuntime) -> ExitCode {
         &mut source,
         &mut sink,
         &mut notes,
+        &mut disk,
         &mut link,
         &mut clock,
     ))

@@ -6,7 +6,7 @@ use Rattle.rpc_record.specs.declared.stream.Failed.TheVariants.{Fault, NoMemory 
 use Rattle.std.proofs.lemmas.List.{append-nil}
 use Rattle.line_runs.specs.declared.end.RunEnd.{RunEnd}
 use Rattle.line_runs.specs.declared.end.RunEnd.TheVariants.{Done, BadLine, ReadFault, WriteFault, NoMemory, Limit}
-use Rattle.line_runs.specs.Lines.{Drawn, all_left, cut_line, ReadsLine}
+use Rattle.line_runs.specs.Lines.{all_left, cut_line, ReadsLine}
 use Rattle.line_runs.proofs.LineLemmas.{cut_more-line, cut_more-over}
 use Rattle.node_config.specs.declared.config.Config.{Config}
 use Rattle.ff_node.specs.declared.end.NodeEnd.{NodeEnd}
@@ -14,7 +14,7 @@ use Rattle.command_words.specs.Commands.{CommandValue, Replay, Gen, Show, Ds, Md
 use Rattle.node_config.specs.Configs.{ConfigValue}
 use Rattle.ff_node.specs.Config.{Configures, max_line}
 use Rattle.ff_node.proofs.OneConfig.{one_config}
-use Rattle.ff_run.specs.Node.{DrawsFirst, Draws, DrawsFor, KeepsSource, HoldsRest, line_of_cut, rest_of_cut, first_line, left_behind, is_of_server, ConfiguresFor, FindsConfig, HasNoConfig, ReadsFirst, FirstFaults}
+use Rattle.ff_run.specs.Node.{DrawsFirst, Draws, DrawsFor, KeepsSource, HoldsRest, line_of_cut, rest_of_cut, first_line, is_of_server, ConfiguresFor, FindsConfig, HasNoConfig, ReadsFirst, FirstFaults}
 
 -- ---- one line configures one node
 

@@ -1,6 +1,7 @@
 -- What the commands `ds`, `mds`, `put` and `get` do: a node runs by the configuration in the source's first line.
 use Rattle.std.specs.Prelude.{⊤, ◌≡◌, ℕ, ◌+◌, ◌≤◌, Bool, true, false, List, [], length, Option, Some, None, Result, Ok, Err}
-use Rattle.cluster_model.specs.Server.{ServerState, new_server}
+use Rattle.store_disk.specs.Disks.{DiskLife}
+use Rattle.ds_node.specs.DsNodes.{ServesAsDs}
 use Rattle.line_runs.specs.declared.end.RunEnd.{RunEnd}
 use Rattle.line_runs.specs.declared.end.RunEnd.TheVariants.{Done, BadLine, ReadFault, WriteFault, NoMemory, Limit}
 use Rattle.line_runs.specs.Lines.{Cut, Line, Last, PastBudget, cut_line, Drawn, all_left}
@@ -13,8 +14,7 @@ use Rattle.mds_rule.specs.MdsStates.{MdsValue, new_mds}
 use Rattle.command_words.specs.Commands.{CommandValue, Replay, Gen, Show, Ds, Mds, Put, Get}
 use Rattle.ff_node.specs.declared.end.NodeEnd.{NodeEnd}
 use Rattle.ff_node.specs.Config.{Configures, max_line}
-use Rattle.ff_node.specs.Nodes.{server_rule}
-use Rattle.ff_node.specs.Serve.{Beside, OpensThen, NodeRuns, link_faults, sink_faults}
+use Rattle.ff_node.specs.Serve.{Beside, OpensThen, NodeRuns, disk_faults, link_faults, sink_faults}
 use Rattle.mds_node.specs.MdsNodes.{mds_node_rule}
 use Rattle.user_nodes.specs.Puts.{PutsFile, source_faults}
 use Rattle.user_nodes.specs.Gets.{GetsFile}
@@ -23,14 +23,16 @@ use Rattle.ff_run.specs.declared.serving.Task.TheVariants as code
 
 -- ---- what is told
 
--- what the source has left; what the link was opened with; and what is beside a node: the link, the clock and the sink
+-- what the source has left; how the disk stands and stood; what the link was opened with; and what is beside a node: the link, the clock and
+-- the sink
 pub record Observed : Type 0 where
   pub unread : Option (List ℕ)
+  pub disk : Option DiskLife
   pub opened : Option Opening
   pub around : Beside
 
-abbrev pub observed : Option (List ℕ) → Option Opening → Beside → Observed
-observed unread opened around = record { unread = unread; opened = opened; around = around }
+abbrev pub observed : Option (List ℕ) → Option DiskLife → Option Opening → Beside → Observed
+observed unread disk opened around = record { unread = unread; disk = disk; opened = opened; around = around }
 
 -- ---- the configuration
 
@@ -156,21 +158,23 @@ KeepsSink b b' = b'.held ≡ b.held
 abbrev pub KeepsClock : Beside → Beside → Type 0
 KeepsClock b b' = (b'.moments ≡ b.moments) × (b'.moment ≡ b.moment)
 
--- What running a node did that is configured so. A data server and the metadata server are new; `put` had the bytes behind the first line,
--- of which some may be held back.
+abbrev pub KeepsDisk : Observed → Observed → Type 0
+KeepsDisk old new = new.disk ≡ old.disk
+
+-- What running a node did that is configured so. A data server serves from the log on its disk, and every other node leaves the disk alone.
+-- The metadata server is new; `put` had the bytes behind the first line, of which some may be held back.
 abbrev pub RunsNode : CommandValue → Config → Observed → NodeEnd → Observed → Type 0
 RunsNode Ds config old end new =
-    OpensThen old.opened config role.Server (link_alone old.around) end new.opened (link_alone new.around)
-    ((server : ServerState) × NodeRuns server_rule [] (new_server config.own 1) config.turns (link_alone old.around) end server (link_alone new.around))
+    ServesAsDs config old.opened old.disk (link_alone old.around) end new.opened new.disk (link_alone new.around)
     × KeepsClock old.around new.around × KeepsSink old.around new.around
 RunsNode Mds config old end new =
     OpensThen old.opened config role.Mds (no_sink old.around) end new.opened (no_sink new.around)
     ((mds : MdsValue) × NodeRuns mds_node_rule [] (new_mds (config_value config).servers (config_value config).mirrors) config.turns (no_sink old.around) end mds (no_sink new.around))
-    × KeepsSink old.around new.around
+    × KeepsSink old.around new.around × KeepsDisk old new
 RunsNode (Put name) config old end new =
     ((held : List ℕ) × PutsFile config name (left_behind old.unread) old.opened (no_sink old.around) end (all_left held new.unread) new.opened (no_sink new.around))
-    × KeepsSink old.around new.around
-RunsNode (Get name) config old end new = GetsFile config name old.opened old.around end new.opened new.around
+    × KeepsSink old.around new.around × KeepsDisk old new
+RunsNode (Get name) config old end new = GetsFile config name old.opened old.around end new.opened new.around × KeepsDisk old new
 RunsNode (Replay mode) config old end new = ⊥
 RunsNode (Gen number) config old end new = ⊥
 RunsNode Show config old end new = ⊥
@@ -185,12 +189,12 @@ abbrev pub KeepsSource : CommandValue → Option (List ℕ) → Option (List ℕ
 KeepsSource (Put name) left left' = ⊤
 KeepsSource command left left' = left' ≡ left
 
--- What a command of nodes did: a node ran by the configuration in the first line; or there is none, and link, clock and sink are as they were.
+-- What a command of nodes did: a node ran by the configuration in the first line; or there is none, and disk, link, clock and sink are as they were.
 abbrev pub ServesTask : CommandValue → Observed → Result NodeEnd RunEnd → Observed → Type 0
 ServesTask command old (Ok end) new =
     (config : Config) × IsConfigOf command old.unread (config_value config) × RunsNode command config old end new × DrawsFor command old.unread end new.unread
 ServesTask command old (Err end) new =
-    Unserved command old.unread end × Draws {T = NodeEnd} old.unread (Err end) new.unread × (new.opened ≡ old.opened) × (new.around ≡ old.around)
+    Unserved command old.unread end × Draws {T = NodeEnd} old.unread (Err end) new.unread × (new.opened ≡ old.opened) × (new.around ≡ old.around) × KeepsDisk old new
 
 -- the counts of faults after it
 abbrev pub served_faults : Result NodeEnd RunEnd → ℕ → ℕ
@@ -200,6 +204,10 @@ served_faults (Err end) n = n
 abbrev pub served_writes : Result NodeEnd RunEnd → ℕ → ℕ
 served_writes (Ok end) n = sink_faults end n
 served_writes (Err end) n = n
+
+abbrev pub served_disk : Result NodeEnd RunEnd → ℕ → ℕ
+served_disk (Ok end) n = disk_faults end n
+served_disk (Err end) n = n
 
 abbrev pub ServedReads : Result NodeEnd RunEnd → ℕ → ℕ → Type 0
 ServedReads (Ok end) old new = new ≡ source_faults end old

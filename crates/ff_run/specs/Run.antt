@@ -9,9 +9,8 @@ use Rattle.line_runs.specs.declared.end.RunEnd.{RunEnd}
 use Rattle.line_runs.specs.declared.end.RunEnd.TheVariants.{Done, BadLine, ReadFault, WriteFault, NoMemory, Limit}
 use Rattle.line_runs.specs.Runs.{Runs, read_faults, write_faults}
 use Rattle.line_runs.specs.Writing.{WritesText}
-use Rattle.ff_node.specs.declared.end.NodeEnd.{NodeEnd}
 use Rattle.ff_node.specs.declared.end.NodeEnd.TheVariants as served
-use Rattle.ff_node.specs.Serve.{link_faults, sink_faults}
+use Rattle.ff_node.specs.Serve.{disk_faults, link_faults, sink_faults}
 use Rattle.user_nodes.specs.Puts.{source_faults}
 use Rattle.script_gen.specs.Generated.{generated}
 use Rattle.ff_replay.specs.Script.{script_budget, script_meaning}
@@ -23,7 +22,7 @@ use Rattle.ff_run.specs.Node.{Observed, ServesTask}
 
 -- but for the source and the sink all is as it was
 abbrev pub KeepsNodes : Observed → Observed → Type 0
-KeepsNodes old new = (new.opened ≡ old.opened) × (new.around ≡ record old.around { held = new.around.held })
+KeepsNodes old new = (new.opened ≡ old.opened) × (new.disk ≡ old.disk) × (new.around ≡ record old.around { held = new.around.held })
 
 -- how writing a text ends a command
 abbrev pub end_of_writing : Result (Unit {0}) Failed → RunEnd
@@ -52,6 +51,9 @@ status_of (Ended (Limit n)) = 9
 status_of (Served served.Done) = 0
 status_of (Served served.ReadFault) = 4
 status_of (Served served.WriteFault) = 5
+status_of (Served served.DiskFault) = 6
+status_of (Served (served.BadLog place)) = 6
+status_of (Served served.BootsSpent) = 6
 status_of (Served served.LinkFault) = 7
 status_of (Served served.NoMemory) = 8
 status_of (Served (served.Failed cause)) = 10
@@ -79,6 +81,9 @@ note_of (Ended (Limit n)) = with_number (codes "limit ") n
 note_of (Served served.Done) = []
 note_of (Served served.ReadFault) = codes "read fault\n"
 note_of (Served served.WriteFault) = codes "write fault\n"
+note_of (Served served.DiskFault) = codes "disk fault\n"
+note_of (Served (served.BadLog place)) = with_number (codes "bad log ") place
+note_of (Served served.BootsSpent) = codes "boots spent\n"
 note_of (Served served.LinkFault) = codes "link fault\n"
 note_of (Served served.NoMemory) = codes "no memory\n"
 note_of (Served (served.Failed cause)) = failure_note cause
@@ -119,6 +124,12 @@ abbrev pub link_faults_after : ProgramEnd → ℕ → ℕ
 link_faults_after Usage n = n
 link_faults_after (Ended end) n = n
 link_faults_after (Served end) n = link_faults end n
+
+-- the disk's count of faults
+abbrev pub disk_faults_after : ProgramEnd → ℕ → ℕ
+disk_faults_after Usage n = n
+disk_faults_after (Ended end) n = n
+disk_faults_after (Served end) n = disk_faults end n
 
 -- what was said of it: the notes took the line, or a beginning of it, and the status is by that
 pub record Reports (end : ProgramEnd) (code : ℕ) (notes notes' : Option (List ℕ)) (faults faults' : ℕ) : Type 0 where

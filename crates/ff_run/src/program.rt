@@ -8,7 +8,7 @@ ghost use Rattle.command_words.specs.Commands.{IsInGrammar, command_value};
 ghost use Rattle.ff_node.specs.Serve.{beside};
 ghost use Rattle.ff_run.specs.declared.program.ProgramEnd.{ProgramEnd};
 ghost use Rattle.ff_run.specs.Node.{IsShortName, observed, task_command};
-ghost use Rattle.ff_run.specs.Run.{Performs, PerformsCommand, Reports, end_of_writing, failure_note, link_faults_after, note_of, sink_faults_after, source_faults_after, status_of, with_number};
+ghost use Rattle.ff_run.specs.Run.{Performs, PerformsCommand, Reports, disk_faults_after, end_of_writing, failure_note, link_faults_after, note_of, sink_faults_after, source_faults_after, status_of, with_number};
 
 use crate::serving::{Task, serve};
 use cluster_model::FailCause;
@@ -23,6 +23,7 @@ use record_show::show;
 use rpc_record::{Failed, Sink, Source};
 use script_gen::generate;
 use std::alloc::Global;
+use store_disk::Disk;
 
 /// How the program ends.
 #[derive(Clone, Copy, Debug, PartialEq, Eq)]
@@ -51,6 +52,9 @@ impl ProgramEnd {
             ProgramEnd::Served(NodeEnd::Done) => 0,
             ProgramEnd::Served(NodeEnd::ReadFault) => 4,
             ProgramEnd::Served(NodeEnd::WriteFault) => 5,
+            ProgramEnd::Served(NodeEnd::DiskFault) => 6,
+            ProgramEnd::Served(NodeEnd::BadLog(_)) => 6,
+            ProgramEnd::Served(NodeEnd::BootsSpent) => 6,
             ProgramEnd::Served(NodeEnd::LinkFault) => 7,
             ProgramEnd::Served(NodeEnd::NoMemory) => 8,
             ProgramEnd::Served(NodeEnd::Failed(_)) => 10,
@@ -76,6 +80,14 @@ impl ProgramEnd {
             ProgramEnd::Served(NodeEnd::Done) => Ok(()),
             ProgramEnd::Served(NodeEnd::ReadFault) => write_all(notes, b"read fault\n"),
             ProgramEnd::Served(NodeEnd::WriteFault) => write_all(notes, b"write fault\n"),
+            ProgramEnd::Served(NodeEnd::DiskFault) => write_all(notes, b"disk fault\n"),
+            ProgramEnd::Served(NodeEnd::BadLog(place)) => tell_number(
+                alloc,
+                b"bad log ",
+                place,
+                notes,
+            ),
+            ProgramEnd::Served(NodeEnd::BootsSpent) => write_all(notes, b"boots spent\n"),
             ProgramEnd::Served(NodeEnd::LinkFault) => write_all(notes, b"link fault\n"),
             ProgramEnd::Served(NodeEnd::NoMemory) => write_all(notes, b"no memory\n"),
             ProgramEnd::Served(NodeEnd::Failed(cause)) => tell_failure(alloc, cause, notes),
@@ -135,97 +147,105 @@ fn written(writing: Result<(), Failed>) -> RunEnd
 }
 
 /// Runs a node for a task.
-fn run_task<S: Source, K: Sink, L: Link, C: Clock>(
+fn run_task<S: Source, K: Sink, D: Disk, L: Link, C: Clock>(
     alloc: Global,
     task: Task<'_>,
     source: &mut S,
     sink: &mut K,
+    disk: &mut D,
     link: &mut L,
     clock: &mut C,
 ) -> ProgramEnd
     requires { IsShortName task }
-    ensures told { PerformsCommand (task_command task.entry) result (observed (S.left source.old) (L.opened link.old) (beside (L.coming link.old) (L.sent link.old) (C.coming clock.old) (C.moment clock.old) (K.held sink.old))) (observed (S.left source.new) (L.opened link.new) (beside (L.coming link.new) (L.sent link.new) (C.coming clock.new) (C.moment clock.new) (K.held sink.new))) }
+    ensures told { PerformsCommand (task_command task.entry) result (observed (S.left source.old) (D.told disk.old) (L.opened link.old) (beside (L.coming link.old) (L.sent link.old) (C.coming clock.old) (C.moment clock.old) (K.held sink.old))) (observed (S.left source.new) (D.told disk.new) (L.opened link.new) (beside (L.coming link.new) (L.sent link.new) (C.coming clock.new) (C.moment clock.new) (K.held sink.new))) }
     ensures reads { S.faults source.new ≡ source_faults_after result (S.faults source.old) }
     ensures writes { K.faults sink.new ≡ sink_faults_after result (K.faults sink.old) }
     ensures faults { L.faults link.new ≡ link_faults_after result (L.faults link.old) }
+    ensures keeps { D.faults disk.new ≡ disk_faults_after result (D.faults disk.old) }
 {
-    match serve(alloc, task, source, sink, link, clock) {
+    match serve(alloc, task, source, sink, disk, link, clock) {
         Ok(end) => ProgramEnd::Served(end),
         Err(end) => ProgramEnd::Ended(end),
     }
 }
 
 /// Does what a command asks for.
-fn perform<S: Source, K: Sink, L: Link, C: Clock>(
+fn perform<S: Source, K: Sink, D: Disk, L: Link, C: Clock>(
     alloc: Global,
     command: Command<'_>,
     source: &mut S,
     sink: &mut K,
+    disk: &mut D,
     link: &mut L,
     clock: &mut C,
 ) -> ProgramEnd
     requires { IsInGrammar (command_value command) }
-    ensures told { PerformsCommand (command_value command.entry) result (observed (S.left source.old) (L.opened link.old) (beside (L.coming link.old) (L.sent link.old) (C.coming clock.old) (C.moment clock.old) (K.held sink.old))) (observed (S.left source.new) (L.opened link.new) (beside (L.coming link.new) (L.sent link.new) (C.coming clock.new) (C.moment clock.new) (K.held sink.new))) }
+    ensures told { PerformsCommand (command_value command.entry) result (observed (S.left source.old) (D.told disk.old) (L.opened link.old) (beside (L.coming link.old) (L.sent link.old) (C.coming clock.old) (C.moment clock.old) (K.held sink.old))) (observed (S.left source.new) (D.told disk.new) (L.opened link.new) (beside (L.coming link.new) (L.sent link.new) (C.coming clock.new) (C.moment clock.new) (K.held sink.new))) }
     ensures reads { S.faults source.new ≡ source_faults_after result (S.faults source.old) }
     ensures writes { K.faults sink.new ≡ sink_faults_after result (K.faults sink.old) }
     ensures faults { L.faults link.new ≡ link_faults_after result (L.faults link.old) }
+    ensures keeps { D.faults disk.new ≡ disk_faults_after result (D.faults disk.old) }
 {
     match command {
         Command::Replay(mode) => ProgramEnd::Ended(replay(alloc, mode, source, sink)),
         Command::Gen(number) => ProgramEnd::Ended(written(generate(alloc, number, sink))),
         Command::Show => ProgramEnd::Ended(show(alloc, source, sink)),
-        Command::Ds => run_task(alloc, Task::Ds, source, sink, link, clock),
-        Command::Mds => run_task(alloc, Task::Mds, source, sink, link, clock),
-        Command::Put(name) => run_task(alloc, Task::Put(name), source, sink, link, clock),
-        Command::Get(name) => run_task(alloc, Task::Get(name), source, sink, link, clock),
+        Command::Ds => run_task(alloc, Task::Ds, source, sink, disk, link, clock),
+        Command::Mds => run_task(alloc, Task::Mds, source, sink, disk, link, clock),
+        Command::Put(name) => run_task(alloc, Task::Put(name), source, sink, disk, link, clock),
+        Command::Get(name) => run_task(alloc, Task::Get(name), source, sink, disk, link, clock),
     }
 }
 
 /// Does what the words ask for.
-fn do_words<S: Source, K: Sink, L: Link, C: Clock>(
+fn do_words<S: Source, K: Sink, D: Disk, L: Link, C: Clock>(
     alloc: Global,
     words: &[String],
     source: &mut S,
     sink: &mut K,
+    disk: &mut D,
     link: &mut L,
     clock: &mut C,
 ) -> ProgramEnd
-    ensures told { Performs (map string_bytes words.now) result (observed (S.left source.old) (L.opened link.old) (beside (L.coming link.old) (L.sent link.old) (C.coming clock.old) (C.moment clock.old) (K.held sink.old))) (observed (S.left source.new) (L.opened link.new) (beside (L.coming link.new) (L.sent link.new) (C.coming clock.new) (C.moment clock.new) (K.held sink.new))) }
+    ensures told { Performs (map string_bytes words.now) result (observed (S.left source.old) (D.told disk.old) (L.opened link.old) (beside (L.coming link.old) (L.sent link.old) (C.coming clock.old) (C.moment clock.old) (K.held sink.old))) (observed (S.left source.new) (D.told disk.new) (L.opened link.new) (beside (L.coming link.new) (L.sent link.new) (C.coming clock.new) (C.moment clock.new) (K.held sink.new))) }
     ensures reads { S.faults source.new ≡ source_faults_after result (S.faults source.old) }
     ensures writes { K.faults sink.new ≡ sink_faults_after result (K.faults sink.old) }
     ensures faults { L.faults link.new ≡ link_faults_after result (L.faults link.old) }
+    ensures keeps { D.faults disk.new ≡ disk_faults_after result (D.faults disk.old) }
 {
     match asked(alloc, words) {
-        Ok(Some(command)) => perform(alloc, command, source, sink, link, clock),
+        Ok(Some(command)) => perform(alloc, command, source, sink, disk, link, clock),
         Ok(None) => ProgramEnd::Usage,
         Err(NoMemory) => ProgramEnd::Ended(RunEnd::NoMemory),
     }
 }
 
 /// Runs the program: `words` are those behind its name, `source` its standard input, `sink` its
-/// standard output, `notes` its standard error, `link` what joins it to other nodes and `clock` its clock, in
-/// seconds. The status is 0 where the source was read to its end, all was written, or all turns were served or the
+/// standard output, `notes` its standard error, `disk` what has the log of a data server, `link` what joins it to other
+/// nodes and `clock` its clock, in seconds. The status is 0 where the source was read to its end, all was written, or all turns were served or the
 /// link closed; 2 where the words are no command, 3 where a line is outside the grammar, 4 where the source failed, 5
-/// where the sink or the notes did, 7 where the link did, 8 where memory was wanted, 9 where the source is longer
+/// where the sink or the notes did, 6 where the disk did, its log is bad or has the last boot, 7 where the link did, 8 where memory was wanted, 9 where the source is longer
 /// than 64 MiB or a journal would pass a limit, 10 where a request of `put` or `get` was not done, and 11 where their
 /// turns were over, or the link was closed, before all was answered.
-pub fn run<S: Source, K: Sink, E: Sink, L: Link, C: Clock>(
+pub fn run<S: Source, K: Sink, E: Sink, D: Disk, L: Link, C: Clock>(
     alloc: Global,
     words: &[String],
     source: &mut S,
     sink: &mut K,
     notes: &mut E,
+    disk: &mut D,
     link: &mut L,
     clock: &mut C,
 ) -> u8
     ensures { (end : ProgramEnd)
-        × Performs (map string_bytes words.now) end (observed (S.left source.old) (L.opened link.old) (beside (L.coming link.old) (L.sent link.old) (C.coming clock.old) (C.moment clock.old) (K.held sink.old))) (observed (S.left source.new) (L.opened link.new) (beside (L.coming link.new) (L.sent link.new) (C.coming clock.new) (C.moment clock.new) (K.held sink.new)))
+        × Performs (map string_bytes words.now) end (observed (S.left source.old) (D.told disk.old) (L.opened link.old) (beside (L.coming link.old) (L.sent link.old) (C.coming clock.old) (C.moment clock.old) (K.held sink.old))) (observed (S.left source.new) (D.told disk.new) (L.opened link.new) (beside (L.coming link.new) (L.sent link.new) (C.coming clock.new) (C.moment clock.new) (K.held sink.new)))
         × (S.faults source.new ≡ source_faults_after end (S.faults source.old))
         × (K.faults sink.new ≡ sink_faults_after end (K.faults sink.old))
+        × (D.faults disk.new ≡ disk_faults_after end (D.faults disk.old))
         × (L.faults link.new ≡ link_faults_after end (L.faults link.old))
         × Reports end result (E.held notes.old) (E.held notes.new) (E.faults notes.old) (E.faults notes.new) }
 {
-    let end = do_words(alloc, words, source, sink, link, clock);
+    let end = do_words(alloc, words, source, sink, disk, link, clock);
     match end.tell(alloc, notes) {
         Ok(()) => end.status(),
         Err(Failed::Fault) => 5,

@@ -3,12 +3,15 @@
 
 mod apply;
 mod client;
+mod crashes;
 mod mds;
 mod outbox;
 mod server;
+mod store;
 mod stored_file;
 
 pub use client::ClientRows;
 pub use mds::MdsRows;
 pub use server::ServerRows;
+pub use store::StoreRows;
 pub use stored_file::DataFileRows;

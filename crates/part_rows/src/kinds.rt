@@ -6,7 +6,7 @@ use part_grants::{LayoutsRows, ResultsRows};
 use part_mds::{FileRows, OpensRows, OperationRows};
 use part_mds_bytes::{MdsReceiveRows, RecallCallsRows};
 use part_messages::MessageRows;
-use part_nodes::{ClientRows, DataFileRows, MdsRows, ServerRows};
+use part_nodes::{ClientRows, DataFileRows, MdsRows, ServerRows, StoreRows};
 use part_runs::{ConfigRows, LineRows, RunRows};
 use part_state::{
     CbSlotRows, CopyRows, ExtentsRows, FenceRows, FileStateRows, MdsReadRows, MdsWriteRows,
@@ -61,6 +61,7 @@ fn on_nodes<V: Player>(alloc: Global, kind: &str, player: &mut V) -> Played {
         "mds" => on(player, MdsRows::new(alloc)),
         "run" => on(player, RunRows),
         "server" => on(player, ServerRows::new(alloc)),
+        "store" => on(player, StoreRows::new(alloc)),
         _ => None,
     }
 }

@@ -35,8 +35,9 @@ fn printed(alloc: Global, words: &[&str], text: &[u8]) -> Result<Vec<u8>, RowFau
         text,
         Vec::new(alloc),
         Vec::new(alloc),
+        Vec::new(alloc),
         Failing::none(alloc),
-    );
+    )?;
     let mut bytes = ended.sink.bytes().to_vec(alloc)?;
     push_end(&ended, alloc, &mut bytes)?;
     Ok(bytes)

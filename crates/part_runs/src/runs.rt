@@ -9,6 +9,7 @@ use row_words::{Answer, Part, RowFault, Words, number64};
 use rpc_record::{StdSink, SureSink, SureSource};
 use std::alloc::Global;
 use std::io;
+use store_disk::NoDisk;
 
 /// Plays rows of runs, each of which is a run of its own.
 #[derive(Drop)]
@@ -21,6 +22,7 @@ impl Failing {
             "source" => &mut self.source,
             "sink" => &mut self.sink,
             "notes" => &mut self.notes,
+            "disk" => &mut self.disk,
             "link" => &mut self.link,
             _ => return Err(RowFault::Outside),
         };
@@ -77,8 +79,9 @@ fn play_run(words: &mut Words<'_>, answer: &mut Answer) -> Result<(), RowFault> 
         text,
         Vec::new(alloc),
         Vec::new(alloc),
+        Vec::new(alloc),
         failing,
-    );
+    )?;
     put_end(&ended, answer)?;
     put_text(ended.sink.bytes(), answer)
 }
@@ -104,9 +107,35 @@ fn play_ds(words: &mut Words<'_>, answer: &mut Answer) -> Result<(), RowFault> {
     let text = read_text(words)?;
     words.end()?;
     let said = vec![in alloc; String::from_str(alloc, "ds")?]?;
-    let ended = ran(alloc, &said, text, arrivals, Vec::new(alloc), failing);
+    let ended = ran(
+        alloc,
+        &said,
+        text,
+        Vec::new(alloc),
+        arrivals,
+        Vec::new(alloc),
+        failing,
+    )?;
     put_end(&ended, answer)?;
     answer.number(ended.link.faults())?;
+    put_sent(ended.link.sent(), answer)
+}
+
+/// `store FAILING DISK ARRIVALS TEXT`: the status, the note, how many calls of the link and of the disk failed, the disk's
+/// bytes, and what was sent.
+fn play_store(words: &mut Words<'_>, answer: &mut Answer) -> Result<(), RowFault> {
+    let alloc = words.alloc();
+    let failing = read_failing(words)?;
+    let log = words.bytes()?;
+    let arrivals = read_arrivals(words)?;
+    let text = read_text(words)?;
+    words.end()?;
+    let said = vec![in alloc; String::from_str(alloc, "ds")?]?;
+    let ended = ran(alloc, &said, text, log, arrivals, Vec::new(alloc), failing)?;
+    put_end(&ended, answer)?;
+    answer.number(ended.link.faults())?;
+    answer.number(ended.disk.faults())?;
+    answer.bytes(ended.disk.bytes())?;
     put_sent(ended.link.sent(), answer)
 }
 
@@ -120,7 +149,15 @@ fn play_node(words: &mut Words<'_>, answer: &mut Answer) -> Result<(), RowFault>
     let arrivals = read_arrivals(words)?;
     let text = read_text(words)?;
     words.end()?;
-    let ended = ran(alloc, &said, text, arrivals, moments, failing);
+    let ended = ran(
+        alloc,
+        &said,
+        text,
+        Vec::new(alloc),
+        arrivals,
+        moments,
+        failing,
+    )?;
     put_end(&ended, answer)?;
     answer.number(ended.link.faults())?;
     put_text(ended.sink.bytes(), answer)?;
@@ -133,14 +170,15 @@ fn ran_words(alloc: Global, word: &str, operand: &str, text: Vec<u8>) -> Result<
         String::from_str(alloc, word)?,
         String::from_str(alloc, operand)?,
     ]?;
-    Ok(ran(
+    ran(
         alloc,
         &said,
         text,
         Vec::new(alloc),
         Vec::new(alloc),
+        Vec::new(alloc),
         Failing::none(alloc),
-    ))
+    )
 }
 
 /// `counted N`: the status and the note of a replay that counts what the script of this number brings, and what it
@@ -172,6 +210,7 @@ fn play_status(words: &mut Words<'_>, answer: &mut Answer) -> Result<(), RowFaul
         &mut source,
         &mut sink,
         &mut notes,
+        &mut NoDisk,
         &mut link,
         &mut clock,
     );
@@ -184,6 +223,7 @@ impl Part for RunRows {
         match words.word()? {
             "run" => play_run(words, answer),
             "ds" => play_ds(words, answer),
+            "store" => play_store(words, answer),
             "node" => play_node(words, answer),
             "counted" => play_counted(words, answer),
             "status" => play_status(words, answer),

@@ -7,6 +7,7 @@ use ff_run::run;
 use node_link::{MemoryClock, SureLink};
 use rpc_record::{Failed, Source, SureSink};
 use std::test::Fail;
+use store_disk::NoDisk;
 
 /// A source of comments that never ends. Each is as long as a piece.
 #[derive(Drop)]
@@ -42,6 +43,7 @@ fn a_script_is_too_long(rt: HostRuntime) -> Result<(), Fail> {
         &mut Comments,
         &mut sink,
         &mut notes,
+        &mut NoDisk,
         &mut link,
         &mut MemoryClock::new(Vec::new(rt.alloc())),
     );

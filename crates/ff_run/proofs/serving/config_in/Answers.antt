@@ -1,4 +1,4 @@
-use Rattle.std.proofs.Common.{◌≡◌, ◌≤◌, length, map, refl, sym, ◌∙◌, arith, true, false}
+use Rattle.std.proofs.Common.{◌≡◌, length, map, refl, sym, ◌∙◌, arith, false}
 use Rattle.std.proofs.lemmas.List.{length-map}
 use Rattle.device_addr.specs.Universal.{address_value}
 use Rattle.node_config.specs.Configs.{config_value}
