@@ -172,7 +172,7 @@ module _ (net : Net) (n xid : ℕ) (journal : List Entry) (same : AllFollow net.
       → GoesOut (record { file = record { layout = s; activity = Copies (with_read c (Out xid 0)) }; server = c.source.server; uid = 0; call = Read c.source.fileid c.at PIECE_SIZE })
   reads s c h =
       let k = as_it_was c.source.server 0 (Read c.source.fileid c.at PIECE_SIZE) (record { layout = s; activity = Copies c }) h in
-      (tt, recopied _ n journal s c k c.at c.piece c.ended (Out xid 0) c.targets k.busy.targets k.busy.sources refl)
+      (tt, recopied _ n journal s c k c.at c.piece c.ended (Out xid 0) c.targets k.busy.targets k.busy.sources refl k.busy.short)
 
   -- the call of a fence is such as is ever made
   asks : (s : LayoutState) (fence : FenceState) → IsFile net journal n (record { layout = s; activity = Fences fence }) → (m : FenceMirror) → IsInFence net n fence.cred m

@@ -105,6 +105,7 @@ module _ (m : Machine) (journal : List Entry) (d : Drawn) (h : Holds m journal d
             names = o.names;
             owners = o.owners;
             told = record { each = λ index file there. o.told.each index file there ∙ sym (away index); none = λ index past. away index ∙ o.told.none index past };
+            ticks = o.ticks;
           }
 
       servers_now : (k : ℕ) (t : ServerState) → numbered_at changed.servers k ≡ Some t → IsServer (net_of changed d) (journal ++ entries) k t

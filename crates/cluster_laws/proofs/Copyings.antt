@@ -1,5 +1,5 @@
 -- The source of a copy is committed, and a copy begins.
-use Rattle.std.proofs.Common.{◌≡◌, ℕ, suc, ◌+◌, ◌-◌, ◌<◌, ◌≤◌, Bool, true, false, eqb, cond, List, [], ◌∷◌, ◌++◌, length, take, drop, Option, Some, None, refl, sym, ap, subst, ◌∙◌, arith, append-nil}
+use Rattle.std.proofs.Common.{◌≡◌, ℕ, suc, ◌+◌, ◌-◌, ◌<◌, ◌≤◌, Bool, true, false, eqb, cond, List, [], ◌∷◌, ◌++◌, length, take, drop, Option, Some, None, refl, sym, ap, subst, ◌∙◌, arith, append-nil, inl, inr}
 use Rattle.std.specs.List.{AllByRecursion}
 use Rattle.std.proofs.lemmas.Bool.{eqb-false, and_parts}
 use Rattle.cluster_model.specs.declared.ids.Mirror.{Mirror}
@@ -25,7 +25,7 @@ use Rattle.cluster_laws.specs.Machine.{file_id}
 use Rattle.cluster_laws.specs.FenceLaw.{live_in}
 use Rattle.cluster_laws.proofs.Facts.{AllFollow}
 use Rattle.cluster_laws.proofs.Lists.{all_more}
-use Rattle.cluster_laws.proofs.Invariant.{Net, FenceNote, fence_in, If, IsFenceNote, IsEntry, IsFencedTo, IsMirrorOf, IsTargetOf, IsNotSource, live_of, IsFile}
+use Rattle.cluster_laws.proofs.Invariant.{Net, FenceNote, fence_in, If, IsFenceNote, IsEntry, IsFencedTo, IsMirrorOf, IsTargetOf, IsNotSource, live_of, IsFile, IsNamedSource}
 use Rattle.cluster_laws.proofs.Onward.{mirror_on}
 use Rattle.cluster_laws.proofs.Plans.{plan_ok}
 use Rattle.cluster_laws.proofs.Rows.{RowOk}
@@ -114,6 +114,10 @@ module _ (net : Net) (n next_uid files : ℕ) (journal : List Entry) (same : All
     made = λ m is. absurd cc;
   }
 
+  first_named : (live : List Mirror) → AllByRecursion (IsMirrorOf net n journal) live → IsNamedSource net.servers (source_of live)
+  first_named [] all = inl refl
+  first_named (m ∷ live) all = inr (all.0.name, all.0.bears)
+
   begins_copying : (copies : CopyKind) → RowOk (drawn_net net n next_uid (length (plan_of copies s fresh))) journal n (next_uid + 1) (record { layout = with_phase s (Copying (a_uid next_uid) copies); activity = Copies (new_copy (source_of s.live) (plan_of copies s fresh) next_uid) }) []
   begins_copying copies =
       let names = length (plan_of copies s fresh) in
@@ -141,6 +145,8 @@ module _ (net : Net) (n next_uid files : ℕ) (journal : List Entry) (same : All
             fences = subst (λ (j : List Entry). AllByRecursion (IsFencedTo n next_uid) j) (sym (append-nil journal)) (below n next_uid files journal entries_ok);
             sources = all_map (λ t. IsNotSource s.live t.replaced) (λ t. IsNotSource s.live t.replaced) to_make (plan_of copies s fresh) (λ t k. k) (sources_ok copies s fresh h.apart);
             plan = plan_ok copies s fresh h.apart;
+            source = first_named s.live h.mirrors;
+            short = record { size = omega arith; end = omega arith };
           };
         };
       }

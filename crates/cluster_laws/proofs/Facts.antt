@@ -5,7 +5,7 @@ use Rattle.cluster_model.specs.declared.tick.Tick.{Tick}
 use Rattle.cluster_model.specs.declared.ids.MirrorId.{MirrorId}
 use Rattle.cluster_model.specs.Ticks.{IsUpTo}
 use Rattle.cluster_model.specs.File.{StoredFile}
-use Rattle.cluster_model.specs.Server.{ServerState}
+use Rattle.cluster_model.specs.Server.{ServerState, max_ticks}
 use Rattle.cluster_model.specs.DsCalls.{mirror_name}
 use Rattle.cluster_model.specs.GuardLaws.{WasAsked, Follows}
 use Rattle.cluster_laws.specs.Machine.{numbered_at}
@@ -38,11 +38,12 @@ pub record OwnedFrom (servers : List ServerState) (id : MirrorId) (uid : ℕ) : 
   pub is : slice_get server.files index ≡ Some file
   pub up : uid ≤ file.owner
 
--- a server has given a tick
+-- a server has given a tick, which is one of those that a boot has
 pub record HasGiven (servers : List ServerState) (n : ℕ) (tick : Tick) : Type 0 where
   pub server : ServerState
   pub there : numbered_at servers n ≡ Some server
   pub seen : IsUpTo tick server.clock
+  pub few : tick.count ≤ max_ticks
 
 -- a file of a server was asked to be given away
 pub record AskedAt (servers : List ServerState) (n fileid uid : ℕ) (guard : Tick) : Type 0 where
@@ -68,7 +69,7 @@ owned_on old new f id uid o =
 pub given_on : (old new : List ServerState) → AllFollow old new → (n : ℕ) (tick : Tick) → HasGiven old n tick → HasGiven new n tick
 given_on old new f n tick g =
     let t = f n g.server g.there in
-    record { server = t.0; there = t.1; seen = up_to_up_to tick g.server.clock t.0.clock g.seen t.2.clock }
+    record { server = t.0; there = t.1; seen = up_to_up_to tick g.server.clock t.0.clock g.seen t.2.clock; few = g.few }
 
 pub asked_on : (old new : List ServerState) → AllFollow old new → (n fileid uid : ℕ) (guard : Tick) → AskedAt old n fileid uid guard → AskedAt new n fileid uid guard
 asked_on old new f n fileid uid guard a =

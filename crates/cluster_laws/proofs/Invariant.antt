@@ -1,6 +1,6 @@
 -- What holds at every moment of a run: of the data servers, of each packet that was ever sent, of each file of the metadata server, and of
 -- the journal so far.
-use Rattle.std.proofs.Common.{◌≡◌, ℕ, ◌<◌, ◌≤◌, Bool, true, false, ◌&&◌, ◌==◌, not, List, [], ◌∷◌, ◌++◌, length, map, filter, Option, Some, None}
+use Rattle.std.proofs.Common.{◌≡◌, ℕ, ◌+◌, ◌<◌, ◌≤◌, ◌⊎◌, Bool, true, false, ◌&&◌, ◌==◌, not, List, [], ◌∷◌, ◌++◌, length, map, filter, Option, Some, None}
 use Rattle.std.specs.Prelude.{slice_get}
 use Rattle.std.specs.List.{AllByRecursion, list_any}
 use Rattle.cluster_model.specs.declared.tick.Tick.{Tick}
@@ -20,6 +20,7 @@ use Rattle.cluster_model.specs.declared.layout_state.LayoutPhase.{LayoutPhase}
 use Rattle.cluster_model.specs.declared.layout_state.LayoutPhase.TheVariants.{Making, Free, Held, Fencing, Settling, Copying}
 use Rattle.cluster_model.specs.declared.layout_state.FenceEnd.{FenceEnd}
 use Rattle.cluster_model.specs.declared.layout_state.CopyKind.{CopyKind}
+use Rattle.cluster_model.specs.declared.limits.TheConstants.{MAX_FILE, PIECE_SIZE}
 use Rattle.cluster_model.specs.File.{StoredFile}
 use Rattle.cluster_model.specs.Journal.{content_of}
 use Rattle.cluster_model.specs.Mirrors.{has_server, are_on_different_servers}
@@ -35,6 +36,7 @@ use Rattle.file_rule.specs.declared.creation.Creation.{Creation}
 use Rattle.cluster_laws.specs.Machine.{PacketValue, Call, Reply, Machine, numbered_at, file_id}
 use Rattle.cluster_laws.specs.FenceLaw.{live_in, is_among}
 use Rattle.cluster_laws.proofs.Facts.{Bears, OwnedFrom, HasGiven, AskedAt}
+use Rattle.cluster_laws.proofs.FewTicks.{HasFewTicks}
 
 -- ---- what was drawn: the file that each name number and its uid were drawn for, and the highest uid that was drawn for each file
 
@@ -278,6 +280,15 @@ abbrev pub IsNotSource : List Mirror → Option MirrorId → Type 0
 IsNotSource live None = Unit {0}
 IsNotSource live (Some id) = is_source id live ≡ false
 
+-- the file from which a copy is made has a name, where there is one
+abbrev pub IsNamedSource : List ServerState → MirrorId → Type 0
+IsNamedSource servers id = (id.fileid ≡ 0) ⊎ ((name : ℕ) × Bears servers id name)
+
+-- a piece of a copy is not too long, and ends within the longest file
+pub record IsShort (at : ℕ) (piece : List ℕ) : Type 0 where
+  pub size : length piece ≤ PIECE_SIZE
+  pub end : at + length piece ≤ MAX_FILE
+
 pub record IsCopying (net : Net) (journal : List Entry) (n : ℕ) (s : LayoutState) (c : CopyState) : Type 0 where
   pub copier : Cred
   pub copies : CopyKind
@@ -288,6 +299,8 @@ pub record IsCopying (net : Net) (journal : List Entry) (n : ℕ) (s : LayoutSta
   pub fences : AllByRecursion (IsFencedTo n c.copier) journal
   pub sources : AllByRecursion (λ t. IsNotSource s.live t.replaced) c.targets
   pub plan : IsPlan s.live (map site_of c.targets)
+  pub source : IsNamedSource net.servers c.source
+  pub short : IsShort c.at c.piece
 
 pub record IsSettling (s : LayoutState) : Type 0 where
   pub copies : CopyKind
@@ -335,6 +348,7 @@ pub record IsServer (net : Net) (journal : List Entry) (n : ℕ) (s : ServerStat
   pub owners : (index : ℕ) (file : StoredFile) (k : ℕ) → slice_get s.files index ≡ Some file → slice_get s.names index ≡ Some (mirror_name k) → k < net.next_name
       → (net.drawn.low k ≤ file.owner) × (file.owner ≤ net.drawn.top (net.drawn.home k))
   pub told : IsTold s journal
+  pub ticks : HasFewTicks s
 
 -- ---- the journal
 

@@ -1,5 +1,6 @@
 mod Lists
 mod Names
+mod FewTicks
 mod Facts
 mod Invariant
 mod Journals
@@ -50,3 +51,7 @@ mod Putting
 mod Keepings
 mod Turned
 mod Plans
+mod FewMirrors
+mod FewSteps
+mod FewRuns
+mod RangeCalls

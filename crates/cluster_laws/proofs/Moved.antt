@@ -96,6 +96,7 @@ module _ (m : Machine) (journal : List Entry) (d : Drawn) (h : Holds m journal d
               let most = old.1 in
               (omega (arith, least, low), subst (λ (g : ℕ). file.owner ≤ e.top g) (sym home) (omega (arith, most, rises)));
           told = record { each = λ index file there. o.told.each index file there ∙ sym (same index); none = λ index past. same index ∙ o.told.none index past };
+          ticks = o.ticks;
         }
 
     -- ---- a file in its number's place

@@ -16,7 +16,7 @@ use Rattle.cluster_model.specs.DsCalls.{DsCallValue, DsReplyValue, Created, Set,
 use Rattle.cluster_model.specs.GuardLaws.{IsInOrder, CallLaws, RestartLaws}
 use Rattle.file_rule.specs.MdsFiles.{MdsFile, a_uid}
 use Rattle.file_rule.specs.FilePhases.{FileInput, Answers, TimesOut, Sees, CallOut, call_out, is_outstanding}
-use Rattle.cluster_laws.specs.Machine.{PacketValue, Call, Reply, Machine, MachineStep, Move, Deliver, Creates, Happens, CallsOut, SendsAgain, GivesUpWaiting, Uses, Learns, Takes, Strays, Tells, Restarts, no_move, numbered_at, with_number, file_takes, caller_by, arrives_at, file_of, answers_at, comes_to, delivered, comes_by_itself, goes_out, call_out_from, ctime_of, ctime_in, learns_tick, was_write_to, learns_from, learnt, started_again, restarts_at, moved}
+use Rattle.cluster_laws.specs.Machine.{PacketValue, Call, Reply, Machine, MachineStep, Move, Deliver, Creates, Happens, CallsOut, SendsAgain, GivesUpWaiting, Hears, Uses, Learns, Takes, Strays, Tells, Restarts, no_move, numbered_at, with_number, file_takes, caller_by, arrives_at, file_of, answers_at, comes_to, delivered, comes_by_itself, goes_out, call_out_from, heard_at, heard, ctime_of, ctime_in, learns_tick, was_write_to, learns_from, learnt, started_again, restarts_at, moved}
 use Rattle.cluster_laws.proofs.Facts.{HasGiven}
 use Rattle.cluster_laws.proofs.Lists.{all_append, all_more, all_at, found_at}
 use Rattle.cluster_laws.proofs.Invariant.{Drawn, Net, IsGiven, IsReplyTo, IsAnswer, IsPacket, IsFile, net_of, Holds}
@@ -84,6 +84,24 @@ module _ (m : Machine) (journal : List Entry) (d : Drawn) (h : Holds m journal d
   answers_ok : (server xid : ℕ) (reply : DsReplyValue) → IsAnswer m.packets m.servers server Mds xid reply → (place : Option ℕ) → file_of m.files server xid ≡ place → Ok (answers_at m xid reply place)
   answers_ok server xid reply answer None is = none
   answers_ok server xid reply answer (Some place) is = takes_ok m journal d h (place + 1) (Answers xid reply) (answers_input server xid reply answer place is) (slice_get m.files place) (next_number m.files place)
+
+  -- it is taken by a file whose call is outstanding
+  pub heard_input : (server xid : ℕ) (reply : DsReplyValue) → IsAnswer m.packets m.servers server Mds xid reply → (f : MdsFile) → is_outstanding f server xid ≡ true → IsInput net f (Answers xid reply)
+  heard_input server xid reply answer f out = record { server = server; outstanding = out; answer = answer }
+
+  heard_file_ok : (n server xid : ℕ) (reply : DsReplyValue) (to : NodeId) → IsAnswer m.packets m.servers server to xid reply → (f : Option MdsFile) → numbered_at m.files n ≡ f → Ok (heard_at m n server xid reply to f)
+  heard_file_ok n server xid reply to answer None there = none
+  heard_file_ok n server xid reply Mds answer (Some f) there =
+      cond_both (is_outstanding f server xid) (file_takes m n (Answers xid reply) (Some f)) (no_move m) Ok
+      (λ out. takes_ok m journal d h n (Answers xid reply) (λ g is. heard_input server xid reply answer g (subst (λ (x : MdsFile). is_outstanding x server xid ≡ true) (same_Some f g (sym there ∙ is)) out)) (Some f) there) (λ off. none)
+  heard_file_ok n server xid reply (Server k) answer (Some f) there = none
+  heard_file_ok n server xid reply (Client k) answer (Some f) there = none
+
+  heard_ok : (n place : ℕ) (p : Option PacketValue) → slice_get m.packets place ≡ p → Ok (heard m n p)
+  heard_ok n place None there = none
+  heard_ok n place (Some (Call from server xid uid gid call)) there = none
+  heard_ok n place (Some (Reply call server to xid reply)) there =
+      heard_file_ok n server xid reply to (all_at (IsPacket net) m.packets place (Reply call server to xid reply) h.packets there).answer (numbered_at m.files n) refl
 
   comes_ok : (server xid : ℕ) (reply : DsReplyValue) (to : NodeId) → IsAnswer m.packets m.servers server to xid reply → Ok (comes_to m server xid reply to)
   comes_ok server xid reply Mds answer = answers_ok server xid reply answer (file_of m.files server xid) refl
@@ -175,9 +193,10 @@ module _ (calls : (s : ServerState) (caller : Caller) (call : DsCallValue) → I
   move_ok m journal d h (CallsOut n xid) = calls_out_ok m journal d h n xid (numbered_at m.files n) refl
   move_ok m journal d h (SendsAgain place) = again_ok m journal d h place (slice_get m.packets place) refl
   move_ok m journal d h (GivesUpWaiting n xid) = takes_ok m journal d h n (TimesOut xid) (λ f there. tt) (numbered_at m.files n) refl
+  move_ok m journal d h (Hears n place) = heard_ok m journal d h n place (slice_get m.packets place) refl
   move_ok m journal d h (Uses node server xid uid gid call) = uses_ok m journal d h node server xid uid gid call
   move_ok m journal d h (Learns n place id) = learnt_ok m journal d h n place id (slice_get m.packets place) refl
-  move_ok m journal d h (Takes holding at bytes) = noted_ok m journal d h (λ file uid. entry.Sent file (a_uid uid) at bytes) (λ file uid. sent_quiet m journal d h file uid at bytes) (slice_get m.holdings holding)
-  move_ok m journal d h (Strays holding at bytes) = noted_ok m journal d h (λ file uid. entry.Rogue file (a_uid uid) at bytes) (λ file uid. rogue_quiet m journal d h file uid at bytes) (slice_get m.holdings holding)
-  move_ok m journal d h (Tells holding at bytes) = noted_ok m journal d h (λ file uid. entry.Told file (a_uid uid) at bytes) (λ file uid. told_quiet m journal d h file uid at bytes) (slice_get m.holdings holding)
+  move_ok m journal d h (Takes file uid at bytes) = noted_ok m journal d h (entry.Sent file (a_uid uid) at bytes) (sent_quiet m journal d h file uid at bytes)
+  move_ok m journal d h (Strays file uid at bytes) = noted_ok m journal d h (entry.Rogue file (a_uid uid) at bytes) (rogue_quiet m journal d h file uid at bytes)
+  move_ok m journal d h (Tells file uid at bytes) = noted_ok m journal d h (entry.Told file (a_uid uid) at bytes) (told_quiet m journal d h file uid at bytes)
   move_ok m journal d h (Restarts n pieces) = restarts_ok m journal d h restarts n pieces (numbered_at m.servers n) refl

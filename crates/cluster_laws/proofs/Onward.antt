@@ -1,5 +1,5 @@
 -- The network goes on, and what was true of files and packets stays so.
-use Rattle.std.proofs.Common.{◌≡◌, ◌≢◌, ℕ, ◌<◌, ◌≤◌, List, ◌++◌, Option, Some, None, sym, subst, ◌∙◌, arith}
+use Rattle.std.proofs.Common.{◌≡◌, ◌≢◌, ℕ, ◌<◌, ◌≤◌, List, ◌++◌, Option, Some, None, sym, subst, ◌∙◌, arith, inl, inr}
 use Rattle.std.specs.Prelude.{slice_get}
 use Rattle.std.specs.List.{AllByRecursion}
 use Rattle.cluster_model.specs.declared.ids.NodeId.{NodeId}
@@ -19,7 +19,7 @@ use Rattle.file_rule.specs.declared.creation.Creation.{Creation}
 use Rattle.cluster_laws.specs.Machine.{PacketValue, Call, Reply, file_id}
 use Rattle.cluster_laws.specs.FenceLaw.{live_after}
 use Rattle.cluster_laws.proofs.Facts.{AllFollow, OwnedFrom, bears_on, owned_on, given_on, asked_on}
-use Rattle.cluster_laws.proofs.Invariant.{Net, AreThisCall, at_server, IsCallOf, IsGiven, IsReplyTo, IsUsed, IsPacket, FenceNote, fence_in, If, KeepsOwner, IsFencedTo, IsMirrorOf, IsCreationOf, IsTargetOf, IsInFence, IsBusyWith, IsFile}
+use Rattle.cluster_laws.proofs.Invariant.{Net, AreThisCall, at_server, IsCallOf, IsGiven, IsReplyTo, IsUsed, IsPacket, FenceNote, fence_in, If, KeepsOwner, IsFencedTo, IsMirrorOf, IsCreationOf, IsTargetOf, IsInFence, IsBusyWith, IsFile, IsNamedSource}
 use Rattle.cluster_laws.proofs.Lists.{all_append, all_more}
 use Rattle.cluster_laws.proofs.Journals.{live_same}
 
@@ -137,6 +137,10 @@ module _ (old new : Net) (l : Later old new) where
     done = λ is. owned_on old.servers new.servers l.servers m.id fresh (h.done is);
   }
 
+  source_on : (id : MirrorId) → IsNamedSource old.servers id → IsNamedSource new.servers id
+  source_on id (inl none) = inl none
+  source_on id (inr named) = inr (named.0, bears_on old.servers new.servers l.servers id named.0 named.1)
+
   -- entries that are of no fence of this file
   module _ (n : ℕ) (journal entries : List Entry) (none : AllByRecursion (λ e. If (fence_in e) (λ x. x.file ≢ n)) entries) where
     no_owner : (id : MirrorId) (x : Option FenceNote) → If x (λ y. y.file ≢ n) → If x (λ y. y.file ≡ n → OwnedFrom new.servers id y.new)
@@ -168,7 +172,7 @@ module _ (old new : Net) (l : Later old new) where
       busy_on s (Makes all) h = record { phase = h.phase; owner = h.owner; least = top ∙ h.least; items = all_more (IsCreationOf old n all.owner) (IsCreationOf new n all.owner) all.items (creation_on n all.owner) h.items; apart = h.apart; fences = fences_on 0 h.fences }
       busy_on s (Fences fence) h = record { next = h.next; end = h.end; phase = h.phase; fresh = h.fresh; top = top ∙ h.top; later = h.later; mirrors = all_more (IsInFence old n fence.cred) (IsInFence new n fence.cred) fence.mirrors (in_fence_on n fence.cred) h.mirrors; ids = h.ids }
       busy_on s (Settles stage) h = h
-      busy_on s (Copies c) h = record { copier = h.copier; copies = h.copies; phase = h.phase; targets = all_more (IsTargetOf old n c.copier c.at c.piece) (IsTargetOf new n c.copier c.at c.piece) c.targets (target_on n c.copier c.at c.piece) h.targets; later = h.later; top = subst (λ (t : ℕ). c.copier ≤ t) (sym top) h.top; fences = fences_on c.copier h.fences; sources = h.sources; plan = h.plan }
+      busy_on s (Copies c) h = record { copier = h.copier; copies = h.copies; phase = h.phase; targets = all_more (IsTargetOf old n c.copier c.at c.piece) (IsTargetOf new n c.copier c.at c.piece) c.targets (target_on n c.copier c.at c.piece) h.targets; later = h.later; top = subst (λ (t : ℕ). c.copier ≤ t) (sym top) h.top; fences = fences_on c.copier h.fences; sources = h.sources; plan = h.plan; source = source_on c.source h.source; short = h.short }
 
       pub file_on : (f : MdsFile) → AllByRecursion (λ e. (x : Option (List MirrorId)) → live_after (file_id n) x e ≡ x) entries → IsFile old journal n f → IsFile new (journal ++ entries) n f
       file_on f same h = record {

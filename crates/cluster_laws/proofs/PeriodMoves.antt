@@ -4,11 +4,11 @@ use Rattle.std.specs.Prelude.{slice_get, ◌==◌}
 use Rattle.std.specs.List.{AllByRecursion}
 use Rattle.std.proofs.lemmas.Bool.{cond_both, cases_eq, and_parts, ltb-true}
 use Rattle.std.proofs.lemmas.List.{length-set}
+use Rattle.std.proofs.lemmas.Option.{same_Some}
 use Rattle.cluster_model.specs.declared.piece.Piece.{Piece}
 use Rattle.cluster_model.specs.declared.tick.Tick.{Tick}
 use Rattle.cluster_model.specs.declared.ids.NodeId.{NodeId}
 use Rattle.cluster_model.specs.declared.ids.NodeId.TheVariants.{Mds, Server, Client}
-use Rattle.cluster_model.specs.declared.ids.FileId.{FileId}
 use Rattle.cluster_model.specs.declared.ids.MirrorId.{MirrorId}
 use Rattle.cluster_model.specs.declared.entry.Entry.{Entry}
 use Rattle.cluster_model.specs.declared.entry.Entry.TheVariants as entry
@@ -20,15 +20,15 @@ use Rattle.cluster_model.specs.Phases.{ids_of}
 use Rattle.copy_rule.specs.Copies.{is_given_up}
 use Rattle.file_rule.specs.MdsFiles.{MdsFile, FileStep, a_uid}
 use Rattle.file_rule.specs.declared.creation.Creation.{Creation}
-use Rattle.file_rule.specs.FilePhases.{FileInput, Answers, TimesOut, Sees, CallOut, call_out, creations_at, new_mds_file, are_spent, phase}
-use Rattle.cluster_laws.specs.Machine.{PacketValue, Call, Reply, Machine, MachineStep, Holding, Move, Deliver, Creates, Happens, CallsOut, SendsAgain, GivesUpWaiting, Uses, Learns, Takes, Strays, Tells, Restarts, no_move, numbered_at, with_file, held_by, file_id, fresh_of, can_draw, file_takes, caller_by, arrives_at, file_of, answers_at, comes_to, delivered, comes_by_itself, are_servers, may_create, created, goes_out, call_out_from, sent_again, used, may_use, is_new_number, puts_out, ctime_in, learns_tick, was_write_to, learnt, noted, started_again, restarts_at, moved}
+use Rattle.file_rule.specs.FilePhases.{FileInput, Answers, TimesOut, Sees, CallOut, call_out, is_outstanding, creations_at, new_mds_file, are_spent, phase}
+use Rattle.cluster_laws.specs.Machine.{PacketValue, Call, Reply, Machine, MachineStep, Holding, Move, Deliver, Creates, Happens, CallsOut, SendsAgain, GivesUpWaiting, Hears, Uses, Learns, Takes, Strays, Tells, Restarts, no_move, numbered_at, with_file, held_by, file_id, fresh_of, can_draw, file_takes, caller_by, arrives_at, file_of, answers_at, comes_to, delivered, comes_by_itself, are_servers, may_create, created, goes_out, call_out_from, sent_again, used, may_use, may_number, heard_at, heard, puts_out, ctime_in, learns_tick, was_write_to, learnt, noted, started_again, restarts_at, moved}
 use Rattle.cluster_laws.specs.Telling.{is_telling}
 use Rattle.cluster_laws.specs.Periods.{owed_in, user_in}
 use Rattle.cluster_laws.proofs.Lists.{all_append, all_more, all_at, put_same, put_other, same_numbered, within_number}
 use Rattle.cluster_laws.proofs.Invariant.{Drawn, IsAnswer, If, IsPacket, net_of, Holds}
 use Rattle.cluster_laws.proofs.PhaseOk.{IsInput}
 use Rattle.cluster_laws.proofs.KnownNow.{known_now}
-use Rattle.cluster_laws.proofs.Moves.{brought, answers_input, tick_input, next_number}
+use Rattle.cluster_laws.proofs.Moves.{brought, answers_input, heard_input, tick_input, next_number}
 use Rattle.cluster_laws.proofs.NewFiles.{pushed, pushed_length}
 use Rattle.cluster_laws.proofs.PeriodFacts.{AreInPlace, place_more, granted_in, granted_append, none_granted, IsNoPeriod, owed_same, user_same, IsOfFile, IsStill, sent_still, rogue_still, told_still}
 use Rattle.cluster_laws.proofs.PeriodStates.{IsMine, IsMadeSo, IsPeriod, period_on, drawn_for, mine_drawn, new_mine, PeriodRow, PeriodOk, Plain, Draws, still_none, still_place, still_grants, still_unused, still_tells, new_unused}
@@ -197,6 +197,20 @@ module _ (m : Machine) (journal : List Entry) (d : Drawn) (h : Holds m journal d
   answers server xid reply answer None is = none
   answers server xid reply answer (Some place) is = takes (place + 1) (Answers xid reply) (answers_input m journal d h server xid reply answer place is) (slice_get m.files place) (next_number m.files place)
 
+  hears_at : (k server xid : ℕ) (reply : DsReplyValue) (to : NodeId) → IsAnswer m.packets m.servers server to xid reply → (f : Option MdsFile) → numbered_at m.files k ≡ f → PeriodsAfter (heard_at m k server xid reply to f)
+  hears_at k server xid reply to answer None there = none
+  hears_at k server xid reply Mds answer (Some f) there =
+      cond_both (is_outstanding f server xid) (file_takes m k (Answers xid reply) (Some f)) (no_move m) PeriodsAfter
+      (λ out. takes k (Answers xid reply) (λ g is. heard_input m journal d h server xid reply answer g (subst (λ (x : MdsFile). is_outstanding x server xid ≡ true) (same_Some f g (sym there ∙ is)) out)) (Some f) there) (λ off. none)
+  hears_at k server xid reply (Server n) answer (Some f) there = none
+  hears_at k server xid reply (Client n) answer (Some f) there = none
+
+  hears : (k place : ℕ) (x : Option PacketValue) → slice_get m.packets place ≡ x → PeriodsAfter (heard m k x)
+  hears k place None there = none
+  hears k place (Some (Call from server xid uid gid call)) there = none
+  hears k place (Some (Reply call server to xid reply)) there =
+      hears_at k server xid reply to (all_at (IsPacket (net_of m d)) m.packets place (Reply call server to xid reply) h.packets there).answer (numbered_at m.files k) refl
+
   comes : (server xid : ℕ) (reply : DsReplyValue) (to : NodeId) → IsAnswer m.packets m.servers server to xid reply → PeriodsAfter (comes_to m server xid reply to)
   comes server xid reply Mds answer = answers server xid reply answer (file_of m.files server xid) refl
   comes server xid reply (Server k) answer = none
@@ -216,7 +230,7 @@ module _ (m : Machine) (journal : List Entry) (d : Drawn) (h : Holds m journal d
 
   uses : (node : NodeId) (n xid uid gid : ℕ) (call : DsCallValue) → PeriodsAfter (used m node n xid uid gid call)
   uses node n xid uid gid call =
-      cond_both (may_use m node uid call && is_new_number m node xid) (record { machine = puts_out m node xid (Call node n xid uid gid call); entries = [] }) (no_move m) PeriodsAfter (λ e. still_step m.servers _ _ [] tt) (λ e. none)
+      cond_both (may_use call && may_number m node xid) (record { machine = puts_out m node xid (Call node n xid uid gid call); entries = [] }) (no_move m) PeriodsAfter (λ e. still_step m.servers _ _ [] tt) (λ e. none)
 
   ticks : (n : ℕ) (id : MirrorId) (tick : Option Tick) → ((t : Tick) → tick ≡ Some t → IsInput (net_of m d) (new_mds_file (fresh_of m) []) (Sees id t)) → PeriodsAfter (learns_tick m n id (numbered_at m.files n) tick)
   ticks n id None given = none
@@ -232,9 +246,8 @@ module _ (m : Machine) (journal : List Entry) (d : Drawn) (h : Holds m journal d
   learns n place id (Some (Reply call server (Server k) xid reply)) there = none
   learns n place id (Some (Reply call server (Client k) xid reply)) there = none
 
-  notes : (note : FileId → ℕ → Entry) → ((file : FileId) (uid : ℕ) → IsStill (note file uid)) → (x : Option Holding) → PeriodsAfter (noted m note x)
-  notes note still None = none
-  notes note still (Some x) = still_step m.servers m.last_xid m.packets (note x.file x.uid ∷ []) (still x.file x.uid, tt)
+  notes : (e : Entry) → IsStill e → PeriodsAfter (noted m e)
+  notes e still = still_step m.servers m.last_xid m.packets (e ∷ []) (still, tt)
 
   started : (n : ℕ) (pieces : List Piece) (s : Option ServerState) → PeriodsAfter (started_again m n pieces s)
   started n pieces None = none
@@ -324,9 +337,10 @@ module _ (m : Machine) (journal : List Entry) (d : Drawn) (h : Holds m journal d
   move_periods (CallsOut k xid) = calls_out k xid (numbered_at m.files k) refl
   move_periods (SendsAgain place) = again (slice_get m.packets place)
   move_periods (GivesUpWaiting k xid) = takes k (TimesOut xid) (λ f there. tt) (numbered_at m.files k) refl
+  move_periods (Hears k place) = hears k place (slice_get m.packets place) refl
   move_periods (Uses node server xid uid gid call) = uses node server xid uid gid call
   move_periods (Learns k place id) = learns k place id (slice_get m.packets place) refl
-  move_periods (Takes holding at bytes) = notes (λ file uid. entry.Sent file (a_uid uid) at bytes) (λ file uid. sent_still file (a_uid uid) at bytes) (slice_get m.holdings holding)
-  move_periods (Strays holding at bytes) = notes (λ file uid. entry.Rogue file (a_uid uid) at bytes) (λ file uid. rogue_still file (a_uid uid) at bytes) (slice_get m.holdings holding)
-  move_periods (Tells holding at bytes) = notes (λ file uid. entry.Told file (a_uid uid) at bytes) (λ file uid. told_still file (a_uid uid) at bytes) (slice_get m.holdings holding)
+  move_periods (Takes file uid at bytes) = notes (entry.Sent file (a_uid uid) at bytes) (sent_still file (a_uid uid) at bytes)
+  move_periods (Strays file uid at bytes) = notes (entry.Rogue file (a_uid uid) at bytes) (rogue_still file (a_uid uid) at bytes)
+  move_periods (Tells file uid at bytes) = notes (entry.Told file (a_uid uid) at bytes) (told_still file (a_uid uid) at bytes)
   move_periods (Restarts k pieces) = restarts k pieces (numbered_at m.servers k)

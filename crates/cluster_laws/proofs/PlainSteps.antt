@@ -94,7 +94,7 @@ module _ (net : Net) (n next_uid files : ℕ) (journal : List Entry) (known : Kn
       (all_map (IsCreationOf net n all.owner) (IsCreationOf net n all.owner) at_tick all.items (λ c k. tick_stage net n all.owner c k) h.busy.items) (servers_ticked all.items)
   ticked_file (Fences fence) h = tick_ok net n next_uid (known.tops n) journal s fence h known.exact
   ticked_file (Settles stage) h = staged_settling net n next_uid journal s stage h (stage_at_tick stage)
-  ticked_file (Copies c) h = recopied net n journal s c h c.at c.piece c.ended (stage_at_tick c.read) c.targets h.busy.targets h.busy.sources refl
+  ticked_file (Copies c) h = recopied net n journal s c h c.at c.piece c.ended (stage_at_tick c.read) c.targets h.busy.targets h.busy.sources refl h.busy.short
 
   pub ticks_ok : (activity : Activity) → IsFile net journal n (record { layout = s; activity = activity }) → StepOk net journal n next_uid (stays s (ticked activity))
   ticks_ok activity h = Plain refl refl (nothing_new net journal n next_uid _ (ticked_file activity h))

@@ -1,38 +1,39 @@
 -- A file whose copy is in another state.
-use Rattle.std.proofs.Common.{◌≡◌, ℕ, Bool, true, not, ◌&&◌, List, [], ◌∷◌, map, set, Option, Some, refl, sym, subst}
-use Rattle.std.specs.Prelude.{slice_get}
+use Rattle.std.proofs.Common.{◌≡◌, ℕ, Bool, true, not, ◌&&◌, List, [], ◌∷◌, map, set, Option, Some, refl, sym, subst, ◌+◌, false, length, arith}
+use Rattle.std.specs.Prelude.{slice_get, ◌||◌, nat_lt}
 use Rattle.std.specs.List.{AllByRecursion, list_all}
-use Rattle.std.proofs.lemmas.Bool.{cond_both, and_parts}
+use Rattle.std.proofs.lemmas.Bool.{cond_both, and_parts, ltb-false}
 use Rattle.cluster_model.specs.declared.ids.MirrorId.{MirrorId}
 use Rattle.cluster_model.specs.declared.entry.Entry.{Entry}
 use Rattle.cluster_model.specs.declared.call_stage.CallStage.{CallStage}
 use Rattle.cluster_model.specs.declared.call_stage.CallStage.TheVariants.{Waits, Out, KeptOut, KeptBack, Done, GivenUp}
 use Rattle.cluster_model.specs.declared.layout_state.LayoutState.{LayoutState}
 use Rattle.cluster_model.specs.Fences.{is_out, is_over}
-use Rattle.copy_rule.specs.Copies.{CopyState, is_given_up, at_stage, stage_for, to_write, with_target, with_next, have_answered, goes_on}
+use Rattle.copy_rule.specs.Copies.{CopyState, is_given_up, at_stage, stage_for, to_write, with_target, with_next, have_answered, goes_on, is_long}
 use Rattle.copy_rule.specs.declared.copy_target.CopyTarget.{CopyTarget}
 use Rattle.file_rule.specs.MdsFiles.{Copies}
 use Rattle.cluster_laws.proofs.Lists.{all_at, all_set}
-use Rattle.cluster_laws.proofs.Invariant.{Net, IsTargetOf, IsNotSource, site_of, IsPlan, IsFile}
+use Rattle.cluster_laws.proofs.Invariant.{Net, IsTargetOf, IsNotSource, site_of, IsPlan, IsFile, IsShort}
 use Rattle.cluster_laws.proofs.Plans.{sites_set}
+use Rattle.cluster_model.specs.declared.limits.TheConstants.{MAX_FILE, PIECE_SIZE}
 
 module _ (net : Net) (n : ℕ) (journal : List Entry) (s : LayoutState) (c : CopyState) (h : IsFile net journal n (record { layout = s; activity = Copies c })) where
-  pub recopied : (at : ℕ) (piece : List ℕ) (ended : Bool) (read : CallStage) (targets : List CopyTarget) → AllByRecursion (IsTargetOf net n c.copier at piece) targets → AllByRecursion (λ t. IsNotSource s.live t.replaced) targets → map site_of targets ≡ map site_of c.targets
+  pub recopied : (at : ℕ) (piece : List ℕ) (ended : Bool) (read : CallStage) (targets : List CopyTarget) → AllByRecursion (IsTargetOf net n c.copier at piece) targets → AllByRecursion (λ t. IsNotSource s.live t.replaced) targets → map site_of targets ≡ map site_of c.targets → IsShort at piece
       → IsFile net journal n (record { layout = s; activity = Copies (record { copier = c.copier; source = c.source; at = at; piece = piece; ended = ended; read = read; targets = targets }) })
-  recopied at piece ended read targets ok sources same = record {
+  recopied at piece ended read targets ok sources same short = record {
     live = h.live;
     apart = h.apart;
     mirrors = h.mirrors;
     cred = h.cred;
     top = h.top;
-    busy = record { copier = h.busy.copier; copies = h.busy.copies; phase = h.busy.phase; targets = ok; later = h.busy.later; top = h.busy.top; fences = h.busy.fences; sources = sources; plan = subst (IsPlan s.live) (sym same) h.busy.plan };
+    busy = record { copier = h.busy.copier; copies = h.busy.copies; phase = h.busy.phase; targets = ok; later = h.busy.later; top = h.busy.top; fences = h.busy.fences; sources = sources; plan = subst (IsPlan s.live) (sym same) h.busy.plan; source = h.busy.source; short = short };
   }
 
   -- another state of one target
   pub put_target : (place : ℕ) (t new : CopyTarget) → slice_get c.targets place ≡ Some t → new.server ≡ t.server → new.replaced ≡ t.replaced → IsTargetOf net n c.copier c.at c.piece new → IsFile net journal n (record { layout = s; activity = Copies (with_target c place new) })
   put_target place t new there on same ok =
       recopied c.at c.piece c.ended c.read (set c.targets place new) (all_set (IsTargetOf net n c.copier c.at c.piece) c.targets place new h.busy.targets ok)
-      (all_set (λ x. IsNotSource s.live x.replaced) c.targets place new h.busy.sources (subst (IsNotSource s.live) (sym same) (all_at (λ x. IsNotSource s.live x.replaced) c.targets place t h.busy.sources there))) (sites_set c.targets place t new there on same)
+      (all_set (λ x. IsNotSource s.live x.replaced) c.targets place new h.busy.sources (subst (IsNotSource s.live) (sym same) (all_at (λ x. IsNotSource s.live x.replaced) c.targets place t h.busy.sources there))) (sites_set c.targets place t new there on same) h.busy.short
 
 -- ---- targets to which no call is out
 
@@ -75,9 +76,24 @@ to_write_ok net n copier at piece place bytes t h =
 pub same_replaced : (bytes : List ℕ) (P : Option MirrorId → Type 0) (t : CopyTarget) → P t.replaced → P (to_write bytes t).replaced
 same_replaced bytes P t h = cond_both (is_given_up t.stage) t (at_stage t (stage_for bytes)) (λ (x : CopyTarget). P x.replaced) (λ e. h) (λ e. h)
 
+-- the place of the next piece, which is not read yet; and a piece that was not refused
+next_short : (at : ℕ) (piece : List ℕ) → IsShort at piece → IsShort (at + length piece) []
+next_short at piece h = let end = h.end in record { size = omega arith; end = omega (arith, end) }
+
+pub short_by : (c : CopyState) (bytes : List ℕ) → is_long c bytes ≡ false → IsShort c.at bytes
+short_by c bytes e =
+    let parts = or_false (nat_lt PIECE_SIZE (length bytes)) (nat_lt MAX_FILE (c.at + length bytes)) e in
+    let size = ltb-false PIECE_SIZE (length bytes) parts.0 in
+    let end = ltb-false MAX_FILE (c.at + length bytes) parts.1 in
+    record { size = omega (arith, size); end = omega (arith, end) }
+  where
+    or_false : (a b : Bool) → (a || b) ≡ false → (a ≡ false) × (b ≡ false)
+    or_false true b e = absurd cc
+    or_false false b e = (refl, e)
+
 -- the next piece is to be read, or not
 pub goes_on_ok : (net : Net) (n : ℕ) (journal : List Entry) (s : LayoutState) (d : CopyState) → IsFile net journal n (record { layout = s; activity = Copies d }) → IsFile net journal n (record { layout = s; activity = Copies (goes_on d) })
 goes_on_ok net n journal s d h =
     cond_both (is_over d.read && not d.ended && have_answered d) (with_next d) d (λ (x : CopyState). IsFile net journal n (record { layout = s; activity = Copies x }))
-    (λ e. recopied net n journal s d h _ [] d.ended Waits d.targets (over_targets net n d.copier d.at d.piece _ [] d.targets (and_parts _ _ e).1 h.busy.targets) h.busy.sources refl)
+    (λ e. recopied net n journal s d h _ [] d.ended Waits d.targets (over_targets net n d.copier d.at d.piece _ [] d.targets (and_parts _ _ e).1 h.busy.targets) h.busy.sources refl (next_short d.at d.piece h.busy.short))
     (λ e. h)

@@ -15,6 +15,7 @@ use Rattle.cluster_laws.proofs.Changed.{goes_on, changed_holds}
 use Rattle.cluster_model.specs.declared.piece.Piece.{Piece}
 use Rattle.cluster_model.specs.Server.{restart_of}
 use Rattle.cluster_model.specs.GuardLaws.{RestartLaws}
+use Rattle.cluster_laws.proofs.FewTicks.{restart_few}
 
 module _ (restarts : (s : ServerState) (pieces : List Piece) (new : ServerState) → restart_of s pieces ≡ Some new → IsInOrder s → RestartLaws s pieces new) where
   module _ (m : Machine) (journal : List Entry) (d : Drawn) (h : Holds m journal d) (n : ℕ) (s : ServerState) (there : numbered_at m.servers n ≡ Some s) (pieces : List Piece) (new : ServerState) (is : restart_of s pieces ≡ Some new) where
@@ -43,6 +44,7 @@ module _ (restarts : (s : ServerState) (pieces : List Piece) (new : ServerState)
       names = λ index name found. old.names index name (sym (ap (λ (names : List (List ℕ)). slice_get names index) laws.names) ∙ found);
       owners = owned;
       told = told;
+      ticks = restart_few s pieces new is old.ticks;
     }
 
     pub restarted_holds : Holds (with_server m n new m.packets) (journal ++ entry.Restarted n pieces ∷ []) d

@@ -21,6 +21,7 @@ use Rattle.cluster_laws.proofs.Moves.{move_ok}
 use Rattle.cluster_laws.proofs.RunFacts.{owners_stay, tells}
 use Rattle.cluster_laws.proofs.PeriodFacts.{periods_fenced}
 use Rattle.cluster_laws.proofs.PeriodMoves.{ArePeriods, none, move_periods}
+use Rattle.cluster_laws.proofs.FewTicks.{start_few}
 
 -- ---- the start
 
@@ -48,6 +49,7 @@ module _ (new : (number boot : ℕ) → IsInOrder (new_server number boot) × Is
     names = λ index name is. absurd cc;
     owners = λ index file k is named less. absurd cc;
     told = (new n boot).1;
+    ticks = start_few n boot;
   }
 
   begun_at : (n : ℕ) (s : ServerState) → numbered_at start.servers n ≡ Some s → IsServer (net_of start none_drawn) [] n s
@@ -88,7 +90,7 @@ module _ (new : (number boot : ℕ) → IsInOrder (new_server number boot) × Is
     run_obeys moves = obeys (journal_of start moves) (run_holds moves start [] none_drawn start_holds).1.right
 
     -- what holds of a whole run
-    run_whole : (moves : List Move) → (e : Drawn) × Holds (machine_after start moves) (journal_of start moves) e
+    pub run_whole : (moves : List Move) → (e : Drawn) × Holds (machine_after start moves) (journal_of start moves) e
     run_whole moves = run_holds moves start [] none_drawn start_holds
 
     pub run_stays : (moves : List Move) → DoOwnersStay (journal_of start moves)

@@ -32,7 +32,7 @@ module _ (net : Net) (journal : List Entry) (n : ℕ) (s : LayoutState) (id : Mi
   still_busy (Makes all) h = record { phase = h.phase; owner = h.owner; least = h.least; items = h.items; apart = h.apart; fences = h.fences }
   still_busy (Fences fence) h = record { next = h.next; end = h.end; phase = h.phase; fresh = h.fresh; top = h.top; later = h.later; mirrors = h.mirrors; ids = ids_seen id tick s.live ∙ h.ids }
   still_busy (Settles stage) h = record { copies = h.copies; phase = h.phase }
-  still_busy (Copies c) h = record { copier = h.copier; copies = h.copies; phase = h.phase; targets = h.targets; later = h.later; top = h.top; fences = h.fences; sources = all_more (λ t. IsNotSource s.live t.replaced) (λ t. IsNotSource (seen_at id tick s.live) t.replaced) c.targets (λ t. still_not t.replaced s.live) h.sources; plan = plan_more s.live (seen_at id tick s.live) (none_seen id tick s.live) (map site_of c.targets) h.plan }
+  still_busy (Copies c) h = record { copier = h.copier; copies = h.copies; phase = h.phase; targets = h.targets; later = h.later; top = h.top; fences = h.fences; sources = all_more (λ t. IsNotSource s.live t.replaced) (λ t. IsNotSource (seen_at id tick s.live) t.replaced) c.targets (λ t. still_not t.replaced s.live) h.sources; plan = plan_more s.live (seen_at id tick s.live) (none_seen id tick s.live) (map site_of c.targets) h.plan; source = h.source; short = h.short }
 
   pub seen_ok : (activity : Activity) → IsFile net journal n (record { layout = s; activity = activity }) → IsFile net journal n (record { layout = with_live s (seen_at id tick s.live); activity = activity })
   seen_ok activity h = record {

@@ -10,7 +10,7 @@ use Rattle.cluster_model.specs.declared.ids.MirrorId.{MirrorId}
 use Rattle.cluster_model.specs.declared.entry.Entry.{Entry}
 use Rattle.cluster_model.specs.Journal.{Copy, copy_after}
 use Rattle.cluster_model.specs.DsCalls.{DsCallValue, Create, SetAttr, Write, Commit, Read}
-use Rattle.cluster_laws.specs.Machine.{PacketValue, Call, Machine, Holding, no_move, file_id, with_number, puts_out, sent_again, may_use, is_new_number, used, noted}
+use Rattle.cluster_laws.specs.Machine.{PacketValue, Call, Machine, no_move, file_id, with_number, puts_out, sent_again, may_use, may_number, used, noted}
 use Rattle.cluster_laws.specs.FenceLaw.{live_after}
 use Rattle.cluster_laws.proofs.Lists.{all_append, all_more, all_at, push_old}
 use Rattle.cluster_laws.proofs.Invariant.{Drawn, Net, IsThisCall, IsCallOf, IsPacket, FenceNote, fence_in, freed_in, If, IsFenceNote, IsEntry, IsRight, AreRight, net_of, Holds}
@@ -73,14 +73,14 @@ module _ (m : Machine) (journal : List Entry) (d : Drawn) (h : Holds m journal d
       (d, with_packet m.last_xid refl p calls (packet_on net (net_of (then (m.packets ++ p ∷ []) m.last_xid) d) (later_with m.last_xid refl p calls) p (all_at (IsPacket net) m.packets place p h.packets there)))
 
   -- a node writes, commits or reads
-  free_call : (node : NodeId) (n uid : ℕ) (call : DsCallValue) → may_use m node uid call ≡ true → IsCallOf d m.servers m.next_name n call
-  free_call node n uid (Create name owner) may = absurd cc
-  free_call node n uid (SetAttr fileid owner guard) may = absurd cc
-  free_call node n uid (Write fileid at synced bytes) may = tt
-  free_call node n uid (Commit fileid) may = tt
-  free_call node n uid (Read fileid at count) may = tt
+  free_call : (n : ℕ) (call : DsCallValue) → may_use call ≡ true → IsCallOf d m.servers m.next_name n call
+  free_call n (Create name owner) may = absurd cc
+  free_call n (SetAttr fileid owner guard) may = absurd cc
+  free_call n (Write fileid at synced bytes) may = tt
+  free_call n (Commit fileid) may = tt
+  free_call n (Read fileid at count) may = tt
 
-  sent_by : (node : NodeId) (n xid uid gid : ℕ) (call : DsCallValue) → IsCallOf d m.servers m.next_name n call → is_new_number m node xid ≡ true → HoldsAfter m journal d h (record { machine = puts_out m node xid (Call node n xid uid gid call); entries = [] })
+  sent_by : (node : NodeId) (n xid uid gid : ℕ) (call : DsCallValue) → IsCallOf d m.servers m.next_name n call → may_number m node xid ≡ true → HoldsAfter m journal d h (record { machine = puts_out m node xid (Call node n xid uid gid call); entries = [] })
   sent_by Mds n xid uid gid call is new =
       let later = later_sent net n xid uid gid call (all_stand m journal d h) (ltb-true (m.last_xid Mds) xid new) in
       let last : Net = net_of (then (m.packets ++ Call Mds n xid uid gid call ∷ []) (with_number m.last_xid Mds xid)) d in (
@@ -93,8 +93,8 @@ module _ (m : Machine) (journal : List Entry) (d : Drawn) (h : Holds m journal d
 
   pub uses_ok : (node : NodeId) (n xid uid gid : ℕ) (call : DsCallValue) → HoldsAfter m journal d h (used m node n xid uid gid call)
   uses_ok node n xid uid gid call =
-      cond_both (may_use m node uid call && is_new_number m node xid) (record { machine = puts_out m node xid (Call node n xid uid gid call); entries = [] }) (no_move m) (HoldsAfter m journal d h)
-      (λ e. let parts = and_parts (may_use m node uid call) (is_new_number m node xid) e in sent_by node n xid uid gid call (free_call node n uid call parts.0) parts.1)
+      cond_both (may_use call && may_number m node xid) (record { machine = puts_out m node xid (Call node n xid uid gid call); entries = [] }) (no_move m) (HoldsAfter m journal d h)
+      (λ e. let parts = and_parts (may_use call) (may_number m node xid) e in sent_by node n xid uid gid call (free_call n call parts.0) parts.1)
       (λ e. no_step m journal d h)
 
   -- ---- an entry
@@ -126,6 +126,5 @@ module _ (m : Machine) (journal : List Entry) (d : Drawn) (h : Holds m journal d
         right = right_more [] journal (e ∷ []) h.right (q.right, tt);
       }
 
-  pub noted_ok : (note : FileId → ℕ → Entry) → ((file : FileId) (uid : ℕ) → IsQuiet (note file uid)) → (x : Option Holding) → HoldsAfter m journal d h (noted m note x)
-  noted_ok note quiet None = no_step m journal d h
-  noted_ok note quiet (Some x) = (d, noted_holds (note x.file x.uid) (quiet x.file x.uid))
+  pub noted_ok : (e : Entry) → IsQuiet e → HoldsAfter m journal d h (noted m e)
+  noted_ok e quiet = (d, noted_holds e quiet)

@@ -16,7 +16,7 @@ use Rattle.cluster_model.specs.declared.ds_call.Shown.{Shown}
 use Rattle.cluster_model.specs.Ticks.{IsUpTo}
 use Rattle.cluster_model.specs.File.{StoredFile}
 use Rattle.cluster_model.specs.Journal.{is_mirror}
-use Rattle.cluster_model.specs.Server.{ServerState, Caller, mirror_of}
+use Rattle.cluster_model.specs.Server.{ServerState, Caller, mirror_of, max_ticks}
 use Rattle.cluster_model.specs.DsCalls.{DsCallValue, Create, SetAttr, Write, Commit, Read, DsReplyValue, Created, Set, Written, Committed, Bytes, NotSync, Failed, mirror_name, DsStep, ds_step}
 use Rattle.cluster_model.specs.GuardLaws.{IsInOrder, WasAsked, MayCome, Follows, Came, Stayed, WasGiven, WasMade, target, IsSeen, Shows, IsOwners, IsByOwner, IsOfServer, CallLaws}
 use Rattle.cluster_model.specs.declared.layout_state.LayoutPhase.TheVariants as phase
@@ -31,6 +31,7 @@ use Rattle.cluster_laws.proofs.Invariant.{Drawn, Net, at_server, IsAskedFor, IsC
 use Rattle.cluster_laws.proofs.Journals.{live_same}
 use Rattle.cluster_laws.proofs.Onward.{Later, packet_on}
 use Rattle.cluster_laws.proofs.Changed.{of_data, goes_on, changed_holds}
+use Rattle.cluster_laws.proofs.FewTicks.{ShownIsFew, ShowsFewTicks, step_few, reply_few}
 
 -- ---- the laws of one server, as the base crate has them
 
@@ -177,24 +178,24 @@ module _ (calls : (s : ServerState) (caller : Caller) (call : DsCallValue) → I
       at_index : (fileid index : ℕ) → fileid ≡ index + 2 → (f : StoredFile) → slice_get step.server.files index ≡ Some f → (owner : ℕ) → owner ≤ f.owner → OwnedFrom after.servers (at_server n fileid) owner
       at_index fileid index place f is owner up = record { server = step.server; there = here; index = index; place = place; file = f; is = is; up = up }
 
-      given_now : (tick : Tick) → IsUpTo tick step.server.clock → HasGiven after.servers n tick
-      given_now tick seen = record { server = step.server; there = here; seen = seen }
+      given_now : (tick : Tick) → IsUpTo tick step.server.clock → tick.count ≤ max_ticks → HasGiven after.servers n tick
+      given_now tick seen few = record { server = step.server; there = here; seen = seen; few = few }
 
-      given_if : (shown : Option Shown) → IsSeen step.server shown → IsGiven after.servers n shown
-      given_if None k = tt
-      given_if (Some shown) k = given_now shown.seen k
+      given_if : (shown : Option Shown) → IsSeen step.server shown → ShownIsFew shown → IsGiven after.servers n shown
+      given_if None k few = tt
+      given_if (Some shown) k few = given_now shown.seen k few
 
-      replied : (reply : DsReplyValue) → Shows step.server call reply → IsReplyTo after.servers n call reply
-      replied (Created fileid shown) k = record { name = k.name; owner = k.owner; asked = k.asked; bears = record { server = step.server; there = here; index = k.at.index; place = k.at.place; named = k.named }; given = given_now shown.seen k.at.seen }
-      replied (Set shown) k = (record { fileid = k.0.fileid; uid = k.0.uid; guard = k.0.guard; asked = k.0.asked; owned = let same = k.0.owner in at_index k.0.fileid k.0.index k.0.place k.0.file k.0.there k.0.uid (omega (arith, same)) }, given_if shown k.1)
-      replied (Written shown verifier) k = given_if shown k
-      replied (Committed shown verifier) k = given_if shown k
-      replied (Bytes shown eof bytes) k = given_if shown k
-      replied (NotSync shown) k = (let same = k.owner in at_index (target call) k.index k.place k.file k.there shown.owner.0 (omega (arith, same)), given_now shown.seen k.seen)
-      replied (Failed status shown) k = given_if shown k
+      replied : (reply : DsReplyValue) → Shows step.server call reply → ShowsFewTicks reply → IsReplyTo after.servers n call reply
+      replied (Created fileid shown) k few = record { name = k.name; owner = k.owner; asked = k.asked; bears = record { server = step.server; there = here; index = k.at.index; place = k.at.place; named = k.named }; given = given_now shown.seen k.at.seen few }
+      replied (Set shown) k few = (record { fileid = k.0.fileid; uid = k.0.uid; guard = k.0.guard; asked = k.0.asked; owned = let same = k.0.owner in at_index k.0.fileid k.0.index k.0.place k.0.file k.0.there k.0.uid (omega (arith, same)) }, given_if shown k.1 few)
+      replied (Written shown verifier) k few = given_if shown k few
+      replied (Committed shown verifier) k few = given_if shown k few
+      replied (Bytes shown eof bytes) k few = given_if shown k few
+      replied (NotSync shown) k few = (let same = k.owner in at_index (target call) k.index k.place k.file k.there shown.owner.0 (omega (arith, same)), given_now shown.seen k.seen few)
+      replied (Failed status shown) k few = given_if shown k few
 
       answered : IsPacket (net_of after d) answer
-      answered = record { answer = record { call = call; sent = record { place = sent.place; uid = sent.uid; gid = sent.gid; there = push_old m.packets (answer ∷ []) sent.place _ sent.there }; shows = replied step.reply laws.shows }; at = refl }
+      answered = record { answer = record { call = call; sent = record { place = sent.place; uid = sent.uid; gid = sent.gid; there = push_old m.packets (answer ∷ []) sent.place _ sent.there }; shows = replied step.reply laws.shows (reply_few s (h.servers n s there).ticks (caller_by uid gid) call) }; at = refl }
 
       -- ---- the servers
 
@@ -254,6 +255,7 @@ module _ (calls : (s : ServerState) (caller : Caller) (call : DsCallValue) → I
         names = names_now;
         owners = λ index file k is named less. owned_by index file k is named less (laws.came index file is);
         told = laws.told journal old_server.told;
+        ticks = step_few s (caller_by uid gid) call old_server.ticks;
       }
 
       pub served_holds : Holds after (journal ++ step.entries) d

@@ -33,7 +33,7 @@ use Rattle.cluster_laws.proofs.Plans.{plan_more, none_left, sites_written}
 use Rattle.cluster_laws.proofs.Lives.{itself, all_map}
 use Rattle.cluster_laws.proofs.FenceSteps.{nothing_new, behind_left}
 use Rattle.cluster_laws.proofs.CopySteps.{loses, StepOk, Plain, Draws}
-use Rattle.cluster_laws.proofs.Recopied.{recopied, put_target, goes_on_ok, to_write_ok, same_replaced}
+use Rattle.cluster_laws.proofs.Recopied.{recopied, put_target, goes_on_ok, to_write_ok, same_replaced, short_by}
 use Rattle.cluster_laws.proofs.Known.{Known, fresh_from}
 use Rattle.cluster_laws.proofs.FenceDone.{exact_on}
 use Rattle.cluster_laws.proofs.Draws.{drawn_net}
@@ -204,6 +204,8 @@ module _ (net : Net) (n next_uid files servers : ℕ) (journal : List Entry) (kn
           fences = all_append (IsFencedTo n d.copier) journal (e ∷ []) h.busy.fences (tt, tt);
           sources = all_more (λ t. IsNotSource s.live t.replaced) (λ t. IsNotSource (but_for id s.live) t.replaced) d.targets (λ t k. still_not id s.live t.replaced not_source k) h.busy.sources;
           plan = plan_more s.live (but_for id s.live) (none_left id s.live) (map site_of d.targets) h.busy.plan;
+          source = h.busy.source;
+          short = h.busy.short;
         }) in
         after_left net journal n next_uid id cause _ (copied_on_ok net n next_uid files servers (journal ++ e ∷ []) (known_left net n next_uid files journal id cause known) (after_loss s id) d row.file)
 
@@ -260,7 +262,7 @@ module _ (net : Net) (n next_uid files servers : ℕ) (journal : List Entry) (kn
     -- ---- the source
 
     kept_read : (read : CallStage) → IsFile net journal n (record { layout = s; activity = Copies (with_read c read) })
-    kept_read read = recopied net n journal s c h c.at c.piece c.ended read c.targets h.busy.targets h.busy.sources refl
+    kept_read read = recopied net n journal s c h c.at c.piece c.ended read c.targets h.busy.targets h.busy.sources refl h.busy.short
 
     failed_read : (kept : CallStage) (cause : LeftCause) → RightAfter (source_fails c kept cause)
     failed_read kept cause = source_gone (with_read c kept) (kept_read kept) s.live refl cause
@@ -275,7 +277,7 @@ module _ (net : Net) (n next_uid files servers : ℕ) (journal : List Entry) (kn
         waited (with_piece c eof bytes)
         (recopied net n journal s c h c.at bytes eof Done (map (to_write bytes) c.targets)
         (all_map (IsTargetOf net n c.copier c.at c.piece) (IsTargetOf net n c.copier c.at bytes) (to_write bytes) c.targets (to_write_ok net n c.copier c.at c.piece c.at bytes) h.busy.targets)
-        (all_map (λ t. IsNotSource s.live t.replaced) (λ t. IsNotSource s.live t.replaced) (to_write bytes) c.targets (λ t k. same_replaced bytes (IsNotSource s.live) t k) h.busy.sources) (sites_written bytes c.targets)))
+        (all_map (λ t. IsNotSource s.live t.replaced) (λ t. IsNotSource s.live t.replaced) (to_write bytes) c.targets (λ t k. same_replaced bytes (IsNotSource s.live) t k) h.busy.sources) (sites_written bytes c.targets) (short_by c bytes e)))
     read_ok (NotSync shown) = failed_read KeptBack (Error odd_status)
     read_ok (Failed status shown) = failed_read KeptBack (Error status)
 

@@ -133,11 +133,11 @@ untaken_journal =
 -- second one never comes, and a restart loses the write. So it is the answered COMMIT that has to stand behind.
 abbrev pub told_until_repeat : List Move
 told_until_repeat =
-    Creates (1 ∷ []) ∷ CallsOut 1 1 ∷ Deliver 0 ∷ Deliver 1 ∷ Happens 1 (AsksLayout 1) ∷ Takes 0 0 (65 ∷ []) ∷ Uses (Client 1) 1 1 65536 65536 (Commit 2) ∷ Deliver 2
+    Creates (1 ∷ []) ∷ CallsOut 1 1 ∷ Deliver 0 ∷ Deliver 1 ∷ Happens 1 (AsksLayout 1) ∷ Takes (file_id 1) 65536 0 (65 ∷ []) ∷ Uses (Client 1) 1 1 65536 65536 (Commit 2) ∷ Deliver 2
     ∷ Uses (Client 1) 1 2 65536 65536 (Write 2 0 false (65 ∷ [])) ∷ Deliver 4 ∷ SendsAgain 2 ∷ []
 
 abbrev pub told_by_a_repeat : List Move
-told_by_a_repeat = told_until_repeat ++ Tells 0 0 (65 ∷ []) ∷ Restarts 1 [] ∷ Happens 1 (Revokes Lease) ∷ CallsOut 1 2 ∷ Deliver 7 ∷ Deliver 8 ∷ CallsOut 1 3 ∷ Deliver 9 ∷ Deliver 10 ∷ []
+told_by_a_repeat = told_until_repeat ++ Tells (file_id 1) 65536 0 (65 ∷ []) ∷ Restarts 1 [] ∷ Happens 1 (Revokes Lease) ∷ CallsOut 1 2 ∷ Deliver 7 ∷ Deliver 8 ∷ CallsOut 1 3 ∷ Deliver 9 ∷ Deliver 10 ∷ []
 
 abbrev pub told_by_a_repeat_journal : List Entry
 told_by_a_repeat_journal =

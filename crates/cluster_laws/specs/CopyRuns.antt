@@ -18,7 +18,7 @@ use Rattle.cluster_laws.specs.WorkedRuns.{at_server}
 abbrev pub copy_run : List Move
 copy_run =
     Creates (1 ∷ 2 ∷ []) ∷ CallsOut 1 1 ∷ CallsOut 1 2 ∷ Deliver 0 ∷ Deliver 2 ∷ Deliver 1 ∷ Deliver 3 ∷ Happens 1 (AsksLayout 1)
-    ∷ Takes 0 0 (65 ∷ []) ∷ Uses (Client 1) 1 1 65536 65536 (Write 2 0 false (65 ∷ [])) ∷ Deliver 4 ∷ Happens 1 (Revokes Lease) ∷ CallsOut 1 3
+    ∷ Takes (file_id 1) 65536 0 (65 ∷ []) ∷ Uses (Client 1) 1 1 65536 65536 (Write 2 0 false (65 ∷ [])) ∷ Deliver 4 ∷ Happens 1 (Revokes Lease) ∷ CallsOut 1 3
     ∷ Deliver 6 ∷ Deliver 7 ∷ CallsOut 1 4 ∷ Deliver 8 ∷ Deliver 9 ∷ CallsOut 1 5 ∷ Deliver 10 ∷ Deliver 11 ∷ CallsOut 1 6 ∷ Deliver 12 ∷ Deliver 13
     ∷ CallsOut 1 7 ∷ Deliver 14 ∷ Deliver 15 ∷ CallsOut 1 8 ∷ Deliver 16 ∷ Deliver 17 ∷ CallsOut 1 9 ∷ Deliver 18 ∷ Deliver 19 ∷ CallsOut 1 10
     ∷ CallsOut 1 11 ∷ Deliver 20 ∷ Deliver 22 ∷ Deliver 21 ∷ Deliver 23 ∷ []
@@ -52,7 +52,7 @@ copy_run_journal =
 abbrev pub source_fails : List Move
 source_fails =
     Creates (1 ∷ 2 ∷ []) ∷ CallsOut 1 1 ∷ CallsOut 1 2 ∷ Deliver 0 ∷ Deliver 2 ∷ Deliver 1 ∷ Deliver 3 ∷ Happens 1 (AsksLayout 1)
-    ∷ Takes 0 0 (65 ∷ []) ∷ Uses (Client 1) 1 1 65536 65536 (Write 2 0 false (65 ∷ [])) ∷ Deliver 4 ∷ Happens 1 (Revokes Lease) ∷ CallsOut 1 3
+    ∷ Takes (file_id 1) 65536 0 (65 ∷ []) ∷ Uses (Client 1) 1 1 65536 65536 (Write 2 0 false (65 ∷ [])) ∷ Deliver 4 ∷ Happens 1 (Revokes Lease) ∷ CallsOut 1 3
     ∷ Deliver 6 ∷ Deliver 7 ∷ CallsOut 1 4 ∷ Deliver 8 ∷ Deliver 9 ∷ CallsOut 1 5 ∷ Deliver 10 ∷ Deliver 11 ∷ CallsOut 1 6 ∷ Deliver 12 ∷ Deliver 13
     ∷ CallsOut 1 7 ∷ Deliver 14 ∷ Deliver 15 ∷ CallsOut 1 8 ∷ GivesUpWaiting 1 8 ∷ GivesUpWaiting 1 8 ∷ GivesUpWaiting 1 8 ∷ CallsOut 1 9
     ∷ Deliver 17 ∷ Deliver 18 ∷ []
@@ -83,7 +83,7 @@ source_fails_journal =
 abbrev pub target_fails : List Move
 target_fails =
     Creates (1 ∷ 2 ∷ []) ∷ CallsOut 1 1 ∷ CallsOut 1 2 ∷ Deliver 0 ∷ Deliver 2 ∷ Deliver 1 ∷ Deliver 3 ∷ Happens 1 (AsksLayout 1)
-    ∷ Takes 0 0 (65 ∷ []) ∷ Uses (Client 1) 1 1 65536 65536 (Write 2 0 false (65 ∷ [])) ∷ Deliver 4 ∷ Happens 1 (Revokes Lease) ∷ CallsOut 1 3
+    ∷ Takes (file_id 1) 65536 0 (65 ∷ []) ∷ Uses (Client 1) 1 1 65536 65536 (Write 2 0 false (65 ∷ [])) ∷ Deliver 4 ∷ Happens 1 (Revokes Lease) ∷ CallsOut 1 3
     ∷ Deliver 6 ∷ Deliver 7 ∷ CallsOut 1 4 ∷ Deliver 8 ∷ Deliver 9 ∷ CallsOut 1 5 ∷ Deliver 10 ∷ Deliver 11 ∷ CallsOut 1 6 ∷ Deliver 12 ∷ Deliver 13
     ∷ CallsOut 1 7 ∷ GivesUpWaiting 1 7 ∷ GivesUpWaiting 1 7 ∷ GivesUpWaiting 1 7 ∷ Deliver 14 ∷ Deliver 15 ∷ []
 

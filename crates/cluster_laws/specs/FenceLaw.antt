@@ -5,7 +5,7 @@ use Rattle.cluster_model.specs.declared.ids.FileId.{FileId}
 use Rattle.cluster_model.specs.declared.ids.Cred.{Cred}
 use Rattle.cluster_model.specs.declared.ids.MirrorId.{MirrorId}
 use Rattle.cluster_model.specs.declared.entry.Entry.{Entry}
-use Rattle.cluster_model.specs.declared.entry.Entry.TheVariants.{Free, Granted, Left, Swapped, Fenced, Applied}
+use Rattle.cluster_model.specs.declared.entry.Entry.TheVariants.{Free, Left, Swapped, Fenced, Applied}
 use Rattle.cluster_model.specs.Journal.{is_mirror, content_of}
 use Rattle.cluster_model.specs.Server.{ServerState, new_server}
 use Rattle.cluster_laws.specs.Machine.{Move, new_machine, journal_of}

@@ -17,7 +17,7 @@ use Rattle.cluster_model.specs.DsCalls.{DsCallValue, Create, SetAttr, Write, Com
 use Rattle.cluster_model.specs.Phases.{ids_of, unreported, is_clean}
 use Rattle.file_rule.specs.MdsFiles.{MdsFile}
 use Rattle.file_rule.specs.FilePhases.{FileInput, OwnWrite, Returns, OwnEnds}
-use Rattle.cluster_laws.specs.Machine.{PacketValue, Call, Reply, Holding, Machine, Move, Deliver, Creates, Happens, CallsOut, SendsAgain, GivesUpWaiting, Uses, Learns, Takes, Strays, Tells, Restarts, new_machine, numbered_at, moved, journal_of}
+use Rattle.cluster_laws.specs.Machine.{PacketValue, Call, Reply, Holding, Machine, Move, Deliver, Creates, Happens, CallsOut, SendsAgain, GivesUpWaiting, Hears, Uses, Learns, Takes, Strays, Tells, Restarts, new_machine, numbered_at, moved, journal_of}
 use Rattle.cluster_laws.specs.FenceLaw.{new_servers}
 use Rattle.cluster_laws.specs.Agreement.{sent_of, rogue_of, causes_of, AgreesAlways}
 
@@ -119,9 +119,13 @@ IsBoundInput packets journal (OwnEnds causes at bytes) (Some f) =
     (is_recalled : Bool) → f.layout.phase ≡ Held Mds is_recalled → MayEnd packets journal f.layout.cred.0 (unreported (map is_some causes) f.layout.live)
 IsBoundInput packets journal _ (Some f) = Unit {0}
 
-abbrev pub IfHeld : Option Holding → (Holding → Type 0) → Type 0
-IfHeld None P = Unit {0}
-IfHeld (Some h) P = P h
+-- the uid was granted, and the layout that was granted with it is so
+pub record HeldUnder (m : Machine) (uid : ℕ) (P : Holding → Type 0) : Type 0 where
+  pub place : ℕ
+  pub held : Holding
+  pub there : slice_get m.holdings place ≡ Some held
+  pub its_uid : held.uid ≡ uid
+  pub so : P held
 
 -- a move in the machine and behind the journal that it meets
 abbrev pub IsBound : Machine → List Entry → Move → Type 0
@@ -131,11 +135,12 @@ IsBound m journal (Happens n input) = IsBoundInput m.packets journal input (numb
 IsBound m journal (CallsOut n xid) = Unit {0}
 IsBound m journal (SendsAgain place) = Unit {0}
 IsBound m journal (GivesUpWaiting n xid) = Unit {0}
+IsBound m journal (Hears n place) = Unit {0}
 IsBound m journal (Uses node server xid uid gid call) = IsBoundCall journal uid call
 IsBound m journal (Learns n place id) = Unit {0}
-IsBound m journal (Takes holding at bytes) = IfHeld (slice_get m.holdings holding) (λ h. MayTake journal h.uid at bytes)
-IsBound m journal (Strays holding at bytes) = IfHeld (slice_get m.holdings holding) (λ h. HasNotEndedClean journal h.uid)
-IsBound m journal (Tells holding at bytes) = IfHeld (slice_get m.holdings holding) (λ h. MayTell m.packets journal h at bytes)
+IsBound m journal (Takes file uid at bytes) = HeldUnder m uid (λ h. MayTake journal uid at bytes)
+IsBound m journal (Strays file uid at bytes) = HeldUnder m uid (λ h. HasNotEndedClean journal uid)
+IsBound m journal (Tells file uid at bytes) = HeldUnder m uid (λ h. MayTell m.packets journal h at bytes)
 IsBound m journal (Restarts n pieces) = Unit {0}
 
 abbrev pub AreBoundFrom : Machine → List Entry → List Move → Type 0

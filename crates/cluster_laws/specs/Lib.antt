@@ -8,3 +8,5 @@ pub mod Telling
 pub mod BadJournals
 pub mod Holders
 pub mod Keeping
+pub mod RunBounds
+pub mod CallRanges

@@ -74,14 +74,16 @@ pub data Move : Type 0 where
   SendsAgain : (place : ℕ) → Move
   -- an outstanding call of a file times out
   GivesUpWaiting : (file xid : ℕ) → Move
-  -- a node sends a WRITE or a COMMIT under a uid that it was granted, and any READ
+  -- an answer is taken by a file whose call it answers
+  Hears : (file place : ℕ) → Move
+  -- a node sends a WRITE, a COMMIT or a READ under any uid, be it granted or not; the metadata server under a new number
   Uses : (node : NodeId) (server xid uid gid : ℕ) (call : DsCallValue) → Move
   -- an own write's answer showed the ctime of a mirror
   Learns : (file place : ℕ) (id : MirrorId) → Move
-  -- a holder takes a write; a client that left the protocol strays; a write is told as committed
-  Takes : (holding at : ℕ) (bytes : List ℕ) → Move
-  Strays : (holding at : ℕ) (bytes : List ℕ) → Move
-  Tells : (holding at : ℕ) (bytes : List ℕ) → Move
+  -- It is noted that a write under a uid was taken; that one strayed; that one is committed. Who may note what is said of holders.
+  Takes : (file : FileId) (uid at : ℕ) (bytes : List ℕ) → Move
+  Strays : (file : FileId) (uid at : ℕ) (bytes : List ℕ) → Move
+  Tells : (file : FileId) (uid at : ℕ) (bytes : List ℕ) → Move
   -- a data server starts again; these pieces of its pending writes had reached its disk
   Restarts : (server : ℕ) (pieces : List Piece) → Move
 
@@ -267,23 +269,38 @@ abbrev pub sent_again : Machine → Option PacketValue → MachineStep
 sent_again m None = no_move m
 sent_again m (Some packet) = record { machine = with_packets m (m.packets ++ packet ∷ []); entries = [] }
 
--- a node holds a uid
-abbrev pub holds : Machine → NodeId → ℕ → Bool
-holds m node uid = list_any (λ h. is_node h.node node && h.uid == uid) m.holdings
+-- What a node may send whatever it was granted: it writes, commits and reads. Files are made and given to others by the metadata server's
+-- own calls alone.
+abbrev pub may_use : DsCallValue → Bool
+may_use (Create name owner) = false
+may_use (SetAttr fileid owner guard) = false
+may_use (Write fileid at synced bytes) = true
+may_use (Commit fileid) = true
+may_use (Read fileid at count) = true
 
--- what a node may send: under a uid that it was granted, be its period over or not; reading is free
-abbrev pub may_use : Machine → NodeId → ℕ → DsCallValue → Bool
-may_use m node uid (Create name owner) = false
-may_use m node uid (SetAttr fileid owner guard) = false
-may_use m node uid (Write fileid at synced bytes) = holds m node uid
-may_use m node uid (Commit fileid) = holds m node uid
-may_use m node uid (Read fileid at count) = true
+-- the calls of the metadata server have numbers of their own; how a client numbers its calls is its own affair
+abbrev pub may_number : Machine → NodeId → ℕ → Bool
+may_number m Mds xid = is_new_number m Mds xid
+may_number m (Server n) xid = true
+may_number m (Client n) xid = true
 
 abbrev pub used : Machine → NodeId → ℕ → ℕ → ℕ → ℕ → DsCallValue → MachineStep
 used m node server xid uid gid call =
-    if may_use m node uid call && is_new_number m node xid
+    if may_use call && may_number m node xid
     then record { machine = puts_out m node xid (Call node server xid uid gid call); entries = [] }
     else no_move m
+
+-- an answer that is taken by this file
+abbrev pub heard_at : Machine → ℕ → ℕ → ℕ → DsReplyValue → NodeId → Option MdsFile → MachineStep
+heard_at m n server xid reply to None = no_move m
+heard_at m n server xid reply Mds (Some f) = if is_outstanding f server xid then file_takes m n (Answers xid reply) (Some f) else no_move m
+heard_at m n server xid reply (Server k) (Some f) = no_move m
+heard_at m n server xid reply (Client k) (Some f) = no_move m
+
+abbrev pub heard : Machine → ℕ → Option PacketValue → MachineStep
+heard m n None = no_move m
+heard m n (Some (Call from server xid uid gid call)) = no_move m
+heard m n (Some (Reply call server to xid reply)) = heard_at m n server xid reply to (numbered_at m.files n)
 
 -- the ctime that a reply shows
 abbrev pub ctime_of : Option Shown → Option Tick
@@ -326,10 +343,9 @@ learnt m n id file None = no_move m
 learnt m n id file (Some (Call from server xid uid gid call)) = no_move m
 learnt m n id file (Some (Reply call server to xid reply)) = learns_from m n id file call server to reply
 
--- an entry of a holder, and nothing else
-abbrev pub noted : Machine → (FileId → ℕ → Entry) → Option Holding → MachineStep
-noted m note None = no_move m
-noted m note (Some h) = record { machine = m; entries = note h.file h.uid ∷ [] }
+-- an entry, and nothing else
+abbrev pub noted : Machine → Entry → MachineStep
+noted m e = record { machine = m; entries = e ∷ [] }
 
 abbrev pub started_again : Machine → ℕ → List Piece → Option ServerState → MachineStep
 started_again m n pieces None = no_move m
@@ -348,11 +364,12 @@ moved m (Happens n input) = if comes_by_itself input then file_takes m n input (
 moved m (CallsOut n xid) = call_out_from m n xid (numbered_at m.files n)
 moved m (SendsAgain place) = sent_again m (slice_get m.packets place)
 moved m (GivesUpWaiting n xid) = file_takes m n (TimesOut xid) (numbered_at m.files n)
+moved m (Hears n place) = heard m n (slice_get m.packets place)
 moved m (Uses node server xid uid gid call) = used m node server xid uid gid call
 moved m (Learns n place id) = learnt m n id (numbered_at m.files n) (slice_get m.packets place)
-moved m (Takes holding at bytes) = noted m (λ file uid. entry.Sent file (a_uid uid) at bytes) (slice_get m.holdings holding)
-moved m (Strays holding at bytes) = noted m (λ file uid. entry.Rogue file (a_uid uid) at bytes) (slice_get m.holdings holding)
-moved m (Tells holding at bytes) = noted m (λ file uid. entry.Told file (a_uid uid) at bytes) (slice_get m.holdings holding)
+moved m (Takes file uid at bytes) = noted m (entry.Sent file (a_uid uid) at bytes)
+moved m (Strays file uid at bytes) = noted m (entry.Rogue file (a_uid uid) at bytes)
+moved m (Tells file uid at bytes) = noted m (entry.Told file (a_uid uid) at bytes)
 moved m (Restarts n pieces) = restarts_at m n pieces (numbered_at m.servers n)
 
 abbrev pub machine_after : Machine → List Move → Machine

@@ -34,9 +34,9 @@ commit_there xid uid = Uses (Client 1) 1 xid uid uid (Commit 2)
 abbrev pub two_periods : List Move
 two_periods =
     Creates (1 ∷ []) ∷ CallsOut 1 1 ∷ Deliver 0 ∷ Deliver 1
-    ∷ Happens 1 (AsksLayout 1) ∷ Takes 0 0 (65 ∷ []) ∷ write_there 1 65536 0 (65 ∷ []) ∷ Deliver 2 ∷ commit_there 2 65536 ∷ Deliver 4 ∷ Tells 0 0 (65 ∷ [])
+    ∷ Happens 1 (AsksLayout 1) ∷ Takes (file_id 1) 65536 0 (65 ∷ []) ∷ write_there 1 65536 0 (65 ∷ []) ∷ Deliver 2 ∷ commit_there 2 65536 ∷ Deliver 4 ∷ Tells (file_id 1) 65536 0 (65 ∷ [])
     ∷ Happens 1 (Returns 1 (a_uid 65536) []) ∷ CallsOut 1 2 ∷ Deliver 6 ∷ Deliver 7 ∷ CallsOut 1 3 ∷ Deliver 8 ∷ Deliver 9
-    ∷ Happens 1 (AsksLayout 1) ∷ Takes 1 1 (66 ∷ []) ∷ write_there 3 65537 1 (66 ∷ []) ∷ Deliver 10 ∷ commit_there 4 65537 ∷ Deliver 12 ∷ Tells 1 1 (66 ∷ [])
+    ∷ Happens 1 (AsksLayout 1) ∷ Takes (file_id 1) 65537 1 (66 ∷ []) ∷ write_there 3 65537 1 (66 ∷ []) ∷ Deliver 10 ∷ commit_there 4 65537 ∷ Deliver 12 ∷ Tells (file_id 1) 65537 1 (66 ∷ [])
     ∷ Happens 1 (Returns 1 (a_uid 65537) []) ∷ CallsOut 1 4 ∷ Deliver 14 ∷ Deliver 15 ∷ CallsOut 1 5 ∷ Deliver 16 ∷ Deliver 17
     ∷ Deliver 8 ∷ Deliver 2 ∷ Deliver 10 ∷ []
 
@@ -71,7 +71,7 @@ two_periods_journal =
 abbrev pub restart_between : List Move
 restart_between =
     Creates (1 ∷ []) ∷ CallsOut 1 1 ∷ Deliver 0 ∷ Deliver 1
-    ∷ Happens 1 (AsksLayout 1) ∷ Takes 0 0 (65 ∷ []) ∷ write_there 1 65536 0 (65 ∷ []) ∷ Deliver 2
+    ∷ Happens 1 (AsksLayout 1) ∷ Takes (file_id 1) 65536 0 (65 ∷ []) ∷ write_there 1 65536 0 (65 ∷ []) ∷ Deliver 2
     ∷ Happens 1 (Revokes Lease) ∷ CallsOut 1 2 ∷ Deliver 4 ∷ Restarts 1 [] ∷ Deliver 5 ∷ CallsOut 1 3 ∷ Deliver 6 ∷ Deliver 7 ∷ CallsOut 1 4 ∷ Deliver 8 ∷ Deliver 9
     ∷ CallsOut 1 5 ∷ Deliver 10 ∷ Deliver 11 ∷ Deliver 2 ∷ []
 
@@ -97,7 +97,7 @@ restart_between_journal =
 abbrev pub late_write : List Move
 late_write =
     Creates (1 ∷ 2 ∷ []) ∷ CallsOut 1 1 ∷ CallsOut 1 2 ∷ Deliver 0 ∷ Deliver 1 ∷ Deliver 2 ∷ Deliver 3
-    ∷ Happens 1 (AsksLayout 1) ∷ Takes 0 0 (65 ∷ []) ∷ Uses (Client 1) 1 1 65536 65536 (Write 2 0 false (65 ∷ [])) ∷ Uses (Client 1) 2 2 65536 65536 (Write 2 0 false (65 ∷ []))
+    ∷ Happens 1 (AsksLayout 1) ∷ Takes (file_id 1) 65536 0 (65 ∷ []) ∷ Uses (Client 1) 1 1 65536 65536 (Write 2 0 false (65 ∷ [])) ∷ Uses (Client 1) 2 2 65536 65536 (Write 2 0 false (65 ∷ []))
     ∷ Happens 1 (Revokes Lease) ∷ CallsOut 1 3 ∷ CallsOut 1 4 ∷ Deliver 6 ∷ Deliver 8 ∷ Deliver 4 ∷ Deliver 5 ∷ Deliver 7 ∷ Deliver 11
     ∷ CallsOut 1 5 ∷ Deliver 12 ∷ Deliver 13 ∷ Deliver 5 ∷ Deliver 4 ∷ []
 
@@ -120,7 +120,7 @@ late_write_journal =
 -- The CREATE and the WRITE come by their repeats alone.
 abbrev pub repeat : List Move
 repeat =
-    Creates (1 ∷ []) ∷ CallsOut 1 1 ∷ SendsAgain 0 ∷ Deliver 1 ∷ Deliver 2 ∷ Happens 1 (AsksLayout 1) ∷ Takes 0 0 (65 ∷ [])
+    Creates (1 ∷ []) ∷ CallsOut 1 1 ∷ SendsAgain 0 ∷ Deliver 1 ∷ Deliver 2 ∷ Happens 1 (AsksLayout 1) ∷ Takes (file_id 1) 65536 0 (65 ∷ [])
     ∷ Uses (Client 1) 1 1 65536 65536 (Write 2 0 false (65 ∷ [])) ∷ SendsAgain 3 ∷ Deliver 4 ∷ []
 
 abbrev pub repeat_journal : List Entry
@@ -257,8 +257,8 @@ resilver_journal =
 -- The ctime of both WRITEs is lost with the restart, so the first SETATTR of the fence is in sync. The byte that was kept is committed.
 abbrev pub strays : List Move
 strays =
-    Creates (1 ∷ []) ∷ CallsOut 1 1 ∷ Deliver 0 ∷ Deliver 1 ∷ Happens 1 (AsksLayout 1) ∷ Takes 0 0 (65 ∷ [])
-    ∷ Uses (Client 1) 1 1 65536 65536 (Write 2 0 false (65 ∷ [])) ∷ Deliver 2 ∷ Strays 0 1 (66 ∷ 67 ∷ [])
+    Creates (1 ∷ []) ∷ CallsOut 1 1 ∷ Deliver 0 ∷ Deliver 1 ∷ Happens 1 (AsksLayout 1) ∷ Takes (file_id 1) 65536 0 (65 ∷ [])
+    ∷ Uses (Client 1) 1 1 65536 65536 (Write 2 0 false (65 ∷ [])) ∷ Deliver 2 ∷ Strays (file_id 1) 65536 1 (66 ∷ 67 ∷ [])
     ∷ Uses (Client 1) 1 2 65536 65536 (Write 2 1 false (66 ∷ 67 ∷ [])) ∷ Deliver 4
     ∷ Restarts 1 (record { fileid = 2; index = 1; from = 0; count = 1 } ∷ []) ∷ Happens 1 (Revokes Lease) ∷ CallsOut 1 2 ∷ Deliver 6 ∷ Deliver 7
     ∷ CallsOut 1 3 ∷ Deliver 8 ∷ Deliver 9 ∷ []
@@ -287,9 +287,9 @@ strays_journal =
 abbrev pub reported : List Move
 reported =
     Creates (1 ∷ 2 ∷ []) ∷ CallsOut 1 1 ∷ CallsOut 1 2 ∷ Deliver 0 ∷ Deliver 2 ∷ Deliver 1 ∷ Deliver 3 ∷ Happens 1 (AsksLayout 1)
-    ∷ Takes 0 0 (65 ∷ []) ∷ Uses (Client 1) 1 1 65536 65536 (Write 2 0 false (65 ∷ [])) ∷ Uses (Client 1) 2 2 65536 65536 (Write 2 0 false (65 ∷ []))
+    ∷ Takes (file_id 1) 65536 0 (65 ∷ []) ∷ Uses (Client 1) 1 1 65536 65536 (Write 2 0 false (65 ∷ [])) ∷ Uses (Client 1) 2 2 65536 65536 (Write 2 0 false (65 ∷ []))
     ∷ Deliver 4 ∷ Uses (Client 1) 1 3 65536 65536 (Commit 2) ∷ Deliver 7 ∷ Happens 1 (Returns 1 (a_uid 65536) (false ∷ true ∷ [])) ∷ Happens 1 (AsksLayout 2)
-    ∷ Tells 0 0 (65 ∷ []) ∷ CallsOut 1 3 ∷ Deliver 9 ∷ Deliver 10 ∷ CallsOut 1 4 ∷ Deliver 11 ∷ Deliver 12 ∷ Deliver 5 ∷ Deliver 4 ∷ []
+    ∷ Tells (file_id 1) 65536 0 (65 ∷ []) ∷ CallsOut 1 3 ∷ Deliver 9 ∷ Deliver 10 ∷ CallsOut 1 4 ∷ Deliver 11 ∷ Deliver 12 ∷ Deliver 5 ∷ Deliver 4 ∷ []
 
 abbrev pub reported_journal : List Entry
 reported_journal =

@@ -7,6 +7,8 @@ ghost use Rattle.cluster_model.specs.declared.layout_state.LayoutPhase.TheVarian
 ghost use Rattle.cluster_model.specs.declared.entry.Entry.{Entry as JournalEntry};
 ghost use Rattle.cluster_laws.specs.Machine.{Move};
 ghost use Rattle.cluster_laws.specs.FenceLaw.{FenceLaw};
+ghost use Rattle.cluster_laws.specs.RunBounds.{StepsDrawFew, UidsEnd};
+ghost use Rattle.cluster_laws.specs.CallRanges.{CallsInRange, MirrorsInRange};
 ghost use Rattle.cluster_laws.specs.Periods.{EachPeriodIsFenced, OwnersStay, TellsTheTruth};
 ghost use Rattle.cluster_laws.specs.Telling.{SaysTheSame, MakesTelling};
 ghost use Rattle.cluster_laws.specs.WorkedRuns.{run_journal, two_periods, two_periods_journal, restart_between, restart_between_journal, late_write, late_write_journal, repeat, repeat_journal, timeouts, timeouts_journal, out_of_sync, out_of_sync_journal, own_write, own_write_journal, resilver, resilver_journal, strays, strays_journal, reported, reported_journal, recalled, run_phases};
@@ -37,6 +39,23 @@ pub fn run_laws()
     ensures each_period_is_fenced { (boots : List ℕ) (moves : List Move) → EachPeriodIsFenced boots moves }
     ensures owners_stay { (boots : List ℕ) (moves : List Move) → OwnersStay boots moves }
     ensures tells_the_truth { (boots : List ℕ) (moves : List Move) → TellsTheTruth boots moves }
+{
+    server_guards();
+}
+
+/// What a run draws. A step of a file, whatever comes to it, draws one uid at most and the numbers of four names: no file
+/// has more than four mirrors, with those that are being made or added. The uids of a run stay below their end.
+pub fn run_bounds()
+    ensures draws { (boots : List ℕ) (moves : List Move) → StepsDrawFew boots moves }
+    ensures uids { (boots : List ℕ) (moves : List Move) → UidsEnd boots moves }
+{}
+
+/// The calls of a run fit their fields, where the numbers of its data servers do: each call that can go out has numbers in
+/// their ranges, at most 65,536 bytes in a WRITE and at least one in a READ (`IsCallInRange`); and so have each file's uid
+/// and the fileids of its live mirrors.
+pub fn calls_in_range()
+    ensures calls { (boots : List ℕ) (moves : List Move) → CallsInRange boots moves }
+    ensures mirrors { (boots : List ℕ) (moves : List Move) → MirrorsInRange boots moves }
 {
     server_guards();
 }

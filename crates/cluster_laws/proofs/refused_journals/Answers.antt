@@ -1,5 +1,7 @@
-use Rattle.std.proofs.Common.{◌≡◌, ℕ, zero, suc, List, [], ◌∷◌, Option, Some, refl, arith, inl, inr}
+use Rattle.std.proofs.Common.{◌≡◌, ℕ, zero, suc, List, [], ◌∷◌, Option, Some, refl, sym, ap, subst, arith, inl, inr}
 use Rattle.std.specs.Prelude.{slice_get}
+use Rattle.std.specs.List.{AllByRecursion}
+use Rattle.std.proofs.lemmas.Option.{same_Some}
 use Rattle.cluster_model.specs.declared.ids.NodeId.TheVariants.{Client}
 use Rattle.cluster_model.specs.declared.phase.EndCause.TheVariants.{Returned, Lease}
 use Rattle.cluster_model.specs.declared.entry.Entry.TheVariants.{Granted, Sent, Told, Ended, Fenced, Free, Applied, Committed as AllCommitted, Owner, Restarted}
@@ -11,7 +13,7 @@ use Rattle.cluster_model.specs.declared.ids.MirrorId.{MirrorId}
 use Rattle.cluster_model.specs.declared.ds_call.Shown.{Shown}
 use Rattle.cluster_model.specs.Content.{Pending}
 use Rattle.cluster_model.specs.DsCalls.{Written, Committed}
-use Rattle.cluster_laws.specs.Machine.{PacketValue, Reply, new_machine, machine_after}
+use Rattle.cluster_laws.specs.Machine.{PacketValue, Reply, Holding, new_machine, machine_after}
 use Rattle.cluster_laws.specs.FenceLaw.{new_servers}
 use Rattle.cluster_laws.specs.Holders.{IsCovered, the_write}
 use Rattle.cluster_laws.specs.BadJournals.{told_until_repeat}
@@ -117,13 +119,23 @@ not_covered uid id w k =
     let committed = commit_at k.committed_place k.commit_place id.server k.commit_xid k.verifier k.committer k.commit_shown k.committed in
     absurd (omega (arith, behind, written, committed))
 
+-- the only layout that was granted names the only mirror
+held_mirrors : (place : ℕ) (h : Holding) → slice_get (machine_after (new_machine (new_servers 1 (1 ∷ []))) told_until_repeat).holdings place ≡ Some h → h.mirrors ≡ at_server 1 2 ∷ []
+held_mirrors zero h is = ap (λ (x : Holding). x.mirrors) (sym (same_Some _ h is))
+held_mirrors (suc k) h is = absurd cc
+
+not_told : (h : Holding) → h.mirrors ≡ at_server 1 2 ∷ [] → AllByRecursion (λ id. IsCovered packets h.uid id (the_write 0 (65 ∷ []))) h.mirrors → ⊥
+not_told h is covered = not_covered h.uid (at_server 1 2) (the_write 0 (65 ∷ [])) (subst (λ (ids : List MirrorId). AllByRecursion (λ id. IsCovered packets h.uid id (the_write 0 (65 ∷ []))) ids) is covered).0
+
 pub returns-clause-told_by_a_repeat : goal.returns-clause-told_by_a_repeat
 returns-clause-told_by_a_repeat c = record {
   is = refl;
-  loose = λ h. elim h.1.1.1.1.1.1.1.1.1.1.1.0 [
-    | inl clean ↦ let wrong = clean.causes in absurd cc
-    | inr k ↦ absurd (not_covered 65536 (at_server 1 2) (the_write 0 (65 ∷ [])) k.covered.0)
-  ];
+  loose = λ h.
+      let told = h.1.1.1.1.1.1.1.1.1.1.1.0 in
+      elim told.so [
+        | inl clean ↦ let wrong = clean.causes in absurd cc
+        | inr k ↦ absurd (not_told told.held (held_mirrors told.place told.held told.there) k.covered)
+      ];
   breaks = λ h.
       let wrong =
       (h.steps (Owner (at_server 1 2) (a_uid 65536) ∷ [])
