@@ -1,0 +1,3 @@
+mod ProperFiles
+mod ProperSteps
+mod ProperReplies

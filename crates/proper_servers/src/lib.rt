@@ -1,0 +1,6 @@
+//! What every data server of a cluster meets.
+#![tactic(auto)]
+
+mod laws;
+
+pub use laws::proper_servers;

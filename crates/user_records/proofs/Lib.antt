@@ -1,0 +1,3 @@
+mod Procedures
+mod Effects
+mod Users
