@@ -1,9 +1,9 @@
 -- Compounds, and what comes of answers and timeouts, keep what is kept in each case.
-use Rattle.std.proofs.Common.{◌≡◌, ℕ, Bool, true, false, List, [], ◌∷◌, ◌++◌, length, Option, Some, None, refl, sym, subst, inr}
+use Rattle.std.proofs.Common.{◌≡◌, ℕ, Bool, true, false, List, [], ◌∷◌, ◌++◌, length, Option, Some, None, refl, sym, ap, subst, ◌∙◌, inr}
 use Rattle.std.specs.Prelude.{not, ◌==◌, slice_get, remove, drop, position, map}
 use Rattle.std.specs.List.{find}
 use Rattle.std.specs.Option.{option_map}
-use Rattle.std.proofs.lemmas.Bool.{cond_both}
+use Rattle.std.proofs.lemmas.Bool.{cond_both, and_parts, eqb-true}
 use Rattle.std.proofs.lemmas.List.{append_assoc, append-nil}
 use Rattle.ff_xdr.specs.Form.{Value, arm_of}
 use Rattle.ff_xdr.specs.Arms.{of_each_arm}
@@ -15,7 +15,9 @@ use Rattle.cluster_model.specs.declared.ds_call.Shown.{Shown}
 use Rattle.cluster_model.specs.declared.entry.Entry.{Entry}
 use Rattle.cluster_model.specs.declared.entry.Entry.TheVariants as entry
 use Rattle.cluster_model.specs.DsCalls.{DsCallValue, DsReplyValue}
-use Rattle.file_rule.specs.FilePhases.{Answers, TimesOut, OwnEnds, Revokes, Sees}
+use Rattle.cluster_model.specs.Nodes.{is_node}
+use Rattle.file_rule.specs.MdsFiles.{MdsFile}
+use Rattle.file_rule.specs.FilePhases.{Answers, TimesOut, OwnEnds, Revokes, Sees, phase, is_outstanding}
 use Rattle.mds_io.specs.declared.read_end.Failure.{Failure}
 use Rattle.mds_io.specs.declared.read_end.ReadEnd.{ReadEnd}
 use Rattle.mds_io.specs.declared.read_end.ReadEnd.TheVariants as end
@@ -47,17 +49,19 @@ use Rattle.mds_rule.specs.MdsStates.{CompoundRun, WaitingRead, WaitingWrite, Ser
 use Rattle.mds_rule.specs.declared.waiter.Waiter.{Waiter}
 use Rattle.mds_rule.specs.declared.waiter.Waiter.TheVariants.{ForFile, ForRead, ForWrite, ForRecall}
 use Rattle.mds_rule.specs.OpSteps.{OpStep, Goes, Ends, Waits, with_result, refuses, refused_as, unread, stopped, is_operation_number}
-use Rattle.mds_rule.specs.ServedFiles.{takes_input}
+use Rattle.mds_rule.specs.ServedFiles.{has_fresh, file_stepped, takes_input}
 use Rattle.mds_rule.specs.Compounds.{operate, has_session, operates, compound_bytes, kept_in_slot, finishes, op_then, with_ops, runs, sequence_in, in_slot, sequenced, sequence_of, may_stand_alone, first_alone, first_by, first_operation, new_run, runs_compound}
-use Rattle.mds_rule.specs.Answers.{is_awaited, sized, fileid_of, attributes_shown, sees_in, sees_size, resumes, is_done_as, has_failed_as, failed_entry, failed_entries, read_result, without_read, read_ends, read_step_at, read_from, read_of, steps_read, is_read_out, write_answer, write_ends, write_of, write_in, steps_write, with_failed, failures_by_place, has_failed_everywhere, write_over, sees_ctime, recall_end, recall_outcome, recalls_after, own_answer, server_answered, answered_as, answers_found, takes_answer, timed_out_for}
+use Rattle.mds_rule.specs.Answers.{server_number, is_file_out, is_awaited_by, is_awaited, sized, fileid_of, attributes_shown, sees_in, sees_size, resumes, is_done_as, has_failed_as, failed_entry, failed_entries, read_result, without_read, read_ends, read_step_at, read_from, read_of, steps_read, is_read_out, write_answer, write_ends, write_of, write_in, steps_write, with_failed, failures_by_place, has_failed_everywhere, write_over, sees_ctime, recall_end, recall_outcome, recalls_after, own_answer, server_answered, answered_as, answers_found, takes_answer, timed_out_for}
 use Rattle.mds_laws.specs.SlotUses.{first_request}
-use Rattle.mds_laws.proofs.Keeping.{Becomes, Enters, Keeps, KeepsOp, Cases, IsCredOf, IsWriteOf, then_keeps, none_keeps, same, becomes_keeps, enters_keeps, no_entries, stays, silent_keeps}
+use Rattle.mds_laws.proofs.Keeping.{Becomes, Enters, Keeps, KeepsOp, Cases, HeardOf, Hearing, IsWriterOf, IsWriteOf, then_keeps, none_keeps, same, becomes_keeps, enters_keeps, no_entries, stays, silent_keeps}
+use Rattle.mds_laws.proofs.Lists.{found_in, found_passes}
+use Rattle.mds_laws.proofs.OwnWriters.{StaysWriter}
 use Rattle.mds_laws.proofs.Requested.{behind_request}
-use Rattle.mds_laws.proofs.ServedWalk.{takes, recalls_become, exchanges, creates, binds, destroys_session, destroys_client, reclaims_all}
-use Rattle.mds_laws.proofs.OpsWalk.{old_write, puts_fh, gets_fh, looks_up, gets_attr, opens, closes_file, commits, reads, writes, layout_gets, layout_returns, layout_commits, device_infos}
-use Rattle.mds_laws.proofs.WriterKept.{answer_cred, timeout_cred}
+use Rattle.mds_laws.proofs.ServedWalk.{takes, takes_by, recalls_become, exchanges, creates, binds, destroys_session, destroys_client, reclaims_all}
+use Rattle.mds_laws.proofs.OpsWalk.{old_write, served_again, puts_fh, gets_fh, looks_up, gets_attr, opens, closes_file, commits, reads, writes, layout_gets, layout_returns, layout_commits, device_infos}
+use Rattle.mds_laws.proofs.WriterKept.{answer_kept, timeout_kept}
 
-module _ (I : MdsValue → List Entry → List MdsSend → Type 0) (k : Cases I) where
+module _ (I : MdsValue → List Entry → List MdsSend → Type 0) (Heard : HeardOf) (k : Cases I Heard) where
   -- ---- one operation after the other
 
   -- what its slot keeps of the reply
@@ -89,46 +93,46 @@ module _ (I : MdsValue → List Entry → List MdsSend → Type 0) (k : Cases I)
   operate_walk : (now : ℕ) (m : MdsValue) (c : CompoundRun) (op : Value argop4) → KeepsOp I m (operate now m c op)
   operate_walk now m c op =
       of_each_arm argop4 (λ (v : Value argop4). KeepsOp I m (operate now m c v)) (
-        (λ close. closes_file I k m c close),
+        (λ close. closes_file I Heard k m c close),
         (
-          (λ commit. commits I k m c),
+          (λ commit. commits I Heard k m c),
           (
-            (λ words. gets_attr I k m c words),
+            (λ words. gets_attr I Heard k m c words),
             (
-              (λ nothing. gets_fh I k m c),
+              (λ nothing. gets_fh I Heard k m c),
               (
-                (λ name. looks_up I k m c name),
+                (λ name. looks_up I Heard k m c name),
                 (
-                  (λ opening. opens I k m c opening),
+                  (λ opening. opens I Heard k m c opening),
                   (
-                    (λ handle. puts_fh I k m c handle),
+                    (λ handle. puts_fh I Heard k m c handle),
                     (
                       (λ nothing. stays I m),
                       (
-                        (λ read. reads I k m c read),
+                        (λ read. reads I Heard k m c read),
                         (
-                          (λ write. writes I k m c now write),
+                          (λ write. writes I Heard k m c now write),
                           (
-                            (λ bind. binds I k m c bind),
+                            (λ bind. binds I Heard k m c bind),
                             (
-                              (λ exchange. exchanges I k m c now exchange),
+                              (λ exchange. exchanges I Heard k m c now exchange),
                               (
-                                (λ create. creates I k m c now create),
+                                (λ create. creates I Heard k m c now create),
                                 (
-                                  (λ session. destroys_session I k m c session),
+                                  (λ session. destroys_session I Heard k m c session),
                                   (
-                                    (λ device. device_infos I k m c device),
+                                    (λ device. device_infos I Heard k m c device),
                                     (
-                                      (λ commit. layout_commits I k m c commit),
+                                      (λ commit. layout_commits I Heard k m c commit),
                                       (
-                                        (λ layout. layout_gets I k m c now layout),
+                                        (λ layout. layout_gets I Heard k m c now layout),
                                         (
-                                          (λ layout. layout_returns I k m c layout),
+                                          (λ layout. layout_returns I Heard k m c layout),
                                           (
                                             (λ sequence. stays I m),
                                             (
-                                              (λ client. destroys_client I k m c client),
-                                              ((λ one_fs. reclaims_all I k m c c.slot), tt),
+                                              (λ client. destroys_client I Heard k m c client),
+                                              ((λ one_fs. reclaims_all I Heard k m c c.slot), tt),
                                             ),
                                           ),
                                         ),
@@ -257,75 +261,114 @@ module _ (I : MdsValue → List Entry → List MdsSend → Type 0) (k : Cases I)
       let x : MdsStep = takes_input n file (OwnEnds causes w.at w.bytes) in
       let failed : Bool = has_failed_everywhere w.failures s.file.layout.live in
       becomes_keeps I m n (write_over now x w.compound (length w.bytes) failed) (k.puts m file s (record s { write = None }) is refl tt)
-      (then_keeps I n x (λ y. resumes now (write_answer y w.compound (length w.bytes) failed) w.compound.ops) (silent_keeps I n x (takes I k n file (OwnEnds causes w.at w.bytes)))
+      (then_keeps I n x (λ y. resumes now (write_answer y w.compound (length w.bytes) failed) w.compound.ops) (silent_keeps I n x (takes I Heard k n file (OwnEnds causes w.at w.bytes) refl))
       (λ y. resume_walk now y (write_answer y w.compound (length w.bytes) failed) w.compound.ops (write_answered y w.compound (length w.bytes) failed)))
 
-  write_of_walk : (now : ℕ) (m : MdsValue) (file : FileId) (step : WriterValue → WriterAfter) → ((w : WriterValue) → (step w).writer.cred ≡ w.cred) → (s : ServedFile) → served m file ≡ Some s
+  write_of_walk : (now : ℕ) (m : MdsValue) (file : FileId) (step : WriterValue → WriterAfter) → ((w : WriterValue) → StaysWriter w (step w).writer) → (s : ServedFile) → served m file ≡ Some s
       → (o : Option WaitingWrite) → s.write ≡ o → Keeps I m (write_of now m file step s o)
   write_of_walk now m file step kept s is None its = same I m
   write_of_walk now m file step kept s is (Some w) its =
       let a : WriterAfter = step w.writer in
-      write_end_walk now m file s is (record w { writer = a.writer; failures = with_failed a.step w.failures }) (inr (subst (λ (o : Option WaitingWrite). IsCredOf a.writer.cred o) (sym its) (kept w.writer))) (ended a.writer)
+      write_end_walk now m file s is (record w { writer = a.writer; failures = with_failed a.step w.failures }) (inr (subst (λ (o : Option WaitingWrite). IsWriterOf a.writer o) (sym its) (kept w.writer))) (ended a.writer)
 
-  write_in_walk : (now : ℕ) (m : MdsValue) (file : FileId) (step : WriterValue → WriterAfter) → ((w : WriterValue) → (step w).writer.cred ≡ w.cred) → (o : Option ServedFile) → served m file ≡ o
+  write_in_walk : (now : ℕ) (m : MdsValue) (file : FileId) (step : WriterValue → WriterAfter) → ((w : WriterValue) → StaysWriter w (step w).writer) → (o : Option ServedFile) → served m file ≡ o
       → Keeps I m (write_in now m file step o)
   write_in_walk now m file step kept None is = same I m
   write_in_walk now m file step kept (Some s) is = write_of_walk now m file step kept s is s.write refl
 
-  write_steps : (now : ℕ) (m : MdsValue) (file : FileId) (step : WriterValue → WriterAfter) → ((w : WriterValue) → (step w).writer.cred ≡ w.cred) → Keeps I m (steps_write now m file step)
+  write_steps : (now : ℕ) (m : MdsValue) (file : FileId) (step : WriterValue → WriterAfter) → ((w : WriterValue) → StaysWriter w (step w).writer) → Keeps I m (steps_write now m file step)
   write_steps now m file step kept = write_in_walk now m file step kept (served m file) refl
 
-  ctime_walk : (m : MdsValue) (file : FileId) (server : ℕ) (fileid : Option ℕ) (shown : Option Shown) → Keeps I m (sees_ctime m file server fileid shown)
-  ctime_walk m file server (Some fileid) (Some shown) = silent_keeps I m _ (takes I k m file (Sees (record { server = server; fileid = fileid }) shown.seen))
-  ctime_walk m file server None shown = same I m
-  ctime_walk m file server (Some fileid) None = same I m
+  -- where it is of the own write's call
+  ctime_walk : (m : MdsValue) (file : FileId) (call : AwaitedCall) (server own uid : ℕ) (c : DsCallValue) (replies : DsCallValue → DsReplyValue) → Heard call replies → call.caller ≡ ForWrite file
+      → call.sent ≡ CallsServer server own uid c → (fileid : Option ℕ) (shown : Option Shown) → fileid_of c (replies c) ≡ fileid → attributes_shown (replies c) ≡ shown → Keeps I m (sees_ctime m file server fileid shown)
+  ctime_walk m file call server own uid c replies heard caller sent (Some fileid) (Some shown) named shows =
+      silent_keeps I m _ (takes_by I Heard k m file (Sees (record { server = server; fileid = fileid }) shown.seen) (λ s. k.learns m file s call server own uid c replies fileid shown heard caller sent named shows))
+  ctime_walk m file call server own uid c replies heard caller sent None shown named shows = same I m
+  ctime_walk m file call server own uid c replies heard caller sent (Some fileid) None named shows = same I m
 
   -- ---- recalls
 
   outcome_walk : (m : MdsValue) (o : Outcome) → Keeps I m (recall_outcome m o)
-  outcome_walk m (outcome.NoLayout file cred) = silent_keeps I m _ (takes I k m file (Revokes NoSuchLayout))
-  outcome_walk m (outcome.Expired file cred) = silent_keeps I m _ (takes I k m file (Revokes Recalled))
+  outcome_walk m (outcome.NoLayout file cred) = silent_keeps I m _ (takes I Heard k m file (Revokes NoSuchLayout) refl)
+  outcome_walk m (outcome.Expired file cred) = silent_keeps I m _ (takes I Heard k m file (Revokes Recalled) refl)
   outcome_walk m other = same I m
 
   recalls_walk : (m : MdsValue) (a : RecallsAfter) → Keeps I m (recalls_after m a)
-  recalls_walk m a = becomes_keeps I m (record m { recalls = a.recalls }) (recall_outcome (record m { recalls = a.recalls }) a.outcome) (recalls_become I k m a.recalls) (outcome_walk (record m { recalls = a.recalls }) a.outcome)
+  recalls_walk m a = becomes_keeps I m (record m { recalls = a.recalls }) (recall_outcome (record m { recalls = a.recalls }) a.outcome) (recalls_become I Heard k m a.recalls) (outcome_walk (record m { recalls = a.recalls }) a.outcome)
 
   -- ---- an answer, and a timeout
 
-  server_walk : (now : ℕ) (m : MdsValue) (server xid : ℕ) (call : DsCallValue) (reply : DsReplyValue) (caller : Waiter) → Keeps I m (server_answered now m server xid call reply caller)
-  server_walk now m server xid call reply (ForFile file) =
-      let own : DsReplyValue = own_answer call reply in
-      becomes_keeps I m (sees_size m file server call own) (takes_input (sees_size m file server call own) file (Answers xid own)) (sees m file server call own)
-      (silent_keeps I (sees_size m file server call own) _ (takes I k (sees_size m file server call own) file (Answers xid own)))
-  server_walk now m server xid call reply (ForRead file) =
-      becomes_keeps I m (sees_size m file server call reply) (steps_read now (sees_size m file server call reply) file xid (λ r. read.after_reply r xid reply)) (sees m file server call reply)
-      (read_steps now (sees_size m file server call reply) file xid (λ r. read.after_reply r xid reply))
-  server_walk now m server xid call reply (ForWrite file) =
-      let n : MdsValue = sees_size m file server call reply in
-      becomes_keeps I m n (and_then (sees_ctime n file server (fileid_of call reply) (attributes_shown reply)) (λ x. steps_write now x file (λ w. after_own_reply w xid reply))) (sees m file server call reply)
-      (then_keeps I n (sees_ctime n file server (fileid_of call reply) (attributes_shown reply)) (λ x. steps_write now x file (λ w. after_own_reply w xid reply)) (ctime_walk n file server (fileid_of call reply) (attributes_shown reply))
-      (λ x. write_steps now x file (λ w. after_own_reply w xid reply) (λ w. answer_cred w xid reply)))
-  server_walk now m server xid call reply ForRecall = same I m
+  -- the call of a file is outstanding also behind what its answer shows
+  sized_same : (s : ServedFile) (server : ℕ) (fileid : Option ℕ) (shown : Option Shown) → (sized s server fileid shown).file ≡ s.file
+  sized_same s server (Some fileid) (Some shown) = refl
+  sized_same s server None shown = refl
+  sized_same s server (Some fileid) None = refl
 
-  answered_walk : (now : ℕ) (m : MdsValue) (xid : ℕ) (reply : DsCallValue → DsReplyValue) (status : ℕ) (caller : Waiter) (sent : MdsSend) → Keeps I m (answered_as now m xid reply status caller sent)
-  answered_walk now m xid reply status caller (CallsServer server own uid call) = server_walk now m server xid call (reply call) caller
-  answered_walk now m xid reply status caller (CallsBack own back file stateid) = recalls_walk m (recalls.after_reply m.recalls xid (recall_end status))
-  answered_walk now m xid reply status caller (Replies node other) = same I m
-  answered_walk now m xid reply status caller (mds.Answers node bytes) = same I m
+  still_out : (m : MdsValue) (file : FileId) (server : ℕ) (c : DsCallValue) (reply : DsReplyValue) (node : NodeId) (xid : ℕ) (o : Option ServedFile) → served m file ≡ o → is_file_out node xid o ≡ true
+      → is_file_out node xid (served (sees_in m file server c reply o) file) ≡ true
+  still_out m file server c reply node xid None at out = absurd cc
+  still_out m file server c reply node xid (Some s) at out =
+      let t : ServedFile = sized s server (fileid_of c reply) (attributes_shown reply) in
+      ap (is_file_out node xid) (served_again m file s t at) ∙ (ap (λ (f : MdsFile). is_outstanding f (server_number node) xid) (sized_same s server (fileid_of c reply) (attributes_shown reply)) ∙ out)
 
-  found_walk : (now : ℕ) (m : MdsValue) (node : NodeId) (xid : ℕ) (reply : DsCallValue → DsReplyValue) (status : ℕ) (o : Option AwaitedCall) → Keeps I m (answers_found now m node xid reply status o)
-  found_walk now m node xid reply status None = same I m
-  found_walk now m node xid reply status (Some call) =
+  module _ (now : ℕ) (m : MdsValue) (xid : ℕ) (call : AwaitedCall) (replies : DsCallValue → DsReplyValue) (number : call.xid ≡ xid) (heard : Heard call replies) where
+    server_walk : (server own uid : ℕ) (c : DsCallValue) → call.sent ≡ CallsServer server own uid c → (caller : Waiter) → call.caller ≡ caller → is_awaited_by m call.node call.xid caller ≡ true
+        → Keeps I m (server_answered now m server xid c (replies c) caller)
+    server_walk server own uid c sent (ForFile file) caller out =
+        let answer : DsReplyValue = own_answer c (replies c) in
+        let n : MdsValue = sees_size m file server c answer in
+        becomes_keeps I m n (takes_input n file (Answers xid answer)) (sees m file server c answer)
+        (silent_keeps I n (takes_input n file (Answers xid answer))
+        (takes_by I Heard k n file (Answers xid answer)
+        (λ s at.
+        subst (λ (x : ℕ). has_fresh n.fresh ≡ true → Enters I n (file_stepped n file s (phase file s.file (Answers x answer) n.fresh)).mds (phase file s.file (Answers x answer) n.fresh).entries) number
+        (k.hears n file s call server own uid c replies heard caller sent
+        (ap (is_file_out call.node call.xid) (sym at) ∙ still_out m file server c answer call.node call.xid (served m file) refl out) at))))
+    server_walk server own uid c sent (ForRead file) caller out =
+        becomes_keeps I m (sees_size m file server c (replies c)) (steps_read now (sees_size m file server c (replies c)) file xid (λ r. read.after_reply r xid (replies c))) (sees m file server c (replies c))
+        (read_steps now (sees_size m file server c (replies c)) file xid (λ r. read.after_reply r xid (replies c)))
+    server_walk server own uid c sent (ForWrite file) caller out =
+        let reply : DsReplyValue = replies c in
+        let n : MdsValue = sees_size m file server c reply in
+        becomes_keeps I m n (and_then (sees_ctime n file server (fileid_of c reply) (attributes_shown reply)) (λ x. steps_write now x file (λ w. after_own_reply w xid reply))) (sees m file server c reply)
+        (then_keeps I n (sees_ctime n file server (fileid_of c reply) (attributes_shown reply)) (λ x. steps_write now x file (λ w. after_own_reply w xid reply))
+        (ctime_walk n file call server own uid c replies heard caller sent (fileid_of c reply) (attributes_shown reply) refl refl)
+        (λ x. write_steps now x file (λ w. after_own_reply w xid reply) (λ w. answer_kept w xid reply)))
+    server_walk server own uid c sent ForRecall caller out = same I m
+
+    answered_walk : (status : ℕ) (sent : MdsSend) → call.sent ≡ sent → is_awaited m call ≡ true → Keeps I m (answered_as now m xid replies status call.caller sent)
+    answered_walk status (CallsServer server own uid c) sent out = server_walk server own uid c sent call.caller refl out
+    answered_walk status (CallsBack own back file stateid) sent out = recalls_walk m (recalls.after_reply m.recalls xid (recall_end status))
+    answered_walk status (Replies node other) sent out = same I m
+    answered_walk status (mds.Answers node bytes) sent out = same I m
+
+  -- who waits for it, with one call less
+  awaits_still : (m : MdsValue) (calls : List AwaitedCall) (node : NodeId) (xid : ℕ) (caller : Waiter) → is_awaited_by m node xid caller ≡ true → is_awaited_by (record m { calls = calls }) node xid caller ≡ true
+  awaits_still m calls node xid (ForFile file) is = is
+  awaits_still m calls node xid (ForRead file) is = is
+  awaits_still m calls node xid (ForWrite file) is = is
+  awaits_still m calls node xid ForRecall is = is
+
+  found_walk : (now : ℕ) (m : MdsValue) (node : NodeId) (xid : ℕ) (replies : DsCallValue → DsReplyValue) (status : ℕ) → Hearing I Heard node xid replies → (o : Option AwaitedCall) → find (is_call_to node xid) m.calls ≡ o
+      → Keeps I m (answers_found now m node xid replies status o)
+  found_walk now m node xid replies status hearing None found = same I m
+  found_walk now m node xid replies status hearing (Some call) found =
       let n : MdsValue = record m { calls = without_call node xid m.calls } in
-      cond_both (is_awaited m call) (answered_as now n xid reply status call.caller call.sent) (sends_none n) (λ (s : MdsStep). Keeps I m s)
-      (λ is. becomes_keeps I m n (answered_as now n xid reply status call.caller call.sent) (k.forgets m node xid) (answered_walk now n xid reply status call.caller call.sent))
+      let its : is_call_to node xid call ≡ true = found_passes (is_call_to node xid) m.calls call found in
+      cond_both (is_awaited m call) (answered_as now n xid replies status call.caller call.sent) (sends_none n) (λ (s : MdsStep). Keeps I m s)
+      (λ is. λ es ss i.
+      becomes_keeps I m n (answered_as now n xid replies status call.caller call.sent) (k.forgets m node xid)
+      (answered_walk now n xid call replies (eqb-true call.xid xid (and_parts (is_node call.node node) (call.xid == xid) its).1) (hearing m es ss i call (found_in (is_call_to node xid) m.calls call found) its) status call.sent refl
+      (awaits_still m (without_call node xid m.calls) call.node call.xid call.caller is))
+      es ss i)
       (λ off. none_keeps I m n (k.forgets m node xid))
 
-  pub answer_walk : (now : ℕ) (m : MdsValue) (node : NodeId) (xid : ℕ) (reply : DsCallValue → DsReplyValue) (status : ℕ) → Keeps I m (takes_answer now m node xid reply status)
-  answer_walk now m node xid reply status = found_walk now m node xid reply status (find (is_call_to node xid) m.calls)
+  pub answer_walk : (now : ℕ) (m : MdsValue) (node : NodeId) (xid : ℕ) (replies : DsCallValue → DsReplyValue) (status : ℕ) → Hearing I Heard node xid replies → Keeps I m (takes_answer now m node xid replies status)
+  answer_walk now m node xid replies status hearing = found_walk now m node xid replies status hearing (find (is_call_to node xid) m.calls) refl
 
   pub timeout_walk : (now : ℕ) (m : MdsValue) (xid : ℕ) (caller : Waiter) → Keeps I m (timed_out_for now m xid caller)
-  timeout_walk now m xid (ForFile file) = silent_keeps I m _ (takes I k m file (TimesOut xid))
+  timeout_walk now m xid (ForFile file) = silent_keeps I m _ (takes_by I Heard k m file (TimesOut xid) (λ s. k.timeouts m file s xid))
   timeout_walk now m xid (ForRead file) = read_steps now m file xid (λ r. read.after_timeout r xid)
-  timeout_walk now m xid (ForWrite file) = write_steps now m file (λ w. writer.after_timeout w xid) (λ w. timeout_cred w xid)
+  timeout_walk now m xid (ForWrite file) = write_steps now m file (λ w. writer.after_timeout w xid) (λ w. timeout_kept w xid)
   timeout_walk now m xid ForRecall = recalls_walk m (recalls.after_timeout m.recalls xid)

@@ -13,6 +13,7 @@ use Rattle.cluster_model.specs.declared.phase.EndCause.TheVariants.{Lease, Recal
 use Rattle.cluster_model.specs.declared.entry.Entry.{Entry}
 use Rattle.cluster_model.specs.declared.entry.Entry.TheVariants as entry
 use Rattle.file_rule.specs.FilePhases.{CallOut, call_out, Revokes, Resilver, Ticks}
+use Rattle.rpc_record.specs.Replies.{RpcReply}
 use Rattle.ds_calls.specs.GivenReplies.{reply_of_call}
 use Rattle.recall_calls.specs.RecallAnswers.{recall_status}
 use Rattle.mds_io.specs.Reads.{ReadSends}
@@ -37,14 +38,14 @@ use Rattle.mds_rule.specs.Events.{takes_incoming, is_outstanding_to, is_kept_by,
 use Rattle.mds_laws.specs.MdsRuns.{MdsInput, MdsEvent, Hears, IsTimedOut, Ticks as IsTick, RecallsFile, Resilvers, by_input, after_event, run_from}
 use Rattle.mds_laws.specs.SlotUses.{first_request, request_in}
 use Rattle.mds_laws.proofs.Requested.{behind_request, behind_begin, KeepsBegin, begin_kept}
-use Rattle.mds_laws.proofs.Keeping.{Becomes, Keeps, KeepsBehind, Cases, then_keeps, none_keeps, same, becomes_keeps, silent_keeps, then_behind, behind_then, enters_behind}
+use Rattle.mds_laws.proofs.Keeping.{Becomes, Keeps, KeepsBehind, Cases, HeardOf, HeardAny, Hearing, HearsSo, hears_any, then_keeps, none_keeps, same, becomes_keeps, silent_keeps, then_behind, behind_then, enters_behind}
 use Rattle.mds_laws.proofs.Lists.{In, found_in}
 use Rattle.mds_laws.proofs.ServedWalk.{takes, asks, client_ends, recalls_become}
 use Rattle.mds_laws.proofs.OpsWalk.{old_write}
-use Rattle.mds_laws.proofs.WriterKept.{read_of}
+use Rattle.mds_laws.proofs.WriterKept.{sends_of, read_of}
 use Rattle.mds_laws.proofs.CompoundWalk.{compound_walk, answer_walk, timeout_walk}
 
-module _ (I : MdsValue → List Entry → List MdsSend → Type 0) (k : Cases I) where
+module _ (I : MdsValue → List Entry → List MdsSend → Type 0) (Heard : HeardOf) (k : Cases I Heard) where
   each_walk : {A : Type 0} (step : A → MdsValue → MdsStep) → ((a : A) (m : MdsValue) → Keeps I m (step a m)) → (list : List A) (m : MdsValue) → Keeps I m (each step list m)
   each_walk step all [] m = same I m
   each_walk step all (a ∷ list) m = then_keeps I m (step a m) (λ n. each step list n) (all a m) (λ n. each_walk step all list n)
@@ -63,7 +64,7 @@ module _ (I : MdsValue → List Entry → List MdsSend → Type 0) (k : Cases I)
   own_write_walk : (m : MdsValue) (file : FileId) (place : ℕ) → has_xids m ≡ true → (s : ServedFile) → served m file ≡ Some s → (w : WaitingWrite) → s.write ≡ Some w → (o : Option WriterSends)
       → writer.next_sent w.writer m.next_xid ≡ o → Keeps I m (own_call_at m file s place (option_map (own_of_write file s w) o))
   own_write_walk m file place has s is w waits None its = same I m
-  own_write_walk m file place has s is w waits (Some c) its = own_call_walk m file s place (own_of_write file s w c) (k.calls_write m file s w c is has waits its)
+  own_write_walk m file place has s is w waits (Some c) its = own_call_walk m file s place (own_of_write file s w c) (k.calls_write m file s w c is has waits its (sends_of w.writer m.next_xid c its).2)
 
   own_by_walk : (m : MdsValue) (file : FileId) (place : ℕ) → has_xids m ≡ true → (s : ServedFile) → served m file ≡ Some s → (o : Option WaitingWrite) → s.write ≡ o
       → Keeps I m (own_call_at m file s place (own_by file s m.next_xid o))
@@ -92,7 +93,7 @@ module _ (I : MdsValue → List Entry → List MdsSend → Type 0) (k : Cases I)
   read_goes_walk m file s is n place r (Some sent) its =
       let t : ServedFile = record s { reads = slice_set s.reads n (record { compound = r.compound; read = sent.read }) } in
       cond_both ((place_of s sent.id.server == place) && has_xids m) (calls_server m file t (ForRead file) sent.id.server 0 sent.call) (sends_none m) (λ (x : MdsStep). Keeps I m x)
-      (λ both. k.calls_read m file s t sent.id.server sent.call is (and_parts (place_of s sent.id.server == place) (has_xids m) both).1 refl (old_write s.file s.write) (read_of r.read m.next_xid sent its))
+      (λ both. k.calls_read m file s t sent.id.server sent.call is (and_parts (place_of s sent.id.server == place) (has_xids m) both).1 refl (old_write s.file s.write) (read_of r.read m.next_xid sent its).0 (read_of r.read m.next_xid sent its).1)
       (λ off. same I m)
 
   read_call_walk : (m : MdsValue) (file : FileId) (s : ServedFile) → served m file ≡ Some s → (n place : ℕ) (o : Option WaitingRead) → Keeps I m (read_call m file s n place o)
@@ -122,7 +123,7 @@ module _ (I : MdsValue → List Entry → List MdsSend → Type 0) (k : Cases I)
       let n : MdsValue = record m { recalls = sent.recalls } in
       cond_both (sent.call.file.0 == file.0) (calls_back n sent.call (last_session (find (has_id sent.call.client) m.sessions.clients))) (sends_none m) (λ (s : MdsStep). Keeps I m s)
       (λ is.
-      becomes_keeps I m n (calls_back n sent.call (last_session (find (has_id sent.call.client) m.sessions.clients))) (recalls_become I k m sent.recalls)
+      becomes_keeps I m n (calls_back n sent.call (last_session (find (has_id sent.call.client) m.sessions.clients))) (recalls_become I Heard k m sent.recalls)
       (back_walk n sent.call has (last_session (find (has_id sent.call.client) m.sessions.clients)) (k.tables n (CallBack sent.call.client) tt)))
       (λ off. same I m)
 
@@ -160,14 +161,15 @@ module _ (I : MdsValue → List Entry → List MdsSend → Type 0) (k : Cases I)
 
   -- ---- events
 
-  incoming_walk : (now : ℕ) (m : MdsValue) (node : NodeId) (v : IncomingValue) → Keeps I (behind_request now m node (request_in v)) (takes_incoming now m node v)
-  incoming_walk now m node PassedOver = same I m
-  incoming_walk now m node (IsReply reply) =
+  incoming_walk : (now : ℕ) (m : MdsValue) (node : NodeId) (v : IncomingValue) → ((reply : RpcReply) → v ≡ IsReply reply → Hearing I Heard node reply.xid (λ call. reply_of_call call reply))
+      → Keeps I (behind_request now m node (request_in v)) (takes_incoming now m node v)
+  incoming_walk now m node PassedOver hearing = same I m
+  incoming_walk now m node (IsReply reply) hearing =
       then_keeps I m (takes_answer now m node reply.xid (λ call. reply_of_call call reply) (recall_status reply.stat reply.results)) (calls_out [])
-      (answer_walk I k now m node reply.xid (λ call. reply_of_call call reply) (recall_status reply.stat reply.results)) (λ n. out_walk [] n)
-  incoming_walk now m node (IsAnswered bytes) = λ es ss i. subst (λ (l : List Entry). I m l (ss ++ Answers node bytes ∷ [])) (sym (append-nil es)) (k.answers m node bytes es ss i)
-  incoming_walk now m node (IsCompound xid v) =
-      then_keeps I (behind_request now m node (first_request v.ops.values)) (runs_compound now m node xid v) (calls_out []) (compound_walk I k now m node xid v) (λ n. out_walk [] n)
+      (answer_walk I Heard k now m node reply.xid (λ call. reply_of_call call reply) (recall_status reply.stat reply.results) (hearing reply refl)) (λ n. out_walk [] n)
+  incoming_walk now m node (IsAnswered bytes) hearing = λ es ss i. subst (λ (l : List Entry). I m l (ss ++ Answers node bytes ∷ [])) (sym (append-nil es)) (k.answers m node bytes es ss i)
+  incoming_walk now m node (IsCompound xid v) hearing =
+      then_keeps I (behind_request now m node (first_request v.ops.values)) (runs_compound now m node xid v) (calls_out []) (compound_walk I Heard k now m node xid v) (λ n. out_walk [] n)
 
   again_walk : (call : AwaitedCall) (m : MdsValue) → KeepsBehind I call.sent m (goes_again call m)
   again_walk call m =
@@ -187,7 +189,7 @@ module _ (I : MdsValue → List Entry → List MdsSend → Type 0) (k : Cases I)
       let timed : MdsStep = timed_out_for now m call.xid call.caller in
       let again : MdsStep = and_then timed (goes_again call) in
       enters_behind I call.sent m m (entry.TimedOut Mds call.xid ∷ []) (and_then again (calls_out [])) (k.notes m (entry.TimedOut Mds call.xid) refl)
-      (behind_then I call.sent m again (calls_out []) (then_behind I call.sent m timed (goes_again call) (timeout_walk I k now m call.xid call.caller) (λ n. again_walk call n)) (λ n. out_walk [] n))
+      (behind_then I call.sent m again (calls_out []) (then_behind I call.sent m timed (goes_again call) (timeout_walk I Heard k now m call.xid call.caller) (λ n. again_walk call n)) (λ n. out_walk [] n))
       es ss (k.was m es ss i call inside) i
 
   times_walk : (now : ℕ) (m : MdsValue) (o : Option AwaitedCall) → ((call : AwaitedCall) → o ≡ Some call → In call m.calls) → Keeps I m (times_out now m o)
@@ -202,7 +204,7 @@ module _ (I : MdsValue → List Entry → List MdsSend → Type 0) (k : Cases I)
   lease_walk m (Some c) b next all =
       let n : MdsValue = record m { sessions = without_client m.sessions c.id } in
       then_keeps I m (ends_client n c.id Lease) next
-      (becomes_keeps I m n (ends_client n c.id Lease) b (silent_keeps I n (ends_client n c.id Lease) (client_ends I k n c.id Lease))) all
+      (becomes_keeps I m n (ends_client n c.id Lease) b (silent_keeps I n (ends_client n c.id Lease) (client_ends I Heard k n c.id Lease))) all
 
   leases_walk : (now n : ℕ) (m : MdsValue) → Keeps I m (leases_end now n m)
   leases_walk now zero m = same I m
@@ -211,20 +213,20 @@ module _ (I : MdsValue → List Entry → List MdsSend → Type 0) (k : Cases I)
   expires_walk : (m : MdsValue) (o : Option (FileId × Cred)) (next : MdsValue → MdsStep) → ((n : MdsValue) → Keeps I n (next n)) → Keeps I m (recall_expires m o next)
   expires_walk m None next all = same I m
   expires_walk m (Some grant) next all =
-      then_keeps I m (takes_input m grant.0 (Revokes Recalled)) next (silent_keeps I m (takes_input m grant.0 (Revokes Recalled)) (takes I k m grant.0 (Revokes Recalled))) all
+      then_keeps I m (takes_input m grant.0 (Revokes Recalled)) next (silent_keeps I m (takes_input m grant.0 (Revokes Recalled)) (takes I Heard k m grant.0 (Revokes Recalled) refl)) all
 
   recalls_walk : (now n : ℕ) (m : MdsValue) → Keeps I m (recalls_expire now n m)
-  recalls_walk now zero m = none_keeps I m (record m { recalls = (after_tick m.recalls now).recalls }) (recalls_become I k m (after_tick m.recalls now).recalls)
+  recalls_walk now zero m = none_keeps I m (record m { recalls = (after_tick m.recalls now).recalls }) (recalls_become I Heard k m (after_tick m.recalls now).recalls)
   recalls_walk now (suc n) m =
       let x : MdsValue = record m { recalls = (after_tick m.recalls now).recalls } in
-      becomes_keeps I m x (recall_expires x (after_tick m.recalls now).expired (recalls_expire now n)) (recalls_become I k m (after_tick m.recalls now).recalls)
+      becomes_keeps I m x (recall_expires x (after_tick m.recalls now).expired (recalls_expire now n)) (recalls_become I Heard k m (after_tick m.recalls now).recalls)
       (expires_walk x (after_tick m.recalls now).expired (recalls_expire now n) (λ y. recalls_walk now n y))
 
   files_walk : (m : MdsValue) → Keeps I m (files_tick m)
   files_walk m =
       let all : MdsStep = each (λ n x. takes_input x (numbered n) Ticks) (range_with_len 1 (length m.files)) m in
       then_keeps I m all (calls_out (kept_calls m))
-      (each_walk (λ n x. takes_input x (numbered n) Ticks) (λ n x. silent_keeps I x (takes_input x (numbered n) Ticks) (takes I k x (numbered n) Ticks)) (range_with_len 1 (length m.files)) m) (λ n. out_walk (kept_calls m) n)
+      (each_walk (λ n x. takes_input x (numbered n) Ticks) (λ n x. silent_keeps I x (takes_input x (numbered n) Ticks) (takes I Heard k x (numbered n) Ticks refl)) (range_with_len 1 (length m.files)) m) (λ n. out_walk (kept_calls m) n)
 
   tick_walk : (now : ℕ) (m : MdsValue) → Keeps I m (takes_tick now m)
   tick_walk now m =
@@ -233,23 +235,25 @@ module _ (I : MdsValue → List Entry → List MdsSend → Type 0) (k : Cases I)
       (then_keeps I m leases (λ n. recalls_expire now (length n.recalls) n) (leases_walk now (length m.sessions.clients) m) (λ n. recalls_walk now (length n.recalls) n)) (λ n. files_walk n)
 
   -- of an event, behind what the request that it makes leaves of the table of clients
-  pub input_walk : (now : ℕ) (input : MdsInput) (m : MdsValue) → Keeps I (behind_begin now input m) (by_input now input m)
-  input_walk now (Hears from bytes) m = incoming_walk now m from (incoming_of bytes)
-  input_walk now (IsTimedOut to) m = timeouts_walk now m to
-  input_walk now IsTick m = tick_walk now m
-  input_walk now (RecallsFile file) m = then_keeps I m (asks_back m file now) (calls_out []) (silent_keeps I m (asks_back m file now) (asks I k m file now)) (λ n. out_walk [] n)
-  input_walk now (Resilvers file) m =
-      then_keeps I m (takes_input m file Resilver) (calls_out []) (silent_keeps I m (takes_input m file Resilver) (takes I k m file Resilver)) (λ n. out_walk [] n)
+  pub input_walk : (now : ℕ) (input : MdsInput) (m : MdsValue) → HearsSo I Heard input → Keeps I (behind_begin now input m) (by_input now input m)
+  input_walk now (Hears from bytes) m hears = incoming_walk now m from (incoming_of bytes) hears
+  input_walk now (IsTimedOut to) m hears = timeouts_walk now m to
+  input_walk now IsTick m hears = tick_walk now m
+  input_walk now (RecallsFile file) m hears = then_keeps I m (asks_back m file now) (calls_out []) (silent_keeps I m (asks_back m file now) (asks I Heard k m file now)) (λ n. out_walk [] n)
+  input_walk now (Resilvers file) m hears =
+      then_keeps I m (takes_input m file Resilver) (calls_out []) (silent_keeps I m (takes_input m file Resilver) (takes I Heard k m file Resilver refl)) (λ n. out_walk [] n)
 
--- ---- it holds behind every run where it holds of a new server
+-- ---- an event, and each run of a new server
 
-module _ (I : MdsValue → List Entry → List MdsSend → Type 0) (k : Cases I) (begins : KeepsBegin I) where
-  event_walk : (e : MdsEvent) (m : MdsValue) → Keeps I m (after_event e m)
-  event_walk e m = becomes_keeps I m (behind_begin e.now e.input m) (after_event e m) (begin_kept I k begins e.now e.input m) (input_walk I k e.now e.input m)
+module _ (I : MdsValue → List Entry → List MdsSend → Type 0) (Heard : HeardOf) (k : Cases I Heard) (begins : KeepsBegin I) where
+  pub event_walk : (e : MdsEvent) → HearsSo I Heard e.input → (m : MdsValue) → Keeps I m (after_event e m)
+  event_walk e hears m = becomes_keeps I m (behind_begin e.now e.input m) (after_event e m) (begin_kept I Heard k begins e.now e.input m) (input_walk I Heard k e.now e.input m hears)
 
+module _ (I : MdsValue → List Entry → List MdsSend → Type 0) (k : Cases I HeardAny) (begins : KeepsBegin I) where
   run_walk : (events : List MdsEvent) (m : MdsValue) → Keeps I m (run_from m events)
   run_walk [] m = same I m
-  run_walk (e ∷ events) m = then_keeps I m (after_event e m) (λ n. run_from n events) (event_walk e m) (λ n. run_walk events n)
+  run_walk (e ∷ events) m = then_keeps I m (after_event e m) (λ n. run_from n events) (event_walk I HeardAny k begins e (hears_any I e.input) m) (λ n. run_walk events n)
 
+  -- what holds of a new server holds behind every run
   pub in_each_run : (m : MdsValue) (events : List MdsEvent) → I m [] [] → I (run_from m events).mds (run_from m events).entries (run_from m events).sends
   in_each_run m events i = run_walk events m [] [] i

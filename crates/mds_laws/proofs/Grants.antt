@@ -13,10 +13,11 @@ use Rattle.cluster_model.specs.declared.entry.Entry.{Entry}
 use Rattle.cluster_model.specs.declared.entry.Entry.TheVariants as entry
 use Rattle.cluster_model.specs.declared.layout_state.LayoutState.{LayoutState}
 use Rattle.cluster_model.proofs.Elements.{slice_get-set_other, slice_get-set_same, Pushed, Old, New, pushed}
-use Rattle.file_rule.specs.FilePhases.{FileInput, new_mds_file, phase}
+use Rattle.file_rule.specs.FilePhases.{Answers as IsAnswer, TimesOut, Sees, FileInput, new_mds_file, phase}
 use Rattle.file_rule.specs.MdsFiles.{MdsFile, FileStep}
 use Rattle.mds_rows.specs.Draws.{drawn}
 use Rattle.recall.specs.Recalls.{without_file}
+use Rattle.mds_rule.specs.Answers.{own_answer}
 use Rattle.mds_rule.specs.MdsStates.{ServedFile, MdsSend, CallsServer, CallsBack, Replies, Answers, AwaitedCall, MdsValue, with_call, served, with_served, new_mds}
 use Rattle.mds_rule.specs.declared.waiter.Waiter.TheVariants.{ForFile, ForRead, ForWrite, ForRecall}
 use Rattle.mds_rule.specs.ServedFiles.{is_period_end, file_behind, file_stepped}
@@ -24,7 +25,7 @@ use Rattle.mds_rule.specs.FileOps.{servers_of, new_served, with_new_file}
 use Rattle.mds_laws.specs.MdsRuns.{MdsEvent}
 use Rattle.mds_laws.specs.MdsRunLaws.{stands_if, stands_by, stands_free, IsOfFree, GrantsFreeFiles}
 use Rattle.mds_laws.proofs.Lists.{EachOf, each_push, each_join, each_at}
-use Rattle.mds_laws.proofs.Keeping.{Cases, is_quiet}
+use Rattle.mds_laws.proofs.Keeping.{Cases, HeardAny, note_quiet, is_quiet}
 use Rattle.mds_laws.proofs.OpsWalk.{place_served}
 use Rattle.mds_laws.proofs.GoesWalk.{in_each_run}
 use Rattle.mds_laws.proofs.FileGrants.{is_free, IsEntryOf, next_free, Tells, phase_tells, out_layout}
@@ -172,22 +173,25 @@ called_back : (files : List ServedFile) (calls : List AwaitedCall) (call : Await
 called_back files calls call es ss i =
     subst (λ (l : List Entry). Stands files (with_call call calls) l (ss ++ call.sent ∷ [])) (sym (append-nil es)) (record { free = i.free; each = i.each; were = sent_with calls ss call i.were })
 
-cases : Cases IsSo
+cases : Cases IsSo HeardAny
 cases = record {
   quiet = λ m confirmed opens reclaimed recalls es ss i. i;
   tables = λ m move is es ss i. i;
   replies = λ m node reply es ss i. sends m.files m.calls es ss (Replies node reply) i;
   answers = λ m node bytes es ss i. sends m.files m.calls es ss (Answers node bytes) i;
-  notes = λ m e quiet es ss i. notes m.files m.calls e quiet es ss i;
+  notes = λ m e note es ss i. notes m.files m.calls e (note_quiet e note) es ss i;
   puts = λ m file s t at same write es ss i. record { free = puts m file s t at same es i.free; each = i.each; were = i.were };
-  inputs = λ m file s input at fresh es ss i. inputs m file s input at es ss i;
-  makes = makes;
+  inputs = λ m file s input itself at fresh es ss i. inputs m file s input at es ss i;
+  timeouts = λ m file s xid at fresh es ss i. inputs m file s (TimesOut xid) at es ss i;
+  hears = λ m file s call server own uid c replies heard caller sent out at fresh es ss i. inputs m file s (IsAnswer call.xid (own_answer c (replies c))) at es ss i;
+  learns = λ m file s call server own uid c replies fileid shown heard caller sent named shows at fresh es ss i. inputs m file s (Sees (record { server = server; fileid = fileid }) shown.seen) at es ss i;
+  makes = λ m name may. makes m name;
   calls_file = λ m file s c at has its es ss i.
       called m file s (record s { file = c.file }) (record { node = Server c.server; xid = m.next_xid; caller = ForFile file; sent = CallsServer c.server m.next_xid c.uid c.call }) at
       (ap (λ (l : LayoutState). is_free l.phase) (out_layout s.file m.next_xid c its)) es ss i;
-  calls_write = λ m file s w c at has waits its es ss i.
+  calls_write = λ m file s w c at has waits its is_write es ss i.
       called m file s (record s { write = Some (record w { writer = c.writer }) }) (record { node = Server c.id.server; xid = m.next_xid; caller = ForWrite file; sent = CallsServer c.id.server m.next_xid w.writer.cred c.call }) at refl es ss i;
-  calls_read = λ m file s t server call at has same write uid es ss i.
+  calls_read = λ m file s t server call at has same write uid is_read es ss i.
       called m file s t (record { node = Server server; xid = m.next_xid; caller = ForRead file; sent = CallsServer server m.next_xid 0 call }) at (ap (λ (f : MdsFile). is_free f.layout.phase) same) es ss i;
   calls_back = λ m node back file stateid has es ss i. called_back m.files m.calls (record { node = node; xid = m.next_xid; caller = ForRecall; sent = CallsBack m.next_xid back file stateid }) es ss i;
   skips = λ m has es ss i. i;

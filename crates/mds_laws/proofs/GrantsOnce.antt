@@ -13,10 +13,11 @@ use Rattle.cluster_model.specs.declared.entry.Entry.{Entry}
 use Rattle.cluster_model.specs.declared.entry.Entry.TheVariants as entry
 use Rattle.cluster_model.specs.declared.layout_state.LayoutState.{LayoutState}
 use Rattle.cluster_model.proofs.Elements.{slice_get-set_other, slice_get-set_same, Pushed, Old, New, pushed}
-use Rattle.file_rule.specs.FilePhases.{FileInput, new_mds_file, phase}
+use Rattle.file_rule.specs.FilePhases.{Answers as IsAnswer, TimesOut, Sees, FileInput, new_mds_file, phase}
 use Rattle.file_rule.specs.MdsFiles.{MdsFile, FileStep}
 use Rattle.mds_rows.specs.Draws.{drawn}
 use Rattle.recall.specs.Recalls.{without_file}
+use Rattle.mds_rule.specs.Answers.{own_answer}
 use Rattle.mds_rule.specs.MdsStates.{ServedFile, MdsSend, CallsServer, CallsBack, Replies, Answers, AwaitedCall, MdsValue, with_call, served, with_served, new_mds}
 use Rattle.mds_rule.specs.declared.waiter.Waiter.TheVariants.{ForFile, ForRead, ForWrite, ForRecall}
 use Rattle.mds_rule.specs.ServedFiles.{is_period_end, file_behind, file_stepped}
@@ -24,7 +25,7 @@ use Rattle.mds_rule.specs.FileOps.{servers_of, new_served, with_new_file}
 use Rattle.mds_laws.specs.MdsRuns.{MdsEvent}
 use Rattle.mds_laws.specs.MdsRunLaws.{grants_uid, IsFirstGrant, GrantsUidsOnce}
 use Rattle.mds_laws.proofs.Lists.{EachOf, each_push, each_join, each_at, AllOf, all_push, all_set, all_got}
-use Rattle.mds_laws.proofs.Keeping.{Cases, is_quiet}
+use Rattle.mds_laws.proofs.Keeping.{Cases, HeardAny, note_quiet, is_quiet}
 use Rattle.mds_laws.proofs.OpsWalk.{place_served}
 use Rattle.mds_laws.proofs.GoesWalk.{in_each_run}
 use Rattle.mds_laws.proofs.FileGrants.{out_layout}
@@ -294,24 +295,27 @@ called fresh files calls call es ss once were =
 sends : (m : MdsValue) (es : List Entry) (ss : List MdsSend) (s : MdsSend) → IsSo m es ss → IsSo m es (ss ++ s ∷ [])
 sends m es ss s i = record { once = i.once; were = sent_more m.calls ss s i.were }
 
-cases : Cases IsSo
+cases : Cases IsSo HeardAny
 cases = record {
   quiet = λ m confirmed opens reclaimed recalls es ss i. i;
   tables = λ m move is es ss i. i;
   replies = λ m node reply es ss i. sends m es ss (Replies node reply) i;
   answers = λ m node bytes es ss i. sends m es ss (Answers node bytes) i;
-  notes = λ m e quiet es ss i. record { once = notes m.fresh.uid m.files es e quiet i.once; were = i.were };
+  notes = λ m e note es ss i. record { once = notes m.fresh.uid m.files es e (note_quiet e note) i.once; were = i.were };
   puts = λ m file s t at same write es ss i. record { once = puts m file s t at same es i.once; were = i.were };
-  inputs = λ m file s input at fresh es ss i. inputs m file s input at es ss i;
-  makes = makes;
+  inputs = λ m file s input itself at fresh es ss i. inputs m file s input at es ss i;
+  timeouts = λ m file s xid at fresh es ss i. inputs m file s (TimesOut xid) at es ss i;
+  hears = λ m file s call server own uid c replies heard caller sent out at fresh es ss i. inputs m file s (IsAnswer call.xid (own_answer c (replies c))) at es ss i;
+  learns = λ m file s call server own uid c replies fileid shown heard caller sent named shows at fresh es ss i. inputs m file s (Sees (record { server = server; fileid = fileid }) shown.seen) at es ss i;
+  makes = λ m name may. makes m name;
   calls_file = λ m file s c at has its es ss i.
       called m.fresh.uid (slice_set m.files (file.0 - 1) (record s { file = c.file })) m.calls (record { node = Server c.server; xid = m.next_xid; caller = ForFile file; sent = CallsServer c.server m.next_xid c.uid c.call }) es ss
       (same_once m file s (record s { file = c.file }) at (out_layout s.file m.next_xid c its) (out_agrees s.file m.next_xid c (agrees_served m file s at i.once.agree) its) es i.once) i.were;
-  calls_write = λ m file s w c at has waits its es ss i.
+  calls_write = λ m file s w c at has waits its is_write es ss i.
       called m.fresh.uid (slice_set m.files (file.0 - 1) (record s { write = Some (record w { writer = c.writer }) })) m.calls
       (record { node = Server c.id.server; xid = m.next_xid; caller = ForWrite file; sent = CallsServer c.id.server m.next_xid w.writer.cred c.call }) es ss
       (puts m file s (record s { write = Some (record w { writer = c.writer }) }) at refl es i.once) i.were;
-  calls_read = λ m file s t server call at has same write uid es ss i.
+  calls_read = λ m file s t server call at has same write uid is_read es ss i.
       called m.fresh.uid (slice_set m.files (file.0 - 1) t) m.calls (record { node = Server server; xid = m.next_xid; caller = ForRead file; sent = CallsServer server m.next_xid 0 call }) es ss (puts m file s t at same es i.once) i.were;
   calls_back = λ m node back file stateid has es ss i.
       called m.fresh.uid m.files m.calls (record { node = node; xid = m.next_xid; caller = ForRecall; sent = CallsBack m.next_xid back file stateid }) es ss i.once i.were;

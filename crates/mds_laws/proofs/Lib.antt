@@ -1,12 +1,13 @@
-mod Lists
-mod Keeping
-mod Requested
+pub mod Lists
+pub mod OwnWriters
+pub mod Keeping
+pub mod Requested
 mod ServedWalk
-mod OpsWalk
-mod WriterKept
+pub mod OpsWalk
+pub mod WriterKept
 mod CompoundWalk
-mod GoesWalk
-mod Numbers
+pub mod GoesWalk
+pub mod Numbers
 mod FileUids
 mod Uids
 mod FileGrants

@@ -1,5 +1,5 @@
 -- What stands in a list, and what holds of each of its elements behind those before it.
-use Rattle.std.proofs.Common.{◌≡◌, ℕ, zero, suc, Bool, true, false, cond, List, [], ◌∷◌, ◌++◌, Some, refl, sym, ap, subst, inl, inr, ◌⊎◌}
+use Rattle.std.proofs.Common.{◌≡◌, ℕ, zero, suc, Bool, true, false, cond, List, [], ◌∷◌, ◌++◌, Some, refl, sym, ap, subst, ◌∙◌, inl, inr, ◌⊎◌}
 use Rattle.std.specs.Prelude.{◌==◌, nat_lt, if◌then◌else◌, filter, slice_get, slice_set}
 use Rattle.std.specs.List.{find}
 use Rattle.std.proofs.lemmas.Bool.{cond_both}
@@ -57,6 +57,11 @@ in_filtered {A = A} test x (y ∷ ys) inside =
     kept more (inl is) = inl is
     kept more (inr its) = inr (more its)
 
+pub got_in : {A : Type 0} (xs : List A) (place : ℕ) (x : A) → slice_get xs place ≡ Some x → In x xs
+got_in [] place x is = absurd cc
+got_in (y ∷ ys) zero x is = inl (sym (same_Some y x is))
+got_in (y ∷ ys) (suc place) x is = inr (got_in ys place x is)
+
 pub found_in : {A : Type 0} (test : A → Bool) (xs : List A) (x : A) → find test xs ≡ Some x → In x xs
 found_in test [] x is = absurd (none-some x is)
 found_in {A = A} test (y ∷ xs) x is = by_test (test y) is (found_in test xs x)
@@ -64,6 +69,14 @@ found_in {A = A} test (y ∷ xs) x is = by_test (test y) is (found_in test xs x)
     by_test : (b : Bool) → cond b (Some y) (find test xs) ≡ Some x → (find test xs ≡ Some x → In x xs) → In x (y ∷ xs)
     by_test true its more = inl (sym (same_Some y x its))
     by_test false its more = inr (more its)
+
+pub found_passes : {A : Type 0} (test : A → Bool) (xs : List A) (x : A) → find test xs ≡ Some x → test x ≡ true
+found_passes test [] x is = absurd (none-some x is)
+found_passes {A = A} test (y ∷ xs) x is = by_test (test y) refl is (found_passes test xs x)
+  where
+    by_test : (b : Bool) → test y ≡ b → cond b (Some y) (find test xs) ≡ Some x → (find test xs ≡ Some x → test x ≡ true) → test x ≡ true
+    by_test true passes its more = ap test (sym (same_Some y x its)) ∙ passes
+    by_test false passes its more = more its
 
 pub record Split {A : Type 0} (x : A) (xs : List A) : Type 0 where
   pub front : List A

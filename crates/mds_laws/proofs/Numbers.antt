@@ -10,10 +10,11 @@ use Rattle.cluster_model.specs.declared.ids.NodeId.{NodeId}
 use Rattle.cluster_model.specs.declared.ids.NodeId.TheVariants.{Server}
 use Rattle.cluster_model.specs.declared.ids.FileId.{FileId}
 use Rattle.cluster_model.specs.declared.entry.Entry.{Entry}
-use Rattle.file_rule.specs.FilePhases.{phase}
+use Rattle.file_rule.specs.FilePhases.{Answers as IsAnswer, TimesOut, Sees, phase}
 use Rattle.file_rule.specs.MdsFiles.{FileStep}
 use Rattle.mds_rows.specs.Draws.{drawn}
 use Rattle.recall.specs.Recalls.{without_file}
+use Rattle.mds_rule.specs.Answers.{own_answer}
 use Rattle.mds_rule.specs.MdsStates.{ServedFile, MdsSend, CallsServer, CallsBack, Replies, Answers, AwaitedCall, MdsValue, with_call, with_served, new_mds, is_call_to, without_call}
 use Rattle.mds_rule.specs.declared.waiter.Waiter.TheVariants.{ForFile, ForRead, ForWrite, ForRecall}
 use Rattle.mds_rule.specs.ServedFiles.{is_period_end, file_behind, file_stepped}
@@ -21,7 +22,7 @@ use Rattle.mds_rule.specs.Goes.{xid_after}
 use Rattle.mds_laws.specs.MdsRuns.{MdsEvent}
 use Rattle.mds_laws.specs.MdsRunLaws.{number_sent, IsBelow, AreBelow, IsNewOrAgain, IsNew, IsAgain, NumbersAscend, FitsNumber, NumbersFit}
 use Rattle.mds_laws.proofs.Lists.{In, in_more, in_last, in_with_call, in_filtered, Split, split_in, EachOf, each_push, each_at, AllOf, all_push, all_in, all_split}
-use Rattle.mds_laws.proofs.Keeping.{Cases}
+use Rattle.mds_laws.proofs.Keeping.{Cases, HeardAny}
 use Rattle.mds_laws.proofs.GoesWalk.{in_each_run}
 
 -- ---- the calls that were sent
@@ -52,21 +53,21 @@ below_more : (next : ℕ) (o : Option ℕ) → IsBelow next o → IsBelow (next 
 below_more next None is = tt
 below_more next (Some n) is = omega (arith, is)
 
-below_all : (next : ℕ) (ss : List MdsSend) → AreBelow next ss → AreBelow (next + 1) ss
+pub below_all : (next : ℕ) (ss : List MdsSend) → AreBelow next ss → AreBelow (next + 1) ss
 below_all next [] all = tt
 below_all next (s ∷ ss) all = (below_more next (number_sent s) all.0, below_all next ss all.1)
 
-below_push : (next : ℕ) (ss : List MdsSend) (s : MdsSend) → AreBelow next ss → IsBelow next (number_sent s) → AreBelow next (ss ++ s ∷ [])
+pub below_push : (next : ℕ) (ss : List MdsSend) (s : MdsSend) → AreBelow next ss → IsBelow next (number_sent s) → AreBelow next (ss ++ s ∷ [])
 below_push next [] s all is = (is, tt)
 below_push next (x ∷ ss) s all is = (all.0, below_push next ss s all.1 is)
 
-in_below : (next : ℕ) (ss : List MdsSend) (s : MdsSend) → AreBelow next ss → In s ss → IsBelow next (number_sent s)
+pub in_below : (next : ℕ) (ss : List MdsSend) (s : MdsSend) → AreBelow next ss → In s ss → IsBelow next (number_sent s)
 in_below next [] s all inside = absurd inside
 in_below next (x ∷ ss) s all (inl is) = subst (λ (y : MdsSend). IsBelow next (number_sent y)) (sym is) all.0
 in_below next (x ∷ ss) s all (inr inside) = in_below next ss s all.1 inside
 
 -- behind the number that was used
-after_below : (next : ℕ) (ss : List MdsSend) → AreBelow (next + 1) ss → not (xid_after next == 0) ≡ true → AreBelow (xid_after next) ss
+pub after_below : (next : ℕ) (ss : List MdsSend) → AreBelow (next + 1) ss → not (xid_after next == 0) ≡ true → AreBelow (xid_after next) ss
 after_below next ss all = by_last (next == 4294967295)
   where
     by_last : (b : Bool) → not (cond b 0 (next + 1) == 0) ≡ true → AreBelow (cond b 0 (next + 1)) ss
@@ -80,7 +81,7 @@ positive : (n : ℕ) → not (n == 0) ≡ true → 1 ≤ n
 positive zero has = absurd cc
 positive (suc n) has = omega arith
 
-after_fits : (next : ℕ) → next ≤ 4294967295 → xid_after next ≤ 4294967295
+pub after_fits : (next : ℕ) → next ≤ 4294967295 → xid_after next ≤ 4294967295
 after_fits next fits =
     cond_both (next == 4294967295) 0 (next + 1) (λ (n : ℕ). n ≤ 4294967295) (λ is. omega arith) (λ off. grind (arith, nat_tests, off, fits))
 
@@ -118,7 +119,7 @@ inputs m file s step es ss i =
     let n : MdsValue = with_served (record m { fresh = drawn m.fresh step }) file (file_behind s step) in
     cond_both (list_any is_period_end step.entries) (record n { recalls = without_file file n.recalls }) n (λ (x : MdsValue). Numbered x.next_xid x.calls ss) (λ end. i) (λ other. i)
 
-cases : Cases IsSo
+cases : Cases IsSo HeardAny
 cases = record {
   quiet = λ m confirmed opens reclaimed recalls es ss i. i;
   tables = λ m move is es ss i. i;
@@ -126,13 +127,16 @@ cases = record {
   answers = λ m node bytes es ss i. plain m.next_xid m.calls ss (Answers node bytes) refl i;
   notes = λ m e is es ss i. i;
   puts = λ m file s t at same write es ss i. i;
-  inputs = λ m file s input at fresh es ss i. inputs m file s (phase file s.file input m.fresh) es ss i;
-  makes = λ m name es ss i. i;
+  inputs = λ m file s input itself at fresh es ss i. inputs m file s (phase file s.file input m.fresh) es ss i;
+  timeouts = λ m file s xid at fresh es ss i. inputs m file s (phase file s.file (TimesOut xid) m.fresh) es ss i;
+  hears = λ m file s call server own uid c replies heard caller sent out at fresh es ss i. inputs m file s (phase file s.file (IsAnswer call.xid (own_answer c (replies c))) m.fresh) es ss i;
+  learns = λ m file s call server own uid c replies fileid shown heard caller sent named shows at fresh es ss i. inputs m file s (phase file s.file (Sees (record { server = server; fileid = fileid }) shown.seen) m.fresh) es ss i;
+  makes = λ m name may es ss i. i;
   calls_file = λ m file s c at has its es ss i.
       called m.next_xid m.calls ss (record { node = Server c.server; xid = m.next_xid; caller = ForFile file; sent = CallsServer c.server m.next_xid c.uid c.call }) has refl i;
-  calls_write = λ m file s w c at has waits its es ss i.
+  calls_write = λ m file s w c at has waits its is_write es ss i.
       called m.next_xid m.calls ss (record { node = Server c.id.server; xid = m.next_xid; caller = ForWrite file; sent = CallsServer c.id.server m.next_xid w.writer.cred c.call }) has refl i;
-  calls_read = λ m file s t server call at has same write uid es ss i.
+  calls_read = λ m file s t server call at has same write uid is_read es ss i.
       called m.next_xid m.calls ss (record { node = Server server; xid = m.next_xid; caller = ForRead file; sent = CallsServer server m.next_xid 0 call }) has refl i;
   calls_back = λ m node back file stateid has es ss i.
       called m.next_xid m.calls ss (record { node = node; xid = m.next_xid; caller = ForRecall; sent = CallsBack m.next_xid back file stateid }) has refl i;

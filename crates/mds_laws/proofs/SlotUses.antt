@@ -7,13 +7,12 @@ use Rattle.std.proofs.lemmas.Bool.{cond_both}
 use Rattle.std.proofs.lemmas.List.{append_assoc, append-nil}
 use Rattle.std.proofs.lemmas.Option.{same_Some, none-some}
 use Rattle.ff_xdr.specs.Form.{Value}
-use Rattle.compound_reply.specs.Replied.{success_reply}
 use Rattle.device_addr.specs.Universal.{AddressValue}
 use Rattle.cluster_model.specs.declared.ids.NodeId.{NodeId}
 use Rattle.cluster_model.specs.declared.ids.NodeId.TheVariants.{Server}
 use Rattle.cluster_model.specs.declared.ids.FileId.{FileId}
 use Rattle.cluster_model.specs.declared.entry.Entry.{Entry}
-use Rattle.file_rule.specs.FilePhases.{phase}
+use Rattle.file_rule.specs.FilePhases.{Answers as IsAnswer, TimesOut, Sees, phase}
 use Rattle.file_rule.specs.MdsFiles.{FileStep}
 use Rattle.mds_rows.specs.Draws.{drawn}
 use Rattle.recall.specs.Recalls.{without_file}
@@ -30,15 +29,15 @@ use Rattle.nfs4_session.specs.Bindings.{after_binding}
 use Rattle.nfs4_session.specs.TableLaw.{TableMove, ExchangeId, CreateSession, BeginRequest, FinishRequest, Bind, CallBack, DestroySession, DestroyClient, Expire, table_after}
 use Rattle.table_slots.specs.TableSlots.{effect_on, effect_of, table_from, effects_from, UsesSlotsOnce}
 use Rattle.mds_receive.specs.MdsReceive.{incoming_of}
+use Rattle.mds_rule.specs.Answers.{own_answer}
 use Rattle.mds_rule.specs.MdsStates.{ServedFile, MdsSend, CallsServer, CallsBack, Replies, Answers, AwaitedCall, MdsValue, with_call, with_served, new_mds}
 use Rattle.mds_rule.specs.declared.waiter.Waiter.TheVariants.{ForFile, ForRead, ForWrite, ForRecall}
-use Rattle.mds_rule.specs.OpSteps.{with_result, refused_as}
 use Rattle.mds_rule.specs.ServedFiles.{is_period_end, file_behind, file_stepped}
-use Rattle.mds_rule.specs.Compounds.{compound_bytes, sequenced, sequence_in, sequence_of, first_by, first_operation, new_run}
+use Rattle.mds_rule.specs.Compounds.{sequenced, sequence_in, sequence_of, first_by, first_operation, new_run}
 use Rattle.mds_laws.specs.MdsRuns.{MdsInput, MdsEvent, Hears, IsTimedOut, Ticks, RecallsFile, Resilvers, after_event}
 use Rattle.mds_laws.specs.SlotUses.{first_request, request_in, effect_asked, effect_in, effects_in, RequestsTakeEffectOnce, OnlyEffectsChange, RepeatsChangeNothing}
 use Rattle.mds_laws.proofs.Lists.{AllOf, all_push}
-use Rattle.mds_laws.proofs.Keeping.{IsNoRequest, Cases}
+use Rattle.mds_laws.proofs.Keeping.{IsNoRequest, Cases, HeardAny, hears_any}
 use Rattle.mds_laws.proofs.Requested.{request_moves, begun_moves}
 use Rattle.mds_laws.proofs.Numbers.{WereSent, sent_more, sent_with, sent_without}
 use Rattle.mds_laws.proofs.GoesWalk.{input_walk}
@@ -106,7 +105,7 @@ module _ (start : SessionsState) where
       let n : MdsValue = with_served (record m { fresh = drawn m.fresh step }) file (file_behind s step) in
       cond_both (list_any is_period_end step.entries) (record n { recalls = without_file file n.recalls }) n (λ (x : MdsValue). Behind start x.sessions x.calls ss) (λ end. i) (λ other. i)
 
-  cases : Cases IsSo
+  cases : Cases IsSo HeardAny
   cases = record {
     quiet = λ m confirmed opens reclaimed recalls es ss i. i;
     tables = λ m move none es ss i. moves_on m.sessions m.calls ss move none i;
@@ -114,13 +113,16 @@ module _ (start : SessionsState) where
     answers = λ m node bytes es ss i. sends m.sessions m.calls ss (Answers node bytes) i;
     notes = λ m e is es ss i. i;
     puts = λ m file s t at same write es ss i. i;
-    inputs = λ m file s input at fresh es ss i. inputs m file s (phase file s.file input m.fresh) es ss i;
-    makes = λ m name es ss i. i;
+    inputs = λ m file s input itself at fresh es ss i. inputs m file s (phase file s.file input m.fresh) es ss i;
+    timeouts = λ m file s xid at fresh es ss i. inputs m file s (phase file s.file (TimesOut xid) m.fresh) es ss i;
+    hears = λ m file s call server own uid c replies heard caller sent out at fresh es ss i. inputs m file s (phase file s.file (IsAnswer call.xid (own_answer c (replies c))) m.fresh) es ss i;
+    learns = λ m file s call server own uid c replies fileid shown heard caller sent named shows at fresh es ss i. inputs m file s (phase file s.file (Sees (record { server = server; fileid = fileid }) shown.seen) m.fresh) es ss i;
+    makes = λ m name may es ss i. i;
     calls_file = λ m file s c at has its es ss i.
         called m.sessions m.calls ss (record { node = Server c.server; xid = m.next_xid; caller = ForFile file; sent = CallsServer c.server m.next_xid c.uid c.call }) i;
-    calls_write = λ m file s w c at has waits its es ss i.
+    calls_write = λ m file s w c at has waits its is_write es ss i.
         called m.sessions m.calls ss (record { node = Server c.id.server; xid = m.next_xid; caller = ForWrite file; sent = CallsServer c.id.server m.next_xid w.writer.cred c.call }) i;
-    calls_read = λ m file s t server call at has same write uid es ss i.
+    calls_read = λ m file s t server call at has same write uid is_read es ss i.
         called m.sessions m.calls ss (record { node = Server server; xid = m.next_xid; caller = ForRead file; sent = CallsServer server m.next_xid 0 call }) i;
     calls_back = λ m node back file stateid has es ss i.
         called m.sessions m.calls ss (record { node = node; xid = m.next_xid; caller = ForRecall; sent = CallsBack m.next_xid back file stateid }) i;
@@ -156,7 +158,7 @@ event_moves e m ss were =
     let begun : List TableMove = begun_moves e.now e.input in
     let start : SessionsState = table_from m.sessions begun in
     let b : Behind start (after_event e m).mds.sessions (after_event e m).mds.calls (ss ++ (after_event e m).sends) =
-    input_walk (IsSo start) (cases start) e.now e.input m [] ss (record { moves = []; none = tt; is = refl; were = were }) in
+    input_walk (IsSo start) HeardAny (cases start) e.now e.input m (hears_any (IsSo start) e.input) [] ss (record { moves = []; none = tt; is = refl; were = were }) in
     record {
       moves = begun ++ b.moves;
       is = b.is ∙ sym (table_joins m.sessions begun b.moves);

@@ -1,5 +1,5 @@
 -- CREATEs, SETATTRs and READs go out by uid 0, WRITEs by a uid that was drawn.
-use Rattle.std.proofs.Common.{◌≡◌, ◌≤◌, ℕ, ◌-◌, List, [], ◌∷◌, ◌++◌, Option, Some, None, sym, subst, inl, inr, arith}
+use Rattle.std.proofs.Common.{◌≡◌, ◌≤◌, ℕ, ◌-◌, List, [], ◌∷◌, ◌++◌, Option, Some, None, sym, ap, subst, inl, inr, arith}
 use Rattle.std.specs.Prelude.{slice_set}
 use Rattle.std.specs.List.{list_any}
 use Rattle.std.proofs.lemmas.Bool.{cond_both}
@@ -8,12 +8,13 @@ use Rattle.cluster_model.specs.declared.ids.NodeId.TheVariants.{Server}
 use Rattle.cluster_model.specs.declared.ids.FileId.{FileId}
 use Rattle.cluster_model.specs.declared.entry.Entry.{Entry}
 use Rattle.cluster_model.specs.DsCalls.{DsCallValue}
-use Rattle.file_rule.specs.FilePhases.{phase, CallOut, call_out}
+use Rattle.file_rule.specs.FilePhases.{Answers as IsAnswer, TimesOut, Sees, phase, CallOut, call_out}
 use Rattle.file_rule.specs.MdsFiles.{FileStep}
 use Rattle.mds_rows.specs.Draws.{drawn}
-use Rattle.mirror_writer.specs.Writers.{WriterSends}
+use Rattle.mirror_writer.specs.Writers.{WriterValue, WriterSends}
 use Rattle.mirror_writer.specs.Writers as writer
 use Rattle.recall.specs.Recalls.{without_file}
+use Rattle.mds_rule.specs.Answers.{own_answer}
 use Rattle.mds_rule.specs.MdsStates.{WaitingWrite, ServedFile, MdsSend, CallsServer, CallsBack, Replies, Answers, AwaitedCall, MdsValue, with_call, served, with_served, new_mds}
 use Rattle.mds_rule.specs.declared.waiter.Waiter.{Waiter}
 use Rattle.mds_rule.specs.declared.waiter.Waiter.TheVariants.{ForFile, ForRead, ForWrite, ForRecall}
@@ -22,7 +23,7 @@ use Rattle.mds_rule.specs.FileOps.{with_new_file}
 use Rattle.mds_laws.specs.MdsRuns.{MdsEvent}
 use Rattle.mds_laws.specs.MdsRunLaws.{IsUidOf, IsByItsUid, CallsByUids}
 use Rattle.mds_laws.proofs.Lists.{AllOf, all_push, all_in, all_set, all_got, all_split}
-use Rattle.mds_laws.proofs.Keeping.{Cases, IsCredOf, IsWriteOf}
+use Rattle.mds_laws.proofs.Keeping.{Cases, HeardAny, IsWriterOf, IsWriteOf}
 use Rattle.mds_laws.proofs.OpsWalk.{place_served}
 use Rattle.mds_laws.proofs.GoesWalk.{in_each_run}
 use Rattle.mds_laws.proofs.WriterKept.{sends_of}
@@ -49,12 +50,12 @@ IsSo m es ss = Fits m.fresh.uid m.files m.calls ss
 -- a write that is kept with a file
 write_fits : (s : ServedFile) (o : Option WaitingWrite) → IsWriteOf s.file s.write o → ServedFits s → WriteFits o
 write_fits s None its i = tt
-write_fits s (Some w) (inl is) i = subst (λ (n : ℕ). 65536 ≤ n) (sym is) i.file_fits.layout_fits.cred
+write_fits s (Some w) (inl new) i = subst (λ (n : ℕ). 65536 ≤ n) (sym (ap (λ (v : WriterValue). v.cred) new.is)) i.file_fits.layout_fits.cred
 write_fits s (Some w) (inr is) i = by_old s.write i.write_fits is
   where
-    by_old : (o : Option WaitingWrite) → WriteFits o → IsCredOf w.writer.cred o → 65536 ≤ w.writer.cred
+    by_old : (o : Option WaitingWrite) → WriteFits o → IsWriterOf w.writer o → 65536 ≤ w.writer.cred
     by_old None its was = absurd was
-    by_old (Some v) its was = subst (λ (n : ℕ). 65536 ≤ n) (sym was) its
+    by_old (Some v) its was = subst (λ (n : ℕ). 65536 ≤ n) (sym was.cred) its
 
 served_fits : (s t : ServedFile) → t.file ≡ s.file → IsWriteOf s.file s.write t.write → ServedFits s → ServedFits t
 served_fits s t is its i = record { file_fits = subst FileFits (sym is) i.file_fits; write_fits = write_fits s t.write its i }
@@ -112,12 +113,12 @@ calls_write m file s w c at waits its ss i =
     let cred : 65536 ≤ w.writer.cred = subst WriteFits waits now.write_fits in
     let new = sends_of w.writer m.next_xid c its in
     called m file (record s { write = Some (record w { writer = c.writer }) }) (ForWrite file) c.id.server w.writer.cred c.call ss
-    (record { file_fits = now.file_fits; write_fits = subst (λ (n : ℕ). 65536 ≤ n) (sym new.0) cred }) (new.1 w.writer.cred cred) i
+    (record { file_fits = now.file_fits; write_fits = subst (λ (n : ℕ). 65536 ≤ n) (sym new.0.cred) cred }) (new.1 w.writer.cred cred) i
 
 pushed : (fresh : ℕ) (files : List ServedFile) (calls : List AwaitedCall) (ss : List MdsSend) (s : MdsSend) → IsByItsUid s → Fits fresh files calls ss → Fits fresh files calls (ss ++ s ∷ [])
 pushed fresh files calls ss s is i = record { drawn = i.drawn; all = i.all; were = sent_more calls ss s i.were; each = all_push IsByItsUid ss s i.each is }
 
-cases : Cases IsSo
+cases : Cases IsSo HeardAny
 cases = record {
   quiet = λ m confirmed opens reclaimed recalls es ss i. i;
   tables = λ m move is es ss i. i;
@@ -125,12 +126,18 @@ cases = record {
   answers = λ m node bytes es ss i. pushed m.fresh.uid m.files m.calls ss (Answers node bytes) tt i;
   notes = λ m e is es ss i. i;
   puts = puts;
-  inputs = λ m file s input at fresh es ss i.
+  inputs = λ m file s input itself at fresh es ss i.
       inputs m file s (phase file s.file input m.fresh) es ss i (phase_fits file m.fresh i.drawn s.file input (of_served m file s at i.all).file_fits) (of_served m file s at i.all).write_fits;
-  makes = makes;
+  timeouts = λ m file s xid at fresh es ss i.
+      inputs m file s (phase file s.file (TimesOut xid) m.fresh) es ss i (phase_fits file m.fresh i.drawn s.file (TimesOut xid) (of_served m file s at i.all).file_fits) (of_served m file s at i.all).write_fits;
+  hears = λ m file s call server own uid c replies heard caller sent out at fresh es ss i.
+      inputs m file s (phase file s.file (IsAnswer call.xid (own_answer c (replies c))) m.fresh) es ss i (phase_fits file m.fresh i.drawn s.file (IsAnswer call.xid (own_answer c (replies c))) (of_served m file s at i.all).file_fits) (of_served m file s at i.all).write_fits;
+  learns = λ m file s call server own uid c replies fileid shown heard caller sent named shows at fresh es ss i.
+      inputs m file s (phase file s.file (Sees (record { server = server; fileid = fileid }) shown.seen) m.fresh) es ss i (phase_fits file m.fresh i.drawn s.file (Sees (record { server = server; fileid = fileid }) shown.seen) (of_served m file s at i.all).file_fits) (of_served m file s at i.all).write_fits;
+  makes = λ m name may. makes m name;
   calls_file = λ m file s c at has its es ss i. calls_file m file s c at its ss i;
-  calls_write = λ m file s w c at has waits its es ss i. calls_write m file s w c at waits its ss i;
-  calls_read = λ m file s t server call at has is write uid es ss i. called m file t (ForRead file) server 0 call ss (served_fits s t is write (of_served m file s at i.all)) uid i;
+  calls_write = λ m file s w c at has waits its is_write es ss i. calls_write m file s w c at waits its ss i;
+  calls_read = λ m file s t server call at has is write uid is_read es ss i. called m file t (ForRead file) server 0 call ss (served_fits s t is write (of_served m file s at i.all)) uid i;
   calls_back = λ m node back file stateid has es ss i. record {
     drawn = i.drawn;
     all = i.all;

@@ -17,7 +17,7 @@ use Rattle.nfs4_session.specs.Bindings.{after_binding}
 use Rattle.table_slots.specs.TableSlots.{effect_on}
 use Rattle.device_addr.specs.Universal.{AddressValue}
 use Rattle.mds_receive.specs.MdsReceive.{IncomingValue, PassedOver, IsReply, IsAnswered, IsCompound, incoming_of}
-use Rattle.mds_rule.specs.MdsStates.{MdsSend, Replies, MdsValue, MdsStep, new_mds}
+use Rattle.mds_rule.specs.MdsStates.{Replies, MdsValue, MdsStep, new_mds}
 use Rattle.mds_rule.specs.OpSteps.{refused_as}
 use Rattle.mds_rule.specs.Compounds.{sequence_in, sequence_of, runs_compound}
 use Rattle.mds_laws.specs.MdsRuns.{MdsEvent, MdsInput, Hears, IsTimedOut, Ticks, RecallsFile, Resilvers, after_event}

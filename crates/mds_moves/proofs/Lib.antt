@@ -1,0 +1,10 @@
+mod Draws
+mod Servers
+mod CallKinds
+mod MdsMachine
+mod Stands
+mod Ranges
+mod Inputs
+mod Files
+mod Calls
+mod Instance

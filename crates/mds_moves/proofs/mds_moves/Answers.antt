@@ -1,0 +1,12 @@
+use Rattle.mds_moves.proofs.Stands.{new_is, stays_reached}
+use Rattle.mds_moves.proofs.Instance.{goes_on}
+use Rattle.mds_moves.proofs.mds_moves.Goals as goal
+
+pub returns-clause-begins : goal.returns-clause-begins
+returns-clause-begins c = new_is
+
+pub returns-clause-goes_on : goal.returns-clause-goes_on
+returns-clause-goes_on c = goes_on c.run_bounds.ensures.draws (record { calls = c.calls_in_range.ensures.calls; mirrors = c.calls_in_range.ensures.mirrors })
+
+pub returns-clause-reached : goal.returns-clause-reached
+returns-clause-reached c = stays_reached
