@@ -63,7 +63,7 @@ fn log_behind(alloc: Global, first: &[u8], records: &[Vec<u8>]) -> Result<Vec<u8
     Ok(disk.bytes().to_vec(alloc)?)
 }
 
-/// What a disk holds once it was opened; two that hold the same log hold the same then.
+/// What a disk holds once it was opened.
 fn opened(alloc: Global, bytes: &[u8]) -> Result<Vec<u8>, RowFault> {
     log_behind(alloc, bytes, &[])
 }
@@ -80,17 +80,18 @@ fn logs(alloc: Global, first: &[u8], records: &[Vec<u8>]) -> Result<Vec<Vec<u8>>
     Ok(logs)
 }
 
-/// What a crash left is the log of the records that were answered, or of one more.
+/// What a crash left is the log of the records that were answered, or of one more. A log ends with its closed gate; behind
+/// that a crash may leave bytes, which nobody reads.
 fn is_kept(left: &[u8], answered: Option<usize>, logs: &[Vec<u8>]) -> bool {
     let before = answered.map_or(0, |count| count.saturating_add(1));
     logs.iter()
         .skip(before)
         .take(2)
-        .any(|log| log.as_slice() == left)
+        .any(|log| left.starts_with(log.as_slice()))
 }
 
-/// `crashes CHOICE DISK RECORDS`: a disk of these bytes is opened and handed the records, and stops behind 0 calls, 1 call and
-/// so on, until all are answered; each time it crashes by the choice, and what is left is opened again. The answer is how
+/// `crashes CHOICE DISK RECORDS`: a disk of these bytes, of which none lie behind its closed gate, is opened and handed the
+/// records, and stops behind 0 calls, 1 call and so on, until all are answered; each time it crashes by the choice, and what is left is opened again. The answer is how
 /// many times it stopped, and how often it was not opened as the log of the records that were answered, or of one more.
 pub fn put_crashes(words: &mut Words<'_>, answer: &mut Answer) -> Result<(), RowFault> {
     let alloc = words.alloc();
