@@ -10,12 +10,12 @@ use Rattle.cluster_laws.specs.Machine.{Machine, Move, numbered_at}
 use Rattle.cluster_laws.specs.RunBounds.{machine_of_run}
 
 -- each number of a call fits its field, and a WRITE has at most 65,536 bytes
-abbrev pub IsInRange : DsCallValue → Type 0
-IsInRange (Create name owner) = (name < 2 ^ 64) × (owner < 2 ^ 32)
-IsInRange (SetAttr fileid owner guard) = (fileid < 2 ^ 64) × (owner < 2 ^ 32) × (guard.boot < 2 ^ 32) × (guard.count < 2 ^ 32)
-IsInRange (Write fileid at synced bytes) = (fileid < 2 ^ 64) × (at < 2 ^ 64) × (length bytes ≤ 65536)
-IsInRange (Commit fileid) = fileid < 2 ^ 64
-IsInRange (Read fileid at count) = (fileid < 2 ^ 64) × (at < 2 ^ 64) × (count < 2 ^ 32)
+abbrev pub AreFieldsInRange : DsCallValue → Type 0
+AreFieldsInRange (Create name owner) = (name < 2 ^ 64) × (owner < 2 ^ 32)
+AreFieldsInRange (SetAttr fileid owner guard) = (fileid < 2 ^ 64) × (owner < 2 ^ 32) × (guard.boot < 2 ^ 32) × (guard.count < 2 ^ 32)
+AreFieldsInRange (Write fileid at synced bytes) = (fileid < 2 ^ 64) × (at < 2 ^ 64) × (length bytes ≤ 65536)
+AreFieldsInRange (Commit fileid) = fileid < 2 ^ 64
+AreFieldsInRange (Read fileid at count) = (fileid < 2 ^ 64) × (at < 2 ^ 64) × (count < 2 ^ 32)
 
 -- a READ asks for one byte at least
 abbrev pub ReadsSome : DsCallValue → Type 0
@@ -36,7 +36,7 @@ AreServersInRange m = (n : ℕ) (s : ServerState) → numbered_at m.servers n �
 
 -- a call that goes out, with the uid that it goes out under
 pub record IsCallInRange (c : CallOut) : Type 0 where
-  pub call : IsInRange c.call
+  pub call : AreFieldsInRange c.call
   pub uid : c.uid < 2 ^ 32
   pub some : ReadsSome c.call
 

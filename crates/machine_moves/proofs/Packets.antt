@@ -12,7 +12,7 @@ use Rattle.cluster_model.specs.DsCalls.{DsCallValue, DsReplyValue}
 use Rattle.file_rule.specs.MdsFiles.{MdsFile, FileStep}
 use Rattle.file_rule.specs.FilePhases.{FileInput, Answers, TimesOut, Sees, CallOut, phase, call_out, is_outstanding}
 use Rattle.cluster_laws.specs.Machine.{PacketValue, Call, Reply, Machine, MachineStep, Move, Deliver, Creates, Happens, CallsOut, SendsAgain, GivesUpWaiting, Hears, Uses, Learns, Takes, Strays, Tells, Restarts, no_move, file_id, fresh_of, can_draw, file_takes, numbered_at, caller_by, arrives_at, file_of, answers_at, comes_to, delivered, comes_by_itself, may_create, is_new_number, goes_out, call_out_from, sent_again, may_use, may_number, heard_at, heard, ctime_in, learns_tick, was_write_to, learns_from, learnt, started_again, restarts_at, moved, machine_after}
-use Rattle.machine_moves.specs.GoesOn.{GoesOn, HasCalled, HasAnswered}
+use Rattle.machine_moves.specs.MachineGoesOn.{MachineGoesOn, HasCalled, HasServerAnswered}
 use Rattle.machine_moves.specs.MachineMoves.{KeepsPackets}
 
 push_old : {A : Type 0} (all more : List A) (place : ℕ) (x : A) → slice_get all place ≡ Some x → slice_get (all ++ more) place ≡ Some x
@@ -121,11 +121,11 @@ pub moves_keep : (m : Machine) (moves : List Move) → KeepsPackets m (machine_a
 moves_keep m [] = keeps_same m
 moves_keep m (move ∷ moves) = keeps_then m (moved m move).machine (machine_after (moved m move).machine moves) (move_keeps m move) (moves_keep (moved m move).machine moves)
 
-pub goes_keep : (m n : Machine) (entries : List _) → GoesOn m entries n → KeepsPackets m n
+pub goes_keep : (m n : Machine) (entries : List _) → MachineGoesOn m entries n → KeepsPackets m n
 goes_keep m n entries g = subst (λ (x : Machine). KeepsPackets m x) g.machine (moves_keep m g.moves)
 
 pub still_called : (m n : Machine) (server xid uid : ℕ) (call : DsCallValue) → KeepsPackets m n → HasCalled m server xid uid call → HasCalled n server xid uid call
 still_called m n server xid uid call keeps h = record { place = h.place; there = keeps h.place _ h.there }
 
-pub still_answered : (m n : Machine) (server xid : ℕ) (call : DsCallValue) (reply : DsReplyValue) → KeepsPackets m n → HasAnswered m server xid call reply → HasAnswered n server xid call reply
+pub still_answered : (m n : Machine) (server xid : ℕ) (call : DsCallValue) (reply : DsReplyValue) → KeepsPackets m n → HasServerAnswered m server xid call reply → HasServerAnswered n server xid call reply
 still_answered m n server xid call reply keeps h = record { uid = h.uid; called = h.called; call_there = keeps h.called _ h.call_there; place = h.place; there = keeps h.place _ h.there }

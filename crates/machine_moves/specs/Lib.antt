@@ -1,2 +1,2 @@
-pub mod GoesOn
+pub mod MachineGoesOn
 pub mod MachineMoves

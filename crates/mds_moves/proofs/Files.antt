@@ -10,7 +10,7 @@ use Rattle.file_rule.specs.declared.fresh.Fresh.{Fresh}
 use Rattle.file_rule.specs.MdsFiles.{MdsFile}
 use Rattle.file_rule.specs.FilePhases.{are_spent, end_of_uids, new_mds_file}
 use Rattle.cluster_laws.specs.Machine.{are_servers, Machine, MachineStep, Creates, no_move, fresh_of, can_draw, may_create, moved}
-use Rattle.machine_moves.specs.GoesOn.{GoesOn}
+use Rattle.machine_moves.specs.MachineGoesOn.{MachineGoesOn}
 use Rattle.machine_moves.proofs.Going.{goes_then, goes_as}
 use Rattle.mds_rule.specs.MdsStates.{MdsSend, MdsValue}
 use Rattle.mds_rule.specs.ServedFiles.{has_fresh}
@@ -62,7 +62,7 @@ module _ (mc : Machine) (past : List MdsSend) where
       let x : MdsValue = with_new_file m name in
       record {
         machine = after;
-        goes = subst (λ (l : List Entry). GoesOn mc l after) (append-nil es) (goes_then mc n after es [] i.goes (goes_as n (Creates servers) step comes));
+        goes = subst (λ (l : List Entry). MachineGoesOn mc l after) (append-nil es) (goes_then mc n after es [] i.goes (goes_as n (Creates servers) step comes));
         stays = i.stays;
         is = goes_silent n after (record { packets = λ place packet p. p; servers = refl }) m.servers m.mirrors m.files m.fresh m.calls m.next_xid ss i.is refl x.files x.fresh
             (map-append file_in m.files _ ∙ (ap (λ (l : List MdsFile). l ++ new_mds_file m.fresh servers ∷ []) i.is.files ∙ ap (λ (f : Fresh). n.files ++ new_mds_file f servers ∷ []) i.is.fresh))

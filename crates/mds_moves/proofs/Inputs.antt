@@ -17,7 +17,7 @@ use Rattle.file_rule.specs.declared.fresh.Fresh.{Fresh}
 use Rattle.file_rule.specs.MdsFiles.{MdsFile, FileStep}
 use Rattle.file_rule.specs.FilePhases.{FileInput, Answers as IsAnswer, Sees, phase, is_outstanding}
 use Rattle.cluster_laws.specs.Machine.{file_stepped as machine_stepped, Machine, Move, MachineStep, Happens, Hears, Learns, no_move, with_file, numbered_at, held_by, file_takes, heard_at, heard, ctime_in, learns_tick, writes_to, was_write_to, learnt, moved}
-use Rattle.machine_moves.specs.GoesOn.{GoesOn, HasAnswered}
+use Rattle.machine_moves.specs.MachineGoesOn.{MachineGoesOn, HasServerAnswered}
 use Rattle.machine_moves.proofs.Going.{goes_then, goes_as}
 use Rattle.machine_moves.proofs.Packets.{goes_keep, still_answered}
 use Rattle.mds_rows.specs.Draws.{drawn}
@@ -31,7 +31,7 @@ use Rattle.mds_laws.specs.MdsRunLaws.{number_sent}
 use Rattle.mds_laws.proofs.Lists.{all_set, all_got}
 use Rattle.mds_laws.proofs.OpsWalk.{place_served}
 use Rattle.mds_laws.proofs.Keeping.{comes_by_itself}
-use Rattle.mds_moves.specs.MdsMoves.{IsReached, message_of, ReadsBytes, IsOfWrite, IsCallFor, IsSentBy, IsServedInRange, IsPlain, WasAnswered, IsAnswered}
+use Rattle.mds_moves.specs.MdsMoves.{IsReached, message_of, ReadsBytes, IsOfWrite, IsCallFor, IsSentBy, IsServedInRange, IsPlain, WasAnswered, IsSendAnswered}
 use Rattle.cluster_laws.specs.RunBounds.{DrawsFew}
 use Rattle.mds_moves.proofs.Draws.{DrawFew, few_at, can}
 use Rattle.mds_moves.proofs.CallKinds.{same_input}
@@ -91,12 +91,12 @@ module _ (few : DrawFew) (mc : Machine) (reached : IsReached mc) (past : List Md
       (ap (λ (b : Bool). cond b (file_takes i.machine file.0 input (numbered_at i.machine.files file.0)) (no_move i.machine)) (same_input input ∙ itself))
 
   -- an answer that stands in the machine
-  module _ (n : Machine) (es : List Entry) (goes : GoesOn mc es n) (call : AwaitedCall) (server own uid : ℕ) (c : DsCallValue) (says : DsCallValue → DsReplyValue) (known : HeardBy mc call says)
+  module _ (n : Machine) (es : List Entry) (goes : MachineGoesOn mc es n) (call : AwaitedCall) (server own uid : ℕ) (c : DsCallValue) (says : DsCallValue → DsReplyValue) (known : HeardBy mc call says)
       (sent : call.sent ≡ CallsServer server own uid c) (to : call.node ≡ Server server) (spoken : HasRecord (message_of own uid c)) where
     said : WasAnswered mc server own c (says c)
-    said = subst (IsAnswered mc server says) sent (known.answered server to) spoken refl
+    said = subst (IsSendAnswered mc server says) sent (known.answered server to) spoken refl
 
-    stands : HasAnswered n server own c said.given
+    stands : HasServerAnswered n server own c said.given
     stands = still_answered mc n server own c said.given (goes_keep mc n es goes) said.stands
 
     same_number : own ≡ call.xid

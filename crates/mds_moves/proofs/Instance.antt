@@ -17,7 +17,7 @@ use Rattle.file_rule.specs.FilePhases.{TimesOut, phase}
 use Rattle.cluster_laws.specs.Machine.{Machine, GivesUpWaiting}
 use Rattle.cluster_laws.specs.CallRanges.{AreServersInRange}
 use Rattle.cluster_laws.specs.Telling.{telling}
-use Rattle.machine_moves.specs.GoesOn.{GoesOn}
+use Rattle.machine_moves.specs.MachineGoesOn.{MachineGoesOn}
 use Rattle.machine_moves.proofs.Going.{goes_none, goes_quiet, goes_then}
 use Rattle.ds_calls.specs.DsCallLaws.{HasRecord}
 use Rattle.mds_receive.specs.MdsReceive.{PassedOver, IsReply, incoming_of}
@@ -31,7 +31,7 @@ use Rattle.mds_laws.proofs.Keeping.{Cases, Hearing, HearsSo, IsWriteOf, is_note}
 use Rattle.mds_laws.proofs.OpsWalk.{place_served}
 use Rattle.mds_laws.proofs.Numbers.{in_below}
 use Rattle.mds_laws.proofs.GoesWalk.{event_walk}
-use Rattle.mds_moves.specs.MdsMoves.{IsReached, message_of, IsSentIn, IsAwaitedFor, IsWriterInRange, IsWaitingInRange, IsServedInRange, IsAnswered, MayComeFrom, MayComeTo, MdsGoesOn}
+use Rattle.mds_moves.specs.MdsMoves.{IsReached, message_of, IsSentIn, IsAwaitedFor, IsWriterInRange, IsWaitingInRange, IsServedInRange, IsSendAnswered, MayComeFrom, MayComeTo, MdsGoesOn}
 use Rattle.mds_moves.proofs.Draws.{DrawFew}
 use Rattle.mds_moves.proofs.CallKinds.{of_write, write_used, read_used}
 use Rattle.mds_moves.proofs.MdsMachine.{file_there, put_files, is_new, goes_calling, sends_more, passes_over, awaits_fewer, same_files}
@@ -103,7 +103,7 @@ module _ (few : DrawFew) (fit : CallsFit) (mc : Machine) (reached : IsReached mc
         let new : i.machine.last_xid Mds < m.next_xid = is_new i.machine m.servers m.mirrors m.files m.fresh m.calls m.next_xid ss i.is has in
         record {
           machine = i.machine;
-          goes = subst (λ (l : List Entry). GoesOn mc l i.machine) (sym (append-nil es)) i.goes;
+          goes = subst (λ (l : List Entry). MachineGoesOn mc l i.machine) (sym (append-nil es)) i.goes;
           stays = i.stays;
           is = goes_calling i.machine i.machine (record { packets = λ place packet p. p; servers = refl }) m.servers m.mirrors m.files m.fresh m.calls m.next_xid ss i.is has (omega (arith, new)) call refl
               (record { number = refl; node = tt }) tt m.files i.is.files i.is.fresh i.is.writes;
@@ -138,11 +138,11 @@ module _ (few : DrawFew) (fit : CallsFit) (mc : Machine) (reached : IsReached mc
       let same : may.reply ≡ reply = cc (given) in
       let number : number_sent call.sent ≡ Some reply.xid = awaited.1.number ∙ ap Some (eqb-true call.xid reply.xid (and_parts (is_node call.node (Server k)) (call.xid == reply.xid) its).1) in
       let one : may.sent ≡ call.sent = i.is.once may.sent call.sent reply.xid (i.kept may.sent may.inside) awaited.0 (may.number ∙ ap (λ (r : RpcReply). Some r.xid) same) number in
-      let answers : IsAnswered mc k (λ c. reply_of_call c reply) call.sent =
-      subst (λ (r : RpcReply). IsAnswered mc k (λ c. reply_of_call c r) call.sent) same (subst (IsAnswered mc k (λ c. reply_of_call c may.reply)) one may.answers) in
+      let answers : IsSendAnswered mc k (λ c. reply_of_call c reply) call.sent =
+      subst (λ (r : RpcReply). IsSendAnswered mc k (λ c. reply_of_call c r) call.sent) same (subst (IsSendAnswered mc k (λ c. reply_of_call c may.reply)) one may.answers) in
       record {
         awaited = awaited.1;
-        answered = λ j is. subst (λ (x : ℕ). IsAnswered mc x (λ c. reply_of_call c reply) call.sent) (sym (eqb-true j k (no_server call (Server k) reply.xid j its is))) answers;
+        answered = λ j is. subst (λ (x : ℕ). IsSendAnswered mc x (λ c. reply_of_call c reply) call.sent) (sym (eqb-true j k (no_server call (Server k) reply.xid j its is))) answers;
       }
 
   other_hears : (node : NodeId) → ((k : ℕ) → is_node (Server k) node ≡ false) → (xid : ℕ) (says : DsCallValue → DsReplyValue) → Hearing IsSo (HeardBy mc) node xid says

@@ -10,7 +10,7 @@ use Rattle.ds_calls.specs.DsCallLaws.{IsSpeakable, HasRecord}
 use Rattle.file_rule.specs.MdsFiles.{MdsFile}
 use Rattle.file_rule.specs.FilePhases.{CallOut, call_out}
 use Rattle.cluster_laws.specs.Machine.{Machine, Move, numbered_at}
-use Rattle.cluster_laws.specs.CallRanges.{IsInRange, IsServerInRange, AreServersInRange, IsCallInRange, CallsInRange, IsFileInRange, MirrorsInRange}
+use Rattle.cluster_laws.specs.CallRanges.{AreFieldsInRange, IsServerInRange, AreServersInRange, IsCallInRange, CallsInRange, IsFileInRange, MirrorsInRange}
 use Rattle.mds_io.specs.OwnWrites.{own_write}
 use Rattle.mirror_writer.specs.declared.call.TakenWrite.{TakenWrite}
 use Rattle.mirror_writer.specs.Writers.{WriterMirror, WriterValue, new_mirror, queued}
@@ -43,7 +43,7 @@ same_range mc n same range = subst (λ (all : List ServerState). (k : ℕ) (s : 
 short : (k : ℕ) → k ≤ 65536 → k ≤ 1048576
 short k few = omega (arith, few)
 
-speakable : (c : DsCallValue) → IsInRange c → IsSpeakable c
+speakable : (c : DsCallValue) → AreFieldsInRange c → IsSpeakable c
 speakable (Create name owner) its = its
 speakable (SetAttr fileid owner guard) its = its
 speakable (Write fileid at synced bytes) (a, b, few) = (a, b, short (length bytes) few)

@@ -8,16 +8,16 @@ use Rattle.device_addr.specs.Universal.{AddressValue}
 use Rattle.file_rule.specs.declared.fresh.Fresh.{Fresh}
 use Rattle.cluster_laws.specs.Machine.{Machine, new_machine, machine_after}
 use Rattle.cluster_laws.specs.FenceLaw.{new_servers}
-use Rattle.machine_moves.specs.GoesOn.{GoesOn}
+use Rattle.machine_moves.specs.MachineGoesOn.{MachineGoesOn}
 use Rattle.machine_moves.proofs.Going.{after_append}
 use Rattle.mds_rule.specs.MdsStates.{ServedFile, MdsSend, AwaitedCall, MdsValue}
 use Rattle.mds_laws.proofs.Lists.{In}
-use Rattle.mds_moves.specs.MdsMoves.{NewIsMdsOf, StaysReached, IsAwaitedFor, IsServerOf, IsAnswered}
+use Rattle.mds_moves.specs.MdsMoves.{NewIsMdsOf, StaysReached, IsAwaitedFor, IsServerOf, IsSendAnswered}
 
 -- from this machine, and behind what was sent before
 pub record Stands (mc : Machine) (past : List MdsSend) (servers : List AddressValue) (mirrors : ℕ) (all : List ServedFile) (next : Fresh) (awaited : List AwaitedCall) (next_xid : ℕ) (es : List Entry) (ss : List MdsSend) : Type 0 where
   pub machine : Machine
-  pub goes : GoesOn mc es machine
+  pub goes : MachineGoesOn mc es machine
   pub is : IsServerOf machine servers mirrors all next awaited next_xid ss
   pub kept : (s : MdsSend) → In s past → In s ss
   pub stays : machine.servers ≡ mc.servers
@@ -25,7 +25,7 @@ pub record Stands (mc : Machine) (past : List MdsSend) (servers : List AddressVa
 -- what is known of an answer to an awaited call
 pub record HeardBy (mc : Machine) (call : AwaitedCall) (says : DsCallValue → DsReplyValue) : Type 0 where
   pub awaited : IsAwaitedFor call
-  pub answered : (k : ℕ) → call.node ≡ Server k → IsAnswered mc k says call.sent
+  pub answered : (k : ℕ) → call.node ≡ Server k → IsSendAnswered mc k says call.sent
 
 -- of a server, from this machine on
 abbrev pub IsFrom : Machine → List MdsSend → MdsValue → List Entry → List MdsSend → Type 0

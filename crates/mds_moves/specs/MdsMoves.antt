@@ -10,7 +10,7 @@ use Rattle.cluster_model.specs.DsCalls.{DsCallValue, Create, SetAttr, Write, Com
 use Rattle.cluster_laws.specs.Machine.{Machine, Move, new_machine, machine_after, fresh_of, ctime_in, may_use}
 use Rattle.cluster_laws.specs.CallRanges.{AreServersInRange}
 use Rattle.cluster_laws.specs.FenceLaw.{new_servers}
-use Rattle.machine_moves.specs.GoesOn.{GoesOn, HasCalled, HasAnswered}
+use Rattle.machine_moves.specs.MachineGoesOn.{MachineGoesOn, HasCalled, HasServerAnswered}
 use Rattle.device_addr.specs.Universal.{AddressValue}
 use Rattle.file_rule.specs.declared.fresh.Fresh.{Fresh}
 use Rattle.ds_calls.specs.GivenReplies.{reply_of_call}
@@ -155,16 +155,16 @@ IsPlain (Read fileid at count) given = 0 < count → own_answer (Read fileid at 
 -- what a reply says is what the machine's data server answered
 pub record WasAnswered (mc : Machine) (server xid : ℕ) (call : DsCallValue) (said : DsReplyValue) : Type 0 where
   pub given : DsReplyValue
-  pub stands : HasAnswered mc server xid call given
+  pub stands : HasServerAnswered mc server xid call given
   pub same : said ≡ given
   pub plain : IsPlain call given
 
 -- A reply, as a function of the call: to a call of this data server, that one gave the answer.
-abbrev pub IsAnswered : Machine → ℕ → (DsCallValue → DsReplyValue) → MdsSend → Type 0
-IsAnswered mc server says (CallsServer other xid uid call) = HasRecord (message_of xid uid call) → other ≡ server → WasAnswered mc server xid call (says call)
-IsAnswered mc server says (CallsBack xid back file stateid) = Unit {0}
-IsAnswered mc server says (Replies node reply) = Unit {0}
-IsAnswered mc server says (Answers node bytes) = Unit {0}
+abbrev pub IsSendAnswered : Machine → ℕ → (DsCallValue → DsReplyValue) → MdsSend → Type 0
+IsSendAnswered mc server says (CallsServer other xid uid call) = HasRecord (message_of xid uid call) → other ≡ server → WasAnswered mc server xid call (says call)
+IsSendAnswered mc server says (CallsBack xid back file stateid) = Unit {0}
+IsSendAnswered mc server says (Replies node reply) = Unit {0}
+IsSendAnswered mc server says (Answers node bytes) = Unit {0}
 
 -- a record of a data server is the reply to a send that went out under its number
 pub record AnswersSend (mc : Machine) (ss : List MdsSend) (server : ℕ) (bytes : List ℕ) : Type 0 where
@@ -173,7 +173,7 @@ pub record AnswersSend (mc : Machine) (ss : List MdsSend) (server : ℕ) (bytes 
   pub sent : MdsSend
   pub inside : In sent ss
   pub number : number_sent sent ≡ Some reply.xid
-  pub answers : IsAnswered mc server (λ call. reply_of_call call reply) sent
+  pub answers : IsSendAnswered mc server (λ call. reply_of_call call reply) sent
 
 -- or it is no reply in its form
 abbrev pub MayComeFrom : Machine → List MdsSend → ℕ → List ℕ → Type 0
@@ -192,12 +192,12 @@ MayComeTo mc ss (Resilvers file) = Unit {0}
 
 -- a run goes on
 abbrev pub StaysReached : Type 0
-StaysReached = (mc n : Machine) (entries : List Entry) → IsReached mc → GoesOn mc entries n → IsReached n
+StaysReached = (mc n : Machine) (entries : List Entry) → IsReached mc → MachineGoesOn mc entries n → IsReached n
 
 -- the machine goes on by what these entries tell, with its data servers as they were, and the server is its own again
 pub record GoesOnBy (mc : Machine) (entries : List Entry) (m : MdsValue) (ss : List MdsSend) : Type 0 where
   pub machine : Machine
-  pub goes : GoesOn mc entries machine
+  pub goes : MachineGoesOn mc entries machine
   pub servers : machine.servers ≡ mc.servers
   pub is : IsMdsOf machine m ss
 

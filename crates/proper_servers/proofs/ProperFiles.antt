@@ -15,7 +15,7 @@ use Rattle.cluster_model.specs.File.{StoredFile, FileOp, Writes, Commits, Sets, 
 use Rattle.cluster_model.specs.Ticks.{next_tick}
 use Rattle.cluster_model.specs.Server.{max_file}
 use Rattle.cluster_model.proofs.Placing.{length-overlay-le}
-use Rattle.proper_servers.specs.ProperServers.{IsProperTick, AreProperTimes, EndsWithin, IsProperContent, IsProperFile}
+use Rattle.proper_servers.specs.ProperServers.{IsProperTick, AreProperTimes, EndsInLongestFile, IsProperContent, IsProperFile}
 
 -- ---- lists
 
@@ -35,7 +35,7 @@ all_set P (y ∷ xs) (suc i) x h p = (h.0, all_set P xs i x h.1 p)
 
 -- ---- bytes
 
-overlay_within : (xs : List ℕ) (ws : List Pending) → length xs ≤ max_file → AllByRecursion EndsWithin ws → length (overlay_all xs ws) ≤ max_file
+overlay_within : (xs : List ℕ) (ws : List Pending) → length xs ≤ max_file → AllByRecursion EndsInLongestFile ws → length (overlay_all xs ws) ≤ max_file
 overlay_within xs [] h g = h
 overlay_within xs (w ∷ ws) h g = overlay_within (overlay xs w.at w.bytes) ws (length-overlay-le xs w.at w.bytes max_file h g.0) g.1
 
@@ -45,16 +45,16 @@ shown_within c i = overlay_within c.stable c.pending i.stable i.pending
 
 joined_proper : (c : Content) (at : ℕ) (bytes : List ℕ) → (0 < length bytes → at + length bytes ≤ max_file) → IsProperContent c → IsProperContent (joined c at bytes)
 joined_proper c at [] ends i = i
-joined_proper c at (b ∷ bytes) ends i = record { stable = i.stable; pending = all_append EndsWithin c.pending (record { at = at; bytes = b ∷ bytes } ∷ []) i.pending (ends (omega arith), tt) }
+joined_proper c at (b ∷ bytes) ends i = record { stable = i.stable; pending = all_append EndsInLongestFile c.pending (record { at = at; bytes = b ∷ bytes } ∷ []) i.pending (ends (omega arith), tt) }
 
 settled_proper : (c : Content) → IsProperContent c → IsProperContent (settled c)
 settled_proper c i = record { stable = shown_within c i; pending = tt }
 
 -- a piece is a part of its write
-piece_within : (p : Piece) (o : Option Pending) → ((w : Pending) → o ≡ Some w → EndsWithin w) → AllByRecursion EndsWithin (piece_of p o)
+piece_within : (p : Piece) (o : Option Pending) → ((w : Pending) → o ≡ Some w → EndsInLongestFile w) → AllByRecursion EndsInLongestFile (piece_of p o)
 piece_within p None all = tt
 piece_within p (Some w) all =
-    cond_both (nat_le (p.from + p.count) (length w.bytes)) (record { at = w.at + p.from; bytes = take p.count (drop p.from w.bytes) } ∷ []) [] (AllByRecursion EndsWithin)
+    cond_both (nat_le (p.from + p.count) (length w.bytes)) (record { at = w.at + p.from; bytes = take p.count (drop p.from w.bytes) } ∷ []) [] (AllByRecursion EndsInLongestFile)
     (λ e.
     let fits = leb-true (p.from + p.count) (length w.bytes) e in
     let size = length-take p.count (drop p.from w.bytes) in
@@ -62,10 +62,10 @@ piece_within p (Some w) all =
     (omega (arith, fits, size, ends), tt))
     (λ e. tt)
 
-kept_within : (pending : List Pending) (pieces : List Piece) → AllByRecursion EndsWithin pending → AllByRecursion EndsWithin (kept_of pending pieces)
+kept_within : (pending : List Pending) (pieces : List Piece) → AllByRecursion EndsInLongestFile pending → AllByRecursion EndsInLongestFile (kept_of pending pieces)
 kept_within pending [] all = tt
 kept_within pending (p ∷ pieces) all =
-    all_append EndsWithin (piece_of p (slice_get pending p.index)) (kept_of pending pieces) (piece_within p (slice_get pending p.index) (λ w is. each_at EndsWithin pending p.index w all is)) (kept_within pending pieces all)
+    all_append EndsInLongestFile (piece_of p (slice_get pending p.index)) (kept_of pending pieces) (piece_within p (slice_get pending p.index) (λ w is. each_at EndsInLongestFile pending p.index w all is)) (kept_within pending pieces all)
 
 survived_proper : (c : Content) (pieces : List Piece) → IsProperContent c → IsProperContent (survived c pieces)
 survived_proper c pieces i = record { stable = overlay_within c.stable (kept_of c.pending pieces) i.stable (kept_within c.pending pieces i.pending); pending = tt }

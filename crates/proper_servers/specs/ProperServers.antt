@@ -20,13 +20,13 @@ pub record AreProperTimes (t : Times) : Type 0 where
   pub ctime : IsProperTick t.ctime
 
 -- a write ends within the longest file
-abbrev pub EndsWithin : Pending → Type 0
-EndsWithin w = w.at + length w.bytes ≤ max_file
+abbrev pub EndsInLongestFile : Pending → Type 0
+EndsInLongestFile w = w.at + length w.bytes ≤ max_file
 
 -- so do the stable bytes, and each write that is not yet stable
 pub record IsProperContent (c : Content) : Type 0 where
   pub stable : length c.stable ≤ max_file
-  pub pending : AllByRecursion EndsWithin c.pending
+  pub pending : AllByRecursion EndsInLongestFile c.pending
 
 pub record IsProperFile (f : StoredFile) : Type 0 where
   pub content : IsProperContent f.content

@@ -7,7 +7,7 @@ use Rattle.cluster_laws.specs.Machine.{Machine, Move, Call, Reply, machine_after
 use Rattle.cluster_laws.specs.Telling.{telling}
 
 -- Moves lead from a machine to another, and their journal tells what these entries tell.
-pub record GoesOn (m : Machine) (entries : List Entry) (n : Machine) : Type 0 where
+pub record MachineGoesOn (m : Machine) (entries : List Entry) (n : Machine) : Type 0 where
   pub moves : List Move
   pub machine : machine_after m moves ≡ n
   pub journal : telling (journal_of m moves) ≡ telling entries
@@ -18,7 +18,7 @@ pub record HasCalled (m : Machine) (server xid uid : ℕ) (call : DsCallValue) :
   pub there : slice_get m.packets place ≡ Some (Call Mds server xid uid uid call)
 
 -- The data server sent it this answer to the call that stands at a place.
-pub record HasAnswered (m : Machine) (server xid : ℕ) (call : DsCallValue) (reply : DsReplyValue) : Type 0 where
+pub record HasServerAnswered (m : Machine) (server xid : ℕ) (call : DsCallValue) (reply : DsReplyValue) : Type 0 where
   pub uid : ℕ
   pub called : ℕ
   pub call_there : slice_get m.packets called ≡ Some (Call Mds server xid uid uid call)
