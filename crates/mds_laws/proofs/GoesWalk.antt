@@ -13,7 +13,7 @@ use Rattle.cluster_model.specs.declared.phase.EndCause.TheVariants.{Lease, Recal
 use Rattle.cluster_model.specs.declared.entry.Entry.{Entry}
 use Rattle.cluster_model.specs.declared.entry.Entry.TheVariants as entry
 use Rattle.file_rule.specs.FilePhases.{CallOut, call_out, Revokes, Resilver, Ticks}
-use Rattle.rpc_record.specs.Replies.{RpcReply}
+use Rattle.rpc_record.specs.Replies.{RpcReply, reply_bytes}
 use Rattle.ds_calls.specs.GivenReplies.{reply_of_call}
 use Rattle.recall_calls.specs.RecallAnswers.{recall_status}
 use Rattle.mds_io.specs.Reads.{ReadSends}
@@ -27,6 +27,7 @@ use Rattle.nfs4_session.specs.TableLaw.{CallBack, Expire, called_back_by, expire
 use Rattle.nfs4_types.specs.Stateids.{layout_stateid_of}
 use Rattle.recall.specs.declared.recall.RecallCall.{RecallCall}
 use Rattle.recall.specs.Recalls.{RecallSends, next_sent, after_tick}
+use Rattle.mds_receive.proofs.ReceivedSo.{numbered as answers_numbered}
 use Rattle.mds_receive.specs.MdsReceive.{IncomingValue, PassedOver, IsReply, IsAnswered, IsCompound, incoming_of}
 use Rattle.mds_rule.specs.MdsStates.{WaitingRead, WaitingWrite, ServedFile, MdsSend, Answers, AwaitedCall, MdsValue, MdsStep, sends_none, and_then, is_call_to, without_call, served, numbered}
 use Rattle.mds_rule.specs.declared.waiter.Waiter.TheVariants.{ForRead}
@@ -44,6 +45,11 @@ use Rattle.mds_laws.proofs.ServedWalk.{takes, asks, client_ends, recalls_become}
 use Rattle.mds_laws.proofs.OpsWalk.{old_write}
 use Rattle.mds_laws.proofs.WriterKept.{sends_of, read_of}
 use Rattle.mds_laws.proofs.CompoundWalk.{compound_walk, answer_walk, timeout_walk}
+
+-- it is the record of a reply
+record IsReplyRecord (bytes : List ℕ) : Type 0 where
+  reply : RpcReply
+  is : bytes ≡ reply_bytes reply
 
 module _ (I : MdsValue → List Entry → List MdsSend → Type 0) (Heard : HeardOf) (k : Cases I Heard) where
   each_walk : {A : Type 0} (step : A → MdsValue → MdsStep) → ((a : A) (m : MdsValue) → Keeps I m (step a m)) → (list : List A) (m : MdsValue) → Keeps I m (each step list m)
@@ -162,13 +168,15 @@ module _ (I : MdsValue → List Entry → List MdsSend → Type 0) (Heard : Hear
   -- ---- events
 
   incoming_walk : (now : ℕ) (m : MdsValue) (node : NodeId) (v : IncomingValue) → ((reply : RpcReply) → v ≡ IsReply reply → Hearing I Heard node reply.xid (λ call. reply_of_call call reply))
-      → Keeps I (behind_request now m node (request_in v)) (takes_incoming now m node v)
-  incoming_walk now m node PassedOver hearing = same I m
-  incoming_walk now m node (IsReply reply) hearing =
+      → ((bytes : List ℕ) → v ≡ IsAnswered bytes → IsReplyRecord bytes) → Keeps I (behind_request now m node (request_in v)) (takes_incoming now m node v)
+  incoming_walk now m node PassedOver hearing replied = same I m
+  incoming_walk now m node (IsReply reply) hearing replied =
       then_keeps I m (takes_answer now m node reply.xid (λ call. reply_of_call call reply) (recall_status reply.stat reply.results)) (calls_out [])
       (answer_walk I Heard k now m node reply.xid (λ call. reply_of_call call reply) (recall_status reply.stat reply.results) (hearing reply refl)) (λ n. out_walk [] n)
-  incoming_walk now m node (IsAnswered bytes) hearing = λ es ss i. subst (λ (l : List Entry). I m l (ss ++ Answers node bytes ∷ [])) (sym (append-nil es)) (k.answers m node bytes es ss i)
-  incoming_walk now m node (IsCompound xid v) hearing =
+  incoming_walk now m node (IsAnswered bytes) hearing replied =
+      let r : IsReplyRecord bytes = replied bytes refl in
+      λ es ss i. subst (λ (l : List Entry). I m l (ss ++ Answers node bytes ∷ [])) (sym (append-nil es)) (k.answers m node bytes r.reply r.is es ss i)
+  incoming_walk now m node (IsCompound xid v) hearing replied =
       then_keeps I (behind_request now m node (first_request v.ops.values)) (runs_compound now m node xid v) (calls_out []) (compound_walk I Heard k now m node xid v) (λ n. out_walk [] n)
 
   again_walk : (call : AwaitedCall) (m : MdsValue) → KeepsBehind I call.sent m (goes_again call m)
@@ -236,7 +244,7 @@ module _ (I : MdsValue → List Entry → List MdsSend → Type 0) (Heard : Hear
 
   -- of an event, behind what the request that it makes leaves of the table of clients
   pub input_walk : (now : ℕ) (input : MdsInput) (m : MdsValue) → HearsSo I Heard input → Keeps I (behind_begin now input m) (by_input now input m)
-  input_walk now (Hears from bytes) m hears = incoming_walk now m from (incoming_of bytes) hears
+  input_walk now (Hears from bytes) m hears = incoming_walk now m from (incoming_of bytes) hears (λ given is. let u = answers_numbered bytes given is in record { reply = u.said; is = u.spelled })
   input_walk now (IsTimedOut to) m hears = timeouts_walk now m to
   input_walk now IsTick m hears = tick_walk now m
   input_walk now (RecallsFile file) m hears = then_keeps I m (asks_back m file now) (calls_out []) (silent_keeps I m (asks_back m file now) (asks I Heard k m file now)) (λ n. out_walk [] n)

@@ -178,7 +178,7 @@ cases = record {
   quiet = λ m confirmed opens reclaimed recalls es ss i. i;
   tables = λ m move is es ss i. i;
   replies = λ m node reply es ss i. sends m.files m.calls es ss (Replies node reply) i;
-  answers = λ m node bytes es ss i. sends m.files m.calls es ss (Answers node bytes) i;
+  answers = λ m node bytes reply is es ss i. sends m.files m.calls es ss (Answers node bytes) i;
   notes = λ m e note es ss i. notes m.files m.calls e (note_quiet e note) es ss i;
   puts = λ m file s t at same write es ss i. record { free = puts m file s t at same es i.free; each = i.each; were = i.were };
   inputs = λ m file s input itself at fresh es ss i. inputs m file s input at es ss i;

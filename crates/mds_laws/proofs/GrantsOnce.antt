@@ -300,7 +300,7 @@ cases = record {
   quiet = λ m confirmed opens reclaimed recalls es ss i. i;
   tables = λ m move is es ss i. i;
   replies = λ m node reply es ss i. sends m es ss (Replies node reply) i;
-  answers = λ m node bytes es ss i. sends m es ss (Answers node bytes) i;
+  answers = λ m node bytes reply is es ss i. sends m es ss (Answers node bytes) i;
   notes = λ m e note es ss i. record { once = notes m.fresh.uid m.files es e (note_quiet e note) i.once; were = i.were };
   puts = λ m file s t at same write es ss i. record { once = puts m file s t at same es i.once; were = i.were };
   inputs = λ m file s input itself at fresh es ss i. inputs m file s input at es ss i;

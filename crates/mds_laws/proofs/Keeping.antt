@@ -2,7 +2,7 @@
 -- has sent so far is kept by every part of every event where it is in each of these cases.
 use Rattle.std.proofs.Common.{◌≡◌, ℕ, Bool, true, false, List, [], ◌∷◌, ◌++◌, Option, Some, None, refl, sym, ap, subst, ◌∙◌, ◌⊎◌}
 use Rattle.std.proofs.lemmas.List.{append_assoc, append-nil}
-use Rattle.rpc_record.specs.Replies.{RpcReply}
+use Rattle.rpc_record.specs.Replies.{RpcReply, reply_bytes}
 use Rattle.cluster_model.specs.declared.ids.NodeId.{NodeId}
 use Rattle.cluster_model.specs.declared.ids.FileId.{FileId}
 use Rattle.cluster_model.specs.declared.entry.Entry.{Entry}
@@ -153,7 +153,8 @@ pub record Cases (I : MdsValue → List Entry → List MdsSend → Type 0) (Hear
   -- nothing but sessions does, by a call of their table
   pub tables : (m : MdsValue) (move : TableMove) → IsNoRequest move → Becomes I m (moved m move)
   pub replies : (m : MdsValue) (node : NodeId) (reply : RpcReply) (es : List Entry) (ss : List MdsSend) → I m es ss → I m es (ss ++ Replies node reply ∷ [])
-  pub answers : (m : MdsValue) (node : NodeId) (bytes : List ℕ) (es : List Entry) (ss : List MdsSend) → I m es ss → I m es (ss ++ Answers node bytes ∷ [])
+  -- what is answered at once is answered by a reply
+  pub answers : (m : MdsValue) (node : NodeId) (bytes : List ℕ) (reply : RpcReply) → bytes ≡ reply_bytes reply → (es : List Entry) (ss : List MdsSend) → I m es ss → I m es (ss ++ Answers node bytes ∷ [])
   pub notes : (m : MdsValue) (e : Entry) → is_note e ≡ true → Enters I m m (e ∷ [])
   -- a file is put back as it stands, with other things beside it
   pub puts : (m : MdsValue) (file : FileId) (s t : ServedFile) → served m file ≡ Some s → t.file ≡ s.file → IsWriteOf s.file s.write t.write

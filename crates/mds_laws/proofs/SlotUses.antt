@@ -110,7 +110,7 @@ module _ (start : SessionsState) where
     quiet = λ m confirmed opens reclaimed recalls es ss i. i;
     tables = λ m move none es ss i. moves_on m.sessions m.calls ss move none i;
     replies = λ m node reply es ss i. sends m.sessions m.calls ss (Replies node reply) i;
-    answers = λ m node bytes es ss i. sends m.sessions m.calls ss (Answers node bytes) i;
+    answers = λ m node bytes reply is es ss i. sends m.sessions m.calls ss (Answers node bytes) i;
     notes = λ m e is es ss i. i;
     puts = λ m file s t at same write es ss i. i;
     inputs = λ m file s input itself at fresh es ss i. inputs m file s (phase file s.file input m.fresh) es ss i;

@@ -74,7 +74,7 @@ module _ (few : DrawFew) (fit : CallsFit) (mc : Machine) (reached : IsReached mc
     quiet = λ m confirmed opens reclaimed recalls es ss i. i;
     tables = λ m move is es ss i. i;
     replies = λ m node reply es ss i. more m es ss i (Replies node reply) tt (λ b xid inside new old. absurd (none-some xid new)) (λ has. tt);
-    answers = λ m node bytes es ss i. more m es ss i (Answers node bytes) tt (λ b xid inside new old. absurd (none-some xid new)) (λ has. tt);
+    answers = λ m node bytes reply is es ss i. more m es ss i (Answers node bytes) tt (λ b xid inside new old. absurd (none-some xid new)) (λ has. tt);
     notes = λ m e note es ss i. record { machine = i.machine; goes = goes_then mc i.machine i.machine es (e ∷ []) i.goes (goes_quiet i.machine (e ∷ []) (untold e note)); stays = i.stays; is = i.is; kept = i.kept };
     puts = λ m file s t at same write es ss i. record {
       machine = i.machine;

@@ -1,0 +1,2 @@
+pub mod PhaseEntries
+pub mod FormedSends
