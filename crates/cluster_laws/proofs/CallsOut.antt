@@ -75,7 +75,7 @@ not_this net xid server call new (Call (Server n) to number uid gid asked) h = t
 not_this net xid server call new (Call (Client n) to number uid gid asked) h = tt
 not_this net xid server call new (Reply place from to number reply) h = tt
 
-only_call : (net : Net) (xid server uid : ℕ) (call : DsCallValue) → net.last_xid < xid → AllByRecursion (IsPacket net) net.packets → AreThisCall (net.packets ++ Call Mds server xid uid uid call ∷ []) xid server call
+pub only_call : (net : Net) (xid server uid : ℕ) (call : DsCallValue) → net.last_xid < xid → AllByRecursion (IsPacket net) net.packets → AreThisCall (net.packets ++ Call Mds server xid uid uid call ∷ []) xid server call
 only_call net xid server uid call new packets =
     all_append (IsThisCall xid server call) net.packets (Call Mds server xid uid uid call ∷ []) (all_more (IsPacket net) (IsThisCall xid server call) net.packets (not_this net xid server call new) packets) ((λ e. (refl, refl)), tt)
 

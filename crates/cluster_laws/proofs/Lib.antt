@@ -1,57 +1,57 @@
-mod Lists
-mod Names
-mod FewTicks
-mod Facts
-mod Invariant
-mod Journals
-mod Onward
-mod Changed
-mod Served
-mod Restarted
-mod Moved
-mod Lives
-mod Rows
-mod FenceDone
-mod FenceSteps
-mod Seen
-mod FenceAnswers
-mod Makings
-mod MakingSteps
-mod Draws
-mod CopySteps
-mod Copyings
-mod Recopied
-mod Known
-mod Swaps
-mod Targets
-mod PlainSteps
-mod FreeHeld
-mod PhaseOk
-mod CallsOut
-mod Bounded
-mod Tellings
-mod SameTold
-mod LawsTold
-mod KnownNow
-mod Stepped
-mod SentPackets
-mod NewFiles
-mod Moves
-mod RunFacts
-mod PeriodFacts
-mod PeriodStates
-mod PeriodRows
-mod PeriodFences
-mod PeriodMakings
-mod PeriodCopies
-mod PeriodPhases
-mod PeriodMoves
-mod Runs
-mod Putting
-mod Keepings
-mod Turned
-mod Plans
-mod FewMirrors
-mod FewSteps
-mod FewRuns
-mod RangeCalls
+pub mod Lists
+pub mod Names
+pub mod FewTicks
+pub mod Facts
+pub mod Invariant
+pub mod Journals
+pub mod Onward
+pub mod Changed
+pub mod Served
+pub mod Restarted
+pub mod Moved
+pub mod Lives
+pub mod Rows
+pub mod FenceDone
+pub mod FenceSteps
+pub mod Seen
+pub mod FenceAnswers
+pub mod Makings
+pub mod MakingSteps
+pub mod Draws
+pub mod CopySteps
+pub mod Copyings
+pub mod Recopied
+pub mod Known
+pub mod Swaps
+pub mod Targets
+pub mod PlainSteps
+pub mod FreeHeld
+pub mod PhaseOk
+pub mod CallsOut
+pub mod Bounded
+pub mod Tellings
+pub mod SameTold
+pub mod LawsTold
+pub mod KnownNow
+pub mod Stepped
+pub mod SentPackets
+pub mod NewFiles
+pub mod Moves
+pub mod RunFacts
+pub mod PeriodFacts
+pub mod PeriodStates
+pub mod PeriodRows
+pub mod PeriodFences
+pub mod PeriodMakings
+pub mod PeriodCopies
+pub mod PeriodPhases
+pub mod PeriodMoves
+pub mod Runs
+pub mod Putting
+pub mod Keepings
+pub mod Turned
+pub mod Plans
+pub mod FewMirrors
+pub mod FewSteps
+pub mod FewRuns
+pub mod RangeCalls

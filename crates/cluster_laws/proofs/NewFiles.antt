@@ -89,16 +89,16 @@ module _ (m : Machine) (journal : List Entry) (d : Drawn) (h : Holds m journal d
   abbrev n : ℕ
   n = length m.files + 1
 
-  abbrev new_file : MdsFile
+  abbrev pub new_file : MdsFile
   new_file = new_mds_file (fresh_of m) servers
 
-  abbrev then : Machine
+  abbrev pub then : Machine
   then = record { servers = m.servers; files = m.files ++ new_file ∷ []; next_uid = m.next_uid + 1; next_name = m.next_name + 1; last_xid = m.last_xid; packets = m.packets; holdings = m.holdings }
 
   abbrev net : Net
   net = net_of m d
 
-  abbrev drawn : Drawn
+  abbrev pub drawn : Drawn
   drawn = draws d m.next_name n m.next_uid
 
   abbrev after : Net
@@ -159,7 +159,7 @@ module _ (m : Machine) (journal : List Entry) (d : Drawn) (h : Holds m journal d
         | inr last ↦ subst (λ (j : ℕ). IsFile after (journal ++ []) j x) (sym last.0) (subst (λ (g : MdsFile). IsFile after (journal ++ []) n g) last.1 (subst (λ (j : List Entry). IsFile after j n new_file) (sym (append-nil journal)) (its_file apart)))
       ]
 
-  created_holds : are_servers (length m.servers) servers ≡ true → m.next_name + 1 ≤ 18446744073709551616 → Holds then (journal ++ []) drawn
+  pub created_holds : are_servers (length m.servers) servers ≡ true → m.next_name + 1 ≤ 18446744073709551616 → Holds then (journal ++ []) drawn
   created_holds apart few =
       let count = pushed_length m.files new_file in
       record {

@@ -32,7 +32,7 @@ inside old w place c =
     ap (λ (k : ℕ). byte_at (overlay old w.at w.bytes) k) (sym e) ∙ get_or-overlay_inside old w.at w.bytes (place - w.at) (omega (arith, low, high))
 
 -- a place is in the write, or out of it
-in_or_out : (w : Pending) (place : ℕ) → covers w place ⊎ ((place < w.at) ⊎ (w.at + length w.bytes ≤ place))
+pub in_or_out : (w : Pending) (place : ℕ) → covers w place ⊎ ((place < w.at) ⊎ (w.at + length w.bytes ≤ place))
 in_or_out w place =
     elim (cases_lt place w.at) [
       | inl less ↦ inr (inl less)

@@ -24,7 +24,7 @@ ids_all P (m ∷ live) h = (h.0, ids_all P live h.1)
 
 module _ (m : Machine) (journal : List Entry) (d : Drawn) (h : Holds m journal d) where
   -- the journal says so of whom a mirror belongs to
-  owner_told : (id : MirrorId) (uid : ℕ) → OwnedFrom m.servers id uid → uid ≤ (content_of journal id).owner
+  pub owner_told : (id : MirrorId) (uid : ℕ) → OwnedFrom m.servers id uid → uid ≤ (content_of journal id).owner
   owner_told id uid o =
       let s : ServerState = o.server in
       let on = h.servers id.server s o.there in

@@ -35,11 +35,11 @@ new_at k (boot ∷ boots) (suc i) s e =
     (rest.0, rest.1 ∙ ap (λ (n : ℕ). new_server n rest.0) same)
 
 -- nothing was drawn
-abbrev none_drawn : Drawn
+abbrev pub none_drawn : Drawn
 none_drawn = record { home = λ k. 0; low = λ k. 0; top = λ g. 0 }
 
 module _ (new : (number boot : ℕ) → IsInOrder (new_server number boot) × IsTold (new_server number boot) []) (boots : List ℕ) where
-  abbrev start : Machine
+  abbrev pub start : Machine
   start = new_machine (new_servers 1 boots)
 
   begun_server : (n boot : ℕ) → IsServer (net_of start none_drawn) [] n (new_server n boot)
@@ -60,7 +60,7 @@ module _ (new : (number boot : ℕ) → IsInOrder (new_server number boot) × Is
       let number : 1 + (n - 1) ≡ n = omega (arith, ne) in
       subst (λ (x : ServerState). IsServer (net_of start none_drawn) [] n x) (sym (is.1 ∙ ap (λ (k : ℕ). new_server k is.0) number)) (begun_server n is.0)
 
-  start_holds : Holds start [] none_drawn
+  pub start_holds : Holds start [] none_drawn
   start_holds = record {
     servers = begun_at;
     packets = tt;
@@ -101,7 +101,7 @@ module _ (new : (number boot : ℕ) → IsInOrder (new_server number boot) × Is
 
     -- ---- the periods of a run
 
-    start_periods : ArePeriods (λ uid. 0) start []
+    pub start_periods : ArePeriods (λ uid. 0) start []
     start_periods = record { files = λ n f is. absurd (no_file n f (place_of start.files n f is).1); past = λ n past. (refl, refl); below = tt; place = tt; tells = tt }
       where
         no_file : (n : ℕ) (f : MdsFile) → slice_get start.files (n - 1) ≡ Some f → ⊥

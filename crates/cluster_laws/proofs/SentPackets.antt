@@ -29,10 +29,10 @@ module _ (m : Machine) (journal : List Entry) (d : Drawn) (h : Holds m journal d
   -- ---- packets
 
   module _ (packets : List PacketValue) (last_xid : NodeId → ℕ) where
-    abbrev then : Machine
+    abbrev pub then : Machine
     then = record { servers = m.servers; files = m.files; next_uid = m.next_uid; next_name = m.next_name; last_xid = last_xid; packets = packets; holdings = m.holdings }
 
-    sent_holds : Later net (net_of then d) → AllByRecursion (IsPacket (net_of then d)) packets → Holds then (journal ++ []) d
+    pub sent_holds : Later net (net_of then d) → AllByRecursion (IsPacket (net_of then d)) packets → Holds then (journal ++ []) d
     sent_holds l all = record {
       servers = server_stays m journal d h m.files m.next_uid m.next_name last_xid packets m.holdings d h.few_names l [] tt;
       packets = all;
@@ -46,7 +46,7 @@ module _ (m : Machine) (journal : List Entry) (d : Drawn) (h : Holds m journal d
 
   -- one more packet, which is not the metadata server's first under its number
   module _ (last_xid : NodeId → ℕ) (same : last_xid Mds ≡ m.last_xid Mds) (p : PacketValue) (calls : (xid server : ℕ) (call : DsCallValue) → AllByRecursion (IsThisCall xid server call) m.packets → IsThisCall xid server call p) where
-    later_with : Later net (net_of (then (m.packets ++ p ∷ []) last_xid) d)
+    pub later_with : Later net (net_of (then (m.packets ++ p ∷ []) last_xid) d)
     later_with = record {
       servers = all_stand m journal d h;
       sent = λ place x is. push_old m.packets (p ∷ []) place x is;
@@ -58,7 +58,7 @@ module _ (m : Machine) (journal : List Entry) (d : Drawn) (h : Holds m journal d
       tops = λ g. omega arith;
     }
 
-    with_packet : IsPacket (net_of (then (m.packets ++ p ∷ []) last_xid) d) p → Holds (then (m.packets ++ p ∷ []) last_xid) (journal ++ []) d
+    pub with_packet : IsPacket (net_of (then (m.packets ++ p ∷ []) last_xid) d) p → Holds (then (m.packets ++ p ∷ []) last_xid) (journal ++ []) d
     with_packet is =
         sent_holds (m.packets ++ p ∷ []) last_xid later_with
         (all_append (IsPacket (net_of (then (m.packets ++ p ∷ []) last_xid) d)) m.packets (p ∷ [])
@@ -73,7 +73,7 @@ module _ (m : Machine) (journal : List Entry) (d : Drawn) (h : Holds m journal d
       (d, with_packet m.last_xid refl p calls (packet_on net (net_of (then (m.packets ++ p ∷ []) m.last_xid) d) (later_with m.last_xid refl p calls) p (all_at (IsPacket net) m.packets place p h.packets there)))
 
   -- a node writes, commits or reads
-  free_call : (n : ℕ) (call : DsCallValue) → may_use call ≡ true → IsCallOf d m.servers m.next_name n call
+  pub free_call : (n : ℕ) (call : DsCallValue) → may_use call ≡ true → IsCallOf d m.servers m.next_name n call
   free_call n (Create name owner) may = absurd cc
   free_call n (SetAttr fileid owner guard) may = absurd cc
   free_call n (Write fileid at synced bytes) may = tt
@@ -106,7 +106,7 @@ module _ (m : Machine) (journal : List Entry) (d : Drawn) (h : Holds m journal d
     pub freed : freed_in e ≡ None
     pub right : IsRight journal e
 
-  noted_holds : (e : Entry) → IsQuiet e → Holds m (journal ++ e ∷ []) d
+  pub noted_holds : (e : Entry) → IsQuiet e → Holds m (journal ++ e ∷ []) d
   noted_holds e q =
       let later = later_same net (all_stand m journal d h) in
       record {

@@ -141,16 +141,16 @@ module _ (calls : (s : ServerState) (caller : Caller) (call : DsCallValue) → I
       abbrev net : Net
       net = net_of m d
 
-      abbrev step : DsStep
+      abbrev pub step : DsStep
       step = ds_step s (caller_by uid gid) call
 
       laws : CallLaws s (caller_by uid gid) call step.server step.reply step.entries
       laws = calls s (caller_by uid gid) call (h.servers n s there).in_order
 
-      abbrev answer : PacketValue
+      abbrev pub answer : PacketValue
       answer = Reply sent.place n from xid step.reply
 
-      abbrev after : Machine
+      abbrev pub after : Machine
       after = with_server m n step.server (m.packets ++ answer ∷ [])
 
       -- the call is such as is ever made
@@ -164,13 +164,13 @@ module _ (calls : (s : ServerState) (caller : Caller) (call : DsCallValue) → I
       may_come (Commit fileid) k = tt
       may_come (Read fileid at count) k = tt
 
-      follows : Follows s step.server
+      pub follows : Follows s step.server
       follows = laws.follows (may_come call is_call)
 
       here : numbered_at after.servers n ≡ Some step.server
       here = put_same m.servers n s step.server there
 
-      later : Later net (net_of after d)
+      pub later : Later net (net_of after d)
       later = goes_on m journal d h n s there step.server follows (m.packets ++ answer ∷ []) (λ place p is. push_old m.packets (answer ∷ []) place p is) (λ x server c all. all_append _ m.packets (answer ∷ []) all (tt, tt))
 
       -- ---- the packets

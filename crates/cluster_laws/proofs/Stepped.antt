@@ -37,15 +37,15 @@ module _ (m : Machine) (journal : List Entry) (d : Drawn) (h : Holds m journal d
 
   module _ (n : ℕ) (f : MdsFile) (there : numbered_at m.files n ≡ Some f) (g : MdsFile) (entries : List Entry) (held : List Holding) where
     -- the machine then, by the next uid and the next name
-    abbrev then : ℕ → ℕ → Machine
+    abbrev pub then : ℕ → ℕ → Machine
     then uid name = record { servers = m.servers; files = set m.files (n - 1) g; next_uid = uid; next_name = name; last_xid = m.last_xid; packets = m.packets; holdings = held }
 
-    plain_holds : RowOk net journal n m.next_uid g entries → Holds (then m.next_uid m.next_name) (journal ++ entries) d
+    pub plain_holds : RowOk net journal n m.next_uid g entries → Holds (then m.next_uid m.next_name) (journal ++ entries) d
     plain_holds row =
         moved_holds m journal d h (set m.files (n - 1) g) m.next_uid m.next_name m.last_xid m.packets held d h.few_names (later_same net (all_stand m journal d h)) entries (note_copies n m.next_uid entries row.notes)
         n f g there refl row.notes row.right row.file h.packets (λ k other. refl) h.tops h.lows (omega arith)
 
-    drawn_holds : (names : ℕ) → m.next_name + names ≤ 18446744073709551616 → RowOk (drawn_net net n m.next_uid names) journal n (m.next_uid + 1) g entries
+    pub drawn_holds : (names : ℕ) → m.next_name + names ≤ 18446744073709551616 → RowOk (drawn_net net n m.next_uid names) journal n (m.next_uid + 1) g entries
         → Holds (then (m.next_uid + 1) (m.next_name + names)) (journal ++ entries) (draws d m.next_name n m.next_uid)
     drawn_holds names few row =
         let later : Later net (drawn_net net n m.next_uid names) = later_drawn net n m.next_uid names (all_stand m journal d h) h.tops in
@@ -61,10 +61,10 @@ module _ (m : Machine) (journal : List Entry) (d : Drawn) (h : Holds m journal d
       let less : m.next_name + names < 18446744073709551616 = ltb-true (m.next_name + names) 18446744073709551616 (and_parts (ltb (m.next_uid + uids) (end_of_uids + 1)) (ltb (m.next_name + names) 18446744073709551616) is).1 in
       omega (arith, less)
 
-  none_more : (a b : ℕ) → b ≡ 0 → a ≡ a + b
+  pub none_more : (a b : ℕ) → b ≡ 0 → a ≡ a + b
   none_more a b e = omega (arith, e)
 
-  one_more : (a b : ℕ) → b ≡ 1 → a + 1 ≡ a + b
+  pub one_more : (a b : ℕ) → b ≡ 1 → a + 1 ≡ a + b
   one_more a b e = omega (arith, e)
 
   step_taken : (n : ℕ) (f : MdsFile) → numbered_at m.files n ≡ Some f → (s : FileStep) (held : List Holding) → StepOk net journal n m.next_uid s → m.next_name + s.names ≤ 18446744073709551616

@@ -1,0 +1,4 @@
+pub mod Marks
+pub mod Views
+pub mod Sound
+pub mod SoundRuns
