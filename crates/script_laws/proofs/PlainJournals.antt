@@ -1,0 +1,46 @@
+-- A journal of packets, deliveries and what data servers enter tells of no period and no fence, and so obeys all laws of them.
+use Rattle.std.proofs.Common.{◌≡◌, ℕ, Bool, true, false, List, [], ◌∷◌, ◌++◌, subst}
+use Rattle.std.specs.List.{AllByRecursion}
+use Rattle.cluster_model.specs.declared.ids.FileId.{FileId}
+use Rattle.cluster_model.specs.declared.ids.Cred.{Cred}
+use Rattle.cluster_model.specs.declared.ids.MirrorId.{MirrorId}
+use Rattle.cluster_model.specs.declared.entry.Entry.{Entry}
+use Rattle.cluster_model.specs.declared.entry.Entry.TheVariants as entry
+use Rattle.cluster_laws.specs.FenceLaw.{ObeysFences}
+use Rattle.cluster_laws.specs.Periods.{IsInPlace, ArePeriodsFenced, DoOwnersStay}
+use Rattle.script_laws.specs.ScriptLaws.{ObeysLaws}
+
+abbrev pub is_plain : Entry → Bool
+is_plain (entry.Granted file cred holder) = false
+is_plain (entry.Ended file cred cause) = false
+is_plain (entry.Fenced file old new live) = false
+is_plain (entry.Free file live) = false
+is_plain e = true
+
+abbrev pub ArePlain : List Entry → Type 0
+ArePlain journal = AllByRecursion (λ e. is_plain e ≡ true) journal
+
+pub plain_both : (a b : List Entry) → ArePlain a → ArePlain b → ArePlain (a ++ b)
+plain_both [] b first second = second
+plain_both (e ∷ a) b first second = (first.0, plain_both a b first.1 second)
+
+plain_there : (before : List Entry) (e : Entry) (behind : List Entry) → ArePlain (before ++ e ∷ behind) → is_plain e ≡ true
+plain_there [] e behind all = all.0
+plain_there (x ∷ before) e behind all = plain_there before e behind all.1
+
+plain_in_place : (before : List Entry) (e : Entry) → is_plain e ≡ true → IsInPlace before e
+plain_in_place before (entry.Granted file cred holder) is = absurd cc
+plain_in_place before (entry.Ended file cred cause) is = absurd cc
+plain_in_place before (entry.Fenced file old new live) is = absurd cc
+plain_in_place before (entry.Free file live) is = absurd cc
+plain_in_place before e is = tt
+
+no_fence : (journal before behind : List Entry) (f : FileId) (old new : Cred) (live : List MirrorId) → ArePlain journal → journal ≡ before ++ entry.Fenced f old new live ∷ behind → false ≡ true
+no_fence journal before behind f old new live all is = plain_there before (entry.Fenced f old new live) behind (subst ArePlain is all)
+
+pub plain_obeys : (journal : List Entry) → ArePlain journal → ObeysLaws journal
+plain_obeys journal all = record {
+  fences = λ before behind f old new live is. let wrong = no_fence journal before behind f old new live all is in absurd cc;
+  periods = λ before behind e is. plain_in_place before e (plain_there before e behind (subst ArePlain is all));
+  owners = λ before behind f old new live is. let wrong = no_fence journal before behind f old new live all is in absurd cc;
+}

@@ -1,0 +1,73 @@
+-- What holds of every script: of its journal, and of the data servers that it ends with (RFC 8435, section 2.2).
+use Rattle.std.specs.Prelude.{◌≡◌, ℕ, zero, suc, ◌+◌, Bool, false, List, [], ◌∷◌, Option, Some, None}
+use Rattle.cluster_model.specs.declared.entry.Entry.{Entry}
+use Rattle.cluster_model.specs.Event.{EventValue, DeliverPacket, Flow}
+use Rattle.cluster_laws.specs.FenceLaw.{ObeysFences}
+use Rattle.cluster_laws.specs.Periods.{ArePeriodsFenced, DoOwnersStay}
+use Rattle.world_journal.specs.Journal.{max_entries}
+use Rattle.packet_table.specs.Packets.{next_waiting}
+use Rattle.cluster_world.specs.ClusterWorlds.{ClusterState, packets, new_cluster, cluster_step}
+use Rattle.ff_replay.specs.declared.setup.Setup.{Setup}
+use Rattle.ff_replay.specs.declared.setup.Setup.TheVariants.{Bare, Cluster}
+use Rattle.ff_replay.specs.Script.{Script, script_of, run_from}
+use Rattle.world_moves.specs.WorldMoves.{TellsTruth}
+
+-- what the lines of a script enter: up to the first that is outside the grammar, or the event that would pass a limit
+abbrev pub script_journal : List (List ℕ) → List Entry
+script_journal lines = (run_from false None 1 lines).entries
+
+-- ---- the world that a script of a cluster ends with
+
+abbrev pub end_by_step : ClusterState → Option ClusterState → (ClusterState → ClusterState) → ClusterState
+end_by_step w None rest = w
+end_by_step w (Some next) rest = rest next
+
+-- behind a flow: the first packet that waits has come, and so on until none waits
+abbrev pub end_by_flow : (ClusterState → ClusterState) → (ClusterState → ClusterState) → ClusterState → Option ℕ → ClusterState
+end_by_flow more rest w None = rest w
+end_by_flow more rest w (Some number) = end_by_step w (cluster_step w (DeliverPacket number)) more
+
+abbrev pub end_of_flow : ℕ → (ClusterState → ClusterState) → ClusterState → ClusterState
+end_of_flow zero rest w = rest w
+end_of_flow (suc n) rest w = end_by_flow (end_of_flow n rest) rest w (next_waiting (packets w))
+
+abbrev pub end_by_event : ClusterState → EventValue → (ClusterState → ClusterState) → ClusterState
+end_by_event w Flow rest = end_of_flow (max_entries + 1) rest w
+end_by_event w event rest = end_by_step w (cluster_step w event) rest
+
+-- each event happens in the world that the events before it left, up to the first that would pass a limit
+abbrev pub cluster_end : ClusterState → List EventValue → ClusterState
+cluster_end w [] = w
+cluster_end w (event ∷ events) = end_by_event w event (λ next. cluster_end next events)
+
+abbrev pub end_in : Option Setup → List EventValue → Option ClusterState
+end_in None events = None
+end_in (Some Bare) events = None
+end_in (Some (Cluster sizes)) events = Some (cluster_end (new_cluster sizes.servers sizes.mirrors sizes.clients) events)
+
+abbrev pub end_of_script : Script → Option ClusterState
+end_of_script s = end_in s.setup s.events
+
+-- the cluster that is left by the lines of a script; a script of one data server has none
+abbrev pub script_end : List (List ℕ) → Option ClusterState
+script_end lines = end_of_script (script_of 1 None lines)
+
+-- ---- the laws
+
+-- After a fence no write under the fenced uid changes a live mirror; each period is fenced before the next; owners stay.
+pub record ObeysLaws (journal : List Entry) : Type 0 where
+  pub fences : ObeysFences journal
+  pub periods : ArePeriodsFenced journal
+  pub owners : DoOwnersStay journal
+
+-- the cluster has this journal, and what the journal says of each mirror's bytes, pending writes and owner is so at its data server
+pub record EndsTrue (journal : List Entry) (w : ClusterState) : Type 0 where
+  pub journal_is : w.journal ≡ journal
+  pub truth : TellsTruth w
+
+pub record ScriptObeys (lines : List (List ℕ)) : Type 0 where
+  pub laws : ObeysLaws (script_journal lines)
+  pub ends : (w : ClusterState) → script_end lines ≡ Some w → EndsTrue (script_journal lines) w
+
+abbrev pub EveryScriptObeys : Type 0
+EveryScriptObeys = (lines : List (List ℕ)) → ScriptObeys lines

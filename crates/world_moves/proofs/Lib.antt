@@ -1,0 +1,12 @@
+pub mod RunLaws
+pub mod ServerMoves
+pub mod MdsLike
+pub mod PacketNotes
+pub mod UserEntries
+pub mod PlainReplies
+pub mod ReplyRecords
+pub mod Acting
+pub mod ServerActs
+pub mod Starts
+pub mod Events
+pub mod OfRuns
