@@ -8,6 +8,7 @@ ghost use Rattle.command_words.specs.Commands.{IsInGrammar, command_value};
 ghost use Rattle.ff_node.specs.Serve.{beside};
 ghost use Rattle.ff_run.specs.declared.program.ProgramEnd.{ProgramEnd};
 ghost use Rattle.ff_run.specs.Node.{IsShortName, observed, task_command};
+ghost use Rattle.script_laws.specs.ScriptLaws.{EveryScriptObeys};
 ghost use Rattle.ff_run.specs.Run.{Performs, PerformsCommand, Reports, disk_faults_after, end_of_writing, failure_note, link_faults_after, note_of, sink_faults_after, source_faults_after, status_of, with_number};
 
 use crate::serving::{Task, serve};
@@ -22,6 +23,7 @@ use node_link::{Clock, Link};
 use record_show::show;
 use rpc_record::{Failed, Sink, Source};
 use script_gen::generate;
+use script_laws::script_laws;
 use std::alloc::Global;
 use store_disk::Disk;
 
@@ -237,14 +239,17 @@ pub fn run<S: Source, K: Sink, E: Sink, D: Disk, L: Link, C: Clock>(
     link: &mut L,
     clock: &mut C,
 ) -> u8
-    ensures { (end : ProgramEnd)
+    ensures does { (end : ProgramEnd)
         × Performs (map string_bytes words.now) end (observed (S.left source.old) (D.told disk.old) (L.opened link.old) (beside (L.coming link.old) (L.sent link.old) (C.coming clock.old) (C.moment clock.old) (K.held sink.old))) (observed (S.left source.new) (D.told disk.new) (L.opened link.new) (beside (L.coming link.new) (L.sent link.new) (C.coming clock.new) (C.moment clock.new) (K.held sink.new)))
         × (S.faults source.new ≡ source_faults_after end (S.faults source.old))
         × (K.faults sink.new ≡ sink_faults_after end (K.faults sink.old))
         × (D.faults disk.new ≡ disk_faults_after end (D.faults disk.old))
         × (L.faults link.new ≡ link_faults_after end (L.faults link.old))
         × Reports end result (E.held notes.old) (E.held notes.new) (E.faults notes.old) (E.faults notes.new) }
+    ensures laws { EveryScriptObeys }
 {
+    // (what the journals of scripts obey has no code: this brings its proof)
+    script_laws();
     let end = do_words(alloc, words, source, sink, disk, link, clock);
     match end.tell(alloc, notes) {
         Ok(()) => end.status(),
