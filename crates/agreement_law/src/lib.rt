@@ -1,0 +1,6 @@
+//! All copies agree.
+#![tactic(auto)]
+
+mod laws;
+
+pub use laws::agreement_law;
