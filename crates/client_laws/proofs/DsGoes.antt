@@ -34,7 +34,7 @@ use Rattle.client_laws.proofs.QueueGoes.{answer_goes, ending_keeps, ended_stands
 use Rattle.client_laws.proofs.Tells.{tells_covered_go}
 use Rattle.client_laws.proofs.Stands.{Stands, LayoutStands, IfThere, reported_of, IdleAnswer, AskOut, AskFits, GetsLayout}
 
-or_false : (b : Bool) → (b || false) ≡ true → b ≡ true
+pub or_false : (b : Bool) → (b || false) ≡ true → b ≡ true
 or_false true is = refl
 or_false false is = absurd cc
 
@@ -76,7 +76,7 @@ module _ (past : List HistoryItem) (c : ClientValue) (l : Layout) (at : c.layout
       (λ stage. (let k : SameReturn (with_writer l after.writer) new = keeps stage in record { stateid = k.stateid; mirrors = k.mirrors; cred = k.cred ∙ a.moves.cred; taken = k.taken ∙ a.moves.taken; stage = k.stage }))
 
   -- no mirror failed
-  none_failed : (came : WriterStep) → after.step ≡ came → ((server : ℕ) → also (is_reported (reported_of l)) came server ≡ true → is_reported (reported_of l) server ≡ true) → Stands past (has_writer c l after)
+  pub none_failed : (came : WriterStep) → after.step ≡ came → ((server : ℕ) → also (is_reported (reported_of l)) came server ≡ true → is_reported (reported_of l) server ≡ true) → Stands past (has_writer c l after)
   none_failed came is narrow =
       with_layout_stands past c (Some (with_writer l after.writer)) s (keeps_writer (with_writer l after.writer) (λ stage. record { stateid = refl; mirrors = refl; cred = refl; taken = refl; stage = stage }))
       (layout_wider past c.name (also (is_reported (reported_of l)) after.step) (is_reported (reported_of l)) (with_writer l after.writer) (λ server so. narrow server (subst (λ (k : WriterStep). also (is_reported (reported_of l)) k server ≡ true) is so)) mid)

@@ -19,7 +19,7 @@ use Rattle.mds_parts.specs.MdsResults.{one_in, in_arm, done_as, sequence_ok}
 use Rattle.mds_session_calls.specs.SessionResults.{exchange_id_results, create_session_results, reclaim_complete_results, renew_results}
 use Rattle.mds_file_calls.specs.declared.grant.LayoutGrant.{LayoutGrant}
 use Rattle.mds_file_calls.specs.declared.grant.GrantedMirror.{GrantedMirror}
-use Rattle.mds_file_calls.specs.LayoutGrants.{granted_mirror_of, mirrors_under, granted_to, grant_by, layout_grant_of}
+use Rattle.mds_file_calls.specs.LayoutGrants.{granted_mirror_of, under_one, joined_mirror, mirrors_under, granted_to, grant_by, layout_grant_of}
 use Rattle.mds_file_calls.specs.FileResults.{put_fh_ok, stateid_of, one_layout, layout_get_ok, layout_get_results, open_results, device_info_results, write_results, read_results, layout_return_results}
 use Rattle.mds_calls.specs.declared.ask.MdsAsk.{MdsAsk}
 use Rattle.mds_calls.specs.declared.ask.MdsAsk.TheVariants as ask
@@ -41,23 +41,33 @@ arm_has P n form some none each other v = other
 
 -- ---- the mirrors
 
+-- one or more
+abbrev pub IsSome : List Mirror → Type 0
+IsSome [] = ⊥
+IsSome (m ∷ mirrors) = Unit {0}
+
 abbrev HasMirrors : Option LayoutGrant → Type 0
-HasMirrors o = IfThere o (λ g. are_mirrors g.mirrors ≡ true)
+HasMirrors o = IfThere o (λ g. (are_mirrors g.mirrors ≡ true) × IsSome g.mirrors)
 
 by_if : (b : Bool) (x y : Option LayoutGrant) → (b ≡ true → HasMirrors x) → HasMirrors y → HasMirrors (if b then x else y)
 by_if true x y first second = first refl
 by_if false x y first second = second
 
-to_has : (stateid : Stateid) (uid : ℕ) (mirrors : Option (List Mirror)) → HasMirrors (granted_to stateid uid mirrors)
-to_has stateid uid None = tt
-to_has stateid uid (Some mirrors) = by_if (are_mirrors mirrors) (Some (record { stateid = stateid; uid = record { 0 = uid }; mirrors = mirrors })) None (λ are. are) tt
+to_has : (stateid : Stateid) (uid : ℕ) (mirrors : Option (List Mirror)) → IfThere mirrors IsSome → HasMirrors (granted_to stateid uid mirrors)
+to_has stateid uid None some = tt
+to_has stateid uid (Some mirrors) some = by_if (are_mirrors mirrors) (Some (record { stateid = stateid; uid = record { 0 = uid }; mirrors = mirrors })) None (λ are. (are, some)) tt
 
-by_has : (stateid : Stateid) (mirrors : List (Value ff_mirror4)) (first : Option GrantedMirror) → HasMirrors (grant_by stateid mirrors first)
-by_has stateid mirrors None = tt
-by_has stateid mirrors (Some first) = to_has stateid first.uid (mirrors_under first.uid mirrors)
+joined_some : (m : Option Mirror) (mirrors : Option (List Mirror)) → IfThere (joined_mirror m mirrors) IsSome
+joined_some None mirrors = tt
+joined_some (Some m) None = tt
+joined_some (Some m) (Some mirrors) = tt
+
+by_has : (stateid : Stateid) (m : Value ff_mirror4) (rest : List (Value ff_mirror4)) (first : Option GrantedMirror) → HasMirrors (grant_by stateid (m ∷ rest) first)
+by_has stateid m rest None = tt
+by_has stateid m rest (Some first) = to_has stateid first.uid (mirrors_under first.uid (m ∷ rest)) (joined_some (under_one first.uid (granted_mirror_of m)) (mirrors_under first.uid rest))
 
 grant_has : (stateid : Stateid) (r : Result (Value ff_layout4) XdrError) → HasMirrors (layout_grant_of stateid r)
-grant_has stateid (Ok (stripe, (first ∷ rest, hints))) = by_has stateid (first ∷ rest) (granted_mirror_of first)
+grant_has stateid (Ok (stripe, (first ∷ rest, hints))) = by_has stateid first rest (granted_mirror_of first)
 grant_has stateid (Ok (stripe, ([], hints))) = tt
 grant_has stateid (Err e) = tt
 
@@ -85,7 +95,7 @@ results_have (s ∷ (p ∷ (l ∷ (k ∷ rest)))) = tt
 
 -- a layout is granted by a LAYOUTGET alone, and returned by a LAYOUTRETURN; a client is made by an EXCHANGE_ID
 abbrev Fits : MdsAsk → MdsAnswerValue → Type 0
-Fits kind (Granted g) = (kind ≡ ask.LayoutGet) × (are_mirrors g.mirrors ≡ true)
+Fits kind (Granted g) = (kind ≡ ask.LayoutGet) × (are_mirrors g.mirrors ≡ true) × IsSome g.mirrors
 Fits kind Returned = kind ≡ ask.LayoutReturn
 Fits kind (Client clientid sequence) = kind ≡ ask.ExchangeId
 Fits kind answer = Unit {0}
@@ -100,7 +110,7 @@ if_fits kind answer fits false = tt
 
 granted_fits : (o : Option LayoutGrant) → HasMirrors o → Fits ask.LayoutGet (answer_where Granted o)
 granted_fits None has = tt
-granted_fits (Some g) has = (refl, has)
+granted_fits (Some g) has = (refl, has.0, has.1)
 
 results_fit : (kind : MdsAsk) (results : List (Value resop4)) → Fits kind (results_of_ask kind results)
 results_fit ask.ExchangeId results = where_fits ask.ExchangeId _ (λ c. refl) (exchange_id_results results)
@@ -144,6 +154,16 @@ granted_kind kind reply g is = (subst (Fits kind) is (reply_fits kind reply)).0
 
 pub granted_few : (kind : MdsAsk) (reply : RpcReply) (g : LayoutGrant) → (reply_of_ask kind reply).answer ≡ Granted g → length g.mirrors ≤ 4
 granted_few kind reply g is = few_mirrors g.mirrors (subst (Fits kind) is (reply_fits kind reply)).1
+
+pub granted_apart : (kind : MdsAsk) (reply : RpcReply) (g : LayoutGrant) → (reply_of_ask kind reply).answer ≡ Granted g → are_on_different_servers g.mirrors ≡ true
+granted_apart kind reply g is = second (nat_le (length g.mirrors) 4) (are_on_different_servers g.mirrors) (subst (Fits kind) is (reply_fits kind reply)).1
+  where
+    second : (a b : Bool) → a && b ≡ true → b ≡ true
+    second true b is = is
+    second false b is = absurd cc
+
+pub granted_some : (kind : MdsAsk) (reply : RpcReply) (g : LayoutGrant) → (reply_of_ask kind reply).answer ≡ Granted g → IsSome g.mirrors
+granted_some kind reply g is = (subst (Fits kind) is (reply_fits kind reply)).2
 
 pub returned_kind : (kind : MdsAsk) (reply : RpcReply) → (reply_of_ask kind reply).answer ≡ Returned → kind ≡ ask.LayoutReturn
 returned_kind kind reply is = subst (Fits kind) is (reply_fits kind reply)

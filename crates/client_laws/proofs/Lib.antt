@@ -1,32 +1,32 @@
-mod CallbackGoes
-mod CallbackSteady
-mod CallsOut
-mod CompoundOut
-mod Counting
-mod DsGoes
-mod Events
-mod Goes
-mod GrantFacts
-mod Held
-mod LayoutMoves
-mod LayoutSteps
-mod Later
-mod MdsGoes
-mod MirrorMoves
-mod NextSent
-mod Orders
-mod Places
-mod QueueGoes
-mod RecallGoes
-mod RecalledGo
-mod Replied
-mod Runs
-mod Silent
-mod SlotKept
-mod SlotSteps
-mod Splits
-mod Stands
-mod Steady
-mod Tells
-mod TieKept
-mod WriterMoves
+pub mod CallbackGoes
+pub mod CallbackSteady
+pub mod CallsOut
+pub mod CompoundOut
+pub mod Counting
+pub mod DsGoes
+pub mod Events
+pub mod Goes
+pub mod GrantFacts
+pub mod Held
+pub mod LayoutMoves
+pub mod LayoutSteps
+pub mod Later
+pub mod MdsGoes
+pub mod MirrorMoves
+pub mod NextSent
+pub mod Orders
+pub mod Places
+pub mod QueueGoes
+pub mod RecallGoes
+pub mod RecalledGo
+pub mod Replied
+pub mod Runs
+pub mod Silent
+pub mod SlotKept
+pub mod SlotSteps
+pub mod Splits
+pub mod Stands
+pub mod Steady
+pub mod Tells
+pub mod TieKept
+pub mod WriterMoves

@@ -9,6 +9,7 @@ use Rattle.std.specs.Prelude.{slice_get, Ok, ◌==◌, ◌&&◌, if◌then◌els
 use Rattle.std.proofs.lemmas.Option.{none-some, same_Some}
 use Rattle.rpc_record.specs.Replies.{RpcReply, reply_at}
 use Rattle.cluster_model.specs.declared.ids.NodeId.TheVariants.{Mds}
+use Rattle.mirror_writer.specs.declared.call.TakenWrite.{TakenWrite}
 use Rattle.mds_file_calls.specs.declared.open.OpenFile.{OpenFile}
 use Rattle.mds_file_calls.specs.declared.grant.LayoutGrant.{LayoutGrant}
 use Rattle.mds_calls.specs.declared.ask.MdsAsk.{MdsAsk}
@@ -28,7 +29,7 @@ use Rattle.client_state.specs.ClientQueue.{revoked_layout}
 use Rattle.client_state.specs.ClientSends.{CallsMds, RepliesToMds}
 use Rattle.client_answers.specs.ClientAnswers.{next_on_slot, without_head, new_layout, learns_devices, layout_returned, head_refused, has_session, deferred, defers, after_refusal, refused_otherwise, is_for_later, asks_later, session_lost, refused_by_mds, by_answer, delayed, mds_answered}
 use Rattle.client_laws.specs.ClientHistory.{HistoryItem, Hears, Sends, Recorded, HasItem, InOrder, entered, Enters}
-use Rattle.client_laws.specs.ClientRunLaws.{IsReplied, WasCovered, is_reported}
+use Rattle.client_laws.specs.ClientRunLaws.{IsReplied, WasCovered, CoveredByReturn, is_reported}
 use Rattle.client_laws.proofs.Orders.{in_next, in_either, in_end}
 use Rattle.client_laws.proofs.Later.{numbers_later, layout_later, there_later, covered_next, all_replied_later, stands_later, under_later, every_append, not_replied}
 use Rattle.client_laws.proofs.GrantFacts.{granted_kind, granted_few, returned_kind}
@@ -164,6 +165,11 @@ refused_goes past kind status c out none s = by_tests (status == 10052) (is_for_
 
 -- ---- an answer
 
+-- a LAYOUTRETURN, which was this call, is accepted; and what it says of a write
+pub record ReturnAccepted (past : List HistoryItem) (call : MdsCallValue) (grant : LayoutGrant) (at : ℕ) (data_of : List ℕ) : Type 0 where
+  pub by_return : CoveredByReturn past grant at data_of
+  pub call_is : call ≡ OnSlot by_return.session by_return.sequence (slot.LayoutReturn by_return.file grant.stateid by_return.failed)
+
 module _ (h : List HistoryItem) (c : ClientValue) (s : Stands h c) (a : Asked) (at : c.asked ≡ Some a) (bytes : List ℕ) (now : ℕ) (reply : RpcReply) (reply_is : reply_at bytes ≡ Ok reply) (number : a.xid ≡ reply.xid) where
   abbrev item : HistoryItem
   item = Hears (Recorded Mds bytes now)
@@ -171,7 +177,7 @@ module _ (h : List HistoryItem) (c : ClientValue) (s : Stands h c) (a : Asked) (
   abbrev past : List HistoryItem
   past = h ++ Hears (Recorded Mds bytes now) ∷ []
 
-  its_ask : AskOut h c.name c.layout a
+  pub its_ask : AskOut h c.name c.layout a
   its_ask = subst (λ (o : Option Asked). IfThere o (AskOut h c.name c.layout)) at s.asked_out
 
   no_again : c.again ≡ None
@@ -197,7 +203,7 @@ module _ (h : List HistoryItem) (c : ClientValue) (s : Stands h c) (a : Asked) (
   free_now : FreeOf (h ++ Hears (Recorded Mds bytes now) ∷ []) c.next_xid
   free_now = record { numbers = numbers_later h (item ∷ []) c.next_xid (tt, tt) s.numbers; replied = all_replied; under = under_later h (item ∷ []) (tt, tt) s.taken_under }
 
-  layout_now : IfThere c.layout (λ l. LayoutStands (h ++ Hears (Recorded Mds bytes now) ∷ []) c.name (is_reported (reported_of l)) l)
+  pub layout_now : IfThere c.layout (λ l. LayoutStands (h ++ Hears (Recorded Mds bytes now) ∷ []) c.name (is_reported (reported_of l)) l)
   layout_now = there_later c.layout (λ l. LayoutStands h c.name (is_reported (reported_of l)) l) (λ l. LayoutStands (h ++ item ∷ []) c.name (is_reported (reported_of l)) l) (λ l. layout_later h (item ∷ []) c.name (is_reported (reported_of l)) l (tt, tt) (tt, tt)) s.layout_stands
 
   -- nothing is out now
@@ -236,20 +242,16 @@ module _ (h : List HistoryItem) (c : ClientValue) (s : Stands h c) (a : Asked) (
       (let b : StandsBefore gets.since r.items (Sends (RepliesToMds r.reply)) = split_before gets.since (item ∷ []) r.items r.behind (Sends (RepliesToMds r.reply)) r.split (not_replied (item ∷ []) r.reply (tt, tt)) in
       gets.unrecalled r.items b.behind r.reply g.stateid.other b.split (subst (λ (k : MdsCallValue). WasRecalled (gets.before ++ Sends (CallsMds a.xid c.name k) ∷ r.items) r.reply g.stateid.other) (sym gets.is) r.recalled))) (granted_few a.ask reply g says)
 
-  -- a return is accepted
-  returned_tells : (l : Layout) → c.layout ≡ Some l → (reply_of_ask a.ask reply).answer ≡ Returned → (n : ℕ) → MayTellWrite (h ++ Hears (Recorded Mds bytes now) ∷ []) l.writer n
-  returned_tells l there says n t is =
+  -- a return is accepted: what it reports, and what is covered elsewhere
+  pub returned_covered : (l : Layout) → c.layout ≡ Some l → (reply_of_ask a.ask reply).answer ≡ Returned → (old : LayoutStands (h ++ Hears (Recorded Mds bytes now) ∷ []) c.name (is_reported (reported_of l)) l) (n : ℕ) (t : TakenWrite) → slice_get l.writer.taken n ≡ Some t
+      → ReturnAccepted (h ++ Hears (Recorded Mds bytes now) ∷ []) its_ask.call old.grant t.at t.bytes
+  returned_covered l there says old n t is =
       let kind : a.ask ≡ ask.LayoutReturn = returned_kind a.ask reply says in
       let gives : GivesLayout h (Sends (CallsMds a.xid c.name its_ask.call)) c.layout its_ask.call = fits_of ask.LayoutReturn kind in
       let out : ReturnOut h (Sends (CallsMds a.xid c.name its_ask.call)) gives.stateid gives.failed l = subst (λ (o : Option Layout). IfThere o (ReturnOut h (Sends (CallsMds a.xid c.name its_ask.call)) gives.stateid gives.failed)) there gives.out in
-      let old : LayoutStands past c.name (is_reported (reported_of l)) l = subst (λ (o : Option Layout). IfThere o (λ l. LayoutStands past c.name (is_reported (reported_of l)) l)) there layout_now in
       let its : its_ask.call ≡ OnSlot gives.session gives.sequence (slot.LayoutReturn gives.file old.grant.stateid gives.failed) = gives.is ∙ ap (λ k. OnSlot gives.session gives.sequence (slot.LayoutReturn gives.file k gives.failed)) (out.its_stateid ∙ old.stateid) in
       record {
-        grant = old.grant;
-        granted = old.granted;
-        its_uid = sym old.uid;
-        taken = old.entered n t is;
-        covered = inr (record {
+        by_return = record {
           xid = a.xid;
           name = c.name;
           session = gives.session;
@@ -264,7 +266,19 @@ module _ (h : List HistoryItem) (c : ClientValue) (s : Stands h c) (a : Asked) (
               subst (λ (k : MdsCallValue). WasCovered past m.id old.grant.uid.0 t.at t.bytes (Sends (CallsMds a.xid c.name k) ∷ item ∷ [])) its
               (subst (λ (k : ℕ). WasCovered past m.id k t.at t.bytes (Sends (CallsMds a.xid c.name its_ask.call) ∷ item ∷ [])) old.uid
               (covered_next h item m.id l.writer.cred t.at t.bytes (Sends (CallsMds a.xid c.name its_ask.call) ∷ []) (out.covered n t is place m (ap (λ k. slice_get k place) old.mirrors ∙ found) not_so)));
-        });
+        };
+        call_is = its;
+      }
+
+  returned_tells : (l : Layout) → c.layout ≡ Some l → (reply_of_ask a.ask reply).answer ≡ Returned → (n : ℕ) → MayTellWrite (h ++ Hears (Recorded Mds bytes now) ∷ []) l.writer n
+  returned_tells l there says n t is =
+      let old : LayoutStands past c.name (is_reported (reported_of l)) l = subst (λ (o : Option Layout). IfThere o (λ l. LayoutStands past c.name (is_reported (reported_of l)) l)) there layout_now in
+      record {
+        grant = old.grant;
+        granted = old.granted;
+        its_uid = sym old.uid;
+        taken = old.entered n t is;
+        covered = inr (returned_covered l there says old n t is).by_return;
       }
 
   every_tells : (l : Layout) → c.layout ≡ Some l → (reply_of_ask a.ask reply).answer ≡ Returned → (ns : List ℕ) → Every (MayTellWrite (h ++ Hears (Recorded Mds bytes now) ∷ []) l.writer) ns

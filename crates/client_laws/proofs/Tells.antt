@@ -28,7 +28,7 @@ use Rattle.client_laws.proofs.Places.{all_at, every_filter}
 use Rattle.client_laws.proofs.Goes.{IsRight, RunGoes, run_unmoved, KeepsLayout, with_layout_stands}
 use Rattle.client_laws.proofs.Stands.{Every, TakenCovered, Stands, LayoutStands, IfThere, reported_of}
 
-by_return_later : (h more : List HistoryItem) (grant : LayoutGrant) (at : ℕ) (d : List ℕ) → CoveredByReturn h grant at d → CoveredByReturn (h ++ more) grant at d
+abbrev pub by_return_later : (h more : List HistoryItem) (grant : LayoutGrant) (at : ℕ) (d : List ℕ) → CoveredByReturn h grant at d → CoveredByReturn (h ++ more) grant at d
 by_return_later h more grant at d c =
     let items : List HistoryItem = Sends (CallsMds c.xid c.name (OnSlot c.session c.sequence (slot.LayoutReturn c.file grant.stateid c.failed))) ∷ Hears (Recorded Mds c.bytes c.now) ∷ [] in
     record {
@@ -82,14 +82,10 @@ tells_go past file w ns c all s = record { entries = told_go file w ns past all;
 
 -- ---- those that are covered at each mirror
 
-covered_tells : (past : List HistoryItem) (name : List ℕ) (l : Layout) → LayoutStands past name (is_reported (reported_of l)) l → (n : ℕ) → is_covered_everywhere l.writer n ≡ true → MayTellWrite past l.writer n
-covered_tells past name l s n everywhere t there = record {
-  grant = s.grant;
-  granted = s.granted;
-  its_uid = sym s.uid;
-  taken = s.entered n t there;
-  covered = inl (λ place m found. by_mirror place m (slice_get l.writer.mirrors place) refl (sym (slice_get-map (λ (x : WriterMirror). x.id) l.writer.mirrors place) ∙ ap (λ k. slice_get k place) s.ids ∙ slice_get-map (λ (x : Mirror). x.id) l.mirrors place ∙ ap (λ k. option_map (λ (x : Mirror). x.id) (slice_get k place)) s.mirrors ∙ ap (option_map (λ (x : Mirror). x.id)) found));
-}
+-- what is covered everywhere is so at each mirror of the grant
+pub covered_each : (past : List HistoryItem) (name : List ℕ) (l : Layout) (s : LayoutStands past name (is_reported (reported_of l)) l) (n : ℕ) → is_covered_everywhere l.writer n ≡ true → (t : TakenWrite) → slice_get l.writer.taken n ≡ Some t → CoveredAtEach past s.grant t.at t.bytes
+covered_each past name l s n everywhere t there =
+    λ place m found. by_mirror place m (slice_get l.writer.mirrors place) refl (sym (slice_get-map (λ (x : WriterMirror). x.id) l.writer.mirrors place) ∙ ap (λ k. slice_get k place) s.ids ∙ slice_get-map (λ (x : Mirror). x.id) l.mirrors place ∙ ap (λ k. option_map (λ (x : Mirror). x.id) (slice_get k place)) s.mirrors ∙ ap (option_map (λ (x : Mirror). x.id)) found)
   where
     by_mirror : (place : ℕ) (m : Mirror) (o : Option WriterMirror) → slice_get l.writer.mirrors place ≡ o → option_map (λ (x : WriterMirror). x.id) o ≡ Some m.id → WasCovered past m.id s.grant.uid.0 t.at t.bytes []
     by_mirror place m None found is = absurd (none-some m.id is)
@@ -98,6 +94,15 @@ covered_tells past name l s n everywhere t there = record {
         let one : its.write ≡ t = same_Some its.write t (sym its.there ∙ there) in
         subst (λ (k : ℕ). WasCovered past m.id k t.at t.bytes []) s.uid
         (subst (λ (i : MirrorId). WasCovered past i l.writer.cred t.at t.bytes []) (same_Some x.id m.id is) (subst (λ (k : TakenWrite). WasCovered past x.id l.writer.cred k.at k.bytes []) one its.covered))
+
+covered_tells : (past : List HistoryItem) (name : List ℕ) (l : Layout) → LayoutStands past name (is_reported (reported_of l)) l → (n : ℕ) → is_covered_everywhere l.writer n ≡ true → MayTellWrite past l.writer n
+covered_tells past name l s n everywhere t there = record {
+  grant = s.grant;
+  granted = s.granted;
+  its_uid = sym s.uid;
+  taken = s.entered n t there;
+  covered = inl (covered_each past name l s n everywhere t there);
+}
 
 every_any : (ns : List ℕ) → Every (λ n. Unit {0}) ns
 every_any [] = tt

@@ -81,7 +81,7 @@ call_of other (CallsServer server xid name uid call) = call
 call_of other send = other
 
 module _ (h : List HistoryItem) (name : List ℕ) (reports : ℕ → Bool) (w : WriterValue) (s : WriterStands h name reports w) where
-  writer_later : (more : List HistoryItem) (wider : ℕ → Bool) → ((server : ℕ) → reports server ≡ true → wider server ≡ true) → WriterStands (h ++ more) name wider w
+  pub writer_later : (more : List HistoryItem) (wider : ℕ → Bool) → ((server : ℕ) → reports server ≡ true → wider server ≡ true) → WriterStands (h ++ more) name wider w
   writer_later more wider widens place m there =
       reported_stands (h ++ more) name w.cred w.taken reports m (mirror_later h more name w.cred w.taken reports m (s place m there)) wider widens
 
@@ -148,7 +148,7 @@ module _ (h : List HistoryItem) (name : List ℕ) (reports : ℕ → Bool) (w : 
 
   -- ---- an answer
 
-  out_sent : (m : WriterMirror) (call : WriterCall) (out : OutCall) → CallStands h name w.cred w.taken m.id m.answered call → out_call w m.id call ≡ Some out
+  pub out_sent : (m : WriterMirror) (call : WriterCall) (out : OutCall) → CallStands h name w.cred w.taken m.id m.answered call → out_call w m.id call ≡ Some out
       → HasItem h (Sends (CallsServer m.id.server out.xid name w.cred out.call))
   out_sent m NoCall out stands is = absurd (none-some out is)
   out_sent m (OutWrite xid n timeouts) out stands is =

@@ -9,9 +9,11 @@ use Rattle.cluster_world.specs.ClusterWorlds.{ClusterState, packets, behind, clu
 use Rattle.cluster_world.specs.ClusterRuns.{ClusterRun, entries_added, with_step, flow_by, flow_for, event_then, cluster_run}
 use Rattle.ff_replay.proofs.WorldGrows.{Grows, grows, journaled}
 use Rattle.ff_replay.proofs.Flows.{let_in}
+use Rattle.node_histories.specs.NodeHistories.{IsEventInRange}
+use Rattle.script_laws.proofs.EventRanges.{AreInRange}
 use Rattle.script_laws.specs.ScriptLaws.{end_by_step, end_by_flow, end_of_flow, end_by_event, cluster_end}
 
-module _ (IsRun : ClusterState → Type 0) (goes_on : (event : EventValue) (w : ClusterState) → IsRun w → IsRun (behind event w)) where
+module _ (IsRun : ClusterState → Type 0) (goes_on : (event : EventValue) (w : ClusterState) → IsEventInRange event → IsRun w → IsRun (behind event w)) where
   -- the world is a run, and has this journal
   pub record IsEnd (journal : List Entry) (end : ClusterState) : Type 0 where
     pub is : IsRun end
@@ -26,13 +28,13 @@ module _ (IsRun : ClusterState → Type 0) (goes_on : (event : EventValue) (w : 
   stops : (w : ClusterState) → IsRun w → IsEnd (w.journal ++ []) w
   stops w is = record { is = is; journal_is = sym (append-nil w.journal) }
 
-  stepped : (w : ClusterState) (event : EventValue) (o : Option ClusterState) → cluster_step w event ≡ o → IsRun w → (rest : ClusterState → ClusterRun) (end : ClusterState → ClusterState) → AlwaysEnds rest end
+  stepped : (w : ClusterState) (event : EventValue) → IsEventInRange event → (o : Option ClusterState) → cluster_step w event ≡ o → IsRun w → (rest : ClusterState → ClusterRun) (end : ClusterState → ClusterState) → AlwaysEnds rest end
       → EndsAs w (with_step w o rest) (end_by_step w o end)
-  stepped w event None is run rest end all = stops w run
-  stepped w event (Some next) is run rest end all =
+  stepped w event fits None is run rest end all = stops w run
+  stepped w event fits (Some next) is run rest end all =
       let same : next ≡ behind event w = (let_in (behind event w) next is).0 in
       let more : Grows w next = subst (Grows w) (sym same) (grows event w) in
-      let last = all next (subst IsRun (sym same) (goes_on event w run)) in
+      let last = all next (subst IsRun (sym same) (goes_on event w fits run)) in
       record {
         is = last.is;
         journal_is = last.journal_is ∙ (ap (λ (j : List Entry). j ++ (rest next).entries) (journaled w next more) ∙ append_assoc w.journal (entries_added w next) (rest next).entries);
@@ -41,16 +43,16 @@ module _ (IsRun : ClusterState → Type 0) (goes_on : (event : EventValue) (w : 
   flow_step : (w : ClusterState) → IsRun w → (more rest : ClusterState → ClusterRun) (deep end : ClusterState → ClusterState) → AlwaysEnds more deep → AlwaysEnds rest end → (o : Option ℕ)
       → EndsAs w (flow_by more rest w o) (end_by_flow deep end w o)
   flow_step w run more rest deep end deeper all None = all w run
-  flow_step w run more rest deep end deeper all (Some number) = stepped w (DeliverPacket number) (cluster_step w (DeliverPacket number)) refl run more deep deeper
+  flow_step w run more rest deep end deeper all (Some number) = stepped w (DeliverPacket number) tt (cluster_step w (DeliverPacket number)) refl run more deep deeper
 
   flows : (n : ℕ) (rest : ClusterState → ClusterRun) (end : ClusterState → ClusterState) → AlwaysEnds rest end → AlwaysEnds (flow_for n rest) (end_of_flow n end)
   flows zero rest end all w run = all w run
   flows (suc n) rest end all w run = flow_step w run (flow_for n rest) rest (end_of_flow n end) end (flows n rest end all) all (next_waiting (packets w))
 
-  event_goes : (event : EventValue) (rest : ClusterState → ClusterRun) (end : ClusterState → ClusterState) → AlwaysEnds rest end → (w : ClusterState) → IsRun w → EndsAs w (event_then w event rest) (end_by_event w event end)
-  event_goes Flow rest end all w run = flows (max_entries + 1) rest end all w run
-  event_goes event rest end all w run = stepped w event (cluster_step w event) refl run rest end all
+  event_goes : (event : EventValue) → IsEventInRange event → (rest : ClusterState → ClusterRun) (end : ClusterState → ClusterState) → AlwaysEnds rest end → (w : ClusterState) → IsRun w → EndsAs w (event_then w event rest) (end_by_event w event end)
+  event_goes Flow fits rest end all w run = flows (max_entries + 1) rest end all w run
+  event_goes event fits rest end all w run = stepped w event fits (cluster_step w event) refl run rest end all
 
-  pub events_go : (events : List EventValue) → AlwaysEnds (λ w. cluster_run w events) (λ w. cluster_end w events)
-  events_go [] w run = stops w run
-  events_go (event ∷ events) w run = event_goes event (λ next. cluster_run next events) (λ next. cluster_end next events) (events_go events) w run
+  pub events_go : (events : List EventValue) → AreInRange events → AlwaysEnds (λ w. cluster_run w events) (λ w. cluster_end w events)
+  events_go [] fits w run = stops w run
+  events_go (event ∷ events) fits w run = event_goes event fits.0 (λ next. cluster_run next events) (λ next. cluster_end next events) (events_go events fits.1) w run

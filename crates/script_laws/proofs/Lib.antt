@@ -1,5 +1,7 @@
 pub mod PlainJournals
 pub mod Setups
+pub mod EventRanges
+pub mod ClientCounts
 pub mod ClusterJournals
 pub mod BareJournals
 pub mod Scripts

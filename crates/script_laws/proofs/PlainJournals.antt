@@ -1,4 +1,4 @@
--- A journal of packets, deliveries and what data servers enter tells of no period and no fence, and so obeys all laws of them.
+-- A journal of packets, deliveries and what data servers enter tells of no period, no fence and no READ, and so obeys all laws of them.
 use Rattle.std.proofs.Common.{◌≡◌, ℕ, Bool, true, false, List, [], ◌∷◌, ◌++◌, subst}
 use Rattle.std.specs.List.{AllByRecursion}
 use Rattle.cluster_model.specs.declared.ids.FileId.{FileId}
@@ -15,6 +15,7 @@ is_plain (entry.Granted file cred holder) = false
 is_plain (entry.Ended file cred cause) = false
 is_plain (entry.Fenced file old new live) = false
 is_plain (entry.Free file live) = false
+is_plain (entry.ReadAnswer file status bytes) = false
 is_plain e = true
 
 abbrev pub ArePlain : List Entry → Type 0
@@ -33,14 +34,19 @@ plain_in_place before (entry.Granted file cred holder) is = absurd cc
 plain_in_place before (entry.Ended file cred cause) is = absurd cc
 plain_in_place before (entry.Fenced file old new live) is = absurd cc
 plain_in_place before (entry.Free file live) is = absurd cc
+plain_in_place before (entry.ReadAnswer file status bytes) is = absurd cc
 plain_in_place before e is = tt
 
 no_fence : (journal before behind : List Entry) (f : FileId) (old new : Cred) (live : List MirrorId) → ArePlain journal → journal ≡ before ++ entry.Fenced f old new live ∷ behind → false ≡ true
 no_fence journal before behind f old new live all is = plain_there before (entry.Fenced f old new live) behind (subst ArePlain is all)
+
+no_read : (journal before behind : List Entry) (file : FileId) (status : ℕ) (bytes : List ℕ) → ArePlain journal → journal ≡ before ++ entry.ReadAnswer file status bytes ∷ behind → false ≡ true
+no_read journal before behind file status bytes all is = plain_there before (entry.ReadAnswer file status bytes) behind (subst ArePlain is all)
 
 pub plain_obeys : (journal : List Entry) → ArePlain journal → ObeysLaws journal
 plain_obeys journal all = record {
   fences = λ before behind f old new live is. let wrong = no_fence journal before behind f old new live all is in absurd cc;
   periods = λ before behind e is. plain_in_place before e (plain_there before e behind (subst ArePlain is all));
   owners = λ before behind f old new live is. let wrong = no_fence journal before behind f old new live all is in absurd cc;
+  reads = λ range before behind file status bytes is. let wrong = no_read journal before behind file status bytes all is in absurd cc;
 }

@@ -15,10 +15,12 @@ use Rattle.script_laws.specs.ScriptLaws.{ObeysLaws, EndsTrue, ScriptObeys, Every
 use Rattle.script_laws.proofs.PlainJournals.{plain_obeys}
 use Rattle.script_laws.proofs.BareJournals.{run_plain}
 use Rattle.script_laws.proofs.Setups.{AreSizes, IsSetup, script_setup}
+use Rattle.node_histories.specs.NodeHistories.{IsEventInRange}
+use Rattle.script_laws.proofs.EventRanges.{AreInRange, script_ranged}
 use Rattle.script_laws.proofs.ClusterJournals.{IsEnd, events_go}
 
-module _ (IsRun : ℕ → ClusterState → Type 0) (starts : (servers mirrors clients : ℕ) → servers ≤ 16 → 1 ≤ mirrors → mirrors ≤ 4 → mirrors ≤ servers → IsRun servers (new_cluster servers mirrors clients))
-    (goes_on : (servers : ℕ) (event : EventValue) (w : ClusterState) → IsRun servers w → IsRun servers (behind event w)) (obeys : (servers : ℕ) (w : ClusterState) → IsRun servers w → ObeysLaws w.journal)
+module _ (IsRun : ℕ → ClusterState → Type 0) (starts : (servers mirrors clients : ℕ) → servers ≤ 16 → 1 ≤ mirrors → mirrors ≤ 4 → mirrors ≤ servers → clients ≤ 256 → IsRun servers (new_cluster servers mirrors clients))
+    (goes_on : (servers : ℕ) (event : EventValue) (w : ClusterState) → IsEventInRange event → IsRun servers w → IsRun servers (behind event w)) (obeys : (servers : ℕ) (w : ClusterState) → IsRun servers w → ObeysLaws w.journal)
     (truth : (servers : ℕ) (w : ClusterState) → IsRun servers w → TellsTruth w) where
   -- what is said of a script, by its setup and its events
   record Obeys (setup : Option Setup) (events : List EventValue) : Type 0 where
@@ -28,10 +30,10 @@ module _ (IsRun : ℕ → ClusterState → Type 0) (starts : (servers mirrors cl
   bare_obeys : (events : List EventValue) → ObeysLaws (run_in (world_in None (Some Bare)) events).entries
   bare_obeys events = plain_obeys _ (run_plain events (preset_world bare_setup.Bare))
 
-  cluster_obeys : (sizes : ClusterSizes) (events : List EventValue) → AreSizes sizes → Obeys (Some (Cluster sizes)) events
-  cluster_obeys sizes events are =
+  cluster_obeys : (sizes : ClusterSizes) (events : List EventValue) → AreInRange events → AreSizes sizes → Obeys (Some (Cluster sizes)) events
+  cluster_obeys sizes events fits are =
       let w = new_cluster sizes.servers sizes.mirrors sizes.clients in
-      let end = events_go (IsRun sizes.servers) (goes_on sizes.servers) events w (starts sizes.servers sizes.mirrors sizes.clients are.servers are.some are.few are.there) in
+      let end = events_go (IsRun sizes.servers) (goes_on sizes.servers) events fits w (starts sizes.servers sizes.mirrors sizes.clients are.servers are.some are.few are.there are.clients) in
       record {
         laws = subst ObeysLaws end.journal_is (obeys sizes.servers (cluster_end w events) end.is);
         ends = λ last is.
@@ -39,12 +41,12 @@ module _ (IsRun : ℕ → ClusterState → Type 0) (starts : (servers mirrors cl
             subst (EndsTrue (cluster_run w events).entries) same (record { journal_is = end.journal_is; truth = truth sizes.servers (cluster_end w events) end.is });
       }
 
-  setup_obeys : (setup : Option Setup) (events : List EventValue) → IsSetup setup → Obeys setup events
-  setup_obeys None events is = record { laws = bare_obeys events; ends = λ w none. absurd cc }
-  setup_obeys (Some Bare) events is = record { laws = bare_obeys events; ends = λ w none. absurd cc }
-  setup_obeys (Some (Cluster sizes)) events is = cluster_obeys sizes events is
+  setup_obeys : (setup : Option Setup) (events : List EventValue) → AreInRange events → IsSetup setup → Obeys setup events
+  setup_obeys None events fits is = record { laws = bare_obeys events; ends = λ w none. absurd cc }
+  setup_obeys (Some Bare) events fits is = record { laws = bare_obeys events; ends = λ w none. absurd cc }
+  setup_obeys (Some (Cluster sizes)) events fits is = cluster_obeys sizes events fits is
 
   pub scripts_obey : EveryScriptObeys
   scripts_obey lines =
-      let all = setup_obeys (script_of 1 None lines).setup (script_of 1 None lines).events (script_setup lines 1 None) in
+      let all = setup_obeys (script_of 1 None lines).setup (script_of 1 None lines).events (script_ranged lines 1 None) (script_setup lines 1 None) in
       record { laws = all.laws; ends = all.ends }

@@ -18,6 +18,7 @@ pub record AreSizes (sizes : ClusterSizes) : Type 0 where
   pub some : 1 ≤ sizes.mirrors
   pub few : sizes.mirrors ≤ 4
   pub there : sizes.mirrors ≤ sizes.servers
+  pub clients : sizes.clients ≤ 256
 
 abbrev pub IsSetup : Option Setup → Type 0
 IsSetup None = Unit {0}
@@ -26,11 +27,11 @@ IsSetup (Some (Cluster sizes)) = AreSizes sizes
 
 -- ---- numbers
 
-bound : {A B : Type 0} (o : Option A) (f : A → Option B) (b : B) → o >>= f ≡ Some b → (a : A) × (o ≡ Some a) × (f a ≡ Some b)
+pub bound : {A B : Type 0} (o : Option A) (f : A → Option B) (b : B) → o >>= f ≡ Some b → (a : A) × (o ≡ Some a) × (f a ≡ Some b)
 bound None f b is = absurd cc
 bound (Some a) f b is = (a, refl, is)
 
-tested : {A : Type 0} (b : Bool) (x y : A) → cond b (Some x) None ≡ Some y → (b ≡ true) × (x ≡ y)
+pub tested : {A : Type 0} (b : Bool) (x y : A) → cond b (Some x) None ≡ Some y → (b ≡ true) × (x ≡ y)
 tested true x y is = (refl, cc)
 tested false x y is = absurd cc
 
@@ -40,7 +41,7 @@ within_range low high n k is =
     let parts = and_parts (nat_le low n) (nat_le n high) both.0 in
     (subst (λ (x : ℕ). low ≤ x) both.1 (leb-true low n parts.0), subst (λ (x : ℕ). x ≤ high) both.1 (leb-true n high parts.1))
 
-number_range : (low high : ℕ) (word : List ℕ) (k : ℕ) → number_within low high word ≡ Some k → (low ≤ k) × (k ≤ high)
+pub number_range : (low high : ℕ) (word : List ℕ) (k : ℕ) → number_within low high word ≡ Some k → (low ≤ k) × (k ≤ high)
 number_range low high word k is =
     let n = bound (decimal_at word) (within low high) k is in
     within_range low high n.0 k n.2
@@ -61,6 +62,7 @@ sizes_three s k c sizes is =
       some = subst (λ (n : ℕ). 1 ≤ n) same range.0;
       few = subst (λ (n : ℕ). n ≤ 4) same range.1;
       there = (within_range 0 servers.0 mirrors.0 few.0 few.1).1;
+      clients = (number_range 1 256 c clients.0 clients.1).1;
     })
 
 sizes_words : (words : List (List ℕ)) (sizes : ClusterSizes) → cluster.setup_by words ≡ Some sizes → AreSizes sizes

@@ -1,4 +1,5 @@
--- What holds of every script: of its journal, and of the data servers that it ends with (RFC 8435, section 2.2).
+-- What holds of every script: of its journal, and of the data servers that it ends with (RFC 8435, section 2.2;
+-- RFC 8881, section 18.22).
 use Rattle.std.specs.Prelude.{◌≡◌, ℕ, zero, suc, ◌+◌, Bool, false, List, [], ◌∷◌, Option, Some, None}
 use Rattle.cluster_model.specs.declared.entry.Entry.{Entry}
 use Rattle.cluster_model.specs.Event.{EventValue, DeliverPacket, Flow}
@@ -10,7 +11,9 @@ use Rattle.cluster_world.specs.ClusterWorlds.{ClusterState, packets, new_cluster
 use Rattle.ff_replay.specs.declared.setup.Setup.{Setup}
 use Rattle.ff_replay.specs.declared.setup.Setup.TheVariants.{Bare, Cluster}
 use Rattle.ff_replay.specs.Script.{Script, script_of, run_from}
+use Rattle.ff_laws.specs.ReadLaw.{ObeysReads}
 use Rattle.world_moves.specs.WorldMoves.{TellsTruth}
+use Rattle.world_reads.specs.WorldReads.{IsJournalInRange}
 
 -- what the lines of a script enter: up to the first that is outside the grammar, or the event that would pass a limit
 abbrev pub script_journal : List (List ℕ) → List Entry
@@ -54,11 +57,14 @@ script_end lines = end_of_script (script_of 1 None lines)
 
 -- ---- the laws
 
--- After a fence no write under the fenced uid changes a live mirror; each period is fenced before the next; owners stay.
+-- After a fence no write under the fenced uid changes a live mirror; each period is fenced before the next; owners stay; and a READ through
+-- the metadata server is answered with bytes that a mirror showed, or as failed where each mirror failed it or left.
 pub record ObeysLaws (journal : List Entry) : Type 0 where
   pub fences : ObeysFences journal
   pub periods : ArePeriodsFenced journal
   pub owners : DoOwnersStay journal
+  -- where its records are of bytes, and the fileids of its mirrors have eight of them
+  pub reads : IsJournalInRange journal → ObeysReads journal
 
 -- the cluster has this journal, and what the journal says of each mirror's bytes, pending writes and owner is so at its data server
 pub record EndsTrue (journal : List Entry) (w : ClusterState) : Type 0 where

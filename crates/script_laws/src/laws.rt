@@ -2,14 +2,21 @@
 
 ghost use Rattle.script_laws.specs.ScriptLaws.{EveryScriptObeys};
 
+use node_histories::node_histories;
 use world_moves::world_moves;
+use world_reads::world_reads;
 
 /// Of the journal of every script, whatever it delivers, loses, repeats, lets time out and restarts, up to its end, its
 /// first line outside the grammar or the event that would pass a limit: after a fence no write under the fenced uid
-/// changes a live mirror; each period is fenced before the next; behind a fence owners stay (RFC 8435, section 2.2). And
-/// what the journal says of each mirror's bytes, pending writes and owner is so at its data server.
+/// changes a live mirror; each period is fenced before the next; behind a fence owners stay (RFC 8435, section 2.2); and a
+/// READ through the metadata server is answered with bytes that a mirror showed since it began, or as failed where each
+/// mirror that was live then failed it or left (RFC 8881, section 18.22), where the journal's records are of bytes, and the
+/// fileids of its mirrors have eight. And what the journal says of each mirror's bytes,
+/// pending writes and owner is so at its data server.
 pub fn script_laws()
     ensures { EveryScriptObeys }
 {
     world_moves();
+    node_histories();
+    world_reads();
 }

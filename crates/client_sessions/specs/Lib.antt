@@ -1,0 +1,3 @@
+pub mod HeardReplies
+pub mod ClientSessions
+pub mod LayoutEnds

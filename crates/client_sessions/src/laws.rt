@@ -1,0 +1,29 @@
+//! A client's session, its layouts and its writes, in every run.
+
+ghost use Rattle.client_laws.specs.ClientRunLaws.{InEachRun};
+ghost use Rattle.client_sessions.specs.ClientSessions.{KeepsSlot, EachRunSaysWho};
+ghost use Rattle.client_sessions.specs.LayoutEnds.{AsksForOne, ReturnsOwn, EntersGranted, EachRunStraysAtOnce, EachRunTakesBytes};
+
+/// In every run of a client, whatever comes and in whichever order:
+///
+/// - each compound bears the client's name, and an EXCHANGE_ID the verifier of its start (RFC 8881, section 18.35);
+/// - a CREATE_SESSION has the id and the number that the last EXCHANGE_ID was answered with; and a request is on the session
+///   that the last CREATE_SESSION was answered with, with the number 1, or on the one of the request before, with the number
+///   that the reply to that one leaves (RFC 8881, sections 2.10.6.1, 15.1.11.1 and 18.36);
+/// - a LAYOUTGET goes out only where each one before was answered, and the layout that it granted, if it did, has ended (RFC
+///   8881, sections 12.5.5 and 18.43; RFC 8435, section 2.2);
+/// - a LAYOUTRETURN is of a layout that was granted on its session for its file (RFC 8881, section 18.44);
+/// - a write is taken and strays under a layout that was granted, and none is taken once the client left the protocol; it is
+///   told where it was taken and is covered at each mirror of the layout, or at each that an accepted LAYOUTRETURN of it does
+///   not report, and some mirror is not reported (RFC 8435, sections 2.2 and 5);
+/// - a write that strays goes out at once, under its uid;
+/// - no write that is taken is empty, where users ask for no empty one.
+pub fn client_sessions()
+    ensures who { EachRunSaysWho }
+    ensures slot { InEachRun KeepsSlot }
+    ensures asks { InEachRun AsksForOne }
+    ensures returns { InEachRun ReturnsOwn }
+    ensures enters { InEachRun EntersGranted }
+    ensures strays { EachRunStraysAtOnce }
+    ensures bytes { EachRunTakesBytes }
+{}

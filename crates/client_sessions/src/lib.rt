@@ -1,0 +1,6 @@
+//! What a client's compounds stand on, one layout at a time, and what it enters under a layout.
+#![tactic(auto)]
+
+mod laws;
+
+pub use laws::client_sessions;

@@ -1,0 +1,82 @@
+-- What every call of the table of clients keeps is kept by every event.
+use Rattle.std.proofs.Common.{List, [], ◌∷◌, ◌++◌, Option, Some, None}
+use Rattle.std.specs.List.{list_any}
+use Rattle.std.proofs.lemmas.Bool.{cond_both}
+use Rattle.cluster_model.specs.declared.ids.NodeId.TheVariants.{Server}
+use Rattle.cluster_model.specs.declared.ids.FileId.{FileId}
+use Rattle.cluster_model.specs.declared.entry.Entry.{Entry}
+use Rattle.file_rule.specs.MdsFiles.{FileStep}
+use Rattle.file_rule.specs.FilePhases.{FileInput, AsksLayout, Answers as IsAnswer, TimesOut, Sees, phase}
+use Rattle.mds_rows.specs.Draws.{drawn}
+use Rattle.nfs4_session.specs.Clients.{SessionsState}
+use Rattle.nfs4_session.specs.TableLaw.{TableMove, BeginRequest, table_after}
+use Rattle.recall.specs.Recalls.{without_file}
+use Rattle.mds_rule.specs.Answers.{own_answer}
+use Rattle.mds_rule.specs.MdsStates.{ServedFile, MdsSend, CallsServer, CallsBack, Replies, Answers, AwaitedCall, MdsValue, MdsStep, sends_none, served, with_served, with_call}
+use Rattle.mds_rule.specs.declared.waiter.Waiter.TheVariants.{ForFile, ForRead, ForWrite, ForRecall}
+use Rattle.mds_rule.specs.ServedFiles.{has_fresh, is_period_end, file_behind, file_stepped, input_at}
+use Rattle.mds_rule.specs.Goes.{calls_out}
+use Rattle.mds_laws.specs.MdsRuns.{MdsEvent, run_from}
+use Rattle.mds_laws.proofs.Keeping.{HeardAny}
+use Rattle.mds_laws.proofs.Numbers.{WereSent, sent_more, sent_with, sent_without}
+use Rattle.mds_replies.proofs.HolderCases.{Cases, out_of}
+use Rattle.mds_replies.proofs.PeriodKept.{sent_with_calls, in_sent}
+use Rattle.mds_replies.proofs.GoesWalk.{out_walk, run_walk}
+
+module _ (P : SessionsState → Type 0) (keeps : (s : SessionsState) (move : TableMove) → P s → P (table_after s move)) where
+  record Stands (s : SessionsState) (calls : List AwaitedCall) (ss : List MdsSend) : Type 0 where
+    pub table : P s
+    pub were : WereSent calls ss
+
+  abbrev IsSo : MdsValue → List Entry → List MdsSend → Type 0
+  IsSo m es ss = Stands m.sessions m.calls ss
+
+  sends : (s : SessionsState) (calls : List AwaitedCall) (ss : List MdsSend) (x : MdsSend) → Stands s calls ss → Stands s calls (ss ++ x ∷ [])
+  sends s calls ss x i = record { table = i.table; were = sent_more calls ss x i.were }
+
+  called : (s : SessionsState) (calls : List AwaitedCall) (call : AwaitedCall) (ss : List MdsSend) → Stands s calls ss → Stands s (with_call call calls) (ss ++ call.sent ∷ [])
+  called s calls call ss i = record { table = i.table; were = sent_with calls ss call i.were }
+
+  behind : (m : MdsValue) (file : FileId) (s : ServedFile) (step : FileStep) (ss : List MdsSend) → Stands m.sessions m.calls ss → Stands (file_stepped m file s step).mds.sessions (file_stepped m file s step).mds.calls ss
+  behind m file s step ss i =
+      let n : MdsValue = with_served (record m { fresh = drawn m.fresh step }) file (file_behind s step) in
+      cond_both (list_any is_period_end step.entries) (record n { recalls = without_file file n.recalls }) n (λ (x : MdsValue). Stands x.sessions x.calls ss) (λ end. i) (λ off. i)
+
+  asked : (m : MdsValue) (file : FileId) (input : FileInput) (o : Option ServedFile) (ss : List MdsSend) → Stands m.sessions m.calls ss → Stands (input_at m file input o).mds.sessions (input_at m file input o).mds.calls ss
+  asked m file input None ss i = i
+  asked m file input (Some s) ss i =
+      cond_both (has_fresh m.fresh) (file_stepped m file s (phase file s.file input m.fresh)) (sends_none m) (λ (x : MdsStep). Stands x.mds.sessions x.mds.calls ss) (λ fresh. behind m file s (phase file s.file input m.fresh) ss i) (λ off. i)
+
+  cases : Cases IsSo HeardAny
+  cases = record {
+    quiet = λ m confirmed opens reclaimed recalls es ss i. i;
+    tables = λ m move is es ss i. record { table = keeps m.sessions move i.table; were = i.were };
+    replies = λ m node reply es ss i. sends m.sessions m.calls ss (Replies node reply) i;
+    answers = λ m node bytes reply is es ss i. sends m.sessions m.calls ss (Answers node bytes) i;
+    notes = λ m e note es ss i. i;
+    puts = λ m other s t at same holder write es ss i. i;
+    again_to = λ m file s client at its es ss i. i;
+    grants = λ m file n client t free at es ss i. asked m file (AsksLayout n) (served m file) ss i;
+    inputs = λ m other s input itself at fresh es ss i. behind m other s (phase other s.file input m.fresh) ss i;
+    timeouts = λ m other s xid at fresh es ss i. behind m other s (phase other s.file (TimesOut xid) m.fresh) ss i;
+    hears = λ m other s call server own uid c replies heard caller sent out at fresh es ss i. behind m other s (phase other s.file (IsAnswer call.xid (own_answer c (replies c))) m.fresh) ss i;
+    learns = λ m other s call server own uid c replies fileid shown heard caller sent named shows at fresh es ss i. behind m other s (phase other s.file (Sees (record { server = server; fileid = fileid }) shown.seen) m.fresh) ss i;
+    makes = λ m name may es ss i. i;
+    calls_file = λ m other s c at has its es ss i. called m.sessions m.calls (record { node = Server c.server; xid = m.next_xid; caller = ForFile other; sent = CallsServer c.server m.next_xid c.uid c.call }) ss i;
+    calls_write = λ m other s w c at has waits its is_write es ss i.
+        called m.sessions m.calls (record { node = Server c.id.server; xid = m.next_xid; caller = ForWrite other; sent = CallsServer c.id.server m.next_xid w.writer.cred c.call }) ss i;
+    calls_read = λ m other s t server call at has same holder write uid is_read es ss i.
+        called m.sessions m.calls (record { node = Server server; xid = m.next_xid; caller = ForRead other; sent = CallsServer server m.next_xid 0 call }) ss i;
+    calls_back = λ m node back other stateid has es ss i. called m.sessions m.calls (record { node = node; xid = m.next_xid; caller = ForRecall; sent = CallsBack m.next_xid back other stateid }) ss i;
+    skips = λ m has es ss i. i;
+    forgets = λ m node xid es ss i. record { table = i.table; were = sent_without node xid m.calls ss i.were };
+    was = λ m es ss i. i.were;
+    again = λ m s es ss i inside. sends m.sessions m.calls ss s i;
+  }
+
+  pub run_keeps : (m : MdsValue) (events : List MdsEvent) → P m.sessions → P (run_from m events).mds.sessions
+  run_keeps m events p =
+      (run_walk IsSo cases (λ n request now es ss i. record { table = keeps n.sessions (BeginRequest request now) i.table; were = i.were }) events m [] (sent_with_calls m.calls) (record { table = p; were = λ call inside. in_sent call m.calls inside })).table
+
+  pub out_keeps : (m : MdsValue) → P m.sessions → P (calls_out [] m).mds.sessions
+  out_keeps m p = (out_walk IsSo (out_of IsSo HeardAny cases) [] m [] (sent_with_calls m.calls) (record { table = p; were = λ call inside. in_sent call m.calls inside })).table

@@ -1,0 +1,4 @@
+pub mod ClientCalls
+pub mod SlotReplies
+pub mod LayoutReplies
+pub mod ClientIds

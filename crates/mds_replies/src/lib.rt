@@ -1,0 +1,6 @@
+//! What the replies of a metadata server stand on.
+#![tactic(auto)]
+
+mod laws;
+
+pub use laws::{effect_law, id_law, period_law};

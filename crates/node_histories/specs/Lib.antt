@@ -1,0 +1,3 @@
+pub mod Weaves
+pub mod ClientLives
+pub mod NodeHistories
