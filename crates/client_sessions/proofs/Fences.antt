@@ -32,7 +32,7 @@ use Rattle.client_records.proofs.Cases.{IsDsAnswered, heard_server, heard_late, 
 use Rattle.client_records.proofs.EachRun.{Base}
 use Rattle.client_records.proofs.Numbers.{found_sent}
 use Rattle.client_sessions.specs.HeardReplies.{IsHeard}
-use Rattle.client_sessions.specs.LayoutEnds.{IsFenceStatus, HasEnded, ByFence}
+use Rattle.client_sessions.specs.LayoutEnds.{IsFenceStatus, HasLayoutEnded, ByFence}
 use Rattle.client_sessions.proofs.HeardLater.{in_behind}
 use Rattle.client_sessions.proofs.LayoutsHeld.{any_server, LayoutOf, LayoutsOf, Layouts, its_layout}
 

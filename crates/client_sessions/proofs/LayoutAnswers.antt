@@ -31,7 +31,7 @@ use Rattle.client_laws.proofs.GrantFacts.{granted_kind}
 use Rattle.client_records.proofs.Cases.{IsAnswered, said, heard_mds}
 use Rattle.client_records.proofs.EachRun.{Base}
 use Rattle.client_sessions.specs.HeardReplies.{IsNoCompound}
-use Rattle.client_sessions.specs.LayoutEnds.{HasEnded, HasSettled, HasNotLeft}
+use Rattle.client_sessions.specs.LayoutEnds.{HasLayoutEnded, IsAskSettled, HasNotLeft}
 use Rattle.client_sessions.proofs.HeardLater.{all_more, heard_later, settled_later}
 use Rattle.client_sessions.proofs.CallsMade.{IsOnSession, IsBy}
 use Rattle.client_sessions.proofs.SlotStands.{AskedOut, IsSlotFile, IsFileOf, asked_heard}
@@ -93,15 +93,15 @@ module _ (h : List HistoryItem) (c : ClientValue) (a : Asked) (bytes : List ℕ)
 
   -- what is settled, where the reply is final and grants nothing
   settles : (layout : Option Layout) → ((said a reply).slot ≡ Delayed → ⊥) → ((g : LayoutGrant) → (said a reply).answer ≡ Granted g → ⊥)
-      → ((xid : ℕ) (name : List ℕ) (session : SessionId) (sequence : ℕ) (other : OpenFile) → HasItem h (Sends (CallsMds xid name (OnSlot session sequence (slot.LayoutGet other)))) → IsHeld c.layout i.held xid → IsHeld layout i.held xid ⊎ HasSettled (heard_mds h bytes now) xid name session sequence other)
-      → (xid : ℕ) (name : List ℕ) (session : SessionId) (sequence : ℕ) (other : OpenFile) → HasItem (heard_mds h bytes now) (Sends (CallsMds xid name (OnSlot session sequence (slot.LayoutGet other)))) → IsOut None xid ⊎ (IsHeld layout i.held xid ⊎ HasSettled (heard_mds h bytes now) xid name session sequence other)
+      → ((xid : ℕ) (name : List ℕ) (session : SessionId) (sequence : ℕ) (other : OpenFile) → HasItem h (Sends (CallsMds xid name (OnSlot session sequence (slot.LayoutGet other)))) → IsHeld c.layout i.held xid → IsHeld layout i.held xid ⊎ IsAskSettled (heard_mds h bytes now) xid name session sequence other)
+      → (xid : ℕ) (name : List ℕ) (session : SessionId) (sequence : ℕ) (other : OpenFile) → HasItem (heard_mds h bytes now) (Sends (CallsMds xid name (OnSlot session sequence (slot.LayoutGet other)))) → IsOut None xid ⊎ (IsHeld layout i.held xid ⊎ IsAskSettled (heard_mds h bytes now) xid name session sequence other)
   settles layout final none holds xid name session sequence other j = by_way (before j) (i.settles xid name session sequence other (before j))
     where
       before : HasItem (heard_mds h bytes now) (Sends (CallsMds xid name (OnSlot session sequence (slot.LayoutGet other)))) → HasItem h (Sends (CallsMds xid name (OnSlot session sequence (slot.LayoutGet other))))
       before j = sent_before h (item ∷ []) (tt, tt) xid name (OnSlot session sequence (slot.LayoutGet other)) j
 
-      by_way : HasItem h (Sends (CallsMds xid name (OnSlot session sequence (slot.LayoutGet other)))) → IsOut c.asked xid ⊎ (IsHeld c.layout i.held xid ⊎ HasSettled h xid name session sequence other)
-          → IsOut None xid ⊎ (IsHeld layout i.held xid ⊎ HasSettled (heard_mds h bytes now) xid name session sequence other)
+      by_way : HasItem h (Sends (CallsMds xid name (OnSlot session sequence (slot.LayoutGet other)))) → IsOut c.asked xid ⊎ (IsHeld c.layout i.held xid ⊎ IsAskSettled h xid name session sequence other)
+          → IsOut None xid ⊎ (IsHeld layout i.held xid ⊎ IsAskSettled (heard_mds h bytes now) xid name session sequence other)
       by_way j (inl is) =
           inr (inr (out_settles h c.name c.tie c.file a.xid a.ask out bytes now reply s.reply_is s.number c.next_xid s.base.0.numbers final none xid name session sequence other (subst (λ (o : Option Asked). IsOut o xid) s.out is) j))
       by_way j (inr (inl holding)) = inr (holds xid name session sequence other j holding)
@@ -131,7 +131,7 @@ module _ (h : List HistoryItem) (c : ClientValue) (a : Asked) (bytes : List ℕ)
   }
 
   -- it has ended, if it was there
-  pub ended : (tie : Tie) (file : Option OpenFile) → ((l : Layout) (at : c.layout ≡ Some l) → HasEnded ((its_layout h c i l at).behind ++ Hears (Recorded Mds bytes now) ∷ []) (its_layout h c i l at).session (its_layout h c i l at).other.file (its_layout h c i l at).grant)
+  pub ended : (tie : Tie) (file : Option OpenFile) → ((l : Layout) (at : c.layout ≡ Some l) → HasLayoutEnded ((its_layout h c i l at).behind ++ Hears (Recorded Mds bytes now) ∷ []) (its_layout h c i l at).session (its_layout h c i l at).other.file (its_layout h c i l at).grant)
       → ((said a reply).slot ≡ Delayed → ⊥) → ((g : LayoutGrant) → (said a reply).answer ≡ Granted g → ⊥) → LayoutsOf (heard_mds h bytes now) c.name tie file None None c.has_left
   ended tie file ends final none = record {
     held = i.held;
@@ -141,7 +141,7 @@ module _ (h : List HistoryItem) (c : ClientValue) (a : Asked) (bytes : List ℕ)
   }
     where
       by_layout : (xid : ℕ) (name : List ℕ) (session : SessionId) (sequence : ℕ) (other : OpenFile) → HasItem h (Sends (CallsMds xid name (OnSlot session sequence (slot.LayoutGet other)))) → (layout : Option Layout) → c.layout ≡ layout → IsHeld layout i.held xid
-          → HasSettled (heard_mds h bytes now) xid name session sequence other
+          → IsAskSettled (heard_mds h bytes now) xid name session sequence other
       by_layout xid name session sequence other j None at holding = absurd holding
       by_layout xid name session sequence other j (Some l) at holding =
           layout_settles h i.held c.name c.tie c.file c.asked l.stateid l.writer (its_layout h c i l at) (item ∷ []) c.next_xid s.base.0.numbers (ends l at) xid name session sequence other holding j
@@ -157,8 +157,8 @@ module _ (h : List HistoryItem) (c : ClientValue) (a : Asked) (bytes : List ℕ)
     left = stays_left;
   }
     where
-      by_way : (xid : ℕ) (name : List ℕ) (session : SessionId) (sequence : ℕ) (other : OpenFile) → IsOut c.asked xid ⊎ (IsHeld c.layout i.held xid ⊎ HasSettled h xid name session sequence other)
-          → IsOut None xid ⊎ ((a.xid ≡ xid) ⊎ HasSettled (heard_mds h bytes now) xid name session sequence other)
+      by_way : (xid : ℕ) (name : List ℕ) (session : SessionId) (sequence : ℕ) (other : OpenFile) → IsOut c.asked xid ⊎ (IsHeld c.layout i.held xid ⊎ IsAskSettled h xid name session sequence other)
+          → IsOut None xid ⊎ ((a.xid ≡ xid) ⊎ IsAskSettled (heard_mds h bytes now) xid name session sequence other)
       by_way xid name session sequence other (inl is) = inr (inl (subst (λ (o : Option Asked). IsOut o xid) s.out is))
       by_way xid name session sequence other (inr (inl holding)) = absurd (subst (λ (o : Option Layout). IsHeld o i.held xid) empty holding)
       by_way xid name session sequence other (inr (inr t)) = inr (inr (settled_later h (item ∷ []) xid name session sequence other t))

@@ -24,7 +24,7 @@ use Rattle.client_laws.specs.ClientHistory.{HistoryItem, Sends, HasItem}
 use Rattle.client_laws.specs.ClientRunLaws.{WasGranted}
 use Rattle.client_laws.proofs.Orders.{in_either}
 use Rattle.client_laws.proofs.Stands.{IfThere, IsOut}
-use Rattle.client_sessions.specs.LayoutEnds.{HasSettled, AsksSettled, AsksOnSlot, IsGrantOf, ReturnsAsGranted, ReturnsOnSlot, HasNotLeft}
+use Rattle.client_sessions.specs.LayoutEnds.{IsAskSettled, AsksSettled, AsksOnSlot, IsGrantOf, ReturnsAsGranted, ReturnsOnSlot, HasNotLeft}
 use Rattle.client_sessions.proofs.HeardLater.{all_more, settled_later, granted_of}
 use Rattle.client_sessions.proofs.CallsMade.{IsOnSession, IsBy, IsReturnOf, IsSlotOf, IsCallOf, KindStands, IsMade}
 use Rattle.client_sessions.proofs.SlotStands.{file_of, asked_now}
@@ -83,10 +83,10 @@ module _ (past : List HistoryItem) (c : ClientValue) (kind : MdsAsk) (call : Mds
   no_get session sequence f same = subst (KindStands c.file c.layout c.devices) (sym m.kind_is ∙ ap ask_of same) stands
 
   -- each LAYOUTGET before is settled
-  all_settled : c.layout ≡ None → (xid : ℕ) (name : List ℕ) (session : SessionId) (sequence : ℕ) (other : OpenFile) → HasItem past (Sends (CallsMds xid name (OnSlot session sequence (slot.LayoutGet other)))) → HasSettled past xid name session sequence other
+  all_settled : c.layout ≡ None → (xid : ℕ) (name : List ℕ) (session : SessionId) (sequence : ℕ) (other : OpenFile) → HasItem past (Sends (CallsMds xid name (OnSlot session sequence (slot.LayoutGet other)))) → IsAskSettled past xid name session sequence other
   all_settled empty xid name session sequence other i' = by_way (i.settles xid name session sequence other i')
     where
-      by_way : IsOut c.asked xid ⊎ (IsHeld c.layout i.held xid ⊎ HasSettled past xid name session sequence other) → HasSettled past xid name session sequence other
+      by_way : IsOut c.asked xid ⊎ (IsHeld c.layout i.held xid ⊎ IsAskSettled past xid name session sequence other) → IsAskSettled past xid name session sequence other
       by_way (inl out) = absurd (subst (λ (o : Option Asked). IsOut o xid) none out)
       by_way (inr (inl holding)) = absurd (subst (λ (o : Option Layout). IsHeld o i.held xid) empty holding)
       by_way (inr (inr s)) = s
@@ -169,15 +169,15 @@ module _ (past : List HistoryItem) (c : ClientValue) (kind : MdsAsk) (call : Mds
     left = λ is. all_more HasNotLeft past (item ∷ []) (i.left is) (tt, tt);
   }
     where
-      by_way : (xid : ℕ) (name : List ℕ) (session : SessionId) (sequence : ℕ) (other : OpenFile) → IsOut c.asked xid ⊎ (IsHeld c.layout i.held xid ⊎ HasSettled past xid name session sequence other)
-          → (c.next_xid ≡ xid) ⊎ (IsHeld (layout_asked kind c.layout) i.held xid ⊎ HasSettled (past ++ Sends (CallsMds c.next_xid c.name call) ∷ []) xid name session sequence other)
+      by_way : (xid : ℕ) (name : List ℕ) (session : SessionId) (sequence : ℕ) (other : OpenFile) → IsOut c.asked xid ⊎ (IsHeld c.layout i.held xid ⊎ IsAskSettled past xid name session sequence other)
+          → (c.next_xid ≡ xid) ⊎ (IsHeld (layout_asked kind c.layout) i.held xid ⊎ IsAskSettled (past ++ Sends (CallsMds c.next_xid c.name call) ∷ []) xid name session sequence other)
       by_way xid name session sequence other (inl out) = absurd (subst (λ (o : Option Asked). IsOut o xid) none out)
       by_way xid name session sequence other (inr (inl holding)) = inr (inl (some_held c.name c.layout (layout_asked kind c.layout) i.held xid (asked_keeps c.name kind c.layout) holding))
       by_way xid name session sequence other (inr (inr s)) = inr (inr (settled_later past (item ∷ []) xid name session sequence other s))
 
       by_place : (xid : ℕ) (name : List ℕ) (session : SessionId) (sequence : ℕ) (other : OpenFile)
           → HasItem past (Sends (CallsMds xid name (OnSlot session sequence (slot.LayoutGet other)))) ⊎ HasItem (Sends (CallsMds c.next_xid c.name call) ∷ []) (Sends (CallsMds xid name (OnSlot session sequence (slot.LayoutGet other))))
-          → (c.next_xid ≡ xid) ⊎ (IsHeld (layout_asked kind c.layout) i.held xid ⊎ HasSettled (past ++ Sends (CallsMds c.next_xid c.name call) ∷ []) xid name session sequence other)
+          → (c.next_xid ≡ xid) ⊎ (IsHeld (layout_asked kind c.layout) i.held xid ⊎ IsAskSettled (past ++ Sends (CallsMds c.next_xid c.name call) ∷ []) xid name session sequence other)
       by_place xid name session sequence other (inl i') = by_way xid name session sequence other (i.settles xid name session sequence other i')
       by_place xid name session sequence other (inr (inl (same, rest))) = inl (sym (ap xid_of same))
       by_place xid name session sequence other (inr (inr i')) = absurd i'

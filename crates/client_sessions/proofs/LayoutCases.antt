@@ -41,7 +41,7 @@ use Rattle.client_records.proofs.Cases.{ComesTo, comes_by, Adds, IsAnswered, sai
 use Rattle.client_records.proofs.Told.{any_tells, any_covers}
 use Rattle.client_records.proofs.EachRun.{Base}
 use Rattle.client_sessions.specs.ClientSessions.{SaysWho, KeepsSlot}
-use Rattle.client_sessions.specs.LayoutEnds.{HasEnded, AsksForOne, ReturnsOwn, HasGrant, HasNotLeft}
+use Rattle.client_sessions.specs.LayoutEnds.{HasLayoutEnded, AsksForOne, ReturnsOwn, HasGrant, HasNotLeft}
 use Rattle.client_sessions.proofs.AnswerKinds.{granted_taken, IsAnswerTo, answer_to}
 use Rattle.client_sessions.proofs.CallsMade.{KindStands}
 use Rattle.client_sessions.proofs.SlotStands.{AskedOut}
@@ -113,13 +113,13 @@ module _ (number verifier : ℕ) where
 
     -- its layout has ended, if it held one
     ends_so : (tie new : Tie) → IsTieBehind now (said a reply).slot c.tie tie → (file : Option OpenFile) → GrantsNone (said a reply).answer
-        → ((l : Layout) (at : c.layout ≡ Some l) → HasEnded ((its_layout h c i.1 l at).behind ++ Hears (Recorded Mds bytes now) ∷ []) (its_layout h c i.1 l at).session (its_layout h c i.1 l at).other.file (its_layout h c i.1 l at).grant)
+        → ((l : Layout) (at : c.layout ≡ Some l) → HasLayoutEnded ((its_layout h c i.1 l at).behind ++ Hears (Recorded Mds bytes now) ∷ []) (its_layout h c i.1 l at).session (its_layout h c i.1 l at).other.file (its_layout h c i.1 l at).grant)
         → LayoutsOf (heard_mds h bytes now) c.name new file None None c.has_left
     ends_so tie new behind file none ends =
         ended h c a bytes now reply s out i.1 new file ends (behind_final now (said a reply).slot c.tie tie behind) (none_granted (said a reply).answer none (said a reply).answer refl)
 
     return_ends : a.ask ≡ ask.LayoutReturn → ((said a reply).answer ≡ Returned) ⊎ ((said a reply).answer ≡ Refused 10025) → (l : Layout) (at : c.layout ≡ Some l)
-        → HasEnded ((its_layout h c i.1 l at).behind ++ Hears (Recorded Mds bytes now) ∷ []) (its_layout h c i.1 l at).session (its_layout h c i.1 l at).other.file (its_layout h c i.1 l at).grant
+        → HasLayoutEnded ((its_layout h c i.1 l at).behind ++ Hears (Recorded Mds bytes now) ∷ []) (its_layout h c i.1 l at).session (its_layout h c i.1 l at).other.file (its_layout h c i.1 l at).grant
     return_ends kind is l at = ended_return h i.1.held c.name c.tie c.file c.asked a s.out l.stateid l.writer (its_layout h c i.1 l at) bytes now reply s.reply_is s.number kind is
 
     -- a client or a session is made: no layout is held

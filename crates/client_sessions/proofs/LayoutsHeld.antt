@@ -30,7 +30,7 @@ use Rattle.client_laws.proofs.Stands.{IfThere, WriterStands, IsOut}
 use Rattle.client_laws.proofs.WriterMoves.{writer_later}
 use Rattle.client_records.proofs.Cases.{IsStaying}
 use Rattle.client_sessions.specs.HeardReplies.{IsHeard, IsNoCompound}
-use Rattle.client_sessions.specs.LayoutEnds.{HasSettled, HasGrant, HasNotLeft}
+use Rattle.client_sessions.specs.LayoutEnds.{IsAskSettled, HasGrant, HasNotLeft}
 use Rattle.client_sessions.proofs.HeardLater.{all_more, heard_later, settled_later, granted_of}
 use Rattle.client_sessions.proofs.SlotStands.{AskedOut, asked_later}
 
@@ -86,7 +86,7 @@ IsHeld (Some l) held xid = held ≡ xid
 abbrev pub AreSettled : List HistoryItem → Option Layout → Option Asked → ℕ → Type 0
 AreSettled past layout asked held =
     (xid : ℕ) (name : List ℕ) (session : SessionId) (sequence : ℕ) (other : OpenFile) → HasItem past (Sends (CallsMds xid name (OnSlot session sequence (slot.LayoutGet other))))
-    → IsOut asked xid ⊎ (IsHeld layout held xid ⊎ HasSettled past xid name session sequence other)
+    → IsOut asked xid ⊎ (IsHeld layout held xid ⊎ IsAskSettled past xid name session sequence other)
 
 pub record LayoutsOf (past : List HistoryItem) (name : List ℕ) (tie : Tie) (file : Option OpenFile) (layout : Option Layout) (asked : Option Asked) (has_left : Bool) : Type 0 where
   pub held : ℕ
@@ -151,7 +151,7 @@ pub settles_later : (past more : List HistoryItem) (layout layout' : Option Layo
 settles_later past more layout layout' asked asked' held held' none outs holds all xid name session sequence other i =
     by_way (all xid name session sequence other (sent_before past more none xid name (OnSlot session sequence (slot.LayoutGet other)) i))
   where
-    by_way : IsOut asked xid ⊎ (IsHeld layout held xid ⊎ HasSettled past xid name session sequence other) → IsOut asked' xid ⊎ (IsHeld layout' held' xid ⊎ HasSettled (past ++ more) xid name session sequence other)
+    by_way : IsOut asked xid ⊎ (IsHeld layout held xid ⊎ IsAskSettled past xid name session sequence other) → IsOut asked' xid ⊎ (IsHeld layout' held' xid ⊎ IsAskSettled (past ++ more) xid name session sequence other)
     by_way (inl out) = inl (outs xid out)
     by_way (inr (inl holding)) = inr (inl (holds xid holding))
     by_way (inr (inr s)) = inr (inr (settled_later past more xid name session sequence other s))

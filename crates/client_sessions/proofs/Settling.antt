@@ -24,7 +24,7 @@ use Rattle.client_state.specs.ClientSends.{ClientSend, CallsServer, CallsMds, Re
 use Rattle.client_laws.specs.ClientHistory.{ClientInput, HistoryItem, Hears, Sends, Recorded, HasItem}
 use Rattle.client_laws.proofs.Stands.{NumbersStand, IfThere, IsOut}
 use Rattle.client_sessions.specs.HeardReplies.{IsHeard, IsNoCompound}
-use Rattle.client_sessions.specs.LayoutEnds.{HasEnded, ByReturn, BySession, HasSettled}
+use Rattle.client_sessions.specs.LayoutEnds.{HasLayoutEnded, ByReturn, BySession, IsAskSettled}
 use Rattle.client_sessions.proofs.HeardLater.{heard_later, heard_sent, settled_later}
 use Rattle.client_sessions.proofs.CallsMade.{IsOnSession, IsBy}
 use Rattle.client_sessions.proofs.SlotStands.{AskedOut, asked_sent, asked_heard}
@@ -34,7 +34,7 @@ use Rattle.client_sessions.proofs.LayoutsHeld.{LayoutOf, AskedSince, IsHere, IsS
 
 -- it is settled where it is a LAYOUTGET
 abbrev SettledCall : List HistoryItem → ℕ → List ℕ → MdsCallValue → Type 0
-SettledCall past xid name (OnSlot session sequence (slot.LayoutGet file)) = HasSettled past xid name session sequence file
+SettledCall past xid name (OnSlot session sequence (slot.LayoutGet file)) = IsAskSettled past xid name session sequence file
 SettledCall past xid name call = Unit {0}
 
 abbrev SettledSend : List HistoryItem → ClientSend → Type 0
@@ -43,7 +43,7 @@ SettledSend past send = Unit {0}
 
 -- whatever has the number of one that is settled is settled
 settled_once : (h past : List HistoryItem) (next : ℕ) → NumbersStand h next → (xid : ℕ) (own : List ℕ) (call : MdsCallValue) → HasItem h (Sends (CallsMds xid own call)) → SettledCall past xid own call
-    → (number : ℕ) (name : List ℕ) (session : SessionId) (sequence : ℕ) (other : OpenFile) → xid ≡ number → HasItem h (Sends (CallsMds number name (OnSlot session sequence (slot.LayoutGet other)))) → HasSettled past number name session sequence other
+    → (number : ℕ) (name : List ℕ) (session : SessionId) (sequence : ℕ) (other : OpenFile) → xid ≡ number → HasItem h (Sends (CallsMds number name (OnSlot session sequence (slot.LayoutGet other)))) → IsAskSettled past number name session sequence other
 settled_once h past next numbers xid own call sent settled number name session sequence other same i =
     subst (SettledSend past) (numbers.once (CallsMds xid own call) (CallsMds number name (OnSlot session sequence (slot.LayoutGet other))) xid sent i refl (ap Some (sym same))) settled
 
@@ -74,7 +74,7 @@ module _ (h : List HistoryItem) (name : List ℕ) (tie : Tie) (file : Option Ope
   -- a LAYOUTGET that was out is settled by a reply that grants nothing and is final
   pub out_settles : (next : ℕ) → NumbersStand h next → ((reply_of_ask kind reply).slot ≡ Delayed → ⊥) → ((g : LayoutGrant) → (reply_of_ask kind reply).answer ≡ Granted g → ⊥)
       → (number : ℕ) (caller : List ℕ) (session : SessionId) (sequence : ℕ) (other : OpenFile) → xid ≡ number → HasItem h (Sends (CallsMds number caller (OnSlot session sequence (slot.LayoutGet other))))
-      → HasSettled (h ++ Hears (Recorded Mds bytes now) ∷ []) number caller session sequence other
+      → IsAskSettled (h ++ Hears (Recorded Mds bytes now) ∷ []) number caller session sequence other
   out_settles next numbers final none = settled_once h (h ++ Hears (Recorded Mds bytes now) ∷ []) next numbers xid name out.call (asked_sent h name tie file xid kind out) (reply_settles final none out.call refl)
 
 -- ---- by the end of a layout
@@ -83,18 +83,18 @@ same_grant : (g k : LayoutGrant) → Granted g ≡ Granted k → g ≡ k
 same_grant g k is = cc
 
 module _ (past : List HistoryItem) (held : ℕ) (name : List ℕ) (tie : Tie) (file : Option OpenFile) (asked : Option Asked) (stateid : Stateid) (writer : WriterValue) (o : LayoutOf past held name tie file asked stateid writer) (more : List HistoryItem) where
-  held_settles : HasEnded (o.behind ++ more) o.session o.other.file o.grant → HasSettled (past ++ more) held name o.session o.sequence o.other
+  held_settles : HasLayoutEnded (o.behind ++ more) o.session o.other.file o.grant → IsAskSettled (past ++ more) held name o.session o.sequence o.other
   held_settles ended = record {
     says = o.says;
     behind = o.behind ++ more;
     heard = heard_later past more held name (OnSlot o.session o.sequence (slot.LayoutGet o.other)) o.says o.behind o.heard;
     final = o.final;
-    ended = λ g is. subst (λ (k : LayoutGrant). HasEnded (o.behind ++ more) o.session o.other.file k) (same_grant o.grant g (sym o.is ∙ is)) ended;
+    ended = λ g is. subst (λ (k : LayoutGrant). HasLayoutEnded (o.behind ++ more) o.session o.other.file k) (same_grant o.grant g (sym o.is ∙ is)) ended;
   }
 
-  pub layout_settles : (next : ℕ) → NumbersStand past next → HasEnded (o.behind ++ more) o.session o.other.file o.grant
+  pub layout_settles : (next : ℕ) → NumbersStand past next → HasLayoutEnded (o.behind ++ more) o.session o.other.file o.grant
       → (number : ℕ) (caller : List ℕ) (session : SessionId) (sequence : ℕ) (other : OpenFile) → held ≡ number → HasItem past (Sends (CallsMds number caller (OnSlot session sequence (slot.LayoutGet other))))
-      → HasSettled (past ++ more) number caller session sequence other
+      → IsAskSettled (past ++ more) number caller session sequence other
   layout_settles next numbers ended =
       settled_once past (past ++ more) next numbers held name (OnSlot o.session o.sequence (slot.LayoutGet o.other)) (heard_sent past held name (OnSlot o.session o.sequence (slot.LayoutGet o.other)) o.says o.behind o.heard) (held_settles ended)
 
@@ -106,7 +106,7 @@ module _ (past : List HistoryItem) (held : ℕ) (name : List ℕ) (tie : Tie) (f
   its_since = subst (λ (k : Option Asked). IfThere k (λ b. AskedSince o.behind name tie file o.other.file o.grant.stateid b.xid b.ask)) at o.since
 
   -- the session is gone
-  pub ended_session : (reply_of_ask a.ask reply).answer ≡ Refused 10052 → HasEnded (o.behind ++ Hears (Recorded Mds bytes now) ∷ []) o.session o.other.file o.grant
+  pub ended_session : (reply_of_ask a.ask reply).answer ≡ Refused 10052 → HasLayoutEnded (o.behind ++ Hears (Recorded Mds bytes now) ∷ []) o.session o.other.file o.grant
   ended_session is = by_call its_since.out.call refl its_since.out.by
     where
       by_tie : (tie : Tie) → IsHere tie o.session → (session : SessionId) (sequence : ℕ) → IsOnSession tie session sequence → session ≡ o.session
@@ -120,7 +120,7 @@ module _ (past : List HistoryItem) (held : ℕ) (name : List ℕ) (tie : Tie) (f
       none_has : (tie : Tie) → IsHere tie o.session → (clientid sequence : ℕ) → tie ≡ HasClient clientid sequence → ⊥
       none_has tie here clientid sequence is = subst (λ (t : Tie). IsHere t o.session) is here
 
-      by_call : (call : MdsCallValue) → its_since.out.call ≡ call → IsBy tie call → HasEnded (o.behind ++ Hears (Recorded Mds bytes now) ∷ []) o.session o.other.file o.grant
+      by_call : (call : MdsCallValue) → its_since.out.call ≡ call → IsBy tie call → HasLayoutEnded (o.behind ++ Hears (Recorded Mds bytes now) ∷ []) o.session o.other.file o.grant
       by_call (ExchangeId verifier) same by = absurd (none_here tie o.on by)
       by_call (CreateSession clientid sequence) same by = absurd (none_has tie o.on clientid sequence by)
       by_call (OnSlot session sequence call) same by =
@@ -128,7 +128,7 @@ module _ (past : List HistoryItem) (held : ℕ) (name : List ℕ) (tie : Tie) (f
           (asked_heard o.behind name tie file a.xid a.ask its_since.out bytes now reply reply_is number (OnSlot o.session sequence call) (same ∙ ap (λ (id : SessionId). OnSlot id sequence call) (by_tie tie o.on session sequence by))) is
 
   -- it is given back, or its stateid is not known
-  pub ended_return : a.ask ≡ ask.LayoutReturn → ((reply_of_ask a.ask reply).answer ≡ Returned) ⊎ ((reply_of_ask a.ask reply).answer ≡ Refused 10025) → HasEnded (o.behind ++ Hears (Recorded Mds bytes now) ∷ []) o.session o.other.file o.grant
+  pub ended_return : a.ask ≡ ask.LayoutReturn → ((reply_of_ask a.ask reply).answer ≡ Returned) ⊎ ((reply_of_ask a.ask reply).answer ≡ Refused 10025) → HasLayoutEnded (o.behind ++ Hears (Recorded Mds bytes now) ∷ []) o.session o.other.file o.grant
   ended_return kind is = by_call its_since.out.call refl its_since.out.by its_since.returns (its_since.out.kind_is ∙ kind)
     where
       by_tie : (tie : Tie) → IsHere tie o.session → (session : SessionId) (sequence : ℕ) → IsOnSession tie session sequence → session ≡ o.session
@@ -137,7 +137,7 @@ module _ (past : List HistoryItem) (held : ℕ) (name : List ℕ) (tie : Tie) (f
       by_tie (HasSession s) here session sequence by = sym by.0 ∙ here
 
       by_slot : (session : SessionId) (sequence : ℕ) (call : SlotCallValue) → its_since.out.call ≡ OnSlot session sequence call → session ≡ o.session → IsSlotReturn o.other.file o.grant.stateid call → ask_on_slot call ≡ ask.LayoutReturn
-          → HasEnded (o.behind ++ Hears (Recorded Mds bytes now) ∷ []) o.session o.other.file o.grant
+          → HasLayoutEnded (o.behind ++ Hears (Recorded Mds bytes now) ∷ []) o.session o.other.file o.grant
       by_slot session sequence (slot.LayoutReturn id state failed) same here its its_kind =
           ByReturn a.xid name sequence failed (reply_of_ask a.ask reply) []
           (asked_heard o.behind name tie file a.xid a.ask its_since.out bytes now reply reply_is number (OnSlot o.session sequence (slot.LayoutReturn o.other.file o.grant.stateid failed))
@@ -150,7 +150,7 @@ module _ (past : List HistoryItem) (held : ℕ) (name : List ℕ) (tie : Tie) (f
       by_slot session sequence (slot.Read f at count) same here its its_kind = absurd (cc (its_kind))
       by_slot session sequence slot.Renew same here its its_kind = absurd (cc (its_kind))
 
-      by_call : (call : MdsCallValue) → its_since.out.call ≡ call → IsBy tie call → IsReturnCall o.other.file o.grant.stateid its_since.out.call → ask_of its_since.out.call ≡ ask.LayoutReturn → HasEnded (o.behind ++ Hears (Recorded Mds bytes now) ∷ []) o.session o.other.file o.grant
+      by_call : (call : MdsCallValue) → its_since.out.call ≡ call → IsBy tie call → IsReturnCall o.other.file o.grant.stateid its_since.out.call → ask_of its_since.out.call ≡ ask.LayoutReturn → HasLayoutEnded (o.behind ++ Hears (Recorded Mds bytes now) ∷ []) o.session o.other.file o.grant
       by_call (ExchangeId verifier) same by its its_kind = absurd (cc (ap ask_of same, its_kind))
       by_call (CreateSession clientid sequence) same by its its_kind = absurd (cc (ap ask_of same, its_kind))
       by_call (OnSlot session sequence call) same by its its_kind =

@@ -27,7 +27,7 @@ use Rattle.client_records.proofs.Cases.{IsDsAnswered, heard_server, heard_late, 
 use Rattle.client_records.proofs.EachRun.{Base}
 use Rattle.client_records.proofs.Numbers.{found_sent}
 use Rattle.client_sessions.specs.HeardReplies.{IsHeard, IsNoCompound}
-use Rattle.client_sessions.specs.LayoutEnds.{HasEnded, ByFence, HasSettled, HasNotLeft}
+use Rattle.client_sessions.specs.LayoutEnds.{HasLayoutEnded, ByFence, IsAskSettled, HasNotLeft}
 use Rattle.client_sessions.proofs.HeardLater.{all_more, in_behind, settled_later}
 use Rattle.client_sessions.proofs.Fences.{FencedBy, reply_fence, timeout_none}
 use Rattle.client_sessions.proofs.Settling.{layout_settles}
@@ -60,7 +60,7 @@ module _ (h : List HistoryItem) (c : ClientValue) (l : Layout) (at : c.layout �
   }
 
   -- it has ended
-  pub no_layout : NumbersStand h c.next_xid → HasEnded ((its_layout h c was l at).behind ++ more) (its_layout h c was l at).session (its_layout h c was l at).other.file (its_layout h c was l at).grant
+  pub no_layout : NumbersStand h c.next_xid → HasLayoutEnded ((its_layout h c was l at).behind ++ more) (its_layout h c was l at).session (its_layout h c was l at).other.file (its_layout h c was l at).grant
       → LayoutsOf (h ++ more) c.name c.tie c.file None c.asked c.has_left
   no_layout numbers ended = record {
     held = was.held;
@@ -70,7 +70,7 @@ module _ (h : List HistoryItem) (c : ClientValue) (l : Layout) (at : c.layout �
   }
     where
       by_way : (xid : ℕ) (name : List ℕ) (session : SessionId) (sequence : ℕ) (other : OpenFile) → HasItem h (Sends (CallsMds xid name (OnSlot session sequence (slot.LayoutGet other))))
-          → IsOut c.asked xid ⊎ (IsHeld c.layout was.held xid ⊎ HasSettled h xid name session sequence other) → IsOut c.asked xid ⊎ (IsHeld None was.held xid ⊎ HasSettled (h ++ more) xid name session sequence other)
+          → IsOut c.asked xid ⊎ (IsHeld c.layout was.held xid ⊎ IsAskSettled h xid name session sequence other) → IsOut c.asked xid ⊎ (IsHeld None was.held xid ⊎ IsAskSettled (h ++ more) xid name session sequence other)
       by_way xid name session sequence other i (inl out) = inl out
       by_way xid name session sequence other i (inr (inl holding)) =
           inr (inr (layout_settles h was.held c.name c.tie c.file c.asked l.stateid l.writer (its_layout h c was l at) more c.next_xid numbers ended xid name session sequence other (subst (λ (o : Option Layout). IsHeld o was.held xid) at holding) i))

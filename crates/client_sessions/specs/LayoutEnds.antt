@@ -40,26 +40,26 @@ IsFenceStatus status = (status ≡ ACCES) ⊎ (status ≡ STALE)
 
 -- a LAYOUTRETURN of it was answered: accepted, or the stateid is unknown; a request on the session on which it was granted was answered that the
 -- session is gone; or a call to a data server under its uid was refused as one whose layout is no more
-pub data HasEnded (behind : List HistoryItem) (session : SessionId) (file : FileId) (grant : LayoutGrant) : Type 0 where
+pub data HasLayoutEnded (behind : List HistoryItem) (session : SessionId) (file : FileId) (grant : LayoutGrant) : Type 0 where
   ByReturn : (xid : ℕ) (name : List ℕ) (sequence : ℕ) (failed : List FailedMirror) (says : MdsReplyValue) (more : List HistoryItem)
-      → IsHeard behind xid name (OnSlot session sequence (slot.LayoutReturn file grant.stateid failed)) says more → (says.answer ≡ Returned) ⊎ (says.answer ≡ Refused bad_stateid) → HasEnded behind session file grant
+      → IsHeard behind xid name (OnSlot session sequence (slot.LayoutReturn file grant.stateid failed)) says more → (says.answer ≡ Returned) ⊎ (says.answer ≡ Refused bad_stateid) → HasLayoutEnded behind session file grant
   BySession : (xid : ℕ) (name : List ℕ) (sequence : ℕ) (call : SlotCallValue) (says : MdsReplyValue) (more : List HistoryItem)
-      → IsHeard behind xid name (OnSlot session sequence call) says more → says.answer ≡ Refused bad_session → HasEnded behind session file grant
+      → IsHeard behind xid name (OnSlot session sequence call) says more → says.answer ≡ Refused bad_session → HasLayoutEnded behind session file grant
   ByFence : (server xid : ℕ) (name : List ℕ) (call : DsCallValue) (bytes : List ℕ) (now status : ℕ) (shown : Option Shown)
       → IsDsReply bytes xid call (Failed status shown) → IsFenceStatus status
-      → InOrder (Sends (CallsServer server xid name grant.uid.0 call) ∷ Hears (Recorded (Server server) bytes now) ∷ []) behind → HasEnded behind session file grant
+      → InOrder (Sends (CallsServer server xid name grant.uid.0 call) ∷ Hears (Recorded (Server server) bytes now) ∷ []) behind → HasLayoutEnded behind session file grant
 
 -- A reply to this LAYOUTGET was heard that is final: it granted nothing, or what it granted has ended since.
-pub record HasSettled (past : List HistoryItem) (xid : ℕ) (name : List ℕ) (session : SessionId) (sequence : ℕ) (file : OpenFile) : Type 0 where
+pub record IsAskSettled (past : List HistoryItem) (xid : ℕ) (name : List ℕ) (session : SessionId) (sequence : ℕ) (file : OpenFile) : Type 0 where
   pub says : MdsReplyValue
   pub behind : List HistoryItem
   pub heard : IsHeard past xid name (OnSlot session sequence (slot.LayoutGet file)) says behind
   pub final : says.slot ≡ Delayed → ⊥
-  pub ended : (grant : LayoutGrant) → says.answer ≡ Granted grant → HasEnded behind session file.file grant
+  pub ended : (grant : LayoutGrant) → says.answer ≡ Granted grant → HasLayoutEnded behind session file.file grant
 
 abbrev pub AsksSettled : List HistoryItem → SlotCallValue → Type 0
 AsksSettled past (slot.LayoutGet file) =
-    (xid : ℕ) (name : List ℕ) (session : SessionId) (sequence : ℕ) (other : OpenFile) → HasItem past (Sends (CallsMds xid name (OnSlot session sequence (slot.LayoutGet other)))) → HasSettled past xid name session sequence other
+    (xid : ℕ) (name : List ℕ) (session : SessionId) (sequence : ℕ) (other : OpenFile) → HasItem past (Sends (CallsMds xid name (OnSlot session sequence (slot.LayoutGet other)))) → IsAskSettled past xid name session sequence other
 AsksSettled past call = Unit {0}
 
 abbrev pub AsksOnSlot : List HistoryItem → MdsCallValue → Type 0

@@ -14,7 +14,7 @@ use Rattle.mds_rule.specs.MdsStates.{ServedFile, MdsValue, new_mds}
 use Rattle.mds_laws.specs.MdsRuns.{MdsEvent, after_event, run_from, mds_run}
 use Rattle.mds_laws.proofs.Lists.{In, in_more}
 use Rattle.mds_replies.specs.ClientCalls.{server_after}
-use Rattle.mds_replies.specs.LayoutReplies.{HasPeriod, EndsPeriod, PeriodsGoOn, PeriodsEnd, PeriodsAreOwn}
+use Rattle.mds_replies.specs.LayoutReplies.{HasPeriod, EntersEnd, PeriodsGoOn, PeriodsEnd, PeriodsAreOwn}
 use Rattle.mds_replies.proofs.NowUids.{now_by, now_uid}
 use Rattle.mds_replies.proofs.EndsOnce.{run_once, ends_uid, HasNone}
 use Rattle.mds_replies.proofs.HeldFiles.{in_behind}
@@ -63,7 +63,7 @@ periods_go_on servers mirrors before more file client uid calls p =
     by_case (run_goes file client uid (server_after servers mirrors before) more (run_once servers mirrors before).agree (to_has (server_after servers mirrors before) file client uid p))
   where
     by_case : Goes file client uid (run_from (server_after servers mirrors before) more).mds.files (run_from (server_after servers mirrors before) more).entries
-        → HasPeriod (server_after servers mirrors (before ++ more)) file client uid ⊎ EndsPeriod (run_from (server_after servers mirrors before) more).entries file uid
+        → HasPeriod (server_after servers mirrors (before ++ more)) file client uid ⊎ EntersEnd (run_from (server_after servers mirrors before) more).entries file uid
     by_case (inl has) =
         inl (subst (λ (m : MdsValue). HasPeriod m file client uid) (sym (run_behind (new_mds servers mirrors) before more)) (from_has (run_from (server_after servers mirrors before) more).mds file client uid has))
     by_case (inr e) = inr (record { cause = e.cause; there = e.there })
@@ -79,7 +79,7 @@ none_in uid [] e none inside = absurd inside
 none_in uid (x ∷ es) e none (inl is) = ap (ends_uid uid) is ∙ (both_off (ends_uid uid x) (list_any (ends_uid uid) es) none).0
 none_in uid (x ∷ es) e none (inr inside) = none_in uid es e (both_off (ends_uid uid x) (list_any (ends_uid uid) es) none).1 inside
 
-not_ended : (uid : ℕ) (es : List Entry) (file : FileId) → HasNone uid es → EndsPeriod es file uid → ⊥
+not_ended : (uid : ℕ) (es : List Entry) (file : FileId) → HasNone uid es → EntersEnd es file uid → ⊥
 not_ended uid es file none e = not_so (sym (eq-eqb uid uid refl) ∙ none_in uid es (entry.Ended file (record { 0 = uid }) e.cause) none e.there)
   where
     not_so : true ≡ false → ⊥
@@ -115,7 +115,7 @@ one_now servers mirrors events file other client stranger uid p q =
 pub periods_are_own : PeriodsAreOwn
 periods_are_own servers mirrors before more file other client stranger uid calls p q = by_case (periods_go_on servers mirrors before more file client uid calls p)
   where
-    by_case : HasPeriod (server_after servers mirrors (before ++ more)) file client uid ⊎ EndsPeriod (run_from (server_after servers mirrors before) more).entries file uid → (file ≡ other) × (client ≡ stranger)
+    by_case : HasPeriod (server_after servers mirrors (before ++ more)) file client uid ⊎ EntersEnd (run_from (server_after servers mirrors before) more).entries file uid → (file ≡ other) × (client ≡ stranger)
     by_case (inl still) = one_now servers mirrors (before ++ more) file other client stranger uid still q
     by_case (inr e) =
         absurd (not_ended uid (mds_run servers mirrors (before ++ more)).entries file (still_none servers mirrors (before ++ more) other stranger uid q)

@@ -26,7 +26,7 @@ pub record HasPeriod (m : MdsValue) (file : FileId) (client uid : ℕ) : Type 0 
   pub its_uid : file_is.file.layout.cred.0 ≡ uid
 
 -- the event enters that a period ended
-pub record EndsPeriod (entries : List Entry) (file : FileId) (uid : ℕ) : Type 0 where
+pub record EntersEnd (entries : List Entry) (file : FileId) (uid : ℕ) : Type 0 where
   pub cause : EndCause
   pub there : In (Ended file (record { 0 = uid }) cause) entries
 
@@ -35,12 +35,12 @@ pub record EndsPeriod (entries : List Entry) (file : FileId) (uid : ℕ) : Type 
 abbrev pub PeriodsGoOn : Type 0
 PeriodsGoOn =
     (servers : List AddressValue) (mirrors : ℕ) (before more : List MdsEvent) (file : FileId) (client uid : ℕ) → AreCalls (before ++ more) → HasPeriod (server_after servers mirrors before) file client uid
-    → HasPeriod (server_after servers mirrors (before ++ more)) file client uid ⊎ EndsPeriod (run_from (server_after servers mirrors before) more).entries file uid
+    → HasPeriod (server_after servers mirrors (before ++ more)) file client uid ⊎ EntersEnd (run_from (server_after servers mirrors before) more).entries file uid
 
 -- and behind that it is not had again, by whomever
 abbrev pub PeriodsEnd : Type 0
 PeriodsEnd =
-    (servers : List AddressValue) (mirrors : ℕ) (before more : List MdsEvent) (file : FileId) (uid : ℕ) → AreCalls (before ++ more) → EndsPeriod (run_from (new_mds servers mirrors) before).entries file uid
+    (servers : List AddressValue) (mirrors : ℕ) (before more : List MdsEvent) (file : FileId) (uid : ℕ) → AreCalls (before ++ more) → EntersEnd (run_from (new_mds servers mirrors) before).entries file uid
     → (other : FileId) (client : ℕ) → HasPeriod (server_after servers mirrors (before ++ more)) other client uid → ⊥
 
 -- one file and one client have it
