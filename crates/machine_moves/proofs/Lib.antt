@@ -1,2 +1,4 @@
 pub mod Going
 pub mod Packets
+pub mod Bound
+pub mod Numbers

@@ -1,6 +1,6 @@
 -- Compounds, and what comes of answers and timeouts, keep what is kept in each case.
-use Rattle.std.proofs.Common.{◌≡◌, ℕ, Bool, true, false, List, [], ◌∷◌, ◌++◌, length, Option, Some, None, refl, sym, ap, subst, ◌∙◌, inr}
-use Rattle.std.specs.Prelude.{not, ◌==◌, slice_get, remove, drop, position, map}
+use Rattle.std.proofs.Common.{◌≡◌, ℕ, zero, suc, ◌-◌, Bool, true, false, List, [], ◌∷◌, ◌++◌, length, Option, Some, None, refl, sym, ap, subst, ◌∙◌}
+use Rattle.std.specs.Prelude.{not, ◌==◌, slice_get, slice_set, remove, drop, position, map}
 use Rattle.std.specs.List.{find}
 use Rattle.std.specs.Option.{option_map}
 use Rattle.std.proofs.lemmas.Bool.{cond_both, and_parts, eqb-true}
@@ -17,7 +17,7 @@ use Rattle.cluster_model.specs.declared.entry.Entry.TheVariants as entry
 use Rattle.cluster_model.specs.DsCalls.{DsCallValue, DsReplyValue}
 use Rattle.cluster_model.specs.Nodes.{is_node}
 use Rattle.file_rule.specs.MdsFiles.{MdsFile}
-use Rattle.file_rule.specs.FilePhases.{Answers, TimesOut, OwnEnds, Revokes, Sees, phase, is_outstanding}
+use Rattle.file_rule.specs.FilePhases.{Answers, TimesOut, Revokes, Sees, phase, is_outstanding}
 use Rattle.mds_io.specs.declared.read_end.Failure.{Failure}
 use Rattle.mds_io.specs.declared.read_end.ReadEnd.{ReadEnd}
 use Rattle.mds_io.specs.declared.read_end.ReadEnd.TheVariants as end
@@ -49,19 +49,24 @@ use Rattle.mds_rule.specs.MdsStates.{CompoundRun, WaitingRead, WaitingWrite, Ser
 use Rattle.mds_rule.specs.declared.waiter.Waiter.{Waiter}
 use Rattle.mds_rule.specs.declared.waiter.Waiter.TheVariants.{ForFile, ForRead, ForWrite, ForRecall}
 use Rattle.mds_rule.specs.OpSteps.{OpStep, Goes, Ends, Waits, with_result, refuses, refused_as, unread, stopped, is_operation_number}
-use Rattle.mds_rule.specs.ServedFiles.{has_fresh, file_stepped, takes_input}
+use Rattle.mds_rule.specs.ServedFiles.{has_fresh, file_stepped, input_at, takes_input}
 use Rattle.mds_rule.specs.Compounds.{operate, has_session, operates, compound_bytes, kept_in_slot, finishes, op_then, with_ops, runs, sequence_in, in_slot, sequenced, sequence_of, may_stand_alone, first_alone, first_by, first_operation, new_run, runs_compound}
-use Rattle.mds_rule.specs.Answers.{server_number, is_file_out, is_awaited_by, is_awaited, sized, fileid_of, attributes_shown, sees_in, sees_size, resumes, is_done_as, has_failed_as, failed_entry, failed_entries, read_result, without_read, read_ends, read_step_at, read_from, read_of, steps_read, is_read_out, write_answer, write_ends, write_of, write_in, steps_write, with_failed, failures_by_place, has_failed_everywhere, write_over, sees_ctime, recall_end, recall_outcome, recalls_after, own_answer, server_answered, answered_as, answers_found, takes_answer, timed_out_for}
+use Rattle.mds_rule.specs.Answers.{server_number, is_file_out, is_awaited_by, is_awaited, sized, fileid_of, attributes_shown, sees_in, sees_size, resumes, is_done_as, has_failed_as, failed_entry, failed_entries, read_result, without_read, read_ends, read_step_at, read_from, read_of, steps_read, is_read_out, write_answer, write_stepped, write_ends, write_of, write_in, steps_write, has_failed_everywhere, write_over, sees_ctime, recall_end, recall_outcome, recalls_after, own_answer, server_answered, answered_as, answers_found, takes_answer, timed_out_for}
 use Rattle.mds_laws.specs.SlotUses.{first_request}
-use Rattle.mds_laws.proofs.Keeping.{Becomes, Enters, Keeps, KeepsOp, Cases, HeardOf, Hearing, IsWriterOf, IsWriteOf, then_keeps, none_keeps, same, becomes_keeps, enters_keeps, no_entries, stays, silent_keeps}
+use Rattle.mds_laws.proofs.EachCases.{EachCase, end_input, without_write}
+use Rattle.mds_laws.proofs.Keeping.{Becomes, Enters, Keeps, KeepsOp, HeardOf, Hearing, then_keeps, none_keeps, same, becomes_keeps, enters_keeps, no_entries, stays, silent_keeps}
 use Rattle.mds_laws.proofs.Lists.{found_in, found_passes}
-use Rattle.mds_laws.proofs.OwnWriters.{StaysWriter}
 use Rattle.mds_laws.proofs.Requested.{behind_request}
 use Rattle.mds_laws.proofs.ServedWalk.{takes, takes_by, recalls_become, exchanges, creates, binds, destroys_session, destroys_client, reclaims_all}
-use Rattle.mds_laws.proofs.OpsWalk.{old_write, served_again, puts_fh, gets_fh, looks_up, gets_attr, opens, closes_file, commits, reads, writes, layout_gets, layout_returns, layout_commits, device_infos}
-use Rattle.mds_laws.proofs.WriterKept.{answer_kept, timeout_kept}
+use Rattle.mds_laws.proofs.OpsWalk.{served_again, puts_fh, gets_fh, looks_up, gets_attr, opens, closes_file, commits, reads, writes, layout_gets, layout_returns, layout_commits, device_infos}
 
-module _ (I : MdsValue → List Entry → List MdsSend → Type 0) (Heard : HeardOf) (k : Cases I Heard) where
+-- what is put at a place twice
+pub set_twice : (xs : List ServedFile) (place : ℕ) (a b : ServedFile) → slice_set (slice_set xs place a) place b ≡ slice_set xs place b
+set_twice [] place a b = refl
+set_twice (x ∷ xs) zero a b = refl
+set_twice (x ∷ xs) (suc place) a b = ap (λ (l : List ServedFile). x ∷ l) (set_twice xs place a b)
+
+module _ (I : MdsValue → List Entry → List MdsSend → Type 0) (Heard : HeardOf) (k : EachCase I Heard) where
   -- ---- one operation after the other
 
   -- what its slot keeps of the reply
@@ -200,9 +205,9 @@ module _ (I : MdsValue → List Entry → List MdsSend → Type 0) (Heard : Hear
   -- ---- what an answer shows
 
   size_walk : (m : MdsValue) (file : FileId) (server : ℕ) (s : ServedFile) → served m file ≡ Some s → (fileid : Option ℕ) (shown : Option Shown) → Becomes I m (with_served m file (sized s server fileid shown))
-  size_walk m file server s is (Some fileid) (Some shown) = k.puts m file s (sized s server (Some fileid) (Some shown)) is refl (old_write s.file s.write)
-  size_walk m file server s is None shown = k.puts m file s s is refl (old_write s.file s.write)
-  size_walk m file server s is (Some fileid) None = k.puts m file s s is refl (old_write s.file s.write)
+  size_walk m file server s is (Some fileid) (Some shown) = k.puts m file s (sized s server (Some fileid) (Some shown)) is refl refl refl
+  size_walk m file server s is None shown = k.puts m file s s is refl refl refl
+  size_walk m file server s is (Some fileid) None = k.puts m file s s is refl refl refl
 
   sees_walk : (m : MdsValue) (file : FileId) (server : ℕ) (call : DsCallValue) (reply : DsReplyValue) (o : Option ServedFile) → served m file ≡ o → Becomes I m (sees_in m file server call reply o)
   sees_walk m file server call reply None is = λ es ss i. i
@@ -219,15 +224,15 @@ module _ (I : MdsValue → List Entry → List MdsSend → Type 0) (Heard : Hear
       λ es ss i. subst (λ (l : List Entry). I m l ss) (append_assoc es (failed_entry f ∷ []) (map failed_entry failures)) (failures_walk m failures (es ++ failed_entry f ∷ []) ss (k.notes m (failed_entry f) refl es ss i))
 
   read_end_walk : (now : ℕ) (m : MdsValue) (file : FileId) (s : ServedFile) → served m file ≡ Some s → (place : ℕ) (r : WaitingRead) (after : ReadState) (o : Option ReadEnd) → Keeps I m (read_ends now m file s place r after o)
-  read_end_walk now m file s is place r after None = none_keeps I m _ (k.puts m file s _ is refl (old_write s.file s.write))
+  read_end_walk now m file s is place r after None = none_keeps I m _ (k.puts m file s _ is refl refl refl)
   read_end_walk now m file s is place r after (Some (end.Bytes eof bytes)) =
       let q = is_done_as (without_read m file s place) r.compound (read_result eof bytes) in
       enters_keeps I m m (entry.ReadAnswer file 0 bytes ∷ []) (resumes now q r.compound.ops) (k.notes m (entry.ReadAnswer file 0 bytes) refl)
-      (resume_walk now m q r.compound.ops (no_entries I m (without_read m file s place) (k.puts m file s (record s { reads = remove s.reads place }) is refl (old_write s.file s.write))))
+      (resume_walk now m q r.compound.ops (no_entries I m (without_read m file s place) (k.puts m file s (record s { reads = remove s.reads place }) is refl refl refl)))
   read_end_walk now m file s is place r after (Some (end.AllFailed failures)) =
       let q = has_failed_as (without_read m file s place) r.compound 25 in
       enters_keeps I m m (entry.ReadAnswer file 5 [] ∷ []) (resumes now q r.compound.ops) (k.notes m (entry.ReadAnswer file 5 []) refl)
-      (resume_walk now m q r.compound.ops (no_entries I m (without_read m file s place) (k.puts m file s (record s { reads = remove s.reads place }) is refl (old_write s.file s.write))))
+      (resume_walk now m q r.compound.ops (no_entries I m (without_read m file s place) (k.puts m file s (record s { reads = remove s.reads place }) is refl refl refl)))
 
   read_at_walk : (now : ℕ) (m : MdsValue) (file : FileId) (s : ServedFile) → served m file ≡ Some s → (step : ReadState → ReadAfter) (place : ℕ) (o : Option WaitingRead) → Keeps I m (read_step_at now m file s step place o)
   read_at_walk now m file s is step place None = same I m
@@ -253,31 +258,47 @@ module _ (I : MdsValue → List Entry → List MdsSend → Type 0) (Heard : Hear
   write_answered m c count true = stays I m
   write_answered m c count false = stays I m
 
-  write_end_walk : (now : ℕ) (m : MdsValue) (file : FileId) (s : ServedFile) → served m file ≡ Some s → (w : WaitingWrite) → IsWriteOf s.file s.write (Some w) → (o : Option (List Bool)) → Keeps I m (write_ends now m file s w o)
-  write_end_walk now m file s is w its None = none_keeps I m (with_served m file (record s { write = Some w })) (k.puts m file s (record s { write = Some w }) is refl its)
-  write_end_walk now m file s is w its (Some places) =
-      let n : MdsValue = with_served m file (record s { write = None }) in
-      let causes = failures_by_place w.failures s.file.layout.live in
-      let x : MdsStep = takes_input n file (OwnEnds causes w.at w.bytes) in
+  -- its file takes its end, where there is what may be drawn
+  end_walk : (m : MdsValue) (file : FileId) (s : ServedFile) (w : WaitingWrite) (places : List Bool) → served m file ≡ Some s → s.write ≡ Some w → ended w.writer ≡ Some places
+      → Keeps I m (takes_input (with_served m file (without_write s)) file (end_input s w))
+  end_walk m file s w places at waits over =
+      let n : MdsValue = with_served m file (without_write s) in
+      subst (λ (o : Option ServedFile). Keeps I m (input_at n file (end_input s w) o)) (sym (served_again m file s (without_write s) at))
+      (cond_both (has_fresh m.fresh) (file_stepped n file (without_write s) (phase file s.file (end_input s w) m.fresh)) (sends_none n) (λ (x : MdsStep). Keeps I m x)
+      (λ fresh. λ es ss i.
+      subst (λ (l : List MdsSend). I (file_stepped n file (without_write s) (phase file s.file (end_input s w) m.fresh)).mds (es ++ (phase file s.file (end_input s w) m.fresh).entries) l) (sym (append-nil ss)) (k.ends_write m file s w places at waits over fresh es ss i))
+      (λ spent. none_keeps I m n (k.drops_write m file s w places at waits over spent)))
+
+  write_end_walk : (now : ℕ) (m : MdsValue) (file : FileId) (s : ServedFile) → served m file ≡ Some s → (w : WaitingWrite) → Becomes I m (with_served m file (record s { write = Some w })) → (o : Option (List Bool)) → ended w.writer ≡ o
+      → Keeps I m (write_ends now m file s w o)
+  write_end_walk now m file s is w b None over = none_keeps I m (with_served m file (record s { write = Some w })) b
+  write_end_walk now m file s is w b (Some places) over =
+      let t : ServedFile = record s { write = Some w } in
+      let n : MdsValue = with_served m file t in
       let failed : Bool = has_failed_everywhere w.failures s.file.layout.live in
-      becomes_keeps I m n (write_over now x w.compound (length w.bytes) failed) (k.puts m file s (record s { write = None }) is refl tt)
-      (then_keeps I n x (λ y. resumes now (write_answer y w.compound (length w.bytes) failed) w.compound.ops) (silent_keeps I n x (takes I Heard k n file (OwnEnds causes w.at w.bytes) refl))
+      let twice : slice_set (slice_set m.files (file.0 - 1) t) (file.0 - 1) (without_write s) ≡ slice_set m.files (file.0 - 1) (without_write s) = set_twice m.files (file.0 - 1) t (without_write s) in
+      let x : MdsStep = takes_input (with_served m file (without_write s)) file (end_input s w) in
+      let its : Keeps I n x =
+      subst (λ (all : List ServedFile). Keeps I n (takes_input (record m { files = all }) file (end_input s w))) twice (end_walk n file t w places (served_again m file s t is) refl over) in
+      becomes_keeps I m n (write_over now x w.compound (length w.bytes) failed) b
+      (then_keeps I n x (λ y. resumes now (write_answer y w.compound (length w.bytes) failed) w.compound.ops) its
       (λ y. resume_walk now y (write_answer y w.compound (length w.bytes) failed) w.compound.ops (write_answered y w.compound (length w.bytes) failed)))
 
-  write_of_walk : (now : ℕ) (m : MdsValue) (file : FileId) (step : WriterValue → WriterAfter) → ((w : WriterValue) → StaysWriter w (step w).writer) → (s : ServedFile) → served m file ≡ Some s
-      → (o : Option WaitingWrite) → s.write ≡ o → Keeps I m (write_of now m file step s o)
-  write_of_walk now m file step kept s is None its = same I m
-  write_of_walk now m file step kept s is (Some w) its =
-      let a : WriterAfter = step w.writer in
-      write_end_walk now m file s is (record w { writer = a.writer; failures = with_failed a.step w.failures }) (inr (subst (λ (o : Option WaitingWrite). IsWriterOf a.writer o) (sym its) (kept w.writer))) (ended a.writer)
+  -- what a step of its writer leaves waits
+  abbrev StepsWrite : MdsValue → FileId → (WriterValue → WriterAfter) → Type 0
+  StepsWrite m file step = (s : ServedFile) (w : WaitingWrite) → served m file ≡ Some s → s.write ≡ Some w → Becomes I m (with_served m file (record s { write = Some (write_stepped w (step w.writer)) }))
 
-  write_in_walk : (now : ℕ) (m : MdsValue) (file : FileId) (step : WriterValue → WriterAfter) → ((w : WriterValue) → StaysWriter w (step w).writer) → (o : Option ServedFile) → served m file ≡ o
-      → Keeps I m (write_in now m file step o)
-  write_in_walk now m file step kept None is = same I m
-  write_in_walk now m file step kept (Some s) is = write_of_walk now m file step kept s is s.write refl
+  write_of_walk : (now : ℕ) (m : MdsValue) (file : FileId) (step : WriterValue → WriterAfter) → StepsWrite m file step → (s : ServedFile) → served m file ≡ Some s → (o : Option WaitingWrite) → s.write ≡ o
+      → Keeps I m (write_of now m file step s o)
+  write_of_walk now m file step each s is None its = same I m
+  write_of_walk now m file step each s is (Some w) its = write_end_walk now m file s is (write_stepped w (step w.writer)) (each s w is its) (ended (step w.writer).writer) refl
 
-  write_steps : (now : ℕ) (m : MdsValue) (file : FileId) (step : WriterValue → WriterAfter) → ((w : WriterValue) → StaysWriter w (step w).writer) → Keeps I m (steps_write now m file step)
-  write_steps now m file step kept = write_in_walk now m file step kept (served m file) refl
+  write_in_walk : (now : ℕ) (m : MdsValue) (file : FileId) (step : WriterValue → WriterAfter) → StepsWrite m file step → (o : Option ServedFile) → served m file ≡ o → Keeps I m (write_in now m file step o)
+  write_in_walk now m file step each None is = same I m
+  write_in_walk now m file step each (Some s) is = write_of_walk now m file step each s is s.write refl
+
+  write_steps : (now : ℕ) (m : MdsValue) (file : FileId) (step : WriterValue → WriterAfter) → StepsWrite m file step → Keeps I m (steps_write now m file step)
+  write_steps now m file step each = write_in_walk now m file step each (served m file) refl
 
   -- where it is of the own write's call
   ctime_walk : (m : MdsValue) (file : FileId) (call : AwaitedCall) (server own uid : ℕ) (c : DsCallValue) (replies : DsCallValue → DsReplyValue) → Heard call replies → call.caller ≡ ForWrite file
@@ -290,8 +311,8 @@ module _ (I : MdsValue → List Entry → List MdsSend → Type 0) (Heard : Hear
   -- ---- recalls
 
   outcome_walk : (m : MdsValue) (o : Outcome) → Keeps I m (recall_outcome m o)
-  outcome_walk m (outcome.NoLayout file cred) = silent_keeps I m _ (takes I Heard k m file (Revokes NoSuchLayout) refl)
-  outcome_walk m (outcome.Expired file cred) = silent_keeps I m _ (takes I Heard k m file (Revokes Recalled) refl)
+  outcome_walk m (outcome.NoLayout file cred) = silent_keeps I m _ (takes I Heard k m file (Revokes NoSuchLayout) refl refl)
+  outcome_walk m (outcome.Expired file cred) = silent_keeps I m _ (takes I Heard k m file (Revokes Recalled) refl refl)
   outcome_walk m other = same I m
 
   recalls_walk : (m : MdsValue) (a : RecallsAfter) → Keeps I m (recalls_after m a)
@@ -334,7 +355,9 @@ module _ (I : MdsValue → List Entry → List MdsSend → Type 0) (Heard : Hear
         becomes_keeps I m n (and_then (sees_ctime n file server (fileid_of c reply) (attributes_shown reply)) (λ x. steps_write now x file (λ w. after_own_reply w xid reply))) (sees m file server c reply)
         (then_keeps I n (sees_ctime n file server (fileid_of c reply) (attributes_shown reply)) (λ x. steps_write now x file (λ w. after_own_reply w xid reply))
         (ctime_walk n file call server own uid c replies heard caller sent (fileid_of c reply) (attributes_shown reply) refl refl)
-        (λ x. write_steps now x file (λ w. after_own_reply w xid reply) (λ w. answer_kept w xid reply)))
+        (λ x. write_steps now x file (λ w. after_own_reply w xid reply)
+        (λ s w at waits.
+        subst (λ (n : ℕ). Becomes I x (with_served x file (record s { write = Some (write_stepped w (after_own_reply w.writer n reply)) }))) number (k.answers_write x file s w call server own uid c replies heard caller sent at waits))))
     server_walk server own uid c sent ForRecall caller out = same I m
 
     answered_walk : (status : ℕ) (sent : MdsSend) → call.sent ≡ sent → is_awaited m call ≡ true → Keeps I m (answered_as now m xid replies status call.caller sent)
@@ -370,5 +393,5 @@ module _ (I : MdsValue → List Entry → List MdsSend → Type 0) (Heard : Hear
   pub timeout_walk : (now : ℕ) (m : MdsValue) (xid : ℕ) (caller : Waiter) → Keeps I m (timed_out_for now m xid caller)
   timeout_walk now m xid (ForFile file) = silent_keeps I m _ (takes_by I Heard k m file (TimesOut xid) (λ s. k.timeouts m file s xid))
   timeout_walk now m xid (ForRead file) = read_steps now m file xid (λ r. read.after_timeout r xid)
-  timeout_walk now m xid (ForWrite file) = write_steps now m file (λ w. writer.after_timeout w xid) (λ w. timeout_kept w xid)
+  timeout_walk now m xid (ForWrite file) = write_steps now m file (λ w. writer.after_timeout w xid) (λ s w at waits. k.times_write m file s w xid at waits)
   timeout_walk now m xid ForRecall = recalls_walk m (recalls.after_timeout m.recalls xid)

@@ -39,10 +39,11 @@ use Rattle.mds_rule.specs.Events.{takes_incoming, is_outstanding_to, is_kept_by,
 use Rattle.mds_laws.specs.MdsRuns.{MdsInput, MdsEvent, Hears, IsTimedOut, Ticks as IsTick, RecallsFile, Resilvers, by_input, after_event, run_from}
 use Rattle.mds_laws.specs.SlotUses.{first_request, request_in}
 use Rattle.mds_laws.proofs.Requested.{behind_request, behind_begin, KeepsBegin, begin_kept}
+use Rattle.mds_laws.proofs.EachCases.{EachCase}
+use Rattle.mds_laws.proofs.CasesOfEach.{each_case}
 use Rattle.mds_laws.proofs.Keeping.{Becomes, Keeps, KeepsBehind, Cases, HeardOf, HeardAny, Hearing, HearsSo, hears_any, then_keeps, none_keeps, same, becomes_keeps, silent_keeps, then_behind, behind_then, enters_behind}
 use Rattle.mds_laws.proofs.Lists.{In, found_in}
 use Rattle.mds_laws.proofs.ServedWalk.{takes, asks, client_ends, recalls_become}
-use Rattle.mds_laws.proofs.OpsWalk.{old_write}
 use Rattle.mds_laws.proofs.WriterKept.{sends_of, read_of}
 use Rattle.mds_laws.proofs.CompoundWalk.{compound_walk, answer_walk, timeout_walk}
 
@@ -51,7 +52,7 @@ record IsReplyRecord (bytes : List ℕ) : Type 0 where
   reply : RpcReply
   is : bytes ≡ reply_bytes reply
 
-module _ (I : MdsValue → List Entry → List MdsSend → Type 0) (Heard : HeardOf) (k : Cases I Heard) where
+module _ (I : MdsValue → List Entry → List MdsSend → Type 0) (Heard : HeardOf) (k : EachCase I Heard) where
   each_walk : {A : Type 0} (step : A → MdsValue → MdsStep) → ((a : A) (m : MdsValue) → Keeps I m (step a m)) → (list : List A) (m : MdsValue) → Keeps I m (each step list m)
   each_walk step all [] m = same I m
   each_walk step all (a ∷ list) m = then_keeps I m (step a m) (λ n. each step list n) (all a m) (λ n. each_walk step all list n)
@@ -99,7 +100,7 @@ module _ (I : MdsValue → List Entry → List MdsSend → Type 0) (Heard : Hear
   read_goes_walk m file s is n place r (Some sent) its =
       let t : ServedFile = record s { reads = slice_set s.reads n (record { compound = r.compound; read = sent.read }) } in
       cond_both ((place_of s sent.id.server == place) && has_xids m) (calls_server m file t (ForRead file) sent.id.server 0 sent.call) (sends_none m) (λ (x : MdsStep). Keeps I m x)
-      (λ both. k.calls_read m file s t sent.id.server sent.call is (and_parts (place_of s sent.id.server == place) (has_xids m) both).1 refl (old_write s.file s.write) (read_of r.read m.next_xid sent its).0 (read_of r.read m.next_xid sent its).1)
+      (λ both. k.calls_read m file s t sent.id.server sent.call is (and_parts (place_of s sent.id.server == place) (has_xids m) both).1 refl refl refl (read_of r.read m.next_xid sent its).0 (read_of r.read m.next_xid sent its).1)
       (λ off. same I m)
 
   read_call_walk : (m : MdsValue) (file : FileId) (s : ServedFile) → served m file ≡ Some s → (n place : ℕ) (o : Option WaitingRead) → Keeps I m (read_call m file s n place o)
@@ -221,7 +222,7 @@ module _ (I : MdsValue → List Entry → List MdsSend → Type 0) (Heard : Hear
   expires_walk : (m : MdsValue) (o : Option (FileId × Cred)) (next : MdsValue → MdsStep) → ((n : MdsValue) → Keeps I n (next n)) → Keeps I m (recall_expires m o next)
   expires_walk m None next all = same I m
   expires_walk m (Some grant) next all =
-      then_keeps I m (takes_input m grant.0 (Revokes Recalled)) next (silent_keeps I m (takes_input m grant.0 (Revokes Recalled)) (takes I Heard k m grant.0 (Revokes Recalled) refl)) all
+      then_keeps I m (takes_input m grant.0 (Revokes Recalled)) next (silent_keeps I m (takes_input m grant.0 (Revokes Recalled)) (takes I Heard k m grant.0 (Revokes Recalled) refl refl)) all
 
   recalls_walk : (now n : ℕ) (m : MdsValue) → Keeps I m (recalls_expire now n m)
   recalls_walk now zero m = none_keeps I m (record m { recalls = (after_tick m.recalls now).recalls }) (recalls_become I Heard k m (after_tick m.recalls now).recalls)
@@ -234,7 +235,7 @@ module _ (I : MdsValue → List Entry → List MdsSend → Type 0) (Heard : Hear
   files_walk m =
       let all : MdsStep = each (λ n x. takes_input x (numbered n) Ticks) (range_with_len 1 (length m.files)) m in
       then_keeps I m all (calls_out (kept_calls m))
-      (each_walk (λ n x. takes_input x (numbered n) Ticks) (λ n x. silent_keeps I x (takes_input x (numbered n) Ticks) (takes I Heard k x (numbered n) Ticks refl)) (range_with_len 1 (length m.files)) m) (λ n. out_walk (kept_calls m) n)
+      (each_walk (λ n x. takes_input x (numbered n) Ticks) (λ n x. silent_keeps I x (takes_input x (numbered n) Ticks) (takes I Heard k x (numbered n) Ticks refl refl)) (range_with_len 1 (length m.files)) m) (λ n. out_walk (kept_calls m) n)
 
   tick_walk : (now : ℕ) (m : MdsValue) → Keeps I m (takes_tick now m)
   tick_walk now m =
@@ -249,19 +250,28 @@ module _ (I : MdsValue → List Entry → List MdsSend → Type 0) (Heard : Hear
   input_walk now IsTick m hears = tick_walk now m
   input_walk now (RecallsFile file) m hears = then_keeps I m (asks_back m file now) (calls_out []) (silent_keeps I m (asks_back m file now) (asks I Heard k m file now)) (λ n. out_walk [] n)
   input_walk now (Resilvers file) m hears =
-      then_keeps I m (takes_input m file Resilver) (calls_out []) (silent_keeps I m (takes_input m file Resilver) (takes I Heard k m file Resilver refl)) (λ n. out_walk [] n)
+      then_keeps I m (takes_input m file Resilver) (calls_out []) (silent_keeps I m (takes_input m file Resilver) (takes I Heard k m file Resilver refl refl)) (λ n. out_walk [] n)
 
 -- ---- an event, and each run of a new server
 
-module _ (I : MdsValue → List Entry → List MdsSend → Type 0) (Heard : HeardOf) (k : Cases I Heard) (begins : KeepsBegin I) where
-  pub event_walk : (e : MdsEvent) → HearsSo I Heard e.input → (m : MdsValue) → Keeps I m (after_event e m)
-  event_walk e hears m = becomes_keeps I m (behind_begin e.now e.input m) (after_event e m) (begin_kept I Heard k begins e.now e.input m) (input_walk I Heard k e.now e.input m hears)
+module _ (I : MdsValue → List Entry → List MdsSend → Type 0) (Heard : HeardOf) (k : EachCase I Heard) (begins : KeepsBegin I) where
+  pub each_event : (e : MdsEvent) → HearsSo I Heard e.input → (m : MdsValue) → Keeps I m (after_event e m)
+  each_event e hears m = becomes_keeps I m (behind_begin e.now e.input m) (after_event e m) (begin_kept I Heard k begins e.now e.input m) (input_walk I Heard k e.now e.input m hears)
 
-module _ (I : MdsValue → List Entry → List MdsSend → Type 0) (k : Cases I HeardAny) (begins : KeepsBegin I) where
-  run_walk : (events : List MdsEvent) (m : MdsValue) → Keeps I m (run_from m events)
-  run_walk [] m = same I m
-  run_walk (e ∷ events) m = then_keeps I m (after_event e m) (λ n. run_from n events) (event_walk I HeardAny k begins e (hears_any I e.input) m) (λ n. run_walk events n)
+module _ (I : MdsValue → List Entry → List MdsSend → Type 0) (k : EachCase I HeardAny) (begins : KeepsBegin I) where
+  each_run : (events : List MdsEvent) (m : MdsValue) → Keeps I m (run_from m events)
+  each_run [] m = same I m
+  each_run (e ∷ events) m = then_keeps I m (after_event e m) (λ n. run_from n events) (each_event I HeardAny k begins e (hears_any I e.input) m) (λ n. each_run events n)
 
   -- what holds of a new server holds behind every run
+  pub behind_each_run : (m : MdsValue) (events : List MdsEvent) → I m [] [] → I (run_from m events).mds (run_from m events).entries (run_from m events).sends
+  behind_each_run m events i = each_run events m [] [] i
+
+-- where it is kept in each of the cases
+module _ (I : MdsValue → List Entry → List MdsSend → Type 0) (Heard : HeardOf) (k : Cases I Heard) (begins : KeepsBegin I) where
+  pub event_walk : (e : MdsEvent) → HearsSo I Heard e.input → (m : MdsValue) → Keeps I m (after_event e m)
+  event_walk e hears m = each_event I Heard (each_case I Heard k) begins e hears m
+
+module _ (I : MdsValue → List Entry → List MdsSend → Type 0) (k : Cases I HeardAny) (begins : KeepsBegin I) where
   pub in_each_run : (m : MdsValue) (events : List MdsEvent) → I m [] [] → I (run_from m events).mds (run_from m events).entries (run_from m events).sends
-  in_each_run m events i = run_walk events m [] [] i
+  in_each_run m events i = behind_each_run I (each_case I HeardAny k) begins m events i

@@ -1,10 +1,12 @@
 pub mod Lists
 pub mod OwnWriters
 pub mod Keeping
+pub mod EachCases
 pub mod Requested
 mod ServedWalk
 pub mod OpsWalk
 pub mod WriterKept
+pub mod CasesOfEach
 mod CompoundWalk
 pub mod GoesWalk
 pub mod Numbers
@@ -18,3 +20,5 @@ mod FileCreds
 mod GrantsOnce
 mod Handed
 mod TakesNone
+mod HeldFiles
+pub mod OwnPeriods

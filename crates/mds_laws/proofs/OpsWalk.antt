@@ -1,11 +1,15 @@
 -- Each operation on files and layouts keeps what is kept in each case.
-use Rattle.std.proofs.Common.{◌≡◌, ◌≤◌, ℕ, ◌+◌, Bool, true, false, cond, List, [], ◌∷◌, length, Option, Some, None, refl, ap, ◌∙◌, inl, inr, arith}
+use Rattle.std.proofs.Common.{◌≡◌, ◌≤◌, ℕ, ◌+◌, Bool, true, false, cond, List, [], ◌∷◌, length, Option, Some, None, refl, sym, ap, subst, ◌∙◌, inl, inr, arith}
 use Rattle.std.specs.Prelude.{◌-◌, ◌==◌, ◌&&◌, not, nat_lt, is_some, slice_get, slice_set}
+use Rattle.std.specs.List.{list_any}
 use Rattle.std.proofs.lemmas.Bool.{cond_both, and_parts, ne_eqb, ltb-false}
+use Rattle.std.proofs.lemmas.Bool.Decides.{nat_tests}
 use Rattle.cluster_model.proofs.Elements.{slice_get-set_same}
 use Rattle.ff_xdr.specs.Form.{Value}
 use Rattle.ff_xdr.specs.Arms.{arm, by_arm, of_each_arm}
-use Rattle.cluster_model.specs.declared.limits.TheConstants.{MAX_FILE, PIECE_SIZE}
+use Rattle.cluster_model.specs.declared.limits.TheConstants.{MAX_FILE, PIECE_SIZE, SPARE_UIDS}
+use Rattle.cluster_model.specs.declared.layout_state.LayoutPhase.{LayoutPhase}
+use Rattle.cluster_model.specs.declared.layout_state.LayoutPhase.TheVariants.{Making, Free, Held, Fencing, Settling, Copying}
 use Rattle.cluster_model.specs.declared.ids.NodeId.{NodeId}
 use Rattle.cluster_model.specs.declared.ids.NodeId.TheVariants.{Mds, Server, Client}
 use Rattle.cluster_model.specs.declared.ids.FileId.{FileId}
@@ -13,10 +17,12 @@ use Rattle.cluster_model.specs.declared.phase.EndCause.TheVariants.{ReturnedAll}
 use Rattle.cluster_model.specs.declared.phase.Phase.{Phase}
 use Rattle.cluster_model.specs.declared.entry.Entry.{Entry}
 use Rattle.cluster_model.specs.declared.entry.Entry.TheVariants as entry
-use Rattle.cluster_model.specs.Phases.{holder_of}
+use Rattle.cluster_model.specs.Phases.{holder_of, phase_of}
 use Rattle.device_addr.specs.Universal.{AddressValue}
-use Rattle.file_rule.specs.MdsFiles.{MdsFile}
-use Rattle.file_rule.specs.FilePhases.{OwnWrite, AsksLayout, Returns}
+use Rattle.file_rule.specs.MdsFiles.{MdsFile, FileStep}
+use Rattle.file_rule.specs.FilePhases.{OwnWrite, AsksLayout, Returns, phase, end_of_uids}
+use Rattle.mds_rows.specs.Draws.{drawn}
+use Rattle.recall.specs.Recalls.{without_file}
 use Rattle.ff_layout.specs.IoError.{ff_ioerr4}
 use Rattle.layout_report.specs.Reports.{report_of}
 use Rattle.nfs4_types.specs.declared.status.Stat4.{Stat4}
@@ -50,12 +56,13 @@ use Rattle.mds_operations.specs.GetDeviceInfo.{device_info_order}
 use Rattle.mds_operations.specs.PutFh.{put_fh_order, object_of}
 use Rattle.mds_rule.specs.MdsStates.{CompoundRun, WaitingWrite, ServedFile, MdsSend, MdsValue, MdsStep, sends_none, confirmed_node, served, with_served, numbered, file_named}
 use Rattle.mds_rule.specs.OpSteps.{OpStep, with_result, at_object, gives, refused_or}
-use Rattle.mds_rule.specs.ServedFiles.{takes_input, asks_back, ends_periods}
+use Rattle.mds_rule.specs.ServedFiles.{is_period_end, has_fresh, file_behind, file_stepped, input_at, takes_input, asks_back, ends_periods}
 use Rattle.mds_rule.specs.SessionOps.{goes_with}
 use Rattle.open_state.specs.Opens.{opened, closed}
-use Rattle.mds_rule.specs.FileOps.{client_of, current_file, file_or_none, stateid_in, named_in, write_verifier, put_object, runs_put_fh, get_object, runs_get_fh, runs_lookup, get_attributes, runs_get_attr, with_new_file, opens_or_makes, opens_file, open_named, creation_in, can_open, may_make, runs_open, name_in, closes, runs_close, runs_commit, reads_at, runs_read, read_length, with_write, writes_at, writes_file, ends_by, write_refused, runs_write, write_ask, is_delay}
+use Rattle.mds_rule.specs.FileOps.{client_of, current_file, file_or_none, stateid_in, named_in, write_verifier, phase_or_free, uids_left, put_object, runs_put_fh, get_object, runs_get_fh, runs_lookup, get_attributes, runs_get_attr, with_new_file, opens_or_makes, opens_file, open_named, creation_in, can_open, may_make, runs_open, name_in, closes, runs_close, runs_commit, reads_at, runs_read, read_length, with_write, writes_at, writes_file, ends_by, write_refused, runs_write, write_ask, is_delay}
 use Rattle.mds_rule.specs.LayoutOps.{no_stateid, layout_asked, layout_found, with_holder, granted_in, grants_to, is_granted, phase_behind, later_by, layout_answer, runs_layout_get, is_try_later, errors_of, client_number, return_by, returns_file, file_return, returns_all, runs_layout_return, runs_layout_commit, device_from, device_size, device_answer, runs_get_device_info}
-use Rattle.mds_laws.proofs.Keeping.{Becomes, Enters, KeepsOp, Cases, HeardOf, IsWriteOf, no_entries, stays, enters_then, enters_becomes}
+use Rattle.mds_laws.proofs.Keeping.{Becomes, Enters, KeepsOp, HeardOf, IsWriteOf, no_entries, stays, enters_then, enters_becomes}
+use Rattle.mds_laws.proofs.EachCases.{CanBegin, EachCase}
 use Rattle.mds_laws.proofs.OwnWriters.{stays_itself}
 use Rattle.mds_laws.proofs.ServedWalk.{takes, asks, periods, refused, unless_refused}
 
@@ -78,6 +85,13 @@ pub served_again : (m : MdsValue) (file : FileId) (s t : ServedFile) → served 
 served_again m file s t is =
     let there = place_served m file s is in
     ap (λ (b : Bool). cond b None (slice_get (slice_set m.files (file.0 - 1) t) (file.0 - 1))) there.0 ∙ slice_get-set_same m.files (file.0 - 1) s t there.1
+
+-- a file behind an input of it
+pub stepped_there : (m : MdsValue) (file : FileId) (s : ServedFile) (step : FileStep) → served m file ≡ Some s → served (file_stepped m file s step).mds file ≡ Some (file_behind s step)
+stepped_there m file s step is =
+    let n : MdsValue = with_served (record m { fresh = drawn m.fresh step }) file (file_behind s step) in
+    cond_both (list_any is_period_end step.entries) (record n { recalls = without_file file n.recalls }) n (λ (x : MdsValue). served x file ≡ Some (file_behind s step))
+    (λ end. served_again m file s (file_behind s step) is) (λ other. served_again m file s (file_behind s step) is)
 
 -- ---- an OPEN that makes a file
 
@@ -118,7 +132,37 @@ let_through c ask some so =
     let within : nat_lt MAX_FILE (ask.offset + ask.length) ≡ false = both_off (has_bytes ask) (nat_lt MAX_FILE (ask.offset + ask.length)) has order.1.1.1.1.0 in
     (ltb-false PIECE_SIZE ask.length few, ltb-false MAX_FILE (ask.offset + ask.length) within)
 
-module _ (I : MdsValue → List Entry → List MdsSend → Type 0) (Heard : HeardOf) (k : Cases I Heard) where
+free_only : (p : LayoutPhase) → Rattle.mds_operations.specs.Writes.is_free (phase_of p) ≡ true → p ≡ Free
+free_only Making is = absurd cc
+free_only Free is = refl
+free_only (Held holder recalled) is = absurd cc
+free_only (Fencing next end) is = absurd cc
+free_only (Settling copies) is = absurd cc
+free_only (Copying copier copies) is = absurd cc
+
+still_left : (uid : ℕ) → nat_lt (end_of_uids - uid) SPARE_UIDS ≡ false → nat_lt end_of_uids (uid + SPARE_UIDS) ≡ false
+still_left uid spare = grind (arith, nat_tests, spare)
+
+let_begin : (m : MdsValue) (c : CompoundRun) (s : ServedFile) (ask : WriteAsk) (at : ℕ) (bytes : List ℕ) → ask.offset ≡ at → ask.length ≡ length bytes → ask.uids_left ≡ uids_left m → ask.phase ≡ phase_of s.file.layout.phase
+    → 1 ≤ length bytes → refusal (write_order c.current ask) ≡ None → CanBegin m s at bytes
+let_begin m c s ask at bytes offset count uids free some so =
+    let order = none_refused (write_order c.current ask) so in
+    let many : 1 ≤ ask.length = omega (arith, count, some) in
+    let has : has_bytes ask ≡ true = ap not (ne_eqb ask.length 0 (λ is. omega (arith, is, many))) in
+    let limits : (ask.length ≤ PIECE_SIZE) × (ask.offset + ask.length ≤ MAX_FILE) = let_through c ask many so in
+    let few : ask.length ≤ PIECE_SIZE = limits.0 in
+    let within : ask.offset + ask.length ≤ MAX_FILE = limits.1 in
+    let is_so : not (Rattle.mds_operations.specs.Writes.is_free ask.phase) ≡ false = both_off (has_bytes ask) (not (Rattle.mds_operations.specs.Writes.is_free ask.phase)) has order.1.1.1.1.1.0 in
+    let left : nat_lt ask.uids_left SPARE_UIDS ≡ false = both_off (has_bytes ask) (nat_lt ask.uids_left SPARE_UIDS) has order.1.1.1.1.1.1.0 in
+    record {
+      free = free_only s.file.layout.phase (ap Rattle.mds_operations.specs.Writes.is_free (sym free) ∙ was_not (Rattle.mds_operations.specs.Writes.is_free ask.phase) is_so);
+      unspent = still_left m.fresh.uid (ap (λ (n : ℕ). nat_lt n SPARE_UIDS) (sym uids) ∙ left);
+      some = some;
+      few = subst (λ (n : ℕ). n ≤ PIECE_SIZE) count few;
+      within = subst (λ (n : ℕ). at + n ≤ MAX_FILE) count (subst (λ (n : ℕ). n + ask.length ≤ MAX_FILE) offset within);
+    }
+
+module _ (I : MdsValue → List Entry → List MdsSend → Type 0) (Heard : HeardOf) (k : EachCase I Heard) where
   -- ---- names and opens
 
   object_put : (m : MdsValue) (c : CompoundRun) (o : Option Object) → KeepsOp I m (put_object m c o)
@@ -176,25 +220,28 @@ module _ (I : MdsValue → List Entry → List MdsSend → Type 0) (Heard : Hear
 
   read_walk : (m : MdsValue) (c : CompoundRun) (file : FileId) (at count : ℕ) (o : Option ServedFile) → served m file ≡ o → KeepsOp I m (reads_at m c file at count o)
   read_walk m c file at count None is = stays I m
-  read_walk m c file at count (Some s) is = no_entries I m _ (k.puts m file s _ is refl (old_write s.file s.write))
+  read_walk m c file at count (Some s) is = no_entries I m _ (k.puts m file s _ is refl refl refl)
 
   pub reads : (m : MdsValue) (c : CompoundRun) (args : Value read4_args) → KeepsOp I m (runs_read m c args)
   reads m c (stateid, (offset, count)) = refused I Heard k m c 25 _ _ (read_walk m c (current_file c) offset (read_length count) (served m (current_file c)) refl)
 
-  write_begun : (m : MdsValue) (c : CompoundRun) (file : FileId) (at : ℕ) (bytes : List ℕ) → length bytes ≤ PIECE_SIZE → at + length bytes ≤ MAX_FILE → (o : Option ServedFile) → served m file ≡ o
-      → Becomes I m (writes_at m c file at bytes o)
-  write_begun m c file at bytes few within None is = λ es ss i. i
-  write_begun m c file at bytes few within (Some s) is =
-      k.puts m file s (with_write c at bytes s) is refl (inl (record { at = at; bytes = bytes; is = refl; few = few; within = within }))
+  write_begun : (m : MdsValue) (c : CompoundRun) (file : FileId) (at : ℕ) (bytes : List ℕ) → (o : Option ServedFile) → served m file ≡ o → ((s : ServedFile) → o ≡ Some s → CanBegin m s at bytes)
+      → Enters I m (writes_at (input_at m file (OwnWrite at bytes) o).mds c file at bytes (served (input_at m file (OwnWrite at bytes) o).mds file)) (input_at m file (OwnWrite at bytes) o).entries
+  write_begun m c file at bytes None is can = subst (λ (o : Option ServedFile). Enters I m (writes_at m c file at bytes o) []) (sym is) (stays I m)
+  write_begun m c file at bytes (Some s) is can =
+      let step : FileStep = phase file s.file (OwnWrite at bytes) m.fresh in
+      let x : MdsStep = file_stepped m file s step in
+      cond_both (has_fresh m.fresh) x (sends_none m) (λ (y : MdsStep). Enters I m (writes_at y.mds c file at bytes (served y.mds file)) y.entries)
+      (λ fresh.
+      subst (λ (o : Option ServedFile). Enters I m (writes_at x.mds c file at bytes o) x.entries) (sym (stepped_there m file s step is)) (k.begins_write m file s c at bytes is (can s refl) fresh))
+      (λ spent.
+      subst (λ (o : Option ServedFile). Enters I m (writes_at m c file at bytes o) []) (sym is) (no_entries I m (with_served m file (with_write c at bytes s)) (k.begins_alone m file s c at bytes is (can s refl) spent)))
 
   write_walk : (m : MdsValue) (c : CompoundRun) (args : Value write4_args) → refusal (write_order c.current (write_ask m c args)) ≡ None → KeepsOp I m (writes_file m c args)
   write_walk m c (stateid, (offset, (stable, []))) so = stays I m
   write_walk m c (stateid, (offset, (stable, (b ∷ bytes)))) so =
-      let ask : WriteAsk = write_ask m c (stateid, (offset, (stable, (b ∷ bytes)))) in
-      let limits : (length (b ∷ bytes) ≤ PIECE_SIZE) × (offset + length (b ∷ bytes) ≤ MAX_FILE) = let_through c ask (omega arith) so in
-      let s : MdsStep = takes_input m (current_file c) (OwnWrite offset (b ∷ bytes)) in
-      enters_becomes I m s.mds (writes_at s.mds c (current_file c) offset (b ∷ bytes) (served s.mds (current_file c))) s.entries (takes I Heard k m (current_file c) (OwnWrite offset (b ∷ bytes)) refl).enters
-      (write_begun s.mds c (current_file c) offset (b ∷ bytes) limits.0 limits.1 (served s.mds (current_file c)) refl)
+      write_begun m c (current_file c) offset (b ∷ bytes) (served m (current_file c)) refl
+      (λ s at. let_begin m c s (write_ask m c (stateid, (offset, (stable, (b ∷ bytes))))) offset (b ∷ bytes) refl refl refl (ap phase_or_free at) (omega arith) so)
 
   pub writes : (m : MdsValue) (c : CompoundRun) (now : ℕ) (args : Value write4_args) → KeepsOp I m (runs_write m c now args)
   writes m c now args = by_status (refusal (write_order c.current (write_ask m c args))) refl
@@ -209,7 +256,7 @@ module _ (I : MdsValue → List Entry → List MdsSend → Type 0) (Heard : Hear
   granted_walk : (m : MdsValue) (s : MdsStep) (c : CompoundRun) (file : FileId) (again : Bool) → Enters I m s.mds s.entries → (o : Option ServedFile) → served s.mds file ≡ o → KeepsOp I m (granted_in s c file again o)
   granted_walk m s c file again first None is = first
   granted_walk m s c file again first (Some t) is =
-      enters_becomes I m s.mds (with_served s.mds file (with_holder (client_of c) again t)) s.entries first (k.puts s.mds file t (with_holder (client_of c) again t) is refl (old_write t.file t.write))
+      enters_becomes I m s.mds (with_served s.mds file (with_holder (client_of c) again t)) s.entries first (k.holds s.mds file t (client_of c) again is)
 
   grants_walk : (m : MdsValue) (c : CompoundRun) (file : FileId) (again : Bool) (from : Option NodeId) → KeepsOp I m (grants_to m c file again from)
   grants_walk m c file true from = granted_walk m (sends_none m) c file true (stays I m) (served m file) refl
@@ -218,7 +265,7 @@ module _ (I : MdsValue → List Entry → List MdsSend → Type 0) (Heard : Hear
   grants_walk m c file false (Some (Server n)) = stays I m
   grants_walk m c file false (Some (Client n)) =
       let s : MdsStep = takes_input m file (AsksLayout n) in
-      granted_walk m s c file false (takes I Heard k m file (AsksLayout n) refl).enters (served s.mds file) refl
+      granted_walk m s c file false (takes I Heard k m file (AsksLayout n) refl refl).enters (served s.mds file) refl
 
   later_walk : (m : MdsValue) (c : CompoundRun) (now : ℕ) (p : Option Phase) → KeepsOp I m (later_by m c now p)
   later_walk m c now None = stays I m
@@ -237,7 +284,7 @@ module _ (I : MdsValue → List Entry → List MdsSend → Type 0) (Heard : Hear
 
   return_walk : (m : MdsValue) (c : CompoundRun) (file : FileId) (errors : List (Value ff_ioerr4)) (o : Option ServedFile) → KeepsOp I m (return_by m c file errors o)
   return_walk m c file errors None = stays I m
-  return_walk m c file errors (Some s) = (takes I Heard k m file (Returns (client_number (holder_of s.file.layout.phase)) s.file.layout.cred (report_of errors s.file.layout.live)) refl).enters
+  return_walk m c file errors (Some s) = (takes I Heard k m file (Returns (client_number (holder_of s.file.layout.phase)) s.file.layout.cred (report_of errors s.file.layout.live)) refl refl).enters
 
   returns_walk : (m : MdsValue) (c : CompoundRun) (o : Option (List (Value ff_ioerr4))) → KeepsOp I m (returns_file m c o)
   returns_walk m c None = stays I m

@@ -10,7 +10,8 @@ use Rattle.mds_receive.specs.MdsReceive.{incoming_of}
 use Rattle.mds_rule.specs.MdsStates.{MdsSend, MdsValue}
 use Rattle.mds_laws.specs.MdsRuns.{MdsInput, Hears, IsTimedOut, Ticks, RecallsFile, Resilvers}
 use Rattle.mds_laws.specs.SlotUses.{request_in}
-use Rattle.mds_laws.proofs.Keeping.{Becomes, Cases, HeardOf, moved}
+use Rattle.mds_laws.proofs.Keeping.{Becomes, HeardOf, moved}
+use Rattle.mds_laws.proofs.EachCases.{EachCase}
 
 -- its session is bound to the node that it came from, and it begins
 abbrev pub request_moves : ℕ → NodeId → Option Sequence → List TableMove
@@ -35,7 +36,7 @@ behind_begin now input m = record m { sessions = table_from m.sessions (begun_mo
 abbrev pub KeepsBegin : (MdsValue → List Entry → List MdsSend → Type 0) → Type 0
 KeepsBegin I = (m : MdsValue) (request : Sequence) (now : ℕ) → Becomes I m (moved m (BeginRequest request now))
 
-module _ (I : MdsValue → List Entry → List MdsSend → Type 0) (Heard : HeardOf) (k : Cases I Heard) (begins : KeepsBegin I) where
+module _ (I : MdsValue → List Entry → List MdsSend → Type 0) (Heard : HeardOf) (k : EachCase I Heard) (begins : KeepsBegin I) where
   -- what is kept from before the request is so behind its calls
   request_kept : (now : ℕ) (m : MdsValue) (from : NodeId) (o : Option Sequence) → Becomes I m (behind_request now m from o)
   request_kept now m from None = λ es ss i. i

@@ -40,6 +40,7 @@ use Rattle.mds_laws.proofs.Lists.{AllOf, all_push}
 use Rattle.mds_laws.proofs.Keeping.{IsNoRequest, Cases, HeardAny, hears_any}
 use Rattle.mds_laws.proofs.Requested.{request_moves, begun_moves}
 use Rattle.mds_laws.proofs.Numbers.{WereSent, sent_more, sent_with, sent_without}
+use Rattle.mds_laws.proofs.CasesOfEach.{each_case}
 use Rattle.mds_laws.proofs.GoesWalk.{input_walk}
 
 -- ---- lists of calls of a table
@@ -158,7 +159,7 @@ event_moves e m ss were =
     let begun : List TableMove = begun_moves e.now e.input in
     let start : SessionsState = table_from m.sessions begun in
     let b : Behind start (after_event e m).mds.sessions (after_event e m).mds.calls (ss ++ (after_event e m).sends) =
-    input_walk (IsSo start) HeardAny (cases start) e.now e.input m (hears_any (IsSo start) e.input) [] ss (record { moves = []; none = tt; is = refl; were = were }) in
+    input_walk (IsSo start) HeardAny (each_case (IsSo start) HeardAny (cases start)) e.now e.input m (hears_any (IsSo start) e.input) [] ss (record { moves = []; none = tt; is = refl; were = were }) in
     record {
       moves = begun ++ b.moves;
       is = b.is ∙ sym (table_joins m.sessions begun b.moves);

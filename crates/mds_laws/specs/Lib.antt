@@ -2,3 +2,4 @@ pub mod MdsRuns
 pub mod MdsRunLaws
 pub mod HandedLayouts
 pub mod SlotUses
+pub mod OwnPeriods

@@ -6,6 +6,7 @@ ghost use Rattle.device_addr.specs.Universal.{AddressValue};
 ghost use Rattle.mds_laws.specs.MdsRuns.{MdsEvent};
 ghost use Rattle.mds_laws.specs.MdsRunLaws.{NumbersAscend, NumbersFit, CallsByUids, GrantsFreeFiles, GrantsUidsOnce};
 ghost use Rattle.mds_laws.specs.HandedLayouts.{HandsLayoutsToHolders, TakesNoLayoutAway};
+ghost use Rattle.mds_laws.specs.OwnPeriods.{RunsOwnPeriods};
 ghost use Rattle.mds_laws.specs.SlotUses.{RequestsTakeEffectOnce, RepeatsChangeNothing};
 
 use table_slots::table_slots_law;
@@ -51,3 +52,10 @@ pub fn slot_law()
 {
     table_slots_law();
 }
+
+/// What the entries of each run say of the metadata server's own periods (RFC 8881, section 18.32): each grant to it is
+/// directly followed by its write, which has bytes, and no write stands elsewhere; each write that is told as committed was
+/// sent before, and its period ends directly behind it, and only so.
+pub fn own_periods_law()
+    ensures periods { (servers : List AddressValue) (mirrors : ℕ) (events : List MdsEvent) → RunsOwnPeriods servers mirrors events }
+{}

@@ -13,6 +13,8 @@ use Rattle.file_rule.specs.declared.creation.Creation.{Creation}
 use Rattle.file_rule.specs.MdsFiles.{Creations, Activity, Idle, Makes, Fences, Settles, Copies, MdsFile}
 use Rattle.file_rule.specs.FilePhases.{FileInput, AsksLayout, OwnWrite, Recall, Returns, Revokes, OwnEnds, Resilver, Answers, TimesOut, Ticks, Sees, CallOut, creation_waiting, create_out_at, create_out, fence_out, settle_out, copy_out, call_out_of, call_out}
 use Rattle.cluster_laws.specs.Machine.{comes_by_itself as comes_in_machine, may_use}
+use Rattle.cluster_model.specs.declared.entry.Entry.{Entry}
+use Rattle.cluster_laws.specs.Holders.{IsBoundCall}
 use Rattle.mds_laws.proofs.Keeping.{is_read_call, is_write_call, comes_by_itself}
 use Rattle.mds_moves.specs.MdsMoves.{ReadsBytes, IsOfWrite}
 
@@ -87,6 +89,13 @@ read_used (SetAttr fileid owner guard) is = is
 read_used (Write fileid at synced bytes) is = refl
 read_used (Commit fileid) is = refl
 read_used (Read fileid at count) is = refl
+
+pub read_bound : (journal : List Entry) (call : DsCallValue) → is_read_call call ≡ true → IsBoundCall journal 0 call
+read_bound journal (Create name owner) is = tt
+read_bound journal (SetAttr fileid owner guard) is = tt
+read_bound journal (Write fileid at synced bytes) is = absurd cc
+read_bound journal (Commit fileid) is = tt
+read_bound journal (Read fileid at count) is = tt
 
 -- ---- inputs that come by themselves
 

@@ -1,1 +1,2 @@
 pub mod MdsMoves
+pub mod MdsBinds

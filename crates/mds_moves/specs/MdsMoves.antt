@@ -7,7 +7,7 @@ use Rattle.cluster_model.specs.declared.ids.NodeId.TheVariants.{Mds, Server, Cli
 use Rattle.cluster_model.specs.declared.ds_call.Shown.{Shown}
 use Rattle.cluster_model.specs.declared.entry.Entry.{Entry}
 use Rattle.cluster_model.specs.DsCalls.{DsCallValue, Create, SetAttr, Write, Commit, Read, DsReplyValue}
-use Rattle.cluster_laws.specs.Machine.{Machine, Move, new_machine, machine_after, fresh_of, ctime_in, may_use}
+use Rattle.cluster_laws.specs.Machine.{Machine, Move, new_machine, machine_after, fresh_of, ctime_in}
 use Rattle.cluster_laws.specs.CallRanges.{AreServersInRange}
 use Rattle.cluster_laws.specs.FenceLaw.{new_servers}
 use Rattle.machine_moves.specs.MachineGoesOn.{MachineGoesOn, HasCalled, HasServerAnswered}
@@ -26,6 +26,7 @@ use Rattle.mds_rule.specs.Answers.{attributes_shown, own_answer}
 use Rattle.mds_laws.specs.MdsRuns.{MdsInput, MdsEvent, Hears, IsTimedOut, Ticks, RecallsFile, Resilvers, after_event}
 use Rattle.mds_laws.specs.MdsRunLaws.{number_sent, AreBelow}
 use Rattle.mds_laws.proofs.Lists.{In, AllOf}
+use Rattle.mds_laws.proofs.Keeping.{is_read_call}
 
 -- ---- the server and the machine
 
@@ -37,9 +38,9 @@ IsReached mc = (boots : List ℕ) × (moves : List Move) × (machine_after (new_
 abbrev pub message_of : ℕ → ℕ → DsCallValue → DsMessage
 message_of xid uid call = record { xid = xid; machine = mds_name; user = uid; call = call }
 
--- Its numbers fit; or it is a call by which no file is made or given to another.
+-- Its numbers fit; or it is a READ.
 abbrev pub IsSpoken : DsMessage → Type 0
-IsSpoken message = HasRecord message ⊎ ((HasRecord message → ⊥) × (may_use message.call ≡ true))
+IsSpoken message = HasRecord message ⊎ ((HasRecord message → ⊥) × (is_read_call message.call ≡ true))
 
 -- what was sent to a data server stands in the machine
 abbrev pub IsSentIn : Machine → MdsSend → Type 0

@@ -1,9 +1,11 @@
-//! Each event of a metadata server is moves of the cluster's machine.
+//! Each event of a metadata server is moves of the cluster's machine, which are bound.
 #![tactic(auto)]
 
 ghost use Rattle.mds_moves.specs.MdsMoves.{NewIsMdsOf, StaysReached, MdsGoesOn};
+ghost use Rattle.mds_moves.specs.MdsBinds.{NewHasOwnWrites, OwnWritesStay, MdsGoesOnBound};
 
-use cluster_laws::{calls_in_range, run_bounds};
+use cluster_laws::{calls_in_range, run_bounds, telling_entries};
+use cluster_model::server_guards;
 
 /// A metadata server beside the cluster's machine:
 ///
@@ -21,4 +23,24 @@ pub fn mds_moves()
 {
     run_bounds();
     calls_in_range();
+    telling_entries();
+    server_guards();
+}
+
+/// Its moves are bound, as the agreement law asks (RFC 8435, sections 2.2 and 8):
+///
+/// - a new one has no own writes;
+/// - those that it has stand, whatever else comes to the machine;
+/// - each event, from where its own writes stand, and with clean ends of periods that are in order, is bound moves, and its
+///   own writes stand afterwards: each WRITE of one is of what it took, and it ends when that is covered at each mirror
+///   that stays.
+pub fn mds_binds()
+    ensures begins { NewHasOwnWrites }
+    ensures stays { OwnWritesStay }
+    ensures goes_on { MdsGoesOnBound }
+{
+    run_bounds();
+    calls_in_range();
+    telling_entries();
+    server_guards();
 }

@@ -1,10 +1,11 @@
 -- Compounds, and what comes of answers and timeouts, keep what is kept in each case.
 use Rattle.std.proofs.Common.{◌≡◌, ℕ, Bool, true, false, List, [], ◌∷◌, ◌++◌, length, Option, Some, None, refl, sym, ap, subst, ◌∙◌, inr}
-use Rattle.std.specs.Prelude.{not, ◌==◌, slice_get, remove, drop, position, map}
+use Rattle.std.specs.Prelude.{not, ◌==◌, slice_get, slice_set, remove, drop, position, map}
 use Rattle.std.specs.List.{find}
 use Rattle.std.specs.Option.{option_map}
 use Rattle.std.proofs.lemmas.Bool.{cond_both, and_parts, eqb-true}
 use Rattle.std.proofs.lemmas.List.{append_assoc, append-nil}
+use Rattle.std.proofs.lemmas.Option.{same_Some, none-some}
 use Rattle.ff_xdr.specs.Form.{Value, arm_of}
 use Rattle.ff_xdr.specs.Arms.{of_each_arm}
 use Rattle.compound_reply.specs.Replied.{success_reply}
@@ -50,12 +51,14 @@ use Rattle.mds_rule.specs.declared.waiter.Waiter.{Waiter}
 use Rattle.mds_rule.specs.declared.waiter.Waiter.TheVariants.{ForFile, ForRead, ForWrite, ForRecall}
 use Rattle.mds_rule.specs.OpSteps.{OpStep, Goes, Ends, Waits, with_result, refuses, refused_as, unread, stopped, is_operation_number}
 use Rattle.mds_rule.specs.ServedFiles.{has_fresh, file_stepped, takes_input}
+use Rattle.mds_rule.specs.FileOps.{write_result}
 use Rattle.mds_rule.specs.Compounds.{operate, has_session, operates, compound_bytes, kept_in_slot, finishes, op_then, with_ops, runs, sequence_in, in_slot, sequenced, sequence_of, may_stand_alone, first_alone, first_by, first_operation, new_run, runs_compound}
 use Rattle.mds_rule.specs.Answers.{server_number, is_file_out, is_awaited_by, is_awaited, sized, fileid_of, attributes_shown, sees_in, sees_size, resumes, is_done_as, has_failed_as, failed_entry, failed_entries, read_result, without_read, read_ends, read_step_at, read_from, read_of, steps_read, is_read_out, write_answer, write_ends, write_of, write_in, steps_write, with_failed, failures_by_place, has_failed_everywhere, write_over, sees_ctime, recall_end, recall_outcome, recalls_after, own_answer, server_answered, answered_as, answers_found, takes_answer, timed_out_for}
 use Rattle.mds_laws.specs.SlotUses.{first_request}
-use Rattle.mds_laws.proofs.Keeping.{Becomes, Enters, Keeps, KeepsOp, HeardOf, Hearing, IsWriterOf, IsWriteOf, then_keeps, none_keeps, same, becomes_keeps, enters_keeps, no_entries, stays, silent_keeps}
-use Rattle.mds_replies.proofs.HolderCases.{Cases}
-use Rattle.mds_laws.proofs.Lists.{found_in, found_passes}
+use Rattle.mds_laws.proofs.Keeping.{Becomes, Enters, Keeps, KeepsOp, HeardOf, Hearing, IsWriterOf, IsWriteOf, then_keeps, none_keeps, same, becomes_keeps, enters_keeps, stays, silent_keeps}
+use Rattle.mds_replies.proofs.HolderCases.{Cases, RunCases, WaitCases}
+use Rattle.mds_replies.proofs.WaitingCompounds.{reads_set, reads_without}
+use Rattle.mds_laws.proofs.Lists.{found_in, found_passes, got_in}
 use Rattle.mds_laws.proofs.OwnWriters.{StaysWriter}
 use Rattle.mds_laws.proofs.Requested.{behind_request}
 use Rattle.mds_replies.proofs.ServedWalk.{takes, takes_by, recalls_become, exchanges, creates, binds, destroys_session, destroys_client, reclaims_all}
@@ -63,7 +66,7 @@ use Rattle.mds_laws.proofs.OpsWalk.{old_write, served_again}
 use Rattle.mds_replies.proofs.OpsWalk.{puts_fh, gets_fh, looks_up, gets_attr, opens, closes_file, commits, reads, writes, layout_gets, layout_returns, layout_commits, device_infos}
 use Rattle.mds_laws.proofs.WriterKept.{answer_kept, timeout_kept}
 
-module _ (I : MdsValue → List Entry → List MdsSend → Type 0) (Heard : HeardOf) (k : Cases I Heard) where
+module _ (I : MdsValue → List Entry → List MdsSend → Type 0) (Heard : HeardOf) (W : CompoundRun → Type 0) (k : Cases I Heard W) (r : RunCases I W) where
   -- ---- one operation after the other
 
   -- what its slot keeps of the reply
@@ -76,7 +79,7 @@ module _ (I : MdsValue → List Entry → List MdsSend → Type 0) (Heard : Hear
       let n : MdsValue = record m { sessions = kept_in_slot m.sessions c.slot (compound_bytes c status) } in
       let reply = success_reply c.xid (compound_bytes c status) in
       subst (λ (l : List Entry). I n l (ss ++ Replies c.node reply ∷ [])) (sym (append-nil es))
-      (k.replies n c.node reply es ss (slot_walk m c.slot (compound_bytes c status) es ss i))
+      (r.replies n c.node reply es ss (slot_walk m c.slot (compound_bytes c status) es ss i))
 
   op_walk : (m : MdsValue) (s : OpStep) (next : MdsValue → CompoundRun → MdsStep) → KeepsOp I m s → ((n : MdsValue) (d : CompoundRun) → Keeps I n (next n d)) → Keeps I m (op_then s next)
   op_walk m (Goes n entries c) next q all = enters_keeps I m n entries (next n c) q (all n c)
@@ -95,46 +98,46 @@ module _ (I : MdsValue → List Entry → List MdsSend → Type 0) (Heard : Hear
   operate_walk : (now : ℕ) (m : MdsValue) (c : CompoundRun) (op : Value argop4) → KeepsOp I m (operate now m c op)
   operate_walk now m c op =
       of_each_arm argop4 (λ (v : Value argop4). KeepsOp I m (operate now m c v)) (
-        (λ close. closes_file I Heard k m c close),
+        (λ close. closes_file I Heard W k m c close),
         (
-          (λ commit. commits I Heard k m c),
+          (λ commit. commits I Heard W k m c),
           (
-            (λ words. gets_attr I Heard k m c words),
+            (λ words. gets_attr I Heard W k m c words),
             (
-              (λ nothing. gets_fh I Heard k m c),
+              (λ nothing. gets_fh I Heard W k m c),
               (
-                (λ name. looks_up I Heard k m c name),
+                (λ name. looks_up I Heard W k m c name),
                 (
-                  (λ opening. opens I Heard k m c opening),
+                  (λ opening. opens I Heard W k m c opening),
                   (
-                    (λ handle. puts_fh I Heard k m c handle),
+                    (λ handle. puts_fh I Heard W k m c handle),
                     (
                       (λ nothing. stays I m),
                       (
-                        (λ read. reads I Heard k m c read),
+                        (λ read. reads I Heard W k m c read (r.any c)),
                         (
-                          (λ write. writes I Heard k m c now write),
+                          (λ write. writes I Heard W k m c now write (r.any c)),
                           (
-                            (λ bind. binds I Heard k m c bind),
+                            (λ bind. binds I Heard W k m c bind),
                             (
-                              (λ exchange. exchanges I Heard k m c now exchange),
+                              (λ exchange. exchanges I Heard W k m c now exchange),
                               (
-                                (λ create. creates I Heard k m c now create),
+                                (λ create. creates I Heard W k m c now create),
                                 (
-                                  (λ session. destroys_session I Heard k m c session),
+                                  (λ session. destroys_session I Heard W k m c session),
                                   (
-                                    (λ device. device_infos I Heard k m c device),
+                                    (λ device. device_infos I Heard W k m c device),
                                     (
-                                      (λ commit. layout_commits I Heard k m c commit),
+                                      (λ commit. layout_commits I Heard W k m c commit),
                                       (
-                                        (λ layout. layout_gets I Heard k m c now layout),
+                                        (λ layout. layout_gets I Heard W k m c now layout),
                                         (
-                                          (λ layout. layout_returns I Heard k m c layout),
+                                          (λ layout. layout_returns I Heard W k r.returns m c layout),
                                           (
                                             (λ sequence. stays I m),
                                             (
-                                              (λ client. destroys_client I Heard k m c client),
-                                              ((λ one_fs. reclaims_all I Heard k m c c.slot), tt),
+                                              (λ client. destroys_client I Heard W k m c client),
+                                              ((λ one_fs. reclaims_all I Heard W k m c c.slot), tt),
                                             ),
                                           ),
                                         ),
@@ -170,7 +173,7 @@ module _ (I : MdsValue → List Entry → List MdsSend → Type 0) (Heard : Hear
       → Keeps I (record m { sessions = table_begun m.sessions (after_request m.sessions s now) a }) (sequenced now m c ops s a)
   sequence_walk now m c ops s TakesEffect = run_walk now ops (record m { sessions = after_request m.sessions s now }) (in_slot c s)
   sequence_walk now m c ops s (Repeats reply) =
-      λ es ss i. subst (λ (l : List Entry). I m l (ss ++ Replies c.node (success_reply c.xid reply) ∷ [])) (sym (append-nil es)) (k.replies m c.node (success_reply c.xid reply) es ss i)
+      λ es ss i. subst (λ (l : List Entry). I m l (ss ++ Replies c.node (success_reply c.xid reply) ∷ [])) (sym (append-nil es)) (r.replies m c.node (success_reply c.xid reply) es ss i)
   sequence_walk now m c ops s (Refuses status) = finish_walk m (with_result c (refused_as 53 status)) status
 
   first_walk : (now : ℕ) (m : MdsValue) (c : CompoundRun) (count : ℕ) (op : Value argop4) (ops : List (Value argop4)) (o : Option (Value sequence4_args))
@@ -199,12 +202,19 @@ module _ (I : MdsValue → List Entry → List MdsSend → Type 0) (Heard : Hear
   resume_walk : (now : ℕ) (m : MdsValue) (s : OpStep) (ops : List (Value argop4)) → KeepsOp I m s → Keeps I m (resumes now s ops)
   resume_walk now m s ops q = op_walk m s (λ n d. runs now ops n d) q (λ n d. run_walk now ops n d)
 
+  pub waiting_walk : WaitCases I W
+  waiting_walk = record {
+    done = λ now m c result its. resume_walk now m (is_done_as m c result) c.ops (stays I m);
+    failed = λ now m c number its. resume_walk now m (has_failed_as m c number) c.ops (stays I m);
+  }
+
+module _ (I : MdsValue → List Entry → List MdsSend → Type 0) (Heard : HeardOf) (W : CompoundRun → Type 0) (k : Cases I Heard W) (g : WaitCases I W) where
   -- ---- what an answer shows
 
   size_walk : (m : MdsValue) (file : FileId) (server : ℕ) (s : ServedFile) → served m file ≡ Some s → (fileid : Option ℕ) (shown : Option Shown) → Becomes I m (with_served m file (sized s server fileid shown))
-  size_walk m file server s is (Some fileid) (Some shown) = k.puts m file s (sized s server (Some fileid) (Some shown)) is refl refl (old_write s.file s.write)
-  size_walk m file server s is None shown = k.puts m file s s is refl refl (old_write s.file s.write)
-  size_walk m file server s is (Some fileid) None = k.puts m file s s is refl refl (old_write s.file s.write)
+  size_walk m file server s is (Some fileid) (Some shown) = k.puts m file s (sized s server (Some fileid) (Some shown)) is refl refl refl (old_write s.file s.write) (λ a. a)
+  size_walk m file server s is None shown = k.puts m file s s is refl refl refl (old_write s.file s.write) (λ a. a)
+  size_walk m file server s is (Some fileid) None = k.puts m file s s is refl refl refl (old_write s.file s.write) (λ a. a)
 
   sees_walk : (m : MdsValue) (file : FileId) (server : ℕ) (call : DsCallValue) (reply : DsReplyValue) (o : Option ServedFile) → served m file ≡ o → Becomes I m (sees_in m file server call reply o)
   sees_walk m file server call reply None is = λ es ss i. i
@@ -220,27 +230,38 @@ module _ (I : MdsValue → List Entry → List MdsSend → Type 0) (Heard : Hear
   failures_walk m (f ∷ failures) =
       λ es ss i. subst (λ (l : List Entry). I m l ss) (append_assoc es (failed_entry f ∷ []) (map failed_entry failures)) (failures_walk m failures (es ++ failed_entry f ∷ []) ss (k.notes m (failed_entry f) refl es ss i))
 
-  read_end_walk : (now : ℕ) (m : MdsValue) (file : FileId) (s : ServedFile) → served m file ≡ Some s → (place : ℕ) (r : WaitingRead) (after : ReadState) (o : Option ReadEnd) → Keeps I m (read_ends now m file s place r after o)
-  read_end_walk now m file s is place r after None = none_keeps I m _ (k.puts m file s _ is refl refl (old_write s.file s.write))
-  read_end_walk now m file s is place r after (Some (end.Bytes eof bytes)) =
-      let q = is_done_as (without_read m file s place) r.compound (read_result eof bytes) in
-      enters_keeps I m m (entry.ReadAnswer file 0 bytes ∷ []) (resumes now q r.compound.ops) (k.notes m (entry.ReadAnswer file 0 bytes) refl)
-      (resume_walk now m q r.compound.ops (no_entries I m (without_read m file s place) (k.puts m file s (record s { reads = remove s.reads place }) is refl refl (old_write s.file s.write))))
-  read_end_walk now m file s is place r after (Some (end.AllFailed failures)) =
-      let q = has_failed_as (without_read m file s place) r.compound 25 in
-      enters_keeps I m m (entry.ReadAnswer file 5 [] ∷ []) (resumes now q r.compound.ops) (k.notes m (entry.ReadAnswer file 5 []) refl)
-      (resume_walk now m q r.compound.ops (no_entries I m (without_read m file s place) (k.puts m file s (record s { reads = remove s.reads place }) is refl refl (old_write s.file s.write))))
+  -- the read is over, and its compound goes on
+  read_gone : (m : MdsValue) (file : FileId) (s : ServedFile) → served m file ≡ Some s → (place : ℕ) → Becomes I m (without_read m file s place)
+  read_gone m file s is place =
+      k.puts m file s (record s { reads = remove s.reads place }) is refl refl refl (old_write s.file s.write) (λ a. record { reads_so = reads_without W s.reads place a.reads_so; write_so = a.write_so })
 
-  read_at_walk : (now : ℕ) (m : MdsValue) (file : FileId) (s : ServedFile) → served m file ≡ Some s → (step : ReadState → ReadAfter) (place : ℕ) (o : Option WaitingRead) → Keeps I m (read_step_at now m file s step place o)
-  read_at_walk now m file s is step place None = same I m
-  read_at_walk now m file s is step place (Some r) =
+  read_end_walk : (now : ℕ) (m : MdsValue) (file : FileId) (s : ServedFile) → served m file ≡ Some s → (place : ℕ) (r : WaitingRead) → W r.compound → (after : ReadState) (o : Option ReadEnd)
+      → Keeps I m (read_ends now m file s place r after o)
+  read_end_walk now m file s is place r its after None =
+      none_keeps I m _
+      (k.puts m file s (record s { reads = slice_set s.reads place (record { compound = r.compound; read = after }) }) is refl refl refl (old_write s.file s.write)
+      (λ a. record { reads_so = reads_set W s.reads place (record { compound = r.compound; read = after }) a.reads_so its; write_so = a.write_so }))
+  read_end_walk now m file s is place r its after (Some (end.Bytes eof bytes)) =
+      let n : MdsValue = without_read m file s place in
+      let q = resumes now (is_done_as n r.compound (read_result eof bytes)) r.compound.ops in
+      enters_keeps I m m (entry.ReadAnswer file 0 bytes ∷ []) q (k.notes m (entry.ReadAnswer file 0 bytes) refl) (becomes_keeps I m n q (read_gone m file s is place) (g.done now n r.compound (read_result eof bytes) its))
+  read_end_walk now m file s is place r its after (Some (end.AllFailed failures)) =
+      let n : MdsValue = without_read m file s place in
+      let q = resumes now (has_failed_as n r.compound 25) r.compound.ops in
+      enters_keeps I m m (entry.ReadAnswer file 5 [] ∷ []) q (k.notes m (entry.ReadAnswer file 5 []) refl) (becomes_keeps I m n q (read_gone m file s is place) (g.failed now n r.compound 25 its))
+
+  read_at_walk : (now : ℕ) (m : MdsValue) (file : FileId) (s : ServedFile) → served m file ≡ Some s → (step : ReadState → ReadAfter) (place : ℕ) (o : Option WaitingRead) → slice_get s.reads place ≡ o
+      → Keeps I m (read_step_at now m file s step place o)
+  read_at_walk now m file s is step place None there = same I m
+  read_at_walk now m file s is step place (Some r) there =
       let after : ReadAfter = step r.read in
+      λ es ss i.
       enters_keeps I m m (failed_entries r.read after.read) (read_ends now m file s place r after.read after.end) (failures_walk m (drop (length r.read.failures) after.read.failures))
-      (read_end_walk now m file s is place r after.read after.end)
+      (read_end_walk now m file s is place r ((k.wait m es ss i file s is).reads_so r (got_in s.reads place r there)) after.read after.end) es ss i
 
   read_from_walk : (now : ℕ) (m : MdsValue) (file : FileId) (s : ServedFile) → served m file ≡ Some s → (step : ReadState → ReadAfter) (o : Option ℕ) → Keeps I m (read_from now m file s step o)
   read_from_walk now m file s is step None = same I m
-  read_from_walk now m file s is step (Some place) = read_at_walk now m file s is step place (slice_get s.reads place)
+  read_from_walk now m file s is step (Some place) = read_at_walk now m file s is step place (slice_get s.reads place) refl
 
   read_of_walk : (now : ℕ) (m : MdsValue) (file : FileId) (xid : ℕ) (step : ReadState → ReadAfter) (o : Option ServedFile) → served m file ≡ o → Keeps I m (read_of now m file xid step o)
   read_of_walk now m file xid step None is = same I m
@@ -251,27 +272,33 @@ module _ (I : MdsValue → List Entry → List MdsSend → Type 0) (Heard : Hear
 
   -- ---- an own write
 
-  write_answered : (m : MdsValue) (c : CompoundRun) (count : ℕ) (failed : Bool) → KeepsOp I m (write_answer m c count failed)
-  write_answered m c count true = stays I m
-  write_answered m c count false = stays I m
+  write_goes_on : (now : ℕ) (m : MdsValue) (c : CompoundRun) (count : ℕ) (failed : Bool) → W c → Keeps I m (resumes now (write_answer m c count failed) c.ops)
+  write_goes_on now m c count true its = g.failed now m c 38 its
+  write_goes_on now m c count false its = g.done now m c (write_result count) its
 
-  write_end_walk : (now : ℕ) (m : MdsValue) (file : FileId) (s : ServedFile) → served m file ≡ Some s → (w : WaitingWrite) → IsWriteOf s.file s.write (Some w) → (o : Option (List Bool)) → Keeps I m (write_ends now m file s w o)
-  write_end_walk now m file s is w its None = none_keeps I m (with_served m file (record s { write = Some w })) (k.puts m file s (record s { write = Some w }) is refl refl its)
-  write_end_walk now m file s is w its (Some places) =
+  write_end_walk : (now : ℕ) (m : MdsValue) (file : FileId) (s : ServedFile) → served m file ≡ Some s → (w : WaitingWrite) → W w.compound → IsWriteOf s.file s.write (Some w) → (o : Option (List Bool))
+      → Keeps I m (write_ends now m file s w o)
+  write_end_walk now m file s is w so its None =
+      none_keeps I m (with_served m file (record s { write = Some w }))
+      (k.puts m file s (record s { write = Some w }) is refl refl refl its (λ a. record { reads_so = a.reads_so; write_so = λ x one. subst (λ (y : WaitingWrite). W y.compound) (same_Some w x one) so }))
+  write_end_walk now m file s is w so its (Some places) =
       let n : MdsValue = with_served m file (record s { write = None }) in
       let causes = failures_by_place w.failures s.file.layout.live in
       let x : MdsStep = takes_input n file (OwnEnds causes w.at w.bytes) in
       let failed : Bool = has_failed_everywhere w.failures s.file.layout.live in
-      becomes_keeps I m n (write_over now x w.compound (length w.bytes) failed) (k.puts m file s (record s { write = None }) is refl refl tt)
-      (then_keeps I n x (λ y. resumes now (write_answer y w.compound (length w.bytes) failed) w.compound.ops) (silent_keeps I n x (takes I Heard k n file (OwnEnds causes w.at w.bytes) refl))
-      (λ y. resume_walk now y (write_answer y w.compound (length w.bytes) failed) w.compound.ops (write_answered y w.compound (length w.bytes) failed)))
+      becomes_keeps I m n (write_over now x w.compound (length w.bytes) failed)
+      (k.puts m file s (record s { write = None }) is refl refl refl tt (λ a. record { reads_so = a.reads_so; write_so = λ y none. absurd (none-some y none) }))
+      (then_keeps I n x (λ y. resumes now (write_answer y w.compound (length w.bytes) failed) w.compound.ops) (silent_keeps I n x (takes I Heard W k n file (OwnEnds causes w.at w.bytes) refl))
+      (λ y. write_goes_on now y w.compound (length w.bytes) failed so))
 
   write_of_walk : (now : ℕ) (m : MdsValue) (file : FileId) (step : WriterValue → WriterAfter) → ((w : WriterValue) → StaysWriter w (step w).writer) → (s : ServedFile) → served m file ≡ Some s
       → (o : Option WaitingWrite) → s.write ≡ o → Keeps I m (write_of now m file step s o)
   write_of_walk now m file step kept s is None its = same I m
   write_of_walk now m file step kept s is (Some w) its =
       let a : WriterAfter = step w.writer in
-      write_end_walk now m file s is (record w { writer = a.writer; failures = with_failed a.step w.failures }) (inr (subst (λ (o : Option WaitingWrite). IsWriterOf a.writer o) (sym its) (kept w.writer))) (ended a.writer)
+      λ es ss i.
+      write_end_walk now m file s is (record w { writer = a.writer; failures = with_failed a.step w.failures }) ((k.wait m es ss i file s is).write_so w its)
+      (inr (subst (λ (o : Option WaitingWrite). IsWriterOf a.writer o) (sym its) (kept w.writer))) (ended a.writer) es ss i
 
   write_in_walk : (now : ℕ) (m : MdsValue) (file : FileId) (step : WriterValue → WriterAfter) → ((w : WriterValue) → StaysWriter w (step w).writer) → (o : Option ServedFile) → served m file ≡ o
       → Keeps I m (write_in now m file step o)
@@ -285,19 +312,19 @@ module _ (I : MdsValue → List Entry → List MdsSend → Type 0) (Heard : Hear
   ctime_walk : (m : MdsValue) (file : FileId) (call : AwaitedCall) (server own uid : ℕ) (c : DsCallValue) (replies : DsCallValue → DsReplyValue) → Heard call replies → call.caller ≡ ForWrite file
       → call.sent ≡ CallsServer server own uid c → (fileid : Option ℕ) (shown : Option Shown) → fileid_of c (replies c) ≡ fileid → attributes_shown (replies c) ≡ shown → Keeps I m (sees_ctime m file server fileid shown)
   ctime_walk m file call server own uid c replies heard caller sent (Some fileid) (Some shown) named shows =
-      silent_keeps I m _ (takes_by I Heard k m file (Sees (record { server = server; fileid = fileid }) shown.seen) (λ s. k.learns m file s call server own uid c replies fileid shown heard caller sent named shows))
+      silent_keeps I m _ (takes_by I Heard W k m file (Sees (record { server = server; fileid = fileid }) shown.seen) (λ s. k.learns m file s call server own uid c replies fileid shown heard caller sent named shows))
   ctime_walk m file call server own uid c replies heard caller sent None shown named shows = same I m
   ctime_walk m file call server own uid c replies heard caller sent (Some fileid) None named shows = same I m
 
   -- ---- recalls
 
   outcome_walk : (m : MdsValue) (o : Outcome) → Keeps I m (recall_outcome m o)
-  outcome_walk m (outcome.NoLayout file cred) = silent_keeps I m _ (takes I Heard k m file (Revokes NoSuchLayout) refl)
-  outcome_walk m (outcome.Expired file cred) = silent_keeps I m _ (takes I Heard k m file (Revokes Recalled) refl)
+  outcome_walk m (outcome.NoLayout file cred) = silent_keeps I m _ (takes I Heard W k m file (Revokes NoSuchLayout) refl)
+  outcome_walk m (outcome.Expired file cred) = silent_keeps I m _ (takes I Heard W k m file (Revokes Recalled) refl)
   outcome_walk m other = same I m
 
   recalls_walk : (m : MdsValue) (a : RecallsAfter) → Keeps I m (recalls_after m a)
-  recalls_walk m a = becomes_keeps I m (record m { recalls = a.recalls }) (recall_outcome (record m { recalls = a.recalls }) a.outcome) (recalls_become I Heard k m a.recalls) (outcome_walk (record m { recalls = a.recalls }) a.outcome)
+  recalls_walk m a = becomes_keeps I m (record m { recalls = a.recalls }) (recall_outcome (record m { recalls = a.recalls }) a.outcome) (recalls_become I Heard W k m a.recalls) (outcome_walk (record m { recalls = a.recalls }) a.outcome)
 
   -- ---- an answer, and a timeout
 
@@ -322,7 +349,7 @@ module _ (I : MdsValue → List Entry → List MdsSend → Type 0) (Heard : Hear
         let n : MdsValue = sees_size m file server c answer in
         becomes_keeps I m n (takes_input n file (Answers xid answer)) (sees m file server c answer)
         (silent_keeps I n (takes_input n file (Answers xid answer))
-        (takes_by I Heard k n file (Answers xid answer)
+        (takes_by I Heard W k n file (Answers xid answer)
         (λ s at.
         subst (λ (x : ℕ). has_fresh n.fresh ≡ true → Enters I n (file_stepped n file s (phase file s.file (Answers x answer) n.fresh)).mds (phase file s.file (Answers x answer) n.fresh).entries) number
         (k.hears n file s call server own uid c replies heard caller sent
@@ -370,7 +397,7 @@ module _ (I : MdsValue → List Entry → List MdsSend → Type 0) (Heard : Hear
   answer_walk now m node xid replies status hearing = found_walk now m node xid replies status hearing (find (is_call_to node xid) m.calls) refl
 
   pub timeout_walk : (now : ℕ) (m : MdsValue) (xid : ℕ) (caller : Waiter) → Keeps I m (timed_out_for now m xid caller)
-  timeout_walk now m xid (ForFile file) = silent_keeps I m _ (takes_by I Heard k m file (TimesOut xid) (λ s. k.timeouts m file s xid))
+  timeout_walk now m xid (ForFile file) = silent_keeps I m _ (takes_by I Heard W k m file (TimesOut xid) (λ s. k.timeouts m file s xid))
   timeout_walk now m xid (ForRead file) = read_steps now m file xid (λ r. read.after_timeout r xid)
   timeout_walk now m xid (ForWrite file) = write_steps now m file (λ w. writer.after_timeout w xid) (λ w. timeout_kept w xid)
   timeout_walk now m xid ForRecall = recalls_walk m (recalls.after_timeout m.recalls xid)

@@ -74,11 +74,11 @@ only_old fresh after old (e ∷ entries) new u uid apart =
     (only_old fresh after (next_behind old e) entries new u.1 uid (λ is. apart (entry_behind old e uid is).0))
 
 -- where the file's uid comes from: it had it before and its period did not end, or it was drawn
-data Came (fresh after : ℕ) (old : Option ℕ) (entries : List Entry) (uid : ℕ) : Type 0 where
+pub data Came (fresh after : ℕ) (old : Option ℕ) (entries : List Entry) (uid : ℕ) : Type 0 where
   Was : old ≡ Some uid → HasNone uid entries → Came fresh after old entries uid
   IsDrawn : uid ≡ fresh → fresh < after → Came fresh after old entries uid
 
-came_of : (fresh after : ℕ) (old : Option ℕ) (entries : List Entry) (new : Option ℕ) → Uses fresh after old entries new → (uid : ℕ) → new ≡ Some uid → Came fresh after old entries uid
+pub came_of : (fresh after : ℕ) (old : Option ℕ) (entries : List Entry) (new : Option ℕ) → Uses fresh after old entries new → (uid : ℕ) → new ≡ Some uid → Came fresh after old entries uid
 came_of fresh after old [] new (Keeps same) uid is = Was (sym same ∙ is) refl
 came_of fresh after old [] new (Draws same less) uid is = IsDrawn (sym (same_Some fresh uid (sym same ∙ is))) less
 came_of fresh after old (e ∷ entries) new u uid is = further (came_of fresh after (next_behind old e) entries new u.1 uid is)

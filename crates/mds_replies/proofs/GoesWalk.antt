@@ -28,8 +28,9 @@ use Rattle.nfs4_types.specs.Stateids.{layout_stateid_of}
 use Rattle.recall.specs.declared.recall.RecallCall.{RecallCall}
 use Rattle.recall.specs.Recalls.{RecallSends, next_sent, after_tick}
 use Rattle.mds_receive.proofs.ReceivedSo.{numbered as answers_numbered}
+use Rattle.nfs4_compound.specs.Compounds.{CompoundValue}
 use Rattle.mds_receive.specs.MdsReceive.{IncomingValue, PassedOver, IsReply, IsAnswered, IsCompound, incoming_of}
-use Rattle.mds_rule.specs.MdsStates.{WaitingRead, WaitingWrite, ServedFile, MdsSend, Answers, AwaitedCall, MdsValue, MdsStep, sends_none, and_then, is_call_to, without_call, served, numbered}
+use Rattle.mds_rule.specs.MdsStates.{CompoundRun, WaitingRead, WaitingWrite, ServedFile, MdsSend, Answers, AwaitedCall, MdsValue, MdsStep, sends_none, and_then, is_call_to, without_call, served, numbered}
 use Rattle.mds_rule.specs.declared.waiter.Waiter.TheVariants.{ForRead}
 use Rattle.mds_rule.specs.ServedFiles.{takes_input, asks_back, ends_client}
 use Rattle.mds_rule.specs.Compounds.{runs_compound}
@@ -42,12 +43,13 @@ use Rattle.nfs4_types.specs.declared.sequence.Sequence.{Sequence}
 use Rattle.nfs4_session.specs.TableLaw.{Bind}
 use Rattle.mds_laws.proofs.Requested.{behind_request, behind_begin, KeepsBegin}
 use Rattle.mds_laws.proofs.Keeping.{Becomes, Keeps, KeepsBehind, HeardOf, HeardAny, Hearing, HearsSo, hears_any, then_keeps, none_keeps, same, becomes_keeps, silent_keeps, then_behind, behind_then, enters_behind, moved}
-use Rattle.mds_replies.proofs.HolderCases.{Cases, OutCases, out_of}
+use Rattle.mds_replies.proofs.HolderCases.{Cases, RunCases, WaitCases, OutCases, out_of}
+use Rattle.mds_replies.proofs.WaitingCompounds.{set_same}
 use Rattle.mds_laws.proofs.Lists.{In, found_in}
 use Rattle.mds_replies.proofs.ServedWalk.{takes, asks, client_ends, recalls_become}
 use Rattle.mds_laws.proofs.OpsWalk.{old_write}
 use Rattle.mds_laws.proofs.WriterKept.{sends_of, read_of}
-use Rattle.mds_replies.proofs.CompoundWalk.{compound_walk, answer_walk, timeout_walk}
+use Rattle.mds_replies.proofs.CompoundWalk.{waiting_walk, compound_walk, answer_walk, timeout_walk}
 
 -- it is the record of a reply
 record IsReplyRecord (bytes : List ℕ) : Type 0 where
@@ -96,22 +98,22 @@ module _ (I : MdsValue → List Entry → List MdsSend → Type 0) (k : OutCases
 
   -- ---- READs
 
-  read_goes_walk : (m : MdsValue) (file : FileId) (s : ServedFile) → served m file ≡ Some s → (n place : ℕ) (r : WaitingRead) (o : Option ReadSends) → read.next_sent r.read m.next_xid ≡ o
+  read_goes_walk : (m : MdsValue) (file : FileId) (s : ServedFile) → served m file ≡ Some s → (n place : ℕ) (r : WaitingRead) → slice_get s.reads n ≡ Some r → (o : Option ReadSends) → read.next_sent r.read m.next_xid ≡ o
       → Keeps I m (read_goes m file s n place r o)
-  read_goes_walk m file s is n place r None its = same I m
-  read_goes_walk m file s is n place r (Some sent) its =
+  read_goes_walk m file s is n place r there None its = same I m
+  read_goes_walk m file s is n place r there (Some sent) its =
       let t : ServedFile = record s { reads = slice_set s.reads n (record { compound = r.compound; read = sent.read }) } in
       cond_both ((place_of s sent.id.server == place) && has_xids m) (calls_server m file t (ForRead file) sent.id.server 0 sent.call) (sends_none m) (λ (x : MdsStep). Keeps I m x)
-      (λ both. k.calls_read m file s t sent.id.server sent.call is (and_parts (place_of s sent.id.server == place) (has_xids m) both).1 refl refl (old_write s.file s.write) (read_of r.read m.next_xid sent its).0 (read_of r.read m.next_xid sent its).1)
+      (λ both. k.calls_read m file s t sent.id.server sent.call is (and_parts (place_of s sent.id.server == place) (has_xids m) both).1 refl refl refl (old_write s.file s.write) (set_same s.reads n r (record { compound = r.compound; read = sent.read }) there refl) refl (read_of r.read m.next_xid sent its).0 (read_of r.read m.next_xid sent its).1)
       (λ off. same I m)
 
-  read_call_walk : (m : MdsValue) (file : FileId) (s : ServedFile) → served m file ≡ Some s → (n place : ℕ) (o : Option WaitingRead) → Keeps I m (read_call m file s n place o)
-  read_call_walk m file s is n place None = same I m
-  read_call_walk m file s is n place (Some r) = read_goes_walk m file s is n place r (read.next_sent r.read m.next_xid) refl
+  read_call_walk : (m : MdsValue) (file : FileId) (s : ServedFile) → served m file ≡ Some s → (n place : ℕ) (o : Option WaitingRead) → slice_get s.reads n ≡ o → Keeps I m (read_call m file s n place o)
+  read_call_walk m file s is n place None there = same I m
+  read_call_walk m file s is n place (Some r) there = read_goes_walk m file s is n place r there (read.next_sent r.read m.next_xid) refl
 
   read_in_walk : (file : FileId) (place n : ℕ) (m : MdsValue) (o : Option ServedFile) → served m file ≡ o → Keeps I m (read_call_in file place n m o)
   read_in_walk file place n m None is = same I m
-  read_in_walk file place n m (Some s) is = read_call_walk m file s is n place (slice_get s.reads n)
+  read_in_walk file place n m (Some s) is = read_call_walk m file s is n place (slice_get s.reads n) refl
 
   reads_walk : (file : FileId) (place : ℕ) (m : MdsValue) → Keeps I m (read_calls file place m)
   reads_walk file place m = each_walk (λ n x. read_call_in file place n x (served x file)) (λ n x. read_in_walk file place n x (served x file) refl) (range_with_len 0 (read_count (served m file))) m
@@ -168,27 +170,28 @@ module _ (I : MdsValue → List Entry → List MdsSend → Type 0) (k : OutCases
   pub out_walk : (kept : List (Option (ℕ × ℕ))) (m : MdsValue) → Keeps I m (calls_out kept m)
   out_walk kept m = each_walk (file_calls kept) (λ n x. file_walk kept n x) (range_with_len 1 (length m.files)) m
 
-module _ (I : MdsValue → List Entry → List MdsSend → Type 0) (Heard : HeardOf) (k : Cases I Heard) where
+module _ (I : MdsValue → List Entry → List MdsSend → Type 0) (Heard : HeardOf) (W : CompoundRun → Type 0) (k : Cases I Heard W) (g : WaitCases I W) where
   -- ---- events
 
   incoming_walk : (now : ℕ) (m : MdsValue) (node : NodeId) (v : IncomingValue) → ((reply : RpcReply) → v ≡ IsReply reply → Hearing I Heard node reply.xid (λ call. reply_of_call call reply))
-      → ((bytes : List ℕ) → v ≡ IsAnswered bytes → IsReplyRecord bytes) → Keeps I (behind_request now m node (request_in v)) (takes_incoming now m node v)
-  incoming_walk now m node PassedOver hearing replied = same I m
-  incoming_walk now m node (IsReply reply) hearing replied =
+      → ((bytes : List ℕ) → v ≡ IsAnswered bytes → IsReplyRecord bytes)
+      → ((xid : ℕ) (c : CompoundValue) → v ≡ IsCompound xid c → Keeps I (behind_request now m node (first_request c.ops.values)) (runs_compound now m node xid c)) → Keeps I (behind_request now m node (request_in v)) (takes_incoming now m node v)
+  incoming_walk now m node PassedOver hearing replied run = same I m
+  incoming_walk now m node (IsReply reply) hearing replied run =
       then_keeps I m (takes_answer now m node reply.xid (λ call. reply_of_call call reply) (recall_status reply.stat reply.results)) (calls_out [])
-      (answer_walk I Heard k now m node reply.xid (λ call. reply_of_call call reply) (recall_status reply.stat reply.results) (hearing reply refl)) (λ n. out_walk I (out_of I Heard k) [] n)
-  incoming_walk now m node (IsAnswered bytes) hearing replied =
+      (answer_walk I Heard W k g now m node reply.xid (λ call. reply_of_call call reply) (recall_status reply.stat reply.results) (hearing reply refl)) (λ n. out_walk I (out_of I Heard W k) [] n)
+  incoming_walk now m node (IsAnswered bytes) hearing replied run =
       let r : IsReplyRecord bytes = replied bytes refl in
       λ es ss i. subst (λ (l : List Entry). I m l (ss ++ Answers node bytes ∷ [])) (sym (append-nil es)) (k.answers m node bytes r.reply r.is es ss i)
-  incoming_walk now m node (IsCompound xid v) hearing replied =
-      then_keeps I (behind_request now m node (first_request v.ops.values)) (runs_compound now m node xid v) (calls_out []) (compound_walk I Heard k now m node xid v) (λ n. out_walk I (out_of I Heard k) [] n)
+  incoming_walk now m node (IsCompound xid v) hearing replied run =
+      then_keeps I (behind_request now m node (first_request v.ops.values)) (runs_compound now m node xid v) (calls_out []) (run xid v refl) (λ n. out_walk I (out_of I Heard W k) [] n)
 
   again_walk : (call : AwaitedCall) (m : MdsValue) → KeepsBehind I call.sent m (goes_again call m)
   again_walk call m =
       cond_both (not (is_awaited m call)) (sends_none forgotten) (if is_kept_by m call.xid call.caller then sends_none m else again) (λ (s : MdsStep). KeepsBehind I call.sent m s)
       (λ none. λ es ss was i. none_keeps I m forgotten (k.forgets m call.node call.xid) es ss i)
       (λ some.
-      cond_both (is_kept_by m call.xid call.caller) (sends_none m) again (λ (s : MdsStep). KeepsBehind I call.sent m s) (λ kept. λ es ss was i. same I m es ss i) (λ other. sends_again I (out_of I Heard k) m call.sent))
+      cond_both (is_kept_by m call.xid call.caller) (sends_none m) again (λ (s : MdsStep). KeepsBehind I call.sent m s) (λ kept. λ es ss was i. same I m es ss i) (λ other. sends_again I (out_of I Heard W k) m call.sent))
     where
       forgotten : MdsValue
       forgotten = record m { calls = without_call call.node call.xid m.calls }
@@ -201,7 +204,7 @@ module _ (I : MdsValue → List Entry → List MdsSend → Type 0) (Heard : Hear
       let timed : MdsStep = timed_out_for now m call.xid call.caller in
       let again : MdsStep = and_then timed (goes_again call) in
       enters_behind I call.sent m m (entry.TimedOut Mds call.xid ∷ []) (and_then again (calls_out [])) (k.notes m (entry.TimedOut Mds call.xid) refl)
-      (behind_then I call.sent m again (calls_out []) (then_behind I call.sent m timed (goes_again call) (timeout_walk I Heard k now m call.xid call.caller) (λ n. again_walk call n)) (λ n. out_walk I (out_of I Heard k) [] n))
+      (behind_then I call.sent m again (calls_out []) (then_behind I call.sent m timed (goes_again call) (timeout_walk I Heard W k g now m call.xid call.caller) (λ n. again_walk call n)) (λ n. out_walk I (out_of I Heard W k) [] n))
       es ss (k.was m es ss i call inside) i
 
   times_walk : (now : ℕ) (m : MdsValue) (o : Option AwaitedCall) → ((call : AwaitedCall) → o ≡ Some call → In call m.calls) → Keeps I m (times_out now m o)
@@ -216,7 +219,7 @@ module _ (I : MdsValue → List Entry → List MdsSend → Type 0) (Heard : Hear
   lease_walk m (Some c) b next all =
       let n : MdsValue = record m { sessions = without_client m.sessions c.id } in
       then_keeps I m (ends_client n c.id Lease) next
-      (becomes_keeps I m n (ends_client n c.id Lease) b (silent_keeps I n (ends_client n c.id Lease) (client_ends I Heard k n c.id Lease))) all
+      (becomes_keeps I m n (ends_client n c.id Lease) b (silent_keeps I n (ends_client n c.id Lease) (client_ends I Heard W k n c.id Lease))) all
 
   leases_walk : (now n : ℕ) (m : MdsValue) → Keeps I m (leases_end now n m)
   leases_walk now zero m = same I m
@@ -225,20 +228,20 @@ module _ (I : MdsValue → List Entry → List MdsSend → Type 0) (Heard : Hear
   expires_walk : (m : MdsValue) (o : Option (FileId × Cred)) (next : MdsValue → MdsStep) → ((n : MdsValue) → Keeps I n (next n)) → Keeps I m (recall_expires m o next)
   expires_walk m None next all = same I m
   expires_walk m (Some grant) next all =
-      then_keeps I m (takes_input m grant.0 (Revokes Recalled)) next (silent_keeps I m (takes_input m grant.0 (Revokes Recalled)) (takes I Heard k m grant.0 (Revokes Recalled) refl)) all
+      then_keeps I m (takes_input m grant.0 (Revokes Recalled)) next (silent_keeps I m (takes_input m grant.0 (Revokes Recalled)) (takes I Heard W k m grant.0 (Revokes Recalled) refl)) all
 
   recalls_walk : (now n : ℕ) (m : MdsValue) → Keeps I m (recalls_expire now n m)
-  recalls_walk now zero m = none_keeps I m (record m { recalls = (after_tick m.recalls now).recalls }) (recalls_become I Heard k m (after_tick m.recalls now).recalls)
+  recalls_walk now zero m = none_keeps I m (record m { recalls = (after_tick m.recalls now).recalls }) (recalls_become I Heard W k m (after_tick m.recalls now).recalls)
   recalls_walk now (suc n) m =
       let x : MdsValue = record m { recalls = (after_tick m.recalls now).recalls } in
-      becomes_keeps I m x (recall_expires x (after_tick m.recalls now).expired (recalls_expire now n)) (recalls_become I Heard k m (after_tick m.recalls now).recalls)
+      becomes_keeps I m x (recall_expires x (after_tick m.recalls now).expired (recalls_expire now n)) (recalls_become I Heard W k m (after_tick m.recalls now).recalls)
       (expires_walk x (after_tick m.recalls now).expired (recalls_expire now n) (λ y. recalls_walk now n y))
 
   files_walk : (m : MdsValue) → Keeps I m (files_tick m)
   files_walk m =
       let all : MdsStep = each (λ n x. takes_input x (numbered n) Ticks) (range_with_len 1 (length m.files)) m in
       then_keeps I m all (calls_out (kept_calls m))
-      (each_walk I (out_of I Heard k) (λ n x. takes_input x (numbered n) Ticks) (λ n x. silent_keeps I x (takes_input x (numbered n) Ticks) (takes I Heard k x (numbered n) Ticks refl)) (range_with_len 1 (length m.files)) m) (λ n. out_walk I (out_of I Heard k) (kept_calls m) n)
+      (each_walk I (out_of I Heard W k) (λ n x. takes_input x (numbered n) Ticks) (λ n x. silent_keeps I x (takes_input x (numbered n) Ticks) (takes I Heard W k x (numbered n) Ticks refl)) (range_with_len 1 (length m.files)) m) (λ n. out_walk I (out_of I Heard W k) (kept_calls m) n)
 
   tick_walk : (now : ℕ) (m : MdsValue) → Keeps I m (takes_tick now m)
   tick_walk now m =
@@ -246,18 +249,27 @@ module _ (I : MdsValue → List Entry → List MdsSend → Type 0) (Heard : Hear
       then_keeps I m (and_then leases (λ n. recalls_expire now (length n.recalls) n)) files_tick
       (then_keeps I m leases (λ n. recalls_expire now (length n.recalls) n) (leases_walk now (length m.sessions.clients) m) (λ n. recalls_walk now (length n.recalls) n)) (λ n. files_walk n)
 
+  -- of the compound that an event brings
+  abbrev pub RunsSo : ℕ → MdsInput → MdsValue → Type 0
+  RunsSo now (Hears from bytes) m =
+      (xid : ℕ) (c : CompoundValue) → incoming_of bytes ≡ IsCompound xid c → Keeps I (behind_request now m from (first_request c.ops.values)) (runs_compound now m from xid c)
+  RunsSo now (IsTimedOut to) m = Unit {0}
+  RunsSo now IsTick m = Unit {0}
+  RunsSo now (RecallsFile file) m = Unit {0}
+  RunsSo now (Resilvers file) m = Unit {0}
+
   -- of an event, behind what the request that it makes leaves of the table of clients
-  pub input_walk : (now : ℕ) (input : MdsInput) (m : MdsValue) → HearsSo I Heard input → Keeps I (behind_begin now input m) (by_input now input m)
-  input_walk now (Hears from bytes) m hears = incoming_walk now m from (incoming_of bytes) hears (λ given is. let u = answers_numbered bytes given is in record { reply = u.said; is = u.spelled })
-  input_walk now (IsTimedOut to) m hears = timeouts_walk now m to
-  input_walk now IsTick m hears = tick_walk now m
-  input_walk now (RecallsFile file) m hears = then_keeps I m (asks_back m file now) (calls_out []) (silent_keeps I m (asks_back m file now) (asks I Heard k m file now)) (λ n. out_walk I (out_of I Heard k) [] n)
-  input_walk now (Resilvers file) m hears =
-      then_keeps I m (takes_input m file Resilver) (calls_out []) (silent_keeps I m (takes_input m file Resilver) (takes I Heard k m file Resilver refl)) (λ n. out_walk I (out_of I Heard k) [] n)
+  pub input_walk : (now : ℕ) (input : MdsInput) (m : MdsValue) → HearsSo I Heard input → RunsSo now input m → Keeps I (behind_begin now input m) (by_input now input m)
+  input_walk now (Hears from bytes) m hears run = incoming_walk now m from (incoming_of bytes) hears (λ given is. let u = answers_numbered bytes given is in record { reply = u.said; is = u.spelled }) run
+  input_walk now (IsTimedOut to) m hears run = timeouts_walk now m to
+  input_walk now IsTick m hears run = tick_walk now m
+  input_walk now (RecallsFile file) m hears run = then_keeps I m (asks_back m file now) (calls_out []) (silent_keeps I m (asks_back m file now) (asks I Heard W k m file now)) (λ n. out_walk I (out_of I Heard W k) [] n)
+  input_walk now (Resilvers file) m hears run =
+      then_keeps I m (takes_input m file Resilver) (calls_out []) (silent_keeps I m (takes_input m file Resilver) (takes I Heard W k m file Resilver refl)) (λ n. out_walk I (out_of I Heard W k) [] n)
 
 -- ---- the request that an event makes
 
-module _ (I : MdsValue → List Entry → List MdsSend → Type 0) (Heard : HeardOf) (k : Cases I Heard) (begins : KeepsBegin I) where
+module _ (I : MdsValue → List Entry → List MdsSend → Type 0) (Heard : HeardOf) (W : CompoundRun → Type 0) (k : Cases I Heard W) (begins : KeepsBegin I) where
   -- what is kept from before the request is so behind its calls
   request_kept : (now : ℕ) (m : MdsValue) (from : NodeId) (o : Option Sequence) → Becomes I m (behind_request now m from o)
   request_kept now m from None = λ es ss i. i
@@ -274,14 +286,21 @@ module _ (I : MdsValue → List Entry → List MdsSend → Type 0) (Heard : Hear
 
 -- ---- an event, and each run of a new server
 
-module _ (I : MdsValue → List Entry → List MdsSend → Type 0) (Heard : HeardOf) (k : Cases I Heard) (begins : KeepsBegin I) where
-  pub event_walk : (e : MdsEvent) → HearsSo I Heard e.input → (m : MdsValue) → Keeps I m (after_event e m)
-  event_walk e hears m = becomes_keeps I m (behind_begin e.now e.input m) (after_event e m) (begin_kept I Heard k begins e.now e.input m) (input_walk I Heard k e.now e.input m hears)
+module _ (I : MdsValue → List Entry → List MdsSend → Type 0) (Heard : HeardOf) (W : CompoundRun → Type 0) (k : Cases I Heard W) (r : RunCases I W) (begins : KeepsBegin I) where
+  runs_so : (now : ℕ) (input : MdsInput) (m : MdsValue) → RunsSo I Heard W k (waiting_walk I Heard W k r) now input m
+  runs_so now (Hears from bytes) m = λ xid c is. compound_walk I Heard W k r now m from xid c
+  runs_so now (IsTimedOut to) m = tt
+  runs_so now IsTick m = tt
+  runs_so now (RecallsFile file) m = tt
+  runs_so now (Resilvers file) m = tt
 
-module _ (I : MdsValue → List Entry → List MdsSend → Type 0) (k : Cases I HeardAny) (begins : KeepsBegin I) where
+  pub event_walk : (e : MdsEvent) → HearsSo I Heard e.input → (m : MdsValue) → Keeps I m (after_event e m)
+  event_walk e hears m = becomes_keeps I m (behind_begin e.now e.input m) (after_event e m) (begin_kept I Heard W k begins e.now e.input m) (input_walk I Heard W k (waiting_walk I Heard W k r) e.now e.input m hears (runs_so e.now e.input m))
+
+module _ (I : MdsValue → List Entry → List MdsSend → Type 0) (W : CompoundRun → Type 0) (k : Cases I HeardAny W) (r : RunCases I W) (begins : KeepsBegin I) where
   pub run_walk : (events : List MdsEvent) (m : MdsValue) → Keeps I m (run_from m events)
   run_walk [] m = same I m
-  run_walk (e ∷ events) m = then_keeps I m (after_event e m) (λ n. run_from n events) (event_walk I HeardAny k begins e (hears_any I e.input) m) (λ n. run_walk events n)
+  run_walk (e ∷ events) m = then_keeps I m (after_event e m) (λ n. run_from n events) (event_walk I HeardAny W k r begins e (hears_any I e.input) m) (λ n. run_walk events n)
 
   -- what holds of a new server holds behind every run
   pub in_each_run : (m : MdsValue) (events : List MdsEvent) → I m [] [] → I (run_from m events).mds (run_from m events).entries (run_from m events).sends

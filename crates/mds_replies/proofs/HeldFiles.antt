@@ -26,7 +26,7 @@ use Rattle.cluster_model.specs.declared.layout_state.LayoutPhase.{LayoutPhase}
 use Rattle.cluster_model.specs.declared.layout_state.LayoutPhase.TheVariants.{Held}
 use Rattle.cluster_model.specs.DsCalls.{DsReplyValue}
 use Rattle.cluster_model.specs.Fences.{is_out, FenceState, outstanding_at, on_reply, on_timeout, without, is_done}
-use Rattle.cluster_model.specs.Phases.{is_last_live, is_clean, unreported, is_source, left_entries, reported_cause, end_entries, returned, revoked, phase_without, mirror_left, fenced_to, fence_done}
+use Rattle.cluster_model.specs.Phases.{holder_of, left_with, is_last_live, is_clean, unreported, is_source, left_entries, reported_cause, end_entries, returned, revoked, phase_without, mirror_left, fenced_to, fence_done}
 use Rattle.file_rule.specs.declared.fresh.Fresh.{Fresh}
 use Rattle.file_rule.specs.MdsFiles.{Activity, Idle, Makes, Fences, Settles, Copies, MdsFile, FileStep, nothing, stays, a_uid, goes_fencing, goes_on, with_entries, fenced_on, fence_stepped, shown_by_set, seen_by, mirror_at, source_left, settling_timed_out, shown_by_commit, seen_at_source, settling_answered}
 use Rattle.file_rule.specs.FilePhases.{FileInput, AsksLayout, OwnWrite, Recall, Returns, Revokes, OwnEnds, Resilver, Answers, TimesOut, Ticks, Sees, asked_in, held_in, by_client, by_mds, recalled_row, returned_row, revoked_row, own_row, resilvered_in, kind_of, settles_by, answered_in, timed_out_in, phase}
@@ -51,11 +51,16 @@ pub record IsHeld (n : ℕ) (cred : Cred) (s : LayoutState) : Type 0 where
 
 pub data After (file : FileId) (n : ℕ) (cred : Cred) (step : FileStep) : Type 0 where
   GoesOn : IsHeld n cred step.file.layout → After file n cred step
-  IsOver : HasEnd file cred step.entries → After file n cred step
+  IsOver : HasEnd file cred step.entries → holder_of step.file.layout.phase ≡ None → After file n cred step
 
 end_in : (file : FileId) (cred : Cred) (left : List Entry) (cause : EndCause) (live : List Mirror) → HasEnd file cred (end_entries file cred left cause live)
 end_in file cred left cause [] = record { cause = AllReported; there = inl refl }
 end_in file cred left cause (m ∷ live) = record { cause = cause; there = in_last (entry.Ended file cred cause) left }
+
+-- behind it nobody holds the file
+left_none : (s : LayoutState) (next : Cred) (live : List Mirror) → holder_of (left_with s next live).phase ≡ None
+left_none s next [] = refl
+left_none s next (m ∷ live) = refl
 
 module _ (file : FileId) (fresh : Fresh) (n : ℕ) (cred : Cred) where
   abbrev Holds : LayoutState → Type 0
@@ -66,7 +71,7 @@ module _ (file : FileId) (fresh : Fresh) (n : ℕ) (cred : Cred) where
 
   more : (entries : List Entry) (step : FileStep) → Is step → Is (with_entries entries step)
   more entries step (GoesOn i) = GoesOn i
-  more entries step (IsOver e) = IsOver (record { cause = e.cause; there = in_behind (entry.Ended file cred e.cause) entries step.entries e.there })
+  more entries step (IsOver e none) = IsOver (record { cause = e.cause; there = in_behind (entry.Ended file cred e.cause) entries step.entries e.there }) none
 
   -- what is a function of the phase
   at_held : (g : LayoutPhase → FileStep) (s : LayoutState) (i : Holds s) → Is (g (Held (Client n) i.is_recalled)) → Is (g s.phase)
@@ -157,12 +162,12 @@ module _ (file : FileId) (fresh : Fresh) (n : ℕ) (cred : Cred) where
   returned_held : (f : MdsFile) (client : ℕ) (claimed : Cred) (places : List Bool) → Holds f.layout → Is (returned_row file f client claimed places fresh n)
   returned_held f client claimed places i =
       cond_both (n == client && (f.layout.cred.0 == claimed.0)) (goes_fencing (returned file f.layout places (a_uid fresh.uid)) fresh.uid) (nothing f) Is
-      (λ is. IsOver (over f.layout i (returned file f.layout places (a_uid fresh.uid)).entries (end_in file f.layout.cred (left_entries file (map reported_cause places) f.layout.live) Returned (unreported places f.layout.live)))) (λ off. GoesOn i)
+      (λ is. IsOver (over f.layout i (returned file f.layout places (a_uid fresh.uid)).entries (end_in file f.layout.cred (left_entries file (map reported_cause places) f.layout.live) Returned (unreported places f.layout.live))) (left_none f.layout (a_uid fresh.uid) (unreported places f.layout.live))) (λ off. GoesOn i)
 
   revoked_held : (f : MdsFile) (cause : EndCause) → Holds f.layout → Is (revoked_row file f cause fresh)
   revoked_held f cause i =
       cond_both (is_clean cause) (nothing f) (goes_fencing (revoked file f.layout cause (a_uid fresh.uid)) fresh.uid) Is (λ is. GoesOn i)
-      (λ off. IsOver (over f.layout i (revoked file f.layout cause (a_uid fresh.uid)).entries (record { cause = cause; there = inl refl })))
+      (λ off. IsOver (over f.layout i (revoked file f.layout cause (a_uid fresh.uid)).entries (record { cause = cause; there = inl refl })) refl)
 
   pub held_after : (f : MdsFile) (input : FileInput) → Agrees f.activity f.layout.phase → Holds f.layout → Is (phase file f input fresh)
   held_after f (AsksLayout client) its i = at_held (asked_in file f (Client client) [] fresh) f.layout i (GoesOn i)

@@ -1,13 +1,16 @@
 -- What any part of an event can do to a metadata server, as in mds_laws, and to whom a file's layout is given besides: a predicate of it is
 -- kept by every part of every event where it is in each of these cases.
-use Rattle.std.proofs.Common.{◌≡◌, ℕ, true, false, List, [], ◌∷◌, ◌++◌, Some}
+use Rattle.std.proofs.Common.{◌≡◌, ℕ, Bool, true, false, List, [], ◌∷◌, ◌++◌, Option, Some}
+use Rattle.ff_xdr.specs.Form.{Value}
 use Rattle.rpc_record.specs.Replies.{RpcReply, reply_bytes}
 use Rattle.cluster_model.specs.declared.ids.NodeId.{NodeId}
 use Rattle.cluster_model.specs.declared.ids.FileId.{FileId}
+use Rattle.cluster_model.specs.declared.ids.Cred.{Cred}
+use Rattle.cluster_model.specs.declared.layout_state.LayoutPhase.TheVariants.{Free}
 use Rattle.cluster_model.specs.declared.entry.Entry.{Entry}
 use Rattle.cluster_model.specs.DsCalls.{DsCallValue, DsReplyValue}
 use Rattle.cluster_model.specs.declared.ds_call.Shown.{Shown}
-use Rattle.file_rule.specs.FilePhases.{FileInput, AsksLayout, Answers as IsAnswer, TimesOut, Sees, CallOut, call_out, is_outstanding}
+use Rattle.file_rule.specs.FilePhases.{FileInput, AsksLayout, OwnWrite, Recall as ToRecall, Returns, Revokes, OwnEnds, Resilver, Answers as IsAnswer, TimesOut, Ticks, Sees, CallOut, call_out, is_outstanding, are_spent}
 use Rattle.mirror_writer.specs.Writers.{WriterValue, WriterSends}
 use Rattle.mirror_writer.specs.Writers as writer
 use Rattle.nfs4_types.specs.declared.stateid.Stateid.{Stateid}
@@ -15,37 +18,71 @@ use Rattle.nfs4_session.specs.declared.back.BackCall.{BackCall}
 use Rattle.nfs4_session.specs.TableLaw.{TableMove, CallBack}
 use Rattle.recall.specs.declared.recall.Recall.{Recall}
 use Rattle.open_state.specs.Opens.{OpensValue}
-use Rattle.mds_rule.specs.MdsStates.{WaitingWrite, ServedFile, MdsSend, CallsServer, CallsBack, Replies, Answers, AwaitedCall, MdsValue, served, with_served, without_call}
+use Rattle.nfs4_compound.specs.Results.{resop4}
+use Rattle.mds_rule.specs.MdsStates.{CompoundRun, WaitingRead, WaitingWrite, ServedFile, MdsSend, CallsServer, CallsBack, Replies, Answers, AwaitedCall, MdsValue, served, with_served, without_call}
 use Rattle.mds_rule.specs.declared.waiter.Waiter.TheVariants.{ForFile, ForRead, ForWrite, ForRecall}
 use Rattle.mds_rule.specs.ServedFiles.{takes_input}
 use Rattle.mds_rule.specs.LayoutOps.{with_holder, is_granted}
 use Rattle.mds_rule.specs.FileOps.{with_new_file, may_make}
-use Rattle.mds_rule.specs.Answers.{server_number, fileid_of, attributes_shown, own_answer}
+use Rattle.mds_rule.specs.Answers.{server_number, fileid_of, attributes_shown, own_answer, resumes, is_done_as, has_failed_as}
 use Rattle.mds_rule.specs.Goes.{xid_after, calls_as, calls_server, has_xids}
 use Rattle.mds_laws.specs.MdsRunLaws.{IsUidOf}
 use Rattle.mds_laws.proofs.Lists.{In}
-use Rattle.mds_laws.proofs.Keeping.{is_note, comes_by_itself, is_write_call, is_read_call, IsWriteOf, Becomes, Enters, Keeps, IsNoRequest, moved, TakesInput, HeardOf}
+use Rattle.mds_laws.proofs.Keeping.{is_note, is_write_call, is_read_call, IsWriteOf, Becomes, Enters, Keeps, IsNoRequest, moved, TakesInput, HeardOf}
 
-pub record Cases (I : MdsValue → List Entry → List MdsSend → Type 0) (Heard : HeardOf) : Type 0 where
+-- an input that neither an answer nor a timeout brings, and that is no return
+abbrev pub comes_unasked : FileInput → Bool
+comes_unasked (AsksLayout client) = true
+comes_unasked (OwnWrite at bytes) = true
+comes_unasked ToRecall = true
+comes_unasked (Returns client claimed places) = false
+comes_unasked (Revokes cause) = true
+comes_unasked (OwnEnds causes at bytes) = true
+comes_unasked Resilver = true
+comes_unasked (IsAnswer xid reply) = false
+comes_unasked (TimesOut xid) = false
+comes_unasked Ticks = true
+comes_unasked (Sees id seen) = false
+
+-- ---- the compounds that wait for a file
+
+-- each of them is so
+pub record AllWait (W : CompoundRun → Type 0) (reads : List WaitingRead) (write : Option WaitingWrite) : Type 0 where
+  pub reads_so : (r : WaitingRead) → In r reads → W r.compound
+  pub write_so : (w : WaitingWrite) → write ≡ Some w → W w.compound
+
+-- of reads that are so, these are of the same compounds
+abbrev pub SameCompounds : List WaitingRead → List WaitingRead → Type 0
+SameCompounds old new = (r : WaitingRead) → In r new → (was : WaitingRead) × In was old × (r.compound ≡ was.compound)
+
+-- any compound
+abbrev pub AnyCompound : CompoundRun → Type 0
+AnyCompound c = Unit {0}
+
+-- ---- the cases
+
+pub record Cases (I : MdsValue → List Entry → List MdsSend → Type 0) (Heard : HeardOf) (W : CompoundRun → Type 0) : Type 0 where
   -- nothing of sessions, files, calls and numbers changes
   pub quiet : (m : MdsValue) (confirmed : List (ℕ × NodeId)) (opens : OpensValue) (reclaimed : List ℕ) (recalls : List Recall)
       → Becomes I m (record m { confirmed = confirmed; opens = opens; reclaimed = reclaimed; recalls = recalls })
   -- nothing but sessions does, by a call of their table
   pub tables : (m : MdsValue) (move : TableMove) → IsNoRequest move → Becomes I m (moved m move)
-  pub replies : (m : MdsValue) (node : NodeId) (reply : RpcReply) (es : List Entry) (ss : List MdsSend) → I m es ss → I m es (ss ++ Replies node reply ∷ [])
   -- what is answered at once is answered by a reply
   pub answers : (m : MdsValue) (node : NodeId) (bytes : List ℕ) (reply : RpcReply) → bytes ≡ reply_bytes reply → (es : List Entry) (ss : List MdsSend) → I m es ss → I m es (ss ++ Answers node bytes ∷ [])
   pub notes : (m : MdsValue) (e : Entry) → is_note e ≡ true → Enters I m m (e ∷ [])
   -- a file is put back as it stands, with other things beside it
-  pub puts : (m : MdsValue) (file : FileId) (s t : ServedFile) → served m file ≡ Some s → t.file ≡ s.file → t.holder ≡ s.holder → IsWriteOf s.file s.write t.write
-      → Becomes I m (with_served m file t)
+  pub puts : (m : MdsValue) (file : FileId) (s t : ServedFile) → served m file ≡ Some s → t.file ≡ s.file → t.holder ≡ s.holder → t.seqid ≡ s.seqid
+      → IsWriteOf s.file s.write t.write → (AllWait W s.reads s.write → AllWait W t.reads t.write) → Becomes I m (with_served m file t)
+  -- the compounds that wait are so
+  pub wait : (m : MdsValue) (es : List Entry) (ss : List MdsSend) → I m es ss → (file : FileId) (s : ServedFile) → served m file ≡ Some s → AllWait W s.reads s.write
   -- a layout is given again to the client that has it, or is granted where nobody had it
   pub again_to : (m : MdsValue) (file : FileId) (s : ServedFile) (client : ℕ) → served m file ≡ Some s → s.holder ≡ Some client → Becomes I m (with_served m file (with_holder client true s))
-  pub grants : (m : MdsValue) (file : FileId) (n client : ℕ) (t : ServedFile) → is_granted (served m file) ≡ false → served (takes_input m file (AsksLayout n)).mds file ≡ Some t
+  pub grants : (m : MdsValue) (file : FileId) (n client : ℕ) (t : ServedFile) → is_granted (served m file) ≡ false
+      → ((s : ServedFile) → served m file ≡ Some s → (s.file.layout.phase ≡ Free) × (are_spent m.fresh ≡ false)) → served (takes_input m file (AsksLayout n)).mds file ≡ Some t
       → Enters I m (with_served (takes_input m file (AsksLayout n)).mds file (with_holder client false t)) (takes_input m file (AsksLayout n)).entries
   -- an input of the table of phases: one that comes by itself, a timeout, an answer to a call of the file that is outstanding, and what an
   -- answer to an own write shows
-  pub inputs : (m : MdsValue) (file : FileId) (s : ServedFile) (input : FileInput) → comes_by_itself input ≡ true → TakesInput I m file s input
+  pub inputs : (m : MdsValue) (file : FileId) (s : ServedFile) (input : FileInput) → comes_unasked input ≡ true → TakesInput I m file s input
   pub timeouts : (m : MdsValue) (file : FileId) (s : ServedFile) (xid : ℕ) → TakesInput I m file s (TimesOut xid)
   pub hears : (m : MdsValue) (file : FileId) (s : ServedFile) (call : AwaitedCall) (server own uid : ℕ) (c : DsCallValue) (replies : DsCallValue → DsReplyValue) → Heard call replies
       → call.caller ≡ ForFile file → call.sent ≡ CallsServer server own uid c → is_outstanding s.file (server_number call.node) call.xid ≡ true
@@ -62,7 +99,7 @@ pub record Cases (I : MdsValue → List Entry → List MdsSend → Type 0) (Hear
       → writer.next_sent w.writer m.next_xid ≡ Some c → is_write_call c.call ≡ true
       → Keeps I m (calls_server m file (record s { write = Some (record w { writer = c.writer }) }) (ForWrite file) c.id.server w.writer.cred c.call)
   pub calls_read : (m : MdsValue) (file : FileId) (s t : ServedFile) (server : ℕ) (call : DsCallValue) → served m file ≡ Some s → has_xids m ≡ true → t.file ≡ s.file
-      → t.holder ≡ s.holder → IsWriteOf s.file s.write t.write → IsUidOf call 0 → is_read_call call ≡ true → Keeps I m (calls_server m file t (ForRead file) server 0 call)
+      → t.holder ≡ s.holder → t.seqid ≡ s.seqid → IsWriteOf s.file s.write t.write → SameCompounds s.reads t.reads → t.write ≡ s.write → IsUidOf call 0 → is_read_call call ≡ true → Keeps I m (calls_server m file t (ForRead file) server 0 call)
   pub calls_back : (m : MdsValue) (node : NodeId) (back : BackCall) (file : FileId) (stateid : Stateid) → has_xids m ≡ true
       → Keeps I m (calls_as m node ForRecall (CallsBack m.next_xid back file stateid))
   -- a number is passed over
@@ -71,6 +108,17 @@ pub record Cases (I : MdsValue → List Entry → List MdsSend → Type 0) (Hear
   pub forgets : (m : MdsValue) (node : NodeId) (xid : ℕ) → Becomes I m (record m { calls = without_call node xid m.calls })
   pub was : (m : MdsValue) (es : List Entry) (ss : List MdsSend) → I m es ss → (call : AwaitedCall) → In call m.calls → In call.sent ss
   pub again : (m : MdsValue) (s : MdsSend) (es : List Entry) (ss : List MdsSend) → I m es ss → In s ss → I m es (ss ++ s ∷ [])
+
+-- where compounds are run: what they reply, and the returns in them
+pub record RunCases (I : MdsValue → List Entry → List MdsSend → Type 0) (W : CompoundRun → Type 0) : Type 0 where
+  pub replies : (m : MdsValue) (node : NodeId) (reply : RpcReply) (es : List Entry) (ss : List MdsSend) → I m es ss → I m es (ss ++ Replies node reply ∷ [])
+  pub returns : (m : MdsValue) (file : FileId) (s : ServedFile) (n : ℕ) (cred : Cred) (places : List Bool) → TakesInput I m file s (Returns n cred places)
+  pub any : (c : CompoundRun) → W c
+
+-- how a compound that waited goes on
+pub record WaitCases (I : MdsValue → List Entry → List MdsSend → Type 0) (W : CompoundRun → Type 0) : Type 0 where
+  pub done : (now : ℕ) (m : MdsValue) (c : CompoundRun) (result : Value resop4) → W c → Keeps I m (resumes now (is_done_as m c result) c.ops)
+  pub failed : (now : ℕ) (m : MdsValue) (c : CompoundRun) (number : ℕ) → W c → Keeps I m (resumes now (has_failed_as m c number) c.ops)
 
 -- ---- the calls that go out alone
 
@@ -83,15 +131,15 @@ pub record OutCases (I : MdsValue → List Entry → List MdsSend → Type 0) : 
       → writer.next_sent w.writer m.next_xid ≡ Some c → is_write_call c.call ≡ true
       → Keeps I m (calls_server m file (record s { write = Some (record w { writer = c.writer }) }) (ForWrite file) c.id.server w.writer.cred c.call)
   pub calls_read : (m : MdsValue) (file : FileId) (s t : ServedFile) (server : ℕ) (call : DsCallValue) → served m file ≡ Some s → has_xids m ≡ true → t.file ≡ s.file
-      → t.holder ≡ s.holder → IsWriteOf s.file s.write t.write → IsUidOf call 0 → is_read_call call ≡ true → Keeps I m (calls_server m file t (ForRead file) server 0 call)
+      → t.holder ≡ s.holder → t.seqid ≡ s.seqid → IsWriteOf s.file s.write t.write → SameCompounds s.reads t.reads → t.write ≡ s.write → IsUidOf call 0 → is_read_call call ≡ true → Keeps I m (calls_server m file t (ForRead file) server 0 call)
   pub calls_back : (m : MdsValue) (node : NodeId) (back : BackCall) (file : FileId) (stateid : Stateid) → has_xids m ≡ true
       → Keeps I m (calls_as m node ForRecall (CallsBack m.next_xid back file stateid))
   pub skips : (m : MdsValue) → has_xids m ≡ true → Becomes I m (record m { next_xid = xid_after m.next_xid })
   pub was : (m : MdsValue) (es : List Entry) (ss : List MdsSend) → I m es ss → (call : AwaitedCall) → In call m.calls → In call.sent ss
   pub again : (m : MdsValue) (s : MdsSend) (es : List Entry) (ss : List MdsSend) → I m es ss → In s ss → I m es (ss ++ s ∷ [])
 
-pub out_of : (I : MdsValue → List Entry → List MdsSend → Type 0) (Heard : HeardOf) → Cases I Heard → OutCases I
-out_of I Heard k = record {
+pub out_of : (I : MdsValue → List Entry → List MdsSend → Type 0) (Heard : HeardOf) (W : CompoundRun → Type 0) → Cases I Heard W → OutCases I
+out_of I Heard W k = record {
   recalled = λ m recalls. k.quiet m m.confirmed m.opens m.reclaimed recalls;
   back = λ m client. k.tables m (CallBack client) tt;
   calls_file = k.calls_file;

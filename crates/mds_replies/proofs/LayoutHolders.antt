@@ -1,6 +1,10 @@
 -- Whose a file is that a LAYOUTGET is let through to: where it is held, it is the client's that asks.
-use Rattle.std.proofs.Common.{◌≡◌, ℕ, Bool, true, false, cond, [], ◌∷◌, Option, Some, None, refl, sym, ap, subst, ◌∙◌, inl, inr, ◌⊎◌}
-use Rattle.std.proofs.lemmas.Bool.{eqb-true}
+use Rattle.std.proofs.Common.{◌≡◌, ◌≤◌, ℕ, ◌+◌, Bool, true, false, cond, arith, [], ◌∷◌, Option, Some, None, refl, sym, ap, subst, ◌∙◌, inl, inr, ◌⊎◌}
+use Rattle.std.specs.Prelude.{◌-◌, nat_lt, if◌then◌else◌}
+use Rattle.std.proofs.lemmas.Bool.{eqb-true, le-ltb, ltb-false}
+use Rattle.cluster_model.specs.declared.limits.TheConstants.{SPARE_UIDS}
+use Rattle.file_rule.specs.declared.fresh.Fresh.{Fresh}
+use Rattle.file_rule.specs.FilePhases.{are_spent, end_of_uids}
 use Rattle.cluster_model.specs.declared.ids.NodeId.{NodeId}
 use Rattle.cluster_model.specs.declared.layout_state.LayoutState.{LayoutState}
 use Rattle.cluster_model.specs.declared.layout_state.LayoutPhase.{LayoutPhase}
@@ -20,7 +24,7 @@ use Rattle.mds_rule.specs.LayoutOps.{holds_by, fault_of_holder, layout_fault, la
 use Rattle.mds_laws.proofs.Lists.{AllOf}
 use Rattle.std.proofs.lemmas.Option.{same_Some}
 
-holds_none : (order : Order) → refusal order ≡ None → AllOf (λ (f : Bool × Stat4). f.0 ≡ false) order
+pub holds_none : (order : Order) → refusal order ≡ None → AllOf (λ (f : Bool × Stat4). f.0 ≡ false) order
 holds_none [] is = tt
 holds_none (f ∷ order) is = by_test f.0 refl is (λ its. holds_none order its)
   where
@@ -80,3 +84,43 @@ pub again_holds : (m : MdsValue) (c : CompoundRun) (args : LayoutGetArgs) → re
 again_holds m c args is s at granted =
     let all = holds_none (layout_get_order c.current args (layout_found m c args)) is in
     was_its m c (served m (current_file c)) (no_fault (layout_fault m c (served m (current_file c))) all.1.1.1.1.1.1.1.0 all.1.1.1.1.1.1.1.1.0 all.1.1.1.1.1.1.1.1.1.0) s at granted
+
+-- ---- where nobody holds it, it is free, and uids are left
+
+not_spent : (b : Bool) → (if b then Some Spent else None) ≡ None → b ≡ false
+not_spent true is = absurd cc
+not_spent false is = refl
+
+spare_left : (fresh : Fresh) → nat_lt (end_of_uids - fresh.uid) SPARE_UIDS ≡ false → are_spent fresh ≡ false
+spare_left fresh is = let many : SPARE_UIDS ≤ end_of_uids - fresh.uid = ltb-false (end_of_uids - fresh.uid) SPARE_UIDS is in le-ltb end_of_uids (fresh.uid + SPARE_UIDS) (grind (arith, many))
+
+free_so : (m : MdsValue) (c : CompoundRun) (o : Option ServedFile) → layout_fault m c o ≡ None → (s : ServedFile) → o ≡ Some s → is_granted o ≡ false → (s.file.layout.phase ≡ Free) × (are_spent m.fresh ≡ false)
+free_so m c None none s at free = absurd cc
+free_so m c (Some t) none s at free =
+    subst (λ (x : ServedFile). (x.file.layout.phase ≡ Free) × (are_spent m.fresh ≡ false)) (same_Some t s at) (by_phase t.file.layout.phase refl none free)
+  where
+    by_phase : (p : LayoutPhase) → t.file.layout.phase ≡ p → fault_of_holder t.file.layout (uids_left m) (holds_by (client_of c) t.holder) (holder_of p) c.node ≡ None → is_held p ≡ false → (t.file.layout.phase ≡ Free) × (are_spent m.fresh ≡ false)
+    by_phase (Held holder recalled) at none free = absurd cc
+    by_phase Making at none free = absurd (made (subst (λ (p : LayoutPhase). grant_fault_by p c.node (uids_left m) ≡ None) at none))
+      where
+        made : grant_fault_by Making c.node (uids_left m) ≡ None → ⊥
+        made is = absurd cc
+    by_phase Free at none free = (at, spare_left m.fresh (not_spent (nat_lt (uids_left m) SPARE_UIDS) (subst (λ (p : LayoutPhase). grant_fault_by p c.node (uids_left m) ≡ None) at none)))
+    by_phase (Fencing next end) at none free = absurd (made (subst (λ (p : LayoutPhase). grant_fault_by p c.node (uids_left m) ≡ None) at none))
+      where
+        made : grant_fault_by (Fencing next end) c.node (uids_left m) ≡ None → ⊥
+        made is = absurd cc
+    by_phase (Settling copies) at none free = absurd (made (subst (λ (p : LayoutPhase). grant_fault_by p c.node (uids_left m) ≡ None) at none))
+      where
+        made : grant_fault_by (Settling copies) c.node (uids_left m) ≡ None → ⊥
+        made is = absurd cc
+    by_phase (Copying copier copies) at none free = absurd (made (subst (λ (p : LayoutPhase). grant_fault_by p c.node (uids_left m) ≡ None) at none))
+      where
+        made : grant_fault_by (Copying copier copies) c.node (uids_left m) ≡ None → ⊥
+        made is = absurd cc
+
+pub new_free : (m : MdsValue) (c : CompoundRun) (args : LayoutGetArgs) → refusal (layout_get_order c.current args (layout_found m c args)) ≡ None → (s : ServedFile) → served m (current_file c) ≡ Some s
+    → is_granted (served m (current_file c)) ≡ false → (s.file.layout.phase ≡ Free) × (are_spent m.fresh ≡ false)
+new_free m c args is s at free =
+    let all = holds_none (layout_get_order c.current args (layout_found m c args)) is in
+    free_so m c (served m (current_file c)) (no_fault (layout_fault m c (served m (current_file c))) all.1.1.1.1.1.1.1.0 all.1.1.1.1.1.1.1.1.0 all.1.1.1.1.1.1.1.1.1.0) s at free

@@ -1,20 +1,23 @@
 -- Each operation on files and layouts keeps what is kept in each case.
-use Rattle.std.proofs.Common.{◌≡◌, ◌≤◌, ℕ, ◌+◌, Bool, true, false, cond, List, [], ◌∷◌, length, Option, Some, None, refl, ap, ◌∙◌, inl, arith}
+use Rattle.std.proofs.Common.{◌≡◌, ◌≤◌, ℕ, ◌+◌, Bool, true, false, cond, List, [], ◌∷◌, length, Option, Some, None, refl, ap, subst, ◌∙◌, inl, arith}
 use Rattle.std.specs.Prelude.{◌&&◌, not, nat_lt, is_some}
 use Rattle.std.proofs.lemmas.Bool.{cond_both, and_parts, ne_eqb, ltb-false}
+use Rattle.std.proofs.lemmas.Option.{same_Some}
 use Rattle.ff_xdr.specs.Form.{Value}
 use Rattle.ff_xdr.specs.Arms.{arm, by_arm, of_each_arm}
 use Rattle.cluster_model.specs.declared.limits.TheConstants.{MAX_FILE, PIECE_SIZE}
 use Rattle.cluster_model.specs.declared.ids.NodeId.{NodeId}
 use Rattle.cluster_model.specs.declared.ids.NodeId.TheVariants.{Mds, Server, Client}
 use Rattle.cluster_model.specs.declared.ids.FileId.{FileId}
+use Rattle.cluster_model.specs.declared.ids.Cred.{Cred}
+use Rattle.cluster_model.specs.declared.layout_state.LayoutPhase.TheVariants.{Free}
 use Rattle.cluster_model.specs.declared.phase.EndCause.TheVariants.{ReturnedAll}
 use Rattle.cluster_model.specs.declared.phase.Phase.{Phase}
 use Rattle.cluster_model.specs.declared.entry.Entry.{Entry}
 use Rattle.cluster_model.specs.declared.entry.Entry.TheVariants as entry
 use Rattle.cluster_model.specs.Phases.{holder_of}
 use Rattle.device_addr.specs.Universal.{AddressValue}
-use Rattle.file_rule.specs.FilePhases.{OwnWrite, AsksLayout, Returns}
+use Rattle.file_rule.specs.FilePhases.{OwnWrite, AsksLayout, Returns, are_spent}
 use Rattle.ff_layout.specs.IoError.{ff_ioerr4}
 use Rattle.layout_report.specs.Reports.{report_of}
 use Rattle.nfs4_types.specs.declared.status.Stat4.{Stat4}
@@ -45,18 +48,19 @@ use Rattle.mds_operations.specs.declared.write.WriteAsk.{WriteAsk}
 use Rattle.mds_operations.specs.LayoutGets.{layout_get_order}
 use Rattle.mds_operations.specs.GetDeviceInfo.{device_info_order}
 use Rattle.mds_operations.specs.PutFh.{put_fh_order, object_of}
-use Rattle.mds_rule.specs.MdsStates.{CompoundRun, ServedFile, MdsSend, MdsValue, MdsStep, sends_none, confirmed_node, served, with_served, numbered, file_named}
+use Rattle.mds_rule.specs.MdsStates.{CompoundRun, WaitingWrite, ServedFile, MdsSend, MdsValue, MdsStep, sends_none, confirmed_node, served, with_served, numbered, file_named}
 use Rattle.mds_rule.specs.OpSteps.{OpStep, with_result, at_object, gives, refused_or}
 use Rattle.mds_rule.specs.ServedFiles.{takes_input, asks_back, ends_periods}
 use Rattle.mds_rule.specs.SessionOps.{goes_with}
 use Rattle.open_state.specs.Opens.{opened, closed}
-use Rattle.mds_rule.specs.FileOps.{client_of, current_file, file_or_none, stateid_in, named_in, write_verifier, put_object, runs_put_fh, get_object, runs_get_fh, runs_lookup, get_attributes, runs_get_attr, with_new_file, opens_or_makes, opens_file, open_named, creation_in, can_open, may_make, runs_open, name_in, closes, runs_close, runs_commit, reads_at, runs_read, read_length, with_write, writes_at, writes_file, ends_by, write_refused, runs_write, write_ask, is_delay}
+use Rattle.mds_rule.specs.FileOps.{client_of, current_file, file_or_none, stateid_in, named_in, write_verifier, with_read, put_object, runs_put_fh, get_object, runs_get_fh, runs_lookup, get_attributes, runs_get_attr, with_new_file, opens_or_makes, opens_file, open_named, creation_in, can_open, may_make, runs_open, name_in, closes, runs_close, runs_commit, reads_at, runs_read, read_length, with_write, writes_at, writes_file, ends_by, write_refused, runs_write, write_ask, is_delay}
 use Rattle.mds_rule.specs.LayoutOps.{no_stateid, layout_asked, layout_found, with_holder, granted_in, grants_to, is_granted, phase_behind, later_by, layout_answer, runs_layout_get, is_try_later, errors_of, client_number, return_by, returns_file, file_return, returns_all, runs_layout_return, runs_layout_commit, device_from, device_size, device_answer, runs_get_device_info}
-use Rattle.mds_laws.proofs.Keeping.{Becomes, KeepsOp, HeardOf, no_entries, stays, enters_then, enters_becomes}
+use Rattle.mds_laws.proofs.Keeping.{Becomes, KeepsOp, HeardOf, TakesInput, no_entries, stays, enters_then, enters_becomes}
 use Rattle.mds_replies.proofs.HolderCases.{Cases}
+use Rattle.mds_replies.proofs.WaitingCompounds.{reads_push}
 use Rattle.mds_laws.proofs.OpsWalk.{old_write}
-use Rattle.mds_replies.proofs.LayoutHolders.{again_holds}
-use Rattle.mds_replies.proofs.ServedWalk.{takes, asks, periods, refused, unless_refused}
+use Rattle.mds_replies.proofs.LayoutHolders.{again_holds, new_free}
+use Rattle.mds_replies.proofs.ServedWalk.{takes, takes_by, asks, periods, refused, unless_refused}
 
 -- ---- an OPEN that makes a file
 
@@ -97,7 +101,7 @@ let_through c ask some so =
     let within : nat_lt MAX_FILE (ask.offset + ask.length) ≡ false = both_off (has_bytes ask) (nat_lt MAX_FILE (ask.offset + ask.length)) has order.1.1.1.1.0 in
     (ltb-false PIECE_SIZE ask.length few, ltb-false MAX_FILE (ask.offset + ask.length) within)
 
-module _ (I : MdsValue → List Entry → List MdsSend → Type 0) (Heard : HeardOf) (k : Cases I Heard) where
+module _ (I : MdsValue → List Entry → List MdsSend → Type 0) (Heard : HeardOf) (W : CompoundRun → Type 0) (k : Cases I Heard W) where
   -- ---- names and opens
 
   object_put : (m : MdsValue) (c : CompoundRun) (o : Option Object) → KeepsOp I m (put_object m c o)
@@ -105,7 +109,7 @@ module _ (I : MdsValue → List Entry → List MdsSend → Type 0) (Heard : Hear
   object_put m c (Some object) = stays I m
 
   pub puts_fh : (m : MdsValue) (c : CompoundRun) (handle : List ℕ) → KeepsOp I m (runs_put_fh m c handle)
-  puts_fh m c handle = refused I Heard k m c 22 (refusal (put_fh_order handle (length m.files))) _ (object_put m c (object_of handle))
+  puts_fh m c handle = refused I Heard W k m c 22 (refusal (put_fh_order handle (length m.files))) _ (object_put m c (object_of handle))
 
   object_got : (m : MdsValue) (c : CompoundRun) (o : Option Object) → KeepsOp I m (get_object m c o)
   object_got m c None = stays I m
@@ -116,7 +120,7 @@ module _ (I : MdsValue → List Entry → List MdsSend → Type 0) (Heard : Hear
 
   pub looks_up : (m : MdsValue) (c : CompoundRun) (name : List ℕ) → KeepsOp I m (runs_lookup m c name)
   looks_up m c name =
-      refused I Heard k m c 15 (refusal (lookup_order c.current name (file_named m name))) (gives m (at_object c (File (file_or_none (file_named m name)))) (arm 15 resop4 (inl tt))) (stays I m)
+      refused I Heard W k m c 15 (refusal (lookup_order c.current name (file_named m name))) (gives m (at_object c (File (file_or_none (file_named m name)))) (arm 15 resop4 (inl tt))) (stays I m)
 
   attributes_got : (m : MdsValue) (c : CompoundRun) (words : List ℕ) (o : Option Object) → KeepsOp I m (get_attributes m c words o)
   attributes_got m c words None = stays I m
@@ -130,10 +134,10 @@ module _ (I : MdsValue → List Entry → List MdsSend → Type 0) (Heard : Hear
 
   open_walk : (m : MdsValue) (c : CompoundRun) (access : ℕ) (creation : Creation) (name : List ℕ) (o : Option FileId) → KeepsOp I m (open_named m c access creation name o)
   open_walk m c access creation name (Some file) =
-      refused I Heard k m c 18 (refusal (open_order c.current name access creation (found_of m c (Some file)))) (opens_file m c file)
+      refused I Heard W k m c 18 (refusal (open_order c.current name access creation (found_of m c (Some file)))) (opens_file m c file)
       (no_entries I m (record m { opens = opened m.opens (client_of c) file }) (opens_become m (opened m.opens (client_of c) file)))
   open_walk m c access creation name None =
-      unless_refused I Heard k m c 18 (refusal (open_order c.current name access creation (found_of m c None))) (opens_or_makes m c name None)
+      unless_refused I Heard W k m c 18 (refusal (open_order c.current name access creation (found_of m c None))) (opens_or_makes m c name None)
       (λ so.
       no_entries I m (record (with_new_file m name) { opens = opened m.opens (client_of c) (numbered (length m.files + 1)) })
       (λ es ss i. opens_become (with_new_file m name) (opened m.opens (client_of c) (numbered (length m.files + 1))) es ss (k.makes m name (makes_so m c access creation name so) es ss i)))
@@ -146,42 +150,42 @@ module _ (I : MdsValue → List Entry → List MdsSend → Type 0) (Heard : Hear
   close_walk m c file (Some o) = no_entries I m (record m { opens = closed m.opens (client_of c) file }) (opens_become m (closed m.opens (client_of c) file))
 
   pub closes_file : (m : MdsValue) (c : CompoundRun) (args : Value close4_args) → KeepsOp I m (runs_close m c args)
-  closes_file m c (seqid, stateid) = refused I Heard k m c 4 _ _ (close_walk m c (current_file c) (open_of m.opens (client_of c) (current_file c)))
+  closes_file m c (seqid, stateid) = refused I Heard W k m c 4 _ _ (close_walk m c (current_file c) (open_of m.opens (client_of c) (current_file c)))
 
   pub commits : (m : MdsValue) (c : CompoundRun) → KeepsOp I m (runs_commit m c)
-  commits m c = refused I Heard k m c 5 (refusal (commit_order c.current)) (gives m c (arm 5 resop4 (inl write_verifier))) (stays I m)
+  commits m c = refused I Heard W k m c 5 (refusal (commit_order c.current)) (gives m c (arm 5 resop4 (inl write_verifier))) (stays I m)
 
   -- ---- bytes
 
-  read_walk : (m : MdsValue) (c : CompoundRun) (file : FileId) (at count : ℕ) (o : Option ServedFile) → served m file ≡ o → KeepsOp I m (reads_at m c file at count o)
-  read_walk m c file at count None is = stays I m
-  read_walk m c file at count (Some s) is = no_entries I m _ (k.puts m file s _ is refl refl (old_write s.file s.write))
+  read_walk : (m : MdsValue) (c : CompoundRun) → W c → (file : FileId) (at count : ℕ) (o : Option ServedFile) → served m file ≡ o → KeepsOp I m (reads_at m c file at count o)
+  read_walk m c its file at count None is = stays I m
+  read_walk m c its file at count (Some s) is = no_entries I m _ (k.puts m file s (with_read c at count s) is refl refl refl (old_write s.file s.write) (λ a. record { reads_so = reads_push W s.reads _ a.reads_so its; write_so = a.write_so }))
 
-  pub reads : (m : MdsValue) (c : CompoundRun) (args : Value read4_args) → KeepsOp I m (runs_read m c args)
-  reads m c (stateid, (offset, count)) = refused I Heard k m c 25 _ _ (read_walk m c (current_file c) offset (read_length count) (served m (current_file c)) refl)
+  pub reads : (m : MdsValue) (c : CompoundRun) (args : Value read4_args) → W c → KeepsOp I m (runs_read m c args)
+  reads m c (stateid, (offset, count)) its = refused I Heard W k m c 25 _ _ (read_walk m c its (current_file c) offset (read_length count) (served m (current_file c)) refl)
 
-  write_begun : (m : MdsValue) (c : CompoundRun) (file : FileId) (at : ℕ) (bytes : List ℕ) → length bytes ≤ PIECE_SIZE → at + length bytes ≤ MAX_FILE → (o : Option ServedFile) → served m file ≡ o
+  write_begun : (m : MdsValue) (c : CompoundRun) → W c → (file : FileId) (at : ℕ) (bytes : List ℕ) → length bytes ≤ PIECE_SIZE → at + length bytes ≤ MAX_FILE → (o : Option ServedFile) → served m file ≡ o
       → Becomes I m (writes_at m c file at bytes o)
-  write_begun m c file at bytes few within None is = λ es ss i. i
-  write_begun m c file at bytes few within (Some s) is =
-      k.puts m file s (with_write c at bytes s) is refl refl (inl (record { at = at; bytes = bytes; is = refl; few = few; within = within }))
+  write_begun m c its file at bytes few within None is = λ es ss i. i
+  write_begun m c its file at bytes few within (Some s) is =
+      k.puts m file s (with_write c at bytes s) is refl refl refl (inl (record { at = at; bytes = bytes; is = refl; few = few; within = within })) (λ a. record { reads_so = a.reads_so; write_so = λ w same. subst (λ (x : WaitingWrite). W x.compound) (same_Some _ w same) its })
 
-  write_walk : (m : MdsValue) (c : CompoundRun) (args : Value write4_args) → refusal (write_order c.current (write_ask m c args)) ≡ None → KeepsOp I m (writes_file m c args)
-  write_walk m c (stateid, (offset, (stable, []))) so = stays I m
-  write_walk m c (stateid, (offset, (stable, (b ∷ bytes)))) so =
+  write_walk : (m : MdsValue) (c : CompoundRun) → W c → (args : Value write4_args) → refusal (write_order c.current (write_ask m c args)) ≡ None → KeepsOp I m (writes_file m c args)
+  write_walk m c its (stateid, (offset, (stable, []))) so = stays I m
+  write_walk m c its (stateid, (offset, (stable, (b ∷ bytes)))) so =
       let ask : WriteAsk = write_ask m c (stateid, (offset, (stable, (b ∷ bytes)))) in
       let limits : (length (b ∷ bytes) ≤ PIECE_SIZE) × (offset + length (b ∷ bytes) ≤ MAX_FILE) = let_through c ask (omega arith) so in
       let s : MdsStep = takes_input m (current_file c) (OwnWrite offset (b ∷ bytes)) in
-      enters_becomes I m s.mds (writes_at s.mds c (current_file c) offset (b ∷ bytes) (served s.mds (current_file c))) s.entries (takes I Heard k m (current_file c) (OwnWrite offset (b ∷ bytes)) refl).enters
-      (write_begun s.mds c (current_file c) offset (b ∷ bytes) limits.0 limits.1 (served s.mds (current_file c)) refl)
+      enters_becomes I m s.mds (writes_at s.mds c (current_file c) offset (b ∷ bytes) (served s.mds (current_file c))) s.entries (takes I Heard W k m (current_file c) (OwnWrite offset (b ∷ bytes)) refl).enters
+      (write_begun s.mds c its (current_file c) offset (b ∷ bytes) limits.0 limits.1 (served s.mds (current_file c)) refl)
 
-  pub writes : (m : MdsValue) (c : CompoundRun) (now : ℕ) (args : Value write4_args) → KeepsOp I m (runs_write m c now args)
-  writes m c now args = by_status (refusal (write_order c.current (write_ask m c args))) refl
+  pub writes : (m : MdsValue) (c : CompoundRun) (now : ℕ) (args : Value write4_args) → W c → KeepsOp I m (runs_write m c now args)
+  writes m c now args its = by_status (refusal (write_order c.current (write_ask m c args))) refl
     where
       by_status : (status : Option Stat4) → refusal (write_order c.current (write_ask m c args)) ≡ status → KeepsOp I m (write_refused m c now args status)
       by_status status so =
           cond_both (is_delay status) (ends_by (asks_back m (current_file c) now) c 38 stat.Delay) (refused_or m c 38 status (writes_file m c args)) (λ (x : OpStep). KeepsOp I m x)
-          (λ is. (asks I Heard k m (current_file c) now).enters) (λ off. unless_refused I Heard k m c 38 status (writes_file m c args) (λ none. write_walk m c args (so ∙ none)))
+          (λ is. (asks I Heard W k m (current_file c) now).enters) (λ off. unless_refused I Heard W k m c 38 status (writes_file m c args) (λ none. write_walk m c its args (so ∙ none)))
 
   -- ---- layouts
 
@@ -192,24 +196,25 @@ module _ (I : MdsValue → List Entry → List MdsSend → Type 0) (Heard : Hear
   again_walk m c file its (Some t) is = no_entries I m (with_served m file (with_holder (client_of c) true t)) (k.again_to m file t (client_of c) is (its t is))
 
   -- nobody has it
-  new_walk : (m : MdsValue) (c : CompoundRun) (file : FileId) (n : ℕ) → is_granted (served m file) ≡ false → (o : Option ServedFile) → served (takes_input m file (AsksLayout n)).mds file ≡ o
+  new_walk : (m : MdsValue) (c : CompoundRun) (file : FileId) (n : ℕ) → is_granted (served m file) ≡ false
+      → ((s : ServedFile) → served m file ≡ Some s → (s.file.layout.phase ≡ Free) × (are_spent m.fresh ≡ false)) → (o : Option ServedFile) → served (takes_input m file (AsksLayout n)).mds file ≡ o
       → KeepsOp I m (granted_in (takes_input m file (AsksLayout n)) c file false o)
-  new_walk m c file n free None is = (takes I Heard k m file (AsksLayout n) refl).enters
-  new_walk m c file n free (Some t) is = k.grants m file n (client_of c) t free is
+  new_walk m c file n free was None is = (takes I Heard W k m file (AsksLayout n) refl).enters
+  new_walk m c file n free was (Some t) is = k.grants m file n (client_of c) t free was is
 
   grants_walk : (m : MdsValue) (c : CompoundRun) (file : FileId) (again : Bool) → is_granted (served m file) ≡ again → (again ≡ true → (s : ServedFile) → served m file ≡ Some s → s.holder ≡ Some (client_of c))
-      → (from : Option NodeId) → KeepsOp I m (grants_to m c file again from)
-  grants_walk m c file true at its from = again_walk m c file (its refl) (served m file) refl
-  grants_walk m c file false at its None = stays I m
-  grants_walk m c file false at its (Some Mds) = stays I m
-  grants_walk m c file false at its (Some (Server n)) = stays I m
-  grants_walk m c file false at its (Some (Client n)) = new_walk m c file n at (served (takes_input m file (AsksLayout n)).mds file) refl
+      → (again ≡ false → (s : ServedFile) → served m file ≡ Some s → (s.file.layout.phase ≡ Free) × (are_spent m.fresh ≡ false)) → (from : Option NodeId) → KeepsOp I m (grants_to m c file again from)
+  grants_walk m c file true at its was from = again_walk m c file (its refl) (served m file) refl
+  grants_walk m c file false at its was None = stays I m
+  grants_walk m c file false at its was (Some Mds) = stays I m
+  grants_walk m c file false at its was (Some (Server n)) = stays I m
+  grants_walk m c file false at its was (Some (Client n)) = new_walk m c file n at (was refl) (served (takes_input m file (AsksLayout n)).mds file) refl
 
   later_walk : (m : MdsValue) (c : CompoundRun) (now : ℕ) (p : Option Phase) → KeepsOp I m (later_by m c now p)
   later_walk m c now None = stays I m
   later_walk m c now (Some p) =
       let s : MdsStep = asks_back m (current_file c) now in
-      enters_then I m m s.mds (entry.Later (current_file c) p ∷ []) s.entries (k.notes m (entry.Later (current_file c) p) refl) (asks I Heard k m (current_file c) now).enters
+      enters_then I m m s.mds (entry.Later (current_file c) p ∷ []) s.entries (k.notes m (entry.Later (current_file c) p) refl) (asks I Heard W k m (current_file c) now).enters
 
   pub layout_gets : (m : MdsValue) (c : CompoundRun) (now : ℕ) (args : Value layoutget4_args) → KeepsOp I m (runs_layout_get m c now args)
   layout_gets m c now args = by_status (refusal (layout_get_order c.current (layout_asked args) (layout_found m c (layout_asked args)))) refl
@@ -219,34 +224,34 @@ module _ (I : MdsValue → List Entry → List MdsSend → Type 0) (Heard : Hear
       by_status status so =
           cond_both (is_try_later status) (later_by m c now (phase_behind (layout_found m c (layout_asked args)).fault)) (refused_or m c 50 status (grants_to m c (current_file c) (is_granted (served m (current_file c))) (confirmed_node m (client_of c)))) (λ (x : OpStep). KeepsOp I m x)
           (λ is. later_walk m c now (phase_behind (layout_found m c (layout_asked args)).fault))
-          (λ off. unless_refused I Heard k m c 50 status (grants_to m c (current_file c) (is_granted (served m (current_file c))) (confirmed_node m (client_of c)))
-          (λ none. grants_walk m c (current_file c) (is_granted (served m (current_file c))) refl (λ granted s at. again_holds m c (layout_asked args) (so ∙ none) s at granted) (confirmed_node m (client_of c))))
+          (λ off. unless_refused I Heard W k m c 50 status (grants_to m c (current_file c) (is_granted (served m (current_file c))) (confirmed_node m (client_of c)))
+          (λ none. grants_walk m c (current_file c) (is_granted (served m (current_file c))) refl (λ granted s at. again_holds m c (layout_asked args) (so ∙ none) s at granted) (λ free s at. new_free m c (layout_asked args) (so ∙ none) s at free) (confirmed_node m (client_of c))))
 
-  return_walk : (m : MdsValue) (c : CompoundRun) (file : FileId) (errors : List (Value ff_ioerr4)) (o : Option ServedFile) → KeepsOp I m (return_by m c file errors o)
-  return_walk m c file errors None = stays I m
-  return_walk m c file errors (Some s) = (takes I Heard k m file (Returns (client_number (holder_of s.file.layout.phase)) s.file.layout.cred (report_of errors s.file.layout.live)) refl).enters
+  return_walk : (returns : (m : MdsValue) (file : FileId) (s : ServedFile) (n : ℕ) (cred : Cred) (places : List Bool) → TakesInput I m file s (Returns n cred places)) (m : MdsValue) (c : CompoundRun) (file : FileId) (errors : List (Value ff_ioerr4)) (o : Option ServedFile) → KeepsOp I m (return_by m c file errors o)
+  return_walk returns m c file errors None = stays I m
+  return_walk returns m c file errors (Some s) = (takes_by I Heard W k m file (Returns (client_number (holder_of s.file.layout.phase)) s.file.layout.cred (report_of errors s.file.layout.live)) (λ t. returns m file t (client_number (holder_of s.file.layout.phase)) s.file.layout.cred (report_of errors s.file.layout.live))).enters
 
-  returns_walk : (m : MdsValue) (c : CompoundRun) (o : Option (List (Value ff_ioerr4))) → KeepsOp I m (returns_file m c o)
-  returns_walk m c None = stays I m
-  returns_walk m c (Some errors) = return_walk m c (current_file c) errors (served m (current_file c))
+  returns_walk : (returns : (m : MdsValue) (file : FileId) (s : ServedFile) (n : ℕ) (cred : Cred) (places : List Bool) → TakesInput I m file s (Returns n cred places)) (m : MdsValue) (c : CompoundRun) (o : Option (List (Value ff_ioerr4))) → KeepsOp I m (returns_file m c o)
+  returns_walk returns m c None = stays I m
+  returns_walk returns m c (Some errors) = return_walk returns m c (current_file c) errors (served m (current_file c))
 
-  file_walk : (m : MdsValue) (c : CompoundRun) (reclaim : Bool) (layout_type : ℕ) (args : Value layoutreturn_file4) → KeepsOp I m (file_return m c reclaim layout_type args)
-  file_walk m c reclaim layout_type (offset, (length, (stateid, body))) = refused I Heard k m c 51 _ _ (returns_walk m c (errors_of body))
+  file_walk : (returns : (m : MdsValue) (file : FileId) (s : ServedFile) (n : ℕ) (cred : Cred) (places : List Bool) → TakesInput I m file s (Returns n cred places)) (m : MdsValue) (c : CompoundRun) (reclaim : Bool) (layout_type : ℕ) (args : Value layoutreturn_file4) → KeepsOp I m (file_return m c reclaim layout_type args)
+  file_walk returns m c reclaim layout_type (offset, (length, (stateid, body))) = refused I Heard W k m c 51 _ _ (returns_walk returns m c (errors_of body))
 
   all_walk : (m : MdsValue) (c : CompoundRun) (reclaim : Bool) (layout_type : ℕ) → KeepsOp I m (returns_all m c reclaim layout_type)
   all_walk m c reclaim layout_type =
-      refused I Heard k m c 51 (refusal (layout_return_all_order layout_type reclaim)) (goes_with (ends_periods m (client_of c) ReturnedAll) (with_result c no_stateid)) (periods I Heard k m (client_of c) ReturnedAll).enters
+      refused I Heard W k m c 51 (refusal (layout_return_all_order layout_type reclaim)) (goes_with (ends_periods m (client_of c) ReturnedAll) (with_result c no_stateid)) (periods I Heard W k m (client_of c) ReturnedAll).enters
 
-  pub layout_returns : (m : MdsValue) (c : CompoundRun) (args : Value layoutreturn4_args) → KeepsOp I m (runs_layout_return m c args)
-  layout_returns m c (reclaim, (layout_type, (iomode, kind))) =
+  pub layout_returns : (returns : (m : MdsValue) (file : FileId) (s : ServedFile) (n : ℕ) (cred : Cred) (places : List Bool) → TakesInput I m file s (Returns n cred places)) (m : MdsValue) (c : CompoundRun) (args : Value layoutreturn4_args) → KeepsOp I m (runs_layout_return m c args)
+  layout_returns returns m c (reclaim, (layout_type, (iomode, kind))) =
       of_each_arm layoutreturn4
       (λ (v : Value layoutreturn4).
       KeepsOp I m (by_arm layoutreturn4 ((λ file. file_return m c reclaim layout_type file), ((λ fsid. returns_all m c reclaim layout_type), ((λ all. returns_all m c reclaim layout_type), tt))) v))
-      ((λ file. file_walk m c reclaim layout_type file), ((λ fsid. all_walk m c reclaim layout_type), ((λ all. all_walk m c reclaim layout_type), tt))) kind
+      ((λ file. file_walk returns m c reclaim layout_type file), ((λ fsid. all_walk m c reclaim layout_type), ((λ all. all_walk m c reclaim layout_type), tt))) kind
 
   pub layout_commits : (m : MdsValue) (c : CompoundRun) (args : Value layoutcommit4_args) → KeepsOp I m (runs_layout_commit m c args)
   layout_commits m c (offset, (length, (reclaim, (stateid, rest)))) =
-      refused I Heard k m c 49 (refusal (layout_commit_order c.current (named_in m c (stateid_in stateid)))) (gives m c (arm 49 resop4 (inl None))) (stays I m)
+      refused I Heard W k m c 49 (refusal (layout_commit_order c.current (named_in m c (stateid_in stateid)))) (gives m c (arm 49 resop4 (inl None))) (stays I m)
 
   pub device_infos : (m : MdsValue) (c : CompoundRun) (args : Value getdeviceinfo4_args) → KeepsOp I m (runs_get_device_info m c args)
   device_infos m c (device, (layout_type, (maxcount, notify))) = by_status (device_from 1 m.servers device) (refusal (device_info_order layout_type (is_some (device_from 1 m.servers device)) maxcount (device_size (device_from 1 m.servers device))))

@@ -10,7 +10,7 @@ use Rattle.std.specs.List.{list_any}
 use Rattle.std.proofs.lemmas.Bool.{cond_both}
 use Rattle.cluster_model.specs.declared.ids.FileId.{FileId}
 use Rattle.file_rule.specs.MdsFiles.{FileStep}
-use Rattle.file_rule.specs.FilePhases.{FileInput, AsksLayout, Answers as IsAnswer, TimesOut, Sees, phase}
+use Rattle.file_rule.specs.FilePhases.{FileInput, AsksLayout, Returns, Answers as IsAnswer, TimesOut, Sees, phase}
 use Rattle.mds_rule.specs.Answers.{own_answer}
 use Rattle.mds_rows.specs.Draws.{drawn}
 use Rattle.recall.specs.Recalls.{without_file}
@@ -20,7 +20,7 @@ use Rattle.mds_laws.specs.MdsRuns.{MdsEvent, mds_run}
 use Rattle.mds_laws.proofs.Lists.{In, in_with_call, in_filtered}
 use Rattle.mds_laws.proofs.Numbers.{WereSent, sent_more, sent_with, sent_without}
 use Rattle.mds_laws.proofs.Keeping.{HeardAny}
-use Rattle.mds_replies.proofs.HolderCases.{Cases, OutCases}
+use Rattle.mds_replies.proofs.HolderCases.{Cases, RunCases, OutCases, AnyCompound}
 use Rattle.cluster_model.specs.declared.phase.EndCause.TheVariants.{ClientGone}
 use Rattle.mds_rule.specs.SessionOps.{gone_with}
 use Rattle.mds_replies.proofs.ServedWalk.{client_ends}
@@ -69,16 +69,16 @@ asked m file input None ss i = i
 asked m file input (Some s) ss i =
     cond_both (has_fresh m.fresh) (file_stepped m file s (phase file s.file input m.fresh)) (sends_none m) (λ (x : MdsStep). Stands x.mds.calls ss) (λ fresh. behind m file s (phase file s.file input m.fresh) [] ss i) (λ off. i)
 
-cases : Cases IsSo HeardAny
+cases : Cases IsSo HeardAny AnyCompound
 cases = record {
+  wait = λ m es ss i file s at. record { reads_so = λ r inside. tt; write_so = λ w is. tt };
   quiet = λ m confirmed opens reclaimed recalls es ss i. i;
   tables = λ m move is es ss i. i;
-  replies = λ m node reply es ss i. sends m.calls ss (Replies node reply) i;
   answers = λ m node bytes reply is es ss i. sends m.calls ss (Answers node bytes) i;
   notes = λ m e note es ss i. i;
-  puts = λ m other s t at same holder write es ss i. i;
+  puts = λ m other s t at same holder seqid write waits es ss i. i;
   again_to = λ m file s client at its es ss i. i;
-  grants = λ m file n client t free at es ss i. asked m file (AsksLayout n) (served m file) ss i;
+  grants = λ m file n client t free was at es ss i. asked m file (AsksLayout n) (served m file) ss i;
   inputs = λ m other s input itself at fresh es ss i. behind m other s (phase other s.file input m.fresh) es ss i;
   timeouts = λ m other s xid at fresh es ss i. behind m other s (phase other s.file (TimesOut xid) m.fresh) es ss i;
   hears = λ m other s call server own uid c replies heard caller sent out at fresh es ss i. behind m other s (phase other s.file (IsAnswer call.xid (own_answer c (replies c))) m.fresh) es ss i;
@@ -87,7 +87,7 @@ cases = record {
   calls_file = λ m other s c at has its es ss i. one_more m.calls (record { node = Server c.server; xid = m.next_xid; caller = ForFile other; sent = CallsServer c.server m.next_xid c.uid c.call }) ss tt i;
   calls_write = λ m other s w c at has waits its is_write es ss i.
       one_more m.calls (record { node = Server c.id.server; xid = m.next_xid; caller = ForWrite other; sent = CallsServer c.id.server m.next_xid w.writer.cred c.call }) ss tt i;
-  calls_read = λ m other s t server call at has same holder write uid is_read es ss i.
+  calls_read = λ m other s t server call at has same holder seqid write waits kept uid is_read es ss i.
       one_more m.calls (record { node = Server server; xid = m.next_xid; caller = ForRead other; sent = CallsServer server m.next_xid 0 call }) ss tt i;
   calls_back = λ m node back other stateid has es ss i. one_more m.calls (record { node = node; xid = m.next_xid; caller = ForRecall; sent = CallsBack m.next_xid back other stateid }) ss tt i;
   skips = λ m has es ss i. i;
@@ -96,14 +96,21 @@ cases = record {
   again = λ m s es ss i inside. sends m.calls ss s i;
 }
 
+runs : RunCases IsSo AnyCompound
+runs = record {
+  replies = λ m node reply es ss i. sends m.calls ss (Replies node reply) i;
+  returns = λ m file s n cred places at fresh es ss i. behind m file s (phase file s.file (Returns n cred places) m.fresh) es ss i;
+  any = λ c. tt;
+}
+
 pub are_called : (servers : List AddressValue) (mirrors : ℕ) (events : List MdsEvent) → AreCalled (mds_run servers mirrors events).mds.calls
-are_called servers mirrors events = (in_each_run IsSo cases (λ m request now es ss i. i) (new_mds servers mirrors) events (record { called = λ call inside. absurd inside; were = λ call inside. absurd inside })).called
+are_called servers mirrors events = (in_each_run IsSo AnyCompound cases runs (λ m request now es ss i. i) (new_mds servers mirrors) events (record { called = λ call inside. absurd inside; were = λ call inside. absurd inside })).called
 
 -- the end of a client awaits no call
 pub gone_called : (client : Option ℕ) (m : MdsValue) → AreCalled m.calls → AreCalled (gone_with client m).mds.calls
 gone_called None m all = all
 gone_called (Some client) m all =
-    ((client_ends IsSo HeardAny cases m client ClientGone).enters [] (sent_with_calls m.calls) (record { called = all; were = λ call inside. in_sent call m.calls inside })).called
+    ((client_ends IsSo HeardAny AnyCompound cases m client ClientGone).enters [] (sent_with_calls m.calls) (record { called = all; were = λ call inside. in_sent call m.calls inside })).called
 
 -- ---- what goes out
 
@@ -142,7 +149,7 @@ module _ (old : List MdsSend) where
     calls_file = λ m other s c at has its es ss i. goes_out m.calls (record { node = Server c.server; xid = m.next_xid; caller = ForFile other; sent = CallsServer c.server m.next_xid c.uid c.call }) ss tt i;
     calls_write = λ m other s w c at has waits its is_write es ss i.
         goes_out m.calls (record { node = Server c.id.server; xid = m.next_xid; caller = ForWrite other; sent = CallsServer c.id.server m.next_xid w.writer.cred c.call }) ss tt i;
-    calls_read = λ m other s t server call at has same holder write uid is_read es ss i.
+    calls_read = λ m other s t server call at has same holder seqid write waits kept uid is_read es ss i.
         goes_out m.calls (record { node = Server server; xid = m.next_xid; caller = ForRead other; sent = CallsServer server m.next_xid 0 call }) ss tt i;
     calls_back = λ m node back other stateid has es ss i. goes_out m.calls (record { node = node; xid = m.next_xid; caller = ForRecall; sent = CallsBack m.next_xid back other stateid }) ss tt i;
     skips = λ m has es ss i. i;

@@ -12,9 +12,10 @@ use Rattle.cluster_model.specs.declared.entry.Entry.{Entry}
 use Rattle.cluster_model.specs.declared.entry.Entry.TheVariants as entry
 use Rattle.cluster_model.specs.declared.layout_state.LayoutState.{LayoutState}
 use Rattle.cluster_model.specs.declared.layout_state.LayoutPhase.{LayoutPhase}
+use Rattle.cluster_model.specs.declared.layout_state.LayoutPhase.TheVariants.{Free}
 use Rattle.cluster_model.specs.Phases.{holder_of}
 use Rattle.cluster_model.proofs.Elements.{slice_get-set_other, slice_get-set_same, slice_get-push}
-use Rattle.file_rule.specs.FilePhases.{Answers as IsAnswer, TimesOut, Sees, FileInput, AsksLayout, new_mds_file, phase}
+use Rattle.file_rule.specs.FilePhases.{Answers as IsAnswer, TimesOut, Sees, FileInput, AsksLayout, Returns, new_mds_file, are_spent, phase}
 use Rattle.file_rule.specs.MdsFiles.{MdsFile, FileStep}
 use Rattle.layout_state.specs.Grants.{is_held}
 use Rattle.mds_rows.specs.Draws.{drawn}
@@ -34,7 +35,7 @@ use Rattle.mds_replies.proofs.CallsLeave.{out_layout, out_agrees}
 use Rattle.mds_replies.proofs.EndsOnce.{FileAgrees}
 use Rattle.mds_replies.proofs.FileEnds.{phase_uses}
 use Rattle.mds_replies.proofs.HeldFiles.{HasEnd, IsHeld, After, GoesOn, IsOver, held_after, in_behind}
-use Rattle.mds_replies.proofs.HolderCases.{Cases}
+use Rattle.mds_replies.proofs.HolderCases.{Cases, RunCases, AnyCompound}
 use Rattle.mds_replies.proofs.GoesWalk.{run_walk}
 
 -- ---- a file at a place
@@ -57,7 +58,7 @@ served_at false x s is = (refl, is)
 pub at_place : (files : List ServedFile) (file : FileId) (s : ServedFile) → served_in files file ≡ Some s → ((file.0 == 0) ≡ false) × (slice_get files (file.0 - 1) ≡ Some s)
 at_place files file s is = served_at (file.0 == 0) (slice_get files (file.0 - 1)) s is
 
-from_place : (files : List ServedFile) (file : FileId) (s : ServedFile) → (file.0 == 0) ≡ false → slice_get files (file.0 - 1) ≡ Some s → served_in files file ≡ Some s
+pub from_place : (files : List ServedFile) (file : FileId) (s : ServedFile) → (file.0 == 0) ≡ false → slice_get files (file.0 - 1) ≡ Some s → served_in files file ≡ Some s
 from_place files file s some at = ap (λ (b : Bool). cond b None (slice_get files (file.0 - 1))) some ∙ at
 
 pub is_some_number : (n : ℕ) → (n == 0) ≡ false → n ≡ 0 → ⊥
@@ -162,7 +163,7 @@ module _ (file : FileId) (client uid : ℕ) where
   behind_hers : (other : FileId) (s : ServedFile) (step : FileStep) → file ≡ other → (i : IsHers client uid s) → After other i.node (record { 0 = uid }) step
       → IsHers client uid (file_behind s step) ⊎ HasEnd file (record { 0 = uid }) step.entries
   behind_hers other s step one i (GoesOn held) = inl (record { holder = ap (λ (p : LayoutPhase). kept_holder (holder_of p) s.holder) held.phase ∙ i.holder; node = i.node; held = held })
-  behind_hers other s step one i (IsOver e) = inr (subst (λ (x : FileId). HasEnd x (record { 0 = uid }) step.entries) (sym one) e)
+  behind_hers other s step one i (IsOver e none) = inr (subst (λ (x : FileId). HasEnd x (record { 0 = uid }) step.entries) (sym one) e)
 
   inputs : (m : MdsValue) (other : FileId) (s : ServedFile) (input : FileInput) → served m other ≡ Some s → (es : List Entry) (ss : List MdsSend) → IsSo m es ss
       → IsSo (file_stepped m other s (phase other s.file input m.fresh)).mds (es ++ (phase other s.file input m.fresh).entries) ss
@@ -192,9 +193,10 @@ module _ (file : FileId) (client uid : ℕ) where
       not_so is = absurd cc
 
   -- what it is given is not hers
-  granted : (m : MdsValue) (other : FileId) (n new : ℕ) (t : ServedFile) → is_granted (served m other) ≡ false → served (takes_input m other (AsksLayout n)).mds other ≡ Some t
+  granted : (m : MdsValue) (other : FileId) (n new : ℕ) (t : ServedFile) → is_granted (served m other) ≡ false
+      → ((s : ServedFile) → served m other ≡ Some s → (s.file.layout.phase ≡ Free) × (are_spent m.fresh ≡ false)) → served (takes_input m other (AsksLayout n)).mds other ≡ Some t
       → Enters IsSo m (with_served (takes_input m other (AsksLayout n)).mds other (with_holder new false t)) (takes_input m other (AsksLayout n)).entries
-  granted m other n new t free at es ss i =
+  granted m other n new t free was at es ss i =
       let x : MdsStep = takes_input m other (AsksLayout n) in
       let behind : IsSo x.mds (es ++ x.entries) ss = asked_so m other (AsksLayout n) (served m other) refl es ss i in
       record {
@@ -237,14 +239,14 @@ module _ (file : FileId) (client uid : ℕ) where
   called files calls call es ss i =
       subst (λ (l : List Entry). Stands files (with_call call calls) l (ss ++ call.sent ∷ [])) (sym (append-nil es)) (record { agree = i.agree; goes = i.goes; were = sent_with calls ss call i.were })
 
-  cases : Cases IsSo HeardAny
+  cases : Cases IsSo HeardAny AnyCompound
   cases = record {
+    wait = λ m es ss i file s at. record { reads_so = λ r inside. tt; write_so = λ w is. tt };
     quiet = λ m confirmed opens reclaimed recalls es ss i. i;
     tables = λ m move is es ss i. i;
-    replies = λ m node reply es ss i. sends m.files m.calls es ss (Replies node reply) i;
     answers = λ m node bytes reply is es ss i. sends m.files m.calls es ss (Answers node bytes) i;
     notes = λ m e note es ss i. record { agree = i.agree; goes = goes_more m.files es (e ∷ []) i.goes; were = i.were };
-    puts = λ m other s t at same holder write es ss i. puts m.files m.calls es ss other s t at same holder i;
+    puts = λ m other s t at same holder seqid write waits es ss i. puts m.files m.calls es ss other s t at same holder i;
     again_to = again;
     grants = granted;
     inputs = λ m other s input itself at fresh es ss i. inputs m other s input at es ss i;
@@ -259,7 +261,7 @@ module _ (file : FileId) (client uid : ℕ) where
         called (slice_set m.files (other.0 - 1) (record s { write = Some (record w { writer = c.writer }) })) m.calls
         (record { node = Server c.id.server; xid = m.next_xid; caller = ForWrite other; sent = CallsServer c.id.server m.next_xid w.writer.cred c.call }) es ss
         (puts m.files m.calls es ss other s (record s { write = Some (record w { writer = c.writer }) }) at refl refl i);
-    calls_read = λ m other s t server call at has same holder write uid is_read es ss i.
+    calls_read = λ m other s t server call at has same holder seqid write waits kept uid is_read es ss i.
         called (slice_set m.files (other.0 - 1) t) m.calls (record { node = Server server; xid = m.next_xid; caller = ForRead other; sent = CallsServer server m.next_xid 0 call }) es ss
         (puts m.files m.calls es ss other s t at same holder i);
     calls_back = λ m node back other stateid has es ss i.
@@ -270,6 +272,13 @@ module _ (file : FileId) (client uid : ℕ) where
     again = λ m s es ss i inside. sends m.files m.calls es ss s i;
   }
 
+  runs : RunCases IsSo AnyCompound
+  runs = record {
+    replies = λ m node reply es ss i. sends m.files m.calls es ss (Replies node reply) i;
+    returns = λ m other s n cred places at fresh es ss i. inputs m other s (Returns n cred places) at es ss i;
+    any = λ c. tt;
+  }
+
   pub run_goes : (m : MdsValue) (events : List MdsEvent) → AllOf FileAgrees m.files → Has file client uid m.files → Goes (run_from m events).mds.files (run_from m events).entries
   run_goes m events agree has =
-      (run_walk IsSo cases (λ n request now es ss i. i) events m [] (sent_with_calls m.calls) (record { agree = agree; goes = inl has; were = λ call inside. in_sent call m.calls inside })).goes
+      (run_walk IsSo AnyCompound cases runs (λ n request now es ss i. i) events m [] (sent_with_calls m.calls) (record { agree = agree; goes = inl has; were = λ call inside. in_sent call m.calls inside })).goes

@@ -55,7 +55,7 @@ event_is e m node xid name call came =
 -- ---- which replies are sent
 
 -- those that were awaited went out as calls
-of_calls : (calls : List AwaitedCall) (s : MdsSend) → AreCalled calls → In s (sent_with_calls calls) → IsCall s
+pub of_calls : (calls : List AwaitedCall) (s : MdsSend) → AreCalled calls → In s (sent_with_calls calls) → IsCall s
 of_calls [] s all inside = absurd inside
 of_calls (c ∷ calls) s all (inl is) = subst IsCall (sym is) (all c (inl refl))
 of_calls (c ∷ calls) s all (inr inside) = of_calls calls s (λ call its. all call (inr its)) inside

@@ -33,10 +33,10 @@ use Rattle.mds_rule.specs.MdsStates.{CompoundRun, ServedFile, MdsSend, MdsValue,
 use Rattle.mds_rule.specs.OpSteps.{OpStep, Goes, with_result, refuses, refused_or}
 use Rattle.mds_rule.specs.ServedFiles.{has_fresh, file_stepped, input_at, takes_input, with_new_recall, recall_by, recall_at, asks_back, held_from, one_by_one, ends_periods, forgotten, ends_client}
 use Rattle.mds_rule.specs.SessionOps.{with_exchange, runs_exchange, confirmed_by, confirms, gone_with, goes_with, with_session, with_create, runs_create, on_session, runs_bind, runs_destroy_session, runs_destroy_client, reclaims}
-use Rattle.mds_laws.proofs.Keeping.{Becomes, KeepsOp, Silent, HeardOf, TakesInput, comes_by_itself, no_entries, stays, silent_then, silent_none, silent_same, becomes_silent}
-use Rattle.mds_replies.proofs.HolderCases.{Cases}
+use Rattle.mds_laws.proofs.Keeping.{Becomes, KeepsOp, Silent, HeardOf, TakesInput, no_entries, stays, silent_then, silent_none, silent_same, becomes_silent}
+use Rattle.mds_replies.proofs.HolderCases.{Cases, comes_unasked}
 
-module _ (I : MdsValue → List Entry → List MdsSend → Type 0) (Heard : HeardOf) (k : Cases I Heard) where
+module _ (I : MdsValue → List Entry → List MdsSend → Type 0) (Heard : HeardOf) (W : CompoundRun → Type 0) (k : Cases I Heard W) where
   -- ---- one input
 
   input_walk : (m : MdsValue) (file : FileId) (input : FileInput) → ((s : ServedFile) → TakesInput I m file s input) → (o : Option ServedFile) → served m file ≡ o → Silent I m (input_at m file input o)
@@ -49,7 +49,7 @@ module _ (I : MdsValue → List Entry → List MdsSend → Type 0) (Heard : Hear
   pub takes_by : (m : MdsValue) (file : FileId) (input : FileInput) → ((s : ServedFile) → TakesInput I m file s input) → Silent I m (takes_input m file input)
   takes_by m file input each = input_walk m file input each (served m file) refl
 
-  pub takes : (m : MdsValue) (file : FileId) (input : FileInput) → comes_by_itself input ≡ true → Silent I m (takes_input m file input)
+  pub takes : (m : MdsValue) (file : FileId) (input : FileInput) → comes_unasked input ≡ true → Silent I m (takes_input m file input)
   takes m file input itself = takes_by m file input (λ s. k.inputs m file s input itself)
 
   -- ---- recalls

@@ -6,7 +6,7 @@ use Rattle.cluster_model.specs.declared.ids.NodeId.TheVariants.{Server}
 use Rattle.cluster_model.specs.declared.ids.FileId.{FileId}
 use Rattle.cluster_model.specs.declared.entry.Entry.{Entry}
 use Rattle.file_rule.specs.MdsFiles.{FileStep}
-use Rattle.file_rule.specs.FilePhases.{FileInput, AsksLayout, Answers as IsAnswer, TimesOut, Sees, phase}
+use Rattle.file_rule.specs.FilePhases.{FileInput, AsksLayout, Returns, Answers as IsAnswer, TimesOut, Sees, phase}
 use Rattle.mds_rows.specs.Draws.{drawn}
 use Rattle.nfs4_session.specs.Clients.{SessionsState}
 use Rattle.nfs4_session.specs.TableLaw.{TableMove, BeginRequest, table_after}
@@ -19,7 +19,7 @@ use Rattle.mds_rule.specs.Goes.{calls_out}
 use Rattle.mds_laws.specs.MdsRuns.{MdsEvent, run_from}
 use Rattle.mds_laws.proofs.Keeping.{HeardAny}
 use Rattle.mds_laws.proofs.Numbers.{WereSent, sent_more, sent_with, sent_without}
-use Rattle.mds_replies.proofs.HolderCases.{Cases, out_of}
+use Rattle.mds_replies.proofs.HolderCases.{Cases, RunCases, AnyCompound, out_of}
 use Rattle.mds_replies.proofs.PeriodKept.{sent_with_calls, in_sent}
 use Rattle.mds_replies.proofs.GoesWalk.{out_walk, run_walk}
 
@@ -47,16 +47,16 @@ module _ (P : SessionsState → Type 0) (keeps : (s : SessionsState) (move : Tab
   asked m file input (Some s) ss i =
       cond_both (has_fresh m.fresh) (file_stepped m file s (phase file s.file input m.fresh)) (sends_none m) (λ (x : MdsStep). Stands x.mds.sessions x.mds.calls ss) (λ fresh. behind m file s (phase file s.file input m.fresh) ss i) (λ off. i)
 
-  cases : Cases IsSo HeardAny
+  cases : Cases IsSo HeardAny AnyCompound
   cases = record {
+    wait = λ m es ss i file s at. record { reads_so = λ r inside. tt; write_so = λ w is. tt };
     quiet = λ m confirmed opens reclaimed recalls es ss i. i;
     tables = λ m move is es ss i. record { table = keeps m.sessions move i.table; were = i.were };
-    replies = λ m node reply es ss i. sends m.sessions m.calls ss (Replies node reply) i;
     answers = λ m node bytes reply is es ss i. sends m.sessions m.calls ss (Answers node bytes) i;
     notes = λ m e note es ss i. i;
-    puts = λ m other s t at same holder write es ss i. i;
+    puts = λ m other s t at same holder seqid write waits es ss i. i;
     again_to = λ m file s client at its es ss i. i;
-    grants = λ m file n client t free at es ss i. asked m file (AsksLayout n) (served m file) ss i;
+    grants = λ m file n client t free was at es ss i. asked m file (AsksLayout n) (served m file) ss i;
     inputs = λ m other s input itself at fresh es ss i. behind m other s (phase other s.file input m.fresh) ss i;
     timeouts = λ m other s xid at fresh es ss i. behind m other s (phase other s.file (TimesOut xid) m.fresh) ss i;
     hears = λ m other s call server own uid c replies heard caller sent out at fresh es ss i. behind m other s (phase other s.file (IsAnswer call.xid (own_answer c (replies c))) m.fresh) ss i;
@@ -65,7 +65,7 @@ module _ (P : SessionsState → Type 0) (keeps : (s : SessionsState) (move : Tab
     calls_file = λ m other s c at has its es ss i. called m.sessions m.calls (record { node = Server c.server; xid = m.next_xid; caller = ForFile other; sent = CallsServer c.server m.next_xid c.uid c.call }) ss i;
     calls_write = λ m other s w c at has waits its is_write es ss i.
         called m.sessions m.calls (record { node = Server c.id.server; xid = m.next_xid; caller = ForWrite other; sent = CallsServer c.id.server m.next_xid w.writer.cred c.call }) ss i;
-    calls_read = λ m other s t server call at has same holder write uid is_read es ss i.
+    calls_read = λ m other s t server call at has same holder seqid write waits kept uid is_read es ss i.
         called m.sessions m.calls (record { node = Server server; xid = m.next_xid; caller = ForRead other; sent = CallsServer server m.next_xid 0 call }) ss i;
     calls_back = λ m node back other stateid has es ss i. called m.sessions m.calls (record { node = node; xid = m.next_xid; caller = ForRecall; sent = CallsBack m.next_xid back other stateid }) ss i;
     skips = λ m has es ss i. i;
@@ -74,9 +74,16 @@ module _ (P : SessionsState → Type 0) (keeps : (s : SessionsState) (move : Tab
     again = λ m s es ss i inside. sends m.sessions m.calls ss s i;
   }
 
+  runs : RunCases IsSo AnyCompound
+  runs = record {
+    replies = λ m node reply es ss i. sends m.sessions m.calls ss (Replies node reply) i;
+    returns = λ m file s n cred places at fresh es ss i. behind m file s (phase file s.file (Returns n cred places) m.fresh) ss i;
+    any = λ c. tt;
+  }
+
   pub run_keeps : (m : MdsValue) (events : List MdsEvent) → P m.sessions → P (run_from m events).mds.sessions
   run_keeps m events p =
-      (run_walk IsSo cases (λ n request now es ss i. record { table = keeps n.sessions (BeginRequest request now) i.table; were = i.were }) events m [] (sent_with_calls m.calls) (record { table = p; were = λ call inside. in_sent call m.calls inside })).table
+      (run_walk IsSo AnyCompound cases runs (λ n request now es ss i. record { table = keeps n.sessions (BeginRequest request now) i.table; were = i.were }) events m [] (sent_with_calls m.calls) (record { table = p; were = λ call inside. in_sent call m.calls inside })).table
 
   pub out_keeps : (m : MdsValue) → P m.sessions → P (calls_out [] m).mds.sessions
-  out_keeps m p = (out_walk IsSo (out_of IsSo HeardAny cases) [] m [] (sent_with_calls m.calls) (record { table = p; were = λ call inside. in_sent call m.calls inside })).table
+  out_keeps m p = (out_walk IsSo (out_of IsSo HeardAny AnyCompound cases) [] m [] (sent_with_calls m.calls) (record { table = p; were = λ call inside. in_sent call m.calls inside })).table

@@ -2,3 +2,5 @@ pub mod ClientCalls
 pub mod SlotReplies
 pub mod LayoutReplies
 pub mod ClientIds
+pub mod AnsweredRequests
+pub mod ReturnedPeriods

@@ -3,6 +3,8 @@
 ghost use Rattle.mds_replies.specs.LayoutReplies.{PeriodsGoOn, PeriodsEnd, PeriodsAreOwn};
 ghost use Rattle.mds_replies.specs.SlotReplies.{EffectsAreNumbered};
 ghost use Rattle.mds_replies.specs.ClientIds.{IdsAreOwn, SessionsAreOwn};
+ghost use Rattle.mds_replies.specs.AnsweredRequests.{EachReplyStands};
+ghost use Rattle.mds_replies.specs.ReturnedPeriods.{ReturnsCome};
 
 use mds_laws::slot_law;
 
@@ -27,3 +29,19 @@ pub fn id_law()
     ensures ids { IdsAreOwn }
     ensures sessions { SessionsAreOwn }
 {}
+
+/// Each reply answers a call that came, and what it tells a slot of a request stands on the request that took effect (RFC 8881,
+/// section 2.10.6); a LAYOUTGET and a LAYOUTRETURN mean what they say (sections 18.43 and 18.44).
+pub fn replies_law()
+    ensures stands { EachReplyStands }
+{
+    slot_law();
+}
+
+/// A period ends as returned only by a LAYOUTRETURN of its client that takes effect and names it (RFC 8881, section 18.44),
+/// and each mirror that is left is one that it did not report (RFC 8435, section 9).
+pub fn returns_law()
+    ensures come { ReturnsCome }
+{
+    slot_law();
+}

@@ -1,38 +1,38 @@
-mod Stories
-mod MoveCases
-mod MoveRuns
-mod ViewFolds
-mod FileTurns
-mod FileSo
-mod FineLists
-mod TurnLists
-mod TurnKept
-mod TurnsKeep
-mod CopyTurns
-mod PhaseTurns
-mod TurnSays
-mod StaySo
-mod OnceGranted
-mod UserNotes
-mod Serving
-mod SoFar
-mod SoundSteps
-mod CallLayouts
-mod Placed
-mod StepKinds
-mod StepsByKind
-mod Writers
-mod Noted
-mod WriterFacts
-mod WriterSteps
-mod WriterServes
-mod WriterCases
-mod WriterRuns
-mod Owners
-mod OwnerSteps
-mod AllCases
-mod FirstFrees
-mod BlankFiles
-mod BlankCases
-mod JournalsSound
-mod RunsSound
+pub mod Stories
+pub mod MoveCases
+pub mod MoveRuns
+pub mod ViewFolds
+pub mod FileTurns
+pub mod FileSo
+pub mod FineLists
+pub mod TurnLists
+pub mod TurnKept
+pub mod TurnsKeep
+pub mod CopyTurns
+pub mod PhaseTurns
+pub mod TurnSays
+pub mod StaySo
+pub mod OnceGranted
+pub mod UserNotes
+pub mod Serving
+pub mod SoFar
+pub mod SoundSteps
+pub mod CallLayouts
+pub mod Placed
+pub mod StepKinds
+pub mod StepsByKind
+pub mod Writers
+pub mod Noted
+pub mod WriterFacts
+pub mod WriterSteps
+pub mod WriterServes
+pub mod WriterCases
+pub mod WriterRuns
+pub mod Owners
+pub mod OwnerSteps
+pub mod AllCases
+pub mod FirstFrees
+pub mod BlankFiles
+pub mod BlankCases
+pub mod JournalsSound
+pub mod RunsSound

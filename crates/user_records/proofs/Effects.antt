@@ -87,3 +87,16 @@ module _ (s : ServerState) (caller : Caller) where
   users_effect (inr (inr (inr (inr (inr (inr (inr (inl root)))))))) other another = NoneOf refl
   users_effect (inr (inr (inr (inr (inr (inr (inr (inr (inl a))))))))) other another = committed a.0
   users_effect (inr (inr (inr (inr (inr (inr (inr (inr (inr none))))))))) other another = absurd none
+
+  -- and of each that neither writes nor commits
+  pub quiet_effect : (v : Value calls) → arm_of calls v ≢ 2 → arm_of calls v ≢ 8 → arm_of calls v ≢ 7 → arm_of calls v ≢ 21 → (plan_of s (call_of v) caller).effect ≡ NoEffect
+  quiet_effect (inl nothing) other another no_write no_commit = refl
+  quiet_effect (inr (inl handle)) other another no_write no_commit = refl
+  quiet_effect (inr (inr (inl a))) other another no_write no_commit = absurd (other refl)
+  quiet_effect (inr (inr (inr (inl a)))) other another no_write no_commit = refl
+  quiet_effect (inr (inr (inr (inr (inl a))))) other another no_write no_commit = refl
+  quiet_effect (inr (inr (inr (inr (inr (inl a)))))) other another no_write no_commit = absurd (no_write refl)
+  quiet_effect (inr (inr (inr (inr (inr (inr (inl a))))))) other another no_write no_commit = absurd (another refl)
+  quiet_effect (inr (inr (inr (inr (inr (inr (inr (inl root)))))))) other another no_write no_commit = refl
+  quiet_effect (inr (inr (inr (inr (inr (inr (inr (inr (inl a))))))))) other another no_write no_commit = absurd (no_commit refl)
+  quiet_effect (inr (inr (inr (inr (inr (inr (inr (inr (inr none))))))))) other another no_write no_commit = absurd none

@@ -53,6 +53,14 @@ word_8 : word 8 ≡ 0 ∷ 0 ∷ 0 ∷ 8 ∷ []
 unfolding word
 word_8 = refl
 
+word_7 : word 7 ≡ 0 ∷ 0 ∷ 0 ∷ 7 ∷ []
+unfolding word
+word_7 = refl
+
+word_21 : word 21 ≡ 0 ∷ 0 ∷ 0 ∷ 21 ∷ []
+unfolding word
+word_21 = refl
+
 -- ---- the procedure of a call
 
 -- the procedure's number stands at place 20
@@ -121,6 +129,12 @@ not_setattr bytes c e other same = other (procedure_stands bytes c 2 e (omega ar
 
 pub not_create : (bytes : List ℕ) (c : RpcCall) → call_at bytes ≡ is_call c → procedure_word bytes ≢ word 8 → c.procedure ≢ 8
 not_create bytes c e other same = other (procedure_stands bytes c 8 e (omega arith) same ∙ sym word_8)
+
+pub not_write : (bytes : List ℕ) (c : RpcCall) → call_at bytes ≡ is_call c → procedure_word bytes ≢ word 7 → c.procedure ≢ 7
+not_write bytes c e other same = other (procedure_stands bytes c 7 e (omega arith) same ∙ sym word_7)
+
+pub not_commit : (bytes : List ℕ) (c : RpcCall) → call_at bytes ≡ is_call c → procedure_word bytes ≢ word 21 → c.procedure ≢ 21
+not_commit bytes c e other same = other (procedure_stands bytes c 21 e (omega arith) same ∙ sym word_21)
 
 -- ---- the arm of the arguments
 

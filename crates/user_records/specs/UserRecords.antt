@@ -23,3 +23,15 @@ pub data DoesAsUser (s : ServerState) (o : Outcome) : Type 0 where
 -- of any record, whatever numbers are in it
 abbrev pub UsersDoNoMore : ServerState → List ℕ → Type 0
 UsersDoNoMore s bytes = IsUserRecord bytes → DoesAsUser s (outcome_of s bytes)
+
+-- nor is it WRITE 7 or COMMIT 21 (RFC 1813, sections 3.3.7 and 3.3.21)
+abbrev pub IsReaderRecord : List ℕ → Type 0
+IsReaderRecord bytes = IsUserRecord bytes × (procedure_word bytes ≢ word 7) × (procedure_word bytes ≢ word 21)
+
+-- the server stays as it is, and nothing is entered
+pub record LeavesAll (s : ServerState) (o : Outcome) : Type 0 where
+  pub server : o.server ≡ s
+  pub entries : o.entries ≡ []
+
+abbrev pub ReadersDoNothing : ServerState → List ℕ → Type 0
+ReadersDoNothing s bytes = IsReaderRecord bytes → LeavesAll s (outcome_of s bytes)

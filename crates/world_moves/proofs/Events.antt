@@ -42,23 +42,9 @@ use Rattle.world_moves.proofs.ServerMoves.{at_place, all_at, all_set, GoesAt, st
 use Rattle.world_moves.proofs.MdsLike.{mds_like}
 use Rattle.world_moves.proofs.PacketNotes.{IsNoteOf, note_of, bytes_there}
 use Rattle.world_moves.proofs.UserEntries.{user_goes, users_enter, users_send}
+use Rattle.world_moves.proofs.UserSteps.{in_range, proper_at, IsUserStep, by_input, leaves_so, astray_so, anew_so}
 use Rattle.world_moves.proofs.Acting.{acts, enters}
 use Rattle.world_moves.proofs.ServerActs.{ServerLaws, Serves, serves_client, serves_mds}
-
--- ---- servers in range
-
--- there are fewer ticks than fileids
-room_left : (files boot count : ℕ) → files ≤ boot * max_ticks + count → boot ≤ max_boot → count ≤ max_ticks → files + 2 < 2 ^ 64
-room_left files boot count few booted counted = omega (arith, few, booted, counted)
-
-in_range : (s : ServerState) → IsProper s → IsServerInRange s
-in_range s i =
-    let boot = i.boot in
-    let count = i.count in
-    record { boot = omega (arith, boot); count = omega (arith, count); files = room_left (length s.files) s.clock.boot s.clock.count i.few i.boot i.count }
-
-proper_at : (servers : List ServerState) (n : ℕ) (s : ServerState) → AllByRecursion IsProper servers → numbered_at servers n ≡ Some s → IsProper s
-proper_at servers n s all at = all_at IsProper servers (n - 1) s all (at_place servers n s at)
 
 -- ---- what the metadata server sent
 
@@ -93,11 +79,6 @@ audits_none : (m : MachinesValue) (file : FileId) (o : Option ServedFile) → Al
 audits_none m file None = tt
 audits_none m file (Some s) = audit_none m file s.file.layout.live
 
--- a client's step is a user's
-pub record IsUserStep (s : ClientStep) : Type 0 where
-  pub entries : AllByRecursion (λ e. is_user_entry e ≡ true) s.entries
-  pub sends : AllByRecursion IsUserSend s.sends
-
 module _ (events : MdsGoesOn) (forms : MdsStaysInForm) (laws : ServerLaws) (sends : (c : ClientValue) (input : ClientInput) → SendsAsUser input c) (entries : (c : ClientValue) (input : ClientInput) → EntersAsUser input c)
     (again : (s : ServerState) (pieces : List Piece) (new : ServerState) → IsProper s → restart_of s pieces ≡ Some new → IsProper new) (boots : List ℕ) where
   -- ---- an act of no machine, or that tells nothing
@@ -123,23 +104,8 @@ module _ (events : MdsGoesOn) (forms : MdsStaysInForm) (laws : ServerLaws) (send
       by_client None = nothing w i (Client n)
       by_client (Some c) = client_did_so w i n (rule c) (user c)
 
-  by_input : (input : ClientInput) (c : ClientValue) → IsUserStep (input_step input c)
-  by_input input c = record { entries = entries c input; sends = sends c input }
-
-  leaves_so : (n : ℕ) (c : ClientValue) → IsUserStep (leaves n c)
-  leaves_so n c =
-      cond_both c.has_left (client.sends_none c) (record { client = turned c; entries = entry.Turned n ∷ []; sends = [] }) IsUserStep (λ e. record { entries = tt; sends = tt }) (λ e. record { entries = (refl, tt); sends = tt })
-
-  astray_so : (place at : ℕ) (bytes : List ℕ) (c : ClientValue) → IsUserStep (goes_astray place at bytes c)
-  astray_so place at bytes c = cond_both c.has_left (strays c.file c.layout place at bytes c) (client.sends_none c) IsUserStep (λ e. by_input (Strayed place at bytes) c) (λ e. record { entries = tt; sends = tt })
-
-  anew_so : (n verifier : ℕ) (c : ClientValue) → IsUserStep (starts_anew n verifier c)
-  anew_so n verifier c =
-      cond_both c.has_left (client.sends_none c) (record { client = fresh_client n verifier c.next_xid; entries = entry.Rebooted n ∷ []; sends = [] }) IsUserStep (λ e. record { entries = tt; sends = tt })
-      (λ e. record { entries = (refl, tt); sends = tt })
-
   asks : (w : ClusterState) → IsRunOf boots w → (n : ℕ) (asked : UserRequest) → IsRunOf boots (asking n asked w)
-  asks w i n asked = client_acts_so w i n (client_requested asked) (by_input (Requested asked))
+  asks w i n asked = client_acts_so w i n (client_requested asked) (by_input sends entries (Requested asked))
 
   -- ---- the metadata server
 
@@ -202,7 +168,7 @@ module _ (events : MdsGoesOn) (forms : MdsStaysInForm) (laws : ServerLaws) (send
   comes : (w : ClusterState) (i : IsRunOf boots w) (from to : NodeId) (bytes : List ℕ) → IsCarried i.machine i.sends from to bytes → IsRunOf boots (acting to (receives w.now from to bytes w.machines) w)
   comes w i from Mds bytes was = mds_so w i (record { now = w.now; input = Hears from bytes }) (may_come i.machine i.sends from bytes was)
   comes w i from (Server n) bytes was = server_so w i n from bytes was
-  comes w i from (Client n) bytes was = client_acts_so w i n (client_recorded from bytes w.now) (by_input (Recorded from bytes w.now))
+  comes w i from (Client n) bytes was = client_acts_so w i n (client_recorded from bytes w.now) (by_input sends entries (Recorded from bytes w.now))
 
   note_comes : (w : ClusterState) → IsRunOf boots w → (number : ℕ) (note : PacketNote) → packet_numbered (packets w) number ≡ Some note → IsRunOf boots (packet_comes number (Some note) w)
   note_comes w i number note is =
@@ -227,7 +193,7 @@ module _ (events : MdsGoesOn) (forms : MdsStaysInForm) (laws : ServerLaws) (send
 
   clients_so : (ns : List ℕ) (w : ClusterState) → IsRunOf boots w → IsRunOf boots (clients_tick ns w)
   clients_so [] w i = i
-  clients_so (n ∷ ns) w i = clients_so ns (client_ticks n w) (client_acts_so w i n (client_ticked w.now) (by_input (Ticked w.now)))
+  clients_so (n ∷ ns) w i = clients_so ns (client_ticks n w) (client_acts_so w i n (client_ticked w.now) (by_input sends entries (Ticked w.now)))
 
   ticks_so : (w : ClusterState) → IsRunOf boots w → (seconds : ℕ) → IsRunOf boots (ticking seconds w)
   ticks_so w i seconds =
@@ -239,7 +205,7 @@ module _ (events : MdsGoesOn) (forms : MdsStaysInForm) (laws : ServerLaws) (send
   times_so : (w : ClusterState) → IsRunOf boots w → (node to : NodeId) → IsRunOf boots (acting node (times_out w.now node to w.machines) w)
   times_so w i Mds to = mds_so w i (record { now = w.now; input = IsTimedOut to }) tt
   times_so w i (Server n) to = nothing w i (Server n)
-  times_so w i (Client n) to = client_acts_so w i n (client_timed_out to) (by_input (TimeoutOf to))
+  times_so w i (Client n) to = client_acts_so w i n (client_timed_out to) (by_input sends entries (TimeoutOf to))
 
   -- ---- each event
 
@@ -259,9 +225,9 @@ module _ (events : MdsGoesOn) (forms : MdsStaysInForm) (laws : ServerLaws) (send
   goes_on (Commit client) w i = asks w i client request.Commit
   goes_on (Read client at count) w i = asks w i client (request.Read at count)
   goes_on (Return client) w i = asks w i client request.Return
-  goes_on (Rogue client) w i = client_acts_so w i client (leaves client) (leaves_so client)
-  goes_on (Stray client place at bytes) w i = client_acts_so w i client (goes_astray place at bytes) (astray_so place at bytes)
-  goes_on (Reboot client) w i = client_acts_so w i client _ (anew_so client _)
+  goes_on (Rogue client) w i = client_acts_so w i client (leaves client) (leaves_so sends entries client)
+  goes_on (Stray client place at bytes) w i = client_acts_so w i client (goes_astray place at bytes) (astray_so sends entries place at bytes)
+  goes_on (Reboot client) w i = client_acts_so w i client _ (anew_so sends entries client _)
   goes_on (Recall file) w i = mds_so w i (record { now = w.now; input = RecallsFile (numbered file) }) tt
   goes_on (Resilver file) w i = mds_so w i (record { now = w.now; input = Resilvers (numbered file) }) tt
   goes_on (Audit file) w i = quiet w i Mds (audits_of w.machines (numbered file) (served w.machines.mds (numbered file))) (audits_quiet w.machines (numbered file) (served w.machines.mds (numbered file))) (audits_none w.machines (numbered file) (served w.machines.mds (numbered file)))

@@ -8,5 +8,6 @@ pub mod ReplyRecords
 pub mod Acting
 pub mod ServerActs
 pub mod Starts
+pub mod UserSteps
 pub mod Events
 pub mod OfRuns

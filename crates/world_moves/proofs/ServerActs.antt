@@ -34,6 +34,7 @@ use Rattle.mds_rule.specs.MdsStates.{MdsSend, CallsServer, CallsBack, Replies, A
 use Rattle.mds_rule.specs.Spelled.{mds_name, spelled_send}
 use Rattle.mds_laws.specs.MdsRunLaws.{number_sent}
 use Rattle.mds_laws.proofs.Lists.{In}
+use Rattle.mds_laws.proofs.Keeping.{is_read_call}
 use Rattle.mds_moves.specs.MdsMoves.{message_of, IsSpoken, IsSentIn, IsSendAnswered, MayComeFrom}
 use Rattle.mds_forms.specs.Forms.{IsNoPacket, IsInForm}
 use Rattle.world_moves.specs.WorldMoves.{IsCarried}
@@ -55,7 +56,7 @@ owner_none : (m : MirrorId) (owner : Option ℕ) → AllByRecursion IsNoPacket (
 owner_none m None = tt
 owner_none m (Some uid) = (tt, tt)
 
-effect_none : (s : ServerState) (uid : ℕ) (does : Effect) → AllByRecursion IsNoPacket (entries_of s uid does)
+pub effect_none : (s : ServerState) (uid : ℕ) (does : Effect) → AllByRecursion IsNoPacket (entries_of s uid does)
 effect_none s uid NoEffect = tt
 effect_none s uid (OnFile index (Writes at synced bytes)) = applied_none (mirror_of s index) uid at bytes (committed_entries (mirror_of s index) synced) (committed_none (mirror_of s index) synced)
 effect_none s uid (OnFile index Commits) = (tt, tt)
@@ -75,6 +76,14 @@ bytes_call (SetAttr fileid owner guard) may = may
 bytes_call (Write fileid at synced bytes) may = refl
 bytes_call (Commit fileid) may = refl
 bytes_call (Read fileid at count) may = refl
+
+-- who reads may do so
+read_used : (call : DsCallValue) → is_read_call call ≡ true → may_use call ≡ true
+read_used (Create name owner) is = is
+read_used (SetAttr fileid owner guard) is = is
+read_used (Write fileid at synced bytes) is = refl
+read_used (Commit fileid) is = refl
+read_used (Read fileid at count) is = refl
 
 -- ---- what is known of servers and records
 
@@ -113,16 +122,16 @@ serves_client laws mc ss n c s bytes at i user =
 -- ---- the metadata server's packet
 
 -- the word at place 20 is that of the procedure, whatever the numbers are
-procedure_is : (c : RpcCall) → procedure_word (call_bytes c) ≡ word c.procedure
+pub procedure_is : (c : RpcCall) → procedure_word (call_bytes c) ≡ word c.procedure
 unfolding word
 procedure_is c = refl
 
-same_word : (a b : ℕ) → a < 2 ^ 32 → b < 2 ^ 32 → word a ≡ word b → a ≡ b
+pub same_word : (a b : ℕ) → a < 2 ^ 32 → b < 2 ^ 32 → word a ≡ word b → a ≡ b
 unfolding word
 same_word a b first second e = sym (from_be_bytes-to_be_bytes_4 a first) ∙ ap (λ (w : List ℕ). from_be_bytes w32 w) e ∙ from_be_bytes-to_be_bytes_4 b second
 
 -- a callback is a user's record: its procedure is 1
-recall_user : (xid : ℕ) (back : BackCall) (file : FileId) (stateid : Stateid) → IsUserRecord (recall_bytes xid back file stateid)
+pub recall_user : (xid : ℕ) (back : BackCall) (file : FileId) (stateid : Stateid) → IsUserRecord (recall_bytes xid back file stateid)
 recall_user xid back file stateid = (
   λ e. let one : 1 ≡ 2 = same_word 1 2 (omega arith) (omega arith) (sym (procedure_is (recall_rpc_call xid back file stateid)) ∙ e) in absurd (omega (arith, one)),
   λ e. let one : 1 ≡ 8 = same_word 1 8 (omega arith) (omega arith) (sym (procedure_is (recall_rpc_call xid back file stateid)) ∙ e) in absurd (omega (arith, one)),
@@ -138,7 +147,7 @@ module _ (mc : Machine) (ss : List MdsSend) (n : ℕ) (sent : MdsSend) (inside :
   reply_comes : (r : RpcReply) → r.xid ≡ xid → MayComeFrom mc ss n (reply_bytes r)
   reply_comes r is = comes_read (reply_bytes r) (subst (ReadsUnder (reply_bytes r)) is (reads_under r (subst (λ (x : ℕ). x < 2 ^ 32) (sym is) small)))
 
-  under_comes : (o : Outcome) → RepliesUnder o xid → AllByRecursion (λ (x : NodeId × List ℕ). IsCarried mc ss (Server n) x.0 x.1) (sent_to Mds o.reply)
+  pub under_comes : (o : Outcome) → RepliesUnder o xid → AllByRecursion (λ (x : NodeId × List ℕ). IsCarried mc ss (Server n) x.0 x.1) (sent_to Mds o.reply)
   under_comes o (NoReply none) = subst (λ (r : Option (List ℕ)). AllByRecursion (λ (x : NodeId × List ℕ). IsCarried mc ss (Server n) x.0 x.1) (sent_to Mds r)) (sym none) tt
   under_comes o (HasReply r is its) = subst (λ (b : Option (List ℕ)). AllByRecursion (λ (x : NodeId × List ℕ). IsCarried mc ss (Server n) x.0 x.1) (sent_to Mds b)) (sym is) (reply_comes r its, tt)
 
@@ -191,9 +200,9 @@ module _ (laws : ServerLaws) (mc : Machine) (ss : List MdsSend) (n : ℕ) (s : S
 
   serves_spoken : (xid uid : ℕ) (call : DsCallValue) → In (CallsServer n xid uid call) ss → HasCalled mc n xid uid call → IsSpoken (message_of xid uid call) → xid < 2 ^ 32 → Serves mc ss n Mds (outcome_of s (ds_call_bytes xid mds_name uid call))
   serves_spoken xid uid call inside h (inl has) small = serves_call xid uid call inside h has
-  serves_spoken xid uid call inside h (inr (hasnt, may)) small =
+  serves_spoken xid uid call inside h (inr (hasnt, reads)) small =
       serves_user (ds_rpc_call xid mds_name uid call) (CallsServer n xid uid call) inside refl small (λ m says. λ has same. absurd (hasnt has))
-      (laws.record_of (client.CallsServer n xid mds_name uid call) n (ds_call_bytes xid mds_name uid call) may refl)
+      (laws.record_of (client.CallsServer n xid mds_name uid call) n (ds_call_bytes xid mds_name uid call) (read_used call reads) refl)
 
   serves_silent : (r : RpcReply) → Serves mc ss n Mds (outcome_of s (reply_bytes r))
   serves_silent r = subst (λ (o : Outcome). Serves mc ss n Mds o) (sym (reply_silent s r)) (record { at = stays_at mc n s [] at refl; proper = i; none = tt; sends = tt })

@@ -11,23 +11,23 @@ use Rattle.cluster_machines.specs.Machines.{address_of}
 use Rattle.cluster_world.specs.ClusterWorlds.{new_cluster}
 use Rattle.world_moves.specs.WorldMoves.{IsRunOf}
 
-abbrev at_boot_1 : ℕ → ServerState
+abbrev pub at_boot_1 : ℕ → ServerState
 at_boot_1 n = new_server n 1
 
-servers_are : (first count : ℕ) → map at_boot_1 (range_with_len first count) ≡ new_servers first (replicate count 1)
+pub servers_are : (first count : ℕ) → map at_boot_1 (range_with_len first count) ≡ new_servers first (replicate count 1)
 servers_are first zero = refl
 servers_are first (suc count) = ap (λ (l : List ServerState). at_boot_1 first ∷ l) (servers_are (first + 1) count)
 
-length_there : {A : Type 0} (f : ℕ → A) (first count : ℕ) → length (map f (range_with_len first count)) ≡ count
+pub length_there : {A : Type 0} (f : ℕ → A) (first count : ℕ) → length (map f (range_with_len first count)) ≡ count
 length_there f first zero = refl
 length_there f first (suc count) = ap suc (length_there f (first + 1) count)
 
-length_boots : (count : ℕ) → length {A = ℕ} (replicate count 1) ≡ count
+pub length_boots : (count : ℕ) → length {A = ℕ} (replicate count 1) ≡ count
 length_boots zero = refl
 length_boots (suc count) = ap suc (length_boots count)
 
 module _ (new : NewIsMdsOf) (starts : (number boot : ℕ) → number < 2 ^ 32 → boot < 2 ^ 32 → IsProper (new_server number boot)) where
-  all_proper : (first count : ℕ) → first + count ≤ 2 ^ 32 → AllByRecursion IsProper (map at_boot_1 (range_with_len first count))
+  pub all_proper : (first count : ℕ) → first + count ≤ 2 ^ 32 → AllByRecursion IsProper (map at_boot_1 (range_with_len first count))
   all_proper first zero few = tt
   all_proper first (suc count) few = (starts first 1 (omega (arith, few)) (omega arith), all_proper (first + 1) count (omega (arith, few)))
 

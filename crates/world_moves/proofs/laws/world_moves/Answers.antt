@@ -10,7 +10,7 @@ returns-clause-starts c = begins c.mds_moves.ensures.begins c.proper_servers.ens
 pub returns-clause-goes_on : goal.returns-clause-goes_on
 returns-clause-goes_on c = λ boots event w i.
     let laws : ServerLaws = record {
-      does = c.user_records.ensures;
+      does = c.user_records.ensures.users;
       record_of = c.client_sends.ensures.records;
       same = c.proper_servers.ensures.same;
       steps = c.proper_servers.ensures.steps;

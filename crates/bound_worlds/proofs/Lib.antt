@@ -1,0 +1,12 @@
+pub mod StageLists
+pub mod CoveredCalls
+pub mod Extending
+pub mod Notes
+pub mod BoundServers
+pub mod BoundCalls
+pub mod BoundActs
+pub mod BoundPackets
+pub mod BoundEvents
+pub mod BoundSteps
+pub mod OfBoundRuns
+pub mod OwnEnds

@@ -1,0 +1,2 @@
+pub mod MatchedPackets
+pub mod BoundWorlds

@@ -1,0 +1,3 @@
+pub mod CoveredRecords
+pub mod HolderParts
+pub mod HeldOwners

@@ -1,0 +1,468 @@
+-- Each reply that a metadata server sends answers a call that came, and stands on what the slot says of it, in every run.
+use Rattle.std.proofs.Common.{◌≡◌, ℕ, Bool, true, false, List, [], ◌∷◌, ◌++◌, Option, None, refl, sym, ap, subst, ◌∙◌, inl, inr, ◌⊎◌}
+use Rattle.std.proofs.lemmas.List.{append_assoc, append-nil}
+use Rattle.std.proofs.lemmas.Option.{same_Some, none-some}
+use Rattle.ff_xdr.specs.Arms.{arm}
+use Rattle.ff_xdr.specs.Form.{Value, spelling}
+use Rattle.rpc_record.specs.Replies.{RpcReply}
+use Rattle.compound_reply.specs.Replied.{success_reply}
+use Rattle.cluster_model.specs.declared.ids.NodeId.{NodeId}
+use Rattle.cluster_model.specs.declared.entry.Entry.{Entry}
+use Rattle.device_addr.specs.Universal.{AddressValue}
+use Rattle.nfs4_types.specs.declared.ids.SessionId.{SessionId}
+use Rattle.nfs4_types.specs.declared.sequence.Sequence.{Sequence}
+use Rattle.nfs4_types.specs.declared.status.Stat4.{Stat4}
+use Rattle.nfs4_types.specs.declared.status.Stat4.TheVariants as stat
+use Rattle.nfs4_types.specs.Status.{stat4_number}
+use Rattle.nfs4_compound.specs.Args.{argop4}
+use Rattle.nfs4_compound.specs.Results.{resop4}
+use Rattle.nfs4_compound.specs.Compounds.{CompoundValue, compound4_res}
+use Rattle.nfs4_compound.specs.declared.stop.Stop.TheVariants as stop
+use Rattle.nfs4_session.specs.Slots.{SlotAnswer, TakesEffect, Repeats, Refuses}
+use Rattle.nfs4_session.specs.Clients.{SessionsState, client_in, number_in}
+use Rattle.nfs4_session.specs.Requests.{request_answer, after_request, pass_of, after_finish}
+use Rattle.nfs4_session.specs.Bindings.{after_binding}
+use Rattle.nfs4_session.specs.TableLaw.{TableMove, Bind, table_after}
+use Rattle.mds_session_calls.specs.SessionOps.{exchange_id_op, create_session_op}
+use Rattle.mds_calls.specs.MdsCalls.{SlotCallValue, MdsCallValue, ExchangeId, CreateSession, OnSlot, ask_on_slot, is_kept_reply}
+use Rattle.mds_calls.specs.MdsCalls as slot
+use Rattle.mds_calls.specs.MdsCompounds.{slot_ops, mds_ops}
+use Rattle.mds_calls.specs.MdsReplies.{reply_of_ask}
+use Rattle.mds_receive.specs.MdsReceive.{IsCompound, incoming_of}
+use Rattle.mds_rule.specs.MdsStates.{CompoundRun, WaitingRead, WaitingWrite, ServedFile, MdsSend, Replies, MdsValue, MdsStep, and_then}
+use Rattle.mds_rule.specs.OpSteps.{with_result, refused_as}
+use Rattle.mds_rule.specs.LayoutOps.{layout_of_file, no_stateid}
+use Rattle.mds_rule.specs.Compounds.{compound_bytes, runs, sequenced, sequence_result}
+use Rattle.mds_rule.specs.Goes.{calls_out}
+use Rattle.mds_laws.specs.MdsRuns.{MdsInput, MdsEvent, Hears, IsTimedOut, Ticks, RecallsFile, Resilvers, after_event}
+use Rattle.mds_laws.specs.SlotUses.{first_request}
+use Rattle.mds_laws.proofs.Lists.{In, AllOf}
+use Rattle.mds_laws.proofs.Keeping.{Keeps, IsNoRequest}
+use Rattle.mds_replies.specs.ClientCalls.{IsCallFrom, server_after, IsEventOf}
+use Rattle.mds_replies.specs.SlotReplies.{request_of, TookEffect, EffectsAreNumbered}
+use Rattle.mds_replies.specs.AnsweredRequests.{FitsRequest, HearsFitCall, AreFitCalls, StaysRoomy, StandsFor, AnswersRequest, EachReplyStands}
+use Rattle.mds_replies.proofs.HeldFiles.{in_behind}
+use Rattle.mds_replies.proofs.PeriodKept.{sent_with_calls, in_sent}
+use Rattle.mds_replies.proofs.OutCalls.{are_called}
+use Rattle.mds_replies.proofs.ReplySent.{run_of_call, event_is, of_calls}
+use Rattle.mds_replies.proofs.HolderCases.{AllWait}
+use Rattle.mds_replies.proofs.SameRuns.{Like}
+use Rattle.mds_replies.proofs.TakenRequests.{taken_mds, taken_compound, HasEnded}
+use Rattle.mds_replies.proofs.LayoutGetRuns.{GetEnds, IsRefused, Grants}
+use Rattle.mds_replies.proofs.ReportedMirrors.{errors_for}
+use Rattle.mds_replies.proofs.LayoutReturnRuns.{given_step, ReturnEnds, Accepts}
+use Rattle.mds_replies.proofs.LayoutReturnRuns as giving
+use Rattle.mds_replies.proofs.TakenMeans.{one_more, after_is, first_in, get_of, return_of, effect_means}
+use Rattle.mds_replies.proofs.CallEvents.{Brings, ACall, Nothing, brings, is_return_call, FitsOps, ops_fit}
+use Rattle.mds_replies.proofs.Turns.{has_waiting, sends, own_reply, IsSo, finish_keeps, AreFine, run_keeps, alone_keeps, out_keeps, BringsNone, other_keeps}
+use Rattle.mds_replies.proofs.SlotTables.{TableSo, ClientSo, SessionSo, all_more, move_so, request_so, done_so, SlotJudged, NoSession, BySlot, judged}
+use Rattle.mds_replies.proofs.SlotHistories.{is_layout_call, event_of_call, same_ops, IsTaken, MeansKept, SlotSo, slot_more, kept_now, slot_done, WaitsSo, waits_more, effect_too, stands_taken, waited_answers}
+use Rattle.mds_replies.proofs.JudgedRequests.{repeats_kept, RefusedAs, refused_by, stands_kept, stands_no_session, stands_refused}
+
+-- what holds behind events
+record RunSo (servers : List AddressValue) (mirrors : ℕ) (past : List MdsEvent) (m : MdsValue) : Type 0 where
+  pub waits : AllOf (λ (s : ServedFile). AllWait (WaitsSo servers mirrors past) s.reads s.write) m.files
+  pub table : TableSo (SlotSo servers mirrors past) m.sessions
+
+abbrev AnyEntry : Entry → Type 0
+AnyEntry e = Unit {0}
+
+-- a compound of this node and number replies
+abbrev IsFrom : NodeId → ℕ → NodeId → RpcReply → Type 0
+IsFrom node xid other reply = (other ≡ node) × (reply.xid ≡ xid)
+
+not_both : false ≡ true → ⊥
+not_both is = absurd cc
+
+abbrev status_of : SlotAnswer → Stat4
+status_of TakesEffect = stat.Ok
+status_of (Repeats reply) = stat.Ok
+status_of (Refuses status) = status
+
+module _ (numbered : EffectsAreNumbered) (servers : List AddressValue) (mirrors : ℕ) (events past after : List MdsEvent) (e : MdsEvent) (fit : AreFitCalls events) (roomy : StaysRoomy servers mirrors events)
+    (split : IsEventOf events past e after) (i : RunSo servers mirrors past (server_after servers mirrors past)) where
+  abbrev m : MdsValue
+  m = server_after servers mirrors past
+
+  abbrev now_past : List MdsEvent
+  now_past = past ++ e ∷ []
+
+  abbrev W : CompoundRun → Type 0
+  W c = WaitsSo servers mirrors (past ++ e ∷ []) c
+
+  ends : (c : CompoundRun) → WaitsSo servers mirrors (past ++ e ∷ []) c → (c.ops ≡ []) × (c.stop ≡ stop.End None)
+  ends c w = (w.ops, w.stop)
+
+  abbrev Q : SessionsState → Type 0
+  Q s = TableSo (SlotSo servers mirrors (past ++ e ∷ [])) s
+
+  moves : (s : SessionsState) (move : TableMove) → IsNoRequest move → TableSo (SlotSo servers mirrors (past ++ e ∷ [])) s → TableSo (SlotSo servers mirrors (past ++ e ∷ [])) (table_after s move)
+  moves s move none q =
+      move_so (SlotSo servers mirrors (past ++ e ∷ [])) (λ client number. tt) (λ client number sequence reply slot p. slot_done servers mirrors (past ++ e ∷ []) client number sequence reply slot p) s move none q
+
+  abbrev Answered : NodeId → RpcReply → Type 0
+  Answered node reply = AnswersRequest servers mirrors (past ++ e ∷ []) node reply
+
+  -- where the run begins
+  wait_more : (reads : List WaitingRead) (write : Option WaitingWrite) → AllWait (WaitsSo servers mirrors past) reads write → AllWait (WaitsSo servers mirrors (past ++ e ∷ [])) reads write
+  wait_more reads write a = record { reads_so = λ r inside. waits_more servers mirrors past (e ∷ []) r.compound (a.reads_so r inside); write_so = λ w is. waits_more servers mirrors past (e ∷ []) w.compound (a.write_so w is) }
+
+  begun_waits : AllOf (λ (s : ServedFile). AllWait (WaitsSo servers mirrors (past ++ e ∷ [])) s.reads s.write) (server_after servers mirrors past).files
+  begun_waits = all_more (λ (s : ServedFile). AllWait (WaitsSo servers mirrors past) s.reads s.write) (λ (s : ServedFile). AllWait (WaitsSo servers mirrors (past ++ e ∷ [])) s.reads s.write) (λ s a. wait_more s.reads s.write a) (server_after servers mirrors past).files i.waits
+
+  begun_table : TableSo (SlotSo servers mirrors (past ++ e ∷ [])) (server_after servers mirrors past).sessions
+  begun_table =
+      all_more (ClientSo (SlotSo servers mirrors past)) (ClientSo (SlotSo servers mirrors (past ++ e ∷ [])))
+      (λ c so. all_more (SessionSo (SlotSo servers mirrors past) c.id) (SessionSo (SlotSo servers mirrors (past ++ e ∷ [])) c.id) (λ x p. (p.0, λ slot is. slot_more servers mirrors past (e ∷ []) c.id x.number slot (p.1 slot is))) c.sessions so)
+      (server_after servers mirrors past).sessions.clients i.table
+
+  record EventSo : Type 0 where
+    pub next : RunSo servers mirrors (past ++ e ∷ []) (server_after servers mirrors (past ++ e ∷ []))
+    pub replies : (node : NodeId) (reply : RpcReply) → In (Replies node reply) (after_event e (server_after servers mirrors past)).sends → AnswersRequest servers mirrors (past ++ e ∷ []) node reply
+
+  -- ---- the replies of an event, in one way or another
+
+  module _ (A : NodeId → RpcReply → Type 0) (lift : (node : NodeId) (reply : RpcReply) → AnswersRequest servers mirrors (past ++ e ∷ []) node reply → A node reply) where
+    replied : (c : CompoundRun) (results : List (Value resop4)) (status : Stat4) → WaitsSo servers mirrors (past ++ e ∷ []) c → A c.node (success_reply c.xid (spelling compound4_res (stat4_number status, (c.tag, c.results ++ results))))
+    replied c results status w =
+        lift c.node (success_reply c.xid (spelling compound4_res (stat4_number status, (c.tag, c.results ++ results)))) (waited_answers servers mirrors (past ++ e ∷ []) c (spelling compound4_res (stat4_number status, (c.tag, c.results ++ results))) w)
+
+    abbrev So : MdsValue → List Entry → List MdsSend → Type 0
+    So = IsSo (λ (c : CompoundRun). WaitsSo servers mirrors (past ++ e ∷ []) c) ends (λ (s : SessionsState). TableSo (SlotSo servers mirrors (past ++ e ∷ [])) s) moves A replied AnyEntry (λ x none. tt)
+
+    -- without the table of clients
+    abbrev Bare : MdsValue → List Entry → List MdsSend → Type 0
+    Bare = IsSo (λ (c : CompoundRun). WaitsSo servers mirrors (past ++ e ∷ []) c) ends (λ (s : SessionsState). Unit {0}) (λ s move is j. tt) A replied AnyEntry (λ x none. tt)
+
+    start : So (server_after servers mirrors past) [] (sent_with_calls (server_after servers mirrors past).calls)
+    start = record {
+      waits = begun_waits;
+      table = begun_table;
+      entries = tt;
+      replies = λ node reply inside. absurd (of_calls (server_after servers mirrors past).calls (Replies node reply) (are_called servers mirrors past) inside);
+      were = λ call inside. in_sent call (server_after servers mirrors past).calls inside;
+    }
+
+    ended_so : Keeps So (server_after servers mirrors past) (after_event e (server_after servers mirrors past)) → ((node : NodeId) (reply : RpcReply) → In (Replies node reply) (after_event e (server_after servers mirrors past)).sends → A node reply → AnswersRequest servers mirrors (past ++ e ∷ []) node reply)
+        → EventSo
+    ended_so q answers =
+        let s : So (after_event e (server_after servers mirrors past)).mds ([] ++ (after_event e (server_after servers mirrors past)).entries) (sent_with_calls (server_after servers mirrors past).calls ++ (after_event e (server_after servers mirrors past)).sends) =
+        q [] (sent_with_calls (server_after servers mirrors past).calls) start in
+        record {
+          next = subst (λ (x : MdsValue). RunSo servers mirrors (past ++ e ∷ []) x) (sym (one_more servers mirrors past e)) (record { waits = s.waits; table = s.table });
+          replies = λ node reply inside. answers node reply inside (s.replies node reply (in_behind (Replies node reply) (sent_with_calls (server_after servers mirrors past).calls) (after_event e (server_after servers mirrors past)).sends inside));
+        }
+
+    fine_ops : (returns : Bool) (ops : List (Value argop4)) → FitsOps returns ops
+        → AreFine (λ (c : CompoundRun). WaitsSo servers mirrors (past ++ e ∷ []) c) ends (λ (s : SessionsState). TableSo (SlotSo servers mirrors (past ++ e ∷ [])) s) moves A replied AnyEntry (λ x none. tt) ops
+    fine_ops returns [] f = tt
+    fine_ops returns (op ∷ ops) f = (record { last = f.0.0; any = λ is x. tt }, fine_ops returns ops f.1)
+
+    bare_ops : (returns : Bool) (ops : List (Value argop4)) → FitsOps returns ops
+        → AreFine (λ (c : CompoundRun). WaitsSo servers mirrors (past ++ e ∷ []) c) ends (λ (s : SessionsState). Unit {0}) (λ s move is j. tt) A replied AnyEntry (λ x none. tt) ops
+    bare_ops returns [] f = tt
+    bare_ops returns (op ∷ ops) f = (record { last = f.0.0; any = λ is x. tt }, bare_ops returns ops f.1)
+
+  -- ---- no compound comes
+
+  nothing_so : ((node : NodeId) (bytes : List ℕ) → e.input ≡ Hears node bytes → (xid : ℕ) (c : CompoundValue) → incoming_of bytes ≡ IsCompound xid c → ⊥) → EventSo
+  nothing_so none =
+      ended_so Answered (λ node reply a. a)
+      (other_keeps (λ (c : CompoundRun). WaitsSo servers mirrors (past ++ e ∷ []) c) ends (λ (s : SessionsState). TableSo (SlotSo servers mirrors (past ++ e ∷ [])) s) moves Answered (replied Answered (λ node reply a. a)) AnyEntry (λ x n. tt) e
+      (server_after servers mirrors past) (by_input e.input refl))
+      (λ node reply inside a. a)
+    where
+      by_input : (input : MdsInput) → e.input ≡ input
+          → BringsNone (λ (c : CompoundRun). WaitsSo servers mirrors (past ++ e ∷ []) c) ends (λ (s : SessionsState). TableSo (SlotSo servers mirrors (past ++ e ∷ [])) s) moves Answered (replied Answered (λ node reply a. a)) AnyEntry (λ x n. tt) input
+      by_input (Hears node bytes) at = none node bytes at
+      by_input (IsTimedOut to) at = tt
+      by_input Ticks at = tt
+      by_input (RecallsFile file) at = tt
+      by_input (Resilvers file) at = tt
+
+  -- ---- a compound of a client
+
+  module _ (node : NodeId) (xid : ℕ) (name : List ℕ) where
+    abbrev Own : NodeId → RpcReply → Type 0
+    Own other reply = AnswersRequest servers mirrors (past ++ e ∷ []) other reply ⊎ IsFrom node xid other reply
+
+    lifted : (other : NodeId) (reply : RpcReply) → AnswersRequest servers mirrors (past ++ e ∷ []) other reply → AnswersRequest servers mirrors (past ++ e ∷ []) other reply ⊎ IsFrom node xid other reply
+    lifted other reply a = inl a
+
+    abbrev new_of : MdsCallValue → CompoundRun
+    new_of call = record { node = node; xid = xid; tag = []; ops = mds_ops name call; stop = stop.End None; results = []; slot = None; is_kept = false; current = None }
+
+    moved_from : (call : MdsCallValue) → IsCallFrom e node xid name call → (other : NodeId) (reply : RpcReply) → IsFrom node xid other reply → IsCallFrom e other reply.xid name call
+    moved_from call came other reply from = subst (λ (x : NodeId). IsCallFrom e x reply.xid name call) (sym from.0) (subst (λ (x : ℕ). IsCallFrom e node x name call) (sym from.1) came)
+
+    -- the reply of this event's compound
+    own_answers : (call : MdsCallValue) → IsCallFrom e node xid name call
+        → ((other : NodeId) (reply : RpcReply) → In (Replies other reply) (after_event e (server_after servers mirrors past)).sends → IsFrom node xid other reply → (also : List ℕ) (session : SessionId) (number : ℕ) (c : SlotCallValue)
+        → IsCallFrom e other reply.xid also (OnSlot session number c) → FitsRequest (OnSlot session number c) → StandsFor servers mirrors (past ++ e ∷ []) past session number c (reply_of_ask (ask_on_slot c) reply))
+        → (other : NodeId) (reply : RpcReply) → In (Replies other reply) (after_event e (server_after servers mirrors past)).sends → AnswersRequest servers mirrors (past ++ e ∷ []) other reply ⊎ IsFrom node xid other reply
+        → AnswersRequest servers mirrors (past ++ e ∷ []) other reply
+    own_answers call came stands other reply inside (inl a) = a
+    own_answers call came stands other reply inside (inr from) = record { early = past; f = e; late = []; split = refl; name = name; call = call; came = moved_from call came other reply from; stands = stands other reply inside from }
+
+    -- without a session
+    alone_so : (call : MdsCallValue) → IsCallFrom e node xid name call → first_request (mds_ops name call) ≡ None → Keeps (So Own lifted) (server_after servers mirrors past) (run_of_call e.now (server_after servers mirrors past) node xid name call) → EventSo
+    alone_so call came none q =
+        ended_so Own lifted
+        (subst (λ (s : MdsStep). Keeps (So Own lifted) (server_after servers mirrors past) s) (sym (event_is e (server_after servers mirrors past) node xid name call came))
+        (out_keeps (λ (c : CompoundRun). WaitsSo servers mirrors (past ++ e ∷ []) c) ends (λ (s : SessionsState). TableSo (SlotSo servers mirrors (past ++ e ∷ [])) s) moves Own (replied Own lifted) AnyEntry (λ x n. tt) (server_after servers mirrors past)
+        (run_of_call e.now (server_after servers mirrors past) node xid name call) q))
+        (own_answers call came (λ other reply inside from also session number c comes fits.
+        absurd (none-some (request_of session number c) (sym none ∙ ap first_request (same_ops e node other xid reply.xid name also call (OnSlot session number c) came comes)))))
+
+    exchange_so : (verifier : ℕ) → IsCallFrom e node xid name (ExchangeId verifier) → EventSo
+    exchange_so verifier came =
+        alone_so (ExchangeId verifier) came refl
+        (alone_keeps (λ (c : CompoundRun). WaitsSo servers mirrors (past ++ e ∷ []) c) ends (λ (s : SessionsState). TableSo (SlotSo servers mirrors (past ++ e ∷ [])) s) moves Own (replied Own lifted) AnyEntry (λ x n. tt) e.now
+        (server_after servers mirrors past) (new_of (ExchangeId verifier)) (exchange_id_op name verifier) refl refl refl (λ d status l. inr (l.node, l.xid)))
+
+    create_so : (client sequence : ℕ) → IsCallFrom e node xid name (CreateSession client sequence) → EventSo
+    create_so client sequence came =
+        alone_so (CreateSession client sequence) came refl
+        (alone_keeps (λ (c : CompoundRun). WaitsSo servers mirrors (past ++ e ∷ []) c) ends (λ (s : SessionsState). TableSo (SlotSo servers mirrors (past ++ e ∷ [])) s) moves Own (replied Own lifted) AnyEntry (λ x n. tt) e.now
+        (server_after servers mirrors past) (new_of (CreateSession client sequence)) (create_session_op client sequence) refl refl refl (λ d status l. inr (l.node, l.xid)))
+
+    -- ---- on a slot
+
+    module _ (session : SessionId) (number : ℕ) where
+      abbrev bound : SessionsState
+      bound = after_binding (server_after servers mirrors past).sessions session node
+
+      taken : (call : SlotCallValue) → IsCallFrom e node xid name (OnSlot session number call) → request_answer (after_binding (server_after servers mirrors past).sessions session node) (request_of session number call) ≡ TakesEffect
+          → TookEffect servers mirrors past e session number
+      taken call came effect = record { node = node; xid = xid; name = name; call = call; came = came; effect = effect }
+
+      same_request : (call : SlotCallValue) → IsCallFrom e node xid name (OnSlot session number call) → (there : NodeId) (also_xid : ℕ) (also : List ℕ) (asked : SessionId) (n : ℕ) (c : SlotCallValue) → IsCallFrom e there also_xid also (OnSlot asked n c)
+          → request_of session number call ≡ request_of asked n c
+      same_request call came there also_xid also asked n c comes =
+          same_Some (request_of session number call) (request_of asked n c) (ap first_request (same_ops e node there xid also_xid name also (OnSlot session number call) (OnSlot asked n c) came comes))
+
+      -- the table behind a layout's call, which is done at once
+      module _ (call : SlotCallValue) (came : IsCallFrom e node xid name (OnSlot session number call))
+          (effect : request_answer (after_binding (server_after servers mirrors past).sessions session node) (request_of session number call) ≡ TakesEffect) (fits : FitsRequest (OnSlot session number call)) where
+        abbrev step : MdsStep
+        step = runs e.now (slot_ops name call) (taken_mds e.now (server_after servers mirrors past) node session number call) (taken_compound node xid name session number call)
+
+        abbrev its : IsTaken servers mirrors (past ++ e ∷ []) (client_in session) (number_in session) number
+        its = record { early = past; f = e; late = []; split = refl; asked = session; its_client = refl; its_number = refl; took = record { node = node; xid = xid; name = name; call = call; came = came; effect = effect } }
+
+        after_so : after_event e (server_after servers mirrors past) ≡ and_then step (calls_out [])
+        after_so = after_is numbered servers mirrors events past after e fit roomy split node xid name session number call came effect fits.0
+
+        table_ended : (n : MdsValue) (results : List (Value resop4)) (status : Stat4) → HasEnded (taken_mds e.now (server_after servers mirrors past) node session number call) n node xid (pass_of (request_of session number call)) results status step
+            → TableSo (SlotSo servers mirrors (past ++ e ∷ [])) (after_binding (server_after servers mirrors past).sessions session node) → TableSo (SlotSo servers mirrors (past ++ e ∷ [])) step.mds.sessions
+        table_ended n results status ended table =
+            let bytes : List ℕ = spelling compound4_res (stat4_number status, ([], results)) in
+            let is : step.mds.sessions ≡ after_finish (after_request bound (request_of session number call) e.now) (pass_of (request_of session number call)) bytes =
+            ap (λ (x : MdsValue). x.sessions) ended.mds ∙ ap (λ (s : SessionsState). after_finish s (pass_of (request_of session number call)) bytes) ended.same.sessions in
+            let sent : In (Replies node (success_reply xid bytes)) (after_event e (server_after servers mirrors past)).sends =
+            subst (λ (s : MdsStep). In (Replies node (success_reply xid bytes)) s.sends) (sym after_so) (first_in (Replies node (success_reply xid bytes)) [] step.sends (calls_out [] step.mds).sends ended.sends) in
+            subst (λ (s : SessionsState). TableSo (SlotSo servers mirrors (past ++ e ∷ [])) s) (sym is)
+            (done_so (SlotSo servers mirrors (past ++ e ∷ [])) (λ client k. tt) (λ client k sequence reply slot p. slot_done servers mirrors (past ++ e ∷ []) client k sequence reply slot p) bound session number 0 (is_kept_reply call) e.now bytes
+            (kept_now servers mirrors (past ++ e ∷ []) (client_in session) (number_in session) number its bytes
+            (λ also asked n2 c comes fits2.
+            effect_means numbered servers mirrors events past after e fit roomy split node xid also asked n2 c comes (effect_too servers mirrors past e session number (taken call came effect) node xid also asked n2 c comes) fits2 (success_reply xid bytes) sent))
+            table)
+
+        -- its own reply
+        effect_stands : (other : NodeId) (reply : RpcReply) → In (Replies other reply) (after_event e (server_after servers mirrors past)).sends → (also : List ℕ) (asked : SessionId) (n : ℕ) (c : SlotCallValue)
+            → IsCallFrom e other reply.xid also (OnSlot asked n c) → FitsRequest (OnSlot asked n c) → StandsFor servers mirrors (past ++ e ∷ []) past asked n c (reply_of_ask (ask_on_slot c) reply)
+        effect_stands other reply inside also asked n c comes fits2 =
+            stands_taken servers mirrors (past ++ e ∷ []) past [] e refl session number (taken call came effect) other reply.xid also asked n c comes (reply_of_ask (ask_on_slot c) reply)
+            (effect_means numbered servers mirrors events past after e fit roomy split other reply.xid also asked n c comes (effect_too servers mirrors past e session number (taken call came effect) other reply.xid also asked n c comes) fits2 reply inside)
+
+        mine : (d : CompoundRun) (status : Stat4) → Like (taken_compound node xid name session number call) d → AnswersRequest servers mirrors (past ++ e ∷ []) d.node (success_reply d.xid (compound_bytes d status)) ⊎ IsFrom node xid d.node (success_reply d.xid (compound_bytes d status))
+        mine d status l = inr (l.node, l.xid)
+
+        effect_ends : Keeps (So Own lifted) (server_after servers mirrors past) step → EventSo
+        effect_ends q =
+            ended_so Own lifted
+            (subst (λ (s : MdsStep). Keeps (So Own lifted) (server_after servers mirrors past) s) (sym after_so)
+            (out_keeps (λ (c : CompoundRun). WaitsSo servers mirrors (past ++ e ∷ []) c) ends (λ (s : SessionsState). TableSo (SlotSo servers mirrors (past ++ e ∷ [])) s) moves Own (replied Own lifted) AnyEntry (λ x n. tt) (server_after servers mirrors past) step q))
+            (own_answers (OnSlot session number call) came (λ other reply inside from also asked n c comes fits2. effect_stands other reply inside also asked n c comes fits2))
+
+        plain_effect : is_layout_call call ≡ false → EventSo
+        plain_effect off =
+            effect_ends
+            (λ es ss j.
+            run_keeps (λ (c : CompoundRun). WaitsSo servers mirrors (past ++ e ∷ []) c) ends (λ (s : SessionsState). TableSo (SlotSo servers mirrors (past ++ e ∷ [])) s) moves Own (replied Own lifted) AnyEntry (λ x n. tt) e.now (slot_ops name call) (fine_ops Own lifted (is_return_call call) (slot_ops name call) (ops_fit name call))
+            (taken_mds e.now (server_after servers mirrors past) node session number call) (taken_compound node xid name session number call) refl mine
+            (λ d l none some. record {
+              early = past;
+              f = e;
+              late = [];
+              split = refl;
+              session = session;
+              number = number;
+              took = record { node = node; xid = xid; name = name; call = call; came = came; effect = effect };
+              node = l.node;
+              xid = l.xid;
+              plain = event_of_call e node xid name session number call came ∙ off;
+              ops = none;
+              stop = l.stop;
+            })
+            es ss
+            (record {
+              waits = j.waits;
+              table = request_so (SlotSo servers mirrors (past ++ e ∷ [])) (λ client k. tt) (λ client k sequence reply slot p. slot_done servers mirrors (past ++ e ∷ []) client k sequence reply slot p) bound (request_of session number call) e.now refl
+                  (its, event_of_call e node xid name session number call came ∙ off) (moves (server_after servers mirrors past).sessions (Bind session node) tt j.table);
+              entries = j.entries;
+              replies = j.replies;
+              were = j.were;
+            }))
+
+        layout_effect : is_layout_call call ≡ true → (TableSo (SlotSo servers mirrors (past ++ e ∷ [])) (after_binding (server_after servers mirrors past).sessions session node) → TableSo (SlotSo servers mirrors (past ++ e ∷ [])) step.mds.sessions)
+            → has_waiting (slot_ops name call) ≡ false → EventSo
+        layout_effect on table none =
+            effect_ends
+            (λ es ss j.
+            let b : Bare Own lifted step.mds (es ++ step.entries) (ss ++ step.sends) =
+            run_keeps (λ (c : CompoundRun). WaitsSo servers mirrors (past ++ e ∷ []) c) ends (λ (s : SessionsState). Unit {0}) (λ s move is j. tt) Own (replied Own lifted) AnyEntry (λ x n. tt) e.now (slot_ops name call) (bare_ops Own lifted (is_return_call call) (slot_ops name call) (ops_fit name call))
+            (taken_mds e.now (server_after servers mirrors past) node session number call) (taken_compound node xid name session number call) refl mine (λ d l left some. absurd (not_both (sym none ∙ some))) es ss
+            (record { waits = j.waits; table = tt; entries = j.entries; replies = j.replies; were = j.were }) in
+            record { waits = b.waits; table = table (moves (server_after servers mirrors past).sessions (Bind session node) tt j.table); entries = b.entries; replies = b.replies; were = b.were })
+
+      -- a request that takes effect
+      effect_so : (call : SlotCallValue) → IsCallFrom e node xid name (OnSlot session number call) → request_answer (after_binding (server_after servers mirrors past).sessions session node) (request_of session number call) ≡ TakesEffect
+          → FitsRequest (OnSlot session number call) → EventSo
+      effect_so (slot.LayoutGet file) came effect fits =
+          layout_effect (slot.LayoutGet file) came effect fits refl
+          (λ table. by_end table (get_of numbered servers mirrors events past after e fit roomy split node xid name session number file came effect fits.0 fits.1)) refl
+        where
+          by_end : TableSo (SlotSo servers mirrors (past ++ e ∷ [])) (after_binding (server_after servers mirrors past).sessions session node)
+              → GetEnds (taken_mds e.now (server_after servers mirrors past) node session number (slot.LayoutGet file)) node xid (pass_of (request_of session number (slot.LayoutGet file)))
+              (sequence_result (request_of session number (slot.LayoutGet file))) file.file (runs e.now (slot_ops name (slot.LayoutGet file)) (taken_mds e.now (server_after servers mirrors past) node session number (slot.LayoutGet file)) (taken_compound node xid name session number (slot.LayoutGet file)))
+              → TableSo (SlotSo servers mirrors (past ++ e ∷ [])) (runs e.now (slot_ops name (slot.LayoutGet file)) (taken_mds e.now (server_after servers mirrors past) node session number (slot.LayoutGet file)) (taken_compound node xid name session number (slot.LayoutGet file))).mds.sessions
+          by_end table (IsRefused n results status ended some) = table_ended (slot.LayoutGet file) came effect fits n results status ended table
+          by_end table (Grants n got ended) =
+              table_ended (slot.LayoutGet file) came effect fits n (sequence_result (request_of session number (slot.LayoutGet file)) ∷ arm 22 resop4 (inl tt) ∷ layout_of_file file.file got.its ∷ []) stat.Ok ended table
+      effect_so (slot.LayoutReturn file stateid failed) came effect fits =
+          layout_effect (slot.LayoutReturn file stateid failed) came effect fits refl
+          (λ table. by_end table (return_of numbered servers mirrors events past after e fit roomy split node xid name session number file stateid failed came effect fits.0 fits.1)) refl
+        where
+          by_end : TableSo (SlotSo servers mirrors (past ++ e ∷ [])) (after_binding (server_after servers mirrors past).sessions session node)
+              → ReturnEnds (taken_mds e.now (server_after servers mirrors past) node session number (slot.LayoutReturn file stateid failed)) node xid (pass_of (request_of session number (slot.LayoutReturn file stateid failed)))
+              (sequence_result (request_of session number (slot.LayoutReturn file stateid failed))) file stateid failed
+              (runs e.now (slot_ops name (slot.LayoutReturn file stateid failed)) (taken_mds e.now (server_after servers mirrors past) node session number (slot.LayoutReturn file stateid failed)) (taken_compound node xid name session number (slot.LayoutReturn file stateid failed)))
+              → TableSo (SlotSo servers mirrors (past ++ e ∷ []))
+              (runs e.now (slot_ops name (slot.LayoutReturn file stateid failed)) (taken_mds e.now (server_after servers mirrors past) node session number (slot.LayoutReturn file stateid failed)) (taken_compound node xid name session number (slot.LayoutReturn file stateid failed))).mds.sessions
+          by_end table (giving.IsRefused n results status ended some none entries) = table_ended (slot.LayoutReturn file stateid failed) came effect fits n results status ended table
+          by_end table (Accepts given ended entries) =
+              table_ended (slot.LayoutReturn file stateid failed) came effect fits
+              (given_step (taken_mds e.now (server_after servers mirrors past) node session number (slot.LayoutReturn file stateid failed)) file given.its (errors_for stateid failed)).mds
+              (sequence_result (request_of session number (slot.LayoutReturn file stateid failed)) ∷ arm 22 resop4 (inl tt) ∷ no_stateid ∷ []) stat.Ok ended table
+      effect_so slot.ReclaimComplete came effect fits = plain_effect slot.ReclaimComplete came effect fits refl
+      effect_so (slot.Open text) came effect fits = plain_effect (slot.Open text) came effect fits refl
+      effect_so (slot.DeviceInfo numbers) came effect fits = plain_effect (slot.DeviceInfo numbers) came effect fits refl
+      effect_so (slot.Write file at bytes) came effect fits = plain_effect (slot.Write file at bytes) came effect fits refl
+      effect_so (slot.Read file at count) came effect fits = plain_effect (slot.Read file at count) came effect fits refl
+      effect_so slot.Renew came effect fits = plain_effect slot.Renew came effect fits refl
+
+      -- one that does not
+      module _ (call : SlotCallValue) (came : IsCallFrom e node xid name (OnSlot session number call)) where
+        abbrev judgement : Type 0
+        judgement = SlotJudged (SlotSo servers mirrors (past ++ e ∷ [])) session number (request_answer (after_binding (server_after servers mirrors past).sessions session node) (request_of session number call))
+
+        its_slot : SlotJudged (SlotSo servers mirrors (past ++ e ∷ [])) session number (request_answer (after_binding (server_after servers mirrors past).sessions session node) (request_of session number call))
+        its_slot = judged (SlotSo servers mirrors (past ++ e ∷ [])) (request_of session number call) refl bound (moves (server_after servers mirrors past).sessions (Bind session node) tt begun_table)
+
+        answer_so : (reply : RpcReply) → reply.xid ≡ xid
+            → ((also : List ℕ) (asked : SessionId) (n : ℕ) (c : SlotCallValue) → request_of session number call ≡ request_of asked n c → FitsRequest (OnSlot asked n c) → StandsFor servers mirrors (past ++ e ∷ []) past asked n c (reply_of_ask (ask_on_slot c) reply))
+            → AnswersRequest servers mirrors (past ++ e ∷ []) node reply
+        answer_so reply is stands = record {
+          early = past;
+          f = e;
+          late = [];
+          split = refl;
+          name = name;
+          call = OnSlot session number call;
+          came = subst (λ (x : ℕ). IsCallFrom e node x name (OnSlot session number call)) (sym is) came;
+          stands = λ also asked n c comes fits. stands also asked n c (same_request call came node reply.xid also asked n c comes) fits;
+        }
+
+        other_ends : (a : SlotAnswer) → request_answer (after_binding (server_after servers mirrors past).sessions session node) (request_of session number call) ≡ a
+            → Keeps (So Answered (λ other reply x. x)) (record (server_after servers mirrors past) { sessions = after_binding (server_after servers mirrors past).sessions session node })
+            (sequenced e.now (record (server_after servers mirrors past) { sessions = after_binding (server_after servers mirrors past).sessions session node }) (new_of (OnSlot session number call)) (slot_ops name call) (request_of session number call) a) → EventSo
+        other_ends a is q =
+            ended_so Answered (λ other reply x. x)
+            (subst (λ (s : MdsStep). Keeps (So Answered (λ other reply x. x)) (server_after servers mirrors past) s) (sym (event_is e (server_after servers mirrors past) node xid name (OnSlot session number call) came))
+            (out_keeps (λ (c : CompoundRun). WaitsSo servers mirrors (past ++ e ∷ []) c) ends (λ (s : SessionsState). TableSo (SlotSo servers mirrors (past ++ e ∷ [])) s) moves Answered (replied Answered (λ other reply x. x)) AnyEntry (λ x n. tt) (server_after servers mirrors past) (run_of_call e.now (server_after servers mirrors past) node xid name (OnSlot session number call))
+            (subst (λ (b : SlotAnswer). Keeps (So Answered (λ other reply x. x)) (server_after servers mirrors past)
+            (sequenced e.now (record (server_after servers mirrors past) { sessions = after_binding (server_after servers mirrors past).sessions session node }) (new_of (OnSlot session number call)) (slot_ops name call) (request_of session number call) b)) (sym is)
+            (λ es ss j. q es ss (record { waits = j.waits; table = moves (server_after servers mirrors past).sessions (Bind session node) tt j.table; entries = j.entries; replies = j.replies; were = j.were })))))
+            (λ other reply inside x. x)
+
+        repeats_so : (bytes : List ℕ) → request_answer (after_binding (server_after servers mirrors past).sessions session node) (request_of session number call) ≡ Repeats bytes → EventSo
+        repeats_so bytes is =
+            other_ends (Repeats bytes) is
+            (λ es ss j.
+            let n : MdsValue = record (server_after servers mirrors past) { sessions = after_binding (server_after servers mirrors past).sessions session node } in
+            subst (λ (l : List Entry). So Answered (λ other reply x. x) n l (ss ++ Replies node (success_reply xid bytes) ∷ [])) (sym (append-nil es))
+            (sends (λ (c : CompoundRun). WaitsSo servers mirrors (past ++ e ∷ []) c) ends (λ (s : SessionsState). TableSo (SlotSo servers mirrors (past ++ e ∷ [])) s) moves Answered (replied Answered (λ other reply x. x)) AnyEntry (λ x k. tt) n es ss (Replies node (success_reply xid bytes))
+            (own_reply (λ (c : CompoundRun). WaitsSo servers mirrors (past ++ e ∷ []) c) ends (λ (s : SessionsState). TableSo (SlotSo servers mirrors (past ++ e ∷ [])) s) moves Answered (replied Answered (λ other reply x. x)) AnyEntry (λ x k. tt) node (success_reply xid bytes) (answer_so (success_reply xid bytes) refl (λ also asked n2 c same fits. by_slot its_slot asked n2 c same fits))) j))
+          where
+            by_slot : SlotJudged (SlotSo servers mirrors (past ++ e ∷ [])) session number (request_answer (after_binding (server_after servers mirrors past).sessions session node) (request_of session number call))
+                → (asked : SessionId) (n : ℕ) (c : SlotCallValue) → request_of session number call ≡ request_of asked n c → FitsRequest (OnSlot asked n c)
+                → StandsFor servers mirrors (past ++ e ∷ []) past asked n c (reply_of_ask (ask_on_slot c) (success_reply xid bytes))
+            by_slot (NoSession off) asked n c same fits = absurd (not_repeats (sym is ∙ off))
+              where
+                not_repeats : Repeats bytes ≡ Refuses stat.BadSession → ⊥
+                not_repeats x = absurd cc
+            by_slot (BySlot s p at) asked n c same fits =
+                stands_kept servers mirrors (past ++ e ∷ []) past asked n xid bytes c fits
+                (subst (λ (q : Sequence). (t : IsTaken servers mirrors (past ++ e ∷ []) (client_in q.session) (number_in q.session) q.sequence) × MeansKept servers mirrors (past ++ e ∷ []) (client_in q.session) (number_in q.session) q.sequence t bytes) same
+                (repeats_kept servers mirrors (past ++ e ∷ []) (client_in session) (number_in session) s number bytes p (sym is ∙ at)))
+
+        refused_so : (status : Stat4) → request_answer (after_binding (server_after servers mirrors past).sessions session node) (request_of session number call) ≡ Refuses status → EventSo
+        refused_so status is =
+            other_ends (Refuses status) is
+            (finish_keeps (λ (c : CompoundRun). WaitsSo servers mirrors (past ++ e ∷ []) c) ends (λ (s : SessionsState). TableSo (SlotSo servers mirrors (past ++ e ∷ [])) s) moves Answered (replied Answered (λ other reply x. x)) AnyEntry (λ x k. tt)
+            (record (server_after servers mirrors past) { sessions = after_binding (server_after servers mirrors past).sessions session node }) (with_result (new_of (OnSlot session number call)) (refused_as 53 status)) status
+            (answer_so (success_reply xid (spelling compound4_res (stat4_number status, ([], refused_as 53 status ∷ [])))) refl (λ also asked n c same fits. by_slot its_slot asked n c same)))
+          where
+            by_slot : SlotJudged (SlotSo servers mirrors (past ++ e ∷ [])) session number (request_answer (after_binding (server_after servers mirrors past).sessions session node) (request_of session number call))
+                → (asked : SessionId) (n : ℕ) (c : SlotCallValue) → request_of session number call ≡ request_of asked n c
+                → StandsFor servers mirrors (past ++ e ∷ []) past asked n c (reply_of_ask (ask_on_slot c) (success_reply xid (spelling compound4_res (stat4_number status, ([], refused_as 53 status ∷ [])))))
+            by_slot (NoSession off) asked n c same = stands_no_session servers mirrors (past ++ e ∷ []) past asked n xid c status (ap status_of (sym is ∙ off)) (node, c, subst (λ (q : Sequence). request_answer (after_binding (server_after servers mirrors past).sessions q.session node) q ≡ Refuses status) same is)
+            by_slot (BySlot s p at) asked n c same =
+                stands_refused servers mirrors (past ++ e ∷ []) past asked n xid c status
+                (subst (λ (q : Sequence). RefusedAs servers mirrors (past ++ e ∷ []) (client_in q.session) (number_in q.session) q.sequence status) same
+                (refused_by servers mirrors (past ++ e ∷ []) (client_in session) (number_in session) s number status p (sym is ∙ at))) (node, c, subst (λ (q : Sequence). request_answer (after_binding (server_after servers mirrors past).sessions q.session node) q ≡ Refuses status) same is)
+
+        slot_so : FitsRequest (OnSlot session number call) → (a : SlotAnswer) → request_answer (after_binding (server_after servers mirrors past).sessions session node) (request_of session number call) ≡ a → EventSo
+        slot_so fits TakesEffect is = effect_so call came is fits
+        slot_so fits (Repeats bytes) is = repeats_so bytes is
+        slot_so fits (Refuses status) is = refused_so status is
+
+  -- ---- any event
+
+  event_so : Brings e → EventSo
+  event_so (ACall node xid name (ExchangeId verifier) came fits) = exchange_so node xid name verifier came
+  event_so (ACall node xid name (CreateSession client sequence) came fits) = create_so node xid name client sequence came
+  event_so (ACall node xid name (OnSlot session number call) came fits) =
+      slot_so node xid name session number call came fits (request_answer (after_binding (server_after servers mirrors past).sessions session node) (request_of session number call)) refl
+  event_so (Nothing none) = nothing_so none
+
+-- ---- a run
+
+fit_at : (past more : List MdsEvent) (e : MdsEvent) → AreFitCalls (past ++ e ∷ more) → HearsFitCall e.input
+fit_at [] more e fit = fit.0
+fit_at (x ∷ past) more e fit = fit_at past more e fit.1
+
+module _ (numbered : EffectsAreNumbered) (servers : List AddressValue) (mirrors : ℕ) (events : List MdsEvent) (fit : AreFitCalls events) (roomy : StaysRoomy servers mirrors events) where
+  event_of : (past after : List MdsEvent) (e : MdsEvent) (split : IsEventOf events past e after) (i : RunSo servers mirrors past (server_after servers mirrors past)) → EventSo numbered servers mirrors events past after e fit roomy split i
+  event_of past after e split i = event_so numbered servers mirrors events past after e fit roomy split i (brings e (fit_at past after e (subst AreFitCalls split fit)))
+
+  run_so : (past before rest : List MdsEvent) → events ≡ past ++ (before ++ rest) → RunSo servers mirrors past (server_after servers mirrors past) → RunSo servers mirrors (past ++ before) (server_after servers mirrors (past ++ before))
+  run_so past [] rest is i = subst (λ (l : List MdsEvent). RunSo servers mirrors l (server_after servers mirrors l)) (sym (append-nil past)) i
+  run_so past (e ∷ before) rest is i =
+      subst (λ (l : List MdsEvent). RunSo servers mirrors l (server_after servers mirrors l)) (append_assoc past (e ∷ []) before)
+      (run_so (past ++ e ∷ []) before rest (is ∙ sym (append_assoc past (e ∷ []) (before ++ rest))) (event_of past (before ++ rest) e is i).next)
+
+pub each_reply_stands : EffectsAreNumbered → EachReplyStands
+each_reply_stands numbered servers mirrors events before after e fit roomy split node reply inside =
+    (event_of numbered servers mirrors events fit roomy before after e split (run_so numbered servers mirrors events fit roomy [] before (e ∷ after) split (record { waits = tt; table = tt }))).replies node reply inside

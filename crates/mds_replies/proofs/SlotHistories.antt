@@ -1,0 +1,260 @@
+-- What a slot keeps, and what a compound waits for, by the request that took effect.
+use Rattle.std.proofs.Common.{◌≡◌, ℕ, Bool, true, false, List, [], ◌∷◌, ◌++◌, length, None, refl, sym, ap, subst, ◌∙◌}
+use Rattle.std.specs.Prelude.{◌==◌, ◌&&◌, ◌||◌, nat_lt}
+use Rattle.std.proofs.lemmas.Bool.{cond_both, and_parts, eqb-true, eq-eqb}
+use Rattle.std.proofs.lemmas.List.{append_assoc}
+use Rattle.std.proofs.lemmas.Option.{same_Some}
+use Rattle.ff_xdr.specs.Form.{Value, arm_of}
+use Rattle.compound_reply.specs.Replied.{success_reply}
+use Rattle.cluster_model.specs.declared.ids.NodeId.{NodeId}
+use Rattle.device_addr.specs.Universal.{AddressValue}
+use Rattle.nfs4_types.specs.declared.ids.SessionId.{SessionId}
+use Rattle.nfs4_types.specs.declared.sequence.Sequence.{Sequence}
+use Rattle.nfs4_compound.specs.Args.{argop4}
+use Rattle.nfs4_compound.specs.declared.stop.Stop.TheVariants as stop
+use Rattle.nfs4_session.specs.declared.slot.TheConstants.{MAX_KEPT}
+use Rattle.nfs4_session.specs.Slots.{SlotState, SlotReply, NoRequest, InProgress, Cached, Uncached as NotKept, TakesEffect, is_in_progress, kept_as, slot_finished}
+use Rattle.nfs4_session.specs.Clients.{client_in, number_in}
+use Rattle.nfs4_session.specs.Requests.{request_answer}
+use Rattle.nfs4_session.specs.Bindings.{after_binding}
+use Rattle.table_slots.specs.TableSlots.{is_of_session}
+use Rattle.mds_calls.specs.declared.reply.SlotReport.{SlotReport}
+use Rattle.mds_calls.specs.declared.reply.SlotReport.TheVariants.{Taken, Uncached, Delayed, Unknown}
+use Rattle.mds_calls.specs.MdsCalls.{SlotCallValue, MdsCallValue, OnSlot, ask_on_slot}
+use Rattle.mds_calls.specs.MdsCalls as slot
+use Rattle.mds_calls.specs.MdsCompounds.{mds_ops}
+use Rattle.mds_calls.specs.MdsReplies.{MdsAnswerValue, MdsReplyValue, reply_of_ask}
+use Rattle.mds_receive.specs.MdsReceive.{IncomingValue, IsCompound, incoming_of}
+use Rattle.mds_rule.specs.MdsStates.{CompoundRun}
+use Rattle.mds_laws.specs.MdsRuns.{MdsInput, MdsEvent, Hears}
+use Rattle.mds_laws.specs.SlotUses.{first_request}
+use Rattle.mds_replies.specs.ClientCalls.{IsCallFrom, server_after, IsEventOf}
+use Rattle.mds_replies.specs.SlotReplies.{request_of, TookEffect}
+use Rattle.mds_replies.specs.AnsweredRequests.{FitsRequest, MeansSo, TookEffectAmong, IsUnread, StandsByReport, StandsFor, AnswersRequest}
+
+-- ---- an event's compound asks for a layout, or gives one back
+
+pub third_number : List (Value argop4) → ℕ
+third_number (a ∷ b ∷ c ∷ rest) = arm_of argop4 c
+third_number ops = 0
+
+abbrev is_layout_number : ℕ → Bool
+is_layout_number n = (n == 50) || (n == 51)
+
+pub layout_ops : List (Value argop4) → Bool
+layout_ops ops = is_layout_number (third_number ops)
+
+abbrev layout_in : IncomingValue → Bool
+layout_in (IsCompound xid v) = layout_ops v.ops.values
+layout_in other = false
+
+abbrev layout_heard : MdsInput → Bool
+layout_heard (Hears node bytes) = layout_in (incoming_of bytes)
+layout_heard other = false
+
+abbrev pub layout_event : MdsEvent → Bool
+layout_event e = layout_heard e.input
+
+abbrev pub is_layout_call : SlotCallValue → Bool
+is_layout_call (slot.LayoutGet file) = true
+is_layout_call (slot.LayoutReturn file stateid failed) = true
+is_layout_call other = false
+
+third_of : (name : List ℕ) (session : SessionId) (number : ℕ) (c : SlotCallValue) → layout_ops (mds_ops name (OnSlot session number c)) ≡ is_layout_call c
+unfolding third_number layout_ops
+third_of name session number slot.ReclaimComplete = refl
+third_of name session number (slot.Open file) = refl
+third_of name session number (slot.LayoutGet file) = refl
+third_of name session number (slot.DeviceInfo []) = refl
+third_of name session number (slot.DeviceInfo (a ∷ [])) = refl
+third_of name session number (slot.DeviceInfo (a ∷ b ∷ servers)) = refl
+third_of name session number (slot.Write file at bytes) = refl
+third_of name session number (slot.Read file at count) = refl
+third_of name session number (slot.LayoutReturn file stateid failed) = refl
+third_of name session number slot.Renew = refl
+
+pub event_of_call : (f : MdsEvent) (node : NodeId) (xid : ℕ) (name : List ℕ) (session : SessionId) (number : ℕ) (c : SlotCallValue) → IsCallFrom f node xid name (OnSlot session number c) → layout_event f ≡ is_layout_call c
+event_of_call f node xid name session number c came = ap layout_heard came.input ∙ ap layout_in came.compound ∙ ap layout_ops came.is.ops ∙ third_of name session number c
+
+pub plain_means : (servers : List AddressValue) (mirrors : ℕ) (early : List MdsEvent) (f : MdsEvent) (session : SessionId) (c : SlotCallValue) (answer : MdsAnswerValue) → is_layout_call c ≡ false → MeansSo servers mirrors early f session c answer
+plain_means servers mirrors early f session (slot.LayoutGet file) answer off = absurd cc
+plain_means servers mirrors early f session (slot.LayoutReturn file stateid failed) answer off = absurd cc
+plain_means servers mirrors early f session c answer off = tt
+
+-- ---- one event has one request
+
+abbrev node_in : NodeId → MdsInput → NodeId
+node_in other (Hears node bytes) = node
+node_in other input = other
+
+abbrev bytes_in : MdsInput → List ℕ
+bytes_in (Hears node bytes) = bytes
+bytes_in other = []
+
+abbrev ops_in : IncomingValue → List (Value argop4)
+ops_in (IsCompound xid v) = v.ops.values
+ops_in other = []
+
+module _ (f : MdsEvent) (node there : NodeId) (xid number : ℕ) (name other : List ℕ) (call also : MdsCallValue) (came : IsCallFrom f node xid name call) (comes : IsCallFrom f there number other also) where
+  pub same_node : node ≡ there
+  same_node = ap (node_in node) (sym came.input ∙ comes.input)
+
+  pub same_ops : mds_ops name call ≡ mds_ops other also
+  same_ops =
+      let bytes : came.bytes ≡ comes.bytes = ap bytes_in (sym came.input ∙ comes.input) in
+      sym came.is.ops ∙ ap ops_in (sym came.compound ∙ ap incoming_of bytes ∙ comes.compound) ∙ comes.is.ops
+
+-- ---- a request that took effect
+
+module _ (servers : List AddressValue) (mirrors : ℕ) where
+  pub record IsTaken (past : List MdsEvent) (client number sequence : ℕ) : Type 0 where
+    pub early : List MdsEvent
+    pub f : MdsEvent
+    pub late : List MdsEvent
+    pub split : IsEventOf past early f late
+    pub asked : SessionId
+    pub its_client : client_in asked ≡ client
+    pub its_number : number_in asked ≡ number
+    pub took : TookEffect servers mirrors early f asked sequence
+
+  -- the reply that is kept of it means what it says
+  abbrev pub MeansKept : (past : List MdsEvent) (client number sequence : ℕ) → IsTaken past client number sequence → List ℕ → Type 0
+  MeansKept past client number sequence t reply =
+      (name : List ℕ) (session : SessionId) (n : ℕ) (c : SlotCallValue) → IsCallFrom t.f t.took.node t.took.xid name (OnSlot session n c) → FitsRequest (OnSlot session n c)
+      → MeansSo servers mirrors t.early t.f session c (reply_of_ask (ask_on_slot c) (success_reply t.took.xid reply)).answer
+
+  abbrev pub SlotBy : List MdsEvent → ℕ → ℕ → ℕ → SlotReply → Type 0
+  SlotBy past client number last NoRequest = Unit {0}
+  SlotBy past client number last InProgress = (t : IsTaken past client number last) × (layout_event t.f ≡ false)
+  SlotBy past client number last (Cached reply) = (t : IsTaken past client number last) × MeansKept past client number last t reply
+  SlotBy past client number last NotKept = IsTaken past client number last
+
+  abbrev pub SlotSo : List MdsEvent → ℕ → ℕ → SlotState → Type 0
+  SlotSo past client number s = SlotBy past client number s.last s.reply
+
+  later : (past more early late : List MdsEvent) (f : MdsEvent) → IsEventOf past early f late → IsEventOf (past ++ more) early f (late ++ more)
+  later past more early late f split = ap (λ (l : List MdsEvent). l ++ more) split ∙ append_assoc early (f ∷ late) more
+
+  taken_later : (past more : List MdsEvent) (client number sequence : ℕ) → IsTaken past client number sequence → IsTaken (past ++ more) client number sequence
+  taken_later past more client number sequence t =
+      record { early = t.early; f = t.f; late = t.late ++ more; split = later past more t.early t.late t.f t.split; asked = t.asked; its_client = t.its_client; its_number = t.its_number; took = t.took }
+
+  slot_later : (past more : List MdsEvent) (client number last : ℕ) (r : SlotReply) → SlotBy past client number last r → SlotBy (past ++ more) client number last r
+  slot_later past more client number last NoRequest p = tt
+  slot_later past more client number last InProgress p =
+      (record { early = p.0.early; f = p.0.f; late = p.0.late ++ more; split = later past more p.0.early p.0.late p.0.f p.0.split; asked = p.0.asked; its_client = p.0.its_client; its_number = p.0.its_number; took = p.0.took }, p.1)
+  slot_later past more client number last (Cached reply) p =
+      (record { early = p.0.early; f = p.0.f; late = p.0.late ++ more; split = later past more p.0.early p.0.late p.0.f p.0.split; asked = p.0.asked; its_client = p.0.its_client; its_number = p.0.its_number; took = p.0.took }, p.1)
+  slot_later past more client number last NotKept p = taken_later past more client number last p
+
+  pub slot_more : (past more : List MdsEvent) (client number : ℕ) (s : SlotState) → SlotSo past client number s → SlotSo (past ++ more) client number s
+  slot_more past more client number s p = slot_later past more client number s.last s.reply p
+
+  -- a compound that is done when its request is not in the event any more
+  plain_kept : (past : List MdsEvent) (client number sequence : ℕ) (t : IsTaken past client number sequence) (reply : List ℕ) → layout_event t.f ≡ false → MeansKept past client number sequence t reply
+  plain_kept past client number sequence t reply plain name session n c came fits = plain_means servers mirrors t.early t.f session c _ (sym (event_of_call t.f t.took.node t.took.xid name session n c came) ∙ plain)
+
+  kept_by : (past : List MdsEvent) (client number sequence : ℕ) (t : IsTaken past client number sequence) (reply : List ℕ) → MeansKept past client number sequence t reply → SlotBy past client number sequence (kept_as reply)
+  kept_by past client number sequence t reply means = cond_both (nat_lt MAX_KEPT (length reply)) NotKept (Cached reply) (SlotBy past client number sequence) (λ long. t) (λ short. (t, means))
+
+  pub kept_now : (past : List MdsEvent) (client number sequence : ℕ) (t : IsTaken past client number sequence) (reply : List ℕ) → MeansKept past client number sequence t reply → SlotSo past client number (record { last = sequence; reply = kept_as reply })
+  kept_now past client number sequence t reply means = kept_by past client number sequence t reply means
+
+  finished_by : (past : List MdsEvent) (client number last : ℕ) (r : SlotReply) (reply : List ℕ) → is_in_progress r ≡ true → SlotBy past client number last r → SlotBy past client number last (kept_as reply)
+  finished_by past client number last NoRequest reply is p = absurd cc
+  finished_by past client number last InProgress reply is p = kept_by past client number last p.0 reply (plain_kept past client number last p.0 reply p.1)
+  finished_by past client number last (Cached other) reply is p = absurd cc
+  finished_by past client number last NotKept reply is p = absurd cc
+
+  pub slot_done : (past : List MdsEvent) (client number sequence : ℕ) (reply : List ℕ) (s : SlotState) → SlotSo past client number s → SlotSo past client number (slot_finished sequence reply s)
+  slot_done past client number sequence reply s p =
+      cond_both ((s.last == sequence) && is_in_progress s.reply) (record { last = sequence; reply = kept_as reply }) s (SlotSo past client number)
+      (λ is.
+      let both = and_parts (s.last == sequence) (is_in_progress s.reply) is in
+      subst (λ (n : ℕ). SlotBy past client number n (kept_as reply)) (eqb-true s.last sequence both.0) (finished_by past client number s.last s.reply reply both.1 p))
+      (λ off. p)
+
+  -- ---- a compound that waits
+
+  pub record WaitsSo (past : List MdsEvent) (c : CompoundRun) : Type 0 where
+    pub early : List MdsEvent
+    pub f : MdsEvent
+    pub late : List MdsEvent
+    pub split : IsEventOf past early f late
+    pub session : SessionId
+    pub number : ℕ
+    pub took : TookEffect servers mirrors early f session number
+    pub node : c.node ≡ took.node
+    pub xid : c.xid ≡ took.xid
+    pub plain : layout_event f ≡ false
+    pub ops : c.ops ≡ []
+    pub stop : c.stop ≡ stop.End None
+
+  pub waits_more : (past more : List MdsEvent) (c : CompoundRun) → WaitsSo past c → WaitsSo (past ++ more) c
+  waits_more past more c w = record {
+    early = w.early;
+    f = w.f;
+    late = w.late ++ more;
+    split = later past more w.early w.late w.f w.split;
+    session = w.session;
+    number = w.number;
+    took = w.took;
+    node = w.node;
+    xid = w.xid;
+    plain = w.plain;
+    ops = w.ops;
+    stop = w.stop;
+  }
+
+  -- ---- what a reply stands on
+
+  own_session : (session : SessionId) → is_of_session session session ≡ true
+  own_session session =
+      both (client_in session == client_in session) (number_in session == number_in session) (eq-eqb (client_in session) (client_in session) refl) (eq-eqb (number_in session) (number_in session) refl)
+    where
+      both : (a b : Bool) → a ≡ true → b ≡ true → (a && b) ≡ true
+      both true b first second = second
+      both false b first second = absurd cc
+
+  -- a call that came in the event of a request that took effect is that request
+  pub effect_too : (early : List MdsEvent) (f : MdsEvent) (session : SessionId) (number : ℕ) (took : TookEffect servers mirrors early f session number) (node : NodeId) (xid : ℕ) (name : List ℕ) (asked : SessionId) (n : ℕ) (c : SlotCallValue)
+      → IsCallFrom f node xid name (OnSlot asked n c) → request_answer (after_binding (server_after servers mirrors early).sessions asked node) (request_of asked n c) ≡ TakesEffect
+  effect_too early f session number took node xid name asked n c came =
+      let one : took.node ≡ node = same_node f took.node node took.xid xid took.name name (OnSlot session number took.call) (OnSlot asked n c) took.came came in
+      let request : request_of session number took.call ≡ request_of asked n c =
+      same_Some (request_of session number took.call) (request_of asked n c) (ap first_request (same_ops f took.node node took.xid xid took.name name (OnSlot session number took.call) (OnSlot asked n c) took.came came)) in
+      subst (λ (x : NodeId). request_answer (after_binding (server_after servers mirrors early).sessions asked x) (request_of asked n c) ≡ TakesEffect) one
+      (subst (λ (q : Sequence). request_answer (after_binding (server_after servers mirrors early).sessions q.session took.node) q ≡ TakesEffect) request took.effect)
+
+  took_too : (early : List MdsEvent) (f : MdsEvent) (session : SessionId) (number : ℕ) (took : TookEffect servers mirrors early f session number) (node : NodeId) (xid : ℕ) (name : List ℕ) (asked : SessionId) (n : ℕ) (c : SlotCallValue)
+      → IsCallFrom f node xid name (OnSlot asked n c) → TookEffect servers mirrors early f asked n
+  took_too early f session number took node xid name asked n c came = record { node = node; xid = xid; name = name; call = c; came = came; effect = effect_too early f session number took node xid name asked n c came }
+
+  pub stands_taken : (past early late : List MdsEvent) (f : MdsEvent) → IsEventOf past early f late → (session : SessionId) (number : ℕ) → TookEffect servers mirrors early f session number → (node : NodeId) (xid : ℕ) (name : List ℕ) (asked : SessionId) (n : ℕ)
+      (c : SlotCallValue) → IsCallFrom f node xid name (OnSlot asked n c) → (says : MdsReplyValue) → MeansSo servers mirrors early f asked c says.answer → StandsFor servers mirrors past early asked n c says
+  stands_taken past early late f split session number took node xid name asked n c came says means = by_report says.slot
+    where
+      t : TookEffectAmong servers mirrors past asked n
+      t = record { early = early; f = f; late = late; split = split; asked = asked; its = own_session asked; took = took_too early f session number took node xid name asked n c came }
+
+      by_report : (r : SlotReport) → StandsByReport servers mirrors past early asked n c says.answer r
+      by_report Taken = (record { early = early; f = f; late = late; split = split; asked = asked; its = own_session asked; took = took_too early f session number took node xid name asked n c came }, λ other same. means)
+      by_report Uncached = t
+      by_report Delayed = tt
+      by_report Unknown = IsUnread t
+
+  -- the reply of a compound that waited
+  pub waited_answers : (past : List MdsEvent) (c : CompoundRun) (bytes : List ℕ) → WaitsSo past c → AnswersRequest servers mirrors past c.node (success_reply c.xid bytes)
+  waited_answers past c bytes w = record {
+    early = w.early;
+    f = w.f;
+    late = w.late;
+    split = w.split;
+    name = w.took.name;
+    call = OnSlot w.session w.number w.took.call;
+    came = subst (λ (x : NodeId). IsCallFrom w.f x c.xid w.took.name (OnSlot w.session w.number w.took.call)) (sym w.node)
+        (subst (λ (x : ℕ). IsCallFrom w.f w.took.node x w.took.name (OnSlot w.session w.number w.took.call)) (sym w.xid) w.took.came);
+    stands = λ other asked n call came fits.
+        stands_taken past w.early w.late w.f w.split w.session w.number w.took c.node c.xid other asked n call came (reply_of_ask (ask_on_slot call) (success_reply c.xid bytes))
+        (plain_means servers mirrors w.early w.f asked call _ (sym (event_of_call w.f c.node c.xid other asked n call came) ∙ w.plain));
+  }

@@ -1,0 +1,459 @@
+-- What each event of a run keeps: of the compounds that wait, of the table of clients, of what is entered, and of the replies that are sent.
+use Rattle.std.proofs.Common.{◌≡◌, ℕ, ◌+◌, ◌-◌, Bool, true, false, List, [], ◌∷◌, ◌++◌, length, Option, Some, None, refl, sym, ap, subst, ◌∙◌, inl, inr, ◌⊎◌}
+use Rattle.std.specs.Prelude.{◌==◌, ◌||◌, map, slice_set}
+use Rattle.std.specs.List.{list_any}
+use Rattle.std.proofs.lemmas.Bool.{cond_both}
+use Rattle.std.proofs.lemmas.List.{append-nil}
+use Rattle.std.proofs.lemmas.Option.{same_Some, none-some}
+use Rattle.ff_xdr.specs.Form.{Value, spelling, arm_of}
+use Rattle.ff_xdr.specs.Arms.{of_each_arm}
+use Rattle.rpc_record.specs.Replies.{RpcReply}
+use Rattle.compound_reply.specs.Replied.{success_reply}
+use Rattle.cluster_model.specs.declared.ids.NodeId.{NodeId}
+use Rattle.cluster_model.specs.declared.ids.NodeId.TheVariants.{Server}
+use Rattle.cluster_model.specs.declared.ids.FileId.{FileId}
+use Rattle.cluster_model.specs.declared.ids.Cred.{Cred}
+use Rattle.cluster_model.specs.declared.ids.Mirror.{Mirror}
+use Rattle.cluster_model.specs.declared.entry.Entry.{Entry}
+use Rattle.cluster_model.specs.declared.entry.Entry.TheVariants as entry
+use Rattle.file_rule.specs.MdsFiles.{FileStep}
+use Rattle.file_rule.specs.FilePhases.{FileInput, AsksLayout, OwnWrite, Recall as ToRecall, Returns, Revokes, OwnEnds, Resilver, Answers as IsAnswer, TimesOut, Ticks, Sees, phase}
+use Rattle.mds_rows.specs.Draws.{drawn}
+use Rattle.recall.specs.Recalls.{without_file}
+use Rattle.nfs4_types.specs.declared.status.Stat4.{Stat4}
+use Rattle.nfs4_types.specs.declared.status.Stat4.TheVariants as stat
+use Rattle.nfs4_types.specs.Status.{stat4_number}
+use Rattle.nfs4_compound.specs.declared.stop.Stop.{Stop}
+use Rattle.nfs4_compound.specs.declared.stop.Stop.TheVariants as stop
+use Rattle.nfs4_compound.specs.Args.{argop4}
+use Rattle.nfs4_compound.specs.Results.{resop4}
+use Rattle.nfs4_compound.specs.Compounds.{CompoundValue, compound4_res}
+use Rattle.nfs4_session.specs.declared.begin.SlotPass.{SlotPass}
+use Rattle.nfs4_session.specs.Clients.{SessionsState}
+use Rattle.nfs4_session.specs.TableLaw.{TableMove, FinishRequest, table_after}
+use Rattle.mds_receive.specs.MdsReceive.{IncomingValue, PassedOver, IsReply, IsAnswered, IsCompound, incoming_of}
+use Rattle.mds_rule.specs.Answers.{own_answer, resumes, is_done_as}
+use Rattle.mds_rule.specs.MdsStates.{CompoundRun, WaitingRead, WaitingWrite, ServedFile, MdsSend, CallsServer, CallsBack, Replies, Answers, AwaitedCall, MdsValue, MdsStep, sends_none, and_then, with_call, served, with_served}
+use Rattle.mds_rule.specs.declared.waiter.Waiter.TheVariants.{ForFile, ForRead, ForWrite, ForRecall}
+use Rattle.mds_rule.specs.OpSteps.{OpStep, Goes, Ends, Waits, with_result, refuses, refused_as, stopped}
+use Rattle.mds_rule.specs.ServedFiles.{has_fresh, is_period_end, is_swap, begins_again, reads_behind, file_behind, file_stepped, input_at, takes_input}
+use Rattle.mds_rule.specs.FileOps.{servers_of, new_served, with_new_file}
+use Rattle.file_rule.specs.FilePhases.{new_mds_file}
+use Rattle.mds_rule.specs.LayoutOps.{with_holder}
+use Rattle.mds_rule.specs.Compounds.{operate, has_session, operates, compound_bytes, kept_in_slot, finishes, op_then, with_ops, runs}
+use Rattle.mds_rule.specs.Goes.{calls_out}
+use Rattle.mds_laws.specs.MdsRuns.{MdsInput, MdsEvent, Hears, IsTimedOut, Ticks as IsTick, RecallsFile, Resilvers, by_input, after_event}
+use Rattle.mds_laws.specs.SlotUses.{request_in}
+use Rattle.mds_laws.proofs.Lists.{In, AllOf, all_push, all_set, all_got}
+use Rattle.mds_laws.proofs.Keeping.{HeardAny, Becomes, Keeps, KeepsOp, TakesInput, IsNoRequest, is_note, hears_any, then_keeps, same, becomes_keeps, enters_keeps, stays}
+use Rattle.mds_laws.proofs.Numbers.{WereSent, sent_more, sent_with, sent_without}
+use Rattle.mds_laws.proofs.OpsWalk.{place_served}
+use Rattle.mds_laws.proofs.Requested.{behind_begin}
+use Rattle.mds_replies.proofs.HolderCases.{AllWait, Cases, WaitCases, out_of, comes_unasked}
+use Rattle.mds_replies.proofs.WaitingCompounds.{same_wait}
+use Rattle.mds_replies.proofs.ServedWalk.{exchanges, creates, binds, destroys_session, destroys_client, reclaims_all}
+use Rattle.mds_replies.proofs.OpsWalk.{puts_fh, gets_fh, looks_up, gets_attr, opens, closes_file, commits, reads, writes, layout_gets, layout_returns, layout_commits, device_infos}
+use Rattle.mds_replies.proofs.GoesWalk.{out_walk, input_walk, RunsSo}
+use Rattle.mds_replies.proofs.EndCauses.{IsNoReturn, NoneReturned, IsNoReturnInput, phase_none}
+use Rattle.mds_replies.proofs.SameRuns.{Like, like_then, StepsLike, operate_like, operates_like}
+
+-- ---- lists
+
+pub in_pushed : {A : Type 0} (y x : A) (xs : List A) → In y (xs ++ x ∷ []) → In y xs ⊎ (y ≡ x)
+in_pushed y x [] (inl is) = inr is
+in_pushed y x [] (inr inside) = absurd inside
+in_pushed y x (z ∷ xs) (inl is) = inl (inl is)
+in_pushed y x (z ∷ xs) (inr inside) = further (in_pushed y x xs inside)
+  where
+    further : In y xs ⊎ (y ≡ x) → In y (z ∷ xs) ⊎ (y ≡ x)
+    further (inl old) = inl (inr old)
+    further (inr new) = inr new
+
+all_joined : {A : Type 0} (P : A → Type 0) (xs ys : List A) → AllOf P xs → AllOf P ys → AllOf P (xs ++ ys)
+all_joined P [] ys all more = more
+all_joined P (x ∷ xs) ys all more = (all.0, all_joined P xs ys all.1 more)
+
+-- ---- reads that begin again
+
+begins_wait : (W : CompoundRun → Type 0) (live : List Mirror) (reads : List WaitingRead) → ((r : WaitingRead) → In r reads → W r.compound) → (r : WaitingRead) → In r (map (begins_again live) reads) → W r.compound
+begins_wait W live [] all r inside = absurd inside
+begins_wait W live (x ∷ reads) all r (inl same) = subst (λ (y : WaitingRead). W y.compound) (sym same) (all x (inl refl))
+begins_wait W live (x ∷ reads) all r (inr inside) = begins_wait W live reads (λ y its. all y (inr its)) r inside
+
+behind_wait : (W : CompoundRun → Type 0) (entries : List Entry) (live : List Mirror) (reads : List WaitingRead) (write : Option WaitingWrite) → AllWait W reads write → AllWait W (reads_behind entries live reads) write
+behind_wait W entries live reads write a =
+    cond_both (list_any is_swap entries) (map (begins_again live) reads) reads (λ (rs : List WaitingRead). AllWait W rs write) (λ is. record { reads_so = begins_wait W live reads a.reads_so; write_so = a.write_so }) (λ off. a)
+
+unasked_no_return : (input : FileInput) → comes_unasked input ≡ true → IsNoReturnInput input
+unasked_no_return (AsksLayout client) is = tt
+unasked_no_return (OwnWrite at bytes) is = tt
+unasked_no_return ToRecall is = tt
+unasked_no_return (Returns client claimed places) is = absurd cc
+unasked_no_return (Revokes cause) is = tt
+unasked_no_return (OwnEnds causes at bytes) is = tt
+unasked_no_return Resilver is = tt
+unasked_no_return (IsAnswer xid reply) is = tt
+unasked_no_return (TimesOut xid) is = tt
+unasked_no_return Ticks is = tt
+unasked_no_return (Sees id seen) is = tt
+
+note_no_return : (e : Entry) → is_note e ≡ true → IsNoReturn e
+note_no_return (entry.Ended file cred cause) is = absurd cc
+note_no_return e is = tt
+
+-- the operations that wait for data servers: READ and WRITE
+abbrev pub is_waiting_op : ℕ → Bool
+is_waiting_op number = (number == 25) || (number == 38)
+
+abbrev pub has_waiting : List (Value argop4) → Bool
+has_waiting [] = false
+has_waiting (op ∷ ops) = is_waiting_op (arm_of argop4 op) || has_waiting ops
+
+or_true : (a b : Bool) → b ≡ true → (a || b) ≡ true
+or_true true b is = refl
+or_true false b is = is
+
+pub record Stands (W : CompoundRun → Type 0) (Q : SessionsState → Type 0) (A : NodeId → RpcReply → Type 0) (E : Entry → Type 0) (files : List ServedFile) (sessions : SessionsState) (calls : List AwaitedCall) (es : List Entry)
+    (ss : List MdsSend) : Type 0 where
+  pub waits : AllOf (λ (s : ServedFile). AllWait W s.reads s.write) files
+  pub table : Q sessions
+  pub entries : AllOf E es
+  pub replies : (node : NodeId) (reply : RpcReply) → In (Replies node reply) ss → A node reply
+  pub were : WereSent calls ss
+
+module _ (W : CompoundRun → Type 0) (left : (c : CompoundRun) → W c → (c.ops ≡ []) × (c.stop ≡ stop.End None)) (Q : SessionsState → Type 0) (keeps : (s : SessionsState) (move : TableMove) → IsNoRequest move → Q s → Q (table_after s move))
+    (A : NodeId → RpcReply → Type 0)
+    (replied : (c : CompoundRun) (results : List (Value resop4)) (status : Stat4) → W c → A c.node (success_reply c.xid (spelling compound4_res (stat4_number status, (c.tag, c.results ++ results)))))
+    (E : Entry → Type 0) (plain : (e : Entry) → IsNoReturn e → E e) where
+  abbrev pub IsSo : MdsValue → List Entry → List MdsSend → Type 0
+  IsSo m es ss = Stands W Q A E m.files m.sessions m.calls es ss
+
+  abbrev WaitSo : ServedFile → Type 0
+  WaitSo s = AllWait W s.reads s.write
+
+  wait_at : (m : MdsValue) (file : FileId) (s : ServedFile) → served m file ≡ Some s → AllOf (λ (x : ServedFile). AllWait W x.reads x.write) m.files → AllWait W s.reads s.write
+  wait_at m file s at all = all_got (λ (x : ServedFile). AllWait W x.reads x.write) m.files (file.0 - 1) s all (place_served m file s at).1
+
+  all_plain : (es : List Entry) → NoneReturned es → AllOf E es
+  all_plain [] none = tt
+  all_plain (e ∷ es) none = (plain e none.0, all_plain es none.1)
+
+  all_any : ((e : Entry) → E e) → (es : List Entry) → AllOf E es
+  all_any any [] = tt
+  all_any any (e ∷ es) = (any e, all_any any es)
+
+  -- ---- files
+
+  set : (m : MdsValue) (file : FileId) (t : ServedFile) (calls : List AwaitedCall) (es : List Entry) (ss ts : List MdsSend) → AllWait W t.reads t.write → ((node : NodeId) (reply : RpcReply) → In (Replies node reply) ts → A node reply)
+      → WereSent calls ts → IsSo m es ss → Stands W Q A E (slice_set m.files (file.0 - 1) t) m.sessions calls es ts
+  set m file t calls es ss ts its replies were i = record {
+    waits = all_set (λ (x : ServedFile). AllWait W x.reads x.write) m.files (file.0 - 1) t i.waits its;
+    table = i.table;
+    entries = i.entries;
+    replies = replies;
+    were = were;
+  }
+
+  stepped : (m : MdsValue) (file : FileId) (s : ServedFile) (step : FileStep) → served m file ≡ Some s → AllOf E step.entries → (es : List Entry) (ss : List MdsSend) → IsSo m es ss → IsSo (file_stepped m file s step).mds (es ++ step.entries) ss
+  stepped m file s step at none es ss i =
+      let n : MdsValue = with_served (record m { fresh = drawn m.fresh step }) file (file_behind s step) in
+      let new : Stands W Q A E n.files n.sessions n.calls (es ++ step.entries) ss = record {
+        waits = all_set (λ (x : ServedFile). AllWait W x.reads x.write) m.files (file.0 - 1) (file_behind s step) i.waits (behind_wait W step.entries step.file.layout.live s.reads s.write (wait_at m file s at i.waits));
+        table = i.table;
+        entries = all_joined E es step.entries i.entries none;
+        replies = i.replies;
+        were = i.were;
+      } in
+      cond_both (list_any is_period_end step.entries) (record n { recalls = without_file file n.recalls }) n (λ (x : MdsValue). Stands W Q A E x.files x.sessions x.calls (es ++ step.entries) ss) (λ end. new) (λ off. new)
+
+  inputs : (m : MdsValue) (file : FileId) (s : ServedFile) (input : FileInput) → served m file ≡ Some s → IsNoReturnInput input → (es : List Entry) (ss : List MdsSend) → IsSo m es ss
+      → IsSo (file_stepped m file s (phase file s.file input m.fresh)).mds (es ++ (phase file s.file input m.fresh).entries) ss
+  inputs m file s input at its es ss i = stepped m file s (phase file s.file input m.fresh) at (all_plain (phase file s.file input m.fresh).entries (phase_none file m.fresh s.file input its)) es ss i
+
+  asked : (m : MdsValue) (file : FileId) (input : FileInput) → IsNoReturnInput input → (o : Option ServedFile) → served m file ≡ o → (es : List Entry) (ss : List MdsSend) → IsSo m es ss → IsSo (input_at m file input o).mds (es ++ (input_at m file input o).entries) ss
+  asked m file input its None at es ss i = subst (λ (l : List Entry). IsSo m l ss) (sym (append-nil es)) i
+  asked m file input its (Some s) at es ss i =
+      cond_both (has_fresh m.fresh) (file_stepped m file s (phase file s.file input m.fresh)) (sends_none m) (λ (x : MdsStep). IsSo x.mds (es ++ x.entries) ss) (λ fresh. inputs m file s input at its es ss i)
+      (λ off. subst (λ (l : List Entry). IsSo m l ss) (sym (append-nil es)) i)
+
+  held : (m : MdsValue) (file : FileId) (s : ServedFile) (client : ℕ) (again : Bool) → served m file ≡ Some s → (es : List Entry) (ss : List MdsSend) → IsSo m es ss → IsSo (with_served m file (with_holder client again s)) es ss
+  held m file s client again at es ss i = set m file (with_holder client again s) m.calls es ss ss (wait_at m file s at i.waits) i.replies i.were i
+
+  makes : (m : MdsValue) (name : List ℕ) (es : List Entry) (ss : List MdsSend) → IsSo m es ss → IsSo (with_new_file m name) es ss
+  makes m name es ss i = record {
+    waits = all_push (λ (x : ServedFile). AllWait W x.reads x.write) m.files (new_served name (new_mds_file m.fresh (servers_of (length m.servers) m.mirrors (length m.files + 1)))) i.waits
+        (record { reads_so = λ r inside. absurd inside; write_so = λ w is. absurd (none-some w is) });
+    table = i.table;
+    entries = i.entries;
+    replies = i.replies;
+    were = i.were;
+  }
+
+  -- ---- what is sent
+
+  is_no_reply : MdsSend → Type 0
+  is_no_reply s = (node : NodeId) (reply : RpcReply) → Replies node reply ≡ s → ⊥
+
+  pushed : (ss : List MdsSend) (s : MdsSend) → ((node : NodeId) (reply : RpcReply) → Replies node reply ≡ s → A node reply) → ((node : NodeId) (reply : RpcReply) → In (Replies node reply) ss → A node reply)
+      → (node : NodeId) (reply : RpcReply) → In (Replies node reply) (ss ++ s ∷ []) → A node reply
+  pushed ss s new old node reply inside = by_place (in_pushed (Replies node reply) s ss inside)
+    where
+      by_place : In (Replies node reply) ss ⊎ (Replies node reply ≡ s) → A node reply
+      by_place (inl was) = old node reply was
+      by_place (inr is) = new node reply is
+
+  abbrev reply_there : MdsSend → Bool
+  reply_there (CallsServer server xid uid call) = false
+  reply_there (CallsBack xid back file stateid) = false
+  reply_there (Replies node reply) = true
+  reply_there (Answers node bytes) = false
+
+  no_reply : (s : MdsSend) → reply_there s ≡ false → (node : NodeId) (reply : RpcReply) → Replies node reply ≡ s → A node reply
+  no_reply s off node reply is = absurd (not_so (ap reply_there is ∙ off))
+    where
+      not_so : true ≡ false → ⊥
+      not_so e = absurd cc
+
+  pub sends : (m : MdsValue) (es : List Entry) (ss : List MdsSend) (s : MdsSend) → ((node : NodeId) (reply : RpcReply) → Replies node reply ≡ s → A node reply) → IsSo m es ss → IsSo m es (ss ++ s ∷ [])
+  sends m es ss s new i = record { waits = i.waits; table = i.table; entries = i.entries; replies = pushed ss s new i.replies; were = sent_more m.calls ss s i.were }
+
+  called : (m : MdsValue) (file : FileId) (t : ServedFile) (call : AwaitedCall) (es : List Entry) (ss : List MdsSend) → reply_there call.sent ≡ false → AllWait W t.reads t.write → IsSo m es ss
+      → Stands W Q A E (slice_set m.files (file.0 - 1) t) m.sessions (with_call call m.calls) (es ++ []) (ss ++ call.sent ∷ [])
+  called m file t call es ss off its i =
+      subst (λ (l : List Entry). Stands W Q A E (slice_set m.files (file.0 - 1) t) m.sessions (with_call call m.calls) l (ss ++ call.sent ∷ [])) (sym (append-nil es))
+      (set m file t (with_call call m.calls) es ss (ss ++ call.sent ∷ []) its (pushed ss call.sent (no_reply call.sent off) i.replies) (sent_with m.calls ss call i.were) i)
+
+  called_back : (m : MdsValue) (call : AwaitedCall) (es : List Entry) (ss : List MdsSend) → reply_there call.sent ≡ false → IsSo m es ss → Stands W Q A E m.files m.sessions (with_call call m.calls) (es ++ []) (ss ++ call.sent ∷ [])
+  called_back m call es ss off i =
+      subst (λ (l : List Entry). Stands W Q A E m.files m.sessions (with_call call m.calls) l (ss ++ call.sent ∷ [])) (sym (append-nil es))
+      (record { waits = i.waits; table = i.table; entries = i.entries; replies = pushed ss call.sent (no_reply call.sent off) i.replies; were = sent_with m.calls ss call i.were })
+
+  -- ---- the cases
+
+  pub cases : Cases IsSo HeardAny W
+  cases = record {
+    wait = λ m es ss i file s at. wait_at m file s at i.waits;
+    quiet = λ m confirmed opens reclaimed recalls es ss i. i;
+    tables = λ m move is es ss i. record { waits = i.waits; table = keeps m.sessions move is i.table; entries = i.entries; replies = i.replies; were = i.were };
+    answers = λ m node bytes reply is es ss i. sends m es ss (Answers node bytes) (no_reply (Answers node bytes) refl) i;
+    notes = λ m e note es ss i. record { waits = i.waits; table = i.table; entries = all_push E es e i.entries (plain e (note_no_return e note)); replies = i.replies; were = i.were };
+    puts = λ m file s t at same holder seqid write waits es ss i. set m file t m.calls es ss ss (waits (wait_at m file s at i.waits)) i.replies i.were i;
+    again_to = λ m file s client at its es ss i. held m file s client true at es ss i;
+    grants = λ m file n client t free was at es ss i.
+        held (takes_input m file (AsksLayout n)).mds file t client false at (es ++ (takes_input m file (AsksLayout n)).entries) ss (asked m file (AsksLayout n) tt (served m file) refl es ss i);
+    inputs = λ m file s input itself at fresh es ss i. inputs m file s input at (unasked_no_return input itself) es ss i;
+    timeouts = λ m file s xid at fresh es ss i. inputs m file s (TimesOut xid) at tt es ss i;
+    hears = λ m file s call server own uid c replies heard caller sent out at fresh es ss i. inputs m file s (IsAnswer call.xid (own_answer c (replies c))) at tt es ss i;
+    learns = λ m file s call server own uid c replies fileid shown heard caller sent named shows at fresh es ss i. inputs m file s (Sees (record { server = server; fileid = fileid }) shown.seen) at tt es ss i;
+    makes = λ m name may. makes m name;
+    calls_file = λ m file s c at has its es ss i.
+        called m file (record s { file = c.file }) (record { node = Server c.server; xid = m.next_xid; caller = ForFile file; sent = CallsServer c.server m.next_xid c.uid c.call }) es ss refl (wait_at m file s at i.waits) i;
+    calls_write = λ m file s w c at has waits its is_write es ss i.
+        let a : AllWait W s.reads s.write = wait_at m file s at i.waits in
+        called m file (record s { write = Some (record w { writer = c.writer }) })
+        (record { node = Server c.id.server; xid = m.next_xid; caller = ForWrite file; sent = CallsServer c.id.server m.next_xid w.writer.cred c.call }) es ss refl
+        (record { reads_so = a.reads_so; write_so = λ x one. subst (λ (y : WaitingWrite). W y.compound) (same_Some (record w { writer = c.writer }) x one) (a.write_so w waits) }) i;
+    calls_read = λ m file s t server call at has same holder seqid write waits kept uid is_read es ss i.
+        let a : AllWait W s.reads s.write = wait_at m file s at i.waits in
+        called m file t (record { node = Server server; xid = m.next_xid; caller = ForRead file; sent = CallsServer server m.next_xid 0 call }) es ss refl
+        (record { reads_so = same_wait W s.reads t.reads waits a.reads_so; write_so = λ x one. a.write_so x (sym kept ∙ one) }) i;
+    calls_back = λ m node back file stateid has es ss i. called_back m (record { node = node; xid = m.next_xid; caller = ForRecall; sent = CallsBack m.next_xid back file stateid }) es ss refl i;
+    skips = λ m has es ss i. i;
+    forgets = λ m node xid es ss i. record { waits = i.waits; table = i.table; entries = i.entries; replies = i.replies; were = sent_without node xid m.calls ss i.were };
+    was = λ m es ss i. i.were;
+    again = λ m s es ss i inside. sends m es ss s (λ node reply is. i.replies node reply (subst (λ (x : MdsSend). In x ss) (sym is) inside)) i;
+  }
+
+  -- ---- a compound that ends
+
+  slot_keeps : (m : MdsValue) (slot : Option SlotPass) (bytes : List ℕ) → Becomes IsSo m (record m { sessions = kept_in_slot m.sessions slot bytes })
+  slot_keeps m None bytes = λ es ss i. i
+  slot_keeps m (Some slot) bytes = cases.tables m (FinishRequest slot bytes) tt
+
+  abbrev parts_in : MdsSend → NodeId × RpcReply → NodeId × RpcReply
+  parts_in (CallsServer server xid uid call) other = other
+  parts_in (CallsBack xid back file stateid) other = other
+  parts_in (Replies node reply) other = (node, reply)
+  parts_in (Answers node bytes) other = other
+
+  pub own_reply : (node : NodeId) (reply : RpcReply) → A node reply → (other : NodeId) (said : RpcReply) → Replies other said ≡ Replies node reply → A other said
+  own_reply node reply its other said is =
+      let same : (other, said) ≡ (node, reply) = ap (λ (s : MdsSend). parts_in s (node, reply)) is in
+      subst (λ (p : NodeId × RpcReply). A p.0 p.1) (sym same) its
+
+  pub finish_keeps : (m : MdsValue) (c : CompoundRun) (status : Stat4) → A c.node (success_reply c.xid (compound_bytes c status)) → Keeps IsSo m (finishes m c status)
+  finish_keeps m c status its es ss i =
+      let n : MdsValue = record m { sessions = kept_in_slot m.sessions c.slot (compound_bytes c status) } in
+      let reply = success_reply c.xid (compound_bytes c status) in
+      subst (λ (l : List Entry). IsSo n l (ss ++ Replies c.node reply ∷ [])) (sym (append-nil es))
+      (sends n es ss (Replies c.node reply) (own_reply c.node reply its) (slot_keeps m c.slot (compound_bytes c status) es ss i))
+
+  waiting_done : (now : ℕ) (m : MdsValue) (c : CompoundRun) (result : Value resop4) → W c → Keeps IsSo m (resumes now (is_done_as m c result) c.ops)
+  waiting_done now m c result its =
+      let d : CompoundRun = with_result c result in
+      subst (λ (ops : List (Value argop4)). Keeps IsSo m (op_then (Goes m [] d) (λ n x. runs now ops n x))) (sym (left c its).0)
+      (subst (λ (s : Stop). Keeps IsSo m (op_then (Goes m [] d) (λ n x. op_then (stopped n (with_ops x []) s) (λ k y. sends_none k)))) (sym (left c its).1)
+      (enters_keeps IsSo m m [] (op_then (Ends m [] (with_ops d []) stat.Ok) (λ k y. sends_none k)) (stays IsSo m)
+      (enters_keeps IsSo m m [] (finishes m (with_ops d []) stat.Ok) (stays IsSo m) (finish_keeps m (with_ops d []) stat.Ok (replied c (result ∷ []) stat.Ok its)))))
+
+  pub waiting : WaitCases IsSo W
+  waiting = record {
+    done = waiting_done;
+    failed = λ now m c number its.
+        enters_keeps IsSo m m [] (finishes m (with_result c (refused_as number stat.Io)) stat.Io) (stays IsSo m) (finish_keeps m (with_result c (refused_as number stat.Io)) stat.Io (replied c (refused_as number stat.Io ∷ []) stat.Io its));
+  }
+
+  -- ---- the operations of a compound
+
+  op_keeps : (m : MdsValue) (c : CompoundRun) (s : OpStep) (next : MdsValue → CompoundRun → MdsStep) → KeepsOp IsSo m s → StepsLike c s
+      → ((d : CompoundRun) (status : Stat4) → Like c d → A d.node (success_reply d.xid (compound_bytes d status))) → ((n : MdsValue) (d : CompoundRun) → Like c d → Keeps IsSo n (next n d)) → Keeps IsSo m (op_then s next)
+  op_keeps m c (Goes n entries d) next q like mine all = enters_keeps IsSo m n entries (next n d) q (all n d like)
+  op_keeps m c (Ends n entries d status) next q like mine all = enters_keeps IsSo m n entries (finishes n d status) q (finish_keeps n d status (mine d status like))
+  op_keeps m c (Waits n entries) next q like mine all = enters_keeps IsSo m n entries (sends_none n) q (same IsSo n)
+
+  returned_any : ((e : Entry) → E e) → (m : MdsValue) (file : FileId) (s : ServedFile) (n : ℕ) (cred : Cred) (places : List Bool) → TakesInput IsSo m file s (Returns n cred places)
+  returned_any any m file s n cred places at fresh es ss i = stepped m file s (phase file s.file (Returns n cred places) m.fresh) at (all_any any (phase file s.file (Returns n cred places) m.fresh).entries) es ss i
+
+  operate_keeps : (now : ℕ) (m : MdsValue) (c : CompoundRun) (op : Value argop4) → (is_waiting_op (arm_of argop4 op) ≡ true → W c) → ((arm_of argop4 op == 51) ≡ true → (e : Entry) → E e) → KeepsOp IsSo m (operate now m c op)
+  operate_keeps now m c op =
+      of_each_arm argop4 (λ (v : Value argop4). (is_waiting_op (arm_of argop4 v) ≡ true → W c) → ((arm_of argop4 v == 51) ≡ true → (e : Entry) → E e) → KeepsOp IsSo m (operate now m c v)) (
+        (λ close waits any. closes_file IsSo HeardAny W cases m c close),
+        (
+          (λ commit waits any. commits IsSo HeardAny W cases m c),
+          (
+            (λ words waits any. gets_attr IsSo HeardAny W cases m c words),
+            (
+              (λ nothing waits any. gets_fh IsSo HeardAny W cases m c),
+              (
+                (λ name waits any. looks_up IsSo HeardAny W cases m c name),
+                (
+                  (λ opening waits any. opens IsSo HeardAny W cases m c opening),
+                  (
+                    (λ handle waits any. puts_fh IsSo HeardAny W cases m c handle),
+                    (
+                      (λ nothing waits any. stays IsSo m),
+                      (
+                        (λ read waits any. reads IsSo HeardAny W cases m c read (waits refl)),
+                        (
+                          (λ write waits any. writes IsSo HeardAny W cases m c now write (waits refl)),
+                          (
+                            (λ bind waits any. binds IsSo HeardAny W cases m c bind),
+                            (
+                              (λ exchange waits any. exchanges IsSo HeardAny W cases m c now exchange),
+                              (
+                                (λ create waits any. creates IsSo HeardAny W cases m c now create),
+                                (
+                                  (λ session waits any. destroys_session IsSo HeardAny W cases m c session),
+                                  (
+                                    (λ device waits any. device_infos IsSo HeardAny W cases m c device),
+                                    (
+                                      (λ commit waits any. layout_commits IsSo HeardAny W cases m c commit),
+                                      (
+                                        (λ layout waits any. layout_gets IsSo HeardAny W cases m c now layout),
+                                        (
+                                          (λ layout waits any. layout_returns IsSo HeardAny W cases (returned_any (any refl)) m c layout),
+                                          (
+                                            (λ sequence waits any. stays IsSo m),
+                                            (
+                                              (λ client waits any. destroys_client IsSo HeardAny W cases m c client),
+                                              ((λ one_fs waits any. reclaims_all IsSo HeardAny W cases m c c.slot), tt),
+                                            ),
+                                          ),
+                                        ),
+                                      ),
+                                    ),
+                                  ),
+                                ),
+                              ),
+                            ),
+                          ),
+                        ),
+                      ),
+                    ),
+                  ),
+                ),
+              ),
+            ),
+          ),
+        ),
+      ) op
+
+  operates_keeps : (now : ℕ) (m : MdsValue) (c : CompoundRun) (op : Value argop4) → (is_waiting_op (arm_of argop4 op) ≡ true → W c) → ((arm_of argop4 op == 51) ≡ true → (e : Entry) → E e) → KeepsOp IsSo m (operates now m c op)
+  operates_keeps now m c op waits any =
+      cond_both (has_session m c.slot) (operate now m c op) (refuses m c (arm_of argop4 op) stat.BadSession) (λ (s : OpStep). KeepsOp IsSo m s) (λ is. operate_keeps now m c op waits any) (λ off. stays IsSo m)
+
+  -- only the last one waits, and only where anything may be entered a LAYOUTRETURN is among them
+  pub record FineOp (op : Value argop4) (ops : List (Value argop4)) : Type 0 where
+    pub last : is_waiting_op (arm_of argop4 op) ≡ true → ops ≡ []
+    pub any : (arm_of argop4 op == 51) ≡ true → (e : Entry) → E e
+
+  abbrev pub AreFine : List (Value argop4) → Type 0
+  AreFine [] = Unit {0}
+  AreFine (op ∷ ops) = FineOp op ops × AreFine ops
+
+  with_ops_like : (c : CompoundRun) (ops : List (Value argop4)) → Like c (with_ops c ops)
+  with_ops_like c ops = record { node = refl; xid = refl; tag = refl; stop = refl; slot = refl; more = []; results = sym (append-nil c.results) }
+
+  -- none is left
+  end_keeps : (now : ℕ) (m : MdsValue) (c : CompoundRun) → c.stop ≡ stop.End None → ((d : CompoundRun) (status : Stat4) → Like c d → A d.node (success_reply d.xid (compound_bytes d status))) → Keeps IsSo m (runs now [] m c)
+  end_keeps now m c end mine =
+      subst (λ (s : Stop). Keeps IsSo m (op_then (stopped m (with_ops c []) s) (λ n d. sends_none n))) (sym end)
+      (enters_keeps IsSo m m [] (finishes m (with_ops c []) stat.Ok) (stays IsSo m) (finish_keeps m (with_ops c []) stat.Ok (mine (with_ops c []) stat.Ok (with_ops_like c []))))
+
+  pub run_keeps : (now : ℕ) (ops : List (Value argop4)) → AreFine ops → (m : MdsValue) (c : CompoundRun) → c.stop ≡ stop.End None
+      → ((d : CompoundRun) (status : Stat4) → Like c d → A d.node (success_reply d.xid (compound_bytes d status))) → ((d : CompoundRun) → Like c d → d.ops ≡ [] → has_waiting ops ≡ true → W d) → Keeps IsSo m (runs now ops m c)
+  run_keeps now [] fine m c end mine waits = end_keeps now m c end mine
+  run_keeps now (op ∷ ops) fine m c end mine waits =
+      let x : CompoundRun = with_ops c ops in
+      let like : Like c x = with_ops_like c ops in
+      op_keeps m x (operates now m x op) (λ n d. runs now ops n d) (operates_keeps now m x op (λ is. waits x like (fine.0.last is) (ap (λ (b : Bool). b || has_waiting ops) is)) fine.0.any) (operates_like now m x op) (λ d status l. mine d status (like_then c x d like l))
+      (λ n d l. run_keeps now ops fine.1 n d (l.stop ∙ end) (λ y status r. mine y status (like_then c d y (like_then c x d like l) r)) (λ y r none some. waits y (like_then c d y (like_then c x d like l) r) none (or_true (is_waiting_op (arm_of argop4 op)) (has_waiting ops) some)))
+
+  -- an operation without a SEQUENCE, alone
+  pub alone_keeps : (now : ℕ) (m : MdsValue) (c : CompoundRun) (op : Value argop4) → is_waiting_op (arm_of argop4 op) ≡ false → (arm_of argop4 op == 51) ≡ false → c.stop ≡ stop.End None
+      → ((d : CompoundRun) (status : Stat4) → Like c d → A d.node (success_reply d.xid (compound_bytes d status)))
+      → Keeps IsSo m (op_then (operate now m (with_ops c []) op) (λ n d. runs now [] n d))
+  alone_keeps now m c op quick other end mine =
+      let x : CompoundRun = with_ops c [] in
+      let like : Like c x = with_ops_like c [] in
+      op_keeps m x (operate now m x op) (λ n d. runs now [] n d) (operate_keeps now m x op (λ is. absurd (not_so (sym quick ∙ is))) (λ is. absurd (not_so (sym other ∙ is)))) (operate_like now m x op)
+      (λ d status l. mine d status (like_then c x d like l))
+      (λ n d l. end_keeps now n d (l.stop ∙ end) (λ y status r. mine y status (like_then c d y (like_then c x d like l) r)))
+    where
+      not_so : false ≡ true → ⊥
+      not_so e = absurd cc
+
+  -- the calls that go out behind it
+  pub out_keeps : (m : MdsValue) (s : MdsStep) → Keeps IsSo m s → Keeps IsSo m (and_then s (calls_out []))
+  out_keeps m s q = then_keeps IsSo m s (calls_out []) q (λ n. out_walk IsSo (out_of IsSo HeardAny W cases) [] n)
+
+  -- ---- an event that brings no compound
+
+  begun_same : (now : ℕ) (m : MdsValue) (from : NodeId) (v : IncomingValue) → ((xid : ℕ) (c : CompoundValue) → v ≡ IsCompound xid c → ⊥) → Becomes IsSo m (Rattle.mds_laws.proofs.Requested.behind_request now m from (request_in v))
+  begun_same now m from PassedOver none = λ es ss i. i
+  begun_same now m from (IsReply reply) none = λ es ss i. i
+  begun_same now m from (IsAnswered bytes) none = λ es ss i. i
+  begun_same now m from (IsCompound xid c) none = absurd (none xid c refl)
+
+  abbrev pub BringsNone : MdsInput → Type 0
+  BringsNone (Hears from bytes) = (xid : ℕ) (c : CompoundValue) → incoming_of bytes ≡ IsCompound xid c → ⊥
+  BringsNone input = Unit {0}
+
+  begin_same : (now : ℕ) (input : MdsInput) (m : MdsValue) → BringsNone input → Becomes IsSo m (behind_begin now input m)
+  begin_same now (Hears from bytes) m none = begun_same now m from (incoming_of bytes) none
+  begin_same now (IsTimedOut to) m none = λ es ss i. i
+  begin_same now IsTick m none = λ es ss i. i
+  begin_same now (RecallsFile file) m none = λ es ss i. i
+  begin_same now (Resilvers file) m none = λ es ss i. i
+
+  runs_none : (now : ℕ) (input : MdsInput) (m : MdsValue) → BringsNone input → RunsSo IsSo HeardAny W cases waiting now input m
+  runs_none now (Hears from bytes) m none = λ xid c is. absurd (none xid c is)
+  runs_none now (IsTimedOut to) m none = tt
+  runs_none now IsTick m none = tt
+  runs_none now (RecallsFile file) m none = tt
+  runs_none now (Resilvers file) m none = tt
+
+  pub other_keeps : (e : MdsEvent) (m : MdsValue) → BringsNone e.input → Keeps IsSo m (after_event e m)
+  other_keeps e m none =
+      becomes_keeps IsSo m (behind_begin e.now e.input m) (by_input e.now e.input m) (begin_same e.now e.input m none)
+      (input_walk IsSo HeardAny W cases waiting e.now e.input m (hears_any IsSo e.input) (runs_none e.now e.input m none))
