@@ -79,7 +79,7 @@ module _ (I : MdsValue → List Entry → List MdsSend → Type 0) (Heard : Hear
       let n : MdsValue = record m { sessions = kept_in_slot m.sessions c.slot (compound_bytes c status) } in
       let reply = success_reply c.xid (compound_bytes c status) in
       subst (λ (l : List Entry). I n l (ss ++ Replies c.node reply ∷ [])) (sym (append-nil es))
-      (r.replies n c.node reply es ss (slot_walk m c.slot (compound_bytes c status) es ss i))
+      (r.replies n c.node c.xid (compound_bytes c status) es ss (slot_walk m c.slot (compound_bytes c status) es ss i))
 
   op_walk : (m : MdsValue) (s : OpStep) (next : MdsValue → CompoundRun → MdsStep) → KeepsOp I m s → ((n : MdsValue) (d : CompoundRun) → Keeps I n (next n d)) → Keeps I m (op_then s next)
   op_walk m (Goes n entries c) next q all = enters_keeps I m n entries (next n c) q (all n c)
@@ -173,7 +173,7 @@ module _ (I : MdsValue → List Entry → List MdsSend → Type 0) (Heard : Hear
       → Keeps I (record m { sessions = table_begun m.sessions (after_request m.sessions s now) a }) (sequenced now m c ops s a)
   sequence_walk now m c ops s TakesEffect = run_walk now ops (record m { sessions = after_request m.sessions s now }) (in_slot c s)
   sequence_walk now m c ops s (Repeats reply) =
-      λ es ss i. subst (λ (l : List Entry). I m l (ss ++ Replies c.node (success_reply c.xid reply) ∷ [])) (sym (append-nil es)) (r.replies m c.node (success_reply c.xid reply) es ss i)
+      λ es ss i. subst (λ (l : List Entry). I m l (ss ++ Replies c.node (success_reply c.xid reply) ∷ [])) (sym (append-nil es)) (r.replies m c.node c.xid reply es ss i)
   sequence_walk now m c ops s (Refuses status) = finish_walk m (with_result c (refused_as 53 status)) status
 
   first_walk : (now : ℕ) (m : MdsValue) (c : CompoundRun) (count : ℕ) (op : Value argop4) (ops : List (Value argop4)) (o : Option (Value sequence4_args))

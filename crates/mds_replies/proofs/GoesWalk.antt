@@ -13,7 +13,7 @@ use Rattle.cluster_model.specs.declared.phase.EndCause.TheVariants.{Lease, Recal
 use Rattle.cluster_model.specs.declared.entry.Entry.{Entry}
 use Rattle.cluster_model.specs.declared.entry.Entry.TheVariants as entry
 use Rattle.file_rule.specs.FilePhases.{CallOut, call_out, Revokes, Resilver, Ticks}
-use Rattle.rpc_record.specs.Replies.{RpcReply, reply_bytes}
+use Rattle.rpc_record.specs.Replies.{RpcReply}
 use Rattle.ds_calls.specs.GivenReplies.{reply_of_call}
 use Rattle.recall_calls.specs.RecallAnswers.{recall_status}
 use Rattle.mds_io.specs.Reads.{ReadSends}
@@ -43,18 +43,13 @@ use Rattle.nfs4_types.specs.declared.sequence.Sequence.{Sequence}
 use Rattle.nfs4_session.specs.TableLaw.{Bind}
 use Rattle.mds_laws.proofs.Requested.{behind_request, behind_begin, KeepsBegin}
 use Rattle.mds_laws.proofs.Keeping.{Becomes, Keeps, KeepsBehind, HeardOf, HeardAny, Hearing, HearsSo, hears_any, then_keeps, none_keeps, same, becomes_keeps, silent_keeps, then_behind, behind_then, enters_behind, moved}
-use Rattle.mds_replies.proofs.HolderCases.{Cases, RunCases, WaitCases, OutCases, out_of}
+use Rattle.mds_replies.proofs.HolderCases.{Cases, RunCases, GivesAnswers, WaitCases, OutCases, out_of}
 use Rattle.mds_replies.proofs.WaitingCompounds.{set_same}
 use Rattle.mds_laws.proofs.Lists.{In, found_in}
 use Rattle.mds_replies.proofs.ServedWalk.{takes, asks, client_ends, recalls_become}
 use Rattle.mds_laws.proofs.OpsWalk.{old_write}
 use Rattle.mds_laws.proofs.WriterKept.{sends_of, read_of}
 use Rattle.mds_replies.proofs.CompoundWalk.{waiting_walk, compound_walk, answer_walk, timeout_walk}
-
--- it is the record of a reply
-record IsReplyRecord (bytes : List ℕ) : Type 0 where
-  reply : RpcReply
-  is : bytes ≡ reply_bytes reply
 
 module _ (I : MdsValue → List Entry → List MdsSend → Type 0) (k : OutCases I) where
   each_walk : {A : Type 0} (step : A → MdsValue → MdsStep) → ((a : A) (m : MdsValue) → Keeps I m (step a m)) → (list : List A) (m : MdsValue) → Keeps I m (each step list m)
@@ -174,15 +169,14 @@ module _ (I : MdsValue → List Entry → List MdsSend → Type 0) (Heard : Hear
   -- ---- events
 
   incoming_walk : (now : ℕ) (m : MdsValue) (node : NodeId) (v : IncomingValue) → ((reply : RpcReply) → v ≡ IsReply reply → Hearing I Heard node reply.xid (λ call. reply_of_call call reply))
-      → ((bytes : List ℕ) → v ≡ IsAnswered bytes → IsReplyRecord bytes)
+      → ((bytes : List ℕ) → v ≡ IsAnswered bytes → (es : List Entry) (ss : List MdsSend) → I m es ss → I m es (ss ++ Answers node bytes ∷ []))
       → ((xid : ℕ) (c : CompoundValue) → v ≡ IsCompound xid c → Keeps I (behind_request now m node (first_request c.ops.values)) (runs_compound now m node xid c)) → Keeps I (behind_request now m node (request_in v)) (takes_incoming now m node v)
   incoming_walk now m node PassedOver hearing replied run = same I m
   incoming_walk now m node (IsReply reply) hearing replied run =
       then_keeps I m (takes_answer now m node reply.xid (λ call. reply_of_call call reply) (recall_status reply.stat reply.results)) (calls_out [])
       (answer_walk I Heard W k g now m node reply.xid (λ call. reply_of_call call reply) (recall_status reply.stat reply.results) (hearing reply refl)) (λ n. out_walk I (out_of I Heard W k) [] n)
   incoming_walk now m node (IsAnswered bytes) hearing replied run =
-      let r : IsReplyRecord bytes = replied bytes refl in
-      λ es ss i. subst (λ (l : List Entry). I m l (ss ++ Answers node bytes ∷ [])) (sym (append-nil es)) (k.answers m node bytes r.reply r.is es ss i)
+      λ es ss i. subst (λ (l : List Entry). I m l (ss ++ Answers node bytes ∷ [])) (sym (append-nil es)) (replied bytes refl es ss i)
   incoming_walk now m node (IsCompound xid v) hearing replied run =
       then_keeps I (behind_request now m node (first_request v.ops.values)) (runs_compound now m node xid v) (calls_out []) (run xid v refl) (λ n. out_walk I (out_of I Heard W k) [] n)
 
@@ -249,10 +243,11 @@ module _ (I : MdsValue → List Entry → List MdsSend → Type 0) (Heard : Hear
       then_keeps I m (and_then leases (λ n. recalls_expire now (length n.recalls) n)) files_tick
       (then_keeps I m leases (λ n. recalls_expire now (length n.recalls) n) (leases_walk now (length m.sessions.clients) m) (λ n. recalls_walk now (length n.recalls) n)) (λ n. files_walk n)
 
-  -- of the compound that an event brings
+  -- of the compound that an event brings, and of what is answered at once
   abbrev pub RunsSo : ℕ → MdsInput → MdsValue → Type 0
   RunsSo now (Hears from bytes) m =
-      (xid : ℕ) (c : CompoundValue) → incoming_of bytes ≡ IsCompound xid c → Keeps I (behind_request now m from (first_request c.ops.values)) (runs_compound now m from xid c)
+      ((xid : ℕ) (c : CompoundValue) → incoming_of bytes ≡ IsCompound xid c → Keeps I (behind_request now m from (first_request c.ops.values)) (runs_compound now m from xid c))
+      × ((given : List ℕ) → incoming_of bytes ≡ IsAnswered given → (es : List Entry) (ss : List MdsSend) → I m es ss → I m es (ss ++ Answers from given ∷ []))
   RunsSo now (IsTimedOut to) m = Unit {0}
   RunsSo now IsTick m = Unit {0}
   RunsSo now (RecallsFile file) m = Unit {0}
@@ -260,7 +255,7 @@ module _ (I : MdsValue → List Entry → List MdsSend → Type 0) (Heard : Hear
 
   -- of an event, behind what the request that it makes leaves of the table of clients
   pub input_walk : (now : ℕ) (input : MdsInput) (m : MdsValue) → HearsSo I Heard input → RunsSo now input m → Keeps I (behind_begin now input m) (by_input now input m)
-  input_walk now (Hears from bytes) m hears run = incoming_walk now m from (incoming_of bytes) hears (λ given is. let u = answers_numbered bytes given is in record { reply = u.said; is = u.spelled }) run
+  input_walk now (Hears from bytes) m hears run = incoming_walk now m from (incoming_of bytes) hears run.1 run.0
   input_walk now (IsTimedOut to) m hears run = timeouts_walk now m to
   input_walk now IsTick m hears run = tick_walk now m
   input_walk now (RecallsFile file) m hears run = then_keeps I m (asks_back m file now) (calls_out []) (silent_keeps I m (asks_back m file now) (asks I Heard W k m file now)) (λ n. out_walk I (out_of I Heard W k) [] n)
@@ -277,7 +272,7 @@ module _ (I : MdsValue → List Entry → List MdsSend → Type 0) (Heard : Hear
       let n : MdsValue = moved m (Bind request.session from) in
       λ es ss i. begins n request now es ss (k.tables m (Bind request.session from) tt es ss i)
 
-  begin_kept : (now : ℕ) (input : MdsInput) (m : MdsValue) → Becomes I m (behind_begin now input m)
+  pub begin_kept : (now : ℕ) (input : MdsInput) (m : MdsValue) → Becomes I m (behind_begin now input m)
   begin_kept now (Hears from bytes) m = request_kept now m from (request_in (incoming_of bytes))
   begin_kept now (IsTimedOut to) m = λ es ss i. i
   begin_kept now IsTick m = λ es ss i. i
@@ -286,9 +281,9 @@ module _ (I : MdsValue → List Entry → List MdsSend → Type 0) (Heard : Hear
 
 -- ---- an event, and each run of a new server
 
-module _ (I : MdsValue → List Entry → List MdsSend → Type 0) (Heard : HeardOf) (W : CompoundRun → Type 0) (k : Cases I Heard W) (r : RunCases I W) (begins : KeepsBegin I) where
+module _ (I : MdsValue → List Entry → List MdsSend → Type 0) (Heard : HeardOf) (W : CompoundRun → Type 0) (k : Cases I Heard W) (r : RunCases I W) (gives : GivesAnswers I) (begins : KeepsBegin I) where
   runs_so : (now : ℕ) (input : MdsInput) (m : MdsValue) → RunsSo I Heard W k (waiting_walk I Heard W k r) now input m
-  runs_so now (Hears from bytes) m = λ xid c is. compound_walk I Heard W k r now m from xid c
+  runs_so now (Hears from bytes) m = (λ xid c is. compound_walk I Heard W k r now m from xid c, λ given is. let u = answers_numbered bytes given is in gives m from given u.said u.spelled)
   runs_so now (IsTimedOut to) m = tt
   runs_so now IsTick m = tt
   runs_so now (RecallsFile file) m = tt
@@ -297,10 +292,10 @@ module _ (I : MdsValue → List Entry → List MdsSend → Type 0) (Heard : Hear
   pub event_walk : (e : MdsEvent) → HearsSo I Heard e.input → (m : MdsValue) → Keeps I m (after_event e m)
   event_walk e hears m = becomes_keeps I m (behind_begin e.now e.input m) (after_event e m) (begin_kept I Heard W k begins e.now e.input m) (input_walk I Heard W k (waiting_walk I Heard W k r) e.now e.input m hears (runs_so e.now e.input m))
 
-module _ (I : MdsValue → List Entry → List MdsSend → Type 0) (W : CompoundRun → Type 0) (k : Cases I HeardAny W) (r : RunCases I W) (begins : KeepsBegin I) where
+module _ (I : MdsValue → List Entry → List MdsSend → Type 0) (W : CompoundRun → Type 0) (k : Cases I HeardAny W) (r : RunCases I W) (gives : GivesAnswers I) (begins : KeepsBegin I) where
   pub run_walk : (events : List MdsEvent) (m : MdsValue) → Keeps I m (run_from m events)
   run_walk [] m = same I m
-  run_walk (e ∷ events) m = then_keeps I m (after_event e m) (λ n. run_from n events) (event_walk I HeardAny W k r begins e (hears_any I e.input) m) (λ n. run_walk events n)
+  run_walk (e ∷ events) m = then_keeps I m (after_event e m) (λ n. run_from n events) (event_walk I HeardAny W k r gives begins e (hears_any I e.input) m) (λ n. run_walk events n)
 
   -- what holds of a new server holds behind every run
   pub in_each_run : (m : MdsValue) (events : List MdsEvent) → I m [] [] → I (run_from m events).mds (run_from m events).entries (run_from m events).sends

@@ -3,6 +3,7 @@
 use Rattle.std.proofs.Common.{◌≡◌, ℕ, Bool, true, false, List, [], ◌∷◌, ◌++◌, Option, Some}
 use Rattle.ff_xdr.specs.Form.{Value}
 use Rattle.rpc_record.specs.Replies.{RpcReply, reply_bytes}
+use Rattle.compound_reply.specs.Replied.{success_reply}
 use Rattle.cluster_model.specs.declared.ids.NodeId.{NodeId}
 use Rattle.cluster_model.specs.declared.ids.FileId.{FileId}
 use Rattle.cluster_model.specs.declared.ids.Cred.{Cred}
@@ -67,8 +68,6 @@ pub record Cases (I : MdsValue → List Entry → List MdsSend → Type 0) (Hear
       → Becomes I m (record m { confirmed = confirmed; opens = opens; reclaimed = reclaimed; recalls = recalls })
   -- nothing but sessions does, by a call of their table
   pub tables : (m : MdsValue) (move : TableMove) → IsNoRequest move → Becomes I m (moved m move)
-  -- what is answered at once is answered by a reply
-  pub answers : (m : MdsValue) (node : NodeId) (bytes : List ℕ) (reply : RpcReply) → bytes ≡ reply_bytes reply → (es : List Entry) (ss : List MdsSend) → I m es ss → I m es (ss ++ Answers node bytes ∷ [])
   pub notes : (m : MdsValue) (e : Entry) → is_note e ≡ true → Enters I m m (e ∷ [])
   -- a file is put back as it stands, with other things beside it
   pub puts : (m : MdsValue) (file : FileId) (s t : ServedFile) → served m file ≡ Some s → t.file ≡ s.file → t.holder ≡ s.holder → t.seqid ≡ s.seqid
@@ -109,9 +108,13 @@ pub record Cases (I : MdsValue → List Entry → List MdsSend → Type 0) (Hear
   pub was : (m : MdsValue) (es : List Entry) (ss : List MdsSend) → I m es ss → (call : AwaitedCall) → In call m.calls → In call.sent ss
   pub again : (m : MdsValue) (s : MdsSend) (es : List Entry) (ss : List MdsSend) → I m es ss → In s ss → I m es (ss ++ s ∷ [])
 
--- where compounds are run: what they reply, and the returns in them
+-- what is answered at once is answered by a reply
+abbrev pub GivesAnswers : (MdsValue → List Entry → List MdsSend → Type 0) → Type 0
+GivesAnswers I = (m : MdsValue) (node : NodeId) (bytes : List ℕ) (reply : RpcReply) → bytes ≡ reply_bytes reply → (es : List Entry) (ss : List MdsSend) → I m es ss → I m es (ss ++ Answers node bytes ∷ [])
+
+-- where compounds are run: what they reply, which is of success, and the returns in them
 pub record RunCases (I : MdsValue → List Entry → List MdsSend → Type 0) (W : CompoundRun → Type 0) : Type 0 where
-  pub replies : (m : MdsValue) (node : NodeId) (reply : RpcReply) (es : List Entry) (ss : List MdsSend) → I m es ss → I m es (ss ++ Replies node reply ∷ [])
+  pub replies : (m : MdsValue) (node : NodeId) (xid : ℕ) (results : List ℕ) (es : List Entry) (ss : List MdsSend) → I m es ss → I m es (ss ++ Replies node (success_reply xid results) ∷ [])
   pub returns : (m : MdsValue) (file : FileId) (s : ServedFile) (n : ℕ) (cred : Cred) (places : List Bool) → TakesInput I m file s (Returns n cred places)
   pub any : (c : CompoundRun) → W c
 

@@ -5,6 +5,7 @@ use Rattle.std.specs.Prelude.{◌==◌, nat_lt, ◌&&◌, slice_set}
 use Rattle.std.specs.List.{list_any}
 use Rattle.std.proofs.lemmas.Bool.{cond_both, and_parts, ltb-true, lt-ltb, eq-eqb}
 use Rattle.std.proofs.lemmas.Option.{same_Some, none-some}
+use Rattle.compound_reply.specs.Replied.{success_reply}
 use Rattle.cluster_model.specs.declared.ids.NodeId.{NodeId}
 use Rattle.cluster_model.specs.declared.ids.NodeId.TheVariants.{Server, Client}
 use Rattle.cluster_model.specs.declared.ids.FileId.{FileId}
@@ -262,7 +263,6 @@ cases = record {
   wait = λ m es ss i file s at. record { reads_so = λ r inside. tt; write_so = λ w is. tt };
   quiet = λ m confirmed opens reclaimed recalls es ss i. i;
   tables = λ m move is es ss i. i;
-  answers = λ m node bytes reply is es ss i. sends m ss (Answers node bytes) i;
   notes = λ m e note es ss i. i;
   puts = λ m file s t at same holder seqid write waits es ss i. puts m file s t m.calls ss ss at same holder seqid i.were i;
   again_to = λ m file s client at its es ss i. again_to m file s client at its ss i;
@@ -297,14 +297,14 @@ cases = record {
 
 runs : RunCases IsSo AnyCompound
 runs = record {
-  replies = λ m node reply es ss i. sends m ss (Replies node reply) i;
+  replies = λ m node xid results es ss i. sends m ss (Replies node (success_reply xid results)) i;
   returns = λ m file s n cred places at fresh es ss i. inputs m file s (Returns n cred places) at es ss i;
   any = λ c. tt;
 }
 
 behind_run : (servers : List AddressValue) (mirrors : ℕ) (events : List MdsEvent) → Stands (mds_run servers mirrors events).mds.fresh (mds_run servers mirrors events).mds.files (mds_run servers mirrors events).mds.calls (mds_run servers mirrors events).sends
 behind_run servers mirrors events =
-    in_each_run IsSo AnyCompound cases runs (λ m request now es ss i. i) (new_mds servers mirrors) events
+    in_each_run IsSo AnyCompound cases runs (λ m node bytes reply is es ss i. sends m ss (Answers node bytes) i) (λ m request now es ss i. i) (new_mds servers mirrors) events
     (record { drawn_from_first = omega arith; agree = tt; fits = tt; seqids = tt; holders = λ fresh. tt; were = λ call inside. absurd inside })
 
 -- ---- behind each run

@@ -42,3 +42,5 @@ pub mod SlotTables
 pub mod SlotHistories
 pub mod JudgedRequests
 pub mod RequestRuns
+pub mod GivenSends
+pub mod AskedRuns

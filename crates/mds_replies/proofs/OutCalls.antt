@@ -1,5 +1,6 @@
 -- The calls that go out are no replies.
 use Rattle.std.proofs.Common.{◌≡◌, ℕ, List, [], ◌∷◌, ◌++◌, subst, inl, inr, ◌⊎◌, sym}
+use Rattle.compound_reply.specs.Replied.{success_reply}
 use Rattle.cluster_model.specs.declared.ids.NodeId.TheVariants.{Server}
 use Rattle.cluster_model.specs.declared.entry.Entry.{Entry}
 use Rattle.device_addr.specs.Universal.{AddressValue}
@@ -74,7 +75,6 @@ cases = record {
   wait = λ m es ss i file s at. record { reads_so = λ r inside. tt; write_so = λ w is. tt };
   quiet = λ m confirmed opens reclaimed recalls es ss i. i;
   tables = λ m move is es ss i. i;
-  answers = λ m node bytes reply is es ss i. sends m.calls ss (Answers node bytes) i;
   notes = λ m e note es ss i. i;
   puts = λ m other s t at same holder seqid write waits es ss i. i;
   again_to = λ m file s client at its es ss i. i;
@@ -98,13 +98,13 @@ cases = record {
 
 runs : RunCases IsSo AnyCompound
 runs = record {
-  replies = λ m node reply es ss i. sends m.calls ss (Replies node reply) i;
+  replies = λ m node xid results es ss i. sends m.calls ss (Replies node (success_reply xid results)) i;
   returns = λ m file s n cred places at fresh es ss i. behind m file s (phase file s.file (Returns n cred places) m.fresh) es ss i;
   any = λ c. tt;
 }
 
 pub are_called : (servers : List AddressValue) (mirrors : ℕ) (events : List MdsEvent) → AreCalled (mds_run servers mirrors events).mds.calls
-are_called servers mirrors events = (in_each_run IsSo AnyCompound cases runs (λ m request now es ss i. i) (new_mds servers mirrors) events (record { called = λ call inside. absurd inside; were = λ call inside. absurd inside })).called
+are_called servers mirrors events = (in_each_run IsSo AnyCompound cases runs (λ m node bytes reply is es ss i. sends m.calls ss (Answers node bytes) i) (λ m request now es ss i. i) (new_mds servers mirrors) events (record { called = λ call inside. absurd inside; were = λ call inside. absurd inside })).called
 
 -- the end of a client awaits no call
 pub gone_called : (client : Option ℕ) (m : MdsValue) → AreCalled m.calls → AreCalled (gone_with client m).mds.calls

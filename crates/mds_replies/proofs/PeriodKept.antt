@@ -6,6 +6,7 @@ use Rattle.std.specs.List.{list_any}
 use Rattle.std.proofs.lemmas.Bool.{cond_both, cases_eq}
 use Rattle.std.proofs.lemmas.List.{append-nil}
 use Rattle.std.proofs.lemmas.Option.{same_Some}
+use Rattle.compound_reply.specs.Replied.{success_reply}
 use Rattle.cluster_model.specs.declared.ids.NodeId.TheVariants.{Server}
 use Rattle.cluster_model.specs.declared.ids.FileId.{FileId}
 use Rattle.cluster_model.specs.declared.entry.Entry.{Entry}
@@ -244,7 +245,6 @@ module _ (file : FileId) (client uid : ℕ) where
     wait = λ m es ss i file s at. record { reads_so = λ r inside. tt; write_so = λ w is. tt };
     quiet = λ m confirmed opens reclaimed recalls es ss i. i;
     tables = λ m move is es ss i. i;
-    answers = λ m node bytes reply is es ss i. sends m.files m.calls es ss (Answers node bytes) i;
     notes = λ m e note es ss i. record { agree = i.agree; goes = goes_more m.files es (e ∷ []) i.goes; were = i.were };
     puts = λ m other s t at same holder seqid write waits es ss i. puts m.files m.calls es ss other s t at same holder i;
     again_to = again;
@@ -274,11 +274,11 @@ module _ (file : FileId) (client uid : ℕ) where
 
   runs : RunCases IsSo AnyCompound
   runs = record {
-    replies = λ m node reply es ss i. sends m.files m.calls es ss (Replies node reply) i;
+    replies = λ m node xid results es ss i. sends m.files m.calls es ss (Replies node (success_reply xid results)) i;
     returns = λ m other s n cred places at fresh es ss i. inputs m other s (Returns n cred places) at es ss i;
     any = λ c. tt;
   }
 
   pub run_goes : (m : MdsValue) (events : List MdsEvent) → AllOf FileAgrees m.files → Has file client uid m.files → Goes (run_from m events).mds.files (run_from m events).entries
   run_goes m events agree has =
-      (run_walk IsSo AnyCompound cases runs (λ n request now es ss i. i) events m [] (sent_with_calls m.calls) (record { agree = agree; goes = inl has; were = λ call inside. in_sent call m.calls inside })).goes
+      (run_walk IsSo AnyCompound cases runs (λ m node bytes reply is es ss i. sends m.files m.calls es ss (Answers node bytes) i) (λ n request now es ss i. i) events m [] (sent_with_calls m.calls) (record { agree = agree; goes = inl has; were = λ call inside. in_sent call m.calls inside })).goes

@@ -449,7 +449,7 @@ module _ (numbered : EffectsAreNumbered) (servers : List AddressValue) (mirrors 
 
 -- ---- a run
 
-fit_at : (past more : List MdsEvent) (e : MdsEvent) → AreFitCalls (past ++ e ∷ more) → HearsFitCall e.input
+pub fit_at : (past more : List MdsEvent) (e : MdsEvent) → AreFitCalls (past ++ e ∷ more) → HearsFitCall e.input
 fit_at [] more e fit = fit.0
 fit_at (x ∷ past) more e fit = fit_at past more e fit.1
 

@@ -2,6 +2,7 @@
 use Rattle.std.proofs.Common.{List, [], ◌∷◌, ◌++◌, Option, Some, None}
 use Rattle.std.specs.List.{list_any}
 use Rattle.std.proofs.lemmas.Bool.{cond_both}
+use Rattle.compound_reply.specs.Replied.{success_reply}
 use Rattle.cluster_model.specs.declared.ids.NodeId.TheVariants.{Server}
 use Rattle.cluster_model.specs.declared.ids.FileId.{FileId}
 use Rattle.cluster_model.specs.declared.entry.Entry.{Entry}
@@ -52,7 +53,6 @@ module _ (P : SessionsState → Type 0) (keeps : (s : SessionsState) (move : Tab
     wait = λ m es ss i file s at. record { reads_so = λ r inside. tt; write_so = λ w is. tt };
     quiet = λ m confirmed opens reclaimed recalls es ss i. i;
     tables = λ m move is es ss i. record { table = keeps m.sessions move i.table; were = i.were };
-    answers = λ m node bytes reply is es ss i. sends m.sessions m.calls ss (Answers node bytes) i;
     notes = λ m e note es ss i. i;
     puts = λ m other s t at same holder seqid write waits es ss i. i;
     again_to = λ m file s client at its es ss i. i;
@@ -76,14 +76,14 @@ module _ (P : SessionsState → Type 0) (keeps : (s : SessionsState) (move : Tab
 
   runs : RunCases IsSo AnyCompound
   runs = record {
-    replies = λ m node reply es ss i. sends m.sessions m.calls ss (Replies node reply) i;
+    replies = λ m node xid results es ss i. sends m.sessions m.calls ss (Replies node (success_reply xid results)) i;
     returns = λ m file s n cred places at fresh es ss i. behind m file s (phase file s.file (Returns n cred places) m.fresh) ss i;
     any = λ c. tt;
   }
 
   pub run_keeps : (m : MdsValue) (events : List MdsEvent) → P m.sessions → P (run_from m events).mds.sessions
   run_keeps m events p =
-      (run_walk IsSo AnyCompound cases runs (λ n request now es ss i. record { table = keeps n.sessions (BeginRequest request now) i.table; were = i.were }) events m [] (sent_with_calls m.calls) (record { table = p; were = λ call inside. in_sent call m.calls inside })).table
+      (run_walk IsSo AnyCompound cases runs (λ m node bytes reply is es ss i. sends m.sessions m.calls ss (Answers node bytes) i) (λ n request now es ss i. record { table = keeps n.sessions (BeginRequest request now) i.table; were = i.were }) events m [] (sent_with_calls m.calls) (record { table = p; were = λ call inside. in_sent call m.calls inside })).table
 
   pub out_keeps : (m : MdsValue) → P m.sessions → P (calls_out [] m).mds.sessions
   out_keeps m p = (out_walk IsSo (out_of IsSo HeardAny AnyCompound cases) [] m [] (sent_with_calls m.calls) (record { table = p; were = λ call inside. in_sent call m.calls inside })).table

@@ -235,7 +235,6 @@ module _ (W : CompoundRun → Type 0) (left : (c : CompoundRun) → W c → (c.o
     wait = λ m es ss i file s at. wait_at m file s at i.waits;
     quiet = λ m confirmed opens reclaimed recalls es ss i. i;
     tables = λ m move is es ss i. record { waits = i.waits; table = keeps m.sessions move is i.table; entries = i.entries; replies = i.replies; were = i.were };
-    answers = λ m node bytes reply is es ss i. sends m es ss (Answers node bytes) (no_reply (Answers node bytes) refl) i;
     notes = λ m e note es ss i. record { waits = i.waits; table = i.table; entries = all_push E es e i.entries (plain e (note_no_return e note)); replies = i.replies; were = i.were };
     puts = λ m file s t at same holder seqid write waits es ss i. set m file t m.calls es ss ss (waits (wait_at m file s at i.waits)) i.replies i.were i;
     again_to = λ m file s client at its es ss i. held m file s client true at es ss i;
@@ -447,7 +446,7 @@ module _ (W : CompoundRun → Type 0) (left : (c : CompoundRun) → W c → (c.o
   begin_same now (Resilvers file) m none = λ es ss i. i
 
   runs_none : (now : ℕ) (input : MdsInput) (m : MdsValue) → BringsNone input → RunsSo IsSo HeardAny W cases waiting now input m
-  runs_none now (Hears from bytes) m none = λ xid c is. absurd (none xid c is)
+  runs_none now (Hears from bytes) m none = (λ xid c is. absurd (none xid c is), λ given is es ss i. sends m es ss (Answers from given) (no_reply (Answers from given) refl) i)
   runs_none now (IsTimedOut to) m none = tt
   runs_none now IsTick m none = tt
   runs_none now (RecallsFile file) m none = tt

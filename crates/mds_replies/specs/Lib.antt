@@ -4,3 +4,4 @@ pub mod LayoutReplies
 pub mod ClientIds
 pub mod AnsweredRequests
 pub mod ReturnedPeriods
+pub mod GivenAnswers

@@ -5,6 +5,7 @@ ghost use Rattle.mds_replies.specs.SlotReplies.{EffectsAreNumbered};
 ghost use Rattle.mds_replies.specs.ClientIds.{IdsAreOwn, SessionsAreOwn};
 ghost use Rattle.mds_replies.specs.AnsweredRequests.{EachReplyStands};
 ghost use Rattle.mds_replies.specs.ReturnedPeriods.{ReturnsCome};
+ghost use Rattle.mds_replies.specs.GivenAnswers.{EachReplyIsWhole, EachAnswerIsNow, EachReplyIsAsked};
 
 use mds_laws::slot_law;
 
@@ -45,3 +46,12 @@ pub fn returns_law()
 {
     slot_law();
 }
+
+/// The reply to a compound is of success and bears its results, and what is answered at once came in the same event (RFC 5531,
+/// section 9). Where clients of this cluster call, each reply answers a call that came from its node under its number: in the
+/// same event, or before where it is a request on a slot (RFC 8881, section 2.10.6).
+pub fn answers_law()
+    ensures whole { EachReplyIsWhole }
+    ensures now { EachAnswerIsNow }
+    ensures asked { EachReplyIsAsked }
+{}

@@ -1,0 +1,46 @@
+use Rattle.world_layouts.proofs.AllLayouts.{all_layouts}
+use Rattle.world_layouts.proofs.laws.world_layouts.Goals as goal
+
+pub returns : goal.returns
+returns c = record {
+  in_order = λ assumed boots w run told room.
+      all_layouts
+      (record {
+        returns = record {
+          grants = record {
+            layouts = record {
+              ids = record {
+                replies = record {
+                  calls = record {
+                    spelled = c.client_records.ensures.spelled;
+                    numbered = c.client_records.ensures.numbered;
+                    given = c.every_listing.ensures.whole;
+                    asks = c.every_mds_call.ensures.understood;
+                    replies = c.every_message.ensures.reply_again;
+                    spells = c.every_message.ensures.reply_spelled;
+                    taken = c.receive_law.ensures.taken;
+                    fit = assumed.fit;
+                  };
+                  stands = c.replies_law.ensures.stands;
+                  whole = c.answers_law.ensures.whole;
+                  now = c.answers_law.ensures.now;
+                  asked = c.answers_law.ensures.asked;
+                };
+                who = c.client_sessions.ensures.who;
+                slot = c.client_sessions.ensures.slot;
+                ids = c.id_law.ensures.ids;
+                sessions = c.id_law.ensures.sessions;
+              };
+              own = c.period_law.ensures.own;
+            };
+            begin = assumed.begin;
+            confirmed = assumed.confirmed;
+          };
+          once = c.mds_run_law.ensures.fresh;
+          ends = assumed.ends;
+        };
+        own = c.client_sessions.ensures.returns;
+        come = assumed.come;
+      })
+      boots w run told room;
+}

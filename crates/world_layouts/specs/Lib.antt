@@ -1,0 +1,5 @@
+pub mod AskedFits
+pub mod PeriodEntries
+pub mod ReturnedEnds
+pub mod WorldLayouts
+pub mod LayoutsInOrder

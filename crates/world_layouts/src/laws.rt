@@ -1,0 +1,35 @@
+//! The layouts of the clients of a world.
+
+ghost use Rattle.world_layouts.specs.LayoutsInOrder.{EachWorldIsInOrder};
+
+use client_records::client_records;
+use client_sessions::client_sessions;
+use mds_calls::every_mds_call;
+use mds_laws::mds_run_law;
+use mds_receive::receive_law;
+use mds_replies::{answers_law, id_law, period_law, replies_law};
+use nfs4_compound::every_listing;
+use rpc_record::every_message;
+
+/// In every world that is told by its nodes and has room, and of whose nodes hold what is assumed:
+///
+/// - what a client was granted, the journal had granted to it, while the mirrors of the grant were live (RFC 8881, section
+///   18.43; RFC 8435, section 2.2);
+/// - a uid is of one life of one client;
+/// - a period that ends as returned was given back by a life that it was granted to (RFC 8881, section 18.44);
+/// - and where a LAYOUTRETURN was accepted and kept a mirror, the period has ended clean.
+pub fn world_layouts()
+    ensures in_order { EachWorldIsInOrder }
+{
+    client_records();
+    client_sessions();
+    every_mds_call();
+    mds_run_law();
+    receive_law();
+    answers_law();
+    id_law();
+    period_law();
+    replies_law();
+    every_listing();
+    every_message();
+}
