@@ -122,7 +122,7 @@ module _ (I : MdsValue → List Entry → List MdsSend → Type 0) (Heard : Hear
                             (
                               (λ exchange. exchanges I Heard W k m c now exchange),
                               (
-                                (λ create. creates I Heard W k m c now create),
+                                (λ create. creates I Heard W k m c now create (λ x. r.confirms x create.0 c.node)),
                                 (
                                   (λ session. destroys_session I Heard W k m c session),
                                   (

@@ -1,6 +1,7 @@
--- A period ends once: the uids of the files were not entered as those of periods that ended, and no two of them are the same.
-use Rattle.std.proofs.Common.{Bool, ◌≡◌, ◌≤◌, ◌<◌, ℕ, ◌+◌, ◌-◌, true, false, List, [], ◌∷◌, ◌++◌, length, Option, Some, None, refl, sym, ap, subst, ◌∙◌, inl, inr, ◌⊎◌, arith}
-use Rattle.std.specs.Prelude.{◌==◌, slice_get, slice_set}
+-- A period ends once: the uids of the files were not entered as those of periods that ended, and no two of them are the same; and of each uid
+-- one end is entered.
+use Rattle.std.proofs.Common.{Bool, cond, ◌≡◌, ◌≤◌, ◌<◌, ℕ, ◌+◌, ◌-◌, true, false, List, [], ◌∷◌, ◌++◌, length, Option, Some, None, refl, sym, ap, subst, ◌∙◌, inl, inr, ◌⊎◌, arith}
+use Rattle.std.specs.Prelude.{◌==◌, ◌||◌, slice_get, slice_set}
 use Rattle.std.specs.List.{list_any}
 use Rattle.std.proofs.lemmas.Bool.{cond_both, cases_eq, ne_eqb, or_from}
 use Rattle.std.proofs.lemmas.List.{append-nil}
@@ -9,9 +10,11 @@ use Rattle.std.proofs.lemmas.Option.{same_Some, none-some}
 use Rattle.device_addr.specs.Universal.{AddressValue}
 use Rattle.cluster_model.specs.declared.ids.NodeId.TheVariants.{Server}
 use Rattle.cluster_model.specs.declared.ids.FileId.{FileId}
+use Rattle.cluster_model.specs.declared.phase.EndCause.{EndCause}
 use Rattle.cluster_model.specs.declared.entry.Entry.{Entry}
 use Rattle.cluster_model.specs.declared.entry.Entry.TheVariants as entry
 use Rattle.cluster_model.specs.declared.layout_state.LayoutState.{LayoutState}
+use Rattle.cluster_laws.specs.Agreement.{cause_in, causes_of}
 use Rattle.cluster_model.proofs.Elements.{slice_get-set_other, slice_get-set_same, Pushed, Old, New, pushed}
 use Rattle.file_rule.specs.FilePhases.{Answers as IsAnswer, TimesOut, Sees, FileInput, new_mds_file, phase}
 use Rattle.file_rule.specs.MdsFiles.{MdsFile, FileStep}
@@ -23,10 +26,11 @@ use Rattle.mds_rule.specs.declared.waiter.Waiter.TheVariants.{ForFile, ForRead, 
 use Rattle.mds_rule.specs.ServedFiles.{is_period_end, file_behind, file_stepped}
 use Rattle.mds_rule.specs.FileOps.{servers_of, new_served, with_new_file}
 use Rattle.mds_laws.specs.MdsRuns.{MdsEvent, mds_run}
-use Rattle.mds_laws.proofs.Lists.{AllOf, all_push, all_set, all_got}
+use Rattle.mds_laws.proofs.Lists.{EachOf, each_push, each_join, each_at, AllOf, all_push, all_set, all_got}
 use Rattle.mds_laws.proofs.Keeping.{Cases, HeardAny, note_quiet, is_quiet}
 use Rattle.mds_laws.proofs.OpsWalk.{place_served}
 use Rattle.mds_laws.proofs.GoesWalk.{in_each_run}
+use Rattle.mds_replies.specs.PeriodEntries.{UidsEndOnce}
 use Rattle.mds_replies.proofs.NowUids.{now_uid, Agrees, Keeps, Draws, IsUseOf, next_behind, Uses}
 use Rattle.mds_replies.proofs.FileEnds.{phase_uses}
 use Rattle.mds_replies.proofs.CallsLeave.{out_layout, out_agrees}
@@ -51,6 +55,15 @@ quiet_none : (uid : ℕ) (e : Entry) → is_quiet e ≡ true → ends_uid uid e 
 quiet_none uid (entry.Ended file cred cause) is = absurd cc
 quiet_none uid e is = refl
 
+-- where it is the end of a period, it is the first of its uid
+abbrev pub IsFirstEnd : List Entry → Entry → Type 0
+IsFirstEnd past (entry.Ended file cred cause) = HasNone cred.0 past
+IsFirstEnd past e = Unit {0}
+
+quiet_first : (past : List Entry) (e : Entry) → is_quiet e ≡ true → IsFirstEnd past e
+quiet_first past (entry.Ended file cred cause) is = absurd cc
+quiet_first past e is = tt
+
 -- ---- one entry of a file
 
 not_some : (uid : ℕ) → None ≡ Some uid → ⊥
@@ -64,6 +77,10 @@ entry_not old e is uid apart = refl
 entry_behind : (old : Option ℕ) (e : Entry) (uid : ℕ) → next_behind old e ≡ Some uid → (old ≡ Some uid) × (ends_uid uid e ≡ false)
 entry_behind old (entry.Ended file cred cause) uid is = absurd (not_some uid is)
 entry_behind old e uid is = (is, refl)
+
+entry_first : (past : List Entry) (old : Option ℕ) (e : Entry) → IsUseOf old e → ((uid : ℕ) → old ≡ Some uid → HasNone uid past) → IsFirstEnd past e
+entry_first past old (entry.Ended file cred cause) is none = none cred.0 is
+entry_first past old e is none = tt
 
 -- ---- the entries of an input
 
@@ -89,6 +106,14 @@ came_of fresh after old (e ∷ entries) new u uid is = further (came_of fresh af
         Was behind.0 (or_from (ends_uid uid e) (list_any (ends_uid uid) entries) behind.1 none)
     further (IsDrawn new less) = IsDrawn new less
 
+each_run : (fresh after : ℕ) (past : List Entry) (old : Option ℕ) (entries : List Entry) (new : Option ℕ) → Uses fresh after old entries new → ((uid : ℕ) → old ≡ Some uid → HasNone uid past) → EachOf IsFirstEnd past entries
+each_run fresh after past old [] new u none = tt
+each_run fresh after past old (e ∷ entries) new u none = (
+  entry_first past old e u.0 none,
+  each_run fresh after (past ++ e ∷ []) (next_behind old e) entries new u.1
+      (λ uid is. let behind = entry_behind old e uid is in none_push uid past e (none uid behind.0) behind.1),
+)
+
 -- ---- all files
 
 abbrev pub FileAgrees : ServedFile → Type 0
@@ -110,6 +135,7 @@ pub record Once (fresh : ℕ) (files : List ServedFile) (es : List Entry) : Type
   pub unspent : AreUnspent fresh files es
   pub apart : AreApart files
   pub unused : AreUnused fresh es
+  pub each : EachOf IsFirstEnd [] es
 
 record Stands (fresh : ℕ) (files : List ServedFile) (calls : List AwaitedCall) (es : List Entry) (ss : List MdsSend) : Type 0 where
   pub once : Once fresh files es
@@ -191,6 +217,7 @@ module _ (fresh after : ℕ) (files : List ServedFile) (es entries : List Entry)
     unspent = set_unspent;
     apart = set_apart;
     unused = set_unused;
+    each = each_join IsFirstEnd [] es entries i.each (each_run fresh after es (now_uid s.file.layout) entries (now_uid t.file.layout) uses (λ uid was. (i.unspent place s uid at was).1));
   }
 
 -- ---- the cases
@@ -253,6 +280,7 @@ module _ (fresh : ℕ) (files : List ServedFile) (es : List Entry) (t : ServedFi
     unspent = push_unspent;
     apart = push_apart;
     unused = λ uid above. i.unused uid (omega (arith, above));
+    each = i.each;
   }
 
 makes : (m : MdsValue) (name : List ℕ) (es : List Entry) (ss : List MdsSend) → IsSo m es ss → IsSo (with_new_file m name) es ss
@@ -268,6 +296,7 @@ notes fresh files es e quiet i = record {
   unspent = λ place s uid got next. let its = i.unspent place s uid got next in (its.0, none_push uid es e its.1 (quiet_none uid e quiet));
   apart = i.apart;
   unused = λ uid above. none_push uid es e (i.unused uid above) (quiet_none uid e quiet);
+  each = each_push IsFirstEnd [] es e i.each (quiet_first es e quiet);
 }
 
 -- a call goes out
@@ -315,6 +344,7 @@ begun servers mirrors = record {
     unspent = λ place s uid got next. absurd (none-some s got);
     apart = λ i j s t uid got other its also. absurd (none-some s got);
     unused = λ uid above. refl;
+    each = tt;
   };
   were = λ call inside. absurd inside;
 }
@@ -322,3 +352,23 @@ begun servers mirrors = record {
 -- behind each run
 pub run_once : (servers : List AddressValue) (mirrors : ℕ) (events : List MdsEvent) → Once (mds_run servers mirrors events).mds.fresh.uid (mds_run servers mirrors events).mds.files (mds_run servers mirrors events).entries
 run_once servers mirrors events = (in_each_run IsSo cases (λ m request now es ss i. i) (new_mds servers mirrors) events (begun servers mirrors)).once
+
+-- ---- one end of each uid
+
+not_ended_one : (uid : ℕ) (e : Entry) → ends_uid uid e ≡ false → cause_in uid e ≡ []
+not_ended_one uid (entry.Ended file cred cause) off = ap (λ (b : Bool). cond b (cause ∷ []) []) off
+not_ended_one uid e off = refl
+
+both_off : (a b : Bool) → (a || b) ≡ false → (a ≡ false) × (b ≡ false)
+both_off true b is = absurd cc
+both_off false b is = (refl, is)
+
+no_causes : (uid : ℕ) (es : List Entry) → HasNone uid es → causes_of uid es ≡ []
+no_causes uid [] none = refl
+no_causes uid (e ∷ es) none =
+    let both = both_off (ends_uid uid e) (list_any (ends_uid uid) es) none in
+    ap (λ (l : List EndCause). l ++ causes_of uid es) (not_ended_one uid e both.0) ∙ no_causes uid es both.1
+
+pub uids_end_once : UidsEndOnce
+uids_end_once servers mirrors events before behind file cred cause calls is =
+    no_causes cred.0 before (each_at IsFirstEnd [] before behind (entry.Ended file cred cause) (subst (EachOf IsFirstEnd []) is (run_once servers mirrors events).each))

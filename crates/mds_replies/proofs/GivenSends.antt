@@ -62,12 +62,12 @@ module _ (P : MdsSend → Type 0) (called : (s : MdsSend) → IsCall s → P s) 
   cases : Cases IsSo HeardAny AnyCompound
   cases = record {
     wait = λ m es ss i file s at. record { reads_so = λ r inside. tt; write_so = λ w is. tt };
-    quiet = λ m confirmed opens reclaimed recalls es ss i. i;
+    quiet = λ m confirmed opens reclaimed recalls old es ss i. i;
     tables = λ m move is es ss i. i;
     notes = λ m e note es ss i. i;
     puts = λ m other s t at same holder seqid write waits es ss i. i;
     again_to = λ m file s client at its es ss i. i;
-    grants = λ m file n client t free was at es ss i. asked m file (AsksLayout n) (served m file) ss i;
+    grants = λ m file n client t from free was at es ss i. asked m file (AsksLayout n) (served m file) ss i;
     inputs = λ m other s input itself at fresh es ss i. behind m other s (phase other s.file input m.fresh) es ss i;
     timeouts = λ m other s xid at fresh es ss i. behind m other s (phase other s.file (TimesOut xid) m.fresh) es ss i;
     hears = λ m other s call server own uid c replies heard caller sent out at fresh es ss i. behind m other s (phase other s.file (IsAnswer call.xid (own_answer c (replies c))) m.fresh) es ss i;
@@ -89,6 +89,7 @@ module _ (P : MdsSend → Type 0) (called : (s : MdsSend) → IsCall s → P s) 
   runs = record {
     replies = λ m node xid results es ss i. sends m.calls ss (Replies node (success_reply xid results)) (said node xid results) i;
     returns = λ m file s n cred places at fresh es ss i. behind m file s (phase file s.file (Returns n cred places) m.fresh) es ss i;
+    confirms = λ m client node es ss i. i;
     any = λ c. tt;
   }
 

@@ -5,6 +5,7 @@ use Rattle.ff_xdr.specs.Form.{Value}
 use Rattle.rpc_record.specs.Replies.{RpcReply, reply_bytes}
 use Rattle.compound_reply.specs.Replied.{success_reply}
 use Rattle.cluster_model.specs.declared.ids.NodeId.{NodeId}
+use Rattle.cluster_model.specs.declared.ids.NodeId.TheVariants.{Client}
 use Rattle.cluster_model.specs.declared.ids.FileId.{FileId}
 use Rattle.cluster_model.specs.declared.ids.Cred.{Cred}
 use Rattle.cluster_model.specs.declared.layout_state.LayoutPhase.TheVariants.{Free}
@@ -20,9 +21,10 @@ use Rattle.nfs4_session.specs.TableLaw.{TableMove, CallBack}
 use Rattle.recall.specs.declared.recall.Recall.{Recall}
 use Rattle.open_state.specs.Opens.{OpensValue}
 use Rattle.nfs4_compound.specs.Results.{resop4}
-use Rattle.mds_rule.specs.MdsStates.{CompoundRun, WaitingRead, WaitingWrite, ServedFile, MdsSend, CallsServer, CallsBack, Replies, Answers, AwaitedCall, MdsValue, served, with_served, without_call}
+use Rattle.mds_rule.specs.MdsStates.{CompoundRun, WaitingRead, WaitingWrite, ServedFile, MdsSend, CallsServer, CallsBack, Replies, Answers, AwaitedCall, MdsValue, confirmed_node, served, with_served, without_call}
 use Rattle.mds_rule.specs.declared.waiter.Waiter.TheVariants.{ForFile, ForRead, ForWrite, ForRecall}
 use Rattle.mds_rule.specs.ServedFiles.{takes_input}
+use Rattle.mds_rule.specs.SessionOps.{confirms}
 use Rattle.mds_rule.specs.LayoutOps.{with_holder, is_granted}
 use Rattle.mds_rule.specs.FileOps.{with_new_file, may_make}
 use Rattle.mds_rule.specs.Answers.{server_number, fileid_of, attributes_shown, own_answer, resumes, is_done_as, has_failed_as}
@@ -56,6 +58,10 @@ pub record AllWait (W : CompoundRun → Type 0) (reads : List WaitingRead) (writ
 abbrev pub SameCompounds : List WaitingRead → List WaitingRead → Type 0
 SameCompounds old new = (r : WaitingRead) → In r new → (was : WaitingRead) × In was old × (r.compound ≡ was.compound)
 
+-- no client is confirmed from another node
+abbrev pub NoneNew : List (ℕ × NodeId) → List (ℕ × NodeId) → Type 0
+NoneNew old new = (p : ℕ × NodeId) → In p new → In p old
+
 -- any compound
 abbrev pub AnyCompound : CompoundRun → Type 0
 AnyCompound c = Unit {0}
@@ -63,8 +69,8 @@ AnyCompound c = Unit {0}
 -- ---- the cases
 
 pub record Cases (I : MdsValue → List Entry → List MdsSend → Type 0) (Heard : HeardOf) (W : CompoundRun → Type 0) : Type 0 where
-  -- nothing of sessions, files, calls and numbers changes
-  pub quiet : (m : MdsValue) (confirmed : List (ℕ × NodeId)) (opens : OpensValue) (reclaimed : List ℕ) (recalls : List Recall)
+  -- nothing of sessions, files, calls and numbers changes, and no client is confirmed
+  pub quiet : (m : MdsValue) (confirmed : List (ℕ × NodeId)) (opens : OpensValue) (reclaimed : List ℕ) (recalls : List Recall) → NoneNew m.confirmed confirmed
       → Becomes I m (record m { confirmed = confirmed; opens = opens; reclaimed = reclaimed; recalls = recalls })
   -- nothing but sessions does, by a call of their table
   pub tables : (m : MdsValue) (move : TableMove) → IsNoRequest move → Becomes I m (moved m move)
@@ -76,7 +82,7 @@ pub record Cases (I : MdsValue → List Entry → List MdsSend → Type 0) (Hear
   pub wait : (m : MdsValue) (es : List Entry) (ss : List MdsSend) → I m es ss → (file : FileId) (s : ServedFile) → served m file ≡ Some s → AllWait W s.reads s.write
   -- a layout is given again to the client that has it, or is granted where nobody had it
   pub again_to : (m : MdsValue) (file : FileId) (s : ServedFile) (client : ℕ) → served m file ≡ Some s → s.holder ≡ Some client → Becomes I m (with_served m file (with_holder client true s))
-  pub grants : (m : MdsValue) (file : FileId) (n client : ℕ) (t : ServedFile) → is_granted (served m file) ≡ false
+  pub grants : (m : MdsValue) (file : FileId) (n client : ℕ) (t : ServedFile) → confirmed_node m client ≡ Some (Client n) → is_granted (served m file) ≡ false
       → ((s : ServedFile) → served m file ≡ Some s → (s.file.layout.phase ≡ Free) × (are_spent m.fresh ≡ false)) → served (takes_input m file (AsksLayout n)).mds file ≡ Some t
       → Enters I m (with_served (takes_input m file (AsksLayout n)).mds file (with_holder client false t)) (takes_input m file (AsksLayout n)).entries
   -- an input of the table of phases: one that comes by itself, a timeout, an answer to a call of the file that is outstanding, and what an
@@ -112,10 +118,11 @@ pub record Cases (I : MdsValue → List Entry → List MdsSend → Type 0) (Hear
 abbrev pub GivesAnswers : (MdsValue → List Entry → List MdsSend → Type 0) → Type 0
 GivesAnswers I = (m : MdsValue) (node : NodeId) (bytes : List ℕ) (reply : RpcReply) → bytes ≡ reply_bytes reply → (es : List Entry) (ss : List MdsSend) → I m es ss → I m es (ss ++ Answers node bytes ∷ [])
 
--- where compounds are run: what they reply, which is of success, and the returns in them
+-- where compounds are run: what they reply, which is of success, the returns in them, and who is confirmed
 pub record RunCases (I : MdsValue → List Entry → List MdsSend → Type 0) (W : CompoundRun → Type 0) : Type 0 where
   pub replies : (m : MdsValue) (node : NodeId) (xid : ℕ) (results : List ℕ) (es : List Entry) (ss : List MdsSend) → I m es ss → I m es (ss ++ Replies node (success_reply xid results) ∷ [])
   pub returns : (m : MdsValue) (file : FileId) (s : ServedFile) (n : ℕ) (cred : Cred) (places : List Bool) → TakesInput I m file s (Returns n cred places)
+  pub confirms : (m : MdsValue) (client : ℕ) (node : NodeId) → Becomes I m (confirms client node m)
   pub any : (c : CompoundRun) → W c
 
 -- how a compound that waited goes on
@@ -143,7 +150,7 @@ pub record OutCases (I : MdsValue → List Entry → List MdsSend → Type 0) : 
 
 pub out_of : (I : MdsValue → List Entry → List MdsSend → Type 0) (Heard : HeardOf) (W : CompoundRun → Type 0) → Cases I Heard W → OutCases I
 out_of I Heard W k = record {
-  recalled = λ m recalls. k.quiet m m.confirmed m.opens m.reclaimed recalls;
+  recalled = λ m recalls. k.quiet m m.confirmed m.opens m.reclaimed recalls (λ p inside. inside);
   back = λ m client. k.tables m (CallBack client) tt;
   calls_file = k.calls_file;
   calls_write = k.calls_write;

@@ -112,7 +112,7 @@ asked_is m file n t fresh was there = by_case (served m file) refl
 
 -- ---- an input of the table of phases
 
-kept_was : (o : Option NodeId) (h : Option ℕ) (client : ℕ) → kept_holder o h ≡ Some client → (h ≡ Some client) × (o ≡ None → ⊥)
+pub kept_was : (o : Option NodeId) (h : Option ℕ) (client : ℕ) → kept_holder o h ≡ Some client → (h ≡ Some client) × (o ≡ None → ⊥)
 kept_was None h client is = absurd (none-some client is)
 kept_was (Some node) h client is = (is, λ none. none-some node (sym none))
 
@@ -131,7 +131,7 @@ behind_holds file fresh s input its holds client is = by_old (kept_was (holder_o
 
 -- ---- the uid of a file
 
-abbrev UidDrawn : ServedFile → Type 0
+abbrev pub UidDrawn : ServedFile → Type 0
 UidDrawn s = (uid : ℕ) → now_uid s.file.layout ≡ Some uid → 65536 ≤ uid
 
 behind_drawn : (file : FileId) (fresh : Fresh) (s : ServedFile) (input : FileInput) → 65536 ≤ fresh.uid → FileAgrees s → UidDrawn s → UidDrawn (file_behind s (phase file s.file input fresh))
@@ -144,7 +144,7 @@ behind_drawn file fresh s input first its old uid is =
     by_case (IsDrawn new less) = omega (arith, new, first)
 
 -- the seqid of the layout's stateid
-abbrev FitsSeqid : ServedFile → Type 0
+abbrev pub FitsSeqid : ServedFile → Type 0
 FitsSeqid s = s.seqid < 4294967296
 
 pub next_fits : (n : ℕ) → n < 4294967296 → next_seqid n < 4294967296
@@ -158,7 +158,7 @@ next_fits n less = cond_both (n == 4294967295) 1 (n + 1) (λ (k : ℕ). k < 4294
 
 -- ---- what holds
 
-record Stands (fresh : Fresh) (files : List ServedFile) (calls : List AwaitedCall) (ss : List MdsSend) : Type 0 where
+pub record Stands (fresh : Fresh) (files : List ServedFile) (calls : List AwaitedCall) (ss : List MdsSend) : Type 0 where
   pub drawn_from_first : 65536 ≤ fresh.uid
   pub agree : AllOf FileAgrees files
   pub fits : AllOf UidDrawn files
@@ -166,10 +166,10 @@ record Stands (fresh : Fresh) (files : List ServedFile) (calls : List AwaitedCal
   pub holders : has_fresh fresh ≡ true → AllOf HolderHolds files
   pub were : WereSent calls ss
 
-abbrev IsSo : MdsValue → List Entry → List MdsSend → Type 0
+abbrev pub IsSo : MdsValue → List Entry → List MdsSend → Type 0
 IsSo m es ss = Stands m.fresh m.files m.calls ss
 
-at_file : (P : ServedFile → Type 0) (m : MdsValue) (file : FileId) (s : ServedFile) → served m file ≡ Some s → AllOf P m.files → P s
+pub at_file : (P : ServedFile → Type 0) (m : MdsValue) (file : FileId) (s : ServedFile) → served m file ≡ Some s → AllOf P m.files → P s
 at_file P m file s at all = all_got P m.files (file.0 - 1) s all (place_served m file s at).1
 
 -- a file is put back with the same layout and holder
@@ -192,7 +192,7 @@ puts : (m : MdsValue) (file : FileId) (s t : ServedFile) (calls : List AwaitedCa
 puts m file s t calls ss ts at same holder seqid were i =
     put m file s t calls ss ts at (ap (λ (f : MdsFile). f.layout) same) holder seqid (subst (λ (f : MdsFile). Agrees f.activity f.layout.phase) (sym same) (at_file FileAgrees m file s at i.agree)) were i
 
-inputs : (m : MdsValue) (file : FileId) (s : ServedFile) (input : FileInput) → served m file ≡ Some s → (es : List Entry) (ss : List MdsSend) → IsSo m es ss
+pub inputs : (m : MdsValue) (file : FileId) (s : ServedFile) (input : FileInput) → served m file ≡ Some s → (es : List Entry) (ss : List MdsSend) → IsSo m es ss
     → IsSo (file_stepped m file s (phase file s.file input m.fresh)).mds (es ++ (phase file s.file input m.fresh).entries) ss
 inputs m file s input at es ss i =
     let step : FileStep = phase file s.file input m.fresh in
@@ -232,7 +232,7 @@ again_to : (m : MdsValue) (file : FileId) (s : ServedFile) (client : ℕ) → se
     → Stands m.fresh (slice_set m.files (file.0 - 1) (with_holder client true s)) m.calls ss
 again_to m file s client at its ss i = held_again m file s client true at (next_fits s.seqid (at_file FitsSeqid m file s at i.seqids)) (λ fresh. at_file HolderHolds m file s at (i.holders fresh) client its) ss i
 
-grants : (m : MdsValue) (file : FileId) (n client : ℕ) (t : ServedFile) → ((s : ServedFile) → served m file ≡ Some s → (s.file.layout.phase ≡ Free) × (are_spent m.fresh ≡ false))
+pub grants : (m : MdsValue) (file : FileId) (n client : ℕ) (t : ServedFile) → ((s : ServedFile) → served m file ≡ Some s → (s.file.layout.phase ≡ Free) × (are_spent m.fresh ≡ false))
     → served (takes_input m file (AsksLayout n)).mds file ≡ Some t → (es : List Entry) (ss : List MdsSend) → IsSo m es ss
     → IsSo (with_served (takes_input m file (AsksLayout n)).mds file (with_holder client false t)) (es ++ (takes_input m file (AsksLayout n)).entries) ss
 grants m file n client t was at es ss i =
@@ -255,18 +255,18 @@ makes m name es ss i = record {
     new : ServedFile
     new = new_served name (new_mds_file m.fresh (servers_of (length m.servers) m.mirrors (length m.files + 1)))
 
-sends : (m : MdsValue) (ss : List MdsSend) (s : MdsSend) → Stands m.fresh m.files m.calls ss → Stands m.fresh m.files m.calls (ss ++ s ∷ [])
+pub sends : (m : MdsValue) (ss : List MdsSend) (s : MdsSend) → Stands m.fresh m.files m.calls ss → Stands m.fresh m.files m.calls (ss ++ s ∷ [])
 sends m ss s i = record { drawn_from_first = i.drawn_from_first; agree = i.agree; fits = i.fits; seqids = i.seqids; holders = i.holders; were = sent_more m.calls ss s i.were }
 
-cases : Cases IsSo HeardAny AnyCompound
+pub cases : Cases IsSo HeardAny AnyCompound
 cases = record {
   wait = λ m es ss i file s at. record { reads_so = λ r inside. tt; write_so = λ w is. tt };
-  quiet = λ m confirmed opens reclaimed recalls es ss i. i;
+  quiet = λ m confirmed opens reclaimed recalls old es ss i. i;
   tables = λ m move is es ss i. i;
   notes = λ m e note es ss i. i;
   puts = λ m file s t at same holder seqid write waits es ss i. puts m file s t m.calls ss ss at same holder seqid i.were i;
   again_to = λ m file s client at its es ss i. again_to m file s client at its ss i;
-  grants = λ m file n client t free was at es ss i. grants m file n client t was at es ss i;
+  grants = λ m file n client t from free was at es ss i. grants m file n client t was at es ss i;
   inputs = λ m file s input itself at fresh es ss i. inputs m file s input at es ss i;
   timeouts = λ m file s xid at fresh es ss i. inputs m file s (TimesOut xid) at es ss i;
   hears = λ m file s call server own uid c replies heard caller sent out at fresh es ss i. inputs m file s (IsAnswer call.xid (own_answer c (replies c))) at es ss i;
@@ -295,17 +295,21 @@ cases = record {
   again = λ m s es ss i inside. sends m ss s i;
 }
 
-runs : RunCases IsSo AnyCompound
+pub runs : RunCases IsSo AnyCompound
 runs = record {
   replies = λ m node xid results es ss i. sends m ss (Replies node (success_reply xid results)) i;
   returns = λ m file s n cred places at fresh es ss i. inputs m file s (Returns n cred places) at es ss i;
+  confirms = λ m client node es ss i. i;
   any = λ c. tt;
 }
+
+pub new_stands : (servers : List AddressValue) (mirrors : ℕ) → IsSo (new_mds servers mirrors) [] []
+new_stands servers mirrors = record { drawn_from_first = omega arith; agree = tt; fits = tt; seqids = tt; holders = λ fresh. tt; were = λ call inside. absurd inside }
 
 behind_run : (servers : List AddressValue) (mirrors : ℕ) (events : List MdsEvent) → Stands (mds_run servers mirrors events).mds.fresh (mds_run servers mirrors events).mds.files (mds_run servers mirrors events).mds.calls (mds_run servers mirrors events).sends
 behind_run servers mirrors events =
     in_each_run IsSo AnyCompound cases runs (λ m node bytes reply is es ss i. sends m ss (Answers node bytes) i) (λ m request now es ss i. i) (new_mds servers mirrors) events
-    (record { drawn_from_first = omega arith; agree = tt; fits = tt; seqids = tt; holders = λ fresh. tt; were = λ call inside. absurd inside })
+    (new_stands servers mirrors)
 
 -- ---- behind each run
 

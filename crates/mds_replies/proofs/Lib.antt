@@ -44,3 +44,4 @@ pub mod JudgedRequests
 pub mod RequestRuns
 pub mod GivenSends
 pub mod AskedRuns
+pub mod ConfirmedHolders

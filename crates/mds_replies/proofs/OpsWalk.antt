@@ -130,7 +130,7 @@ module _ (I : MdsValue → List Entry → List MdsSend → Type 0) (Heard : Hear
   gets_attr m c words = attributes_got m c words c.current
 
   opens_become : (m : MdsValue) (opens : OpensValue) → Becomes I m (record m { opens = opens })
-  opens_become m opens = k.quiet m m.confirmed opens m.reclaimed m.recalls
+  opens_become m opens = k.quiet m m.confirmed opens m.reclaimed m.recalls (λ p inside. inside)
 
   open_walk : (m : MdsValue) (c : CompoundRun) (access : ℕ) (creation : Creation) (name : List ℕ) (o : Option FileId) → KeepsOp I m (open_named m c access creation name o)
   open_walk m c access creation name (Some file) =
@@ -196,19 +196,19 @@ module _ (I : MdsValue → List Entry → List MdsSend → Type 0) (Heard : Hear
   again_walk m c file its (Some t) is = no_entries I m (with_served m file (with_holder (client_of c) true t)) (k.again_to m file t (client_of c) is (its t is))
 
   -- nobody has it
-  new_walk : (m : MdsValue) (c : CompoundRun) (file : FileId) (n : ℕ) → is_granted (served m file) ≡ false
+  new_walk : (m : MdsValue) (c : CompoundRun) (file : FileId) (n : ℕ) → confirmed_node m (client_of c) ≡ Some (Client n) → is_granted (served m file) ≡ false
       → ((s : ServedFile) → served m file ≡ Some s → (s.file.layout.phase ≡ Free) × (are_spent m.fresh ≡ false)) → (o : Option ServedFile) → served (takes_input m file (AsksLayout n)).mds file ≡ o
       → KeepsOp I m (granted_in (takes_input m file (AsksLayout n)) c file false o)
-  new_walk m c file n free was None is = (takes I Heard W k m file (AsksLayout n) refl).enters
-  new_walk m c file n free was (Some t) is = k.grants m file n (client_of c) t free was is
+  new_walk m c file n from free was None is = (takes I Heard W k m file (AsksLayout n) refl).enters
+  new_walk m c file n from free was (Some t) is = k.grants m file n (client_of c) t from free was is
 
   grants_walk : (m : MdsValue) (c : CompoundRun) (file : FileId) (again : Bool) → is_granted (served m file) ≡ again → (again ≡ true → (s : ServedFile) → served m file ≡ Some s → s.holder ≡ Some (client_of c))
-      → (again ≡ false → (s : ServedFile) → served m file ≡ Some s → (s.file.layout.phase ≡ Free) × (are_spent m.fresh ≡ false)) → (from : Option NodeId) → KeepsOp I m (grants_to m c file again from)
-  grants_walk m c file true at its was from = again_walk m c file (its refl) (served m file) refl
-  grants_walk m c file false at its was None = stays I m
-  grants_walk m c file false at its was (Some Mds) = stays I m
-  grants_walk m c file false at its was (Some (Server n)) = stays I m
-  grants_walk m c file false at its was (Some (Client n)) = new_walk m c file n at (was refl) (served (takes_input m file (AsksLayout n)).mds file) refl
+      → (again ≡ false → (s : ServedFile) → served m file ≡ Some s → (s.file.layout.phase ≡ Free) × (are_spent m.fresh ≡ false)) → (from : Option NodeId) → confirmed_node m (client_of c) ≡ from → KeepsOp I m (grants_to m c file again from)
+  grants_walk m c file true at its was from node = again_walk m c file (its refl) (served m file) refl
+  grants_walk m c file false at its was None node = stays I m
+  grants_walk m c file false at its was (Some Mds) node = stays I m
+  grants_walk m c file false at its was (Some (Server n)) node = stays I m
+  grants_walk m c file false at its was (Some (Client n)) node = new_walk m c file n node at (was refl) (served (takes_input m file (AsksLayout n)).mds file) refl
 
   later_walk : (m : MdsValue) (c : CompoundRun) (now : ℕ) (p : Option Phase) → KeepsOp I m (later_by m c now p)
   later_walk m c now None = stays I m
@@ -225,7 +225,7 @@ module _ (I : MdsValue → List Entry → List MdsSend → Type 0) (Heard : Hear
           cond_both (is_try_later status) (later_by m c now (phase_behind (layout_found m c (layout_asked args)).fault)) (refused_or m c 50 status (grants_to m c (current_file c) (is_granted (served m (current_file c))) (confirmed_node m (client_of c)))) (λ (x : OpStep). KeepsOp I m x)
           (λ is. later_walk m c now (phase_behind (layout_found m c (layout_asked args)).fault))
           (λ off. unless_refused I Heard W k m c 50 status (grants_to m c (current_file c) (is_granted (served m (current_file c))) (confirmed_node m (client_of c)))
-          (λ none. grants_walk m c (current_file c) (is_granted (served m (current_file c))) refl (λ granted s at. again_holds m c (layout_asked args) (so ∙ none) s at granted) (λ free s at. new_free m c (layout_asked args) (so ∙ none) s at free) (confirmed_node m (client_of c))))
+          (λ none. grants_walk m c (current_file c) (is_granted (served m (current_file c))) refl (λ granted s at. again_holds m c (layout_asked args) (so ∙ none) s at granted) (λ free s at. new_free m c (layout_asked args) (so ∙ none) s at free) (confirmed_node m (client_of c)) refl))
 
   return_walk : (returns : (m : MdsValue) (file : FileId) (s : ServedFile) (n : ℕ) (cred : Cred) (places : List Bool) → TakesInput I m file s (Returns n cred places)) (m : MdsValue) (c : CompoundRun) (file : FileId) (errors : List (Value ff_ioerr4)) (o : Option ServedFile) → KeepsOp I m (return_by m c file errors o)
   return_walk returns m c file errors None = stays I m

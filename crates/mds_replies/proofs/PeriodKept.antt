@@ -243,12 +243,12 @@ module _ (file : FileId) (client uid : ℕ) where
   cases : Cases IsSo HeardAny AnyCompound
   cases = record {
     wait = λ m es ss i file s at. record { reads_so = λ r inside. tt; write_so = λ w is. tt };
-    quiet = λ m confirmed opens reclaimed recalls es ss i. i;
+    quiet = λ m confirmed opens reclaimed recalls old es ss i. i;
     tables = λ m move is es ss i. i;
     notes = λ m e note es ss i. record { agree = i.agree; goes = goes_more m.files es (e ∷ []) i.goes; were = i.were };
     puts = λ m other s t at same holder seqid write waits es ss i. puts m.files m.calls es ss other s t at same holder i;
     again_to = again;
-    grants = granted;
+    grants = λ m file n client t from. granted m file n client t;
     inputs = λ m other s input itself at fresh es ss i. inputs m other s input at es ss i;
     timeouts = λ m other s xid at fresh es ss i. inputs m other s (TimesOut xid) at es ss i;
     hears = λ m other s call server own uid c replies heard caller sent out at fresh es ss i. inputs m other s (IsAnswer call.xid (own_answer c (replies c))) at es ss i;
@@ -276,6 +276,7 @@ module _ (file : FileId) (client uid : ℕ) where
   runs = record {
     replies = λ m node xid results es ss i. sends m.files m.calls es ss (Replies node (success_reply xid results)) i;
     returns = λ m other s n cred places at fresh es ss i. inputs m other s (Returns n cred places) at es ss i;
+    confirms = λ m client node es ss i. i;
     any = λ c. tt;
   }
 

@@ -1,10 +1,12 @@
 -- Each part of an event that is about inputs of the table of phases, clients and sessions keeps what is kept in each case.
-use Rattle.std.proofs.Common.{◌≡◌, ℕ, Bool, true, false, List, [], ◌∷◌, ◌++◌, Option, Some, None, refl, inl}
+use Rattle.std.proofs.Common.{◌≡◌, ℕ, Bool, true, false, List, [], ◌∷◌, ◌++◌, Option, Some, None, refl, cond, inl, inr}
 use Rattle.std.specs.Prelude.{is_some, nat_eq}
 use Rattle.std.specs.List.{find, list_any}
+use Rattle.std.specs.Map.{remove_entry}
 use Rattle.std.proofs.lemmas.Bool.{cond_both}
 use Rattle.ff_xdr.specs.Form.{Value, long}
 use Rattle.ff_xdr.specs.Arms.{arm}
+use Rattle.cluster_model.specs.declared.ids.NodeId.{NodeId}
 use Rattle.cluster_model.specs.declared.ids.FileId.{FileId}
 use Rattle.cluster_model.specs.declared.ids.Cred.{Cred}
 use Rattle.cluster_model.specs.declared.phase.EndCause.{EndCause}
@@ -32,9 +34,20 @@ use Rattle.recall.specs.Recalls.{is_under_way, new_recall, with_recall}
 use Rattle.mds_rule.specs.MdsStates.{CompoundRun, ServedFile, MdsSend, MdsValue, MdsStep, sends_none, served}
 use Rattle.mds_rule.specs.OpSteps.{OpStep, Goes, with_result, refuses, refused_or}
 use Rattle.mds_rule.specs.ServedFiles.{has_fresh, file_stepped, input_at, takes_input, with_new_recall, recall_by, recall_at, asks_back, held_from, one_by_one, ends_periods, forgotten, ends_client}
-use Rattle.mds_rule.specs.SessionOps.{with_exchange, runs_exchange, confirmed_by, confirms, gone_with, goes_with, with_session, with_create, runs_create, on_session, runs_bind, runs_destroy_session, runs_destroy_client, reclaims}
+use Rattle.mds_rule.specs.SessionOps.{with_exchange, runs_exchange, confirms, gone_with, goes_with, with_session, with_create, runs_create, on_session, runs_bind, runs_destroy_session, runs_destroy_client, reclaims}
+use Rattle.mds_laws.proofs.Lists.{In}
 use Rattle.mds_laws.proofs.Keeping.{Becomes, KeepsOp, Silent, HeardOf, TakesInput, no_entries, stays, silent_then, silent_none, silent_same, becomes_silent}
-use Rattle.mds_replies.proofs.HolderCases.{Cases, comes_unasked}
+use Rattle.mds_replies.proofs.HolderCases.{NoneNew, Cases, comes_unasked}
+
+-- who is forgotten was there
+still_confirmed : (client : ℕ) (confirmed : List (ℕ × NodeId)) → NoneNew confirmed (remove_entry (nat_eq client) confirmed)
+still_confirmed client [] p inside = absurd inside
+still_confirmed client (q ∷ confirmed) p inside = by_test (nat_eq client q.0) inside (still_confirmed client confirmed p)
+  where
+    by_test : (b : Bool) → In p (cond b confirmed (q ∷ remove_entry (nat_eq client) confirmed)) → (In p (remove_entry (nat_eq client) confirmed) → In p confirmed) → In p (q ∷ confirmed)
+    by_test true its rest = inr its
+    by_test false (inl is) rest = inl is
+    by_test false (inr its) rest = inr (rest its)
 
 module _ (I : MdsValue → List Entry → List MdsSend → Type 0) (Heard : HeardOf) (W : CompoundRun → Type 0) (k : Cases I Heard W) where
   -- ---- one input
@@ -58,7 +71,7 @@ module _ (I : MdsValue → List Entry → List MdsSend → Type 0) (Heard : Hear
   recall_noted m file cred None now = λ es ss i. i
   recall_noted m file cred (Some client) now =
       cond_both (is_under_way file cred m.recalls) m (record m { recalls = with_recall (new_recall file cred client now) m.recalls }) (λ (n : MdsValue). Becomes I m n)
-      (λ is. λ es ss i. i) (λ off. k.quiet m m.confirmed m.opens m.reclaimed (with_recall (new_recall file cred client now) m.recalls))
+      (λ is. λ es ss i. i) (λ off. k.quiet m m.confirmed m.opens m.reclaimed (with_recall (new_recall file cred client now) m.recalls) (λ p inside. inside))
 
   back_by : (m : MdsValue) (file : FileId) (s : ServedFile) (now : ℕ) (held : Bool) → Silent I m (recall_by m file s now held)
   back_by m file s now false = silent_same I m
@@ -83,7 +96,7 @@ module _ (I : MdsValue → List Entry → List MdsSend → Type 0) (Heard : Hear
   periods m client end = turns (λ n file. takes_input n file (Revokes end)) (λ n file. takes n file (Revokes end) refl) (held_from client 1 m.files) m
 
   forgets_client : (client : ℕ) (m : MdsValue) → Becomes I m (forgotten client m)
-  forgets_client client m = k.quiet m (forgotten client m).confirmed (forgotten client m).opens (forgotten client m).reclaimed m.recalls
+  forgets_client client m = k.quiet m (forgotten client m).confirmed (forgotten client m).opens (forgotten client m).reclaimed m.recalls (still_confirmed client m.confirmed)
 
   pub client_ends : (m : MdsValue) (client : ℕ) (end : EndCause) → Silent I m (ends_client m client end)
   client_ends m client end = silent_then I m (ends_periods m client end) (λ n. sends_none (forgotten client n)) (periods m client end) (λ n. silent_none I n (forgotten client n) (forgets_client client n))
@@ -91,7 +104,7 @@ module _ (I : MdsValue → List Entry → List MdsSend → Type 0) (Heard : Hear
   -- ---- operations
 
   pub recalls_become : (m : MdsValue) (recalls : List Rattle.recall.specs.declared.recall.Recall.Recall) → Becomes I m (record m { recalls = recalls })
-  recalls_become m recalls = k.quiet m m.confirmed m.opens m.reclaimed recalls
+  recalls_become m recalls = k.quiet m m.confirmed m.opens m.reclaimed recalls (λ p inside. inside)
 
   -- where it is not refused
   pub unless_refused : (m : MdsValue) (c : CompoundRun) (number : ℕ) (status : Option Stat4) (step : OpStep) → (status ≡ None → KeepsOp I m step) → KeepsOp I m (refused_or m c number status step)
@@ -116,22 +129,22 @@ module _ (I : MdsValue → List Entry → List MdsSend → Type 0) (Heard : Hear
   gone None m = silent_same I m
   gone (Some client) m = client_ends m client ClientGone
 
-  session_walk : (m : MdsValue) (c : CompoundRun) (client sequence : ℕ) (fore back : Value channel_attrs4) (sessions : SessionsState) (o : Option Created) → Becomes I m (record m { sessions = sessions })
+  session_walk : (m : MdsValue) (c : CompoundRun) (client sequence : ℕ) (may : (x : MdsValue) → Becomes I x (confirms client c.node x)) (fore back : Value channel_attrs4) (sessions : SessionsState) (o : Option Created) → Becomes I m (record m { sessions = sessions })
       → KeepsOp I m (with_session m c client sequence fore back sessions o)
-  session_walk m c client sequence fore back sessions None b = stays I m
-  session_walk m c client sequence fore back sessions (Some created) b =
+  session_walk m c client sequence may fore back sessions None b = stays I m
+  session_walk m c client sequence may fore back sessions (Some created) b =
       let x : MdsValue = record m { sessions = sessions } in
       let n : MdsValue = confirms client c.node x in
-      becomes_silent I m n (gone_with created.gone n) (λ es ss i. k.quiet x (confirmed_by client c.node m.confirmed) m.opens m.reclaimed m.recalls es ss (b es ss i)) (gone created.gone n)
+      becomes_silent I m n (gone_with created.gone n) (λ es ss i. may x es ss (b es ss i)) (gone created.gone n)
 
-  create_walk : (m : MdsValue) (c : CompoundRun) (client sequence : ℕ) (fore back : Value channel_attrs4) (program now : ℕ) (case : CreateSessionCase) (fault : Option SessionFault)
+  create_walk : (m : MdsValue) (c : CompoundRun) (client sequence : ℕ) (may : (x : MdsValue) → Becomes I x (confirms client c.node x)) (fore back : Value channel_attrs4) (program now : ℕ) (case : CreateSessionCase) (fault : Option SessionFault)
       → Becomes I m (record m { sessions = after_creating m.sessions program c.node now case }) → KeepsOp I m (with_create m c client sequence fore back program now case fault)
-  create_walk m c client sequence fore back program now case (Some fault) b = stays I m
-  create_walk m c client sequence fore back program now case None b = session_walk m c client sequence fore back (after_creating m.sessions program c.node now case) (created_answer m.sessions client case) b
+  create_walk m c client sequence may fore back program now case (Some fault) b = stays I m
+  create_walk m c client sequence may fore back program now case None b = session_walk m c client sequence may fore back (after_creating m.sessions program c.node now case) (created_answer m.sessions client case) b
 
-  pub creates : (m : MdsValue) (c : CompoundRun) (now : ℕ) (args : Value create_session4_args) → KeepsOp I m (runs_create m c now args)
-  creates m c now (client, (sequence, (flags, (fore, (back, (program, security)))))) =
-      create_walk m c client sequence fore back program now (create_session_case m.sessions client sequence) (create_session_fault (create_session_case m.sessions client sequence))
+  pub creates : (m : MdsValue) (c : CompoundRun) (now : ℕ) (args : Value create_session4_args) → ((x : MdsValue) → Becomes I x (confirms args.0 c.node x)) → KeepsOp I m (runs_create m c now args)
+  creates m c now (client, (sequence, (flags, (fore, (back, (program, security)))))) may =
+      create_walk m c client sequence may fore back program now (create_session_case m.sessions client sequence) (create_session_fault (create_session_case m.sessions client sequence))
       (k.tables m (CreateSession client sequence program c.node now) tt)
 
   at_session : (m : MdsValue) (c : CompoundRun) (number : ℕ) (session : SessionId) (step : OpStep) → KeepsOp I m step → KeepsOp I m (on_session m c number session step)
@@ -161,4 +174,4 @@ module _ (I : MdsValue → List Entry → List MdsSend → Type 0) (Heard : Hear
   reclaims_all m c (Some slot) =
       cond_both (list_any (nat_eq (client_in slot.session)) m.reclaimed) (refuses m c 58 Rattle.nfs4_types.specs.declared.status.Stat4.TheVariants.CompleteAlready)
       (Goes (record m { reclaimed = m.reclaimed ++ client_in slot.session ∷ [] }) [] (with_result c (arm 58 Rattle.nfs4_compound.specs.Results.resop4 (inl tt)))) (λ (x : OpStep). KeepsOp I m x)
-      (λ is. stays I m) (λ off. no_entries I m (record m { reclaimed = m.reclaimed ++ client_in slot.session ∷ [] }) (k.quiet m m.confirmed m.opens (m.reclaimed ++ client_in slot.session ∷ []) m.recalls))
+      (λ is. stays I m) (λ off. no_entries I m (record m { reclaimed = m.reclaimed ++ client_in slot.session ∷ [] }) (k.quiet m m.confirmed m.opens (m.reclaimed ++ client_in slot.session ∷ []) m.recalls (λ p inside. inside)))

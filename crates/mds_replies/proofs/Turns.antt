@@ -80,7 +80,7 @@ begins_wait W live [] all r inside = absurd inside
 begins_wait W live (x ∷ reads) all r (inl same) = subst (λ (y : WaitingRead). W y.compound) (sym same) (all x (inl refl))
 begins_wait W live (x ∷ reads) all r (inr inside) = begins_wait W live reads (λ y its. all y (inr its)) r inside
 
-behind_wait : (W : CompoundRun → Type 0) (entries : List Entry) (live : List Mirror) (reads : List WaitingRead) (write : Option WaitingWrite) → AllWait W reads write → AllWait W (reads_behind entries live reads) write
+pub behind_wait : (W : CompoundRun → Type 0) (entries : List Entry) (live : List Mirror) (reads : List WaitingRead) (write : Option WaitingWrite) → AllWait W reads write → AllWait W (reads_behind entries live reads) write
 behind_wait W entries live reads write a =
     cond_both (list_any is_swap entries) (map (begins_again live) reads) reads (λ (rs : List WaitingRead). AllWait W rs write) (λ is. record { reads_so = begins_wait W live reads a.reads_so; write_so = a.write_so }) (λ off. a)
 
@@ -233,12 +233,12 @@ module _ (W : CompoundRun → Type 0) (left : (c : CompoundRun) → W c → (c.o
   pub cases : Cases IsSo HeardAny W
   cases = record {
     wait = λ m es ss i file s at. wait_at m file s at i.waits;
-    quiet = λ m confirmed opens reclaimed recalls es ss i. i;
+    quiet = λ m confirmed opens reclaimed recalls old es ss i. i;
     tables = λ m move is es ss i. record { waits = i.waits; table = keeps m.sessions move is i.table; entries = i.entries; replies = i.replies; were = i.were };
     notes = λ m e note es ss i. record { waits = i.waits; table = i.table; entries = all_push E es e i.entries (plain e (note_no_return e note)); replies = i.replies; were = i.were };
     puts = λ m file s t at same holder seqid write waits es ss i. set m file t m.calls es ss ss (waits (wait_at m file s at i.waits)) i.replies i.were i;
     again_to = λ m file s client at its es ss i. held m file s client true at es ss i;
-    grants = λ m file n client t free was at es ss i.
+    grants = λ m file n client t from free was at es ss i.
         held (takes_input m file (AsksLayout n)).mds file t client false at (es ++ (takes_input m file (AsksLayout n)).entries) ss (asked m file (AsksLayout n) tt (served m file) refl es ss i);
     inputs = λ m file s input itself at fresh es ss i. inputs m file s input at (unasked_no_return input itself) es ss i;
     timeouts = λ m file s xid at fresh es ss i. inputs m file s (TimesOut xid) at tt es ss i;
@@ -340,7 +340,7 @@ module _ (W : CompoundRun → Type 0) (left : (c : CompoundRun) → W c → (c.o
                             (
                               (λ exchange waits any. exchanges IsSo HeardAny W cases m c now exchange),
                               (
-                                (λ create waits any. creates IsSo HeardAny W cases m c now create),
+                                (λ create waits any. creates IsSo HeardAny W cases m c now create (λ x es ss i. i)),
                                 (
                                   (λ session waits any. destroys_session IsSo HeardAny W cases m c session),
                                   (

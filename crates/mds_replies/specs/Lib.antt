@@ -5,3 +5,4 @@ pub mod ClientIds
 pub mod AnsweredRequests
 pub mod ReturnedPeriods
 pub mod GivenAnswers
+pub mod PeriodEntries

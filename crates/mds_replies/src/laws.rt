@@ -6,6 +6,7 @@ ghost use Rattle.mds_replies.specs.ClientIds.{IdsAreOwn, SessionsAreOwn};
 ghost use Rattle.mds_replies.specs.AnsweredRequests.{EachReplyStands};
 ghost use Rattle.mds_replies.specs.ReturnedPeriods.{ReturnsCome};
 ghost use Rattle.mds_replies.specs.GivenAnswers.{EachReplyIsWhole, EachAnswerIsNow, EachReplyIsAsked};
+ghost use Rattle.mds_replies.specs.PeriodEntries.{UidsEndOnce, PeriodsAreConfirmed};
 
 use mds_laws::slot_law;
 
@@ -54,4 +55,12 @@ pub fn answers_law()
     ensures whole { EachReplyIsWhole }
     ensures now { EachAnswerIsNow }
     ensures asked { EachReplyIsAsked }
+{}
+
+/// What the entries of a run say of periods: a uid is entered once as that of a period that ended (RFC 8881, section 12.5.5;
+/// RFC 8435, section 2.2). The node to which a client's period was granted is one from which a CREATE_SESSION was called with
+/// the client's id (RFC 8881, section 18.36).
+pub fn entries_law()
+    ensures ends_once { UidsEndOnce }
+    ensures confirmed { PeriodsAreConfirmed }
 {}

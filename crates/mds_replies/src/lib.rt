@@ -3,4 +3,6 @@
 
 mod laws;
 
-pub use laws::{answers_law, effect_law, id_law, period_law, replies_law, returns_law};
+pub use laws::{
+    answers_law, effect_law, entries_law, id_law, period_law, replies_law, returns_law,
+};

@@ -50,7 +50,7 @@ use Rattle.world_reads.proofs.OwnEntries.{IsToldStep, all_told}
 use Rattle.world_reads.proofs.MdsPlaces.{Steps}
 use Rattle.world_reads.proofs.LifeRecords.{compound}
 use Rattle.mds_replies.specs.AnsweredRequests.{StaysRoomy, reports_server, ReturnsSo}
-use Rattle.world_layouts.specs.PeriodEntries.{IsBegun, UidsEndOnce}
+use Rattle.mds_replies.specs.PeriodEntries.{IsBegun, UidsEndOnce}
 use Rattle.world_layouts.specs.WorldLayouts.{IsOneRequestEach, StartsAreFew, journal_at, ReturnsHaveEnded}
 use Rattle.world_layouts.proofs.LifeSends.{LifeSteps, hearing_from}
 use Rattle.world_layouts.proofs.HeardItems.{HeardReply, heard_reply}

@@ -36,7 +36,7 @@ use Rattle.world_moves.specs.WorldMoves.{IsRunOf}
 use Rattle.world_reads.specs.WorldReads.{IsJournalInRange}
 use Rattle.world_reads.proofs.LifeRecords.{compound}
 use Rattle.mds_replies.specs.AnsweredRequests.{StaysRoomy, layout_read}
-use Rattle.world_layouts.specs.PeriodEntries.{IsBegun, PeriodsBegin, IsConfirmed, PeriodsAreConfirmed}
+use Rattle.mds_replies.specs.PeriodEntries.{IsBegun, PeriodsBegin, IsConfirmed, PeriodsAreConfirmed}
 use Rattle.world_layouts.specs.WorldLayouts.{IsOneRequestEach, StartsAreFew, journal_at, GrantsAreTold}
 use Rattle.world_layouts.proofs.LifeSends.{LifeSteps}
 use Rattle.world_layouts.proofs.HeardCalls.{CameFrom, Arrival, came_at, caller_of}

@@ -4,7 +4,7 @@ use Rattle.cluster_world.specs.ClusterWorlds.{ClusterState}
 use Rattle.node_histories.specs.NodeHistories.{IsToldByNodes}
 use Rattle.world_moves.specs.WorldMoves.{IsRunOf}
 use Rattle.world_layouts.specs.AskedFits.{EachRunAsksFit}
-use Rattle.world_layouts.specs.PeriodEntries.{PeriodsBegin, PeriodsAreConfirmed, UidsEndOnce}
+use Rattle.mds_replies.specs.PeriodEntries.{PeriodsBegin}
 use Rattle.world_layouts.specs.ReturnedEnds.{ReturnsComeAtEnds}
 use Rattle.world_layouts.specs.WorldLayouts.{IsWorldRoomy, GrantsAreTold, UidsAreOwn, ReturnsAreSent, ReturnsHaveEnded}
 
@@ -12,8 +12,6 @@ use Rattle.world_layouts.specs.WorldLayouts.{IsWorldRoomy, GrantsAreTold, UidsAr
 pub record AssumedLaws : Type 0 where
   pub fit : EachRunAsksFit
   pub begin : PeriodsBegin
-  pub confirmed : PeriodsAreConfirmed
-  pub ends : UidsEndOnce
   pub come : ReturnsComeAtEnds
 
 pub record HasLayoutsInOrder {w : ClusterState} (told : IsToldByNodes w) : Type 0 where

@@ -1,5 +1,4 @@
 pub mod AskedFits
-pub mod PeriodEntries
 pub mod ReturnedEnds
 pub mod WorldLayouts
 pub mod LayoutsInOrder

@@ -7,7 +7,7 @@ use client_sessions::client_sessions;
 use mds_calls::every_mds_call;
 use mds_laws::mds_run_law;
 use mds_receive::receive_law;
-use mds_replies::{answers_law, id_law, period_law, replies_law};
+use mds_replies::{answers_law, entries_law, id_law, period_law, replies_law};
 use nfs4_compound::every_listing;
 use rpc_record::every_message;
 
@@ -27,6 +27,7 @@ pub fn world_layouts()
     mds_run_law();
     receive_law();
     answers_law();
+    entries_law();
     id_law();
     period_law();
     replies_law();

@@ -34,10 +34,10 @@ returns c = record {
               own = c.period_law.ensures.own;
             };
             begin = assumed.begin;
-            confirmed = assumed.confirmed;
+            confirmed = c.entries_law.ensures.confirmed;
           };
           once = c.mds_run_law.ensures.fresh;
-          ends = assumed.ends;
+          ends = c.entries_law.ensures.ends_once;
         };
         own = c.client_sessions.ensures.returns;
         come = assumed.come;
