@@ -19,4 +19,8 @@ pub mod Unreported
 pub mod UntoldStands
 pub mod ToldOf
 pub mod ToldCases
+pub mod GrantedNumbers
+pub mod FailureStatuses
+pub mod FittingNumbers
+pub mod FittingCases
 pub mod InRuns

@@ -1,3 +1,4 @@
 pub mod HeardReplies
 pub mod ClientSessions
 pub mod LayoutEnds
+pub mod FittingCalls

@@ -3,6 +3,7 @@
 ghost use Rattle.client_laws.specs.ClientRunLaws.{InEachRun};
 ghost use Rattle.client_sessions.specs.ClientSessions.{KeepsSlot, EachRunSaysWho};
 ghost use Rattle.client_sessions.specs.LayoutEnds.{AsksForOne, ReturnsOwn, EntersGranted, EachRunStraysAtOnce, EachRunTakesBytes};
+ghost use Rattle.client_sessions.specs.FittingCalls.{EachRunAsksFit};
 
 /// In every run of a client, whatever comes and in whichever order:
 ///
@@ -26,4 +27,15 @@ pub fn client_sessions()
     ensures enters { InEachRun EntersGranted }
     ensures strays { EachRunStraysAtOnce }
     ensures bytes { EachRunTakesBytes }
+{}
+
+/// In every run of a client, whatever comes and in whichever order, the numbers of each compound fit their forms, where the numbers
+/// with which the client starts fit their fields, what users ask is in range, and records are of bytes:
+///
+/// - a session's id has sixteen bytes, and a compound at most sixteen operations (RFC 8881, section 18.46);
+/// - a LAYOUTGET is of a file whose number has eight bytes (RFC 8881, section 18.43);
+/// - so is a LAYOUTRETURN, whose report names data servers by numbers of eight bytes and has a spelling (RFC 8881, section
+///   18.44; RFC 8435, section 9.1.1).
+pub fn fitting_calls()
+    ensures fit { EachRunAsksFit }
 {}

@@ -3,4 +3,4 @@
 
 mod laws;
 
-pub use laws::client_sessions;
+pub use laws::{client_sessions, fitting_calls};

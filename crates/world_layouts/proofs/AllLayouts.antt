@@ -8,12 +8,14 @@ use Rattle.world_layouts.specs.LayoutsInOrder.{HasLayoutsInOrder}
 use Rattle.world_layouts.proofs.GrantedUids.{uids_are_own}
 use Rattle.world_layouts.proofs.ToldGrants.{grants_are_told}
 use Rattle.world_layouts.proofs.EndedReturns.{returns_have_ended}
+use Rattle.world_layouts.proofs.OneStateid.{stateids_are_once}
 use Rattle.world_layouts.proofs.SentReturns.{SentLaws, returns_are_sent}
 
 pub all_layouts : SentLaws → (boots : List ℕ) (w : ClusterState) → IsRunOf boots w → (told : IsToldByNodes w) → IsWorldRoomy told → HasLayoutsInOrder told
 all_layouts laws boots w run told room = record {
   granted = grants_are_told laws.returns.grants boots w run told room.few_clients room.range room.mds room.starts room.one;
   uids = uids_are_own laws.returns.grants.layouts boots w run told room.few_clients room.range room.mds room.starts room.one;
+  stateids = stateids_are_once laws.returns.grants.layouts boots w run told room.few_clients room.range room.mds room.starts room.one;
   sent = returns_are_sent laws boots w run told room.few_clients room.range room.mds room.starts room.one;
   ended = returns_have_ended laws.returns boots w run told room.few_clients room.range room.mds room.starts room.one;
 }

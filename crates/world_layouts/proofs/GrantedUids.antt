@@ -143,7 +143,7 @@ module _ (laws : LayoutLaws) (boots : List ℕ) (w : ClusterState) (run : IsRunO
 
   -- ---- a uid is of one life
 
-  items_of_life : (n : ℕ) (l : Life) → HasLife t.stories n l → items_in l.steps ≡ client_history (start_of n l) l.inputs ++ []
+  pub items_of_life : (n : ℕ) (l : Life) → HasLife t.stories n l → items_in l.steps ≡ client_history (start_of n l) l.inputs ++ []
   items_of_life n l its = sym (life_is w t laws.ids.replies.calls.numbered n l its).facts.is.history ∙ sym (append-nil (client_history (start_of n l) l.inputs))
 
   pub uids_are_own : UidsAreOwn t

@@ -1,6 +1,7 @@
 pub mod MdsMoments
 pub mod OneLife
 pub mod LifeSends
+pub mod FittingAsks
 pub mod LifeRanges
 pub mod HeardCalls
 pub mod RepliesHeard
@@ -14,5 +15,6 @@ pub mod ToldGrants
 pub mod SlotTaken
 pub mod ToldEnds
 pub mod EndedReturns
+pub mod OneStateid
 pub mod SentReturns
 pub mod AllLayouts

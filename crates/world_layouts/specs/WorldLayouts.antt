@@ -60,6 +60,12 @@ UidsAreOwn told =
     (n k : ℕ) (l o : Life) (grant other : LayoutGrant) → HasLife told.stories n l → HasLife told.stories k o → WasGranted (client_history (start_of n l) l.inputs) grant
     → WasGranted (client_history (start_of k o) o.inputs) other → grant.uid.0 ≡ other.uid.0 → (n ≡ k) × (l ≡ o)
 
+-- of a life, two layouts under one stateid are under one uid (RFC 8881, section 12.5.2)
+abbrev pub StateidsAreOnce : {w : ClusterState} → IsToldByNodes w → Type 0
+StateidsAreOnce told =
+    (n : ℕ) (l : Life) (grant other : LayoutGrant) → HasLife told.stories n l → WasGranted (client_history (start_of n l) l.inputs) grant → WasGranted (client_history (start_of n l) l.inputs) other → grant.stateid ≡ other.stateid
+    → grant.uid.0 ≡ other.uid.0
+
 -- ---- what a period that ends as returned stands on
 
 -- a life sent a LAYOUTRETURN of its grant under this uid, behind these steps and before the end; the mirrors that are live at the end are the

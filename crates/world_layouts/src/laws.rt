@@ -3,7 +3,7 @@
 ghost use Rattle.world_layouts.specs.LayoutsInOrder.{EachWorldIsInOrder};
 
 use client_records::client_records;
-use client_sessions::client_sessions;
+use client_sessions::{client_sessions, fitting_calls};
 use mds_calls::every_mds_call;
 use mds_laws::mds_run_law;
 use mds_receive::receive_law;
@@ -23,6 +23,7 @@ pub fn world_layouts()
 {
     client_records();
     client_sessions();
+    fitting_calls();
     every_mds_call();
     mds_run_law();
     receive_law();

@@ -1,3 +1,4 @@
+use Rattle.world_layouts.proofs.FittingAsks.{asks_fit}
 use Rattle.world_layouts.proofs.AllLayouts.{all_layouts}
 use Rattle.world_layouts.proofs.laws.world_layouts.Goals as goal
 
@@ -19,7 +20,7 @@ returns c = record {
                     replies = c.every_message.ensures.reply_again;
                     spells = c.every_message.ensures.reply_spelled;
                     taken = c.receive_law.ensures.taken;
-                    fit = assumed.fit;
+                    fit = asks_fit c.fitting_calls.ensures.fit;
                   };
                   stands = c.replies_law.ensures.stands;
                   whole = c.answers_law.ensures.whole;

@@ -1,0 +1,2 @@
+pub mod HolderPremises
+pub mod WorldHolders
