@@ -11,6 +11,7 @@ use Rattle.client_records.proofs.InputsKeep.{RunIs}
 use Rattle.client_records.proofs.EachRun.{any_inputs, in_each_run}
 use Rattle.client_sessions.specs.ClientSessions.{SaysWho, KeepsSlot, EachRunSaysWho}
 use Rattle.client_sessions.specs.LayoutEnds.{AsksForOne, ReturnsOwn, EntersUnder, EntersGranted}
+use Rattle.client_sessions.specs.EnteredFiles.{EntersForFile}
 use Rattle.client_sessions.proofs.Slots.{Slots}
 use Rattle.client_sessions.proofs.SlotCases.{slot_cases}
 use Rattle.client_sessions.proofs.LayoutsHeld.{Layouts}
@@ -101,3 +102,6 @@ pub enters_granted : InEachRun EntersGranted
 enters_granted number verifier first_xid inputs =
     let history : List HistoryItem = client_history (fresh_client number verifier first_xid) inputs in
     each_weaker (λ past item. SaysHeld past item × TellsHeld past item) EntersGranted item_granted [] history (each_both SaysHeld TellsHeld [] history (held_in number verifier first_xid inputs) (told_in number verifier first_xid inputs))
+
+pub enters_for_file : InEachRun EntersForFile
+enters_for_file number verifier first_xid inputs = each_weaker SaysHeld EntersForFile (λ past item so. so.3) [] (client_history (fresh_client number verifier first_xid) inputs) (held_in number verifier first_xid inputs)

@@ -1,7 +1,7 @@
 -- What a client asks for, gives back and enters under its layouts, in each case of what an event can do.
 use Rattle.std.proofs.Common.{◌≡◌, ◌≢◌, ℕ, Bool, true, false, List, [], ◌∷◌, ◌++◌, length, Option, Some, None, refl, sym, ap, subst, ◌∙◌, inl, inr, ◌⊎◌}
-use Rattle.std.specs.Prelude.{◌==◌}
-use Rattle.std.specs.List.{AllByRecursion}
+use Rattle.std.specs.Prelude.{◌==◌, slice_get}
+use Rattle.std.specs.List.{AllByRecursion, filter}
 use Rattle.std.proofs.lemmas.Bool.{eqb-true}
 use Rattle.std.proofs.lemmas.Option.{none-some}
 use Rattle.rpc_record.specs.Replies.{RpcReply}
@@ -10,9 +10,12 @@ use Rattle.device_addr.specs.declared.net_addr.NetAddr.{NetAddr}
 use Rattle.cluster_model.specs.declared.ids.NodeId.TheVariants.{Mds, Server, Client as AClient}
 use Rattle.cluster_model.specs.declared.entry.Entry.TheVariants.{Sent, Rogue, Told, TimedOut, Answer}
 use Rattle.cluster_model.specs.DsCalls as ds
+use Rattle.cluster_model.specs.declared.ids.FileId.{FileId}
 use Rattle.cluster_model.specs.declared.ids.MirrorId.{MirrorId}
 use Rattle.cluster_model.specs.declared.phase.LeftCause.{LeftCause}
-use Rattle.mirror_writer.specs.Writers.{WriterAfter, WriterSends, commit_wanted, next_sent, with_write}
+use Rattle.mirror_writer.specs.declared.call.TakenWrite.{TakenWrite}
+use Rattle.mirror_writer.specs.Outstanding.{is_covered_everywhere}
+use Rattle.mirror_writer.specs.Writers.{WriterValue, WriterAfter, WriterSends, commit_wanted, next_sent, with_write}
 use Rattle.mds_file_calls.specs.declared.open.OpenFile.{OpenFile}
 use Rattle.mds_file_calls.specs.declared.grant.LayoutGrant.{LayoutGrant}
 use Rattle.mds_calls.specs.declared.ask.MdsAsk.{MdsAsk}
@@ -30,18 +33,21 @@ use Rattle.client_state.specs.ClientStates.{ClientValue}
 use Rattle.client_state.specs.ClientQueue.{with_writer, ending}
 use Rattle.client_state.specs.ClientSends.{CallsServer, CallsMds, RepeatsToServer, RepeatsToMds, RepliesToMds}
 use Rattle.client_calls.specs.ClientCalls.{xid_after}
-use Rattle.client_answers.specs.ClientMirrors.{with_failed, has_writer}
+use Rattle.client_answers.specs.ClientMirrors.{told_entry, told_entries, counted_on, tells, tells_covered, with_failed, has_writer}
 use Rattle.client_answers.specs.ClientAnswers.{moved_tie, fresh_session, completed_tie, new_layout, learns_devices, has_session}
 use Rattle.mirror_client.specs.ClientRule.{layout_at_tick}
-use Rattle.client_laws.specs.ClientHistory.{ClientInput, Requested, Recorded, LeftProtocol, HistoryItem, Hears, Enters, Sends, entered}
+use Rattle.client_laws.specs.ClientHistory.{ClientInput, Requested, Recorded, LeftProtocol, HistoryItem, Hears, Enters, Sends, entered, Each}
+use Rattle.client_laws.proofs.Later.{granted_later}
 use Rattle.client_laws.proofs.GrantFacts.{granted_kind, returned_kind}
 use Rattle.client_laws.proofs.Stands.{WriterStands, IfThere}
 use Rattle.client_laws.proofs.WriterMoves.{write_taken, writer_later, send_moves}
-use Rattle.client_records.proofs.Cases.{ComesTo, comes_by, Adds, IsAnswered, said, IsTieBehind, free, heard_mds, heard_late, IsTaking, IsServed, IsIdle, StartsOver, Cases}
+use Rattle.client_records.proofs.Joins.{RunKeeps}
+use Rattle.client_records.proofs.Cases.{ComesTo, ByReply, ByTimeout, comes_by, Adds, IsAnswered, said, IsTieBehind, free, heard_mds, heard_late, IsTaking, IsServed, IsIdle, StartsOver, Cases}
 use Rattle.client_records.proofs.Told.{any_tells, any_covers}
 use Rattle.client_records.proofs.EachRun.{Base}
 use Rattle.client_sessions.specs.ClientSessions.{SaysWho, KeepsSlot}
 use Rattle.client_sessions.specs.LayoutEnds.{HasLayoutEnded, AsksForOne, ReturnsOwn, HasGrant, HasNotLeft}
+use Rattle.client_sessions.specs.EnteredFiles.{HasGrantFor}
 use Rattle.client_sessions.proofs.AnswerKinds.{granted_taken, IsAnswerTo, answer_to}
 use Rattle.client_sessions.proofs.CallsMade.{KindStands}
 use Rattle.client_sessions.proofs.SlotStands.{AskedOut}
@@ -52,7 +58,7 @@ use Rattle.client_sessions.proofs.Settling.{ended_session, ended_return}
 use Rattle.client_sessions.proofs.WritersSince.{HasWriter, other_layout, came_layout, fenced_layout}
 use Rattle.client_sessions.proofs.LayoutAsks.{asks_one, returns_own, layouts_asked}
 use Rattle.client_sessions.proofs.LayoutAnswers.{KeepsHold, answered, ended, granted}
-use Rattle.client_sessions.proofs.LayoutsHeld.{any_server, IsHere, LayoutOf, LayoutsOf, Layouts, settles_later, some_later, some_held, KeepsLayout, ending_keeps, KeepsSome, layouts_later, same_some, there_some, later, relayout, its_layout, has_grant, stays_item}
+use Rattle.client_sessions.proofs.LayoutsHeld.{any_server, IsHere, LayoutOf, LayoutsOf, Layouts, settles_later, some_later, some_held, KeepsLayout, ending_keeps, KeepsSome, layouts_later, same_some, there_some, later, relayout, its_layout, has_grant, has_grant_for, stays_item}
 use Rattle.client_sessions.proofs.LayoutSteps.{EntersHeld, SaysHeld, Holds, ticked_some, behind_some, behind_here, moved_here, completed_here, behind_final, same_out, called_back, GrantsNone, none_granted, served_none, idle_none, no_session_no_layout, new_ends}
 
 -- a layout of which a mirror failed
@@ -66,9 +72,37 @@ lost_writer name l after id cause =
     let keeps : HasWriter name l after.writer (ending (with_failed (with_writer l after.writer) id cause)) = failed_writer name l after id cause in
     record { stateid = keeps.stateid; cred = keeps.cred; stands = keeps.stands }
 
+abbrev AnyItem : List HistoryItem → HistoryItem → Type 0
+AnyItem past item = Unit {0}
+
+grant_for_later : (past more : List HistoryItem) (file : FileId) (uid : ℕ) → HasGrantFor past file uid → HasGrantFor (past ++ more) file uid
+grant_for_later past more file uid g = record { grant = g.grant; granted = granted_later past more g.grant g.granted; its_uid = g.its_uid; its_file = g.its_file }
+
+-- each write that is told is so for the file of the layout
+each_told : (past : List HistoryItem) (file : OpenFile) (w : WriterValue) (ns : List ℕ) → HasGrantFor past file.file w.cred → Each SaysHeld past (entered (told_entries file w ns))
+each_told past file w [] g = tt
+each_told past file w (n ∷ ns) g = by_write (slice_get w.taken n) (each_told past file w ns g) (λ item. each_told (past ++ item ∷ []) file w ns (grant_for_later past (item ∷ []) file.file w.cred g))
+  where
+    by_write : (o : Option TakenWrite) → Each SaysHeld past (entered (told_entries file w ns)) → ((item : HistoryItem) → Each SaysHeld (past ++ item ∷ []) (entered (told_entries file w ns)))
+        → Each SaysHeld past (entered (told_entry file w.cred o ++ told_entries file w ns))
+    by_write None rest further = rest
+    by_write (Some t) rest further = ((tt, tt, tt, g), further (Enters (Told file.file (record { 0 = w.cred }) t.at t.bytes)))
+
+-- the file is the one that is open
+comes_file : (B : List HistoryItem → ClientValue → Type 0) (Q : ClientInput → Type 0) (I : List HistoryItem → ClientValue → Type 0) (past : List HistoryItem) (c : ClientValue) (file : OpenFile) (l : Layout) (after : WriterAfter) → ComesTo B Q I past c file l after → c.file ≡ Some file
+comes_file B Q I past c file l after (ByReply h server bytes now reply out s past_is is) = s.file_is
+comes_file B Q I past c file l after (ByTimeout h server out s past_is is) = s.file_is
+
 module _ (number verifier : ℕ) where
-  told_so : (past : List HistoryItem) (c : ClientValue) (file : OpenFile) (cred at : ℕ) (bytes : List ℕ) → Holds number verifier past c → Adds (Holds number verifier) SaysHeld past (Enters (Told file.file (record { 0 = cred }) at bytes)) c
-  told_so past c file cred at bytes i = ((tt, tt, tt), (slots.later number verifier past c i.0 (Enters (Told file.file (record { 0 = cred }) at bytes)) tt, later past c i.1 (Enters (Told file.file (record { 0 = cred }) at bytes)) tt tt))
+  told_so : (past : List HistoryItem) (c : ClientValue) (file : OpenFile) (cred at : ℕ) (bytes : List ℕ) → Holds number verifier past c → Adds (Holds number verifier) AnyItem past (Enters (Told file.file (record { 0 = cred }) at bytes)) c
+  told_so past c file cred at bytes i = (tt, (slots.later number verifier past c i.0 (Enters (Told file.file (record { 0 = cred }) at bytes)) tt, later past c i.1 (Enters (Told file.file (record { 0 = cred }) at bytes)) tt tt))
+
+  tells_held : (past : List HistoryItem) (file : OpenFile) (w : WriterValue) (ns : List ℕ) (c : ClientValue) → HasGrantFor past file.file w.cred → Holds number verifier past (record c { told = counted_on c.told (length ns) }) → RunKeeps (Holds number verifier) SaysHeld past (tells file w ns c)
+  tells_held past file w ns c g i = record { entries = each_told past file w ns g; keeps = (any_tells (Holds number verifier) AnyItem told_so past file w ns c i).keeps }
+
+  covers_held : (past : List HistoryItem) (file : OpenFile) (l : Layout) (c : ClientValue) → HasGrantFor past file.file l.writer.cred → ((untold : List ℕ) (told : ℕ) → Holds number verifier past (record c { layout = Some (record l { untold = untold }); told = told }))
+      → RunKeeps (Holds number verifier) SaysHeld past (tells_covered file (Some l) c)
+  covers_held past file l c g i = record { entries = each_told past file l.writer (filter (is_covered_everywhere l.writer) l.untold) g; keeps = (any_covers (Holds number verifier) AnyItem told_so past file l c i).keeps }
 
   -- another layout in the place of the one that is there
   its_some : (past : List HistoryItem) (c : ClientValue) (l new : Layout) → c.layout ≡ Some l → KeepsLayout c.name l new → Layouts past c → LayoutsOf past c.name c.tie c.file (Some new) c.asked c.has_left
@@ -173,23 +207,23 @@ module _ (number verifier : ℕ) where
 
   pub layout_cases : Cases Base (λ (input : ClientInput). Unit {0}) (Holds number verifier) SaysHeld
   layout_cases = record {
-    heard = λ past input. (tt, tt, tt);
+    heard = λ past input. (tt, tt, tt, tt);
     hears = λ h c input stays q i. (k.hears h c input stays q i.0, later h c i.1 (Hears input) tt (stays_item input stays));
     requests = λ h c request q i. (k.requests h c request q i.0, later h c i.1 (Hears (Requested request)) tt tt);
     leaves = λ h c i. (k.leaves h c i.0, left_so h c i.1);
     ticks = λ past c i. (k.ticks past c i.0, relayout past c i.1 (layout_at_tick c.layout) (ticked_some c.name c.layout));
-    answers = λ past c a answers told i. ((tt, tt, tt), ((k.answers past c a answers told i.0).1, later past c i.1 (Enters (Answer c.number a)) tt tt));
+    answers = λ past c a answers told i. ((tt, tt, tt, tt), ((k.answers past c a answers told i.0).1, later past c i.1 (Enters (Answer c.number a)) tt tt));
     done = λ past c request rest at may i. (k.done past c request rest at may i.0, i.1);
     takes = λ past c file l at bytes rest taking i. (
-      (tt, tt, (has_grant past c i.1 l taking.layout, i.1.left taking.stays)),
+      (tt, tt, (has_grant past c i.1 l taking.layout, i.1.left taking.stays), has_grant_for past c i.1 file l taking.file_is taking.layout),
       ((k.takes past c file l at bytes rest taking i.0).1, takes_so past c file l at bytes (l.untold ++ length l.writer.taken ∷ []) taking.layout i.1),
     );
     ends = λ past c l at i. (k.ends past c l at i.0, its_some past c l (ending l) at (ending_keeps c.name l) i.1);
     commits = λ past c l at i. (k.commits past c l at i.0, its_some past c l (with_writer l (commit_wanted l.writer)) at (record { stateid = refl; cred = refl; stands = λ h s. s }) i.1);
-    calls = λ past c l s at some is i. ((tt, tt, tt), ((k.calls past c l s at some is i.0).1, calls_so past c l s at is i.1));
+    calls = λ past c l s at some is i. ((tt, tt, tt, tt), ((k.calls past c l s at some is i.0).1, calls_so past c l s at is i.1));
     asks = λ past c kind call none some due is i.
         (let m = made number verifier past c i.0 kind call due is in (
-          (asks_one past c kind call none m.0 m.1 i.1, returns_own past c kind call none m.0 m.1 i.1, tt),
+          (asks_one past c kind call none m.0 m.1 i.1, returns_own past c kind call none m.0 m.1 i.1, tt, tt),
           ((k.asks past c kind call none some due is i.0).1, layouts_asked past c kind call none m.0 m.1 i.1),
         ));
     client = λ h c a bytes now reply tie s behind i clientid sequence is. (
@@ -211,7 +245,7 @@ module _ (number verifier : ℕ) where
     served = λ h c a bytes now reply tie s behind i is. (k.served h c a bytes now reply tie s behind i.0 is, goes_on h c a bytes now reply s i tie behind c.layout (same_some h c i.1) (served_none (said a reply).answer is));
     idle = λ h c a bytes now reply tie s behind i is. (k.idle h c a bytes now reply tie s behind i.0 is, goes_on h c a bytes now reply s i tie behind c.layout (same_some h c i.1) (idle_none (said a reply).answer is));
     returned = λ h c a bytes now reply tie s behind i file l is there at.
-        any_tells (Holds number verifier) SaysHeld told_so (heard_mds h bytes now) file l.writer l.untold (record (free tie c) { layout = None }) (
+        tells_held (heard_mds h bytes now) file l.writer l.untold (record (free tie c) { layout = None }) (grant_for_later h (Hears (Recorded Mds bytes now) ∷ []) file.file l.writer.cred (has_grant_for h c i.1 file l there at)) (
           freed number verifier h c a bytes now reply s i.0 tie c.file None c.devices (by_answer number verifier h c a bytes now reply s i.0 tie behind Returned is (λ takes. takes) (λ e. absurd cc)),
           ends_so h c a bytes now reply s i tie tie behind c.file (subst GrantsNone (sym is) tt) (return_ends h c a bytes now reply s i (returned_kind a.ask reply is) (inl is)),
         );
@@ -227,14 +261,16 @@ module _ (number verifier : ℕ) where
     again = λ h c a bytes now reply s at i. (k.again h c a bytes now reply s at i.0, again_so h c a bytes now reply s i at);
     delays = λ h c a bytes now reply s at i. (k.delays h c a bytes now reply s at i.0, same_out (heard_mds h bytes now) c a true s.out (later h c i.1 (Hears (Recorded Mds bytes now)) tt tt));
     wakes = λ past c a at i. (k.wakes past c a at i.0, same_out past c a false at i.1);
-    repeats_mds = λ past c a at i. ((tt, tt, tt), ((k.repeats_mds past c a at i.0).1, later past c i.1 (Sends (RepeatsToMds a.xid a.message)) tt tt));
-    timed = λ past c xid i. ((tt, tt, tt), ((k.timed past c xid i.0).1, later past c i.1 (Enters (TimedOut (AClient c.number) xid)) tt tt));
+    repeats_mds = λ past c a at i. ((tt, tt, tt, tt), ((k.repeats_mds past c a at i.0).1, later past c i.1 (Sends (RepeatsToMds a.xid a.message)) tt tt));
+    timed = λ past c xid i. ((tt, tt, tt, tt), ((k.timed past c xid i.0).1, later past c i.1 (Enters (TimedOut (AClient c.number) xid)) tt tt));
     moves = λ past c file l after comes quiet i. (
       k.moves past c file l after (its_slots past c file l after comes) quiet i.0,
       came_layout (λ (input : ClientInput). Unit {0}) (Holds number verifier) its past c file l after comes i.1 (with_writer l after.writer) (record { stateid = refl; cred = refl; stands = λ h s. s }),
     );
     covers = λ past c file l after comes quiet i.
-        any_covers (Holds number verifier) SaysHeld told_so past file (with_writer l after.writer) (has_writer c l after) (λ untold told. untold_so past (has_writer c l after) (with_writer l after.writer) untold refl i);
+        covers_held past file (with_writer l after.writer) (has_writer c l after)
+        (has_grant_for past (has_writer c l after) i.1 file (with_writer l after.writer) (comes_file Base (λ (input : ClientInput). Unit {0}) (Holds number verifier) past c file l after comes) refl)
+        (λ untold told. untold_so past (has_writer c l after) (with_writer l after.writer) untold refl i);
     fails = λ past c file l after id cause comes is some i. (
       k.fails past c file l after id cause (its_slots past c file l after comes) is some i.0,
       came_layout (λ (input : ClientInput). Unit {0}) (Holds number verifier) its past c file l after comes i.1 (ending (with_failed (with_writer l after.writer) id cause)) (failed_writer c.name l after id cause),
@@ -248,20 +284,20 @@ module _ (number verifier : ℕ) where
       fenced_layout (λ (input : ClientInput). Unit {0}) (Holds number verifier) its past c file l after comes id status is,
     );
     repeats_server = λ h c file l server out late entries d j. (
-      (tt, tt, tt),
+      (tt, tt, tt, tt),
       (
         slots.later number verifier (heard_late h server ++ entered entries) d j.0 (Sends (RepeatsToServer server out.xid c.name l.writer.cred out.call)) tt,
         later (heard_late h server ++ entered entries) d j.1 (Sends (RepeatsToServer server out.xid c.name l.writer.cred out.call)) tt tt,
       ),
     );
     callbacks = λ past c s slot at i. (k.callbacks past c s slot at i.0, called_back past c s slot at i.1);
-    replies = λ past d bytes now reply q call i. ((tt, tt, tt), ((k.replies past d bytes now reply q call i.0).1, later past d i.1 (Sends (RepliesToMds reply)) tt tt));
+    replies = λ past d bytes now reply q call i. ((tt, tt, tt, tt), ((k.replies past d bytes now reply q call i.0).1, later past d i.1 (Sends (RepliesToMds reply)) tt tt));
     strays = λ past c file l place at bytes m q straying i.
         (let rogue : HistoryItem = Enters (Rogue file.file (record { 0 = l.writer.cred }) at bytes) in
         let next : Slots number verifier (past ++ rogue ∷ []) c × Layouts (past ++ rogue ∷ []) c = (slots.later number verifier past c i.0 rogue tt, later past c i.1 rogue tt tt) in (
-          (tt, tt, has_grant past c i.1 l straying.layout),
+          (tt, tt, has_grant past c i.1 l straying.layout, has_grant_for past c i.1 file l straying.file_is straying.layout),
           (
-            (tt, tt, tt),
+            (tt, tt, tt, tt),
             (
               slots.later number verifier (past ++ rogue ∷ []) c next.0 (Sends (CallsServer m.id.server c.next_xid c.name l.writer.cred (ds.Write m.id.fileid at false bytes))) tt,
               later (past ++ rogue ∷ []) c next.1 (Sends (CallsServer m.id.server c.next_xid c.name l.writer.cred (ds.Write m.id.fileid at false bytes))) tt tt,

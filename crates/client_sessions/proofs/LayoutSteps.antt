@@ -46,6 +46,7 @@ use Rattle.client_records.proofs.Told.{any_tells, any_covers}
 use Rattle.client_records.proofs.EachRun.{Base}
 use Rattle.client_sessions.specs.HeardReplies.{IsNoCompound}
 use Rattle.client_sessions.specs.LayoutEnds.{AsksForOne, ReturnsOwn, HasGrant, HasNotLeft}
+use Rattle.client_sessions.specs.EnteredFiles.{EntersForFile}
 use Rattle.client_sessions.proofs.AnswerKinds.{granted_taken, refused_apart, IsAnswerTo, answer_to}
 use Rattle.client_sessions.proofs.CallsMade.{KindStands, IsBy}
 use Rattle.client_sessions.proofs.SlotStands.{AskedOut}
@@ -70,7 +71,7 @@ EntersHeld past (Enters entry) = HeldEntry past entry
 EntersHeld past item = Unit {0}
 
 abbrev pub SaysHeld : List HistoryItem → HistoryItem → Type 0
-SaysHeld past item = AsksForOne past item × ReturnsOwn past item × EntersHeld past item
+SaysHeld past item = AsksForOne past item × ReturnsOwn past item × EntersHeld past item × EntersForFile past item
 
 abbrev pub Holds : ℕ → ℕ → List HistoryItem → ClientValue → Type 0
 Holds number verifier past c = Slots number verifier past c × Layouts past c

@@ -2,7 +2,7 @@
 use Rattle.std.proofs.Common.{◌≡◌, ℕ, Bool, true, false, List, [], ◌∷◌, ◌++◌, length, Option, Some, None, refl, sym, ap, subst, ◌∙◌, inl, inr, ◌⊎◌}
 use Rattle.std.specs.List.{AllByRecursion}
 use Rattle.std.proofs.lemmas.List.{append-nil}
-use Rattle.std.proofs.lemmas.Option.{none-some}
+use Rattle.std.proofs.lemmas.Option.{none-some, same_Some}
 use Rattle.nfs4_types.specs.declared.ids.SessionId.{SessionId}
 use Rattle.nfs4_types.specs.declared.stateid.Stateid.{Stateid}
 use Rattle.cluster_model.specs.declared.ids.FileId.{FileId}
@@ -31,6 +31,7 @@ use Rattle.client_laws.proofs.WriterMoves.{writer_later}
 use Rattle.client_records.proofs.Cases.{IsStaying}
 use Rattle.client_sessions.specs.HeardReplies.{IsHeard, IsNoCompound}
 use Rattle.client_sessions.specs.LayoutEnds.{IsAskSettled, HasGrant, HasNotLeft}
+use Rattle.client_sessions.specs.EnteredFiles.{HasGrantFor}
 use Rattle.client_sessions.proofs.HeardLater.{all_more, heard_later, settled_later, granted_of}
 use Rattle.client_sessions.proofs.SlotStands.{AskedOut, asked_later}
 
@@ -236,6 +237,17 @@ module _ (past : List HistoryItem) (c : ClientValue) (i : Layouts past c) where
   has_grant l at =
       let o : LayoutOf past i.held c.name c.tie c.file c.asked l.stateid l.writer = its_layout l at in
       record { grant = o.grant; granted = granted_of past i.held c.name o.session o.sequence o.other o.says o.behind o.grant o.heard o.is; its_uid = sym o.uid_is }
+
+  -- it is for the file that is open
+  pub has_grant_for : (file : OpenFile) (l : Layout) → c.file ≡ Some file → c.layout ≡ Some l → HasGrantFor past file.file l.writer.cred
+  has_grant_for file l there at =
+      let o : LayoutOf past i.held c.name c.tie c.file c.asked l.stateid l.writer = its_layout l at in
+      record {
+        grant = o.grant;
+        granted = granted_of past i.held c.name o.session o.sequence o.other o.says o.behind o.grant o.heard o.is;
+        its_uid = sym o.uid_is;
+        its_file = ap (λ (f : OpenFile). f.file) (same_Some o.other file (sym o.file_is ∙ there));
+      }
 
 pub stays_item : (input : ClientInput) → IsStaying input → HasNotLeft (Hears input)
 stays_item (Requested request) stays = tt

@@ -4,6 +4,7 @@ ghost use Rattle.client_laws.specs.ClientRunLaws.{InEachRun};
 ghost use Rattle.client_sessions.specs.ClientSessions.{KeepsSlot, EachRunSaysWho};
 ghost use Rattle.client_sessions.specs.LayoutEnds.{AsksForOne, ReturnsOwn, EntersGranted, EachRunStraysAtOnce, EachRunTakesBytes};
 ghost use Rattle.client_sessions.specs.FittingCalls.{EachRunAsksFit};
+ghost use Rattle.client_sessions.specs.EnteredFiles.{EntersForFile};
 
 /// In every run of a client, whatever comes and in whichever order:
 ///
@@ -38,4 +39,11 @@ pub fn client_sessions()
 ///   18.44; RFC 8435, section 9.1.1).
 pub fn fitting_calls()
     ensures fit { EachRunAsksFit }
+{}
+
+/// In every run of a client, whatever comes and in whichever order, a write is taken, strays and is told for a file for which a
+/// layout was granted, and under the uid of that layout: the reply that granted it was to a LAYOUTGET of this file (RFC 8881,
+/// section 18.43; RFC 8435, section 2.2).
+pub fn entered_files()
+    ensures files { InEachRun EntersForFile }
 {}

@@ -288,7 +288,11 @@ module _ (I : MdsValue → List Entry → List MdsSend → Type 0) (Heard : Hear
       let failed : Bool = has_failed_everywhere w.failures s.file.layout.live in
       becomes_keeps I m n (write_over now x w.compound (length w.bytes) failed)
       (k.puts m file s (record s { write = None }) is refl refl refl tt (λ a. record { reads_so = a.reads_so; write_so = λ y none. absurd (none-some y none) }))
-      (then_keeps I n x (λ y. resumes now (write_answer y w.compound (length w.bytes) failed) w.compound.ops) (silent_keeps I n x (takes I Heard W k n file (OwnEnds causes w.at w.bytes) refl))
+      (then_keeps I n x (λ y. resumes now (write_answer y w.compound (length w.bytes) failed) w.compound.ops) (silent_keeps I n x
+      (takes_by I Heard W k n file (OwnEnds causes w.at w.bytes)
+      (λ t at.
+      subst (λ (y : ServedFile). has_fresh n.fresh ≡ true → Enters I n (file_stepped n file t (phase file t.file (OwnEnds (failures_by_place w.failures y.file.layout.live) w.at w.bytes) n.fresh)).mds (phase file t.file (OwnEnds (failures_by_place w.failures y.file.layout.live) w.at w.bytes) n.fresh).entries)
+      (same_Some t (record s { write = None }) (sym at ∙ served_again m file s (record s { write = None }) is)) (k.own_ends n file t w.failures w.at w.bytes at))))
       (λ y. write_goes_on now y w.compound (length w.bytes) failed so))
 
   write_of_walk : (now : ℕ) (m : MdsValue) (file : FileId) (step : WriterValue → WriterAfter) → ((w : WriterValue) → StaysWriter w (step w).writer) → (s : ServedFile) → served m file ≡ Some s

@@ -21,7 +21,7 @@ use Rattle.cluster_model.specs.declared.layout_state.LayoutPhase.TheVariants.{Fr
 use Rattle.cluster_model.specs.Phases.{holder_of}
 use Rattle.file_rule.specs.declared.fresh.Fresh.{Fresh}
 use Rattle.file_rule.specs.MdsFiles.{MdsFile, FileStep}
-use Rattle.file_rule.specs.FilePhases.{FileInput, AsksLayout, Returns, Answers as IsAnswer, TimesOut, Sees, are_spent, new_mds_file, phase}
+use Rattle.file_rule.specs.FilePhases.{FileInput, AsksLayout, Returns, Answers as IsAnswer, OwnEnds, TimesOut, Sees, are_spent, new_mds_file, phase}
 use Rattle.mds_rows.specs.Draws.{drawn}
 use Rattle.recall.specs.Recalls.{without_file}
 use Rattle.nfs4_types.specs.declared.sequence.Sequence.{Sequence}
@@ -42,7 +42,9 @@ use Rattle.mds_calls.specs.MdsCalls.{SlotCallValue, MdsCallValue, ExchangeId, Cr
 use Rattle.mds_calls.specs.MdsCalls as slot
 use Rattle.mds_calls.specs.MdsCompounds.{slot_ops, mds_ops}
 use Rattle.mds_receive.specs.MdsReceive.{IsCompound, incoming_of}
-use Rattle.mds_rule.specs.Answers.{own_answer}
+use Rattle.ff_layout.specs.IoError.{ff_ioerr4}
+use Rattle.layout_report.specs.Reports.{report_of}
+use Rattle.mds_rule.specs.Answers.{failures_by_place, own_answer}
 use Rattle.mds_rule.specs.MdsStates.{CompoundRun, WaitingWrite, ServedFile, MdsSend, Replies, Answers, MdsValue, MdsStep, sends_none, confirmed_node, served, with_served, new_mds}
 use Rattle.mds_rule.specs.OpSteps.{OpStep, Goes, Ends, Waits, with_result, refuses, refused_as, unread, stopped, is_operation_number}
 use Rattle.mds_rule.specs.ServedFiles.{has_fresh, is_period_end, file_behind, file_stepped, input_at, takes_input}
@@ -259,6 +261,7 @@ module _ (Ok : ℕ → NodeId → Type 0) where
     );
     grants = λ m file n client t from free was at es ss i. (hold.cases.grants m file n client t from free was at es ss i.0, granted m file n client t from was at es ss i);
     inputs = λ m file s input itself. inputs m file s input;
+    own_ends = λ m file s failures place bytes. inputs m file s (OwnEnds (failures_by_place failures s.file.layout.live) place bytes);
     timeouts = λ m file s xid. inputs m file s (TimesOut xid);
     hears = λ m file s call server own uid c replies heard caller sent out. inputs m file s (IsAnswer call.xid (own_answer c (replies c)));
     learns = λ m file s call server own uid c replies fileid shown heard caller sent named shows. inputs m file s (Sees (record { server = server; fileid = fileid }) shown.seen);
@@ -314,8 +317,8 @@ module _ (Ok : ℕ → NodeId → Type 0) where
   op_keeps m c (Ends n entries d status) next q like all = enters_keeps IsSo m n entries (finishes n d status) q (finish_keeps n d status)
   op_keeps m c (Waits n entries) next q like all = enters_keeps IsSo m n entries (sends_none n) q (same IsSo n)
 
-  returned : (m : MdsValue) (file : FileId) (s : ServedFile) (n : ℕ) (cred : Cred) (places : List Bool) → TakesInput IsSo m file s (Returns n cred places)
-  returned m file s n cred places = inputs m file s (Returns n cred places)
+  returned : (m : MdsValue) (file : FileId) (s : ServedFile) (n : ℕ) (cred : Cred) (errors : List (Value ff_ioerr4)) → TakesInput IsSo m file s (Returns n cred (report_of errors s.file.layout.live))
+  returned m file s n cred errors = inputs m file s (Returns n cred (report_of errors s.file.layout.live))
 
   operate_keeps : (now : ℕ) (m : MdsValue) (c : CompoundRun) → W c → (op : Value argop4) → MayRun c.node op → KeepsOp IsSo m (operate now m c op)
   operate_keeps now m c its op =

@@ -8,6 +8,10 @@ use Rattle.cluster_model.specs.declared.ids.NodeId.{NodeId}
 use Rattle.cluster_model.specs.declared.ids.NodeId.TheVariants.{Client}
 use Rattle.cluster_model.specs.declared.ids.FileId.{FileId}
 use Rattle.cluster_model.specs.declared.ids.Cred.{Cred}
+use Rattle.cluster_model.specs.declared.ids.MirrorId.{MirrorId}
+use Rattle.cluster_model.specs.declared.phase.LeftCause.{LeftCause}
+use Rattle.ff_layout.specs.IoError.{ff_ioerr4}
+use Rattle.layout_report.specs.Reports.{report_of}
 use Rattle.cluster_model.specs.declared.layout_state.LayoutPhase.TheVariants.{Free}
 use Rattle.cluster_model.specs.declared.entry.Entry.{Entry}
 use Rattle.cluster_model.specs.DsCalls.{DsCallValue, DsReplyValue}
@@ -27,20 +31,20 @@ use Rattle.mds_rule.specs.ServedFiles.{takes_input}
 use Rattle.mds_rule.specs.SessionOps.{confirms}
 use Rattle.mds_rule.specs.LayoutOps.{with_holder, is_granted}
 use Rattle.mds_rule.specs.FileOps.{with_new_file, may_make}
-use Rattle.mds_rule.specs.Answers.{server_number, fileid_of, attributes_shown, own_answer, resumes, is_done_as, has_failed_as}
+use Rattle.mds_rule.specs.Answers.{server_number, fileid_of, attributes_shown, own_answer, resumes, is_done_as, has_failed_as, failures_by_place}
 use Rattle.mds_rule.specs.Goes.{xid_after, calls_as, calls_server, has_xids}
 use Rattle.mds_laws.specs.MdsRunLaws.{IsUidOf}
 use Rattle.mds_laws.proofs.Lists.{In}
 use Rattle.mds_laws.proofs.Keeping.{is_note, is_write_call, is_read_call, IsWriteOf, Becomes, Enters, Keeps, IsNoRequest, moved, TakesInput, HeardOf}
 
--- an input that neither an answer nor a timeout brings, and that is no return
+-- an input that neither an answer nor a timeout brings, and that is no return and no end of an own write
 abbrev pub comes_unasked : FileInput → Bool
 comes_unasked (AsksLayout client) = true
 comes_unasked (OwnWrite at bytes) = true
 comes_unasked ToRecall = true
 comes_unasked (Returns client claimed places) = false
 comes_unasked (Revokes cause) = true
-comes_unasked (OwnEnds causes at bytes) = true
+comes_unasked (OwnEnds causes at bytes) = false
 comes_unasked Resilver = true
 comes_unasked (IsAnswer xid reply) = false
 comes_unasked (TimesOut xid) = false
@@ -88,6 +92,7 @@ pub record Cases (I : MdsValue → List Entry → List MdsSend → Type 0) (Hear
   -- an input of the table of phases: one that comes by itself, a timeout, an answer to a call of the file that is outstanding, and what an
   -- answer to an own write shows
   pub inputs : (m : MdsValue) (file : FileId) (s : ServedFile) (input : FileInput) → comes_unasked input ≡ true → TakesInput I m file s input
+  pub own_ends : (m : MdsValue) (file : FileId) (s : ServedFile) (failures : List (MirrorId × LeftCause)) (at : ℕ) (bytes : List ℕ) → TakesInput I m file s (OwnEnds (failures_by_place failures s.file.layout.live) at bytes)
   pub timeouts : (m : MdsValue) (file : FileId) (s : ServedFile) (xid : ℕ) → TakesInput I m file s (TimesOut xid)
   pub hears : (m : MdsValue) (file : FileId) (s : ServedFile) (call : AwaitedCall) (server own uid : ℕ) (c : DsCallValue) (replies : DsCallValue → DsReplyValue) → Heard call replies
       → call.caller ≡ ForFile file → call.sent ≡ CallsServer server own uid c → is_outstanding s.file (server_number call.node) call.xid ≡ true
@@ -121,7 +126,7 @@ GivesAnswers I = (m : MdsValue) (node : NodeId) (bytes : List ℕ) (reply : RpcR
 -- where compounds are run: what they reply, which is of success, the returns in them, and who is confirmed
 pub record RunCases (I : MdsValue → List Entry → List MdsSend → Type 0) (W : CompoundRun → Type 0) : Type 0 where
   pub replies : (m : MdsValue) (node : NodeId) (xid : ℕ) (results : List ℕ) (es : List Entry) (ss : List MdsSend) → I m es ss → I m es (ss ++ Replies node (success_reply xid results) ∷ [])
-  pub returns : (m : MdsValue) (file : FileId) (s : ServedFile) (n : ℕ) (cred : Cred) (places : List Bool) → TakesInput I m file s (Returns n cred places)
+  pub returns : (m : MdsValue) (file : FileId) (s : ServedFile) (n : ℕ) (cred : Cred) (errors : List (Value ff_ioerr4)) → TakesInput I m file s (Returns n cred (report_of errors s.file.layout.live))
   pub confirms : (m : MdsValue) (client : ℕ) (node : NodeId) → Becomes I m (confirms client node m)
   pub any : (c : CompoundRun) → W c
 

@@ -17,11 +17,12 @@ use Rattle.cluster_model.specs.Phases.{holder_of, granted}
 use Rattle.device_addr.specs.Universal.{AddressValue}
 use Rattle.file_rule.specs.declared.fresh.Fresh.{Fresh}
 use Rattle.file_rule.specs.MdsFiles.{MdsFile, FileStep, nothing, with_entries}
-use Rattle.file_rule.specs.FilePhases.{FileInput, AsksLayout, Returns, Answers as IsAnswer, TimesOut, Sees, are_spent, asked_in, end_of_uids, new_mds_file, phase}
+use Rattle.file_rule.specs.FilePhases.{FileInput, AsksLayout, Returns, Answers as IsAnswer, OwnEnds, TimesOut, Sees, are_spent, asked_in, end_of_uids, new_mds_file, phase}
 use Rattle.mds_rows.specs.Draws.{drawn}
 use Rattle.recall.specs.Recalls.{without_file}
 use Rattle.open_state.specs.Opens.{next_seqid}
-use Rattle.mds_rule.specs.Answers.{own_answer}
+use Rattle.layout_report.specs.Reports.{report_of}
+use Rattle.mds_rule.specs.Answers.{own_answer, failures_by_place}
 use Rattle.mds_rule.specs.MdsStates.{ServedFile, MdsSend, CallsServer, CallsBack, Replies, Answers, AwaitedCall, MdsValue, MdsStep, sends_none, with_call, served, with_served, new_mds}
 use Rattle.mds_rule.specs.declared.waiter.Waiter.TheVariants.{ForFile, ForRead, ForWrite, ForRecall}
 use Rattle.mds_rule.specs.ServedFiles.{has_fresh, is_period_end, kept_holder, file_behind, file_stepped, input_at, takes_input}
@@ -268,6 +269,7 @@ cases = record {
   again_to = λ m file s client at its es ss i. again_to m file s client at its ss i;
   grants = λ m file n client t from free was at es ss i. grants m file n client t was at es ss i;
   inputs = λ m file s input itself at fresh es ss i. inputs m file s input at es ss i;
+  own_ends = λ m file s failures place bytes at fresh es ss i. inputs m file s (OwnEnds (failures_by_place failures s.file.layout.live) place bytes) at es ss i;
   timeouts = λ m file s xid at fresh es ss i. inputs m file s (TimesOut xid) at es ss i;
   hears = λ m file s call server own uid c replies heard caller sent out at fresh es ss i. inputs m file s (IsAnswer call.xid (own_answer c (replies c))) at es ss i;
   learns = λ m file s call server own uid c replies fileid shown heard caller sent named shows at fresh es ss i. inputs m file s (Sees (record { server = server; fileid = fileid }) shown.seen) at es ss i;
@@ -298,7 +300,7 @@ cases = record {
 pub runs : RunCases IsSo AnyCompound
 runs = record {
   replies = λ m node xid results es ss i. sends m ss (Replies node (success_reply xid results)) i;
-  returns = λ m file s n cred places at fresh es ss i. inputs m file s (Returns n cred places) at es ss i;
+  returns = λ m file s n cred errors at fresh es ss i. inputs m file s (Returns n cred (report_of errors s.file.layout.live)) at es ss i;
   confirms = λ m client node es ss i. i;
   any = λ c. tt;
 }

@@ -45,3 +45,7 @@ pub mod RequestRuns
 pub mod GivenSends
 pub mod AskedRuns
 pub mod ConfirmedHolders
+pub mod MirrorsTold
+pub mod MirrorsLeave
+pub mod BegunPeriods
+pub mod PeriodsBegun

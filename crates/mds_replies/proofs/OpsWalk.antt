@@ -1,5 +1,5 @@
 -- Each operation on files and layouts keeps what is kept in each case.
-use Rattle.std.proofs.Common.{◌≡◌, ◌≤◌, ℕ, ◌+◌, Bool, true, false, cond, List, [], ◌∷◌, length, Option, Some, None, refl, ap, subst, ◌∙◌, inl, arith}
+use Rattle.std.proofs.Common.{◌≡◌, ◌≤◌, ℕ, ◌+◌, Bool, true, false, cond, List, [], ◌∷◌, length, Option, Some, None, refl, sym, ap, subst, ◌∙◌, inl, arith}
 use Rattle.std.specs.Prelude.{◌&&◌, not, nat_lt, is_some}
 use Rattle.std.proofs.lemmas.Bool.{cond_both, and_parts, ne_eqb, ltb-false}
 use Rattle.std.proofs.lemmas.Option.{same_Some}
@@ -17,7 +17,7 @@ use Rattle.cluster_model.specs.declared.entry.Entry.{Entry}
 use Rattle.cluster_model.specs.declared.entry.Entry.TheVariants as entry
 use Rattle.cluster_model.specs.Phases.{holder_of}
 use Rattle.device_addr.specs.Universal.{AddressValue}
-use Rattle.file_rule.specs.FilePhases.{OwnWrite, AsksLayout, Returns, are_spent}
+use Rattle.file_rule.specs.FilePhases.{OwnWrite, AsksLayout, Returns, are_spent, phase}
 use Rattle.ff_layout.specs.IoError.{ff_ioerr4}
 use Rattle.layout_report.specs.Reports.{report_of}
 use Rattle.nfs4_types.specs.declared.status.Stat4.{Stat4}
@@ -50,12 +50,12 @@ use Rattle.mds_operations.specs.GetDeviceInfo.{device_info_order}
 use Rattle.mds_operations.specs.PutFh.{put_fh_order, object_of}
 use Rattle.mds_rule.specs.MdsStates.{CompoundRun, WaitingWrite, ServedFile, MdsSend, MdsValue, MdsStep, sends_none, confirmed_node, served, with_served, numbered, file_named}
 use Rattle.mds_rule.specs.OpSteps.{OpStep, with_result, at_object, gives, refused_or}
-use Rattle.mds_rule.specs.ServedFiles.{takes_input, asks_back, ends_periods}
+use Rattle.mds_rule.specs.ServedFiles.{has_fresh, file_stepped, takes_input, asks_back, ends_periods}
 use Rattle.mds_rule.specs.SessionOps.{goes_with}
 use Rattle.open_state.specs.Opens.{opened, closed}
 use Rattle.mds_rule.specs.FileOps.{client_of, current_file, file_or_none, stateid_in, named_in, write_verifier, with_read, put_object, runs_put_fh, get_object, runs_get_fh, runs_lookup, get_attributes, runs_get_attr, with_new_file, opens_or_makes, opens_file, open_named, creation_in, can_open, may_make, runs_open, name_in, closes, runs_close, runs_commit, reads_at, runs_read, read_length, with_write, writes_at, writes_file, ends_by, write_refused, runs_write, write_ask, is_delay}
 use Rattle.mds_rule.specs.LayoutOps.{no_stateid, layout_asked, layout_found, with_holder, granted_in, grants_to, is_granted, phase_behind, later_by, layout_answer, runs_layout_get, is_try_later, errors_of, client_number, return_by, returns_file, file_return, returns_all, runs_layout_return, runs_layout_commit, device_from, device_size, device_answer, runs_get_device_info}
-use Rattle.mds_laws.proofs.Keeping.{Becomes, KeepsOp, HeardOf, TakesInput, no_entries, stays, enters_then, enters_becomes}
+use Rattle.mds_laws.proofs.Keeping.{Becomes, Enters, KeepsOp, HeardOf, TakesInput, no_entries, stays, enters_then, enters_becomes}
 use Rattle.mds_replies.proofs.HolderCases.{Cases}
 use Rattle.mds_replies.proofs.WaitingCompounds.{reads_push}
 use Rattle.mds_laws.proofs.OpsWalk.{old_write}
@@ -227,22 +227,26 @@ module _ (I : MdsValue → List Entry → List MdsSend → Type 0) (Heard : Hear
           (λ off. unless_refused I Heard W k m c 50 status (grants_to m c (current_file c) (is_granted (served m (current_file c))) (confirmed_node m (client_of c)))
           (λ none. grants_walk m c (current_file c) (is_granted (served m (current_file c))) refl (λ granted s at. again_holds m c (layout_asked args) (so ∙ none) s at granted) (λ free s at. new_free m c (layout_asked args) (so ∙ none) s at free) (confirmed_node m (client_of c)) refl))
 
-  return_walk : (returns : (m : MdsValue) (file : FileId) (s : ServedFile) (n : ℕ) (cred : Cred) (places : List Bool) → TakesInput I m file s (Returns n cred places)) (m : MdsValue) (c : CompoundRun) (file : FileId) (errors : List (Value ff_ioerr4)) (o : Option ServedFile) → KeepsOp I m (return_by m c file errors o)
-  return_walk returns m c file errors None = stays I m
-  return_walk returns m c file errors (Some s) = (takes_by I Heard W k m file (Returns (client_number (holder_of s.file.layout.phase)) s.file.layout.cred (report_of errors s.file.layout.live)) (λ t. returns m file t (client_number (holder_of s.file.layout.phase)) s.file.layout.cred (report_of errors s.file.layout.live))).enters
+  return_walk : (returns : (m : MdsValue) (file : FileId) (s : ServedFile) (n : ℕ) (cred : Cred) (errors : List (Value ff_ioerr4)) → TakesInput I m file s (Returns n cred (report_of errors s.file.layout.live))) (m : MdsValue) (c : CompoundRun) (file : FileId) (errors : List (Value ff_ioerr4)) (o : Option ServedFile) → served m file ≡ o → KeepsOp I m (return_by m c file errors o)
+  return_walk returns m c file errors None is = stays I m
+  return_walk returns m c file errors (Some s) is =
+      (takes_by I Heard W k m file (Returns (client_number (holder_of s.file.layout.phase)) s.file.layout.cred (report_of errors s.file.layout.live))
+      (λ t at.
+      subst (λ (y : ServedFile). has_fresh m.fresh ≡ true → Enters I m (file_stepped m file t (phase file t.file (Returns (client_number (holder_of s.file.layout.phase)) s.file.layout.cred (report_of errors y.file.layout.live)) m.fresh)).mds (phase file t.file (Returns (client_number (holder_of s.file.layout.phase)) s.file.layout.cred (report_of errors y.file.layout.live)) m.fresh).entries)
+      (same_Some t s (sym at ∙ is)) (returns m file t (client_number (holder_of s.file.layout.phase)) s.file.layout.cred errors at))).enters
 
-  returns_walk : (returns : (m : MdsValue) (file : FileId) (s : ServedFile) (n : ℕ) (cred : Cred) (places : List Bool) → TakesInput I m file s (Returns n cred places)) (m : MdsValue) (c : CompoundRun) (o : Option (List (Value ff_ioerr4))) → KeepsOp I m (returns_file m c o)
+  returns_walk : (returns : (m : MdsValue) (file : FileId) (s : ServedFile) (n : ℕ) (cred : Cred) (errors : List (Value ff_ioerr4)) → TakesInput I m file s (Returns n cred (report_of errors s.file.layout.live))) (m : MdsValue) (c : CompoundRun) (o : Option (List (Value ff_ioerr4))) → KeepsOp I m (returns_file m c o)
   returns_walk returns m c None = stays I m
-  returns_walk returns m c (Some errors) = return_walk returns m c (current_file c) errors (served m (current_file c))
+  returns_walk returns m c (Some errors) = return_walk returns m c (current_file c) errors (served m (current_file c)) refl
 
-  file_walk : (returns : (m : MdsValue) (file : FileId) (s : ServedFile) (n : ℕ) (cred : Cred) (places : List Bool) → TakesInput I m file s (Returns n cred places)) (m : MdsValue) (c : CompoundRun) (reclaim : Bool) (layout_type : ℕ) (args : Value layoutreturn_file4) → KeepsOp I m (file_return m c reclaim layout_type args)
+  file_walk : (returns : (m : MdsValue) (file : FileId) (s : ServedFile) (n : ℕ) (cred : Cred) (errors : List (Value ff_ioerr4)) → TakesInput I m file s (Returns n cred (report_of errors s.file.layout.live))) (m : MdsValue) (c : CompoundRun) (reclaim : Bool) (layout_type : ℕ) (args : Value layoutreturn_file4) → KeepsOp I m (file_return m c reclaim layout_type args)
   file_walk returns m c reclaim layout_type (offset, (length, (stateid, body))) = refused I Heard W k m c 51 _ _ (returns_walk returns m c (errors_of body))
 
   all_walk : (m : MdsValue) (c : CompoundRun) (reclaim : Bool) (layout_type : ℕ) → KeepsOp I m (returns_all m c reclaim layout_type)
   all_walk m c reclaim layout_type =
       refused I Heard W k m c 51 (refusal (layout_return_all_order layout_type reclaim)) (goes_with (ends_periods m (client_of c) ReturnedAll) (with_result c no_stateid)) (periods I Heard W k m (client_of c) ReturnedAll).enters
 
-  pub layout_returns : (returns : (m : MdsValue) (file : FileId) (s : ServedFile) (n : ℕ) (cred : Cred) (places : List Bool) → TakesInput I m file s (Returns n cred places)) (m : MdsValue) (c : CompoundRun) (args : Value layoutreturn4_args) → KeepsOp I m (runs_layout_return m c args)
+  pub layout_returns : (returns : (m : MdsValue) (file : FileId) (s : ServedFile) (n : ℕ) (cred : Cred) (errors : List (Value ff_ioerr4)) → TakesInput I m file s (Returns n cred (report_of errors s.file.layout.live))) (m : MdsValue) (c : CompoundRun) (args : Value layoutreturn4_args) → KeepsOp I m (runs_layout_return m c args)
   layout_returns returns m c (reclaim, (layout_type, (iomode, kind))) =
       of_each_arm layoutreturn4
       (λ (v : Value layoutreturn4).

@@ -16,12 +16,13 @@ use Rattle.cluster_model.specs.declared.layout_state.LayoutPhase.{LayoutPhase}
 use Rattle.cluster_model.specs.declared.layout_state.LayoutPhase.TheVariants.{Free}
 use Rattle.cluster_model.specs.Phases.{holder_of}
 use Rattle.cluster_model.proofs.Elements.{slice_get-set_other, slice_get-set_same, slice_get-push}
-use Rattle.file_rule.specs.FilePhases.{Answers as IsAnswer, TimesOut, Sees, FileInput, AsksLayout, Returns, new_mds_file, are_spent, phase}
+use Rattle.file_rule.specs.FilePhases.{Answers as IsAnswer, OwnEnds, TimesOut, Sees, FileInput, AsksLayout, Returns, new_mds_file, are_spent, phase}
 use Rattle.file_rule.specs.MdsFiles.{MdsFile, FileStep}
 use Rattle.layout_state.specs.Grants.{is_held}
 use Rattle.mds_rows.specs.Draws.{drawn}
 use Rattle.recall.specs.Recalls.{without_file}
-use Rattle.mds_rule.specs.Answers.{own_answer}
+use Rattle.layout_report.specs.Reports.{report_of}
+use Rattle.mds_rule.specs.Answers.{own_answer, failures_by_place}
 use Rattle.mds_rule.specs.MdsStates.{ServedFile, MdsSend, CallsServer, CallsBack, Replies, Answers, AwaitedCall, MdsValue, MdsStep, sends_none, with_call, served_in, served, with_served}
 use Rattle.mds_rule.specs.declared.waiter.Waiter.TheVariants.{ForFile, ForRead, ForWrite, ForRecall}
 use Rattle.mds_rule.specs.ServedFiles.{has_fresh, is_period_end, kept_holder, file_behind, file_stepped, input_at, takes_input}
@@ -250,6 +251,7 @@ module _ (file : FileId) (client uid : ℕ) where
     again_to = again;
     grants = λ m file n client t from. granted m file n client t;
     inputs = λ m other s input itself at fresh es ss i. inputs m other s input at es ss i;
+    own_ends = λ m other s failures place bytes at fresh es ss i. inputs m other s (OwnEnds (failures_by_place failures s.file.layout.live) place bytes) at es ss i;
     timeouts = λ m other s xid at fresh es ss i. inputs m other s (TimesOut xid) at es ss i;
     hears = λ m other s call server own uid c replies heard caller sent out at fresh es ss i. inputs m other s (IsAnswer call.xid (own_answer c (replies c))) at es ss i;
     learns = λ m other s call server own uid c replies fileid shown heard caller sent named shows at fresh es ss i. inputs m other s (Sees (record { server = server; fileid = fileid }) shown.seen) at es ss i;
@@ -275,7 +277,7 @@ module _ (file : FileId) (client uid : ℕ) where
   runs : RunCases IsSo AnyCompound
   runs = record {
     replies = λ m node xid results es ss i. sends m.files m.calls es ss (Replies node (success_reply xid results)) i;
-    returns = λ m other s n cred places at fresh es ss i. inputs m other s (Returns n cred places) at es ss i;
+    returns = λ m other s n cred errors at fresh es ss i. inputs m other s (Returns n cred (report_of errors s.file.layout.live)) at es ss i;
     confirms = λ m client node es ss i. i;
     any = λ c. tt;
   }

@@ -7,12 +7,13 @@ use Rattle.cluster_model.specs.declared.ids.NodeId.TheVariants.{Server}
 use Rattle.cluster_model.specs.declared.ids.FileId.{FileId}
 use Rattle.cluster_model.specs.declared.entry.Entry.{Entry}
 use Rattle.file_rule.specs.MdsFiles.{FileStep}
-use Rattle.file_rule.specs.FilePhases.{FileInput, AsksLayout, Returns, Answers as IsAnswer, TimesOut, Sees, phase}
+use Rattle.file_rule.specs.FilePhases.{FileInput, AsksLayout, Returns, Answers as IsAnswer, OwnEnds, TimesOut, Sees, phase}
 use Rattle.mds_rows.specs.Draws.{drawn}
 use Rattle.nfs4_session.specs.Clients.{SessionsState}
 use Rattle.nfs4_session.specs.TableLaw.{TableMove, BeginRequest, table_after}
 use Rattle.recall.specs.Recalls.{without_file}
-use Rattle.mds_rule.specs.Answers.{own_answer}
+use Rattle.layout_report.specs.Reports.{report_of}
+use Rattle.mds_rule.specs.Answers.{own_answer, failures_by_place}
 use Rattle.mds_rule.specs.MdsStates.{ServedFile, MdsSend, CallsServer, CallsBack, Replies, Answers, AwaitedCall, MdsValue, MdsStep, sends_none, served, with_served, with_call}
 use Rattle.mds_rule.specs.declared.waiter.Waiter.TheVariants.{ForFile, ForRead, ForWrite, ForRecall}
 use Rattle.mds_rule.specs.ServedFiles.{has_fresh, is_period_end, file_behind, file_stepped, input_at}
@@ -58,6 +59,7 @@ module _ (P : SessionsState → Type 0) (keeps : (s : SessionsState) (move : Tab
     again_to = λ m file s client at its es ss i. i;
     grants = λ m file n client t from free was at es ss i. asked m file (AsksLayout n) (served m file) ss i;
     inputs = λ m other s input itself at fresh es ss i. behind m other s (phase other s.file input m.fresh) ss i;
+    own_ends = λ m other s failures place bytes at fresh es ss i. behind m other s (phase other s.file (OwnEnds (failures_by_place failures s.file.layout.live) place bytes) m.fresh) ss i;
     timeouts = λ m other s xid at fresh es ss i. behind m other s (phase other s.file (TimesOut xid) m.fresh) ss i;
     hears = λ m other s call server own uid c replies heard caller sent out at fresh es ss i. behind m other s (phase other s.file (IsAnswer call.xid (own_answer c (replies c))) m.fresh) ss i;
     learns = λ m other s call server own uid c replies fileid shown heard caller sent named shows at fresh es ss i. behind m other s (phase other s.file (Sees (record { server = server; fileid = fileid }) shown.seen) m.fresh) ss i;
@@ -77,7 +79,7 @@ module _ (P : SessionsState → Type 0) (keeps : (s : SessionsState) (move : Tab
   runs : RunCases IsSo AnyCompound
   runs = record {
     replies = λ m node xid results es ss i. sends m.sessions m.calls ss (Replies node (success_reply xid results)) i;
-    returns = λ m file s n cred places at fresh es ss i. behind m file s (phase file s.file (Returns n cred places) m.fresh) ss i;
+    returns = λ m file s n cred errors at fresh es ss i. behind m file s (phase file s.file (Returns n cred (report_of errors s.file.layout.live)) m.fresh) ss i;
     confirms = λ m client node es ss i. i;
     any = λ c. tt;
   }

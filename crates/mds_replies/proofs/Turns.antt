@@ -32,7 +32,9 @@ use Rattle.nfs4_session.specs.declared.begin.SlotPass.{SlotPass}
 use Rattle.nfs4_session.specs.Clients.{SessionsState}
 use Rattle.nfs4_session.specs.TableLaw.{TableMove, FinishRequest, table_after}
 use Rattle.mds_receive.specs.MdsReceive.{IncomingValue, PassedOver, IsReply, IsAnswered, IsCompound, incoming_of}
-use Rattle.mds_rule.specs.Answers.{own_answer, resumes, is_done_as}
+use Rattle.ff_layout.specs.IoError.{ff_ioerr4}
+use Rattle.layout_report.specs.Reports.{report_of}
+use Rattle.mds_rule.specs.Answers.{own_answer, resumes, is_done_as, failures_by_place}
 use Rattle.mds_rule.specs.MdsStates.{CompoundRun, WaitingRead, WaitingWrite, ServedFile, MdsSend, CallsServer, CallsBack, Replies, Answers, AwaitedCall, MdsValue, MdsStep, sends_none, and_then, with_call, served, with_served}
 use Rattle.mds_rule.specs.declared.waiter.Waiter.TheVariants.{ForFile, ForRead, ForWrite, ForRecall}
 use Rattle.mds_rule.specs.OpSteps.{OpStep, Goes, Ends, Waits, with_result, refuses, refused_as, stopped}
@@ -90,7 +92,7 @@ unasked_no_return (OwnWrite at bytes) is = tt
 unasked_no_return ToRecall is = tt
 unasked_no_return (Returns client claimed places) is = absurd cc
 unasked_no_return (Revokes cause) is = tt
-unasked_no_return (OwnEnds causes at bytes) is = tt
+unasked_no_return (OwnEnds causes at bytes) is = absurd cc
 unasked_no_return Resilver is = tt
 unasked_no_return (IsAnswer xid reply) is = tt
 unasked_no_return (TimesOut xid) is = tt
@@ -241,6 +243,7 @@ module _ (W : CompoundRun → Type 0) (left : (c : CompoundRun) → W c → (c.o
     grants = λ m file n client t from free was at es ss i.
         held (takes_input m file (AsksLayout n)).mds file t client false at (es ++ (takes_input m file (AsksLayout n)).entries) ss (asked m file (AsksLayout n) tt (served m file) refl es ss i);
     inputs = λ m file s input itself at fresh es ss i. inputs m file s input at (unasked_no_return input itself) es ss i;
+    own_ends = λ m file s failures place bytes at fresh es ss i. inputs m file s (OwnEnds (failures_by_place failures s.file.layout.live) place bytes) at tt es ss i;
     timeouts = λ m file s xid at fresh es ss i. inputs m file s (TimesOut xid) at tt es ss i;
     hears = λ m file s call server own uid c replies heard caller sent out at fresh es ss i. inputs m file s (IsAnswer call.xid (own_answer c (replies c))) at tt es ss i;
     learns = λ m file s call server own uid c replies fileid shown heard caller sent named shows at fresh es ss i. inputs m file s (Sees (record { server = server; fileid = fileid }) shown.seen) at tt es ss i;
@@ -310,8 +313,10 @@ module _ (W : CompoundRun → Type 0) (left : (c : CompoundRun) → W c → (c.o
   op_keeps m c (Ends n entries d status) next q like mine all = enters_keeps IsSo m n entries (finishes n d status) q (finish_keeps n d status (mine d status like))
   op_keeps m c (Waits n entries) next q like mine all = enters_keeps IsSo m n entries (sends_none n) q (same IsSo n)
 
-  returned_any : ((e : Entry) → E e) → (m : MdsValue) (file : FileId) (s : ServedFile) (n : ℕ) (cred : Cred) (places : List Bool) → TakesInput IsSo m file s (Returns n cred places)
-  returned_any any m file s n cred places at fresh es ss i = stepped m file s (phase file s.file (Returns n cred places) m.fresh) at (all_any any (phase file s.file (Returns n cred places) m.fresh).entries) es ss i
+  returned_any : ((e : Entry) → E e) → (m : MdsValue) (file : FileId) (s : ServedFile) (n : ℕ) (cred : Cred) (errors : List (Value ff_ioerr4)) → TakesInput IsSo m file s (Returns n cred (report_of errors s.file.layout.live))
+  returned_any any m file s n cred errors at fresh es ss i =
+      let x : FileStep = phase file s.file (Returns n cred (report_of errors s.file.layout.live)) m.fresh in
+      stepped m file s x at (all_any any x.entries) es ss i
 
   operate_keeps : (now : ℕ) (m : MdsValue) (c : CompoundRun) (op : Value argop4) → (is_waiting_op (arm_of argop4 op) ≡ true → W c) → ((arm_of argop4 op == 51) ≡ true → (e : Entry) → E e) → KeepsOp IsSo m (operate now m c op)
   operate_keeps now m c op =

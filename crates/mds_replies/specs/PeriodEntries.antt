@@ -1,6 +1,6 @@
 -- What the entries of a metadata server say of its periods, in every run to which clients of this cluster call (RFC 8881, section 12.5.5; RFC 8435,
 -- section 2.2).
-use Rattle.std.specs.Prelude.{◌≡◌, ℕ, List, [], ◌∷◌, ◌++◌, Some}
+use Rattle.std.specs.Prelude.{◌≡◌, ◌≤◌, ℕ, List, [], ◌∷◌, ◌++◌, Some}
 use Rattle.cluster_model.specs.declared.ids.NodeId.TheVariants.{Client}
 use Rattle.cluster_model.specs.declared.ids.FileId.{FileId}
 use Rattle.cluster_model.specs.declared.ids.MirrorId.{MirrorId}
@@ -26,7 +26,7 @@ pub record IsBegun (entries : List Entry) (file : FileId) (uid : ℕ) (node : �
 
 abbrev pub PeriodsBegin : Type 0
 PeriodsBegin =
-    (servers : List AddressValue) (mirrors : ℕ) (events : List MdsEvent) (file : FileId) (client uid : ℕ) → AreCalls events → (p : HasPeriod (server_after servers mirrors events) file client uid)
+    (servers : List AddressValue) (mirrors : ℕ) (events : List MdsEvent) (file : FileId) (client uid : ℕ) → mirrors ≤ 4 → AreCalls events → (p : HasPeriod (server_after servers mirrors events) file client uid)
     → IsBegun (mds_run servers mirrors events).entries file uid p.node (ids_of p.file_is.file.layout.live)
 
 -- the node to which it was granted is one from which a session was asked for with the client's id (RFC 8881, section 18.36)

@@ -6,7 +6,7 @@ ghost use Rattle.mds_replies.specs.ClientIds.{IdsAreOwn, SessionsAreOwn};
 ghost use Rattle.mds_replies.specs.AnsweredRequests.{EachReplyStands};
 ghost use Rattle.mds_replies.specs.ReturnedPeriods.{ReturnsCome};
 ghost use Rattle.mds_replies.specs.GivenAnswers.{EachReplyIsWhole, EachAnswerIsNow, EachReplyIsAsked};
-ghost use Rattle.mds_replies.specs.PeriodEntries.{UidsEndOnce, PeriodsAreConfirmed};
+ghost use Rattle.mds_replies.specs.PeriodEntries.{UidsEndOnce, PeriodsAreConfirmed, PeriodsBegin};
 
 use mds_laws::slot_law;
 
@@ -59,8 +59,10 @@ pub fn answers_law()
 
 /// What the entries of a run say of periods: a uid is entered once as that of a period that ended (RFC 8881, section 12.5.5;
 /// RFC 8435, section 2.2). The node to which a client's period was granted is one from which a CREATE_SESSION was called with
-/// the client's id (RFC 8881, section 18.36).
+/// the client's id (RFC 8881, section 18.36), and the period was entered as granted where the file's live mirrors were those that
+/// it has now; a file has at most four mirrors.
 pub fn entries_law()
     ensures ends_once { UidsEndOnce }
     ensures confirmed { PeriodsAreConfirmed }
+    ensures begin { PeriodsBegin }
 {}

@@ -29,7 +29,7 @@ use Rattle.node_histories.proofs.WeaveLemmas.{items_join}
 use Rattle.holder_parts.specs.HolderParts.{WasBegun}
 use Rattle.world_layouts.specs.WorldLayouts.{journal_at, WasBegunFor, WasReturnedBy}
 use Rattle.world_holders.proofs.LowerLaws.{HasLaws}
-use Rattle.world_holders.specs.HolderPremises.{HasGrantFor}
+use Rattle.client_sessions.specs.EnteredFiles.{HasGrantFor}
 use Rattle.world_holders.proofs.LifePlaces.{LifeSteps, has_middle, StandsBefore, stands_before, life_of}
 use Rattle.world_holders.proofs.JournalGrants.{grant_to, IsOneGrant, one_grant}
 

@@ -15,7 +15,7 @@ use Rattle.node_histories.specs.ClientLives.{Life, start_of}
 use Rattle.node_histories.specs.NodeHistories.{HasLife, IsToldByNodes}
 use Rattle.world_layouts.specs.WorldLayouts.{journal_at, WasReturnedBy}
 use Rattle.world_holders.proofs.LowerLaws.{HasLaws}
-use Rattle.world_holders.specs.HolderPremises.{HasGrantFor}
+use Rattle.client_sessions.specs.EnteredFiles.{HasGrantFor}
 use Rattle.world_holders.proofs.LifePlaces.{LifeSteps}
 use Rattle.world_holders.proofs.UserEntries.{each_cause}
 use Rattle.world_holders.proofs.HeldEntries.{ended_by_mds, client_period, not_own, one_life, silent_not}

@@ -30,7 +30,7 @@ use Rattle.holder_parts.specs.HolderParts.{WasBegun, TakesInPlace, EndsOwnNext, 
 use Rattle.world_layouts.specs.WorldLayouts.{journal_at, WasReturnedBy}
 use Rattle.world_holders.proofs.LowerLaws.{HasLaws}
 use Rattle.mds_laws.specs.OwnPeriods.{BeginsWithEnd}
-use Rattle.world_holders.specs.HolderPremises.{HasGrantFor, EntersForFile}
+use Rattle.client_sessions.specs.EnteredFiles.{HasGrantFor, EntersForFile}
 use Rattle.world_holders.proofs.LifePlaces.{LifeSteps, LifeIs, life_of, life_journal}
 use Rattle.world_holders.proofs.UserEntries.{EachSent, each_sent, no_sent, no_rogue, each_cause, one_sent}
 use Rattle.world_holders.proofs.PostsInPlace.{law_at}

@@ -26,7 +26,7 @@ use Rattle.node_histories.proofs.WeaveLemmas.{items_join}
 use Rattle.holder_parts.specs.HolderParts.{WasBegun, TakesInPlace, StraysInPlace}
 use Rattle.world_layouts.specs.WorldLayouts.{journal_at}
 use Rattle.world_holders.proofs.LowerLaws.{HasLaws}
-use Rattle.world_holders.specs.HolderPremises.{HasGrantFor, EntersForFile}
+use Rattle.client_sessions.specs.EnteredFiles.{HasGrantFor, EntersForFile}
 use Rattle.world_holders.proofs.LifePlaces.{LifeSteps, has_middle, has_front, each_at, StandsBefore, stands_before, LifeIs, life_of}
 use Rattle.world_holders.proofs.UserEntries.{each_sent, no_rogue}
 use Rattle.world_holders.proofs.PostsInPlace.{law_at}

@@ -23,7 +23,7 @@ use Rattle.holder_parts.specs.CoveredRecords.{IsCoveredIn}
 use Rattle.holder_parts.specs.HolderParts.{WasBegun, IsCoveredWhereBegun, TellsInPlace}
 use Rattle.world_layouts.specs.WorldLayouts.{journal_at}
 use Rattle.world_holders.proofs.LowerLaws.{HasLaws}
-use Rattle.world_holders.specs.HolderPremises.{HasGrantFor, EntersForFile}
+use Rattle.client_sessions.specs.EnteredFiles.{HasGrantFor, EntersForFile}
 use Rattle.world_holders.proofs.LifePlaces.{LifeSteps, has_front, EnteredIn, LifeIs, life_of}
 use Rattle.world_holders.proofs.UserEntries.{sent_there}
 use Rattle.world_holders.proofs.PostsInPlace.{law_at, entered_then}

@@ -1,17 +1,12 @@
--- What those who hold a file in a world rest on besides: the metadata server's own periods, the files of what clients enter, and who
--- strays (RFC 8881, section 18.32; RFC 8435, section 2.2).
+-- What those who hold a file in a world rest on besides: the metadata server's own periods, and who strays (RFC 8881, section
+-- 18.32; RFC 8435, section 2.2).
 use Rattle.std.specs.Prelude.{◌≡◌, ℕ, List, [], ◌∷◌, ◌++◌}
-use Rattle.cluster_model.specs.declared.ids.FileId.{FileId}
 use Rattle.cluster_model.specs.declared.entry.Entry.{Entry}
-use Rattle.cluster_model.specs.declared.entry.Entry.TheVariants.{Sent, Told, Rogue}
 use Rattle.device_addr.specs.Universal.{AddressValue}
 use Rattle.mds_laws.specs.MdsRuns.{MdsEvent}
 use Rattle.mds_laws.specs.OwnPeriods.{RunsOwnPeriods}
 use Rattle.mds_histories.specs.MdsHistory.{MdsItem, Enters}
-use Rattle.client_laws.specs.ClientHistory.{ClientInput, Strayed, LeftProtocol, HistoryItem}
-use Rattle.client_laws.specs.ClientHistory as client
-use Rattle.client_laws.specs.ClientRunLaws.{WasGranted}
-use Rattle.mds_file_calls.specs.declared.grant.LayoutGrant.{LayoutGrant}
+use Rattle.client_laws.specs.ClientHistory.{ClientInput, Strayed, LeftProtocol}
 use Rattle.cluster_world.specs.ClusterWorlds.{ClusterState}
 use Rattle.node_histories.specs.Weaves.{WeaveStep, Seen, entries_in, items_in}
 use Rattle.node_histories.specs.ClientLives.{Life}
@@ -27,26 +22,6 @@ EachRunOwnsPeriods = (servers : List AddressValue) (mirrors : ℕ) (events : Lis
 abbrev pub AreEntriesTogether : {w : ClusterState} → IsToldByNodes w → Type 0
 AreEntriesTogether told =
     (earlier later : List (WeaveStep MdsItem)) (x y e : Entry) (more : List MdsItem) → told.mds.steps ≡ earlier ++ Seen (Enters x) e ∷ later → items_in later ≡ Enters y ∷ more → (rest : List Entry) × (entries_in later ≡ y ∷ rest)
-
--- ---- the file of what a client enters
-
--- a layout was granted for this file under this uid
-pub record HasGrantFor (past : List HistoryItem) (file : FileId) (uid : ℕ) : Type 0 where
-  pub grant : LayoutGrant
-  pub granted : WasGranted past grant
-  pub its_uid : grant.uid.0 ≡ uid
-  pub its_file : granted.file.file ≡ file
-
-abbrev pub EntersFor : List HistoryItem → Entry → Type 0
-EntersFor past (Sent file uid at bytes) = HasGrantFor past file uid.0
-EntersFor past (Rogue file uid at bytes) = HasGrantFor past file uid.0
-EntersFor past (Told file uid at bytes) = HasGrantFor past file uid.0
-EntersFor past entry = Unit {0}
-
--- a write is taken, strays and is told for the file of its layout
-abbrev pub EntersForFile : List HistoryItem → HistoryItem → Type 0
-EntersForFile past (client.Enters entry) = EntersFor past entry
-EntersForFile past item = Unit {0}
 
 -- ---- who strays
 

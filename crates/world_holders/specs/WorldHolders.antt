@@ -1,24 +1,21 @@
 -- That those who hold a file of a cluster's world keep their part, and what is asked of the world (RFC 8435, sections 2.2 and 8).
 use Rattle.std.specs.Prelude.{ℕ, ◌^◌, ◌<◌, List, length}
 use Rattle.cluster_world.specs.ClusterWorlds.{ClusterState}
-use Rattle.client_laws.specs.ClientRunLaws.{InEachRun}
 use Rattle.node_histories.specs.NodeHistories.{IsToldByNodes}
 use Rattle.world_moves.specs.WorldMoves.{IsRunOf}
 use Rattle.world_reads.specs.WorldReads.{IsJournalInRange}
 use Rattle.holder_parts.specs.HolderParts.{HoldersKeepParts}
 use Rattle.world_layouts.specs.WorldLayouts.{GrantsAreOnce}
 use Rattle.world_layouts.specs.LayoutsInOrder.{HasLayoutsInOrder}
-use Rattle.world_holders.specs.HolderPremises.{AreEntriesTogether, EntersForFile, StraysHaveLeft}
+use Rattle.world_holders.specs.HolderPremises.{AreEntriesTogether, StraysHaveLeft}
 
 -- Fewer than 2^32 clients, and a journal of bytes; each layout is granted once, as the journal says, and to one life, and what ends as returned
--- was sent. The last three are not proved yet: a client's entries are of the file of its layout, the metadata server's of one event are not
--- parted, and only clients that left stray.
+-- was sent. The last two are not proved yet: the metadata server's entries of one event are not parted, and only clients that left stray.
 pub record HasOrder {w : ClusterState} (told : IsToldByNodes w) : Type 0 where
   pub few : length w.machines.clients < 2 ^ 32
   pub range : IsJournalInRange w.journal
   pub once : GrantsAreOnce told
   pub layouts : HasLayoutsInOrder told
-  pub files : InEachRun EntersForFile
   pub together : AreEntriesTogether told
   pub left : StraysHaveLeft told
 

@@ -5,7 +5,7 @@ ghost use Rattle.world_holders.specs.WorldHolders.{EachWorldKeepsParts};
 use client_laws::client_run_law;
 use client_records::client_records;
 use client_sends::client_sends;
-use client_sessions::client_sessions;
+use client_sessions::{client_sessions, entered_files};
 use mds_laws::own_periods_law;
 use world_moves::world_moves;
 
@@ -21,6 +21,7 @@ pub fn world_holders()
     client_records();
     client_sends();
     client_sessions();
+    entered_files();
     own_periods_law();
     world_moves();
 }

@@ -13,9 +13,9 @@ use Rattle.world_layouts.proofs.SentReturns.{SentLaws, returns_are_sent}
 
 pub all_layouts : SentLaws → (boots : List ℕ) (w : ClusterState) → IsRunOf boots w → (told : IsToldByNodes w) → IsWorldRoomy told → HasLayoutsInOrder told
 all_layouts laws boots w run told room = record {
-  granted = grants_are_told laws.returns.grants boots w run told room.few_clients room.range room.mds room.starts room.one;
+  granted = grants_are_told laws.returns.grants boots w run told room.few_clients room.range room.mds room.starts room.one room.few_mirrors;
   uids = uids_are_own laws.returns.grants.layouts boots w run told room.few_clients room.range room.mds room.starts room.one;
   stateids = stateids_are_once laws.returns.grants.layouts boots w run told room.few_clients room.range room.mds room.starts room.one;
-  sent = returns_are_sent laws boots w run told room.few_clients room.range room.mds room.starts room.one;
-  ended = returns_have_ended laws.returns boots w run told room.few_clients room.range room.mds room.starts room.one;
+  sent = returns_are_sent laws boots w run told room.few_clients room.range room.mds room.starts room.one room.few_mirrors;
+  ended = returns_have_ended laws.returns boots w run told room.few_clients room.range room.mds room.starts room.one room.few_mirrors;
 }

@@ -1,5 +1,5 @@
 -- Where a LAYOUTRETURN of a grant was accepted and kept a mirror, the period has ended clean (RFC 8881, section 18.44; RFC 8435, section 9).
-use Rattle.std.proofs.Common.{◌≡◌, ◌<◌, ℕ, ◌^◌, zero, suc, Bool, true, false, length, List, [], ◌∷◌, ◌++◌, take, drop, Some, refl, sym, ap, subst, ◌∙◌, inl, inr, append_assoc, append-nil}
+use Rattle.std.proofs.Common.{◌≡◌, ◌≤◌, ◌<◌, ℕ, ◌^◌, zero, suc, Bool, true, false, length, List, [], ◌∷◌, ◌++◌, take, drop, Some, refl, sym, ap, subst, ◌∙◌, inl, inr, append_assoc, append-nil}
 use Rattle.std.specs.Prelude.{slice_get, ◌||◌, cond}
 use Rattle.device_addr.specs.Universal.{AddressValue}
 use Rattle.std.specs.Int.{w32, from_be_bytes}
@@ -167,7 +167,7 @@ pub record ReturnLaws : Type 0 where
   pub ends : UidsEndOnce
 
 module _ (laws : ReturnLaws) (boots : List ℕ) (w : ClusterState) (run : IsRunOf boots w) (t : IsToldByNodes w) (few : length w.machines.clients < 2 ^ 32) (range : IsJournalInRange w.journal) (roomy : StaysRoomy t.mds.servers t.mds.mirrors t.mds.events)
-    (starts : StartsAreFew t) (one : IsOneRequestEach t) where
+    (starts : StartsAreFew t) (one : IsOneRequestEach t) (most : t.mds.mirrors ≤ 4) where
   -- at each moment of a period the same mirrors are live
   pub live_stays : (upto others : List MdsEvent) → IsMoment laws.grants.layouts boots w run t few range roomy starts one upto → IsMoment laws.grants.layouts boots w run t few range roomy starts one others
       → (file other : FileId) (client stranger uid : ℕ) (p : HasPeriod (server_after t.mds.servers t.mds.mirrors upto) file client uid) (q : HasPeriod (server_after t.mds.servers t.mds.mirrors others) other stranger uid) → file ≡ other
@@ -176,9 +176,9 @@ module _ (laws : ReturnLaws) (boots : List ℕ) (w : ClusterState) (run : IsRunO
       let run_all : List Entry = (mds_run t.mds.servers t.mds.mirrors t.mds.events).entries in
       let new : MdsValue = new_mds t.mds.servers t.mds.mirrors in
       let b : IsBegun (mds_run t.mds.servers t.mds.mirrors upto).entries file uid p.node (ids_of p.file_is.file.layout.live) =
-      laws.grants.begin t.mds.servers t.mds.mirrors upto file client uid (calls_to laws.grants.layouts boots w run t few range roomy starts one upto m) p in
+      laws.grants.begin t.mds.servers t.mds.mirrors upto file client uid most (calls_to laws.grants.layouts boots w run t few range roomy starts one upto m) p in
       let c : IsBegun (mds_run t.mds.servers t.mds.mirrors others).entries other uid q.node (ids_of q.file_is.file.layout.live) =
-      laws.grants.begin t.mds.servers t.mds.mirrors others other stranger uid (calls_to laws.grants.layouts boots w run t few range roomy starts one others k) q in
+      laws.grants.begin t.mds.servers t.mds.mirrors others other stranger uid most (calls_to laws.grants.layouts boots w run t few range roomy starts one others k) q in
       let more : List Entry = (run_from (run_from new upto).mds m.behind).entries in
       let rest : List Entry = (run_from (run_from new others).mds k.behind).entries in
       let first : run_all ≡ b.before ++ entry.Granted file (record { 0 = uid }) (Client p.node) ∷ (b.behind ++ more) =
@@ -243,7 +243,7 @@ module _ (laws : ReturnLaws) (boots : List ℕ) (w : ClusterState) (run : IsRunO
       let live : ids_of so.had.file_is.file.layout.live ≡ ids_of p.file_is.file.layout.live =
       live_stays k.early (g.early ++ g.f ∷ []) m mg returned.file granted.file.file (client_in returned.session) (client_in granted.session) so.uid so.had q both.0 in
       let shown : ids_of p.file_is.file.layout.live ≡ ids_of grant.mirrors =
-      same_live laws.grants boots w run t few range roomy starts one granted.file.file grant g.grants.file_is p.file_is g.grants.is (same_Some p.file_is g.grants.file_is (sym p.there ∙ g.grants.there)) in
+      same_live laws.grants boots w run t few range roomy starts one most granted.file.file grant g.grants.file_is p.file_is g.grants.is (same_Some p.file_is g.grants.file_is (sym p.there ∙ g.grants.there)) in
       let kept : HasMirror so.had.file_is.file.layout.live unreported.mirror.id =
       mirror_of so.had.file_is.file.layout.live unreported.place unreported.mirror.id
       (ap (λ (ids : List MirrorId). slice_get ids unreported.place) (live ∙ shown) ∙ id_at grant.mirrors unreported.place unreported.mirror unreported.there) in

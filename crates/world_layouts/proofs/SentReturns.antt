@@ -1,5 +1,5 @@
 -- A period that ends as returned was given back by a life that it was granted to (RFC 8881, section 18.44; RFC 8435, section 9).
-use Rattle.std.proofs.Common.{◌≡◌, ◌<◌, ℕ, ◌^◌, true, length, List, [], ◌∷◌, ◌++◌, None, refl, sym, ap, subst, ◌∙◌, arith, append_assoc}
+use Rattle.std.proofs.Common.{◌≡◌, ◌≤◌, ◌<◌, ℕ, ◌^◌, true, length, List, [], ◌∷◌, ◌++◌, None, refl, sym, ap, subst, ◌∙◌, arith, append_assoc}
 use Rattle.std.specs.Prelude.{map}
 use Rattle.std.specs.List.{AllByRecursion}
 use Rattle.std.proofs.lemmas.Option.{same_Some}
@@ -121,7 +121,7 @@ pub record SentLaws : Type 0 where
   pub come : ReturnsComeAtEnds
 
 module _ (laws : SentLaws) (boots : List ℕ) (w : ClusterState) (run : IsRunOf boots w) (t : IsToldByNodes w) (few : length w.machines.clients < 2 ^ 32) (range : IsJournalInRange w.journal) (roomy : StaysRoomy t.mds.servers t.mds.mirrors t.mds.events)
-    (starts : StartsAreFew t) (one : IsOneRequestEach t) where
+    (starts : StartsAreFew t) (one : IsOneRequestEach t) (most : t.mds.mirrors ≤ 4) where
   ended_stands : (past : List Entry) (file : FileId) (uid : ℕ) (e : Entry) → e ≡ entry.Ended file (record { 0 = uid }) Returned → Origin t.stories t.mds past e
       → StandsAt [] t.mds.steps past (Enters (entry.Ended file (record { 0 = uid }) Returned)) (entry.Ended file (record { 0 = uid }) Returned)
   ended_stands past file uid e same (EnteredByClient n l life kind stands) = no_true (subst (λ (x : Entry). is_client_entry x ≡ true) same kind)
@@ -350,8 +350,8 @@ module _ (laws : SentLaws) (boots : List ℕ) (w : ClusterState) (run : IsRunOf 
         its_file = sym (both.0 ∙ its_file);
         its_uid = uid_is;
         mirrors =
-            live_stays laws.returns boots w run t few range roomy starts one before (g.early ++ g.f ∷ []) m mg file granted.file.file client (client_in granted.session) uid had then_had both.0
-            ∙ same_live laws.returns.grants boots w run t few range roomy starts one granted.file.file grant g.grants.file_is period.file_is g.grants.is (same_Some period.file_is g.grants.file_is (sym period.there ∙ g.grants.there));
+            live_stays laws.returns boots w run t few range roomy starts one most before (g.early ++ g.f ∷ []) m mg file granted.file.file client (client_in granted.session) uid had then_had both.0
+            ∙ same_live laws.returns.grants boots w run t few range roomy starts one most granted.file.file grant g.grants.file_is period.file_is g.grants.is (same_Some period.file_is g.grants.file_is (sym period.there ∙ g.grants.there));
       }
 
   sent_by : (past : List Entry) (file : FileId) (uid : ℕ) (k : EndAt past file uid) (r : ReturnsAtEnd t.mds.servers t.mds.mirrors k.before k.e k.front file uid) (c : ReturnCame past k.e r.node r.xid r.session r.number)

@@ -1,5 +1,5 @@
 -- What a life was granted, the journal had granted to its client before (RFC 8881, section 12.5.5; RFC 8435, section 2.2).
-use Rattle.std.proofs.Common.{◌≡◌, ◌<◌, ℕ, ◌^◌, suc, length, List, [], ◌∷◌, ◌++◌, Some, refl, sym, ap, subst, ◌∙◌, arith, append_assoc}
+use Rattle.std.proofs.Common.{◌≡◌, ◌≤◌, ◌<◌, ℕ, ◌^◌, suc, length, List, [], ◌∷◌, ◌++◌, Some, refl, sym, ap, subst, ◌∙◌, arith, append_assoc}
 use Rattle.std.specs.Prelude.{map}
 use Rattle.std.proofs.lemmas.Option.{same_Some}
 use Rattle.ff_xdr.specs.Form.{Value, arm_of}
@@ -85,7 +85,7 @@ client_is : (n k : ℕ) → Client n ≡ Client k → n ≡ k
 client_is n k is = cc
 
 module _ (laws : GrantLaws) (boots : List ℕ) (w : ClusterState) (run : IsRunOf boots w) (t : IsToldByNodes w) (few : length w.machines.clients < 2 ^ 32) (range : IsJournalInRange w.journal) (roomy : StaysRoomy t.mds.servers t.mds.mirrors t.mds.events)
-    (starts : StartsAreFew t) (one : IsOneRequestEach t) where
+    (starts : StartsAreFew t) (one : IsOneRequestEach t) (most : t.mds.mirrors ≤ 4) where
   by_caller : (node client : ℕ) (bytes : List ℕ) (xid : ℕ) (v : CompoundValue) (past : List Entry) (k : CameFrom t past (Client node) bytes xid v) → IsCreateOf k.call client → HasIdOf t k.n client
   by_caller node client bytes xid v past k c =
       let there : HasItem (items_in k.life.steps) (compound xid k.name k.call) =
@@ -122,7 +122,7 @@ module _ (laws : GrantLaws) (boots : List ℕ) (w : ClusterState) (run : IsRunOf
       let calls : AreCalls (g.early ++ g.f ∷ []) = calls_to laws.layouts boots w run t few range roomy starts one (g.early ++ g.f ∷ []) m in
       let file : FileId = granted.file.file in
       let p : HasPeriod (server_after t.mds.servers t.mds.mirrors (g.early ++ g.f ∷ [])) file (client_in granted.session) grant.uid.0 = g.grants.has in
-      let b : IsBegun (mds_run t.mds.servers t.mds.mirrors (g.early ++ g.f ∷ [])).entries file grant.uid.0 p.node (ids_of p.file_is.file.layout.live) = laws.begin t.mds.servers t.mds.mirrors (g.early ++ g.f ∷ []) file (client_in granted.session) grant.uid.0 calls p in
+      let b : IsBegun (mds_run t.mds.servers t.mds.mirrors (g.early ++ g.f ∷ [])).entries file grant.uid.0 p.node (ids_of p.file_is.file.layout.live) = laws.begin t.mds.servers t.mds.mirrors (g.early ++ g.f ∷ []) file (client_in granted.session) grant.uid.0 most calls p in
       let c : IsConfirmed (g.early ++ g.f ∷ []) p.node (client_in granted.session) = laws.confirmed t.mds.servers t.mds.mirrors (g.early ++ g.f ∷ []) file (client_in granted.session) grant.uid.0 calls p in
       let id : HasIdOf t p.node (client_in granted.session) = confirmed_id (g.early ++ g.f ∷ []) m p.node (client_in granted.session) c in
       let same : (n ≡ p.node) × (l ≡ id.life) = one_id laws.layouts.ids boots w run t few range roomy n p.node l id.life its id.its starts (client_in granted.session) g.owner id.owner in

@@ -1,6 +1,6 @@
 -- The layouts of the clients of a world: each is granted once, as the journal says, and ends as the metadata server says (RFC 8881, sections
 -- 12.5.5, 18.43 and 18.44; RFC 8435, section 2.2).
-use Rattle.std.specs.Prelude.{◌≡◌, ℕ, ◌+◌, ◌<◌, ◌^◌, true, false, List, ◌∷◌, ◌++◌, length, Some}
+use Rattle.std.specs.Prelude.{◌≡◌, ℕ, ◌+◌, ◌<◌, ◌≤◌, ◌^◌, true, false, List, ◌∷◌, ◌++◌, length, Some}
 use Rattle.nfs4_types.specs.declared.ids.SessionId.{SessionId}
 use Rattle.nfs4_types.specs.declared.stateid.Stateid.{Stateid}
 use Rattle.cluster_model.specs.declared.ids.NodeId.TheVariants.{Client}
@@ -117,10 +117,11 @@ IsOneRequestEach told =
     → HasItem (items_in l.steps) (Sends (CallsMds xid name (OnSlot session number c))) → HasItem (items_in l.steps) (Sends (CallsMds other names (OnSlot asked number d))) → is_of_session session asked ≡ true
     → (session ≡ asked) × (c ≡ d)
 
--- There are fewer than 2^32 clients, records are of bytes and fileids have eight, the metadata server has room for its numbers at each moment, each
+-- There are fewer than 2^32 clients, a file has at most four mirrors, records are of bytes and fileids have eight, the metadata server has room for its numbers at each moment, each
 -- client has verifiers left, and numbers its requests one by one.
 pub record IsWorldRoomy {w : ClusterState} (told : IsToldByNodes w) : Type 0 where
   pub few_clients : length w.machines.clients < 2 ^ 32
+  pub few_mirrors : told.mds.mirrors ≤ 4
   pub range : IsJournalInRange w.journal
   pub mds : StaysRoomy told.mds.servers told.mds.mirrors told.mds.events
   pub starts : StartsAreFew told

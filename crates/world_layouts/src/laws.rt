@@ -11,7 +11,7 @@ use mds_replies::{answers_law, entries_law, id_law, period_law, replies_law};
 use nfs4_compound::every_listing;
 use rpc_record::every_message;
 
-/// In every world that is told by its nodes and has room, and of whose nodes hold what is assumed:
+/// In every world that is told by its nodes and has room, where periods that end as returned come so (`ReturnsComeAtEnds`):
 ///
 /// - what a client was granted, the journal had granted to it, while the mirrors of the grant were live (RFC 8881, section
 ///   18.43; RFC 8435, section 2.2);

@@ -16,7 +16,7 @@ returns c = record {
           silent = c.client_run_law.ensures.silent;
           apart = c.client_run_law.ensures.once;
           enters = c.client_sessions.ensures.enters;
-          files = order.files;
+          files = c.entered_files.ensures.files;
           strays = c.client_sessions.ensures.strays;
           bytes = c.client_sessions.ensures.bytes;
         };

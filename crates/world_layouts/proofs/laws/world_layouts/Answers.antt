@@ -4,7 +4,7 @@ use Rattle.world_layouts.proofs.laws.world_layouts.Goals as goal
 
 pub returns : goal.returns
 returns c = record {
-  in_order = λ assumed boots w run told room.
+  in_order = λ come boots w run told room.
       all_layouts
       (record {
         returns = record {
@@ -34,14 +34,14 @@ returns c = record {
               };
               own = c.period_law.ensures.own;
             };
-            begin = assumed.begin;
+            begin = c.entries_law.ensures.begin;
             confirmed = c.entries_law.ensures.confirmed;
           };
           once = c.mds_run_law.ensures.fresh;
           ends = c.entries_law.ensures.ends_once;
         };
         own = c.client_sessions.ensures.returns;
-        come = assumed.come;
+        come = come;
       })
       boots w run told room;
 }
