@@ -63,12 +63,12 @@ heard_sent past xid name call says behind h = subst (λ l. HasItem l (Sends (Cal
 -- ---- what is told by replies
 
 pub id_later : (past more : List HistoryItem) (clientid sequence : ℕ) → AllByRecursion IsNoCompound more → WasGivenId past clientid sequence → WasGivenId (past ++ more) clientid sequence
-id_later past more clientid sequence none (IsNew xid name verifier says behind heard is next) =
-    IsNew xid name verifier says (behind ++ more) (heard_later past more xid name _ says behind heard) is (all_more IsNoCompound behind more next none)
+id_later past more clientid sequence none (IsNew xid name verifier says behind heard is between next) =
+    IsNew xid name verifier says (behind ++ more) (heard_later past more xid name _ says behind heard) is between (all_more IsNoCompound behind more next none)
 id_later past more clientid sequence none (IsAgain xid name says status behind heard is later between next) =
     IsAgain xid name says status (behind ++ more) (heard_later past more xid name _ says behind heard) is later between (all_more IsNoCompound behind more next none)
 
-session_later : (past more : List HistoryItem) (session : SessionId) (behind : List HistoryItem) → WasGivenSession past session behind → WasGivenSession (past ++ more) session (behind ++ more)
+abbrev pub session_later : (past more : List HistoryItem) (session : SessionId) (behind : List HistoryItem) → WasGivenSession past session behind → WasGivenSession (past ++ more) session (behind ++ more)
 session_later past more session behind g = record {
   xid = g.xid;
   name = g.name;
@@ -76,6 +76,7 @@ session_later past more session behind g = record {
   sequence = g.sequence;
   says = g.says;
   heard = heard_later past more g.xid g.name _ g.says behind g.heard;
+  quiet = g.quiet;
   is = g.is;
 }
 
@@ -96,6 +97,7 @@ settled_later past more xid name session sequence file s = record {
   says = s.says;
   behind = s.behind ++ more;
   heard = heard_later past more xid name _ s.says s.behind s.heard;
+  quiet = s.quiet;
   final = s.final;
   ended = λ grant is. ended_later s.behind more session file.file grant (s.ended grant is);
 }

@@ -71,6 +71,7 @@ module _ (past : List HistoryItem) (held : ℕ) (name : List ℕ) (tie : Tie) (f
     says = o.says;
     behind = o.behind ++ more;
     heard = heard_later past more held name (OnSlot o.session o.sequence (slot.LayoutGet o.other)) o.says o.behind o.heard;
+    quiet = o.quiet;
     final = o.final;
     grant = o.grant;
     is = o.is;
@@ -177,6 +178,7 @@ module _ (h : List HistoryItem) (c : ClientValue) (a : Asked) (bytes : List ℕ)
         says = said a reply;
         behind = [];
         heard = asked_heard h c.name c.tie c.file a.xid a.ask out bytes now reply s.reply_is s.number (OnSlot session sequence (slot.LayoutGet f)) same;
+        quiet = out.quiet;
         final = final;
         grant = g;
         is = is;

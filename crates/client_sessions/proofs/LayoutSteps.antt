@@ -139,6 +139,7 @@ same_asked past held name tie file a late stateid writer o = record {
   says = o.says;
   behind = o.behind;
   heard = o.heard;
+  quiet = o.quiet;
   final = o.final;
   grant = o.grant;
   is = o.is;
@@ -189,6 +190,7 @@ called_back past c s slot is i = record { held = i.held; layout_of = of_layout c
       says = o.says;
       behind = o.behind;
       heard = o.heard;
+      quiet = o.quiet;
       final = o.final;
       grant = o.grant;
       is = o.is;

@@ -68,6 +68,7 @@ pub record LayoutOf (past : List HistoryItem) (held : ℕ) (name : List ℕ) (ti
   pub says : MdsReplyValue
   pub behind : List HistoryItem
   pub heard : IsHeard past held name (OnSlot session sequence (slot.LayoutGet other)) says behind
+  pub quiet : AllByRecursion IsNoCompound heard.until
   pub final : says.slot ≡ Delayed → ⊥
   pub grant : LayoutGrant
   pub is : says.answer ≡ Granted grant
@@ -116,6 +117,7 @@ module _ (past : List HistoryItem) (held : ℕ) (name : List ℕ) (tie : Tie) (f
     says = o.says;
     behind = o.behind ++ more;
     heard = heard_later past more held name (OnSlot o.session o.sequence (slot.LayoutGet o.other)) o.says o.behind o.heard;
+    quiet = o.quiet;
     final = o.final;
     grant = o.grant;
     is = o.is;

@@ -24,3 +24,4 @@ pub mod FailureStatuses
 pub mod FittingNumbers
 pub mod FittingCases
 pub mod InRuns
+pub mod Rounds

@@ -60,6 +60,7 @@ module _ (h : List HistoryItem) (name : List ℕ) (tie : Tie) (file : Option Ope
         says = reply_of_ask kind reply;
         behind = [];
         heard = asked_heard h name tie file xid kind out bytes now reply reply_is number (OnSlot session sequence (slot.LayoutGet f)) same;
+        quiet = out.quiet;
         final = final;
         ended = λ g is. absurd (none g is);
       }
@@ -88,6 +89,7 @@ module _ (past : List HistoryItem) (held : ℕ) (name : List ℕ) (tie : Tie) (f
     says = o.says;
     behind = o.behind ++ more;
     heard = heard_later past more held name (OnSlot o.session o.sequence (slot.LayoutGet o.other)) o.says o.behind o.heard;
+    quiet = o.quiet;
     final = o.final;
     ended = λ g is. subst (λ (k : LayoutGrant). HasLayoutEnded (o.behind ++ more) o.session o.other.file k) (same_grant o.grant g (sym o.is ∙ is)) ended;
   }

@@ -150,12 +150,12 @@ module _ (h : List HistoryItem) (name : List ℕ) (old : Tie) (file : Option Ope
   pub client_stands : (clientid sequence : ℕ) → kind ≡ ask.ExchangeId → (reply_of_ask kind reply).answer ≡ Client clientid sequence → TieStands (h ++ Hears (Recorded Mds bytes now) ∷ []) (HasClient clientid sequence)
   client_stands clientid sequence its is =
       let call = exchange_so out.call (out.kind_is ∙ its) in
-      IsNew xid name call.0 (reply_of_ask kind reply) [] (heard_so (ExchangeId call.0) call.1) is tt
+      IsNew xid name call.0 (reply_of_ask kind reply) [] (heard_so (ExchangeId call.0) call.1) is out.quiet tt
 
   pub session_stands : (session : SessionId) → kind ≡ ask.CreateSession → (reply_of_ask kind reply).answer ≡ Session session → TieStands (h ++ Hears (Recorded Mds bytes now) ∷ []) (HasSession (fresh_session session))
   session_stands session its is =
       let call = create_so out.call (out.kind_is ∙ its) in
-      IsFirst [] (record { xid = xid; name = name; clientid = call.0; sequence = call.1; says = reply_of_ask kind reply; heard = heard_so (CreateSession call.0 call.1) call.2; is = is }) tt refl
+      IsFirst [] (record { xid = xid; name = name; clientid = call.0; sequence = call.1; says = reply_of_ask kind reply; heard = heard_so (CreateSession call.0 call.1) call.2; quiet = out.quiet; is = is }) tt refl
 
   -- The client goes on as it stands: a request on a slot was answered, and not that the session is gone; or a CREATE_SESSION was refused for now.
   behind_so : (slot : SlotReport) → (reply_of_ask kind reply).slot ≡ slot → (new : Tie) → IsTieBehind now slot old new → ((reply_of_ask kind reply).answer ≡ Refused 10052 → ⊥) → (session : SessionId) (sequence : ℕ) (call : SlotCallValue) → out.call ≡ OnSlot session sequence call

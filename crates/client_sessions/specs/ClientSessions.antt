@@ -25,18 +25,19 @@ SaysWho number verifier past item = Unit {0}
 
 -- ---- its id
 
--- An EXCHANGE_ID was answered with this id and this number, and no compound went out since; or the compound before it was a CREATE_SESSION of
--- both, and was refused for now, and no other went out since (RFC 8881, section 15.1.1.3).
+-- The compound before it was an EXCHANGE_ID that was answered with this id and this number, or a CREATE_SESSION of both that was refused for
+-- now (RFC 8881, section 15.1.1.3).
 pub data WasGivenId (past : List HistoryItem) (clientid sequence : ℕ) : Type 0 where
   IsNew : (xid : ℕ) (name : List ℕ) (verifier : ℕ) (says : MdsReplyValue) (behind : List HistoryItem)
-      → IsHeard past xid name (ExchangeId verifier) says behind → says.answer ≡ Client clientid sequence → AllByRecursion IsNoCompound behind → WasGivenId past clientid sequence
+      → (heard : IsHeard past xid name (ExchangeId verifier) says behind) → says.answer ≡ Client clientid sequence
+      → AllByRecursion IsNoCompound heard.until → AllByRecursion IsNoCompound behind → WasGivenId past clientid sequence
   IsAgain : (xid : ℕ) (name : List ℕ) (says : MdsReplyValue) (status : ℕ) (behind : List HistoryItem)
       → (heard : IsHeard past xid name (CreateSession clientid sequence) says behind) → says.answer ≡ Refused status → is_for_later status ≡ true
       → AllByRecursion IsNoCompound heard.until → AllByRecursion IsNoCompound behind → WasGivenId past clientid sequence
 
 -- ---- its session
 
--- a CREATE_SESSION was answered with this session; and then came these
+-- a CREATE_SESSION was answered with this session, and no compound went out between; and then came these
 pub record WasGivenSession (past : List HistoryItem) (session : SessionId) (behind : List HistoryItem) : Type 0 where
   pub xid : ℕ
   pub name : List ℕ
@@ -44,6 +45,7 @@ pub record WasGivenSession (past : List HistoryItem) (session : SessionId) (behi
   pub sequence : ℕ
   pub says : MdsReplyValue
   pub heard : IsHeard past xid name (CreateSession clientid sequence) says behind
+  pub quiet : AllByRecursion IsNoCompound heard.until
   pub is : says.answer ≡ Session session
 
 -- ---- the next number on its slot

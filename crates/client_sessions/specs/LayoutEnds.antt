@@ -25,7 +25,7 @@ use Rattle.client_state.specs.ClientStates.{fresh_client}
 use Rattle.client_state.specs.ClientSends.{CallsServer, CallsMds}
 use Rattle.client_laws.specs.ClientHistory.{ClientInput, Requested, Recorded, TimeoutOf, Ticked, LeftProtocol, Strayed, HistoryItem, Hears, Enters, Sends, InOrder, HasItem, Each, client_history}
 use Rattle.client_laws.specs.ClientRunLaws.{WasGranted, IsDsReply, CoveredAtEach, CoveredByReturn, WasTakenUnder, is_reported}
-use Rattle.client_sessions.specs.HeardReplies.{IsHeard}
+use Rattle.client_sessions.specs.HeardReplies.{IsHeard, IsNoCompound}
 use Rattle.client_sessions.specs.ClientSessions.{bad_session}
 
 -- ---- a layout that has ended
@@ -49,11 +49,12 @@ pub data HasLayoutEnded (behind : List HistoryItem) (session : SessionId) (file 
       → IsDsReply bytes xid call (Failed status shown) → IsFenceStatus status
       → InOrder (Sends (CallsServer server xid name grant.uid.0 call) ∷ Hears (Recorded (Server server) bytes now) ∷ []) behind → HasLayoutEnded behind session file grant
 
--- A reply to this LAYOUTGET was heard that is final: it granted nothing, or what it granted has ended since.
+-- A reply to this LAYOUTGET was heard that is final, with no compound between: it granted nothing, or what it granted has ended since.
 pub record IsAskSettled (past : List HistoryItem) (xid : ℕ) (name : List ℕ) (session : SessionId) (sequence : ℕ) (file : OpenFile) : Type 0 where
   pub says : MdsReplyValue
   pub behind : List HistoryItem
   pub heard : IsHeard past xid name (OnSlot session sequence (slot.LayoutGet file)) says behind
+  pub quiet : AllByRecursion IsNoCompound heard.until
   pub final : says.slot ≡ Delayed → ⊥
   pub ended : (grant : LayoutGrant) → says.answer ≡ Granted grant → HasLayoutEnded behind session file.file grant
 

@@ -5,6 +5,7 @@ ghost use Rattle.client_sessions.specs.ClientSessions.{KeepsSlot, EachRunSaysWho
 ghost use Rattle.client_sessions.specs.LayoutEnds.{AsksForOne, ReturnsOwn, EntersGranted, EachRunStraysAtOnce, EachRunTakesBytes};
 ghost use Rattle.client_sessions.specs.FittingCalls.{EachRunAsksFit};
 ghost use Rattle.client_sessions.specs.EnteredFiles.{EntersForFile};
+ghost use Rattle.client_sessions.specs.SessionRounds.{EachRunKeepsRounds};
 
 /// In every run of a client, whatever comes and in whichever order:
 ///
@@ -46,4 +47,12 @@ pub fn fitting_calls()
 /// section 18.43; RFC 8435, section 2.2).
 pub fn entered_files()
     ensures files { InEachRun EntersForFile }
+{}
+
+/// In every run of a client in which no used number of a slot is the last of all, whatever comes and in whichever order, each
+/// request goes out in a round: behind an EXCHANGE_ID and the CREATE_SESSION of its answer nothing went out but requests on the
+/// session that this one was answered with; they are numbered one by one, and a number stands again only where the request that
+/// had it was refused at its SEQUENCE (RFC 8881, sections 2.10.6.1, 18.35 and 18.36).
+pub fn session_rounds()
+    ensures rounds { EachRunKeepsRounds }
 {}

@@ -3,4 +3,4 @@
 
 mod laws;
 
-pub use laws::{client_sessions, entered_files, fitting_calls};
+pub use laws::{client_sessions, entered_files, fitting_calls, session_rounds};
