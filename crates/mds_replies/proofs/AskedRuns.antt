@@ -132,11 +132,18 @@ module _ (servers : List AddressValue) (mirrors : ℕ) (past : List MdsEvent) (e
     now = λ off. absurd (not_both (sym (on_slot w.call) ∙ off));
   }
 
-  replied : (c : CompoundRun) (results : List (Value resop4)) (status : Stat4) → W c → Asked c.node (success_reply c.xid (spelling compound4_res (stat4_number status, (c.tag, c.results ++ results))))
-  replied c results status w = waited c (spelling compound4_res (stat4_number status, (c.tag, c.results ++ results))) w
+  -- whatever the table of clients is
+  abbrev AskedIn : SessionsState → NodeId → RpcReply → Type 0
+  AskedIn s node reply = AnswersAsked servers mirrors past e node reply
+
+  stays_asked : (s : SessionsState) (move : TableMove) → IsNoRequest move → (node : NodeId) (reply : RpcReply) → AskedIn s node reply → AskedIn (table_after s move) node reply
+  stays_asked s move none node reply a = a
+
+  replied : (s : SessionsState) → AnyTable s → (c : CompoundRun) (results : List (Value resop4)) (status : Stat4) → W c → Asked c.node (success_reply c.xid (spelling compound4_res (stat4_number status, (c.tag, c.results ++ results))))
+  replied s q c results status w = waited c (spelling compound4_res (stat4_number status, (c.tag, c.results ++ results))) w
 
   abbrev So : MdsValue → List Entry → List MdsSend → Type 0
-  So = IsSo W ends AnyTable any_moves Asked replied AnyEntry (λ x none. tt)
+  So = IsSo W ends AnyTable any_moves AskedIn stays_asked replied AnyEntry (λ x none. tt)
 
   start : So (server_after servers mirrors past) [] (sent_with_calls (server_after servers mirrors past).calls)
   start = record {
@@ -161,9 +168,9 @@ module _ (servers : List AddressValue) (mirrors : ℕ) (past : List MdsEvent) (e
       }
 
   nothing_so : ((node : NodeId) (bytes : List ℕ) → e.input ≡ Hears node bytes → (xid : ℕ) (c : CompoundValue) → incoming_of bytes ≡ IsCompound xid c → ⊥) → EventSo
-  nothing_so none = ended_so (other_keeps W ends AnyTable any_moves Asked replied AnyEntry (λ x n. tt) e (server_after servers mirrors past) (by_input e.input refl))
+  nothing_so none = ended_so (other_keeps W ends AnyTable any_moves AskedIn stays_asked replied AnyEntry (λ x n. tt) e (server_after servers mirrors past) (by_input e.input refl))
     where
-      by_input : (input : MdsInput) → e.input ≡ input → BringsNone W ends AnyTable any_moves Asked replied AnyEntry (λ x n. tt) input
+      by_input : (input : MdsInput) → e.input ≡ input → BringsNone W ends AnyTable any_moves AskedIn stays_asked replied AnyEntry (λ x n. tt) input
       by_input (Hears node bytes) at = none node bytes at
       by_input (IsTimedOut to) at = tt
       by_input Ticks at = tt
@@ -189,21 +196,21 @@ module _ (servers : List AddressValue) (mirrors : ℕ) (past : List MdsEvent) (e
     ran_so q =
         ended_so
         (subst (λ (s : MdsStep). Keeps So (server_after servers mirrors past) s) (sym (event_is e (server_after servers mirrors past) node xid name call came))
-        (out_keeps W ends AnyTable any_moves Asked replied AnyEntry (λ x n. tt) (server_after servers mirrors past) (run_of_call e.now (server_after servers mirrors past) node xid name call) q))
+        (out_keeps W ends AnyTable any_moves AskedIn stays_asked replied AnyEntry (λ x n. tt) (server_after servers mirrors past) (run_of_call e.now (server_after servers mirrors past) node xid name call) q))
 
   exchange_so : (node : NodeId) (xid : ℕ) (name : List ℕ) (verifier : ℕ) → IsCallFrom e node xid name (ExchangeId verifier) → EventSo
   exchange_so node xid name verifier came =
       ran_so node xid name (ExchangeId verifier) came
-      (alone_keeps W ends AnyTable any_moves Asked replied AnyEntry (λ x n. tt) e.now (server_after servers mirrors past) (new_compound node xid name (ExchangeId verifier) came) (exchange_id_op name verifier) refl refl refl
-      (λ d status l. mine node xid name (ExchangeId verifier) came (new_compound node xid name (ExchangeId verifier) came) d status refl refl l))
+      (alone_keeps W ends AnyTable any_moves AskedIn stays_asked replied AnyEntry (λ x n. tt) e.now (server_after servers mirrors past) (new_compound node xid name (ExchangeId verifier) came) (exchange_id_op name verifier) refl refl refl
+      (λ d status l t q. mine node xid name (ExchangeId verifier) came (new_compound node xid name (ExchangeId verifier) came) d status refl refl l))
 
   create_so : (node : NodeId) (xid : ℕ) (name : List ℕ) (client sequence : ℕ) → IsCallFrom e node xid name (CreateSession client sequence) → EventSo
   create_so node xid name client sequence came =
       ran_so node xid name (CreateSession client sequence) came
-      (alone_keeps W ends AnyTable any_moves Asked replied AnyEntry (λ x n. tt) e.now (server_after servers mirrors past) (new_compound node xid name (CreateSession client sequence) came) (create_session_op client sequence) refl refl refl
-      (λ d status l. mine node xid name (CreateSession client sequence) came (new_compound node xid name (CreateSession client sequence) came) d status refl refl l))
+      (alone_keeps W ends AnyTable any_moves AskedIn stays_asked replied AnyEntry (λ x n. tt) e.now (server_after servers mirrors past) (new_compound node xid name (CreateSession client sequence) came) (create_session_op client sequence) refl refl refl
+      (λ d status l t q. mine node xid name (CreateSession client sequence) came (new_compound node xid name (CreateSession client sequence) came) d status refl refl l))
 
-  fine_ops : (returns : Bool) (ops : List (Value argop4)) → FitsOps returns ops → AreFine W ends AnyTable any_moves Asked replied AnyEntry (λ x none. tt) ops
+  fine_ops : (returns : Bool) (ops : List (Value argop4)) → FitsOps returns ops → AreFine W ends AnyTable any_moves AskedIn stays_asked replied AnyEntry (λ x none. tt) ops
   fine_ops returns [] f = tt
   fine_ops returns (op ∷ ops) f = (record { last = f.0.0; any = λ is x. tt }, fine_ops returns ops f.1)
 
@@ -217,8 +224,8 @@ module _ (servers : List AddressValue) (mirrors : ℕ) (past : List MdsEvent) (e
     slot_keeps : (a : SlotAnswer) → Keeps So (server_after servers mirrors past) (sequenced e.now bound new_run (slot_ops name call) (request_of session number call) a)
     slot_keeps TakesEffect =
         λ es ss j.
-        run_keeps W ends AnyTable any_moves Asked replied AnyEntry (λ x n. tt) e.now (slot_ops name call) (fine_ops (is_return_call call) (slot_ops name call) (ops_fit name call)) (taken_mds e.now (server_after servers mirrors past) node session number call)
-        (taken_compound node xid name session number call) refl (λ d status l. mine node xid name (OnSlot session number call) came (taken_compound node xid name session number call) d status refl refl l)
+        run_keeps W ends AnyTable any_moves AskedIn stays_asked replied AnyEntry (λ x n. tt) e.now (slot_ops name call) (fine_ops (is_return_call call) (slot_ops name call) (ops_fit name call)) (taken_mds e.now (server_after servers mirrors past) node session number call)
+        (taken_compound node xid name session number call) refl (λ d status l t q. mine node xid name (OnSlot session number call) came (taken_compound node xid name session number call) d status refl refl l)
         (λ d l none some. record {
           early = past;
           f = e;
@@ -236,13 +243,13 @@ module _ (servers : List AddressValue) (mirrors : ℕ) (past : List MdsEvent) (e
     slot_keeps (Repeats bytes) =
         λ es ss j.
         subst (λ (l : List Entry). So bound l (ss ++ Replies node (success_reply xid bytes) ∷ [])) (sym (append-nil es))
-        (sends W ends AnyTable any_moves Asked replied AnyEntry (λ x k. tt) bound es ss (Replies node (success_reply xid bytes))
-        (own_reply W ends AnyTable any_moves Asked replied AnyEntry (λ x k. tt) node (success_reply xid bytes) (own node xid name (OnSlot session number call) came bytes))
+        (sends W ends AnyTable any_moves AskedIn stays_asked replied AnyEntry (λ x k. tt) bound es ss (Replies node (success_reply xid bytes))
+        (own_reply W ends AnyTable any_moves AskedIn stays_asked replied AnyEntry (λ x k. tt) bound.sessions node (success_reply xid bytes) (own node xid name (OnSlot session number call) came bytes))
         (record { waits = j.waits; table = tt; entries = j.entries; replies = j.replies; were = j.were }))
     slot_keeps (Refuses status) =
         λ es ss j.
         let refused : CompoundRun = with_result new_run (refused_as 53 status) in
-        finish_keeps W ends AnyTable any_moves Asked replied AnyEntry (λ x k. tt) bound refused status (own node xid name (OnSlot session number call) came (compound_bytes refused status)) es ss
+        finish_keeps W ends AnyTable any_moves AskedIn stays_asked replied AnyEntry (λ x k. tt) bound refused status (λ q. own node xid name (OnSlot session number call) came (compound_bytes refused status)) es ss
         (record { waits = j.waits; table = tt; entries = j.entries; replies = j.replies; were = j.were })
 
     slot_so : EventSo

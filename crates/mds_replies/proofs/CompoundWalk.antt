@@ -124,7 +124,7 @@ module _ (I : MdsValue → List Entry → List MdsSend → Type 0) (Heard : Hear
                               (
                                 (λ create. creates I Heard W k m c now create (λ x. r.confirms x create.0 c.node)),
                                 (
-                                  (λ session. destroys_session I Heard W k m c session),
+                                  (λ session. destroys_session I Heard W k r.destroys m c session),
                                   (
                                     (λ device. device_infos I Heard W k m c device),
                                     (

@@ -349,7 +349,7 @@ module _ (Ok : ℕ → NodeId → Type 0) where
                               (
                                 (λ create may. creates IsSo HeardAny W cases m c now create (λ x. confirms_keeps x create.0 c.node (may create.0 refl))),
                                 (
-                                  (λ session may. destroys_session IsSo HeardAny W cases m c session),
+                                  (λ session may. destroys_session IsSo HeardAny W cases (λ n id es ss i. (hold.runs.destroys n id es ss i.0, i.1)) m c session),
                                   (
                                     (λ device may. device_infos IsSo HeardAny W cases m c device),
                                     (

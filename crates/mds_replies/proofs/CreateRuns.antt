@@ -1,5 +1,5 @@
 -- A CREATE_SESSION that is answered with a session: whose the session is.
-use Rattle.std.proofs.Common.{◌≡◌, ◌≤◌, ◌<◌, ℕ, Bool, true, false, List, [], ◌∷◌, ◌++◌, length, take, Option, Some, None, refl, sym, ap, subst, ◌∙◌, arith}
+use Rattle.std.proofs.Common.{◌≡◌, ◌≤◌, ◌<◌, ℕ, Bool, true, false, List, [], ◌∷◌, ◌++◌, length, take, drop, Option, Some, None, refl, sym, ap, subst, ◌∙◌, arith}
 use Rattle.std.specs.Prelude.{◌==◌, ◌&&◌, ◌^◌, not, nat_lt, if◌then◌else◌}
 use Rattle.std.specs.Int.{w64, from_be_bytes}
 use Rattle.std.specs.List.{find}
@@ -9,7 +9,7 @@ use Rattle.std.proofs.lemmas.List.{length-append}
 use Rattle.ff_xdr.specs.Form.{long}
 use Rattle.ff_xdr.proofs.CutShort.{length-long}
 use Rattle.nfs4_session.specs.declared.client.TheConstants.{MAX_SESSIONS}
-use Rattle.nfs4_session.specs.Clients.{ClientState, MadeSession, SessionsState, client_id, session_id, client_in, has_id}
+use Rattle.nfs4_session.specs.Clients.{ClientState, MadeSession, SessionsState, client_id, session_id, client_in, number_in, has_id}
 use Rattle.nfs4_session.specs.CreateSessions.{CreateSessionCase, IsDue, IsReplay, IsMisordered, HasNoRoom, IsStale, numbers_are_spent, case_by_next, case_by_last, case_by_client, create_session_case}
 use Rattle.mds_laws.proofs.Lists.{In, found_in, found_passes}
 use Rattle.mds_replies.proofs.TableKeys.{FitsMade}
@@ -28,6 +28,14 @@ long_again n less = from_be_bytes-to_be_bytes_8 n less
 pub session_client : (client number : ℕ) → client < 2 ^ 64 → client_in (session_id client number) ≡ client
 session_client client number less =
     ap (λ (n : ℕ). from_be_bytes w64 (take n (long client ++ long number))) (sym (length-long client)) ∙ ap (from_be_bytes w64) (take_front (long client) (long number)) ∙ long_again client less
+
+drop_front : (xs ys : List ℕ) → drop (length xs) (xs ++ ys) ≡ ys
+drop_front [] ys = refl
+drop_front (x ∷ xs) ys = drop_front xs ys
+
+pub session_number : (client number : ℕ) → number < 2 ^ 64 → number_in (session_id client number) ≡ number
+session_number client number less =
+    ap (λ (n : ℕ). from_be_bytes w64 (drop n (long client ++ long number))) (sym (length-long client)) ∙ ap (from_be_bytes w64) (drop_front (long client) (long number)) ∙ long_again number less
 
 pub session_length : (client number : ℕ) → length (session_id client number).0 ≡ 16
 session_length client number = let size = length-append (long client) (long number) in let a = length-long client in let b = length-long number in omega (arith, size, a, b)

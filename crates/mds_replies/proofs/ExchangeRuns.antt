@@ -94,16 +94,21 @@ refusal_fits = (refl, ((omega arith, no_tag), (omega arith, (refl, tt))))
 
 -- ---- the event
 
--- the id was given, of a record that is this owner's, and the table is the one behind the call when calls go out
-pub record Gave (e : MdsEvent) (m : MdsValue) (owner : List ℕ) (verifier client : ℕ) : Type 0 where
+-- the id and the number were given, of a record that is this owner's, and the table is the one behind the call when calls go out
+pub record Gave (e : MdsEvent) (m : MdsValue) (owner : List ℕ) (verifier client sequence : ℕ) : Type 0 where
   pub g : ClientState
   pub id : g.id ≡ client
+  pub number : g.sequence ≡ sequence
   pub is : IsGiven m.sessions (long verifier) owner e.now (table_after m.sessions (Exchanges (long verifier) owner e.now)).ids g
   pub mds : (after_event e m).mds ≡ (calls_out [] (record m { sessions = table_after m.sessions (Exchanges (long verifier) owner e.now) })).mds
 
 abbrev client_in_answer : MdsAnswerValue → ℕ
 client_in_answer (Client client sequence) = client
 client_in_answer other = 0
+
+abbrev number_in_answer : MdsAnswerValue → ℕ
+number_in_answer (Client client sequence) = sequence
+number_in_answer other = 0
 
 abbrev is_client : MdsAnswerValue → Bool
 is_client (Client client sequence) = true
@@ -132,7 +137,7 @@ module _ (e : MdsEvent) (m : MdsValue) (node : NodeId) (xid : ℕ) (owner : List
       not_so is = absurd cc
 
   by_fault : (fault : Option IdFault) → exchange_fault m.sessions (exchange_case m.sessions.clients (long verifier) owner) ≡ fault → after_event e m ≡ and_then (stepped fault) (calls_out []) → (reply : RpcReply) → In (Replies node reply) (after_event e m).sends
-      → (reply_of_ask ask.ExchangeId reply).answer ≡ Client client sequence → Gave e m owner verifier client
+      → (reply_of_ask ask.ExchangeId reply).answer ≡ Client client sequence → Gave e m owner verifier client sequence
   by_fault (Some fault) at is reply sent says =
       absurd (not_refused reply (reply_is e m (stepped (Some fault)) node node reply (success_reply xid (spelling compound4_res (10006, ([], refused_as 42 stat.ServerFault ∷ [])))) is refl called sent) says)
   by_fault None at is reply sent says =
@@ -144,10 +149,12 @@ module _ (e : MdsEvent) (m : MdsValue) (node : NodeId) (xid : ℕ) (owner : List
         g = G;
         id = sym (ap (λ (r : RpcReply). client_in_answer (reply_of_ask ask.ExchangeId r).answer) own
             ∙ ap (λ (r : MdsReplyValue). client_in_answer r.answer) (read_as ask.ExchangeId xid (0, ([], exchange_result (exchanged G) ∷ [])) fits)) ∙ ap client_in_answer says;
+        number = sym (ap (λ (r : RpcReply). number_in_answer (reply_of_ask ask.ExchangeId r).answer) own
+            ∙ ap (λ (r : MdsReplyValue). number_in_answer r.answer) (read_as ask.ExchangeId xid (0, ([], exchange_result (exchanged G) ∷ [])) fits)) ∙ ap number_in_answer says;
         is = subst (λ (f : Option IdFault). IsGiven m.sessions (long verifier) owner e.now (exchanged_unless m.sessions (after_exchange m.sessions (long verifier) owner e.now (exchange_case m.sessions.clients (long verifier) owner)) f).ids G) (sym at) given;
         mds = ap (λ (s : MdsStep). s.mds) is
             ∙ ap (λ (f : Option IdFault). (calls_out [] (record m { sessions = exchanged_unless m.sessions (after_exchange m.sessions (long verifier) owner e.now (exchange_case m.sessions.clients (long verifier) owner)) f })).mds) (sym at);
       }
 
-  pub gave : (reply : RpcReply) → In (Replies node reply) (after_event e m).sends → (reply_of_ask ask.ExchangeId reply).answer ≡ Client client sequence → Gave e m owner verifier client
+  pub gave : (reply : RpcReply) → In (Replies node reply) (after_event e m).sends → (reply_of_ask ask.ExchangeId reply).answer ≡ Client client sequence → Gave e m owner verifier client sequence
   gave = by_fault (exchange_fault m.sessions (exchange_case m.sessions.clients (long verifier) owner)) refl came

@@ -21,7 +21,8 @@ use Rattle.mirror_writer.specs.Writers.{WriterValue, WriterSends}
 use Rattle.mirror_writer.specs.Writers as writer
 use Rattle.nfs4_types.specs.declared.stateid.Stateid.{Stateid}
 use Rattle.nfs4_session.specs.declared.back.BackCall.{BackCall}
-use Rattle.nfs4_session.specs.TableLaw.{TableMove, CallBack}
+use Rattle.nfs4_types.specs.declared.ids.SessionId.{SessionId}
+use Rattle.nfs4_session.specs.TableLaw.{TableMove, ExchangeId, CreateSession, BeginRequest, FinishRequest, Bind, CallBack, DestroySession, DestroyClient, Expire}
 use Rattle.recall.specs.declared.recall.Recall.{Recall}
 use Rattle.open_state.specs.Opens.{OpensValue}
 use Rattle.nfs4_compound.specs.Results.{resop4}
@@ -70,6 +71,29 @@ NoneNew old new = (p : ℕ × NodeId) → In p new → In p old
 abbrev pub AnyCompound : CompoundRun → Type 0
 AnyCompound c = Unit {0}
 
+-- a call of the table of clients that is no request and destroys no session
+abbrev pub IsPlainMove : TableMove → Type 0
+IsPlainMove (BeginRequest request now) = ⊥
+IsPlainMove (DestroySession session) = ⊥
+IsPlainMove (ExchangeId verifier owner now) = Unit {0}
+IsPlainMove (CreateSession client sequence program node now) = Unit {0}
+IsPlainMove (FinishRequest pass reply) = Unit {0}
+IsPlainMove (Bind session node) = Unit {0}
+IsPlainMove (CallBack client) = Unit {0}
+IsPlainMove (DestroyClient client) = Unit {0}
+IsPlainMove (Expire now) = Unit {0}
+
+pub plain_no_request : (move : TableMove) → IsPlainMove move → IsNoRequest move
+plain_no_request (BeginRequest request now) is = is
+plain_no_request (DestroySession session) is = tt
+plain_no_request (ExchangeId verifier owner now) is = tt
+plain_no_request (CreateSession client sequence program node now) is = tt
+plain_no_request (FinishRequest pass reply) is = tt
+plain_no_request (Bind session node) is = tt
+plain_no_request (CallBack client) is = tt
+plain_no_request (DestroyClient client) is = tt
+plain_no_request (Expire now) is = tt
+
 -- ---- the cases
 
 pub record Cases (I : MdsValue → List Entry → List MdsSend → Type 0) (Heard : HeardOf) (W : CompoundRun → Type 0) : Type 0 where
@@ -77,7 +101,7 @@ pub record Cases (I : MdsValue → List Entry → List MdsSend → Type 0) (Hear
   pub quiet : (m : MdsValue) (confirmed : List (ℕ × NodeId)) (opens : OpensValue) (reclaimed : List ℕ) (recalls : List Recall) → NoneNew m.confirmed confirmed
       → Becomes I m (record m { confirmed = confirmed; opens = opens; reclaimed = reclaimed; recalls = recalls })
   -- nothing but sessions does, by a call of their table
-  pub tables : (m : MdsValue) (move : TableMove) → IsNoRequest move → Becomes I m (moved m move)
+  pub tables : (m : MdsValue) (move : TableMove) → IsPlainMove move → Becomes I m (moved m move)
   pub notes : (m : MdsValue) (e : Entry) → is_note e ≡ true → Enters I m m (e ∷ [])
   -- a file is put back as it stands, with other things beside it
   pub puts : (m : MdsValue) (file : FileId) (s t : ServedFile) → served m file ≡ Some s → t.file ≡ s.file → t.holder ≡ s.holder → t.seqid ≡ s.seqid
@@ -123,11 +147,12 @@ pub record Cases (I : MdsValue → List Entry → List MdsSend → Type 0) (Hear
 abbrev pub GivesAnswers : (MdsValue → List Entry → List MdsSend → Type 0) → Type 0
 GivesAnswers I = (m : MdsValue) (node : NodeId) (bytes : List ℕ) (reply : RpcReply) → bytes ≡ reply_bytes reply → (es : List Entry) (ss : List MdsSend) → I m es ss → I m es (ss ++ Answers node bytes ∷ [])
 
--- where compounds are run: what they reply, which is of success, the returns in them, and who is confirmed
+-- where compounds are run: what they reply, which is of success, the returns in them, who is confirmed, and the sessions that they destroy
 pub record RunCases (I : MdsValue → List Entry → List MdsSend → Type 0) (W : CompoundRun → Type 0) : Type 0 where
   pub replies : (m : MdsValue) (node : NodeId) (xid : ℕ) (results : List ℕ) (es : List Entry) (ss : List MdsSend) → I m es ss → I m es (ss ++ Replies node (success_reply xid results) ∷ [])
   pub returns : (m : MdsValue) (file : FileId) (s : ServedFile) (n : ℕ) (cred : Cred) (errors : List (Value ff_ioerr4)) → TakesInput I m file s (Returns n cred (report_of errors s.file.layout.live))
   pub confirms : (m : MdsValue) (client : ℕ) (node : NodeId) → Becomes I m (confirms client node m)
+  pub destroys : (m : MdsValue) (session : SessionId) → Becomes I m (moved m (DestroySession session))
   pub any : (c : CompoundRun) → W c
 
 -- how a compound that waited goes on

@@ -20,10 +20,10 @@ use Rattle.mds_calls.specs.MdsCalls as slot
 use Rattle.mds_calls.specs.MdsReplies.{MdsAnswerValue, Refused, MdsReplyValue, slot_status, slot_told, results_of_ask, reply_of_ask}
 use Rattle.mds_rule.specs.OpSteps.{refused_as}
 use Rattle.mds_laws.specs.MdsRuns.{MdsEvent}
-use Rattle.mds_replies.specs.AnsweredRequests.{FitsRequest, TookEffectAmong, IsRefusedWith, HasNoSession, IsOutOfOrder, IsUnread, StandsByReport, StandsFor}
+use Rattle.mds_replies.specs.AnsweredRequests.{FitsRequest, TookEffectAmong, IsRefusedWith, HasNoSession, IsOutOfOrder, IsUnread}
 use Rattle.mds_replies.proofs.ReplyForms.{IsRefusal, reply_fits}
 use Rattle.mds_replies.proofs.ReplySent.{read_as}
-use Rattle.mds_replies.proofs.SlotHistories.{IsTaken, MeansKept, SlotBy, SlotSo}
+use Rattle.mds_replies.proofs.SlotHistories.{IsTaken, MeansKept, SlotBy, SlotSo, ByReport, StandsWith}
 
 -- ---- how a refusal of a SEQUENCE is read
 
@@ -44,7 +44,7 @@ refusal_read c xid status r =
     ∙ ap (λ (s : SlotReport). record { slot = s; answer = cond {A = MdsAnswerValue} (stat4_number status == 0) (results_of_ask (ask_on_slot c) (refused_as 53 status ∷ [])) (Refused (stat4_number status)) }) (told_by c status)
     ∙ ap (λ (b : Bool). record { slot = slot_status (stat4_number status); answer = cond {A = MdsAnswerValue} b (results_of_ask (ask_on_slot c) (refused_as 53 status ∷ [])) (Refused (stat4_number status)) }) r.some
 
-module _ (servers : List AddressValue) (mirrors : ℕ) (past : List MdsEvent) where
+module _ (servers : List AddressValue) (mirrors : ℕ) (past : List MdsEvent) (F : SessionId → ℕ → Type 0) where
   -- ---- what is kept
 
   abbrev Kept : ℕ → ℕ → ℕ → List ℕ → Type 0
@@ -115,11 +115,11 @@ module _ (servers : List AddressValue) (mirrors : ℕ) (past : List MdsEvent) wh
   among : (session : SessionId) (sequence : ℕ) → IsTaken servers mirrors past (client_in session) (number_in session) sequence → TookEffectAmong servers mirrors past session sequence
   among session sequence t = record { early = t.early; f = t.f; late = t.late; split = t.split; asked = t.asked; its = of_session session t.asked t.its_client t.its_number; took = t.took }
 
-  pub stands_kept : (before : List MdsEvent) (session : SessionId) (sequence xid : ℕ) (bytes : List ℕ) (c : SlotCallValue) → FitsRequest (OnSlot session sequence c) → Kept (client_in session) (number_in session) sequence bytes
-      → StandsFor servers mirrors past before session sequence c (reply_of_ask (ask_on_slot c) (success_reply xid bytes))
-  stands_kept before session sequence xid bytes c fits k = by_report (reply_of_ask (ask_on_slot c) (success_reply xid bytes)).slot
+  pub stands_kept : (before : List MdsEvent) (session : SessionId) (sequence xid : ℕ) (bytes : List ℕ) (c : SlotCallValue) → FitsRequest (OnSlot session sequence c) → Kept (client_in session) (number_in session) sequence bytes → F session sequence
+      → StandsWith servers mirrors F past before session sequence c (reply_of_ask (ask_on_slot c) (success_reply xid bytes))
+  stands_kept before session sequence xid bytes c fits k free = by_report (reply_of_ask (ask_on_slot c) (success_reply xid bytes)).slot
     where
-      by_report : (r : SlotReport) → StandsByReport servers mirrors past before session sequence c (reply_of_ask (ask_on_slot c) (success_reply xid bytes)).answer r
+      by_report : (r : SlotReport) → ByReport servers mirrors F past before session sequence c (reply_of_ask (ask_on_slot c) (success_reply xid bytes)).answer r
       by_report Taken = (
         record {
           early = k.0.early;
@@ -131,26 +131,28 @@ module _ (servers : List AddressValue) (mirrors : ℕ) (past : List MdsEvent) wh
           took = k.0.took;
         },
         λ name came. k.1 name session sequence c came fits,
+        free,
       )
-      by_report Uncached = among session sequence k.0
+      by_report Uncached = (among session sequence k.0, free)
       by_report Delayed = tt
       by_report Unknown = IsUnread (among session sequence k.0)
 
   abbrev Says : List MdsEvent → SessionId → ℕ → SlotCallValue → Stat4 → Type 0
-  Says before session sequence c status = StandsFor servers mirrors past before session sequence c (record { slot = slot_status (stat4_number status); answer = Refused (stat4_number status) })
+  Says before session sequence c status = StandsWith servers mirrors F past before session sequence c (record { slot = slot_status (stat4_number status); answer = Refused (stat4_number status) })
 
   read_refusal : (before : List MdsEvent) (session : SessionId) (sequence xid : ℕ) (c : SlotCallValue) (given status : Stat4) → status ≡ given → IsRefusal 53 given → Says before session sequence c given
-      → StandsFor servers mirrors past before session sequence c (reply_of_ask (ask_on_slot c) (success_reply xid (spelling compound4_res (stat4_number status, ([], refused_as 53 status ∷ [])))))
+      → StandsWith servers mirrors F past before session sequence c (reply_of_ask (ask_on_slot c) (success_reply xid (spelling compound4_res (stat4_number status, ([], refused_as 53 status ∷ [])))))
   read_refusal before session sequence xid c given status is r says =
-      subst (λ (s : Stat4). StandsFor servers mirrors past before session sequence c (reply_of_ask (ask_on_slot c) (success_reply xid (spelling compound4_res (stat4_number s, ([], refused_as 53 s ∷ [])))))) (sym is)
-      (subst (λ (v : MdsReplyValue). StandsFor servers mirrors past before session sequence c v) (sym (refusal_read c xid given r)) says)
+      subst (λ (s : Stat4). StandsWith servers mirrors F past before session sequence c (reply_of_ask (ask_on_slot c) (success_reply xid (spelling compound4_res (stat4_number s, ([], refused_as 53 s ∷ [])))))) (sym is)
+      (subst (λ (v : MdsReplyValue). StandsWith servers mirrors F past before session sequence c v) (sym (refusal_read c xid given r)) says)
 
   pub stands_no_session : (before : List MdsEvent) (session : SessionId) (sequence xid : ℕ) (c : SlotCallValue) (status : Stat4) → status ≡ stat.BadSession → IsRefusedWith servers mirrors before session sequence status
-      → StandsFor servers mirrors past before session sequence c (reply_of_ask (ask_on_slot c) (success_reply xid (spelling compound4_res (stat4_number status, ([], refused_as 53 status ∷ [])))))
+      → StandsWith servers mirrors F past before session sequence c (reply_of_ask (ask_on_slot c) (success_reply xid (spelling compound4_res (stat4_number status, ([], refused_as 53 status ∷ [])))))
   stands_no_session before session sequence xid c status is w = read_refusal before session sequence xid c stat.BadSession status is (record { some = refl; its_number = refl; fits = refl }) (HasNoSession refl (subst (λ (s : Stat4). IsRefusedWith servers mirrors before session sequence s) is w))
 
   pub stands_refused : (before : List MdsEvent) (session : SessionId) (sequence xid : ℕ) (c : SlotCallValue) (status : Stat4) → RefusedAs (client_in session) (number_in session) sequence status → IsRefusedWith servers mirrors before session sequence status
-      → StandsFor servers mirrors past before session sequence c (reply_of_ask (ask_on_slot c) (success_reply xid (spelling compound4_res (stat4_number status, ([], refused_as 53 status ∷ [])))))
-  stands_refused before session sequence xid c status (AsMisordered is) w = read_refusal before session sequence xid c stat.SeqMisordered status is (record { some = refl; its_number = refl; fits = refl }) (IsOutOfOrder refl (subst (λ (s : Stat4). IsRefusedWith servers mirrors before session sequence s) is w))
-  stands_refused before session sequence xid c status (AsDelayed is) w = read_refusal before session sequence xid c stat.Delay status is (record { some = refl; its_number = refl; fits = refl }) tt
-  stands_refused before session sequence xid c status (AsUncached is t) w = read_refusal before session sequence xid c stat.RetryUncachedRep status is (record { some = refl; its_number = refl; fits = refl }) (among session sequence t)
+      → (status ≡ stat.RetryUncachedRep → F session sequence)
+      → StandsWith servers mirrors F past before session sequence c (reply_of_ask (ask_on_slot c) (success_reply xid (spelling compound4_res (stat4_number status, ([], refused_as 53 status ∷ [])))))
+  stands_refused before session sequence xid c status (AsMisordered is) w free = read_refusal before session sequence xid c stat.SeqMisordered status is (record { some = refl; its_number = refl; fits = refl }) (IsOutOfOrder refl (subst (λ (s : Stat4). IsRefusedWith servers mirrors before session sequence s) is w))
+  stands_refused before session sequence xid c status (AsDelayed is) w free = read_refusal before session sequence xid c stat.Delay status is (record { some = refl; its_number = refl; fits = refl }) tt
+  stands_refused before session sequence xid c status (AsUncached is t) w free = read_refusal before session sequence xid c stat.RetryUncachedRep status is (record { some = refl; its_number = refl; fits = refl }) (among session sequence t, free is)

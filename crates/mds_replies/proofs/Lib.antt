@@ -39,9 +39,14 @@ pub mod Turns
 pub mod CallEvents
 pub mod ReturnedRuns
 pub mod SlotTables
+pub mod OneOfAll
+pub mod FreeSlots
 pub mod SlotHistories
 pub mod JudgedRequests
 pub mod RequestRuns
+pub mod EventTables
+pub mod CountedSlots
+pub mod SlotOrders
 pub mod GivenSends
 pub mod AskedRuns
 pub mod ConfirmedHolders

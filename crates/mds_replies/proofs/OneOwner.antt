@@ -116,15 +116,16 @@ exchanged_in [] = ([], 0)
 exchanged_in (op ∷ ops) = in_arm 42 argop4 (λ (verifier, (owner, rest)). (owner, verifier)) ([], 0) op
 
 module _ (servers : List AddressValue) (mirrors : ℕ) where
-  gave_in : (before : List MdsEvent) (e : MdsEvent) (owner : List ℕ) (verifier client : ℕ) → GivesId servers mirrors before e owner verifier client → Gave e (server_after servers mirrors before) owner verifier client
+  pub gave_in : (before : List MdsEvent) (e : MdsEvent) (owner : List ℕ) (verifier client : ℕ) (g : GivesId servers mirrors before e owner verifier client)
+      → Gave e (server_after servers mirrors before) owner verifier client g.sequence
   gave_in before e owner verifier client g =
       let m : MdsValue = server_after servers mirrors before in
       gave e m g.node g.xid owner verifier client g.sequence (table_of_run servers mirrors before) (are_called servers mirrors before) (event_is e m g.node g.xid owner (ExchangeId verifier) g.came) g.reply g.sent g.says
 
   -- behind the event it is this owner's
-  own_behind : (before : List MdsEvent) (e : MdsEvent) (owner : List ℕ) (verifier client : ℕ) → Gave e (server_after servers mirrors before) owner verifier client
+  own_behind : (before : List MdsEvent) (e : MdsEvent) (owner : List ℕ) (verifier client sequence : ℕ) → Gave e (server_after servers mirrors before) owner verifier client sequence
       → Owns client owner (long verifier) (after_event e (server_after servers mirrors before)).mds.sessions
-  own_behind before e owner verifier client g =
+  own_behind before e owner verifier client sequence g =
       let m : MdsValue = server_after servers mirrors before in
       let s : SessionsState = m.sessions in
       let t : IsTable s = table_of_run servers mirrors before in
@@ -149,10 +150,10 @@ module _ (servers : List AddressValue) (mirrors : ℕ) where
   later before mid e f owner other verifier another client g h =
       let m : MdsValue = server_after servers mirrors before in
       let n : MdsValue = server_after servers mirrors (before ++ e ∷ mid) in
-      let second : Gave f n other another client = gave_in (before ++ e ∷ mid) f other another client h in
+      let second : Gave f n other another client h.sequence = gave_in (before ++ e ∷ mid) f other another client h in
       let owns : Owns client owner (long verifier) n.sessions =
       subst (λ (x : MdsValue). Owns client owner (long verifier) x.sessions) (sym (run_behind (new_mds servers mirrors) before (e ∷ mid)))
-      (run_owns client owner (long verifier) (after_event e m).mds mid (own_behind before e owner verifier client (gave_in before e owner verifier client g))) in
+      (run_owns client owner (long verifier) (after_event e m).mds mid (own_behind before e owner verifier client g.sequence (gave_in before e owner verifier client g))) in
       same_owner n.sessions (table_of_run servers mirrors (before ++ e ∷ mid)) other (long another) f.now second.g client owner (long verifier) _ second.is second.id owns.1
 
   -- one event has one compound

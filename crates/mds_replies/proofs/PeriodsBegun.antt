@@ -18,6 +18,7 @@ use Rattle.file_rule.specs.declared.creation.Creation.{Creation}
 use Rattle.file_rule.specs.FilePhases.{creations_at}
 use Rattle.mds_rows.specs.Draws.{drawn}
 use Rattle.recall.specs.Recalls.{without_file}
+use Rattle.device_addr.specs.Universal.{AddressValue}
 use Rattle.layout_report.specs.Reports.{report_of}
 use Rattle.mds_rule.specs.Answers.{own_answer, failures_by_place}
 use Rattle.compound_reply.specs.Replied.{success_reply}
@@ -26,7 +27,7 @@ use Rattle.mds_rule.specs.declared.waiter.Waiter.TheVariants.{ForFile, ForRead, 
 use Rattle.mds_rule.specs.ServedFiles.{has_fresh, is_period_end, file_behind, file_stepped, input_at, takes_input}
 use Rattle.mds_rule.specs.FileOps.{nth_server, servers_of, new_served, with_new_file}
 use Rattle.mds_rule.specs.LayoutOps.{with_holder}
-use Rattle.mds_laws.specs.MdsRuns.{mds_run}
+use Rattle.mds_laws.specs.MdsRuns.{MdsEvent, mds_run}
 use Rattle.mds_laws.proofs.Keeping.{is_note, HeardAny}
 use Rattle.mds_laws.proofs.Numbers.{WereSent, sent_more, sent_with, sent_without}
 use Rattle.cluster_laws.specs.FenceLaw.{live_in}
@@ -209,14 +210,20 @@ runs = record {
   replies = λ m node xid results es ss i. sends m es ss (Replies node (success_reply xid results)) i;
   returns = λ m file s n cred errors at fresh es ss i. inputs m file s (Returns n cred (report_of errors s.file.layout.live)) (λ few. reports_leave file errors s.file.layout.live few) at es ss i;
   confirms = λ m client node es ss i. i;
+  destroys = λ m session es ss i. i;
   any = λ c. tt;
 }
 
+-- a file behind each run
+pub so_behind_run : (servers : List AddressValue) (mirrors : ℕ) (events : List MdsEvent) → mirrors ≤ 4 → (file : FileId) (s : ServedFile) → served (server_after servers mirrors events) file ≡ Some s
+    → SoAt (mds_run servers mirrors events).entries file s.file
+so_behind_run servers mirrors events few file s at =
+    let i = in_each_run IsSo AnyCompound cases runs (λ m node bytes reply is es ss k. sends m es ss (Answers node bytes) k) (λ m request now es ss k. k) (new_mds servers mirrors) events
+    (record { mine = record { limit = few; at = λ j x got. absurd (none-some x got); none = λ j off. refl }; were = λ call inside. absurd inside }) in
+    let there = at_place (server_after servers mirrors events).files file s at in
+    subst (λ (g : FileId). SoAt (mds_run servers mirrors events).entries g s.file) (file_at file there.0) (i.mine.at (file.0 - 1) s there.1)
+
 pub periods_begin : PeriodsBegin
 periods_begin servers mirrors events file client uid few calls p =
-    let i = in_each_run IsSo AnyCompound cases runs (λ m node bytes reply is es ss k. sends m es ss (Answers node bytes) k) (λ m request now es ss k. k) (new_mds servers mirrors) events
-    (record { mine = record { limit = few; at = λ j s got. absurd (none-some s got); none = λ j off. refl }; were = λ call inside. absurd inside }) in
-    let there = at_place (server_after servers mirrors events).files file p.file_is p.there in
-    let b = (i.mine.at (file.0 - 1) p.file_is there.1).begun p.node p.is_recalled p.phase in
     subst (λ (n : ℕ). IsBegun (mds_run servers mirrors events).entries file n p.node (ids_of p.file_is.file.layout.live)) p.its_uid
-    (subst (λ (g : FileId). IsBegun (mds_run servers mirrors events).entries g p.file_is.file.layout.cred.0 p.node (ids_of p.file_is.file.layout.live)) (file_at file there.0) b)
+    ((so_behind_run servers mirrors events few file p.file_is p.there).begun p.node p.is_recalled p.phase)

@@ -18,11 +18,13 @@ use Rattle.nfs4_compound.specs.Args.{argop4}
 use Rattle.nfs4_compound.specs.Results.{resop4}
 use Rattle.nfs4_compound.specs.Compounds.{CompoundValue, compound4_res}
 use Rattle.nfs4_compound.specs.declared.stop.Stop.TheVariants as stop
+use Rattle.nfs4_session.specs.declared.begin.SlotPass.{SlotPass}
 use Rattle.nfs4_session.specs.Slots.{SlotAnswer, TakesEffect, Repeats, Refuses}
 use Rattle.nfs4_session.specs.Clients.{SessionsState, client_in, number_in}
 use Rattle.nfs4_session.specs.Requests.{request_answer, after_request, pass_of, after_finish}
 use Rattle.nfs4_session.specs.Bindings.{after_binding}
-use Rattle.nfs4_session.specs.TableLaw.{TableMove, Bind, table_after}
+use Rattle.nfs4_session.specs.TableLaw.{TableMove, Bind, BeginRequest, table_after, KeepsTable}
+use Rattle.nfs4_session.specs.Beginning.{table_begun}
 use Rattle.mds_session_calls.specs.SessionOps.{exchange_id_op, create_session_op}
 use Rattle.mds_calls.specs.MdsCalls.{SlotCallValue, MdsCallValue, ExchangeId, CreateSession, OnSlot, ask_on_slot, is_kept_reply}
 use Rattle.mds_calls.specs.MdsCalls as slot
@@ -32,15 +34,15 @@ use Rattle.mds_receive.specs.MdsReceive.{IsCompound, incoming_of}
 use Rattle.mds_rule.specs.MdsStates.{CompoundRun, WaitingRead, WaitingWrite, ServedFile, MdsSend, Replies, MdsValue, MdsStep, and_then}
 use Rattle.mds_rule.specs.OpSteps.{with_result, refused_as}
 use Rattle.mds_rule.specs.LayoutOps.{layout_of_file, no_stateid}
-use Rattle.mds_rule.specs.Compounds.{compound_bytes, runs, sequenced, sequence_result}
+use Rattle.mds_rule.specs.Compounds.{compound_bytes, kept_in_slot, runs, sequenced, sequence_result}
 use Rattle.mds_rule.specs.Goes.{calls_out}
 use Rattle.mds_laws.specs.MdsRuns.{MdsInput, MdsEvent, Hears, IsTimedOut, Ticks, RecallsFile, Resilvers, after_event}
 use Rattle.mds_laws.specs.SlotUses.{first_request}
 use Rattle.mds_laws.proofs.Lists.{In, AllOf}
-use Rattle.mds_laws.proofs.Keeping.{Keeps, IsNoRequest}
+use Rattle.mds_laws.proofs.Keeping.{Keeps, IsNoRequest, joined}
 use Rattle.mds_replies.specs.ClientCalls.{IsCallFrom, server_after, IsEventOf}
 use Rattle.mds_replies.specs.SlotReplies.{request_of, TookEffect, EffectsAreNumbered}
-use Rattle.mds_replies.specs.AnsweredRequests.{FitsRequest, HearsFitCall, AreFitCalls, StaysRoomy, StandsFor, AnswersRequest, EachReplyStands}
+use Rattle.mds_replies.specs.AnsweredRequests.{FitsRequest, HearsFitCall, AreFitCalls, StaysRoomy, IsFreeAt, StandsFor, AnswersRequest, EachReplyStands}
 use Rattle.mds_replies.proofs.HeldFiles.{in_behind}
 use Rattle.mds_replies.proofs.PeriodKept.{sent_with_calls, in_sent}
 use Rattle.mds_replies.proofs.OutCalls.{are_called}
@@ -54,9 +56,10 @@ use Rattle.mds_replies.proofs.LayoutReturnRuns.{given_step, ReturnEnds, Accepts}
 use Rattle.mds_replies.proofs.LayoutReturnRuns as giving
 use Rattle.mds_replies.proofs.TakenMeans.{one_more, after_is, first_in, get_of, return_of, effect_means}
 use Rattle.mds_replies.proofs.CallEvents.{Brings, ACall, Nothing, brings, is_return_call, FitsOps, ops_fit}
-use Rattle.mds_replies.proofs.Turns.{has_waiting, sends, own_reply, IsSo, finish_keeps, AreFine, run_keeps, alone_keeps, out_keeps, BringsNone, other_keeps}
+use Rattle.mds_replies.proofs.Turns.{has_waiting, sends, own_reply, IsSo, finish_keeps, AreFine, run_keeps, alone_keeps, go_out, out_keeps, BringsNone, other_keeps}
 use Rattle.mds_replies.proofs.SlotTables.{TableSo, ClientSo, SessionSo, all_more, move_so, request_so, done_so, SlotJudged, NoSession, BySlot, judged}
-use Rattle.mds_replies.proofs.SlotHistories.{is_layout_call, event_of_call, same_ops, IsTaken, MeansKept, SlotSo, slot_more, kept_now, slot_done, WaitsSo, waits_more, effect_too, stands_taken, waited_answers}
+use Rattle.mds_replies.proofs.SlotHistories.{is_layout_call, event_of_call, same_ops, IsTaken, MeansKept, SlotSo, slot_more, kept_now, slot_done, WaitsSo, waits_more, effect_too, StandsWith, AnswersWith, stands_taken, waited_answers, answers_on, stands_behind, answers_request}
+use Rattle.mds_replies.proofs.FreeSlots.{IsRunTable, run_table_on, run_table, is_table, FreeIn, free_stays, finish_frees, first_so, answered_free}
 use Rattle.mds_replies.proofs.JudgedRequests.{repeats_kept, RefusedAs, refused_by, stands_kept, stands_no_session, stands_refused}
 
 -- what holds behind events
@@ -71,6 +74,12 @@ AnyEntry e = Unit {0}
 abbrev IsFrom : NodeId → ℕ → NodeId → RpcReply → Type 0
 IsFrom node xid other reply = (other ≡ node) × (reply.xid ≡ xid)
 
+not_delayed : {status : Stat4} → status ≡ stat.RetryUncachedRep → stat.Delay ≡ status → ⊥
+not_delayed retry delayed = absurd (not_same (delayed ∙ retry))
+  where
+    not_same : stat.Delay ≡ stat.RetryUncachedRep → ⊥
+    not_same is = absurd cc
+
 not_both : false ≡ true → ⊥
 not_both is = absurd cc
 
@@ -79,7 +88,7 @@ status_of TakesEffect = stat.Ok
 status_of (Repeats reply) = stat.Ok
 status_of (Refuses status) = status
 
-module _ (numbered : EffectsAreNumbered) (servers : List AddressValue) (mirrors : ℕ) (events past after : List MdsEvent) (e : MdsEvent) (fit : AreFitCalls events) (roomy : StaysRoomy servers mirrors events)
+module _ (tables : KeepsTable) (numbered : EffectsAreNumbered) (servers : List AddressValue) (mirrors : ℕ) (events past after : List MdsEvent) (e : MdsEvent) (fit : AreFitCalls events) (roomy : StaysRoomy servers mirrors events)
     (split : IsEventOf events past e after) (i : RunSo servers mirrors past (server_after servers mirrors past)) where
   abbrev m : MdsValue
   m = server_after servers mirrors past
@@ -93,15 +102,28 @@ module _ (numbered : EffectsAreNumbered) (servers : List AddressValue) (mirrors 
   ends : (c : CompoundRun) → WaitsSo servers mirrors (past ++ e ∷ []) c → (c.ops ≡ []) × (c.stop ≡ stop.End None)
   ends c w = (w.ops, w.stop)
 
-  abbrev Q : SessionsState → Type 0
-  Q s = TableSo (SlotSo servers mirrors (past ++ e ∷ [])) s
+  abbrev Slots : SessionsState → Type 0
+  Slots s = TableSo (SlotSo servers mirrors (past ++ e ∷ [])) s
 
-  moves : (s : SessionsState) (move : TableMove) → IsNoRequest move → TableSo (SlotSo servers mirrors (past ++ e ∷ [])) s → TableSo (SlotSo servers mirrors (past ++ e ∷ [])) (table_after s move)
-  moves s move none q =
+  slots_move : (s : SessionsState) (move : TableMove) → IsNoRequest move → TableSo (SlotSo servers mirrors (past ++ e ∷ [])) s → TableSo (SlotSo servers mirrors (past ++ e ∷ [])) (table_after s move)
+  slots_move s move none q =
       move_so (SlotSo servers mirrors (past ++ e ∷ [])) (λ client number. tt) (λ client number sequence reply slot p. slot_done servers mirrors (past ++ e ∷ []) client number sequence reply slot p) s move none q
 
-  abbrev Answered : NodeId → RpcReply → Type 0
-  Answered node reply = AnswersRequest servers mirrors (past ++ e ∷ []) node reply
+  abbrev Q : SessionsState → Type 0
+  Q s = TableSo (SlotSo servers mirrors (past ++ e ∷ [])) s × IsRunTable s
+
+  moves : (s : SessionsState) (move : TableMove) → IsNoRequest move → Q s → Q (table_after s move)
+  moves s move none q = (slots_move s move none q.0, run_table_on s move q.1)
+
+  bare_moves : (s : SessionsState) (move : TableMove) → IsNoRequest move → IsRunTable s → IsRunTable (table_after s move)
+  bare_moves s move none q = run_table_on s move q
+
+  -- a reply, where the table of clients is this one
+  abbrev Answered : SessionsState → NodeId → RpcReply → Type 0
+  Answered s node reply = AnswersWith servers mirrors (FreeIn s) (past ++ e ∷ []) node reply
+
+  answered_stays : (s : SessionsState) (move : TableMove) → IsNoRequest move → (node : NodeId) (reply : RpcReply) → Answered s node reply → Answered (table_after s move) node reply
+  answered_stays s move none node reply a = answers_on servers mirrors (FreeIn s) (FreeIn (table_after s move)) (λ session n free. free_stays s move none session n free) (past ++ e ∷ []) node reply a
 
   -- where the run begins
   wait_more : (reads : List WaitingRead) (write : Option WaitingWrite) → AllWait (WaitsSo servers mirrors past) reads write → AllWait (WaitsSo servers mirrors (past ++ e ∷ [])) reads write
@@ -116,64 +138,111 @@ module _ (numbered : EffectsAreNumbered) (servers : List AddressValue) (mirrors 
       (λ c so. all_more (SessionSo (SlotSo servers mirrors past) c.id) (SessionSo (SlotSo servers mirrors (past ++ e ∷ [])) c.id) (λ x p. (p.0, λ slot is. slot_more servers mirrors past (e ∷ []) c.id x.number slot (p.1 slot is))) c.sessions so)
       (server_after servers mirrors past).sessions.clients i.table
 
+  began : Q (server_after servers mirrors past).sessions
+  began = (begun_table, run_table servers mirrors past)
+
+  -- a slot that is free in the table behind the event
+  free_behind : (session : SessionId) (n : ℕ) → FreeIn (after_event e (server_after servers mirrors past)).mds.sessions session n → IsFreeAt (server_after servers mirrors (past ++ e ∷ [])) session n
+  free_behind session n free = subst (λ (x : MdsValue). IsFreeAt x session n) (sym (one_more servers mirrors past e)) first_free
+    where
+      first_free : IsFreeAt (after_event e (server_after servers mirrors past)).mds session n
+      first_free slot at = first_so _ (after_event e (server_after servers mirrors past)).mds.sessions session free slot at refl refl
+
   record EventSo : Type 0 where
     pub next : RunSo servers mirrors (past ++ e ∷ []) (server_after servers mirrors (past ++ e ∷ []))
     pub replies : (node : NodeId) (reply : RpcReply) → In (Replies node reply) (after_event e (server_after servers mirrors past)).sends → AnswersRequest servers mirrors (past ++ e ∷ []) node reply
 
   -- ---- the replies of an event, in one way or another
 
-  module _ (A : NodeId → RpcReply → Type 0) (lift : (node : NodeId) (reply : RpcReply) → AnswersRequest servers mirrors (past ++ e ∷ []) node reply → A node reply) where
-    replied : (c : CompoundRun) (results : List (Value resop4)) (status : Stat4) → WaitsSo servers mirrors (past ++ e ∷ []) c → A c.node (success_reply c.xid (spelling compound4_res (stat4_number status, (c.tag, c.results ++ results))))
-    replied c results status w =
-        lift c.node (success_reply c.xid (spelling compound4_res (stat4_number status, (c.tag, c.results ++ results)))) (waited_answers servers mirrors (past ++ e ∷ []) c (spelling compound4_res (stat4_number status, (c.tag, c.results ++ results))) w)
+  module _ (A : SessionsState → NodeId → RpcReply → Type 0) (on : (s : SessionsState) (move : TableMove) → IsNoRequest move → (node : NodeId) (reply : RpcReply) → A s node reply → A (table_after s move) node reply)
+      (lift : (s : SessionsState) (node : NodeId) (reply : RpcReply) → Answered s node reply → A s node reply) where
+    replied_by : (s : SessionsState) → IsRunTable s → (c : CompoundRun) (bytes : List ℕ) → WaitsSo servers mirrors (past ++ e ∷ []) c → A (kept_in_slot s c.slot bytes) c.node (success_reply c.xid bytes)
+    replied_by s run c bytes w =
+        lift (kept_in_slot s c.slot bytes) c.node (success_reply c.xid bytes)
+        (waited_answers servers mirrors (FreeIn (kept_in_slot s c.slot bytes)) (past ++ e ∷ []) c bytes w
+        (subst (λ (o : Option SlotPass). FreeIn (kept_in_slot s o bytes) w.session w.number) (sym w.slot) (finish_frees s (is_table tables s run) w.session w.number bytes)))
+
+    replied : (s : SessionsState) → Q s → (c : CompoundRun) (results : List (Value resop4)) (status : Stat4) → WaitsSo servers mirrors (past ++ e ∷ []) c
+        → A (kept_in_slot s c.slot (spelling compound4_res (stat4_number status, (c.tag, c.results ++ results)))) c.node (success_reply c.xid (spelling compound4_res (stat4_number status, (c.tag, c.results ++ results))))
+    replied s q c results status w = replied_by s q.1 c (spelling compound4_res (stat4_number status, (c.tag, c.results ++ results))) w
+
+    bare_replied : (s : SessionsState) → IsRunTable s → (c : CompoundRun) (results : List (Value resop4)) (status : Stat4) → WaitsSo servers mirrors (past ++ e ∷ []) c
+        → A (kept_in_slot s c.slot (spelling compound4_res (stat4_number status, (c.tag, c.results ++ results)))) c.node (success_reply c.xid (spelling compound4_res (stat4_number status, (c.tag, c.results ++ results))))
+    bare_replied s q c results status w = replied_by s q c (spelling compound4_res (stat4_number status, (c.tag, c.results ++ results))) w
 
     abbrev So : MdsValue → List Entry → List MdsSend → Type 0
-    So = IsSo (λ (c : CompoundRun). WaitsSo servers mirrors (past ++ e ∷ []) c) ends (λ (s : SessionsState). TableSo (SlotSo servers mirrors (past ++ e ∷ [])) s) moves A replied AnyEntry (λ x none. tt)
+    So = IsSo (λ (c : CompoundRun). WaitsSo servers mirrors (past ++ e ∷ []) c) ends (λ (s : SessionsState). Q s) moves A on replied AnyEntry (λ x none. tt)
 
-    -- without the table of clients
+    -- without the slots of the table of clients
     abbrev Bare : MdsValue → List Entry → List MdsSend → Type 0
-    Bare = IsSo (λ (c : CompoundRun). WaitsSo servers mirrors (past ++ e ∷ []) c) ends (λ (s : SessionsState). Unit {0}) (λ s move is j. tt) A replied AnyEntry (λ x none. tt)
+    Bare = IsSo (λ (c : CompoundRun). WaitsSo servers mirrors (past ++ e ∷ []) c) ends (λ (s : SessionsState). IsRunTable s) bare_moves A on bare_replied AnyEntry (λ x none. tt)
 
     start : So (server_after servers mirrors past) [] (sent_with_calls (server_after servers mirrors past).calls)
     start = record {
       waits = begun_waits;
-      table = begun_table;
+      table = began;
       entries = tt;
       replies = λ node reply inside. absurd (of_calls (server_after servers mirrors past).calls (Replies node reply) (are_called servers mirrors past) inside);
       were = λ call inside. in_sent call (server_after servers mirrors past).calls inside;
     }
 
-    ended_so : Keeps So (server_after servers mirrors past) (after_event e (server_after servers mirrors past)) → ((node : NodeId) (reply : RpcReply) → In (Replies node reply) (after_event e (server_after servers mirrors past)).sends → A node reply → AnswersRequest servers mirrors (past ++ e ∷ []) node reply)
+    ended_at : So (after_event e (server_after servers mirrors past)).mds ([] ++ (after_event e (server_after servers mirrors past)).entries) (sent_with_calls (server_after servers mirrors past).calls ++ (after_event e (server_after servers mirrors past)).sends)
+        → ((node : NodeId) (reply : RpcReply) → In (Replies node reply) (after_event e (server_after servers mirrors past)).sends → A (after_event e (server_after servers mirrors past)).mds.sessions node reply → AnswersRequest servers mirrors (past ++ e ∷ []) node reply)
         → EventSo
-    ended_so q answers =
-        let s : So (after_event e (server_after servers mirrors past)).mds ([] ++ (after_event e (server_after servers mirrors past)).entries) (sent_with_calls (server_after servers mirrors past).calls ++ (after_event e (server_after servers mirrors past)).sends) =
-        q [] (sent_with_calls (server_after servers mirrors past).calls) start in
-        record {
-          next = subst (λ (x : MdsValue). RunSo servers mirrors (past ++ e ∷ []) x) (sym (one_more servers mirrors past e)) (record { waits = s.waits; table = s.table });
-          replies = λ node reply inside. answers node reply inside (s.replies node reply (in_behind (Replies node reply) (sent_with_calls (server_after servers mirrors past).calls) (after_event e (server_after servers mirrors past)).sends inside));
-        }
+    ended_at s answers = record {
+      next = subst (λ (x : MdsValue). RunSo servers mirrors (past ++ e ∷ []) x) (sym (one_more servers mirrors past e)) (record { waits = s.waits; table = s.table.0 });
+      replies = λ node reply inside. answers node reply inside (s.replies node reply (in_behind (Replies node reply) (sent_with_calls (server_after servers mirrors past).calls) (after_event e (server_after servers mirrors past)).sends inside));
+    }
+
+    ended_so : Keeps So (server_after servers mirrors past) (after_event e (server_after servers mirrors past))
+        → ((node : NodeId) (reply : RpcReply) → In (Replies node reply) (after_event e (server_after servers mirrors past)).sends → A (after_event e (server_after servers mirrors past)).mds.sessions node reply → AnswersRequest servers mirrors (past ++ e ∷ []) node reply)
+        → EventSo
+    ended_so q answers = ended_at (q [] (sent_with_calls (server_after servers mirrors past).calls) start) answers
+
+    -- where the table is another one, before anything is sent
+    start_with : (sessions : SessionsState) → Q sessions → So (record (server_after servers mirrors past) { sessions = sessions }) [] (sent_with_calls (server_after servers mirrors past).calls)
+    start_with sessions table = record {
+      waits = begun_waits;
+      table = table;
+      entries = tt;
+      replies = λ node reply inside. absurd (of_calls (server_after servers mirrors past).calls (Replies node reply) (are_called servers mirrors past) inside);
+      were = λ call inside. in_sent call (server_after servers mirrors past).calls inside;
+    }
+
+    bare_with : (sessions : SessionsState) → IsRunTable sessions → Bare (record (server_after servers mirrors past) { sessions = sessions }) [] (sent_with_calls (server_after servers mirrors past).calls)
+    bare_with sessions table = record {
+      waits = begun_waits;
+      table = table;
+      entries = tt;
+      replies = λ node reply inside. absurd (of_calls (server_after servers mirrors past).calls (Replies node reply) (are_called servers mirrors past) inside);
+      were = λ call inside. in_sent call (server_after servers mirrors past).calls inside;
+    }
 
     fine_ops : (returns : Bool) (ops : List (Value argop4)) → FitsOps returns ops
-        → AreFine (λ (c : CompoundRun). WaitsSo servers mirrors (past ++ e ∷ []) c) ends (λ (s : SessionsState). TableSo (SlotSo servers mirrors (past ++ e ∷ [])) s) moves A replied AnyEntry (λ x none. tt) ops
+        → AreFine (λ (c : CompoundRun). WaitsSo servers mirrors (past ++ e ∷ []) c) ends (λ (s : SessionsState). Q s) moves A on replied AnyEntry (λ x none. tt) ops
     fine_ops returns [] f = tt
     fine_ops returns (op ∷ ops) f = (record { last = f.0.0; any = λ is x. tt }, fine_ops returns ops f.1)
 
     bare_ops : (returns : Bool) (ops : List (Value argop4)) → FitsOps returns ops
-        → AreFine (λ (c : CompoundRun). WaitsSo servers mirrors (past ++ e ∷ []) c) ends (λ (s : SessionsState). Unit {0}) (λ s move is j. tt) A replied AnyEntry (λ x none. tt) ops
+        → AreFine (λ (c : CompoundRun). WaitsSo servers mirrors (past ++ e ∷ []) c) ends (λ (s : SessionsState). IsRunTable s) bare_moves A on bare_replied AnyEntry (λ x none. tt) ops
     bare_ops returns [] f = tt
     bare_ops returns (op ∷ ops) f = (record { last = f.0.0; any = λ is x. tt }, bare_ops returns ops f.1)
+
+  -- as it is said behind the event
+  said_behind : (node : NodeId) (reply : RpcReply) → Answered (after_event e (server_after servers mirrors past)).mds.sessions node reply → AnswersRequest servers mirrors (past ++ e ∷ []) node reply
+  said_behind node reply a = answers_request servers mirrors (FreeIn (after_event e (server_after servers mirrors past)).mds.sessions) (past ++ e ∷ []) free_behind node reply a
 
   -- ---- no compound comes
 
   nothing_so : ((node : NodeId) (bytes : List ℕ) → e.input ≡ Hears node bytes → (xid : ℕ) (c : CompoundValue) → incoming_of bytes ≡ IsCompound xid c → ⊥) → EventSo
   nothing_so none =
-      ended_so Answered (λ node reply a. a)
-      (other_keeps (λ (c : CompoundRun). WaitsSo servers mirrors (past ++ e ∷ []) c) ends (λ (s : SessionsState). TableSo (SlotSo servers mirrors (past ++ e ∷ [])) s) moves Answered (replied Answered (λ node reply a. a)) AnyEntry (λ x n. tt) e
+      ended_so Answered answered_stays (λ s node reply a. a)
+      (other_keeps (λ (c : CompoundRun). WaitsSo servers mirrors (past ++ e ∷ []) c) ends (λ (s : SessionsState). Q s) moves Answered answered_stays (replied Answered answered_stays (λ s node reply a. a)) AnyEntry (λ x n. tt) e
       (server_after servers mirrors past) (by_input e.input refl))
-      (λ node reply inside a. a)
+      (λ node reply inside a. said_behind node reply a)
     where
       by_input : (input : MdsInput) → e.input ≡ input
-          → BringsNone (λ (c : CompoundRun). WaitsSo servers mirrors (past ++ e ∷ []) c) ends (λ (s : SessionsState). TableSo (SlotSo servers mirrors (past ++ e ∷ [])) s) moves Answered (replied Answered (λ node reply a. a)) AnyEntry (λ x n. tt) input
+          → BringsNone (λ (c : CompoundRun). WaitsSo servers mirrors (past ++ e ∷ []) c) ends (λ (s : SessionsState). Q s) moves Answered answered_stays (replied Answered answered_stays (λ s node reply a. a)) AnyEntry (λ x n. tt) input
       by_input (Hears node bytes) at = none node bytes at
       by_input (IsTimedOut to) at = tt
       by_input Ticks at = tt
@@ -183,11 +252,23 @@ module _ (numbered : EffectsAreNumbered) (servers : List AddressValue) (mirrors 
   -- ---- a compound of a client
 
   module _ (node : NodeId) (xid : ℕ) (name : List ℕ) where
-    abbrev Own : NodeId → RpcReply → Type 0
-    Own other reply = AnswersRequest servers mirrors (past ++ e ∷ []) other reply ⊎ IsFrom node xid other reply
+    -- it answers a call, or it is the compound's of this event, and then this holds of the table of clients
+    abbrev Own : (SessionsState → Type 0) → SessionsState → NodeId → RpcReply → Type 0
+    Own T s other reply = Answered s other reply ⊎ (IsFrom node xid other reply × T s)
 
-    lifted : (other : NodeId) (reply : RpcReply) → AnswersRequest servers mirrors (past ++ e ∷ []) other reply → AnswersRequest servers mirrors (past ++ e ∷ []) other reply ⊎ IsFrom node xid other reply
-    lifted other reply a = inl a
+    lifted : (T : SessionsState → Type 0) (s : SessionsState) (other : NodeId) (reply : RpcReply) → Answered s other reply → Own T s other reply
+    lifted T s other reply a = inl a
+
+    own_stays : (T : SessionsState → Type 0) → ((s : SessionsState) (move : TableMove) → IsNoRequest move → T s → T (table_after s move)) → (s : SessionsState) (move : TableMove) → IsNoRequest move → (other : NodeId) (reply : RpcReply) → Own T s other reply
+        → Own T (table_after s move) other reply
+    own_stays T on s move none other reply (inl a) = inl (answered_stays s move none other reply a)
+    own_stays T on s move none other reply (inr from) = inr (from.0, on s move none from.1)
+
+    abbrev AnyTable : SessionsState → Type 0
+    AnyTable s = Unit {0}
+
+    any_stays : (s : SessionsState) (move : TableMove) → IsNoRequest move → (other : NodeId) (reply : RpcReply) → Own AnyTable s other reply → Own AnyTable (table_after s move) other reply
+    any_stays = own_stays AnyTable (λ s move none t. tt)
 
     abbrev new_of : MdsCallValue → CompoundRun
     new_of call = record { node = node; xid = xid; tag = []; ops = mds_ops name call; stop = stop.End None; results = []; slot = None; is_kept = false; current = None }
@@ -196,41 +277,48 @@ module _ (numbered : EffectsAreNumbered) (servers : List AddressValue) (mirrors 
     moved_from call came other reply from = subst (λ (x : NodeId). IsCallFrom e x reply.xid name call) (sym from.0) (subst (λ (x : ℕ). IsCallFrom e node x name call) (sym from.1) came)
 
     -- the reply of this event's compound
-    own_answers : (call : MdsCallValue) → IsCallFrom e node xid name call
-        → ((other : NodeId) (reply : RpcReply) → In (Replies other reply) (after_event e (server_after servers mirrors past)).sends → IsFrom node xid other reply → (also : List ℕ) (session : SessionId) (number : ℕ) (c : SlotCallValue)
-        → IsCallFrom e other reply.xid also (OnSlot session number c) → FitsRequest (OnSlot session number c) → StandsFor servers mirrors (past ++ e ∷ []) past session number c (reply_of_ask (ask_on_slot c) reply))
-        → (other : NodeId) (reply : RpcReply) → In (Replies other reply) (after_event e (server_after servers mirrors past)).sends → AnswersRequest servers mirrors (past ++ e ∷ []) other reply ⊎ IsFrom node xid other reply
-        → AnswersRequest servers mirrors (past ++ e ∷ []) other reply
-    own_answers call came stands other reply inside (inl a) = a
-    own_answers call came stands other reply inside (inr from) = record { early = past; f = e; late = []; split = refl; name = name; call = call; came = moved_from call came other reply from; stands = stands other reply inside from }
+    own_answers : (T : SessionsState → Type 0) (call : MdsCallValue) → IsCallFrom e node xid name call
+        → ((other : NodeId) (reply : RpcReply) → In (Replies other reply) (after_event e (server_after servers mirrors past)).sends → IsFrom node xid other reply → T (after_event e (server_after servers mirrors past)).mds.sessions → (also : List ℕ) (session : SessionId) (number : ℕ)
+        (c : SlotCallValue) → IsCallFrom e other reply.xid also (OnSlot session number c) → FitsRequest (OnSlot session number c) → StandsFor servers mirrors (past ++ e ∷ []) past session number c (reply_of_ask (ask_on_slot c) reply))
+        → (other : NodeId) (reply : RpcReply) → In (Replies other reply) (after_event e (server_after servers mirrors past)).sends → Own T (after_event e (server_after servers mirrors past)).mds.sessions other reply → AnswersRequest servers mirrors (past ++ e ∷ []) other reply
+    own_answers T call came stands other reply inside (inl a) = said_behind other reply a
+    own_answers T call came stands other reply inside (inr from) =
+        record { early = past; f = e; late = []; split = refl; name = name; call = call; came = moved_from call came other reply from.0; stands = stands other reply inside from.0 from.1 }
 
     -- without a session
-    alone_so : (call : MdsCallValue) → IsCallFrom e node xid name call → first_request (mds_ops name call) ≡ None → Keeps (So Own lifted) (server_after servers mirrors past) (run_of_call e.now (server_after servers mirrors past) node xid name call) → EventSo
+    alone_so : (call : MdsCallValue) → IsCallFrom e node xid name call → first_request (mds_ops name call) ≡ None → Keeps (So (Own AnyTable) any_stays (lifted AnyTable)) (server_after servers mirrors past) (run_of_call e.now (server_after servers mirrors past) node xid name call) → EventSo
     alone_so call came none q =
-        ended_so Own lifted
-        (subst (λ (s : MdsStep). Keeps (So Own lifted) (server_after servers mirrors past) s) (sym (event_is e (server_after servers mirrors past) node xid name call came))
-        (out_keeps (λ (c : CompoundRun). WaitsSo servers mirrors (past ++ e ∷ []) c) ends (λ (s : SessionsState). TableSo (SlotSo servers mirrors (past ++ e ∷ [])) s) moves Own (replied Own lifted) AnyEntry (λ x n. tt) (server_after servers mirrors past)
+        ended_so (Own AnyTable) any_stays (lifted AnyTable)
+        (subst (λ (s : MdsStep). Keeps (So (Own AnyTable) any_stays (lifted AnyTable)) (server_after servers mirrors past) s) (sym (event_is e (server_after servers mirrors past) node xid name call came))
+        (out_keeps (λ (c : CompoundRun). WaitsSo servers mirrors (past ++ e ∷ []) c) ends (λ (s : SessionsState). Q s) moves (Own AnyTable) any_stays (replied (Own AnyTable) any_stays (lifted AnyTable)) AnyEntry (λ x n. tt) (server_after servers mirrors past)
         (run_of_call e.now (server_after servers mirrors past) node xid name call) q))
-        (own_answers call came (λ other reply inside from also session number c comes fits.
+        (own_answers AnyTable call came (λ other reply inside from any also session number c comes fits.
         absurd (none-some (request_of session number c) (sym none ∙ ap first_request (same_ops e node other xid reply.xid name also call (OnSlot session number c) came comes)))))
 
     exchange_so : (verifier : ℕ) → IsCallFrom e node xid name (ExchangeId verifier) → EventSo
     exchange_so verifier came =
         alone_so (ExchangeId verifier) came refl
-        (alone_keeps (λ (c : CompoundRun). WaitsSo servers mirrors (past ++ e ∷ []) c) ends (λ (s : SessionsState). TableSo (SlotSo servers mirrors (past ++ e ∷ [])) s) moves Own (replied Own lifted) AnyEntry (λ x n. tt) e.now
-        (server_after servers mirrors past) (new_of (ExchangeId verifier)) (exchange_id_op name verifier) refl refl refl (λ d status l. inr (l.node, l.xid)))
+        (alone_keeps (λ (c : CompoundRun). WaitsSo servers mirrors (past ++ e ∷ []) c) ends (λ (s : SessionsState). Q s) moves (Own AnyTable) any_stays (replied (Own AnyTable) any_stays (lifted AnyTable)) AnyEntry (λ x n. tt) e.now
+        (server_after servers mirrors past) (new_of (ExchangeId verifier)) (exchange_id_op name verifier) refl refl refl (λ d status l t q. inr ((l.node, l.xid), tt)))
 
     create_so : (client sequence : ℕ) → IsCallFrom e node xid name (CreateSession client sequence) → EventSo
     create_so client sequence came =
         alone_so (CreateSession client sequence) came refl
-        (alone_keeps (λ (c : CompoundRun). WaitsSo servers mirrors (past ++ e ∷ []) c) ends (λ (s : SessionsState). TableSo (SlotSo servers mirrors (past ++ e ∷ [])) s) moves Own (replied Own lifted) AnyEntry (λ x n. tt) e.now
-        (server_after servers mirrors past) (new_of (CreateSession client sequence)) (create_session_op client sequence) refl refl refl (λ d status l. inr (l.node, l.xid)))
+        (alone_keeps (λ (c : CompoundRun). WaitsSo servers mirrors (past ++ e ∷ []) c) ends (λ (s : SessionsState). Q s) moves (Own AnyTable) any_stays (replied (Own AnyTable) any_stays (lifted AnyTable)) AnyEntry (λ x n. tt) e.now
+        (server_after servers mirrors past) (new_of (CreateSession client sequence)) (create_session_op client sequence) refl refl refl (λ d status l t q. inr ((l.node, l.xid), tt)))
 
     -- ---- on a slot
 
     module _ (session : SessionId) (number : ℕ) where
       abbrev bound : SessionsState
       bound = after_binding (server_after servers mirrors past).sessions session node
+
+      -- it is free for the next number
+      abbrev Freed : SessionsState → Type 0
+      Freed s = FreeIn s session number
+
+      freed_stays : (s : SessionsState) (move : TableMove) → IsNoRequest move → (other : NodeId) (reply : RpcReply) → Own Freed s other reply → Own Freed (table_after s move) other reply
+      freed_stays = own_stays Freed (λ s move none free. free_stays s move none session number free)
 
       taken : (call : SlotCallValue) → IsCallFrom e node xid name (OnSlot session number call) → request_answer (after_binding (server_after servers mirrors past).sessions session node) (request_of session number call) ≡ TakesEffect
           → TookEffect servers mirrors past e session number
@@ -269,28 +357,48 @@ module _ (numbered : EffectsAreNumbered) (servers : List AddressValue) (mirrors 
             table)
 
         -- its own reply
-        effect_stands : (other : NodeId) (reply : RpcReply) → In (Replies other reply) (after_event e (server_after servers mirrors past)).sends → (also : List ℕ) (asked : SessionId) (n : ℕ) (c : SlotCallValue)
+        effect_stands : (other : NodeId) (reply : RpcReply) → In (Replies other reply) (after_event e (server_after servers mirrors past)).sends → Freed (after_event e (server_after servers mirrors past)).mds.sessions → (also : List ℕ) (asked : SessionId) (n : ℕ) (c : SlotCallValue)
             → IsCallFrom e other reply.xid also (OnSlot asked n c) → FitsRequest (OnSlot asked n c) → StandsFor servers mirrors (past ++ e ∷ []) past asked n c (reply_of_ask (ask_on_slot c) reply)
-        effect_stands other reply inside also asked n c comes fits2 =
-            stands_taken servers mirrors (past ++ e ∷ []) past [] e refl session number (taken call came effect) other reply.xid also asked n c comes (reply_of_ask (ask_on_slot c) reply)
+        effect_stands other reply inside free also asked n c comes fits2 =
+            stands_behind servers mirrors (FreeIn (after_event e (server_after servers mirrors past)).mds.sessions) (past ++ e ∷ []) free_behind past asked n c (reply_of_ask (ask_on_slot c) reply)
+            (stands_taken servers mirrors (FreeIn (after_event e (server_after servers mirrors past)).mds.sessions) (past ++ e ∷ []) past [] e refl session number (taken call came effect) other reply.xid also asked n c comes (reply_of_ask (ask_on_slot c) reply)
             (effect_means numbered servers mirrors events past after e fit roomy split other reply.xid also asked n c comes (effect_too servers mirrors past e session number (taken call came effect) other reply.xid also asked n c comes) fits2 reply inside)
+            (subst (λ (q : Sequence). FreeIn (after_event e (server_after servers mirrors past)).mds.sessions q.session q.sequence) (same_request call came other reply.xid also asked n c comes) free))
 
-        mine : (d : CompoundRun) (status : Stat4) → Like (taken_compound node xid name session number call) d → AnswersRequest servers mirrors (past ++ e ∷ []) d.node (success_reply d.xid (compound_bytes d status)) ⊎ IsFrom node xid d.node (success_reply d.xid (compound_bytes d status))
-        mine d status l = inr (l.node, l.xid)
+        freed : (d : CompoundRun) (status : Stat4) → Like (taken_compound node xid name session number call) d → (s : SessionsState) → IsRunTable s → FreeIn (kept_in_slot s d.slot (compound_bytes d status)) session number
+        freed d status l s run =
+            subst (λ (o : Option SlotPass). FreeIn (kept_in_slot s o (compound_bytes d status)) session number) (sym l.slot) (finish_frees s (is_table tables s run) session number (compound_bytes d status))
 
-        effect_ends : Keeps (So Own lifted) (server_after servers mirrors past) step → EventSo
-        effect_ends q =
-            ended_so Own lifted
-            (subst (λ (s : MdsStep). Keeps (So Own lifted) (server_after servers mirrors past) s) (sym after_so)
-            (out_keeps (λ (c : CompoundRun). WaitsSo servers mirrors (past ++ e ∷ []) c) ends (λ (s : SessionsState). TableSo (SlotSo servers mirrors (past ++ e ∷ [])) s) moves Own (replied Own lifted) AnyEntry (λ x n. tt) (server_after servers mirrors past) step q))
-            (own_answers (OnSlot session number call) came (λ other reply inside from also asked n c comes fits2. effect_stands other reply inside also asked n c comes fits2))
+        mine : (d : CompoundRun) (status : Stat4) → Like (taken_compound node xid name session number call) d → (s : SessionsState) → IsRunTable s
+            → Own Freed (kept_in_slot s d.slot (compound_bytes d status)) d.node (success_reply d.xid (compound_bytes d status))
+        mine d status l s run = inr ((l.node, l.xid), freed d status l s run)
+
+        -- the table behind the request
+        begun_run : IsRunTable (after_binding (server_after servers mirrors past).sessions session node) → IsRunTable (after_request (after_binding (server_after servers mirrors past).sessions session node) (request_of session number call) e.now)
+        begun_run run =
+            subst (λ (a : SlotAnswer). IsRunTable (table_begun bound (after_request bound (request_of session number call) e.now) a)) effect (run_table_on bound (BeginRequest (request_of session number call) e.now) run)
+
+        effect_ends : So (Own Freed) freed_stays (lifted Freed) step.mds ([] ++ step.entries) (sent_with_calls (server_after servers mirrors past).calls ++ step.sends) → EventSo
+        effect_ends so =
+            ended_at (Own Freed) freed_stays (lifted Freed)
+            (subst (λ (s : MdsStep). So (Own Freed) freed_stays (lifted Freed) s.mds ([] ++ s.entries) (sent_with_calls (server_after servers mirrors past).calls ++ s.sends)) (sym after_so)
+            (joined (So (Own Freed) freed_stays (lifted Freed)) (calls_out [] step.mds).mds [] step.entries (calls_out [] step.mds).entries (sent_with_calls (server_after servers mirrors past).calls) step.sends (calls_out [] step.mds).sends
+            (go_out (λ (c : CompoundRun). WaitsSo servers mirrors (past ++ e ∷ []) c) ends (λ (s : SessionsState). Q s) moves (Own Freed) freed_stays (replied (Own Freed) freed_stays (lifted Freed)) AnyEntry (λ x n. tt) step.mds ([] ++ step.entries)
+            (sent_with_calls (server_after servers mirrors past).calls ++ step.sends) so)))
+            (own_answers Freed (OnSlot session number call) came (λ other reply inside from free also asked n c comes fits2. effect_stands other reply inside free also asked n c comes fits2))
+
+        bound_slots : Slots (after_binding (server_after servers mirrors past).sessions session node)
+        bound_slots = slots_move (server_after servers mirrors past).sessions (Bind session node) tt begun_table
+
+        taken_run : IsRunTable (after_request (after_binding (server_after servers mirrors past).sessions session node) (request_of session number call) e.now)
+        taken_run = begun_run (run_table_on (server_after servers mirrors past).sessions (Bind session node) (run_table servers mirrors past))
 
         plain_effect : is_layout_call call ≡ false → EventSo
         plain_effect off =
             effect_ends
-            (λ es ss j.
-            run_keeps (λ (c : CompoundRun). WaitsSo servers mirrors (past ++ e ∷ []) c) ends (λ (s : SessionsState). TableSo (SlotSo servers mirrors (past ++ e ∷ [])) s) moves Own (replied Own lifted) AnyEntry (λ x n. tt) e.now (slot_ops name call) (fine_ops Own lifted (is_return_call call) (slot_ops name call) (ops_fit name call))
-            (taken_mds e.now (server_after servers mirrors past) node session number call) (taken_compound node xid name session number call) refl mine
+            (run_keeps (λ (c : CompoundRun). WaitsSo servers mirrors (past ++ e ∷ []) c) ends (λ (s : SessionsState). Q s) moves (Own Freed) freed_stays (replied (Own Freed) freed_stays (lifted Freed)) AnyEntry (λ x n. tt) e.now (slot_ops name call)
+            (fine_ops (Own Freed) freed_stays (lifted Freed) (is_return_call call) (slot_ops name call) (ops_fit name call))
+            (taken_mds e.now (server_after servers mirrors past) node session number call) (taken_compound node xid name session number call) refl (λ d status l s q. mine d status l s q.1)
             (λ d l none some. record {
               early = past;
               f = e;
@@ -304,27 +412,24 @@ module _ (numbered : EffectsAreNumbered) (servers : List AddressValue) (mirrors 
               plain = event_of_call e node xid name session number call came ∙ off;
               ops = none;
               stop = l.stop;
+              slot = l.slot;
             })
-            es ss
-            (record {
-              waits = j.waits;
-              table = request_so (SlotSo servers mirrors (past ++ e ∷ [])) (λ client k. tt) (λ client k sequence reply slot p. slot_done servers mirrors (past ++ e ∷ []) client k sequence reply slot p) bound (request_of session number call) e.now refl
-                  (its, event_of_call e node xid name session number call came ∙ off) (moves (server_after servers mirrors past).sessions (Bind session node) tt j.table);
-              entries = j.entries;
-              replies = j.replies;
-              were = j.were;
-            }))
+            [] (sent_with_calls (server_after servers mirrors past).calls)
+            (start_with (Own Freed) freed_stays (lifted Freed) (after_request (after_binding (server_after servers mirrors past).sessions session node) (request_of session number call) e.now) (
+              request_so (SlotSo servers mirrors (past ++ e ∷ [])) (λ client k. tt) (λ client k sequence reply slot p. slot_done servers mirrors (past ++ e ∷ []) client k sequence reply slot p) bound (request_of session number call) e.now refl
+                  (its, event_of_call e node xid name session number call came ∙ off) bound_slots,
+              taken_run,
+            )))
 
         layout_effect : is_layout_call call ≡ true → (TableSo (SlotSo servers mirrors (past ++ e ∷ [])) (after_binding (server_after servers mirrors past).sessions session node) → TableSo (SlotSo servers mirrors (past ++ e ∷ [])) step.mds.sessions)
             → has_waiting (slot_ops name call) ≡ false → EventSo
         layout_effect on table none =
-            effect_ends
-            (λ es ss j.
-            let b : Bare Own lifted step.mds (es ++ step.entries) (ss ++ step.sends) =
-            run_keeps (λ (c : CompoundRun). WaitsSo servers mirrors (past ++ e ∷ []) c) ends (λ (s : SessionsState). Unit {0}) (λ s move is j. tt) Own (replied Own lifted) AnyEntry (λ x n. tt) e.now (slot_ops name call) (bare_ops Own lifted (is_return_call call) (slot_ops name call) (ops_fit name call))
-            (taken_mds e.now (server_after servers mirrors past) node session number call) (taken_compound node xid name session number call) refl mine (λ d l left some. absurd (not_both (sym none ∙ some))) es ss
-            (record { waits = j.waits; table = tt; entries = j.entries; replies = j.replies; were = j.were }) in
-            record { waits = b.waits; table = table (moves (server_after servers mirrors past).sessions (Bind session node) tt j.table); entries = b.entries; replies = b.replies; were = b.were })
+            let b : Bare (Own Freed) freed_stays (lifted Freed) step.mds ([] ++ step.entries) (sent_with_calls (server_after servers mirrors past).calls ++ step.sends) =
+            run_keeps (λ (c : CompoundRun). WaitsSo servers mirrors (past ++ e ∷ []) c) ends (λ (s : SessionsState). IsRunTable s) bare_moves (Own Freed) freed_stays (bare_replied (Own Freed) freed_stays (lifted Freed)) AnyEntry (λ x n. tt) e.now (slot_ops name call)
+            (bare_ops (Own Freed) freed_stays (lifted Freed) (is_return_call call) (slot_ops name call) (ops_fit name call))
+            (taken_mds e.now (server_after servers mirrors past) node session number call) (taken_compound node xid name session number call) refl mine (λ d l left some. absurd (not_both (sym none ∙ some))) [] (sent_with_calls (server_after servers mirrors past).calls)
+            (bare_with (Own Freed) freed_stays (lifted Freed) (after_request (after_binding (server_after servers mirrors past).sessions session node) (request_of session number call) e.now) taken_run) in
+            effect_ends (record { waits = b.waits; table = (table bound_slots, b.table); entries = b.entries; replies = b.replies; were = b.were })
 
       -- a request that takes effect
       effect_so : (call : SlotCallValue) → IsCallFrom e node xid name (OnSlot session number call) → request_answer (after_binding (server_after servers mirrors past).sessions session node) (request_of session number call) ≡ TakesEffect
@@ -368,11 +473,14 @@ module _ (numbered : EffectsAreNumbered) (servers : List AddressValue) (mirrors 
         judgement = SlotJudged (SlotSo servers mirrors (past ++ e ∷ [])) session number (request_answer (after_binding (server_after servers mirrors past).sessions session node) (request_of session number call))
 
         its_slot : SlotJudged (SlotSo servers mirrors (past ++ e ∷ [])) session number (request_answer (after_binding (server_after servers mirrors past).sessions session node) (request_of session number call))
-        its_slot = judged (SlotSo servers mirrors (past ++ e ∷ [])) (request_of session number call) refl bound (moves (server_after servers mirrors past).sessions (Bind session node) tt begun_table)
+        its_slot = judged (SlotSo servers mirrors (past ++ e ∷ [])) (request_of session number call) refl bound (slots_move (server_after servers mirrors past).sessions (Bind session node) tt begun_table)
+
+        bound_run : IsRunTable (after_binding (server_after servers mirrors past).sessions session node)
+        bound_run = run_table_on (server_after servers mirrors past).sessions (Bind session node) (run_table servers mirrors past)
 
         answer_so : (reply : RpcReply) → reply.xid ≡ xid
-            → ((also : List ℕ) (asked : SessionId) (n : ℕ) (c : SlotCallValue) → request_of session number call ≡ request_of asked n c → FitsRequest (OnSlot asked n c) → StandsFor servers mirrors (past ++ e ∷ []) past asked n c (reply_of_ask (ask_on_slot c) reply))
-            → AnswersRequest servers mirrors (past ++ e ∷ []) node reply
+            → ((also : List ℕ) (asked : SessionId) (n : ℕ) (c : SlotCallValue) → request_of session number call ≡ request_of asked n c → FitsRequest (OnSlot asked n c) → StandsWith servers mirrors (FreeIn bound) (past ++ e ∷ []) past asked n c (reply_of_ask (ask_on_slot c) reply))
+            → Answered bound node reply
         answer_so reply is stands = record {
           early = past;
           f = e;
@@ -385,53 +493,55 @@ module _ (numbered : EffectsAreNumbered) (servers : List AddressValue) (mirrors 
         }
 
         other_ends : (a : SlotAnswer) → request_answer (after_binding (server_after servers mirrors past).sessions session node) (request_of session number call) ≡ a
-            → Keeps (So Answered (λ other reply x. x)) (record (server_after servers mirrors past) { sessions = after_binding (server_after servers mirrors past).sessions session node })
+            → Keeps (So Answered answered_stays (λ s other reply x. x)) (record (server_after servers mirrors past) { sessions = after_binding (server_after servers mirrors past).sessions session node })
             (sequenced e.now (record (server_after servers mirrors past) { sessions = after_binding (server_after servers mirrors past).sessions session node }) (new_of (OnSlot session number call)) (slot_ops name call) (request_of session number call) a) → EventSo
         other_ends a is q =
-            ended_so Answered (λ other reply x. x)
-            (subst (λ (s : MdsStep). Keeps (So Answered (λ other reply x. x)) (server_after servers mirrors past) s) (sym (event_is e (server_after servers mirrors past) node xid name (OnSlot session number call) came))
-            (out_keeps (λ (c : CompoundRun). WaitsSo servers mirrors (past ++ e ∷ []) c) ends (λ (s : SessionsState). TableSo (SlotSo servers mirrors (past ++ e ∷ [])) s) moves Answered (replied Answered (λ other reply x. x)) AnyEntry (λ x n. tt) (server_after servers mirrors past) (run_of_call e.now (server_after servers mirrors past) node xid name (OnSlot session number call))
-            (subst (λ (b : SlotAnswer). Keeps (So Answered (λ other reply x. x)) (server_after servers mirrors past)
+            ended_so Answered answered_stays (λ s other reply x. x)
+            (subst (λ (s : MdsStep). Keeps (So Answered answered_stays (λ s other reply x. x)) (server_after servers mirrors past) s) (sym (event_is e (server_after servers mirrors past) node xid name (OnSlot session number call) came))
+            (out_keeps (λ (c : CompoundRun). WaitsSo servers mirrors (past ++ e ∷ []) c) ends (λ (s : SessionsState). Q s) moves Answered answered_stays (replied Answered answered_stays (λ s other reply x. x)) AnyEntry (λ x n. tt) (server_after servers mirrors past) (run_of_call e.now (server_after servers mirrors past) node xid name (OnSlot session number call))
+            (subst (λ (b : SlotAnswer). Keeps (So Answered answered_stays (λ s other reply x. x)) (server_after servers mirrors past)
             (sequenced e.now (record (server_after servers mirrors past) { sessions = after_binding (server_after servers mirrors past).sessions session node }) (new_of (OnSlot session number call)) (slot_ops name call) (request_of session number call) b)) (sym is)
-            (λ es ss j. q es ss (record { waits = j.waits; table = moves (server_after servers mirrors past).sessions (Bind session node) tt j.table; entries = j.entries; replies = j.replies; were = j.were })))))
-            (λ other reply inside x. x)
+            (λ es ss j. q es ss (record { waits = j.waits; table = moves (server_after servers mirrors past).sessions (Bind session node) tt j.table; entries = j.entries; replies = λ other reply inside. answered_stays (server_after servers mirrors past).sessions (Bind session node) tt other reply (j.replies other reply inside); were = j.were })))))
+            (λ other reply inside x. said_behind other reply x)
 
         repeats_so : (bytes : List ℕ) → request_answer (after_binding (server_after servers mirrors past).sessions session node) (request_of session number call) ≡ Repeats bytes → EventSo
         repeats_so bytes is =
             other_ends (Repeats bytes) is
             (λ es ss j.
             let n : MdsValue = record (server_after servers mirrors past) { sessions = after_binding (server_after servers mirrors past).sessions session node } in
-            subst (λ (l : List Entry). So Answered (λ other reply x. x) n l (ss ++ Replies node (success_reply xid bytes) ∷ [])) (sym (append-nil es))
-            (sends (λ (c : CompoundRun). WaitsSo servers mirrors (past ++ e ∷ []) c) ends (λ (s : SessionsState). TableSo (SlotSo servers mirrors (past ++ e ∷ [])) s) moves Answered (replied Answered (λ other reply x. x)) AnyEntry (λ x k. tt) n es ss (Replies node (success_reply xid bytes))
-            (own_reply (λ (c : CompoundRun). WaitsSo servers mirrors (past ++ e ∷ []) c) ends (λ (s : SessionsState). TableSo (SlotSo servers mirrors (past ++ e ∷ [])) s) moves Answered (replied Answered (λ other reply x. x)) AnyEntry (λ x k. tt) node (success_reply xid bytes) (answer_so (success_reply xid bytes) refl (λ also asked n2 c same fits. by_slot its_slot asked n2 c same fits))) j))
+            subst (λ (l : List Entry). So Answered answered_stays (λ s other reply x. x) n l (ss ++ Replies node (success_reply xid bytes) ∷ [])) (sym (append-nil es))
+            (sends (λ (c : CompoundRun). WaitsSo servers mirrors (past ++ e ∷ []) c) ends (λ (s : SessionsState). Q s) moves Answered answered_stays (replied Answered answered_stays (λ s other reply x. x)) AnyEntry (λ x k. tt) n es ss (Replies node (success_reply xid bytes))
+            (own_reply (λ (c : CompoundRun). WaitsSo servers mirrors (past ++ e ∷ []) c) ends (λ (s : SessionsState). Q s) moves Answered answered_stays (replied Answered answered_stays (λ s other reply x. x)) AnyEntry (λ x k. tt) bound node (success_reply xid bytes) (answer_so (success_reply xid bytes) refl (λ also asked n2 c same fits. by_slot its_slot asked n2 c same fits))) j))
           where
             by_slot : SlotJudged (SlotSo servers mirrors (past ++ e ∷ [])) session number (request_answer (after_binding (server_after servers mirrors past).sessions session node) (request_of session number call))
                 → (asked : SessionId) (n : ℕ) (c : SlotCallValue) → request_of session number call ≡ request_of asked n c → FitsRequest (OnSlot asked n c)
-                → StandsFor servers mirrors (past ++ e ∷ []) past asked n c (reply_of_ask (ask_on_slot c) (success_reply xid bytes))
+                → StandsWith servers mirrors (FreeIn bound) (past ++ e ∷ []) past asked n c (reply_of_ask (ask_on_slot c) (success_reply xid bytes))
             by_slot (NoSession off) asked n c same fits = absurd (not_repeats (sym is ∙ off))
               where
                 not_repeats : Repeats bytes ≡ Refuses stat.BadSession → ⊥
                 not_repeats x = absurd cc
             by_slot (BySlot s p at) asked n c same fits =
-                stands_kept servers mirrors (past ++ e ∷ []) past asked n xid bytes c fits
+                stands_kept servers mirrors (past ++ e ∷ []) (FreeIn bound) past asked n xid bytes c fits
                 (subst (λ (q : Sequence). (t : IsTaken servers mirrors (past ++ e ∷ []) (client_in q.session) (number_in q.session) q.sequence) × MeansKept servers mirrors (past ++ e ∷ []) (client_in q.session) (number_in q.session) q.sequence t bytes) same
-                (repeats_kept servers mirrors (past ++ e ∷ []) (client_in session) (number_in session) s number bytes p (sym is ∙ at)))
+                (repeats_kept servers mirrors (past ++ e ∷ []) (FreeIn bound) (client_in session) (number_in session) s number bytes p (sym is ∙ at)))
+                (subst (λ (q : Sequence). FreeIn bound q.session q.sequence) same (answered_free bound session number call (Repeats bytes) is (λ x. absurd cc) (is_table tables bound bound_run)))
 
         refused_so : (status : Stat4) → request_answer (after_binding (server_after servers mirrors past).sessions session node) (request_of session number call) ≡ Refuses status → EventSo
         refused_so status is =
             other_ends (Refuses status) is
-            (finish_keeps (λ (c : CompoundRun). WaitsSo servers mirrors (past ++ e ∷ []) c) ends (λ (s : SessionsState). TableSo (SlotSo servers mirrors (past ++ e ∷ [])) s) moves Answered (replied Answered (λ other reply x. x)) AnyEntry (λ x k. tt)
+            (finish_keeps (λ (c : CompoundRun). WaitsSo servers mirrors (past ++ e ∷ []) c) ends (λ (s : SessionsState). Q s) moves Answered answered_stays (replied Answered answered_stays (λ s other reply x. x)) AnyEntry (λ x k. tt)
             (record (server_after servers mirrors past) { sessions = after_binding (server_after servers mirrors past).sessions session node }) (with_result (new_of (OnSlot session number call)) (refused_as 53 status)) status
-            (answer_so (success_reply xid (spelling compound4_res (stat4_number status, ([], refused_as 53 status ∷ [])))) refl (λ also asked n c same fits. by_slot its_slot asked n c same)))
+            (λ q. answer_so (success_reply xid (spelling compound4_res (stat4_number status, ([], refused_as 53 status ∷ [])))) refl (λ also asked n c same fits. by_slot its_slot asked n c same)))
           where
             by_slot : SlotJudged (SlotSo servers mirrors (past ++ e ∷ [])) session number (request_answer (after_binding (server_after servers mirrors past).sessions session node) (request_of session number call))
                 → (asked : SessionId) (n : ℕ) (c : SlotCallValue) → request_of session number call ≡ request_of asked n c
-                → StandsFor servers mirrors (past ++ e ∷ []) past asked n c (reply_of_ask (ask_on_slot c) (success_reply xid (spelling compound4_res (stat4_number status, ([], refused_as 53 status ∷ [])))))
-            by_slot (NoSession off) asked n c same = stands_no_session servers mirrors (past ++ e ∷ []) past asked n xid c status (ap status_of (sym is ∙ off)) (node, c, subst (λ (q : Sequence). request_answer (after_binding (server_after servers mirrors past).sessions q.session node) q ≡ Refuses status) same is)
+                → StandsWith servers mirrors (FreeIn bound) (past ++ e ∷ []) past asked n c (reply_of_ask (ask_on_slot c) (success_reply xid (spelling compound4_res (stat4_number status, ([], refused_as 53 status ∷ [])))))
+            by_slot (NoSession off) asked n c same = stands_no_session servers mirrors (past ++ e ∷ []) (FreeIn bound) past asked n xid c status (ap status_of (sym is ∙ off)) (node, c, subst (λ (q : Sequence). request_answer (after_binding (server_after servers mirrors past).sessions q.session node) q ≡ Refuses status) same is)
             by_slot (BySlot s p at) asked n c same =
-                stands_refused servers mirrors (past ++ e ∷ []) past asked n xid c status
-                (subst (λ (q : Sequence). RefusedAs servers mirrors (past ++ e ∷ []) (client_in q.session) (number_in q.session) q.sequence status) same
-                (refused_by servers mirrors (past ++ e ∷ []) (client_in session) (number_in session) s number status p (sym is ∙ at))) (node, c, subst (λ (q : Sequence). request_answer (after_binding (server_after servers mirrors past).sessions q.session node) q ≡ Refuses status) same is)
+                stands_refused servers mirrors (past ++ e ∷ []) (FreeIn bound) past asked n xid c status
+                (subst (λ (q : Sequence). RefusedAs servers mirrors (past ++ e ∷ []) (FreeIn bound) (client_in q.session) (number_in q.session) q.sequence status) same
+                (refused_by servers mirrors (past ++ e ∷ []) (FreeIn bound) (client_in session) (number_in session) s number status p (sym is ∙ at))) (node, c, subst (λ (q : Sequence). request_answer (after_binding (server_after servers mirrors past).sessions q.session node) q ≡ Refuses status) same is)
+                (λ retry. subst (λ (q : Sequence). FreeIn bound q.session q.sequence) same (answered_free bound session number call (Refuses status) is (λ x. not_delayed retry (ap status_of x)) (is_table tables bound bound_run)))
 
         slot_so : FitsRequest (OnSlot session number call) → (a : SlotAnswer) → request_answer (after_binding (server_after servers mirrors past).sessions session node) (request_of session number call) ≡ a → EventSo
         slot_so fits TakesEffect is = effect_so call came is fits
@@ -453,9 +563,9 @@ pub fit_at : (past more : List MdsEvent) (e : MdsEvent) → AreFitCalls (past ++
 fit_at [] more e fit = fit.0
 fit_at (x ∷ past) more e fit = fit_at past more e fit.1
 
-module _ (numbered : EffectsAreNumbered) (servers : List AddressValue) (mirrors : ℕ) (events : List MdsEvent) (fit : AreFitCalls events) (roomy : StaysRoomy servers mirrors events) where
-  event_of : (past after : List MdsEvent) (e : MdsEvent) (split : IsEventOf events past e after) (i : RunSo servers mirrors past (server_after servers mirrors past)) → EventSo numbered servers mirrors events past after e fit roomy split i
-  event_of past after e split i = event_so numbered servers mirrors events past after e fit roomy split i (brings e (fit_at past after e (subst AreFitCalls split fit)))
+module _ (tables : KeepsTable) (numbered : EffectsAreNumbered) (servers : List AddressValue) (mirrors : ℕ) (events : List MdsEvent) (fit : AreFitCalls events) (roomy : StaysRoomy servers mirrors events) where
+  event_of : (past after : List MdsEvent) (e : MdsEvent) (split : IsEventOf events past e after) (i : RunSo servers mirrors past (server_after servers mirrors past)) → EventSo tables numbered servers mirrors events past after e fit roomy split i
+  event_of past after e split i = event_so tables numbered servers mirrors events past after e fit roomy split i (brings e (fit_at past after e (subst AreFitCalls split fit)))
 
   run_so : (past before rest : List MdsEvent) → events ≡ past ++ (before ++ rest) → RunSo servers mirrors past (server_after servers mirrors past) → RunSo servers mirrors (past ++ before) (server_after servers mirrors (past ++ before))
   run_so past [] rest is i = subst (λ (l : List MdsEvent). RunSo servers mirrors l (server_after servers mirrors l)) (sym (append-nil past)) i
@@ -463,6 +573,6 @@ module _ (numbered : EffectsAreNumbered) (servers : List AddressValue) (mirrors 
       subst (λ (l : List MdsEvent). RunSo servers mirrors l (server_after servers mirrors l)) (append_assoc past (e ∷ []) before)
       (run_so (past ++ e ∷ []) before rest (is ∙ sym (append_assoc past (e ∷ []) (before ++ rest))) (event_of past (before ++ rest) e is i).next)
 
-pub each_reply_stands : EffectsAreNumbered → EachReplyStands
-each_reply_stands numbered servers mirrors events before after e fit roomy split node reply inside =
-    (event_of numbered servers mirrors events fit roomy before after e split (run_so numbered servers mirrors events fit roomy [] before (e ∷ after) split (record { waits = tt; table = tt }))).replies node reply inside
+pub each_reply_stands : KeepsTable → EffectsAreNumbered → EachReplyStands
+each_reply_stands tables numbered servers mirrors events before after e fit roomy split node reply inside =
+    (event_of tables numbered servers mirrors events fit roomy before after e split (run_so tables numbered servers mirrors events fit roomy [] before (e ∷ after) split (record { waits = tt; table = tt }))).replies node reply inside

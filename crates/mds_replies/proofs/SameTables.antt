@@ -1,17 +1,19 @@
--- Inputs of the table of phases leave the table of clients and the calls that are awaited as they are.
-use Rattle.std.proofs.Common.{◌≡◌, ℕ, Bool, true, false, Option, Some, None, refl}
+-- Inputs of the table of phases leave the table of clients and the calls that are awaited as they are, and so does the end of a client.
+use Rattle.std.proofs.Common.{◌≡◌, ℕ, Bool, true, false, List, [], ◌∷◌, Option, Some, None, refl, ◌∙◌}
 use Rattle.std.specs.Prelude.{is_some}
 use Rattle.std.specs.List.{list_any}
 use Rattle.std.proofs.lemmas.Bool.{cond_both}
 use Rattle.cluster_model.specs.declared.ids.FileId.{FileId}
 use Rattle.cluster_model.specs.declared.ids.Cred.{Cred}
+use Rattle.cluster_model.specs.declared.phase.EndCause.TheVariants.{ClientGone}
 use Rattle.file_rule.specs.MdsFiles.{FileStep}
-use Rattle.file_rule.specs.FilePhases.{FileInput, Recall as ToRecall, phase}
+use Rattle.file_rule.specs.FilePhases.{FileInput, Recall as ToRecall, Revokes, phase}
 use Rattle.layout_state.specs.Grants.{holder_to_recall}
 use Rattle.mds_rows.specs.Draws.{drawn}
 use Rattle.recall.specs.Recalls.{is_under_way, new_recall, with_recall, without_file}
 use Rattle.mds_rule.specs.MdsStates.{ServedFile, MdsValue, MdsStep, sends_none, served, with_served}
-use Rattle.mds_rule.specs.ServedFiles.{has_fresh, is_period_end, file_behind, file_stepped, input_at, takes_input, with_new_recall, recall_by, recall_at}
+use Rattle.mds_rule.specs.ServedFiles.{has_fresh, is_period_end, file_behind, file_stepped, input_at, takes_input, with_new_recall, recall_by, recall_at, held_from, one_by_one, ends_periods}
+use Rattle.mds_rule.specs.SessionOps.{gone_with}
 
 pub record SameTable (m n : MdsValue) : Type 0 where
   pub sessions : n.sessions ≡ m.sessions
@@ -42,3 +44,18 @@ back_same m file s now true = recall_same m (takes_input m file ToRecall).mds fi
 pub asks_same : (m : MdsValue) (file : FileId) (now : ℕ) (o : Option ServedFile) → SameTable m (recall_at m file now o).mds
 asks_same m file now None = same_table m
 asks_same m file now (Some s) = back_same m file s now (is_some (holder_to_recall s.file.layout.phase))
+
+-- ---- a client that is gone
+
+turns_same : (step : MdsValue → FileId → MdsStep) → ((m : MdsValue) (file : FileId) → SameTable m (step m file).mds) → (files : List FileId) (m : MdsValue) → SameTable m (one_by_one step files m).mds
+turns_same step one [] m = same_table m
+turns_same step one (file ∷ files) m =
+    let a : SameTable m (step m file).mds = one m file in
+    let b : SameTable (step m file).mds (one_by_one step files (step m file).mds).mds = turns_same step one files (step m file).mds in
+    record { sessions = b.sessions ∙ a.sessions; calls = b.calls ∙ a.calls }
+
+pub gone_same : (client : Option ℕ) (m : MdsValue) → SameTable m (gone_with client m).mds
+gone_same None m = same_table m
+gone_same (Some client) m =
+    let a : SameTable m (ends_periods m client ClientGone).mds = turns_same (λ n file. takes_input n file (Revokes ClientGone)) (λ n file. input_same n file (Revokes ClientGone) (served n file)) (held_from client 1 m.files) m in
+    record { sessions = a.sessions; calls = a.calls }

@@ -36,7 +36,7 @@ use Rattle.mds_rule.specs.OpSteps.{OpStep, Goes, with_result, refuses, refused_o
 use Rattle.mds_rule.specs.ServedFiles.{has_fresh, file_stepped, input_at, takes_input, with_new_recall, recall_by, recall_at, asks_back, held_from, one_by_one, ends_periods, forgotten, ends_client}
 use Rattle.mds_rule.specs.SessionOps.{with_exchange, runs_exchange, confirms, gone_with, goes_with, with_session, with_create, runs_create, on_session, runs_bind, runs_destroy_session, runs_destroy_client, reclaims}
 use Rattle.mds_laws.proofs.Lists.{In}
-use Rattle.mds_laws.proofs.Keeping.{Becomes, KeepsOp, Silent, HeardOf, TakesInput, no_entries, stays, silent_then, silent_none, silent_same, becomes_silent}
+use Rattle.mds_laws.proofs.Keeping.{moved, Becomes, KeepsOp, Silent, HeardOf, TakesInput, no_entries, stays, silent_then, silent_none, silent_same, becomes_silent}
 use Rattle.mds_replies.proofs.HolderCases.{NoneNew, Cases, comes_unasked}
 
 -- who is forgotten was there
@@ -155,9 +155,9 @@ module _ (I : MdsValue → List Entry → List MdsSend → Type 0) (Heard : Hear
   binds m c (session, (direction, rdma)) =
       at_session m c 41 (record { 0 = session }) _ (no_entries I m (record m { sessions = after_binding m.sessions (record { 0 = session }) c.node }) (k.tables m (Bind (record { 0 = session }) c.node) tt))
 
-  pub destroys_session : (m : MdsValue) (c : CompoundRun) (session : List ℕ) → KeepsOp I m (runs_destroy_session m c session)
-  destroys_session m c session =
-      at_session m c 44 (record { 0 = session }) _ (no_entries I m (record m { sessions = without_session m.sessions (record { 0 = session }) }) (k.tables m (DestroySession (record { 0 = session })) tt))
+  pub destroys_session : ((n : MdsValue) (session : SessionId) → Becomes I n (moved n (DestroySession session))) → (m : MdsValue) (c : CompoundRun) (session : List ℕ) → KeepsOp I m (runs_destroy_session m c session)
+  destroys_session may m c session =
+      at_session m c 44 (record { 0 = session }) _ (no_entries I m (record m { sessions = without_session m.sessions (record { 0 = session }) }) (may m (record { 0 = session })))
 
   destroy_walk : (m : MdsValue) (c : CompoundRun) (client : ℕ) (fault : Option Stat4) → Becomes I m (record m { sessions = destroyed_unless m.sessions (without_client m.sessions client) fault })
       → KeepsOp I m (refused_or m c 57 fault (goes_with (ends_client (record m { sessions = without_client m.sessions client }) client ClientGone) (with_result c (arm 57 Rattle.nfs4_compound.specs.Results.resop4 (inl tt)))))

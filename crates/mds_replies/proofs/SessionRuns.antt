@@ -23,7 +23,9 @@ use Rattle.mds_rule.specs.Goes.{calls_out}
 use Rattle.mds_laws.specs.MdsRuns.{MdsEvent, after_event}
 use Rattle.mds_laws.proofs.Lists.{In}
 use Rattle.mds_replies.specs.ClientCalls.{server_after}
-use Rattle.mds_replies.specs.ClientIds.{SessionsAreOwn}
+use Rattle.device_addr.specs.Universal.{AddressValue}
+use Rattle.mds_replies.specs.ClientIds.{GivesSession, SessionsAreOwn}
+use Rattle.mds_replies.proofs.SameTables.{gone_same}
 use Rattle.mds_replies.proofs.OutCalls.{AreCalled, are_called, gone_called}
 use Rattle.mds_replies.proofs.ReplySent.{run_of_call, event_is, reply_is, read_as}
 use Rattle.mds_replies.proofs.ClientRecords.{IsTable}
@@ -67,6 +69,13 @@ is_session other = false
 not_so : false ≡ true → ⊥
 not_so is = absurd cc
 
+-- The session was made in this event, and the table behind the call is that of the moment when calls go out; or it was made before, by the
+-- call of this number.
+pub data GaveSession (e : MdsEvent) (m : MdsValue) (node : NodeId) (client sequence : ℕ) (session : SessionId) : Type 0 where
+  Makes : (c : ClientState) → create_session_case m.sessions client sequence ≡ IsDue c → IsKnown m.sessions client sequence → session ≡ session_id client (m.sessions.numbers + 1)
+      → (behind : MdsValue) → behind.sessions ≡ after_creating m.sessions asked.callback_program node e.now (IsDue c) → (after_event e m).mds ≡ (calls_out [] behind).mds → GaveSession e m node client sequence session
+  Replays : (number : ℕ) → create_session_case m.sessions client sequence ≡ IsReplay number → IsKnown m.sessions client sequence → session ≡ session_id client number → GaveSession e m node client sequence session
+
 module _ (e : MdsEvent) (m : MdsValue) (node : NodeId) (xid : ℕ) (name : List ℕ) (client sequence : ℕ) (session : SessionId) (t : IsTable m.sessions) (called : AreCalled m.calls) (reply : RpcReply)
     (sent : In (Replies node reply) (after_event e m).sends) (says : (reply_of_ask ask.CreateSession reply).answer ≡ Session session) where
   -- a refusal names no session
@@ -75,33 +84,42 @@ module _ (e : MdsEvent) (m : MdsValue) (node : NodeId) (xid : ℕ) (name : List 
       not_so (sym off ∙ sym (ap (λ (r : RpcReply). is_session (reply_of_ask ask.CreateSession r).answer) is ∙ ap (λ (r : MdsReplyValue). is_session r.answer) (read_as ask.CreateSession xid v fits)) ∙ ap is_session says)
 
   named : (number : ℕ) → IsKnown m.sessions client sequence → reply ≡ success_reply xid (spelling compound4_res (0, ([], create_result (session_id client number) sequence asked.fore_channel asked.back_channel ∷ [])))
-      → client_in session ≡ client
+      → session ≡ session_id client number
   named number k is =
-      let its : session ≡ session_id client number =
       sym (ap session_in says)
       ∙ (ap (λ (r : RpcReply). session_in (reply_of_ask ask.CreateSession r).answer) is
-      ∙ ap (λ (r : MdsReplyValue). session_in r.answer) (read_as ask.CreateSession xid (0, ([], create_result (session_id client number) sequence asked.fore_channel asked.back_channel ∷ [])) (result_fits client number sequence k.fits))) in
-      ap client_in its ∙ session_client client number (fits_long m.sessions t client sequence k)
+      ∙ ap (λ (r : MdsReplyValue). session_in r.answer) (read_as ask.CreateSession xid (0, ([], create_result (session_id client number) sequence asked.fore_channel asked.back_channel ∷ [])) (result_fits client number sequence k.fits)))
 
   abbrev stepped : CreateSessionCase → MdsStep
   stepped case =
       op_then (with_create m (record { node = node; xid = xid; tag = []; ops = []; stop = stop.End None; results = []; slot = None; is_kept = false; current = None }) client sequence asked.fore_channel asked.back_channel asked.callback_program e.now case (create_session_fault case))
       (λ n d. runs e.now [] n d)
 
-  by_case : (case : CreateSessionCase) → Says m.sessions client sequence case → after_event e m ≡ and_then (stepped case) (calls_out []) → client_in session ≡ client
-  by_case (IsDue c) k is =
-      named (m.sessions.numbers + 1) k (reply_is e m (stepped (IsDue c)) node node reply _ is refl
-      (gone_called (option_map (λ (other : ClientState). other.id) (find (is_before_restart c) m.sessions.clients))
-      (confirms client node (record m { sessions = after_creating m.sessions asked.callback_program node e.now (IsDue c) })) called) sent)
-  by_case (IsReplay number) k is = named number k (reply_is e m (stepped (IsReplay number)) node node reply _ is refl called sent)
-  by_case IsMisordered k is = absurd (refused (10063, ([], refused_as 43 stat.SeqMisordered ∷ [])) misordered_fits refl (reply_is e m (stepped IsMisordered) node node reply _ is refl called sent))
-  by_case HasNoRoom k is = absurd (refused (10006, ([], refused_as 43 stat.ServerFault ∷ [])) full_fits refl (reply_is e m (stepped HasNoRoom) node node reply _ is refl called sent))
-  by_case IsStale k is = absurd (refused (10022, ([], refused_as 43 stat.StaleClientId ∷ [])) stale_fits refl (reply_is e m (stepped IsStale) node node reply _ is refl called sent))
+  by_case : (case : CreateSessionCase) → create_session_case m.sessions client sequence ≡ case → Says m.sessions client sequence case → after_event e m ≡ and_then (stepped case) (calls_out []) → GaveSession e m node client sequence session
+  by_case (IsDue c) at k is =
+      let gone = option_map (λ (other : ClientState). other.id) (find (is_before_restart c) m.sessions.clients) in
+      let made : MdsValue = confirms client node (record m { sessions = after_creating m.sessions asked.callback_program node e.now (IsDue c) }) in
+      Makes c at k (named (m.sessions.numbers + 1) k (reply_is e m (stepped (IsDue c)) node node reply _ is refl (gone_called gone made called) sent)) (stepped (IsDue c)).mds (gone_same gone made).sessions (ap (λ (s : MdsStep). s.mds) is)
+  by_case (IsReplay number) at k is = Replays number at k (named number k (reply_is e m (stepped (IsReplay number)) node node reply _ is refl called sent))
+  by_case IsMisordered at k is = absurd (refused (10063, ([], refused_as 43 stat.SeqMisordered ∷ [])) misordered_fits refl (reply_is e m (stepped IsMisordered) node node reply _ is refl called sent))
+  by_case HasNoRoom at k is = absurd (refused (10006, ([], refused_as 43 stat.ServerFault ∷ [])) full_fits refl (reply_is e m (stepped HasNoRoom) node node reply _ is refl called sent))
+  by_case IsStale at k is = absurd (refused (10022, ([], refused_as 43 stat.StaleClientId ∷ [])) stale_fits refl (reply_is e m (stepped IsStale) node node reply _ is refl called sent))
 
-  pub its_client : after_event e m ≡ and_then (run_of_call e.now m node xid name (CreateSession client sequence)) (calls_out []) → client_in session ≡ client
-  its_client came = by_case (create_session_case m.sessions client sequence) (case_says m.sessions t client sequence) came
+  pub session_is : after_event e m ≡ and_then (run_of_call e.now m node xid name (CreateSession client sequence)) (calls_out []) → GaveSession e m node client sequence session
+  session_is came = by_case (create_session_case m.sessions client sequence) refl (case_says m.sessions t client sequence) came
+
+pub gave_session : (servers : List AddressValue) (mirrors : ℕ) (before : List MdsEvent) (e : MdsEvent) (client : ℕ) (session : SessionId) (g : GivesSession servers mirrors before e client session)
+    → GaveSession e (server_after servers mirrors before) g.node client g.sequence session
+gave_session servers mirrors before e client session g =
+    let m : MdsValue = server_after servers mirrors before in
+    session_is e m g.node g.xid g.name client g.sequence session (table_of_run servers mirrors before) (are_called servers mirrors before) g.reply g.sent g.says (event_is e m g.node g.xid g.name (CreateSession client g.sequence) g.came)
+
+-- ---- whose it is
+
+pub its_client : (e : MdsEvent) (m : MdsValue) (node : NodeId) (client sequence : ℕ) (session : SessionId) → IsTable m.sessions → GaveSession e m node client sequence session → client_in session ≡ client
+its_client e m node client sequence session t (Makes c at k is behind made mds) = ap client_in is ∙ session_client client (m.sessions.numbers + 1) (fits_long m.sessions t client sequence k)
+its_client e m node client sequence session t (Replays number at k is) = ap client_in is ∙ session_client client number (fits_long m.sessions t client sequence k)
 
 pub sessions_are_own : SessionsAreOwn
 sessions_are_own servers mirrors events before after e client session calls at g =
-    let m : MdsValue = server_after servers mirrors before in
-    its_client e m g.node g.xid g.name client g.sequence session (table_of_run servers mirrors before) (are_called servers mirrors before) g.reply g.sent g.says (event_is e m g.node g.xid g.name (CreateSession client g.sequence) g.came)
+    its_client e (server_after servers mirrors before) g.node client g.sequence session (table_of_run servers mirrors before) (gave_session servers mirrors before e client session g)

@@ -1,10 +1,11 @@
 -- What a slot keeps, and what a compound waits for, by the request that took effect.
-use Rattle.std.proofs.Common.{◌≡◌, ℕ, Bool, true, false, List, [], ◌∷◌, ◌++◌, length, None, refl, sym, ap, subst, ◌∙◌}
+use Rattle.std.proofs.Common.{◌≡◌, ℕ, Bool, true, false, List, [], ◌∷◌, ◌++◌, length, Some, None, refl, sym, ap, subst, ◌∙◌}
 use Rattle.std.specs.Prelude.{◌==◌, ◌&&◌, ◌||◌, nat_lt}
 use Rattle.std.proofs.lemmas.Bool.{cond_both, and_parts, eqb-true, eq-eqb}
 use Rattle.std.proofs.lemmas.List.{append_assoc}
 use Rattle.std.proofs.lemmas.Option.{same_Some}
 use Rattle.ff_xdr.specs.Form.{Value, arm_of}
+use Rattle.rpc_record.specs.Replies.{RpcReply}
 use Rattle.compound_reply.specs.Replied.{success_reply}
 use Rattle.cluster_model.specs.declared.ids.NodeId.{NodeId}
 use Rattle.device_addr.specs.Universal.{AddressValue}
@@ -15,7 +16,7 @@ use Rattle.nfs4_compound.specs.declared.stop.Stop.TheVariants as stop
 use Rattle.nfs4_session.specs.declared.slot.TheConstants.{MAX_KEPT}
 use Rattle.nfs4_session.specs.Slots.{SlotState, SlotReply, NoRequest, InProgress, Cached, Uncached as NotKept, TakesEffect, is_in_progress, kept_as, slot_finished}
 use Rattle.nfs4_session.specs.Clients.{client_in, number_in}
-use Rattle.nfs4_session.specs.Requests.{request_answer}
+use Rattle.nfs4_session.specs.Requests.{request_answer, pass_of}
 use Rattle.nfs4_session.specs.Bindings.{after_binding}
 use Rattle.table_slots.specs.TableSlots.{is_of_session}
 use Rattle.mds_calls.specs.declared.reply.SlotReport.{SlotReport}
@@ -30,7 +31,7 @@ use Rattle.mds_laws.specs.MdsRuns.{MdsInput, MdsEvent, Hears}
 use Rattle.mds_laws.specs.SlotUses.{first_request}
 use Rattle.mds_replies.specs.ClientCalls.{IsCallFrom, server_after, IsEventOf}
 use Rattle.mds_replies.specs.SlotReplies.{request_of, TookEffect}
-use Rattle.mds_replies.specs.AnsweredRequests.{FitsRequest, MeansSo, TookEffectAmong, IsUnread, StandsByReport, StandsFor, AnswersRequest}
+use Rattle.mds_replies.specs.AnsweredRequests.{FitsRequest, MeansSo, TookEffectAmong, MeansTaken, IsUnknown, IsUnread, IsFreeAt, StandsByReport, StandsFor, AnswersRequest}
 
 -- ---- an event's compound asks for a layout, or gives one back
 
@@ -189,6 +190,7 @@ module _ (servers : List AddressValue) (mirrors : ℕ) where
     pub plain : layout_event f ≡ false
     pub ops : c.ops ≡ []
     pub stop : c.stop ≡ stop.End None
+    pub slot : c.slot ≡ Some (pass_of (request_of session number took.call))
 
   pub waits_more : (past more : List MdsEvent) (c : CompoundRun) → WaitsSo past c → WaitsSo (past ++ more) c
   waits_more past more c w = record {
@@ -204,9 +206,10 @@ module _ (servers : List AddressValue) (mirrors : ℕ) where
     plain = w.plain;
     ops = w.ops;
     stop = w.stop;
+    slot = w.slot;
   }
 
-  -- ---- what a reply stands on
+  -- ---- what a reply stands on, where F says of which requests a slot is free
 
   own_session : (session : SessionId) → is_of_session session session ≡ true
   own_session session =
@@ -230,31 +233,107 @@ module _ (servers : List AddressValue) (mirrors : ℕ) where
       → IsCallFrom f node xid name (OnSlot asked n c) → TookEffect servers mirrors early f asked n
   took_too early f session number took node xid name asked n c came = record { node = node; xid = xid; name = name; call = c; came = came; effect = effect_too early f session number took node xid name asked n c came }
 
-  pub stands_taken : (past early late : List MdsEvent) (f : MdsEvent) → IsEventOf past early f late → (session : SessionId) (number : ℕ) → TookEffect servers mirrors early f session number → (node : NodeId) (xid : ℕ) (name : List ℕ) (asked : SessionId) (n : ℕ)
-      (c : SlotCallValue) → IsCallFrom f node xid name (OnSlot asked n c) → (says : MdsReplyValue) → MeansSo servers mirrors early f asked c says.answer → StandsFor servers mirrors past early asked n c says
-  stands_taken past early late f split session number took node xid name asked n c came says means = by_report says.slot
-    where
-      t : TookEffectAmong servers mirrors past asked n
-      t = record { early = early; f = f; late = late; split = split; asked = asked; its = own_session asked; took = took_too early f session number took node xid name asked n c came }
+  -- it has its session and its number
+  pub same_request : (f : MdsEvent) (node there : NodeId) (xid also : ℕ) (name other : List ℕ) (session asked : SessionId) (number n : ℕ) (call c : SlotCallValue) → IsCallFrom f node xid name (OnSlot session number call)
+      → IsCallFrom f there also other (OnSlot asked n c) → request_of session number call ≡ request_of asked n c
+  same_request f node there xid also name other session asked number n call c came comes =
+      same_Some (request_of session number call) (request_of asked n c) (ap first_request (same_ops f node there xid also name other (OnSlot session number call) (OnSlot asked n c) came comes))
 
-      by_report : (r : SlotReport) → StandsByReport servers mirrors past early asked n c says.answer r
-      by_report Taken = (record { early = early; f = f; late = late; split = split; asked = asked; its = own_session asked; took = took_too early f session number took node xid name asked n c came }, λ other same. means)
-      by_report Uncached = t
-      by_report Delayed = tt
-      by_report Unknown = IsUnread t
+  module _ (F : SessionId → ℕ → Type 0) where
+    abbrev pub ByReport : List MdsEvent → List MdsEvent → SessionId → ℕ → SlotCallValue → MdsAnswerValue → SlotReport → Type 0
+    ByReport past before session number call answer Taken = (t : TookEffectAmong servers mirrors past session number) × MeansTaken servers mirrors past session number call answer t × F session number
+    ByReport past before session number call answer Uncached = TookEffectAmong servers mirrors past session number × F session number
+    ByReport past before session number call answer Delayed = Unit {0}
+    ByReport past before session number call answer Unknown = IsUnknown servers mirrors past before session number answer
 
-  -- the reply of a compound that waited
-  pub waited_answers : (past : List MdsEvent) (c : CompoundRun) (bytes : List ℕ) → WaitsSo past c → AnswersRequest servers mirrors past c.node (success_reply c.xid bytes)
-  waited_answers past c bytes w = record {
-    early = w.early;
-    f = w.f;
-    late = w.late;
-    split = w.split;
-    name = w.took.name;
-    call = OnSlot w.session w.number w.took.call;
-    came = subst (λ (x : NodeId). IsCallFrom w.f x c.xid w.took.name (OnSlot w.session w.number w.took.call)) (sym w.node)
-        (subst (λ (x : ℕ). IsCallFrom w.f w.took.node x w.took.name (OnSlot w.session w.number w.took.call)) (sym w.xid) w.took.came);
-    stands = λ other asked n call came fits.
-        stands_taken past w.early w.late w.f w.split w.session w.number w.took c.node c.xid other asked n call came (reply_of_ask (ask_on_slot call) (success_reply c.xid bytes))
-        (plain_means servers mirrors w.early w.f asked call _ (sym (event_of_call w.f c.node c.xid other asked n call came) ∙ w.plain));
-  }
+    abbrev pub StandsWith : List MdsEvent → List MdsEvent → SessionId → ℕ → SlotCallValue → MdsReplyValue → Type 0
+    StandsWith past before session number call says = ByReport past before session number call says.answer says.slot
+
+    pub record AnswersWith (past : List MdsEvent) (node : NodeId) (reply : RpcReply) : Type 0 where
+      pub early : List MdsEvent
+      pub f : MdsEvent
+      pub late : List MdsEvent
+      pub split : IsEventOf past early f late
+      pub name : List ℕ
+      pub call : MdsCallValue
+      pub came : IsCallFrom f node reply.xid name call
+      pub stands : (other : List ℕ) (session : SessionId) (number : ℕ) (c : SlotCallValue) → IsCallFrom f node reply.xid other (OnSlot session number c) → FitsRequest (OnSlot session number c)
+          → StandsWith past early session number c (reply_of_ask (ask_on_slot c) reply)
+
+    pub stands_taken : (past early late : List MdsEvent) (f : MdsEvent) → IsEventOf past early f late → (session : SessionId) (number : ℕ) → TookEffect servers mirrors early f session number → (node : NodeId) (xid : ℕ) (name : List ℕ) (asked : SessionId)
+        (n : ℕ) (c : SlotCallValue) → IsCallFrom f node xid name (OnSlot asked n c) → (says : MdsReplyValue) → MeansSo servers mirrors early f asked c says.answer → F asked n → StandsWith past early asked n c says
+    stands_taken past early late f split session number took node xid name asked n c came says means free = by_report says.slot
+      where
+        t : TookEffectAmong servers mirrors past asked n
+        t = record { early = early; f = f; late = late; split = split; asked = asked; its = own_session asked; took = took_too early f session number took node xid name asked n c came }
+
+        by_report : (r : SlotReport) → ByReport past early asked n c says.answer r
+        by_report Taken = (record { early = early; f = f; late = late; split = split; asked = asked; its = own_session asked; took = took_too early f session number took node xid name asked n c came }, λ other same. means, free)
+        by_report Uncached = (t, free)
+        by_report Delayed = tt
+        by_report Unknown = IsUnread t
+
+    -- the reply of a compound that waited
+    pub waited_answers : (past : List MdsEvent) (c : CompoundRun) (bytes : List ℕ) → (w : WaitsSo past c) → F w.session w.number → AnswersWith past c.node (success_reply c.xid bytes)
+    waited_answers past c bytes w free = record {
+      early = w.early;
+      f = w.f;
+      late = w.late;
+      split = w.split;
+      name = w.took.name;
+      call = OnSlot w.session w.number w.took.call;
+      came = its_call;
+      stands = λ other asked n call came fits.
+          stands_taken past w.early w.late w.f w.split w.session w.number w.took c.node c.xid other asked n call came (reply_of_ask (ask_on_slot call) (success_reply c.xid bytes))
+          (plain_means servers mirrors w.early w.f asked call _ (sym (event_of_call w.f c.node c.xid other asked n call came) ∙ w.plain))
+          (subst (λ (q : Sequence). F q.session q.sequence) (same_request w.f c.node c.node c.xid c.xid w.took.name other w.session asked w.number n w.took.call call its_call came) free);
+    }
+      where
+        its_call : IsCallFrom w.f c.node c.xid w.took.name (OnSlot w.session w.number w.took.call)
+        its_call = subst (λ (x : NodeId). IsCallFrom w.f x c.xid w.took.name (OnSlot w.session w.number w.took.call)) (sym w.node)
+            (subst (λ (x : ℕ). IsCallFrom w.f w.took.node x w.took.name (OnSlot w.session w.number w.took.call)) (sym w.xid) w.took.came)
+
+  -- where G says so too
+  module _ (F G : SessionId → ℕ → Type 0) (on : (session : SessionId) (n : ℕ) → F session n → G session n) (past : List MdsEvent) where
+    report_on : (before : List MdsEvent) (session : SessionId) (n : ℕ) (c : SlotCallValue) (answer : MdsAnswerValue) (r : SlotReport) → ByReport F past before session n c answer r → ByReport G past before session n c answer r
+    report_on before session n c answer Taken p = (p.0, p.1, on session n p.2)
+    report_on before session n c answer Uncached p = (p.0, on session n p.1)
+    report_on before session n c answer Delayed p = tt
+    report_on before session n c answer Unknown p = p
+
+    pub answers_on : (node : NodeId) (reply : RpcReply) → AnswersWith F past node reply → AnswersWith G past node reply
+    answers_on node reply a = record {
+      early = a.early;
+      f = a.f;
+      late = a.late;
+      split = a.split;
+      name = a.name;
+      call = a.call;
+      came = a.came;
+      stands = λ other session n c came fits.
+          report_on a.early session n c (reply_of_ask (ask_on_slot c) reply).answer (reply_of_ask (ask_on_slot c) reply).slot (a.stands other session n c came fits);
+    }
+
+  -- where that is the server behind the events
+  module _ (F : SessionId → ℕ → Type 0) (past : List MdsEvent) (free : (session : SessionId) (n : ℕ) → F session n → IsFreeAt (server_after servers mirrors past) session n) where
+    report_stands : (before : List MdsEvent) (session : SessionId) (n : ℕ) (c : SlotCallValue) (answer : MdsAnswerValue) (r : SlotReport) → ByReport F past before session n c answer r
+        → StandsByReport servers mirrors past before session n c answer r
+    report_stands before session n c answer Taken p = (p.0, p.1, free session n p.2)
+    report_stands before session n c answer Uncached p = (p.0, free session n p.1)
+    report_stands before session n c answer Delayed p = tt
+    report_stands before session n c answer Unknown p = p
+
+    pub stands_behind : (before : List MdsEvent) (session : SessionId) (n : ℕ) (c : SlotCallValue) (says : MdsReplyValue) → StandsWith F past before session n c says → StandsFor servers mirrors past before session n c says
+    stands_behind before session n c says p = report_stands before session n c says.answer says.slot p
+
+    pub answers_request : (node : NodeId) (reply : RpcReply) → AnswersWith F past node reply → AnswersRequest servers mirrors past node reply
+    answers_request node reply a = record {
+      early = a.early;
+      f = a.f;
+      late = a.late;
+      split = a.split;
+      name = a.name;
+      call = a.call;
+      came = a.came;
+      stands = λ other session n c came fits. stands_behind a.early session n c (reply_of_ask (ask_on_slot c) reply) (a.stands other session n c came fits);
+    }

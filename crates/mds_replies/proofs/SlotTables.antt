@@ -63,7 +63,7 @@ abbrev pub HasFirst : List SlotState → Type 0
 HasFirst [] = ⊥
 HasFirst (x ∷ slots) = Unit {0}
 
-changed_first : (place : ℕ) (f : SlotState → SlotState) (slots : List SlotState) → HasFirst slots → HasFirst (change_at place f slots (slice_get slots place))
+pub changed_first : (place : ℕ) (f : SlotState → SlotState) (slots : List SlotState) → HasFirst slots → HasFirst (change_at place f slots (slice_get slots place))
 changed_first place f [] some = absurd some
 changed_first zero f (x ∷ slots) some = tt
 changed_first (suc place) f (x ∷ slots) some = by_slot (slice_get slots place)
@@ -106,7 +106,15 @@ twice_so : (P R : SlotState → Type 0) (f g : SlotState → SlotState) → ((sl
 twice_so P R f g changes [] all slot is = absurd (none-some slot is)
 twice_so P R f g changes (x ∷ slots) all slot is = subst R (same_Some (g (f x)) slot is) (changes x (all x refl))
 
-module _ (P : ℕ → ℕ → SlotState → Type 0) (new : (client number : ℕ) → P client number new_slot) (finished : (client number sequence : ℕ) (reply : List ℕ) (slot : SlotState) → P client number slot → P client number (slot_finished sequence reply slot)) where
+pub table_more : (P R : ℕ → ℕ → SlotState → Type 0) → ((client number : ℕ) (slot : SlotState) → P client number slot → R client number slot) → (s : SessionsState) → TableSo P s → TableSo R s
+table_more P R stays s all =
+    all_more (ClientSo P) (ClientSo R) (λ c so. all_more (SessionSo P c.id) (SessionSo R c.id) (λ x p. (p.0, λ slot is. stays c.id x.number slot (p.1 slot is))) c.sessions so) s.clients all
+
+-- the client's lease is renewed
+pub renewed_so : (P : ℕ → ℕ → SlotState → Type 0) (client now : ℕ) (cs : List ClientState) → AllOf (ClientSo P) cs → AllOf (ClientSo P) (change_first (has_id client) (renewed_at now) cs)
+renewed_so P client now cs all = all_change (ClientSo P) (ClientSo P) (has_id client) (renewed_at now) (λ c i. i) (λ c is i. i) cs all
+
+module _ (P : ℕ → ℕ → SlotState → Type 0) (finished : (client number sequence : ℕ) (reply : List ℕ) (slot : SlotState) → P client number slot → P client number (slot_finished sequence reply slot)) where
   abbrev So : ClientState → Type 0
   So c = AllOf (SessionSo P c.id) c.sessions
 
@@ -126,15 +134,16 @@ module _ (P : ℕ → ℕ → SlotState → Type 0) (new : (client number : ℕ)
   exchanged_so s verifier owner now Restarts None i = all_push (ClientSo P) s.clients (new_client s verifier owner now) i tt
   exchanged_so s verifier owner now IsNewOwner None i = all_push (ClientSo P) s.clients (new_client s verifier owner now) i tt
 
-  created_so : (s : SessionsState) (program : ℕ) (node : NodeId) (now : ℕ) (case : CreateSessionCase) → TableSo P s → TableSo P (after_creating s program node now case)
-  created_so s program node now (IsDue c) i =
+  created_so : (s : SessionsState) (program : ℕ) (node : NodeId) (now : ℕ) (case : CreateSessionCase) → ((client : ℕ) → (after_creating s program node now case).numbers ≡ s.numbers + 1 → P client (s.numbers + 1) new_slot) → TableSo P s
+      → TableSo P (after_creating s program node now case)
+  created_so s program node now (IsDue c) new i =
       change (has_id c.id) (with_new_session (created_session s program node) now)
-      (λ x its. all_push (SessionSo P x.id) x.sessions (created_session s program node) its (tt, λ slot is. subst (P x.id (s.numbers + 1)) (same_Some new_slot slot is) (new x.id (s.numbers + 1))))
+      (λ x its. all_push (SessionSo P x.id) x.sessions (created_session s program node) its (tt, λ slot is. subst (P x.id (s.numbers + 1)) (same_Some new_slot slot is) (new x.id refl)))
       (remove_first (is_before_restart c) s.clients) (all_remove (ClientSo P) (is_before_restart c) s.clients i)
-  created_so s program node now (IsReplay session) i = i
-  created_so s program node now IsMisordered i = i
-  created_so s program node now HasNoRoom i = i
-  created_so s program node now IsStale i = i
+  created_so s program node now (IsReplay session) new i = i
+  created_so s program node now IsMisordered new i = i
+  created_so s program node now HasNoRoom new i = i
+  created_so s program node now IsStale new i = i
 
   bound_so : (k number : ℕ) (node : NodeId) (xs : List SessionState) (o : Option SessionState) → find (has_number number) xs ≡ o → AllOf (SessionSo P k) xs → AllOf (SessionSo P k) (bound_last number node xs o)
   bound_so k number node xs None at i = i
@@ -154,27 +163,32 @@ module _ (P : ℕ → ℕ → SlotState → Type 0) (new : (client number : ℕ)
   expired_so s None i = i
   expired_so s (Some c) i = all_remove (ClientSo P) (has_id c.id) s.clients i
 
-  pub move_so : (s : SessionsState) (move : TableMove) → IsNoRequest move → TableSo P s → TableSo P (table_after s move)
-  move_so s (ExchangeId verifier owner now) is i = exchanged_so s verifier owner now (exchange_case s.clients verifier owner) (exchange_fault s (exchange_case s.clients verifier owner)) i
-  move_so s (CreateSession client sequence program node now) is i = created_so s program node now (create_session_case s client sequence) i
-  move_so s (BeginRequest request now) is i = absurd is
-  move_so s (FinishRequest pass reply) is i =
+  -- where it holds of the slot of a session that is made
+  pub move_with : (s : SessionsState) (move : TableMove) → ((client : ℕ) → (table_after s move).numbers ≡ s.numbers + 1 → P client (s.numbers + 1) new_slot) → IsNoRequest move → TableSo P s → TableSo P (table_after s move)
+  move_with s (ExchangeId verifier owner now) new is i = exchanged_so s verifier owner now (exchange_case s.clients verifier owner) (exchange_fault s (exchange_case s.clients verifier owner)) i
+  move_with s (CreateSession client sequence program node now) new is i = created_so s program node now (create_session_case s client sequence) new i
+  move_with s (BeginRequest request now) new is i = absurd is
+  move_with s (FinishRequest pass reply) new is i =
       change (has_id (client_in pass.session)) (λ c. with_sessions c (change_first (has_number (number_in pass.session)) (change_slot pass.slot (slot_finished pass.sequence reply)) c.sessions))
       (λ c its. sessions_change c.id (has_number (number_in pass.session)) (change_slot pass.slot (slot_finished pass.sequence reply))
       (λ x so. (changed_first pass.slot (slot_finished pass.sequence reply) x.slots so.0, change_so (P c.id x.number) (P c.id x.number) pass.slot (slot_finished pass.sequence reply) (λ slot p. p) (λ slot p. finished c.id x.number pass.sequence reply slot p) x.slots so.1)) c.sessions its) s.clients i
-  move_so s (Bind session node) is i =
+  move_with s (Bind session node) new is i =
       change (has_id (client_in session)) (client_bound (number_in session) node) (λ c its. bound_so c.id (number_in session) node c.sessions (find (has_number (number_in session)) c.sessions) refl its) s.clients i
-  move_so s (CallBack client) is i = back_so s client (last_session (find (has_id client) s.clients)) i
-  move_so s (DestroySession session) is i =
+  move_with s (CallBack client) new is i = back_so s client (last_session (find (has_id client) s.clients)) i
+  move_with s (DestroySession session) new is i =
       change (has_id (client_in session)) (λ c. with_sessions c (remove_first (has_number (number_in session)) c.sessions)) (λ c its. all_remove (SessionSo P c.id) (has_number (number_in session)) c.sessions its) s.clients i
-  move_so s (DestroyClient client) is i = destroyed_so s client (destroy_client_fault (find (has_id client) s.clients)) i
-  move_so s (Expire now) is i = expired_so s (find (has_ended now) s.clients) i
+  move_with s (DestroyClient client) new is i = destroyed_so s client (destroy_client_fault (find (has_id client) s.clients)) i
+  move_with s (Expire now) new is i = expired_so s (find (has_ended now) s.clients) i
+
+module _ (P : ℕ → ℕ → SlotState → Type 0) (new : (client number : ℕ) → P client number new_slot) (finished : (client number sequence : ℕ) (reply : List ℕ) (slot : SlotState) → P client number slot → P client number (slot_finished sequence reply slot)) where
+  pub move_so : (s : SessionsState) (move : TableMove) → IsNoRequest move → TableSo P s → TableSo P (table_after s move)
+  move_so s move is i = move_with P finished s move (λ client due. new client (s.numbers + 1)) is i
 
   -- ---- a request begins on the first slot
 
   pub request_so : (s : SessionsState) (request : Sequence) (now : ℕ) → request.slot ≡ 0 → P (client_in request.session) (number_in request.session) (slot_begun request.sequence) → TableSo P s → TableSo P (after_request s request now)
   request_so s request now at its i =
-      change (has_id (client_in request.session)) (renewed_at now) (λ c so. so) _
+      renewed_so P (client_in request.session) now _
       (all_change (ClientSo P) (ClientSo P) (has_id (client_in request.session))
       (λ c. with_sessions c (change_first (has_number (number_in request.session)) (change_slot request.slot (λ slot. slot_begun request.sequence)) c.sessions)) (λ c so. so)
       (λ c is so.

@@ -20,6 +20,7 @@ use Rattle.file_rule.specs.MdsFiles.{FileStep}
 use Rattle.file_rule.specs.FilePhases.{FileInput, AsksLayout, OwnWrite, Recall as ToRecall, Returns, Revokes, OwnEnds, Resilver, Answers as IsAnswer, TimesOut, Ticks, Sees, phase}
 use Rattle.mds_rows.specs.Draws.{drawn}
 use Rattle.recall.specs.Recalls.{without_file}
+use Rattle.nfs4_types.specs.declared.ids.SessionId.{SessionId}
 use Rattle.nfs4_types.specs.declared.status.Stat4.{Stat4}
 use Rattle.nfs4_types.specs.declared.status.Stat4.TheVariants as stat
 use Rattle.nfs4_types.specs.Status.{stat4_number}
@@ -30,7 +31,7 @@ use Rattle.nfs4_compound.specs.Results.{resop4}
 use Rattle.nfs4_compound.specs.Compounds.{CompoundValue, compound4_res}
 use Rattle.nfs4_session.specs.declared.begin.SlotPass.{SlotPass}
 use Rattle.nfs4_session.specs.Clients.{SessionsState}
-use Rattle.nfs4_session.specs.TableLaw.{TableMove, FinishRequest, table_after}
+use Rattle.nfs4_session.specs.TableLaw.{TableMove, FinishRequest, DestroySession, table_after}
 use Rattle.mds_receive.specs.MdsReceive.{IncomingValue, PassedOver, IsReply, IsAnswered, IsCompound, incoming_of}
 use Rattle.ff_layout.specs.IoError.{ff_ioerr4}
 use Rattle.layout_report.specs.Reports.{report_of}
@@ -47,11 +48,11 @@ use Rattle.mds_rule.specs.Goes.{calls_out}
 use Rattle.mds_laws.specs.MdsRuns.{MdsInput, MdsEvent, Hears, IsTimedOut, Ticks as IsTick, RecallsFile, Resilvers, by_input, after_event}
 use Rattle.mds_laws.specs.SlotUses.{request_in}
 use Rattle.mds_laws.proofs.Lists.{In, AllOf, all_push, all_set, all_got}
-use Rattle.mds_laws.proofs.Keeping.{HeardAny, Becomes, Keeps, KeepsOp, TakesInput, IsNoRequest, is_note, hears_any, then_keeps, same, becomes_keeps, enters_keeps, stays}
+use Rattle.mds_laws.proofs.Keeping.{moved, HeardAny, Becomes, Keeps, KeepsOp, TakesInput, IsNoRequest, is_note, hears_any, then_keeps, same, becomes_keeps, enters_keeps, stays}
 use Rattle.mds_laws.proofs.Numbers.{WereSent, sent_more, sent_with, sent_without}
 use Rattle.mds_laws.proofs.OpsWalk.{place_served}
 use Rattle.mds_laws.proofs.Requested.{behind_begin}
-use Rattle.mds_replies.proofs.HolderCases.{AllWait, Cases, WaitCases, out_of, comes_unasked}
+use Rattle.mds_replies.proofs.HolderCases.{plain_no_request, AllWait, Cases, WaitCases, out_of, comes_unasked}
 use Rattle.mds_replies.proofs.WaitingCompounds.{same_wait}
 use Rattle.mds_replies.proofs.ServedWalk.{exchanges, creates, binds, destroys_session, destroys_client, reclaims_all}
 use Rattle.mds_replies.proofs.OpsWalk.{puts_fh, gets_fh, looks_up, gets_attr, opens, closes_file, commits, reads, writes, layout_gets, layout_returns, layout_commits, device_infos}
@@ -115,17 +116,18 @@ or_true : (a b : Bool) → b ≡ true → (a || b) ≡ true
 or_true true b is = refl
 or_true false b is = is
 
-pub record Stands (W : CompoundRun → Type 0) (Q : SessionsState → Type 0) (A : NodeId → RpcReply → Type 0) (E : Entry → Type 0) (files : List ServedFile) (sessions : SessionsState) (calls : List AwaitedCall) (es : List Entry)
+pub record Stands (W : CompoundRun → Type 0) (Q : SessionsState → Type 0) (A : SessionsState → NodeId → RpcReply → Type 0) (E : Entry → Type 0) (files : List ServedFile) (sessions : SessionsState) (calls : List AwaitedCall) (es : List Entry)
     (ss : List MdsSend) : Type 0 where
   pub waits : AllOf (λ (s : ServedFile). AllWait W s.reads s.write) files
   pub table : Q sessions
   pub entries : AllOf E es
-  pub replies : (node : NodeId) (reply : RpcReply) → In (Replies node reply) ss → A node reply
+  pub replies : (node : NodeId) (reply : RpcReply) → In (Replies node reply) ss → A sessions node reply
   pub were : WereSent calls ss
 
 module _ (W : CompoundRun → Type 0) (left : (c : CompoundRun) → W c → (c.ops ≡ []) × (c.stop ≡ stop.End None)) (Q : SessionsState → Type 0) (keeps : (s : SessionsState) (move : TableMove) → IsNoRequest move → Q s → Q (table_after s move))
-    (A : NodeId → RpcReply → Type 0)
-    (replied : (c : CompoundRun) (results : List (Value resop4)) (status : Stat4) → W c → A c.node (success_reply c.xid (spelling compound4_res (stat4_number status, (c.tag, c.results ++ results)))))
+    (A : SessionsState → NodeId → RpcReply → Type 0) (stays_said : (s : SessionsState) (move : TableMove) → IsNoRequest move → (node : NodeId) (reply : RpcReply) → A s node reply → A (table_after s move) node reply)
+    (replied : (s : SessionsState) → Q s → (c : CompoundRun) (results : List (Value resop4)) (status : Stat4) → W c
+    → A (kept_in_slot s c.slot (spelling compound4_res (stat4_number status, (c.tag, c.results ++ results)))) c.node (success_reply c.xid (spelling compound4_res (stat4_number status, (c.tag, c.results ++ results)))))
     (E : Entry → Type 0) (plain : (e : Entry) → IsNoReturn e → E e) where
   abbrev pub IsSo : MdsValue → List Entry → List MdsSend → Type 0
   IsSo m es ss = Stands W Q A E m.files m.sessions m.calls es ss
@@ -146,7 +148,7 @@ module _ (W : CompoundRun → Type 0) (left : (c : CompoundRun) → W c → (c.o
 
   -- ---- files
 
-  set : (m : MdsValue) (file : FileId) (t : ServedFile) (calls : List AwaitedCall) (es : List Entry) (ss ts : List MdsSend) → AllWait W t.reads t.write → ((node : NodeId) (reply : RpcReply) → In (Replies node reply) ts → A node reply)
+  set : (m : MdsValue) (file : FileId) (t : ServedFile) (calls : List AwaitedCall) (es : List Entry) (ss ts : List MdsSend) → AllWait W t.reads t.write → ((node : NodeId) (reply : RpcReply) → In (Replies node reply) ts → A m.sessions node reply)
       → WereSent calls ts → IsSo m es ss → Stands W Q A E (slice_set m.files (file.0 - 1) t) m.sessions calls es ts
   set m file t calls es ss ts its replies were i = record {
     waits = all_set (λ (x : ServedFile). AllWait W x.reads x.write) m.files (file.0 - 1) t i.waits its;
@@ -196,11 +198,11 @@ module _ (W : CompoundRun → Type 0) (left : (c : CompoundRun) → W c → (c.o
   is_no_reply : MdsSend → Type 0
   is_no_reply s = (node : NodeId) (reply : RpcReply) → Replies node reply ≡ s → ⊥
 
-  pushed : (ss : List MdsSend) (s : MdsSend) → ((node : NodeId) (reply : RpcReply) → Replies node reply ≡ s → A node reply) → ((node : NodeId) (reply : RpcReply) → In (Replies node reply) ss → A node reply)
-      → (node : NodeId) (reply : RpcReply) → In (Replies node reply) (ss ++ s ∷ []) → A node reply
-  pushed ss s new old node reply inside = by_place (in_pushed (Replies node reply) s ss inside)
+  pushed : (t : SessionsState) (ss : List MdsSend) (s : MdsSend) → ((node : NodeId) (reply : RpcReply) → Replies node reply ≡ s → A t node reply) → ((node : NodeId) (reply : RpcReply) → In (Replies node reply) ss → A t node reply)
+      → (node : NodeId) (reply : RpcReply) → In (Replies node reply) (ss ++ s ∷ []) → A t node reply
+  pushed t ss s new old node reply inside = by_place (in_pushed (Replies node reply) s ss inside)
     where
-      by_place : In (Replies node reply) ss ⊎ (Replies node reply ≡ s) → A node reply
+      by_place : In (Replies node reply) ss ⊎ (Replies node reply ≡ s) → A t node reply
       by_place (inl was) = old node reply was
       by_place (inr is) = new node reply is
 
@@ -210,25 +212,25 @@ module _ (W : CompoundRun → Type 0) (left : (c : CompoundRun) → W c → (c.o
   reply_there (Replies node reply) = true
   reply_there (Answers node bytes) = false
 
-  no_reply : (s : MdsSend) → reply_there s ≡ false → (node : NodeId) (reply : RpcReply) → Replies node reply ≡ s → A node reply
-  no_reply s off node reply is = absurd (not_so (ap reply_there is ∙ off))
+  no_reply : (t : SessionsState) (s : MdsSend) → reply_there s ≡ false → (node : NodeId) (reply : RpcReply) → Replies node reply ≡ s → A t node reply
+  no_reply t s off node reply is = absurd (not_so (ap reply_there is ∙ off))
     where
       not_so : true ≡ false → ⊥
       not_so e = absurd cc
 
-  pub sends : (m : MdsValue) (es : List Entry) (ss : List MdsSend) (s : MdsSend) → ((node : NodeId) (reply : RpcReply) → Replies node reply ≡ s → A node reply) → IsSo m es ss → IsSo m es (ss ++ s ∷ [])
-  sends m es ss s new i = record { waits = i.waits; table = i.table; entries = i.entries; replies = pushed ss s new i.replies; were = sent_more m.calls ss s i.were }
+  pub sends : (m : MdsValue) (es : List Entry) (ss : List MdsSend) (s : MdsSend) → ((node : NodeId) (reply : RpcReply) → Replies node reply ≡ s → A m.sessions node reply) → IsSo m es ss → IsSo m es (ss ++ s ∷ [])
+  sends m es ss s new i = record { waits = i.waits; table = i.table; entries = i.entries; replies = pushed m.sessions ss s new i.replies; were = sent_more m.calls ss s i.were }
 
   called : (m : MdsValue) (file : FileId) (t : ServedFile) (call : AwaitedCall) (es : List Entry) (ss : List MdsSend) → reply_there call.sent ≡ false → AllWait W t.reads t.write → IsSo m es ss
       → Stands W Q A E (slice_set m.files (file.0 - 1) t) m.sessions (with_call call m.calls) (es ++ []) (ss ++ call.sent ∷ [])
   called m file t call es ss off its i =
       subst (λ (l : List Entry). Stands W Q A E (slice_set m.files (file.0 - 1) t) m.sessions (with_call call m.calls) l (ss ++ call.sent ∷ [])) (sym (append-nil es))
-      (set m file t (with_call call m.calls) es ss (ss ++ call.sent ∷ []) its (pushed ss call.sent (no_reply call.sent off) i.replies) (sent_with m.calls ss call i.were) i)
+      (set m file t (with_call call m.calls) es ss (ss ++ call.sent ∷ []) its (pushed m.sessions ss call.sent (no_reply m.sessions call.sent off) i.replies) (sent_with m.calls ss call i.were) i)
 
   called_back : (m : MdsValue) (call : AwaitedCall) (es : List Entry) (ss : List MdsSend) → reply_there call.sent ≡ false → IsSo m es ss → Stands W Q A E m.files m.sessions (with_call call m.calls) (es ++ []) (ss ++ call.sent ∷ [])
   called_back m call es ss off i =
       subst (λ (l : List Entry). Stands W Q A E m.files m.sessions (with_call call m.calls) l (ss ++ call.sent ∷ [])) (sym (append-nil es))
-      (record { waits = i.waits; table = i.table; entries = i.entries; replies = pushed ss call.sent (no_reply call.sent off) i.replies; were = sent_with m.calls ss call i.were })
+      (record { waits = i.waits; table = i.table; entries = i.entries; replies = pushed m.sessions ss call.sent (no_reply m.sessions call.sent off) i.replies; were = sent_with m.calls ss call i.were })
 
   -- ---- the cases
 
@@ -236,7 +238,7 @@ module _ (W : CompoundRun → Type 0) (left : (c : CompoundRun) → W c → (c.o
   cases = record {
     wait = λ m es ss i file s at. wait_at m file s at i.waits;
     quiet = λ m confirmed opens reclaimed recalls old es ss i. i;
-    tables = λ m move is es ss i. record { waits = i.waits; table = keeps m.sessions move is i.table; entries = i.entries; replies = i.replies; were = i.were };
+    tables = λ m move is es ss i. record { waits = i.waits; table = keeps m.sessions move (plain_no_request move is) i.table; entries = i.entries; replies = λ node reply inside. stays_said m.sessions move (plain_no_request move is) node reply (i.replies node reply inside); were = i.were };
     notes = λ m e note es ss i. record { waits = i.waits; table = i.table; entries = all_push E es e i.entries (plain e (note_no_return e note)); replies = i.replies; were = i.were };
     puts = λ m file s t at same holder seqid write waits es ss i. set m file t m.calls es ss ss (waits (wait_at m file s at i.waits)) i.replies i.were i;
     again_to = λ m file s client at its es ss i. held m file s client true at es ss i;
@@ -266,6 +268,9 @@ module _ (W : CompoundRun → Type 0) (left : (c : CompoundRun) → W c → (c.o
     again = λ m s es ss i inside. sends m es ss s (λ node reply is. i.replies node reply (subst (λ (x : MdsSend). In x ss) (sym is) inside)) i;
   }
 
+  destroys : (m : MdsValue) (session : SessionId) → Becomes IsSo m (moved m (DestroySession session))
+  destroys m session = λ es ss i. record { waits = i.waits; table = keeps m.sessions (DestroySession session) tt i.table; entries = i.entries; replies = λ node reply inside. stays_said m.sessions (DestroySession session) tt node reply (i.replies node reply inside); were = i.were }
+
   -- ---- a compound that ends
 
   slot_keeps : (m : MdsValue) (slot : Option SlotPass) (bytes : List ℕ) → Becomes IsSo m (record m { sessions = kept_in_slot m.sessions slot bytes })
@@ -278,17 +283,17 @@ module _ (W : CompoundRun → Type 0) (left : (c : CompoundRun) → W c → (c.o
   parts_in (Replies node reply) other = (node, reply)
   parts_in (Answers node bytes) other = other
 
-  pub own_reply : (node : NodeId) (reply : RpcReply) → A node reply → (other : NodeId) (said : RpcReply) → Replies other said ≡ Replies node reply → A other said
-  own_reply node reply its other said is =
+  pub own_reply : (t : SessionsState) (node : NodeId) (reply : RpcReply) → A t node reply → (other : NodeId) (said : RpcReply) → Replies other said ≡ Replies node reply → A t other said
+  own_reply t node reply its other said is =
       let same : (other, said) ≡ (node, reply) = ap (λ (s : MdsSend). parts_in s (node, reply)) is in
-      subst (λ (p : NodeId × RpcReply). A p.0 p.1) (sym same) its
+      subst (λ (p : NodeId × RpcReply). A t p.0 p.1) (sym same) its
 
-  pub finish_keeps : (m : MdsValue) (c : CompoundRun) (status : Stat4) → A c.node (success_reply c.xid (compound_bytes c status)) → Keeps IsSo m (finishes m c status)
+  pub finish_keeps : (m : MdsValue) (c : CompoundRun) (status : Stat4) → (Q m.sessions → A (kept_in_slot m.sessions c.slot (compound_bytes c status)) c.node (success_reply c.xid (compound_bytes c status))) → Keeps IsSo m (finishes m c status)
   finish_keeps m c status its es ss i =
       let n : MdsValue = record m { sessions = kept_in_slot m.sessions c.slot (compound_bytes c status) } in
       let reply = success_reply c.xid (compound_bytes c status) in
       subst (λ (l : List Entry). IsSo n l (ss ++ Replies c.node reply ∷ [])) (sym (append-nil es))
-      (sends n es ss (Replies c.node reply) (own_reply c.node reply its) (slot_keeps m c.slot (compound_bytes c status) es ss i))
+      (sends n es ss (Replies c.node reply) (own_reply n.sessions c.node reply (its i.table)) (slot_keeps m c.slot (compound_bytes c status) es ss i))
 
   waiting_done : (now : ℕ) (m : MdsValue) (c : CompoundRun) (result : Value resop4) → W c → Keeps IsSo m (resumes now (is_done_as m c result) c.ops)
   waiting_done now m c result its =
@@ -296,21 +301,21 @@ module _ (W : CompoundRun → Type 0) (left : (c : CompoundRun) → W c → (c.o
       subst (λ (ops : List (Value argop4)). Keeps IsSo m (op_then (Goes m [] d) (λ n x. runs now ops n x))) (sym (left c its).0)
       (subst (λ (s : Stop). Keeps IsSo m (op_then (Goes m [] d) (λ n x. op_then (stopped n (with_ops x []) s) (λ k y. sends_none k)))) (sym (left c its).1)
       (enters_keeps IsSo m m [] (op_then (Ends m [] (with_ops d []) stat.Ok) (λ k y. sends_none k)) (stays IsSo m)
-      (enters_keeps IsSo m m [] (finishes m (with_ops d []) stat.Ok) (stays IsSo m) (finish_keeps m (with_ops d []) stat.Ok (replied c (result ∷ []) stat.Ok its)))))
+      (enters_keeps IsSo m m [] (finishes m (with_ops d []) stat.Ok) (stays IsSo m) (finish_keeps m (with_ops d []) stat.Ok (λ q. replied m.sessions q c (result ∷ []) stat.Ok its)))))
 
   pub waiting : WaitCases IsSo W
   waiting = record {
     done = waiting_done;
     failed = λ now m c number its.
-        enters_keeps IsSo m m [] (finishes m (with_result c (refused_as number stat.Io)) stat.Io) (stays IsSo m) (finish_keeps m (with_result c (refused_as number stat.Io)) stat.Io (replied c (refused_as number stat.Io ∷ []) stat.Io its));
+        enters_keeps IsSo m m [] (finishes m (with_result c (refused_as number stat.Io)) stat.Io) (stays IsSo m) (finish_keeps m (with_result c (refused_as number stat.Io)) stat.Io (λ q. replied m.sessions q c (refused_as number stat.Io ∷ []) stat.Io its));
   }
 
   -- ---- the operations of a compound
 
   op_keeps : (m : MdsValue) (c : CompoundRun) (s : OpStep) (next : MdsValue → CompoundRun → MdsStep) → KeepsOp IsSo m s → StepsLike c s
-      → ((d : CompoundRun) (status : Stat4) → Like c d → A d.node (success_reply d.xid (compound_bytes d status))) → ((n : MdsValue) (d : CompoundRun) → Like c d → Keeps IsSo n (next n d)) → Keeps IsSo m (op_then s next)
+      → ((d : CompoundRun) (status : Stat4) → Like c d → (t : SessionsState) → Q t → A (kept_in_slot t d.slot (compound_bytes d status)) d.node (success_reply d.xid (compound_bytes d status))) → ((n : MdsValue) (d : CompoundRun) → Like c d → Keeps IsSo n (next n d)) → Keeps IsSo m (op_then s next)
   op_keeps m c (Goes n entries d) next q like mine all = enters_keeps IsSo m n entries (next n d) q (all n d like)
-  op_keeps m c (Ends n entries d status) next q like mine all = enters_keeps IsSo m n entries (finishes n d status) q (finish_keeps n d status (mine d status like))
+  op_keeps m c (Ends n entries d status) next q like mine all = enters_keeps IsSo m n entries (finishes n d status) q (finish_keeps n d status (λ q. mine d status like n.sessions q))
   op_keeps m c (Waits n entries) next q like mine all = enters_keeps IsSo m n entries (sends_none n) q (same IsSo n)
 
   returned_any : ((e : Entry) → E e) → (m : MdsValue) (file : FileId) (s : ServedFile) (n : ℕ) (cred : Cred) (errors : List (Value ff_ioerr4)) → TakesInput IsSo m file s (Returns n cred (report_of errors s.file.layout.live))
@@ -347,7 +352,7 @@ module _ (W : CompoundRun → Type 0) (left : (c : CompoundRun) → W c → (c.o
                               (
                                 (λ create waits any. creates IsSo HeardAny W cases m c now create (λ x es ss i. i)),
                                 (
-                                  (λ session waits any. destroys_session IsSo HeardAny W cases m c session),
+                                  (λ session waits any. destroys_session IsSo HeardAny W cases destroys m c session),
                                   (
                                     (λ device waits any. device_infos IsSo HeardAny W cases m c device),
                                     (
@@ -399,13 +404,13 @@ module _ (W : CompoundRun → Type 0) (left : (c : CompoundRun) → W c → (c.o
   with_ops_like c ops = record { node = refl; xid = refl; tag = refl; stop = refl; slot = refl; more = []; results = sym (append-nil c.results) }
 
   -- none is left
-  end_keeps : (now : ℕ) (m : MdsValue) (c : CompoundRun) → c.stop ≡ stop.End None → ((d : CompoundRun) (status : Stat4) → Like c d → A d.node (success_reply d.xid (compound_bytes d status))) → Keeps IsSo m (runs now [] m c)
+  end_keeps : (now : ℕ) (m : MdsValue) (c : CompoundRun) → c.stop ≡ stop.End None → ((d : CompoundRun) (status : Stat4) → Like c d → (t : SessionsState) → Q t → A (kept_in_slot t d.slot (compound_bytes d status)) d.node (success_reply d.xid (compound_bytes d status))) → Keeps IsSo m (runs now [] m c)
   end_keeps now m c end mine =
       subst (λ (s : Stop). Keeps IsSo m (op_then (stopped m (with_ops c []) s) (λ n d. sends_none n))) (sym end)
-      (enters_keeps IsSo m m [] (finishes m (with_ops c []) stat.Ok) (stays IsSo m) (finish_keeps m (with_ops c []) stat.Ok (mine (with_ops c []) stat.Ok (with_ops_like c []))))
+      (enters_keeps IsSo m m [] (finishes m (with_ops c []) stat.Ok) (stays IsSo m) (finish_keeps m (with_ops c []) stat.Ok (λ q. mine (with_ops c []) stat.Ok (with_ops_like c []) m.sessions q)))
 
   pub run_keeps : (now : ℕ) (ops : List (Value argop4)) → AreFine ops → (m : MdsValue) (c : CompoundRun) → c.stop ≡ stop.End None
-      → ((d : CompoundRun) (status : Stat4) → Like c d → A d.node (success_reply d.xid (compound_bytes d status))) → ((d : CompoundRun) → Like c d → d.ops ≡ [] → has_waiting ops ≡ true → W d) → Keeps IsSo m (runs now ops m c)
+      → ((d : CompoundRun) (status : Stat4) → Like c d → (t : SessionsState) → Q t → A (kept_in_slot t d.slot (compound_bytes d status)) d.node (success_reply d.xid (compound_bytes d status))) → ((d : CompoundRun) → Like c d → d.ops ≡ [] → has_waiting ops ≡ true → W d) → Keeps IsSo m (runs now ops m c)
   run_keeps now [] fine m c end mine waits = end_keeps now m c end mine
   run_keeps now (op ∷ ops) fine m c end mine waits =
       let x : CompoundRun = with_ops c ops in
@@ -415,7 +420,7 @@ module _ (W : CompoundRun → Type 0) (left : (c : CompoundRun) → W c → (c.o
 
   -- an operation without a SEQUENCE, alone
   pub alone_keeps : (now : ℕ) (m : MdsValue) (c : CompoundRun) (op : Value argop4) → is_waiting_op (arm_of argop4 op) ≡ false → (arm_of argop4 op == 51) ≡ false → c.stop ≡ stop.End None
-      → ((d : CompoundRun) (status : Stat4) → Like c d → A d.node (success_reply d.xid (compound_bytes d status)))
+      → ((d : CompoundRun) (status : Stat4) → Like c d → (t : SessionsState) → Q t → A (kept_in_slot t d.slot (compound_bytes d status)) d.node (success_reply d.xid (compound_bytes d status)))
       → Keeps IsSo m (op_then (operate now m (with_ops c []) op) (λ n d. runs now [] n d))
   alone_keeps now m c op quick other end mine =
       let x : CompoundRun = with_ops c [] in
@@ -426,6 +431,9 @@ module _ (W : CompoundRun → Type 0) (left : (c : CompoundRun) → W c → (c.o
     where
       not_so : false ≡ true → ⊥
       not_so e = absurd cc
+
+  pub go_out : (m : MdsValue) → Keeps IsSo m (calls_out [] m)
+  go_out m = out_walk IsSo (out_of IsSo HeardAny W cases) [] m
 
   -- the calls that go out behind it
   pub out_keeps : (m : MdsValue) (s : MdsStep) → Keeps IsSo m s → Keeps IsSo m (and_then s (calls_out []))
@@ -451,7 +459,7 @@ module _ (W : CompoundRun → Type 0) (left : (c : CompoundRun) → W c → (c.o
   begin_same now (Resilvers file) m none = λ es ss i. i
 
   runs_none : (now : ℕ) (input : MdsInput) (m : MdsValue) → BringsNone input → RunsSo IsSo HeardAny W cases waiting now input m
-  runs_none now (Hears from bytes) m none = (λ xid c is. absurd (none xid c is), λ given is es ss i. sends m es ss (Answers from given) (no_reply (Answers from given) refl) i)
+  runs_none now (Hears from bytes) m none = (λ xid c is. absurd (none xid c is), λ given is es ss i. sends m es ss (Answers from given) (no_reply m.sessions (Answers from given) refl) i)
   runs_none now (IsTimedOut to) m none = tt
   runs_none now IsTick m none = tt
   runs_none now (RecallsFile file) m none = tt

@@ -1,6 +1,6 @@
 -- What a reply to a client's request on a slot stands on, in every run of a metadata server to which clients of this cluster call (RFC 8881,
 -- sections 2.10.6, 18.43, 18.44 and 18.46).
-use Rattle.std.specs.Prelude.{◌≡◌, ℕ, ◌+◌, ◌<◌, ◌≤◌, ◌^◌, ◌⊎◌, Bool, true, false, ◌==◌, List, [], ◌∷◌, ◌++◌, length, map, Some}
+use Rattle.std.specs.Prelude.{◌≡◌, ℕ, ◌+◌, ◌<◌, ◌≤◌, ◌^◌, ◌⊎◌, Bool, true, false, ◌==◌, List, [], ◌∷◌, ◌++◌, length, map, Option, Some, None, slice_get}
 use Rattle.std.specs.List.{AllByRecursion, list_any}
 use Rattle.ff_xdr.specs.Form.{Fits}
 use Rattle.rpc_record.specs.Replies.{RpcReply}
@@ -18,7 +18,7 @@ use Rattle.nfs4_types.specs.declared.stateid.Stateid.{Stateid}
 use Rattle.nfs4_types.specs.declared.status.Stat4.{Stat4}
 use Rattle.nfs4_types.specs.declared.status.Stat4.TheVariants as stat
 use Rattle.nfs4_types.specs.Stateids.{layout_stateid_of, three_words}
-use Rattle.nfs4_session.specs.Clients.{client_in}
+use Rattle.nfs4_session.specs.Clients.{SessionState, client_in, session_of}
 use Rattle.table_slots.specs.TableSlots.{is_of_session}
 use Rattle.device_addr.specs.Universal.{AddressValue}
 use Rattle.same_layout.specs.SameLayout.{unseen}
@@ -37,7 +37,7 @@ use Rattle.mds_rule.specs.ServedFiles.{has_fresh}
 use Rattle.mds_laws.specs.MdsRuns.{MdsInput, Hears, MdsEvent, after_event}
 use Rattle.mds_laws.proofs.Lists.{In}
 use Rattle.mds_replies.specs.ClientCalls.{IsCallIn, IsCallFrom, server_after, IsEventOf}
-use Rattle.nfs4_session.specs.Slots.{Refuses}
+use Rattle.nfs4_session.specs.Slots.{SlotState, Refuses, is_in_progress}
 use Rattle.nfs4_session.specs.Requests.{request_answer}
 use Rattle.nfs4_session.specs.Bindings.{after_binding}
 use Rattle.mds_replies.specs.SlotReplies.{request_of, TookEffect, count_taken}
@@ -171,11 +171,29 @@ pub data IsUnknown (servers : List AddressValue) (mirrors : ℕ) (events before 
   IsOutOfOrder : answer ≡ Refused 10063 → IsRefusedWith servers mirrors before session number stat.SeqMisordered → IsUnknown servers mirrors events before session number answer
   IsUnread : TookEffectAmong servers mirrors events session number → IsUnknown servers mirrors events before session number answer
 
--- What the slot is told by the reply, among these events, to a request that came behind `before`: the request of its number took effect; it did,
--- and its reply was not kept; it is refused for now; or it is unknown.
+-- ---- a slot that is free
+
+-- the first slot of a session, where it stands
+abbrev pub first_slot : Option SessionState → Option SlotState
+first_slot None = None
+first_slot (Some session) = slice_get session.slots 0
+
+-- of the session that has this id
+abbrev pub slot_of : MdsValue → SessionId → Option SlotState
+slot_of m session = first_slot (session_of m.sessions.clients session)
+
+-- The slot has gone on to another number, or its request of this number is not in progress: it is free for the next one (RFC 8881, section
+-- 2.10.6.1).
+abbrev pub IsFreeAt : MdsValue → SessionId → ℕ → Type 0
+IsFreeAt m session number = (slot : SlotState) → slot_of m session ≡ Some slot → slot.last ≡ number → is_in_progress slot.reply ≡ false
+
+-- What the slot is told by the reply, in the last of these events, to a request that came behind `before`: the request of its number took effect;
+-- it did, and its reply was not kept; it is refused for now; or it is unknown. A request that took effect is not in progress any more behind the
+-- events.
 abbrev pub StandsByReport : List AddressValue → ℕ → List MdsEvent → List MdsEvent → SessionId → ℕ → SlotCallValue → MdsAnswerValue → SlotReport → Type 0
-StandsByReport servers mirrors events before session number call answer Taken = (t : TookEffectAmong servers mirrors events session number) × MeansTaken servers mirrors events session number call answer t
-StandsByReport servers mirrors events before session number call answer Uncached = TookEffectAmong servers mirrors events session number
+StandsByReport servers mirrors events before session number call answer Taken =
+    (t : TookEffectAmong servers mirrors events session number) × MeansTaken servers mirrors events session number call answer t × IsFreeAt (server_after servers mirrors events) session number
+StandsByReport servers mirrors events before session number call answer Uncached = TookEffectAmong servers mirrors events session number × IsFreeAt (server_after servers mirrors events) session number
 StandsByReport servers mirrors events before session number call answer Delayed = Unit {0}
 StandsByReport servers mirrors events before session number call answer Unknown = IsUnknown servers mirrors events before session number answer
 

@@ -6,3 +6,4 @@ pub mod AnsweredRequests
 pub mod ReturnedPeriods
 pub mod GivenAnswers
 pub mod PeriodEntries
+pub mod SlotOrder

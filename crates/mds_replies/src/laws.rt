@@ -6,9 +6,11 @@ ghost use Rattle.mds_replies.specs.ClientIds.{IdsAreOwn, SessionsAreOwn};
 ghost use Rattle.mds_replies.specs.AnsweredRequests.{EachReplyStands};
 ghost use Rattle.mds_replies.specs.ReturnedPeriods.{ReturnsCome};
 ghost use Rattle.mds_replies.specs.GivenAnswers.{EachReplyIsWhole, EachAnswerIsNow, EachReplyIsAsked};
+ghost use Rattle.mds_replies.specs.SlotOrder.{SlotsStayFree, OrderIsByCount, CountsTookEffect, FirstIsFree, TakenAreCounted};
 ghost use Rattle.mds_replies.specs.PeriodEntries.{UidsEndOnce, PeriodsAreConfirmed, PeriodsBegin};
 
 use mds_laws::slot_law;
+use nfs4_session::table_law;
 
 /// A period goes on until its end is entered (RFC 8881, section 12.5.5), does not come back behind it, and is of one file
 /// and of one client (RFC 8435, section 2.2).
@@ -38,6 +40,22 @@ pub fn replies_law()
     ensures stands { EachReplyStands }
 {
     slot_law();
+    table_law();
+}
+
+/// What the count of a session's requests that took effect says of their numbers (RFC 8881, section 2.10.6.1): a slot that is
+/// free of a request that took effect stays so; a number that is refused with SEQ_MISORDERED is not the last one, nor the next
+/// one where the slot is free of the last; each number up to the count, and no other, is that of a request that took effect;
+/// and a slot on which none did has none in progress.
+pub fn order_law()
+    ensures stays { SlotsStayFree }
+    ensures misordered { OrderIsByCount }
+    ensures taken { CountsTookEffect }
+    ensures first { FirstIsFree }
+    ensures counted { TakenAreCounted }
+{
+    slot_law();
+    table_law();
 }
 
 /// A period ends as returned only by a LAYOUTRETURN of its client that takes effect and names it (RFC 8881, section 18.44),

@@ -4,5 +4,5 @@
 mod laws;
 
 pub use laws::{
-    answers_law, effect_law, entries_law, id_law, period_law, replies_law, returns_law,
+    answers_law, effect_law, entries_law, id_law, order_law, period_law, replies_law, returns_law,
 };
