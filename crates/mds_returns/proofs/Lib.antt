@@ -1,0 +1,4 @@
+pub mod LiveWithin
+pub mod WithinRuns
+pub mod EndPlaces
+pub mod EndsReturned

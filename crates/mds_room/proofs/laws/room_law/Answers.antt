@@ -1,0 +1,5 @@
+use Rattle.mds_room.proofs.RoomKept.{runs_have_room}
+use Rattle.mds_room.proofs.laws.room_law.Goals as goal
+
+pub returns : goal.returns
+returns c = record { room = runs_have_room }

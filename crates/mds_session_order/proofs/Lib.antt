@@ -1,0 +1,6 @@
+pub mod Numbered
+pub mod TableSteps
+pub mod TableFacts
+pub mod NewSessions
+pub mod TableWalk
+pub mod GoneClients
