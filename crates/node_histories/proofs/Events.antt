@@ -35,6 +35,7 @@ use Rattle.cluster_world.specs.Sent.{bytes_at_place}
 use Rattle.cluster_world.specs.ClusterWorlds.{ClusterState, entering, packets, acting, packet_comes, delivering, delivering_some, client_ticks, clients_tick, ticking, asking, verifier_after, may_start, with_verifier, rebooting, behind}
 use Rattle.node_histories.specs.Weaves.{IsUnseen, HasPacket}
 use Rattle.proper_servers.specs.ProperServers.{IsProper}
+use Rattle.node_histories.specs.ClientLives.{StraysIfLeft}
 use Rattle.node_histories.specs.NodeHistories.{is_client_entry, is_server_entry, mds_shown, MdsStory, ClientStory, EnteredByServer, SentByServer, IsRequestOfScript, IsInputOfScript, IsEventInRange, TellsTruth}
 use Rattle.node_histories.proofs.MdsKinds.{IsMdsEntry}
 use Rattle.node_histories.proofs.MdsEntries.{mds_kinds}
@@ -48,6 +49,7 @@ use Rattle.node_histories.proofs.Origins.{HaveOrigins, both_origins, mds_shower}
 use Rattle.node_histories.proofs.Numbering.{IsNoPacket, numbered_none, numbered_act, has_packet}
 use Rattle.node_histories.proofs.ElseEvents.{EventElse}
 use Rattle.node_histories.proofs.Apart.{AreApart, apart_join, nones_apart, packets_apart, event_apart, packet_else}
+use Rattle.node_histories.proofs.Together.{acts_together}
 use Rattle.node_histories.proofs.Told.{ToldBy, IsTold, world_origins, others, mds_takes, client_takes, client_starts}
 
 -- what a machine adds has no packet from the metadata server to itself
@@ -77,18 +79,18 @@ module _ (w : ClusterState) (i : IsTold w) where
 
   module _ (n : ℕ) (c : ClientValue) (at : nth w.machines.clients n ≡ Some c) where
     -- an input
-    takes_input : (input : ClientInput) (front : List Entry) → IsInputOfScript input → AreWorldEntries front → Part (client_shower n) w.journal (HearsInput input ∷ []) front → DidTold front n (input_step input c)
-    takes_input input front of_script world came =
+    takes_input : (input : ClientInput) (front : List Entry) → IsInputOfScript input → StraysIfLeft c input → AreWorldEntries front → Part (client_shower n) w.journal (HearsInput input ∷ []) front → DidTold front n (input_step input c)
+    takes_input input front of_script left world came =
         let s : ClientStep = input_step input c in
         let kinds : AllByRecursion (λ e. is_client_entry e ≡ true) (input_step input c).entries = (input_enters input c).entries in
         client_takes w.machines.clients w.verifiers w.machines.mds w.sent w.journal i n c at input (w.sent + length (map spelled_send s.sends)) (front ++ (s.entries ++ packets_of (Client n) w.sent (map spelled_send s.sends)))
-        of_script (acts (client_shower n) w.journal (HearsInput input) front s.entries w.sent s.sends came kinds)
+        of_script left (acts (client_shower n) w.journal (HearsInput input) front s.entries w.sent s.sends came kinds)
         (numbered_act (Client n) w.sent front s.entries (map spelled_send s.sends) (worlds_none front world) (clients_none s.entries kinds))
         (act_apart (Client n) w.sent front s.entries (map spelled_send s.sends) (worlds_none front world) (clients_none s.entries kinds) (packets_apart (Client n) w.sent (map spelled_send s.sends) tt))
 
     -- one that has no entry
-    takes_unseen : (input : ClientInput) → IsInputOfScript input → Part (client_shower n) w.journal (HearsInput input ∷ []) [] → DidTold [] n (input_step input c)
-    takes_unseen input of_script came = takes_input input [] of_script tt came
+    takes_unseen : (input : ClientInput) → IsInputOfScript input → StraysIfLeft c input → Part (client_shower n) w.journal (HearsInput input ∷ []) [] → DidTold [] n (input_step input c)
+    takes_unseen input of_script left came = takes_input input [] of_script left tt came
 
     -- nothing
     does_none : DidTold [] n (client.sends_none c)
@@ -100,13 +102,13 @@ module _ (w : ClusterState) (i : IsTold w) where
     leaves_told false =
         let same : w.sent ≡ w.sent + 0 = omega arith in
         subst (λ (k : ℕ). ToldBy (slice_set w.machines.clients (n - 1) (turned c)) w.verifiers w.machines.mds k (w.journal ++ entry.Turned n ∷ [])) same
-        (client_takes w.machines.clients w.verifiers w.machines.mds w.sent w.journal i n c at LeftProtocol w.sent (entry.Turned n ∷ []) tt
+        (client_takes w.machines.clients w.verifiers w.machines.mds w.sent w.journal i n c at LeftProtocol w.sent (entry.Turned n ∷ []) tt tt
         (joins (client_shower n) w.journal (HearsInput LeftProtocol ∷ []) [] [] (entry.Turned n ∷ []) (comes_unseen (client_shower n) w.journal (HearsInput LeftProtocol) refl)
         (world_enters (client_shower n) (w.journal ++ []) (entry.Turned n) refl)) refl (tt, tt))
 
-    astray_told : (place at : ℕ) (bytes : List ℕ) → IsInputOfScript (Strayed place at bytes) → (b : Bool) → DidTold [] n (cond {A = ClientStep} b (strays c.file c.layout place at bytes c) (client.sends_none c))
-    astray_told place at bytes of_script true = takes_unseen (Strayed place at bytes) of_script (comes_unseen (client_shower n) w.journal (HearsInput (Strayed place at bytes)) refl)
-    astray_told place at bytes of_script false = does_none
+    astray_told : (place at : ℕ) (bytes : List ℕ) → IsInputOfScript (Strayed place at bytes) → (b : Bool) → c.has_left ≡ b → DidTold [] n (cond {A = ClientStep} b (strays c.file c.layout place at bytes c) (client.sends_none c))
+    astray_told place at bytes of_script true left = takes_unseen (Strayed place at bytes) of_script left (comes_unseen (client_shower n) w.journal (HearsInput (Strayed place at bytes)) refl)
+    astray_told place at bytes of_script false left = does_none
 
   -- whoever is there
   abbrev pub ActTold : List Entry → ℕ → (ClientValue → ClientStep) → Option ClientValue → Type 0
@@ -124,19 +126,19 @@ module _ (w : ClusterState) (i : IsTold w) where
 
   pub asks_so : (n : ℕ) (asked : UserRequest) → IsRequestOfScript asked → IsTold (asking n asked w)
   asks_so n asked of_script =
-      client_acts_so n (client_requested asked) (λ c at. takes_unseen n c at (Requested asked) of_script (comes_unseen (client_shower n) w.journal (HearsInput (Requested asked)) refl))
+      client_acts_so n (client_requested asked) (λ c at. takes_unseen n c at (Requested asked) of_script tt (comes_unseen (client_shower n) w.journal (HearsInput (Requested asked)) refl))
 
   pub leaves_so : (n : ℕ) → IsTold (acting (Client n) (client_acts n (leaves n) w.machines) w)
   leaves_so n = client_acts_so n (leaves n) (λ c at. leaves_told n c at c.has_left)
 
   pub astray_so : (n place at : ℕ) (bytes : List ℕ) → IsInputOfScript (Strayed place at bytes) → IsTold (acting (Client n) (client_acts n (goes_astray place at bytes) w.machines) w)
-  astray_so n place at bytes of_script = client_acts_so n (goes_astray place at bytes) (λ c there. astray_told n c there place at bytes of_script c.has_left)
+  astray_so n place at bytes of_script = client_acts_so n (goes_astray place at bytes) (λ c there. astray_told n c there place at bytes of_script c.has_left refl)
 
   pub client_late_so : (n : ℕ) (to : NodeId) → IsTold (acting (Client n) (client_acts n (client_timed_out to) w.machines) w)
-  client_late_so n to = client_acts_so n (client_timed_out to) (λ c at. takes_unseen n c at (TimeoutOf to) tt (comes_unseen (client_shower n) w.journal (HearsInput (TimeoutOf to)) refl))
+  client_late_so n to = client_acts_so n (client_timed_out to) (λ c at. takes_unseen n c at (TimeoutOf to) tt tt (comes_unseen (client_shower n) w.journal (HearsInput (TimeoutOf to)) refl))
 
   pub client_ticks_so : (n : ℕ) → IsTold (client_ticks n w)
-  client_ticks_so n = client_acts_so n (client_ticked w.now) (λ c at. takes_unseen n c at (Ticked w.now) tt (comes_unseen (client_shower n) w.journal (HearsInput (Ticked w.now)) refl))
+  client_ticks_so n = client_acts_so n (client_ticked w.now) (λ c at. takes_unseen n c at (Ticked w.now) tt tt (comes_unseen (client_shower n) w.journal (HearsInput (Ticked w.now)) refl))
 
   -- ---- a new start
 
@@ -182,6 +184,7 @@ module _ (w : ClusterState) (i : IsTold w) where
       let kinds : AllByRecursion IsMdsEntry s.entries = mds_kinds w.machines.mds e in
       mds_takes w.machines.clients w.verifiers w.machines.mds w.sent w.journal i e (w.sent + length (map mds.spelled_send s.sends)) (front ++ (s.entries ++ packets_of Mds w.sent (map mds.spelled_send s.sends)))
       (acts mds_shower w.journal (Comes e) front s.entries w.sent s.sends came (all_mds s.entries kinds))
+      (acts_together w.journal e front s.entries w.sent s.sends came (all_mds s.entries kinds))
       (numbered_act Mds w.sent front s.entries (map mds.spelled_send s.sends) (worlds_none front world) (all_mds_none s.entries kinds))
       (act_apart Mds w.sent front s.entries (map mds.spelled_send s.sends) (worlds_none front world) (all_mds_none s.entries kinds) (event_apart i.mds w.machines.mds w.journal i.mds_is i.apart e its w.sent))
 
@@ -227,7 +230,7 @@ module _ (w : ClusterState) (i : IsTold w) where
     client_hears n has =
         by_client (entry.Delivered number ∷ []) (refl, tt) n (client_recorded from bytes w.now)
         (λ c at.
-        takes_input n c at (Recorded from bytes w.now) (entry.Delivered number ∷ []) tt (refl, tt) (comes_by (client_shower n) w.journal (HearsInput (Recorded from bytes w.now)) number from bytes refl has))
+        takes_input n c at (Recorded from bytes w.now) (entry.Delivered number ∷ []) tt tt (refl, tt) (comes_by (client_shower n) w.journal (HearsInput (Recorded from bytes w.now)) number from bytes refl has))
         (nth w.machines.clients n) refl
 
     -- to the metadata server

@@ -13,6 +13,7 @@ pub mod Parts
 pub mod Lives
 pub mod Stories
 pub mod Origins
+pub mod Together
 pub mod MdsStories
 pub mod Numbering
 pub mod Told

@@ -10,7 +10,7 @@ use Rattle.client_state.specs.ClientSends.{ClientSend, spelled_send}
 use Rattle.client_laws.specs.ClientHistory.{ClientInput, HistoryItem, Enters, Sends, input_step, items_of, client_history, client_after}
 use Rattle.cluster_world.specs.ClusterWorlds.{verifier_after}
 use Rattle.node_histories.specs.Weaves.{WeaveStep, entries_in, items_in, AreWoven}
-use Rattle.node_histories.specs.ClientLives.{client_shown, Life, start_of, IsLife, IsOneOf, AreLives}
+use Rattle.node_histories.specs.ClientLives.{client_shown, Life, start_of, IsLife, IsOneOf, AreLives, StraysIfLeft, HaveStraysLeft}
 use Rattle.node_histories.specs.NodeHistories.{is_client_entry, ClientStory, IsClientStory, IsInputOfScript, LivesOfScript}
 use Rattle.node_histories.proofs.WeaveLemmas.{entries_join, items_join, woven_join, passing, passed_entries, passed_items, passed_woven}
 use Rattle.node_histories.proofs.Parts.{Shower, Part, all_joined}
@@ -92,10 +92,14 @@ later s grown more begun steps l (inr old) = record { grown = l; its = inr old; 
 older_later : (s : ClientStory) (new : Life) → StoryLater s (record { newest = new; older = s.newest ∷ s.older })
 older_later s new l its = record { grown = l; its = inr its; begun = refl; more = []; steps = sym (append-nil l.steps) }
 
+strays_join : (c : ClientValue) (inputs more : List ClientInput) → HaveStraysLeft c inputs → HaveStraysLeft (client_after c inputs) more → HaveStraysLeft c (inputs ++ more)
+strays_join c [] more first second = second
+strays_join c (input ∷ inputs) more first second = (first.0, strays_join (input_step input c).client inputs more first.1 second)
+
 module _ (n verifier : ℕ) (s : ClientStory) (c : ClientValue) (journal : List Entry) (i : IsClientStory n verifier s c journal) (asked : LivesOfScript s.newest s.older) where
-  goes_by : (inputs : List ClientInput) (more : List Entry) (steps : List (WeaveStep HistoryItem)) → AllByRecursion IsInputOfScript inputs → items_in steps ≡ client_history c inputs → entries_in steps ≡ more
+  goes_by : (inputs : List ClientInput) (more : List Entry) (steps : List (WeaveStep HistoryItem)) → AllByRecursion IsInputOfScript inputs → HaveStraysLeft c inputs → items_in steps ≡ client_history c inputs → entries_in steps ≡ more
       → AreWoven client_shown (Client n) journal steps → TakesPart n verifier s (client_after c inputs) (journal ++ more) steps
-  goes_by inputs more steps of_script items entries woven =
+  goes_by inputs more steps of_script left items entries woven =
       let l : Life = s.newest in
       let grown : Life = with_steps s.newest inputs steps in
       let was : IsLife n s.newest = newest_is n s.newest s.older i.lives in
@@ -114,7 +118,11 @@ module _ (n verifier : ℕ) (s : ClientStory) (c : ClientValue) (journal : List 
         go = record {
           new = record { newest = grown; older = s.older };
           is = record {
-            lives = newest_grows n l grown s.older refl refl refl (record { history = split ∙ (here ∙ (before ∙ behind)); woven = all }) i.lives;
+            lives = newest_grows n l grown s.older refl refl refl (record {
+              history = split ∙ (here ∙ (before ∙ behind));
+              woven = all;
+              strays = strays_join from l.inputs inputs was.strays (subst (λ (d : ClientValue). HaveStraysLeft d inputs) (sym i.client) left);
+            }) i.lives;
             client = after_joins from l.inputs inputs ∙ ap (λ (d : ClientValue). client_after d inputs) i.client;
             verifier_is = i.verifier_is;
             told = parts ∙ told;
@@ -127,13 +135,13 @@ module _ (n verifier : ℕ) (s : ClientStory) (c : ClientValue) (journal : List 
       }
 
   -- an input
-  pub takes : (input : ClientInput) (more : List Entry) → IsInputOfScript input → (p : Part (client_shower n) journal (items_of input (input_step input c)) more)
+  pub takes : (input : ClientInput) (more : List Entry) → IsInputOfScript input → StraysIfLeft c input → (p : Part (client_shower n) journal (items_of input (input_step input c)) more)
       → TakesPart n verifier s (input_step input c).client (journal ++ more) p.steps
-  takes input more of_script p = goes_by (input ∷ []) more p.steps (of_script, tt) (p.items_are ∙ sym (append-nil (items_of input (input_step input c)))) p.entries_are p.woven
+  takes input more of_script left p = goes_by (input ∷ []) more p.steps (of_script, tt) (left, tt) (p.items_are ∙ sym (append-nil (items_of input (input_step input c)))) p.entries_are p.woven
 
   -- entries of others
   pub passes : (more : List Entry) → StoryGoes n verifier s c (journal ++ more)
-  passes more = (goes_by [] more (passing HistoryItem more) tt (passed_items HistoryItem more) (passed_entries HistoryItem more) (passed_woven HistoryItem client_shown (Client n) journal more)).go
+  passes more = (goes_by [] more (passing HistoryItem more) tt tt (passed_items HistoryItem more) (passed_entries HistoryItem more) (passed_woven HistoryItem client_shown (Client n) journal more)).go
 
   -- a new start, of one that has not left
   pub starts_again : c.has_left ≡ false → StoryGoes n (verifier_after (Some verifier)) s (fresh_client n (verifier_after (Some verifier)) c.next_xid) (journal ++ Rebooted n ∷ [])
@@ -143,7 +151,7 @@ module _ (n verifier : ℕ) (s : ClientStory) (c : ClientValue) (journal : List 
         new = record { newest = l; older = s.newest ∷ s.older };
         is = record {
           lives = (
-            record { history = refl; woven = tt },
+            record { history = refl; woven = tt; strays = tt },
             record {
               stayed = ap (λ (d : ClientValue). d.has_left) i.client ∙ stays;
               verifier = ap (λ (v : ℕ). verifier_after (Some v)) (sym i.verifier_is);

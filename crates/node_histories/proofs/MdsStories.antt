@@ -5,11 +5,12 @@ use Rattle.cluster_model.specs.declared.ids.NodeId.TheVariants.{Mds}
 use Rattle.cluster_model.specs.declared.entry.Entry.{Entry}
 use Rattle.mds_rule.specs.MdsStates.{MdsValue, new_mds}
 use Rattle.mds_laws.specs.MdsRuns.{MdsEvent, after_event, run_from}
-use Rattle.mds_histories.specs.MdsHistory.{MdsItem, items_of, mds_history}
+use Rattle.mds_histories.specs.MdsHistory.{MdsItem, Comes, Enters, items_of, mds_history}
 use Rattle.node_histories.specs.Weaves.{WeaveStep, entries_in, items_in, AreWoven}
-use Rattle.node_histories.specs.NodeHistories.{mds_shown, MdsStory, IsMdsStory}
+use Rattle.node_histories.specs.NodeHistories.{AreTogether, mds_shown, MdsStory, IsMdsStory}
 use Rattle.node_histories.proofs.WeaveLemmas.{entries_join, items_join, woven_join, passing, passed_entries, passed_items, passed_woven}
 use Rattle.node_histories.proofs.Parts.{Part}
+use Rattle.node_histories.proofs.Together.{together_join, passed_together}
 use Rattle.node_histories.proofs.Origins.{MdsLater, mds_shower}
 
 -- ---- runs and histories go on by an event
@@ -43,9 +44,16 @@ module _ (s : MdsStory) (m : MdsValue) (journal : List Entry) (i : IsMdsStory s 
   woven_on : (steps : List (WeaveStep MdsItem)) → AreWoven mds_shown Mds journal steps → AreWoven mds_shown Mds [] (s.steps ++ steps)
   woven_on steps woven = woven_join mds_shown Mds [] s.steps steps i.woven (subst (λ (j : List Entry). AreWoven mds_shown Mds j steps) (sym i.told) woven)
 
+  -- an event brings what came first
+  came_first : {e : MdsEvent} {items : List MdsItem} (y : Entry) (rest : List MdsItem) → Comes e ∷ items ≡ Enters y ∷ rest → ⊥
+  came_first y rest is = absurd cc
+
+  none_there : (y : Entry) (rest : List MdsItem) → [] ≡ Enters y ∷ rest → ⊥
+  none_there y rest is = absurd cc
+
   -- an event
-  pub takes : (e : MdsEvent) (more : List Entry) (p : Part mds_shower journal (items_of e (after_event e m)) more) → MdsTakes s (after_event e m).mds (journal ++ more) p.steps
-  takes e more p =
+  pub takes : (e : MdsEvent) (more : List Entry) (p : Part mds_shower journal (items_of e (after_event e m)) more) → AreTogether p.steps → MdsTakes s (after_event e m).mds (journal ++ more) p.steps
+  takes e more p together =
       let from : MdsValue = new_mds s.servers s.mirrors in
       let there : mds_history from s.events ++ items_of e (after_event e (run_from from s.events).mds) ≡ mds_history from s.events ++ items_of e (after_event e m) =
       ap (λ (x : MdsValue). mds_history from s.events ++ items_of e (after_event e x)) i.mds in
@@ -58,6 +66,7 @@ module _ (s : MdsStory) (m : MdsValue) (journal : List Entry) (i : IsMdsStory s 
             mds = run_last from s.events e ∙ ap (λ (x : MdsValue). (after_event e x).mds) i.mds;
             history = history_last from s.events e ∙ (there ∙ (before ∙ behind));
             woven = woven_on p.steps p.woven;
+            together = together_join s.steps p.steps i.together together (λ y rest is. absurd (came_first y rest (sym p.items_are ∙ is)));
             told = told_on p.steps more p.entries_are;
           };
           later = record { more = p.steps; steps = refl };
@@ -73,6 +82,7 @@ module _ (s : MdsStory) (m : MdsValue) (journal : List Entry) (i : IsMdsStory s 
       mds = i.mds;
       history = i.history ∙ (sym (append-nil (items_in s.steps)) ∙ (ap (λ (l : List MdsItem). items_in s.steps ++ l) (sym (passed_items MdsItem more)) ∙ sym (items_join s.steps (passing MdsItem more))));
       woven = woven_on (passing MdsItem more) (passed_woven MdsItem mds_shown Mds journal more);
+      together = together_join s.steps (passing MdsItem more) i.together (passed_together more) (λ y rest is. absurd (none_there y rest (sym (passed_items MdsItem more) ∙ is)));
       told = told_on (passing MdsItem more) more (passed_entries MdsItem more);
     };
     later = record { more = passing MdsItem more; steps = refl };

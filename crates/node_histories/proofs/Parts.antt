@@ -50,7 +50,7 @@ pub record Part {I S : Type 0} (w : Shower I S) (journal : List Entry) (items : 
   pub own : AllByRecursion (StepIsOwn w) steps
 
 module _ {I S : Type 0} (w : Shower I S) where
-  pub joins : (journal : List Entry) (a b : List I) (more further : List Entry) → Part w journal a more → Part w (journal ++ more) b further → Part w journal (a ++ b) (more ++ further)
+  abbrev pub joins : (journal : List Entry) (a b : List I) (more further : List Entry) → Part w journal a more → Part w (journal ++ more) b further → Part w journal (a ++ b) (more ++ further)
   joins journal a b more further p q = record {
     steps = p.steps ++ q.steps;
     items_are = items_join p.steps q.steps ∙ (ap (λ (l : List I). l ++ items_in q.steps) p.items_are ∙ ap (λ (l : List I). a ++ l) q.items_are);
@@ -77,7 +77,7 @@ module _ {I S : Type 0} (w : Shower I S) where
   pub world_enters : (journal : List Entry) (e : Entry) → is_world_entry e ≡ true → Part w journal [] (e ∷ [])
   world_enters journal e is = record { steps = Passes e ∷ []; items_are = refl; entries_are = refl; woven = tt; own = (is, tt) }
 
-  pub enters_all : (journal entries : List Entry) → AllByRecursion w.Kind entries → Part w journal (map w.enter entries) entries
+  abbrev pub enters_all : (journal entries : List Entry) → AllByRecursion w.Kind entries → Part w journal (map w.enter entries) entries
   enters_all journal [] kinds = record { steps = []; items_are = refl; entries_are = refl; woven = tt; own = tt }
   enters_all journal (e ∷ entries) kinds =
       let p : Part w (journal ++ e ∷ []) (map w.enter entries) entries = enters_all (journal ++ e ∷ []) entries kinds.1 in
@@ -103,7 +103,7 @@ module _ {I S : Type 0} (w : Shower I S) where
       }
 
   -- what came, what is entered then, and what is sent
-  pub acts : (journal : List Entry) (item : I) (front entries : List Entry) (sent : ℕ) (sends : List S) → Part w journal (item ∷ []) front → AllByRecursion w.Kind entries
+  abbrev pub acts : (journal : List Entry) (item : I) (front entries : List Entry) (sent : ℕ) (sends : List S) → Part w journal (item ∷ []) front → AllByRecursion w.Kind entries
       → Part w journal (item ∷ (map w.enter entries ++ map w.send sends)) (front ++ (entries ++ packets_of w.node sent (map w.spell sends)))
   acts journal item front entries sent sends came kinds =
       joins journal (item ∷ []) (map w.enter entries ++ map w.send sends) front (entries ++ packets_of w.node sent (map w.spell sends)) came

@@ -20,7 +20,7 @@ first_story = record { newest = first_life; older = [] }
 all_start : (first count : ℕ) → AreClientStories first (replicate count first_story) (map (λ n. fresh_client n 1 1) (range_with_len first count)) (replicate count 1) []
 all_start first zero = tt
 all_start first (suc count) =
-    (record { lives = (record { history = refl; woven = tt }, record { verifier = refl; first_xid = refl; begins = refl }); client = refl; verifier_is = refl; told = refl }, all_start (first + 1) count)
+    (record { lives = (record { history = refl; woven = tt; strays = tt }, record { verifier = refl; first_xid = refl; begins = refl }); client = refl; verifier_is = refl; told = refl }, all_start (first + 1) count)
 
 none_asked : (count : ℕ) → AllByRecursion (λ (s : ClientStory). LivesOfScript s.newest s.older) (replicate count first_story)
 none_asked zero = tt
@@ -42,7 +42,7 @@ begins servers mirrors clients =
       clients = all_start 1 clients;
       asked = none_asked clients;
       mds = mds;
-      mds_is = record { mds = refl; history = refl; woven = tt; told = refl };
+      mds_is = record { mds = refl; history = refl; woven = tt; together = tt; told = refl };
       origins = none_there (replicate clients first_story) mds;
       numbers = refl;
       apart = none_itself;

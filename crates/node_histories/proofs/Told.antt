@@ -12,7 +12,8 @@ use Rattle.mds_histories.specs.MdsHistory as mds
 use Rattle.cluster_machines.specs.Machines.{nth}
 use Rattle.cluster_world.specs.ClusterWorlds.{ClusterState, verifier_after}
 use Rattle.node_histories.specs.Weaves.{entries_in}
-use Rattle.node_histories.specs.NodeHistories.{MdsStory, IsMdsStory, ClientStory, AreClientStories, IsClientStory, IsInputOfScript, is_world_entry, HasLife, EnteredByWorld, AreNumbered, IsToldByNodes}
+use Rattle.node_histories.specs.ClientLives.{StraysIfLeft}
+use Rattle.node_histories.specs.NodeHistories.{AreTogether, MdsStory, IsMdsStory, ClientStory, AreClientStories, IsClientStory, IsInputOfScript, is_world_entry, HasLife, EnteredByWorld, AreNumbered, IsToldByNodes}
 use Rattle.node_histories.proofs.Parts.{Part, all_there}
 use Rattle.node_histories.proofs.Lives.{client_shower, StoryGoes, TakesPart, takes, starts_again}
 use Rattle.node_histories.proofs.Stories.{AreOfScript, at_number, numbered_so, count_from_1, set_there, StoryAt, story_at, StoriesGo, StoriesGoAt, all_pass, one_goes}
@@ -65,11 +66,11 @@ module _ (clients : List ClientValue) (verifiers : List ℕ) (m : MdsValue) (sen
       grown clients verifiers m sent' more go g (new go.new g.new) numbers apart
 
   -- an event of the metadata server
-  pub mds_takes : (e : MdsEvent) (sent' : ℕ) (more : List Entry) → Part mds_shower journal (mds.items_of e (after_event e m)) more → AreNumbered sent more sent' → AreApart more
+  pub mds_takes : (e : MdsEvent) (sent' : ℕ) (more : List Entry) (p : Part mds_shower journal (mds.items_of e (after_event e m)) more) → AreTogether p.steps → AreNumbered sent more sent' → AreApart more
       → ToldBy clients verifiers (after_event e m).mds sent' (journal ++ more)
-  mds_takes e sent' more p numbers apart =
+  mds_takes e sent' more p together numbers apart =
       let go : StoriesGo 1 i.stories clients verifiers (journal ++ more) = all_pass 1 i.stories clients verifiers journal more i.are i.asked in
-      let t : story.MdsTakes i.mds (after_event e m).mds (journal ++ more) p.steps = story.takes i.mds m journal i.mds_is e more p in
+      let t : story.MdsTakes i.mds (after_event e m).mds (journal ++ more) p.steps = story.takes i.mds m journal i.mds_is e more p together in
       grown clients verifiers (after_event e m).mds sent' more go t.go (mds_origins go.new t.go.new journal (mds.items_of e (after_event e m)) more p i.mds.steps t.steps i.mds_is.told) numbers apart
 
   module _ (n : ℕ) (c : ClientValue) (at : nth clients n ≡ Some c) where
@@ -94,11 +95,11 @@ module _ (clients : List ClientValue) (verifiers : List ℕ) (m : MdsValue) (sen
         one_goes 1 (n - 1) i.stories clients verifiers journal more s.story d v i.are i.asked s.there h
 
     -- an input of a client
-    pub client_takes : (input : ClientInput) (sent' : ℕ) (more : List Entry) → IsInputOfScript input → Part (client_shower n) journal (items_of input (input_step input c)) more → AreNumbered sent more sent' → AreApart more
+    pub client_takes : (input : ClientInput) (sent' : ℕ) (more : List Entry) → IsInputOfScript input → StraysIfLeft c input → Part (client_shower n) journal (items_of input (input_step input c)) more → AreNumbered sent more sent' → AreApart more
         → ToldBy (slice_set clients (n - 1) (input_step input c).client) verifiers m sent' (journal ++ more)
-    client_takes input sent' more of_script p numbers apart =
+    client_takes input sent' more of_script left p numbers apart =
         let s : PlacedStory = placed in
-        let t : TakesPart n s.verifier s.story (input_step input c).client (journal ++ more) p.steps = takes n s.verifier s.story c journal (story_is s) s.asked input more of_script p in
+        let t : TakesPart n s.verifier s.story (input_step input c).client (journal ++ more) p.steps = takes n s.verifier s.story c journal (story_is s) s.asked input more of_script left p in
         let x : StoriesGoAt 1 (n - 1) i.stories (slice_set clients (n - 1) (input_step input c).client) (slice_set verifiers (n - 1) s.verifier) (journal ++ more) t.go.new =
         goes_there s s.verifier (input_step input c).client more t.go in
         let g : story.MdsGoes i.mds m (journal ++ more) = story.passes i.mds m journal i.mds_is more in

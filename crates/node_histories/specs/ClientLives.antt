@@ -1,11 +1,11 @@
 -- The lives of a client of a world: each start of it, with all that came to it until the next, and where its history stands in the journal.
-use Rattle.std.specs.Prelude.{◌≡◌, ℕ, false, List, [], ◌∷◌, ◌++◌, Some, ◌⊎◌}
+use Rattle.std.specs.Prelude.{◌≡◌, ℕ, true, false, List, [], ◌∷◌, ◌++◌, Some, ◌⊎◌}
 use Rattle.cluster_model.specs.declared.ids.NodeId.TheVariants.{Client}
 use Rattle.cluster_model.specs.declared.entry.Entry.{Entry}
 use Rattle.cluster_model.specs.declared.entry.Entry.TheVariants.{Rebooted}
 use Rattle.client_state.specs.ClientStates.{ClientValue, fresh_client}
 use Rattle.client_state.specs.ClientSends.{spelled_send}
-use Rattle.client_laws.specs.ClientHistory.{ClientInput, Requested, Recorded, TimeoutOf, Ticked, LeftProtocol, Strayed, HistoryItem, Hears, Enters, Sends, client_history, client_after}
+use Rattle.client_laws.specs.ClientHistory.{ClientInput, Requested, Recorded, TimeoutOf, Ticked, LeftProtocol, Strayed, HistoryItem, Hears, Enters, Sends, client_history, client_after, input_step}
 use Rattle.cluster_world.specs.ClusterWorlds.{verifier_after}
 use Rattle.node_histories.specs.Weaves.{ItemShown, IsUnseen, IsArrival, IsEntry, IsSending, WeaveStep, entries_in, items_in, AreWoven}
 
@@ -41,9 +41,23 @@ client_of n l = client_after (start_of n l) l.inputs
 abbrev pub journal_of : Life → List Entry
 journal_of l = l.begun ++ entries_in l.steps
 
+-- writes stray only from a client that has left the protocol (RFC 8435, section 2.2)
+abbrev pub StraysIfLeft : ClientValue → ClientInput → Type 0
+StraysIfLeft c (Requested request) = Unit {0}
+StraysIfLeft c (Recorded from bytes now) = Unit {0}
+StraysIfLeft c (TimeoutOf to) = Unit {0}
+StraysIfLeft c (Ticked now) = Unit {0}
+StraysIfLeft c LeftProtocol = Unit {0}
+StraysIfLeft c (Strayed place at bytes) = c.has_left ≡ true
+
+abbrev pub HaveStraysLeft : ClientValue → List ClientInput → Type 0
+HaveStraysLeft c [] = Unit {0}
+HaveStraysLeft c (input ∷ inputs) = StraysIfLeft c input × HaveStraysLeft (input_step input c).client inputs
+
 pub record IsLife (n : ℕ) (l : Life) : Type 0 where
   pub history : client_history (start_of n l) l.inputs ≡ items_in l.steps
   pub woven : AreWoven client_shown (Client n) l.begun l.steps
+  pub strays : HaveStraysLeft (start_of n l) l.inputs
 
 -- The first start has the verifier 1 and begins its calls with the number 1, with no entry before it. Each other begins behind the entry
 -- of the restart, with the next verifier, and its calls are numbered on; who has left the protocol does not start again.

@@ -25,7 +25,7 @@ use Rattle.client_laws.specs.ClientHistory.{ClientInput, HistoryItem}
 use Rattle.client_laws.specs.ClientHistory as client
 use Rattle.cluster_machines.specs.Machines.{nth}
 use Rattle.cluster_world.specs.ClusterWorlds.{ClusterState, new_cluster, behind}
-use Rattle.node_histories.specs.Weaves.{ItemShown, IsUnseen, IsArrival, IsEntry, IsSending, WeaveStep, entries_in, items_in, AreWoven, HasPacket, StandsAt}
+use Rattle.node_histories.specs.Weaves.{ItemShown, IsUnseen, IsArrival, IsEntry, IsSending, WeaveStep, Passes, Unseen, Seen, entries_in, items_in, AreWoven, HasPacket, StandsAt}
 use Rattle.node_histories.specs.ClientLives.{Life, client_of, journal_of, IsOneOf, AreLives}
 
 -- ---- the metadata server
@@ -42,6 +42,18 @@ mds_shown (Comes event) = input_shown event.input
 mds_shown (Enters entry) = IsEntry entry
 mds_shown (Sends send) = IsSending (spelled_send send).0 (spelled_send send).1
 
+-- The entries of one event stand together in the journal: where the next item behind an entry is an entry too, so is the journal's next.
+abbrev pub IsEntryNext : List (WeaveStep MdsItem) → Type 0
+IsEntryNext steps = (y : Entry) (more : List MdsItem) → items_in steps ≡ Enters y ∷ more → (rest : List Entry) × (entries_in steps ≡ y ∷ rest)
+
+abbrev pub AreTogether : List (WeaveStep MdsItem) → Type 0
+AreTogether [] = Unit {0}
+AreTogether (Passes e ∷ steps) = AreTogether steps
+AreTogether (Unseen item ∷ steps) = AreTogether steps
+AreTogether (Seen (Comes event) e ∷ steps) = AreTogether steps
+AreTogether (Seen (Enters x) e ∷ steps) = IsEntryNext steps × AreTogether steps
+AreTogether (Seen (Sends send) e ∷ steps) = AreTogether steps
+
 -- what has come to it, and how its history goes on in the journal
 pub record MdsStory : Type 0 where
   pub servers : List AddressValue
@@ -53,6 +65,7 @@ pub record IsMdsStory (s : MdsStory) (m : MdsValue) (journal : List Entry) : Typ
   pub mds : (mds_run s.servers s.mirrors s.events).mds ≡ m
   pub history : mds_history (new_mds s.servers s.mirrors) s.events ≡ items_in s.steps
   pub woven : AreWoven mds_shown Mds [] s.steps
+  pub together : AreTogether s.steps
   pub told : entries_in s.steps ≡ journal
 
 -- ---- the clients
