@@ -22,7 +22,7 @@ use Rattle.client_records.proofs.Cases.{heard_mds, free, Cases}
 use Rattle.client_records.proofs.Told.{any_tells, any_covers}
 use Rattle.client_records.proofs.InputsKeep.{input_keeps}
 use Rattle.world_reads.proofs.Steps.{Splits, Longer, Shorter, splits}
-use Rattle.world_holders.specs.HolderPremises.{IsNotStrayed, StraysBehind}
+use Rattle.world_holders.proofs.HolderFacts.{IsNotStrayed, StraysBehind}
 
 -- ---- no other input makes one stray
 

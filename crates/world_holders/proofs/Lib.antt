@@ -1,3 +1,4 @@
+pub mod HolderFacts
 pub mod LowerLaws
 pub mod MuteClients
 pub mod CallNumbers

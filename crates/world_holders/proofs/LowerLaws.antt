@@ -13,7 +13,7 @@ use Rattle.node_histories.specs.NodeHistories.{IsToldByNodes}
 use Rattle.world_reads.specs.WorldReads.{IsJournalInRange}
 use Rattle.world_layouts.specs.WorldLayouts.{GrantsAreOnce, GrantsAreTold, UidsAreOwn, StateidsAreOnce, ReturnsAreSent, ReturnsHaveEnded}
 use Rattle.client_sessions.specs.EnteredFiles.{EntersForFile}
-use Rattle.world_holders.specs.HolderPremises.{EachRunOwnsPeriods, AreEntriesTogether, StraysHaveLeft}
+use Rattle.world_holders.proofs.HolderFacts.{EachRunOwnsPeriods, AreEntriesTogether, StraysHaveLeft}
 
 -- the laws of each run of a client
 pub record ClientLaws : Type 0 where

@@ -1,2 +1,1 @@
-pub mod HolderPremises
 pub mod WorldHolders

@@ -7,17 +7,14 @@ use Rattle.world_reads.specs.WorldReads.{IsJournalInRange}
 use Rattle.holder_parts.specs.HolderParts.{HoldersKeepParts}
 use Rattle.world_layouts.specs.WorldLayouts.{GrantsAreOnce}
 use Rattle.world_layouts.specs.LayoutsInOrder.{HasLayoutsInOrder}
-use Rattle.world_holders.specs.HolderPremises.{AreEntriesTogether, StraysHaveLeft}
 
 -- Fewer than 2^32 clients, and a journal of bytes; each layout is granted once, as the journal says, and to one life, and what ends as returned
--- was sent. The last two are not proved yet: the metadata server's entries of one event are not parted, and only clients that left stray.
+-- was sent.
 pub record HasOrder {w : ClusterState} (told : IsToldByNodes w) : Type 0 where
   pub few : length w.machines.clients < 2 ^ 32
   pub range : IsJournalInRange w.journal
   pub once : GrantsAreOnce told
   pub layouts : HasLayoutsInOrder told
-  pub together : AreEntriesTogether told
-  pub left : StraysHaveLeft told
 
 abbrev pub EachWorldKeepsParts : Type 0
 EachWorldKeepsParts = (boots : List ℕ) (w : ClusterState) → IsRunOf boots w → (told : IsToldByNodes w) → HasOrder told → HoldersKeepParts w.journal

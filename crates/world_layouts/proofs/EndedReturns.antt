@@ -54,7 +54,8 @@ use Rattle.mds_replies.specs.PeriodEntries.{IsBegun, UidsEndOnce}
 use Rattle.world_layouts.specs.WorldLayouts.{IsOneRequestEach, StartsAreFew, journal_at, ReturnsHaveEnded}
 use Rattle.world_layouts.proofs.LifeSends.{LifeSteps, hearing_from}
 use Rattle.world_layouts.proofs.HeardItems.{HeardReply, heard_reply}
-use Rattle.world_layouts.proofs.OwnEffects.{SplitAt, split_at, TookSo, took_so}
+use Rattle.world_layouts.proofs.OwnRequests.{SplitAt, split_at}
+use Rattle.world_layouts.proofs.OwnEffects.{TookSo, took_so}
 use Rattle.world_layouts.proofs.GrantedUids.{GrantTook, grant_took, IsMoment, moment_of, calls_to, one_period}
 use Rattle.world_layouts.proofs.ToldEntries.{ToldThen, told_then}
 use Rattle.world_layouts.proofs.ToldGrants.{GrantLaws, same_live}

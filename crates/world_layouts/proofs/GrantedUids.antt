@@ -31,7 +31,8 @@ use Rattle.world_layouts.proofs.LifeSends.{hearing_from, life_is}
 use Rattle.world_layouts.proofs.HeardCalls.{are_calls}
 use Rattle.world_layouts.proofs.HeardItems.{HeardReply, heard_reply}
 use Rattle.world_layouts.proofs.OwnIds.{IdLaws, IsIdOf, session_is_own, one_id}
-use Rattle.world_layouts.proofs.OwnEffects.{SplitAt, split_at, TookSo, took_so}
+use Rattle.world_layouts.proofs.OwnRequests.{SplitAt, split_at}
+use Rattle.world_layouts.proofs.OwnEffects.{TookSo, took_so}
 
 -- ---- a grant as a reply that was heard
 

@@ -80,9 +80,14 @@ module _ (laws : ReplyLaws) (boots : List ℕ) (w : ClusterState) (run : IsRunOf
     pub has : HasItem (items_in l.steps) (compound reply.xid name call)
     pub was : WasReplied t n l (before ++ compound reply.xid name call ∷ until) bytes now (behind ++ rest) reply name call
 
-  pub heard_reply : (n : ℕ) (l : Life) → HasLife t.stories n l → (past rest : List HistoryItem) → items_in l.steps ≡ past ++ rest → (xid : ℕ) (name : List ℕ) (call : MdsCallValue) (says : MdsReplyValue) (behind : List HistoryItem)
-      → IsHeard past xid name call says behind → HeardReply n l past name call says behind
-  heard_reply n l its past rest items xid name call says behind h =
+  -- under this number
+  pub record HeardUnder (n : ℕ) (l : Life) (past : List HistoryItem) (xid : ℕ) (name : List ℕ) (call : MdsCallValue) (says : MdsReplyValue) (behind : List HistoryItem) : Type 0 where
+    pub heard : HeardReply n l past name call says behind
+    pub number : heard.reply.xid ≡ xid
+
+  pub heard_under : (n : ℕ) (l : Life) → HasLife t.stories n l → (past rest : List HistoryItem) → items_in l.steps ≡ past ++ rest → (xid : ℕ) (name : List ℕ) (call : MdsCallValue) (says : MdsReplyValue) (behind : List HistoryItem)
+      → IsHeard past xid name call says behind → HeardUnder n l past xid name call says behind
+  heard_under n l its past rest items xid name call says behind h =
       let number : xid ≡ h.reply.xid = sym h.number in
       let split : past ≡ h.before ++ compound h.reply.xid name call ∷ (h.until ++ hearing_from Mds h.bytes h.now ∷ behind) =
       subst (λ (x : ℕ). past ≡ h.before ++ compound x name call ∷ (h.until ++ hearing_from Mds h.bytes h.now ∷ behind)) number h.split in
@@ -94,17 +99,24 @@ module _ (laws : ReplyLaws) (boots : List ℕ) (w : ClusterState) (run : IsRunOf
       subst (λ (x : ℕ). HasItem (items_in l.steps) (compound x name call)) number
       (subst (λ (x : List HistoryItem). HasItem x (compound xid name call)) (sym items) (in_more (compound xid name call ∷ []) past rest (heard_sent past xid name call says behind h))) in
       record {
-        before = h.before;
-        until = h.until;
-        bytes = h.bytes;
-        now = h.now;
-        rest = rest;
-        reply = h.reply;
-        past_is = joined;
-        says_so = h.says_so;
-        has = has;
-        was = was_answered n l its (h.before ++ compound h.reply.xid name call ∷ h.until) h.bytes h.now (behind ++ rest) whole h.reply h.reply_is name call has;
+        heard = record {
+          before = h.before;
+          until = h.until;
+          bytes = h.bytes;
+          now = h.now;
+          rest = rest;
+          reply = h.reply;
+          past_is = joined;
+          says_so = h.says_so;
+          has = has;
+          was = was_answered n l its (h.before ++ compound h.reply.xid name call ∷ h.until) h.bytes h.now (behind ++ rest) whole h.reply h.reply_is name call has;
+        };
+        number = h.number;
       }
+
+  pub heard_reply : (n : ℕ) (l : Life) → HasLife t.stories n l → (past rest : List HistoryItem) → items_in l.steps ≡ past ++ rest → (xid : ℕ) (name : List ℕ) (call : MdsCallValue) (says : MdsReplyValue) (behind : List HistoryItem)
+      → IsHeard past xid name call says behind → HeardReply n l past name call says behind
+  heard_reply n l its past rest items xid name call says behind h = (heard_under n l its past rest items xid name call says behind h).heard
 
   -- ---- what the reply to a request on a slot stands on
 

@@ -8,6 +8,9 @@ pub mod RepliesHeard
 pub mod OwnCalls
 pub mod HeardItems
 pub mod OwnIds
+pub mod OwnRequests
+pub mod MomentOrder
+pub mod OneRequest
 pub mod OwnEffects
 pub mod GrantedUids
 pub mod ToldEntries

@@ -164,7 +164,7 @@ module _ (laws : IdLaws) (boots : List ℕ) (w : ClusterState) (run : IsRunOf bo
 
     pub id_owner : (fuel : ℕ) (past rest : List HistoryItem) → items_in l.steps ≡ past ++ rest → length past < fuel → (client sequence : ℕ) → WasGivenId past client sequence → IsIdOf t (client_name n) l.verifier client
     id_owner zero past rest is less client sequence given = absurd (omega (arith, less))
-    id_owner (suc fuel) past rest is less client sequence (IsNew xid name verifier says behind heard answer none) =
+    id_owner (suc fuel) past rest is less client sequence (IsNew xid name verifier says behind heard answer between none) =
         let place = sent_place past rest is xid name (ExchangeId verifier) says behind heard in
         let who : (name ≡ client_name n) × (verifier ≡ l.verifier) = at_place (SaysWho n l.verifier) each_who heard.before place.0 (compound xid name (ExchangeId verifier)) place.1 in
         let given : IsIdOf t name verifier client = id_heard n l its past name verifier says behind (heard_reply laws.replies boots w run t few range roomy n l its past rest is xid name (ExchangeId verifier) says behind heard) client sequence answer in

@@ -48,13 +48,13 @@ use Rattle.world_reads.proofs.OwnEntries.{no_true, IsToldStep, all_told, journal
 use Rattle.world_reads.proofs.MdsPlaces.{Steps, hearing, ArrivedAt, arrived_at}
 use Rattle.world_reads.proofs.LifeRecords.{compound}
 use Rattle.mds_replies.specs.AnsweredRequests.{StaysRoomy, FitsRequest}
-use Rattle.world_layouts.specs.ReturnedEnds.{ReturnsAtEnd, ReturnsComeAtEnds}
+use Rattle.mds_returns.specs.ReturnedEnds.{ReturnsAtEnd, ReturnsComeAtEnds}
 use Rattle.world_layouts.specs.WorldLayouts.{IsOneRequestEach, StartsAreFew, journal_at, WasReturnedBy, ReturnsAreSent}
 use Rattle.world_layouts.proofs.MdsMoments.{IsEnteredBy, entered_by}
 use Rattle.world_layouts.proofs.LifeSends.{LifeSteps, LifeIs, life_is, unseen_in}
 use Rattle.world_layouts.proofs.HeardCalls.{CameFrom, came_from, event_is, is_call_in, are_fit_calls}
 use Rattle.world_layouts.proofs.OwnIds.{at_place}
-use Rattle.world_layouts.proofs.OwnEffects.{IsRequestOn, on_slot, SplitAt, split_at}
+use Rattle.world_layouts.proofs.OwnRequests.{IsRequestOn, on_slot, SplitAt, split_at}
 use Rattle.world_layouts.proofs.GrantedUids.{GrantTook, grant_took, IsMoment, moment_of, one_period}
 use Rattle.world_layouts.proofs.ToldGrants.{same_live}
 use Rattle.world_layouts.proofs.EndedReturns.{ReturnLaws, one_uid, live_stays}

@@ -41,7 +41,7 @@ use Rattle.world_layouts.specs.WorldLayouts.{IsOneRequestEach, StartsAreFew, jou
 use Rattle.world_layouts.proofs.LifeSends.{LifeSteps}
 use Rattle.world_layouts.proofs.HeardCalls.{CameFrom, Arrival, came_at, caller_of}
 use Rattle.world_layouts.proofs.OwnIds.{IsIdOf, id_owner, at_place, each_slot, one_id}
-use Rattle.world_layouts.proofs.OwnEffects.{SplitAt, split_at}
+use Rattle.world_layouts.proofs.OwnRequests.{SplitAt, split_at}
 use Rattle.world_layouts.proofs.GrantedUids.{LayoutLaws, GrantTook, grant_took, IsMoment, moment_of, calls_to}
 use Rattle.world_layouts.proofs.ToldEntries.{ToldThen, told_then}
 

@@ -1,4 +1,4 @@
 pub mod AskedFits
-pub mod ReturnedEnds
+pub mod ReadReplies
 pub mod WorldLayouts
 pub mod LayoutsInOrder

@@ -104,12 +104,6 @@ ReturnsHaveEnded told =
     (n : ℕ) (l : Life) (earlier later : List (WeaveStep HistoryItem)) (grant : LayoutGrant) (at : ℕ) (bytes : List ℕ) → HasLife told.stories n l → l.steps ≡ earlier ++ later
     → WasGranted (items_in earlier) grant → (returned : CoveredByReturn (items_in earlier) grant at bytes) → HasUnreported grant returned.failed → HasEndedClean (journal_at l earlier) grant.uid.0
 
--- ---- what is asked of a world
-
--- each client starts fewer than 2^64 times, so its verifiers differ
-abbrev pub StartsAreFew : {w : ClusterState} → IsToldByNodes w → Type 0
-StartsAreFew told = (n : ℕ) (l : Life) (its : HasLife told.stories n l) → length its.story.older + 1 < 2 ^ 64
-
 -- of a life, one request has a number of a session (RFC 8881, section 2.10.6.1)
 abbrev pub IsOneRequestEach : {w : ClusterState} → IsToldByNodes w → Type 0
 IsOneRequestEach told =
@@ -117,12 +111,17 @@ IsOneRequestEach told =
     → HasItem (items_in l.steps) (Sends (CallsMds xid name (OnSlot session number c))) → HasItem (items_in l.steps) (Sends (CallsMds other names (OnSlot asked number d))) → is_of_session session asked ≡ true
     → (session ≡ asked) × (c ≡ d)
 
--- There are fewer than 2^32 clients, a file has at most four mirrors, records are of bytes and fileids have eight, the metadata server has room for its numbers at each moment, each
--- client has verifiers left, and numbers its requests one by one.
+-- ---- what is asked of a world
+
+-- each client starts fewer than 2^64 times, so its verifiers differ
+abbrev pub StartsAreFew : {w : ClusterState} → IsToldByNodes w → Type 0
+StartsAreFew told = (n : ℕ) (l : Life) (its : HasLife told.stories n l) → length its.story.older + 1 < 2 ^ 64
+
+-- There are fewer than 2^32 clients, a file has at most four mirrors, records are of bytes and fileids have eight, the metadata server has room for
+-- its numbers at each moment, and each client has verifiers left.
 pub record IsWorldRoomy {w : ClusterState} (told : IsToldByNodes w) : Type 0 where
   pub few_clients : length w.machines.clients < 2 ^ 32
   pub few_mirrors : told.mds.mirrors ≤ 4
   pub range : IsJournalInRange w.journal
   pub mds : StaysRoomy told.mds.servers told.mds.mirrors told.mds.events
   pub starts : StartsAreFew told
-  pub one : IsOneRequestEach told

@@ -3,16 +3,20 @@
 ghost use Rattle.world_layouts.specs.LayoutsInOrder.{EachWorldIsInOrder};
 
 use client_records::client_records;
-use client_sessions::{client_sessions, fitting_calls};
+use client_sessions::{client_sessions, fitting_calls, session_rounds};
 use mds_calls::every_mds_call;
 use mds_laws::mds_run_law;
 use mds_receive::receive_law;
-use mds_replies::{answers_law, entries_law, id_law, period_law, replies_law};
+use mds_replies::{answers_law, entries_law, id_law, order_law, period_law, replies_law};
+use mds_returns::returned_ends;
+use mds_session_order::session_order;
 use nfs4_compound::every_listing;
 use rpc_record::every_message;
 
-/// In every world that is told by its nodes and has room, where periods that end as returned come so (`ReturnsComeAtEnds`):
+/// In every world that is told by its nodes and has room, where replies to requests that took effect have a spelling
+/// (`EachReplyIsRead`):
 ///
+/// - of a life, one request has a number of a session (RFC 8881, section 2.10.6.1);
 /// - what a client was granted, the journal had granted to it, while the mirrors of the grant were live (RFC 8881, section
 ///   18.43; RFC 8435, section 2.2);
 /// - a uid is of one life of one client;
@@ -24,14 +28,18 @@ pub fn world_layouts()
     client_records();
     client_sessions();
     fitting_calls();
+    session_rounds();
     every_mds_call();
     mds_run_law();
     receive_law();
     answers_law();
     entries_law();
     id_law();
+    order_law();
     period_law();
     replies_law();
+    returned_ends();
+    session_order();
     every_listing();
     every_message();
 }

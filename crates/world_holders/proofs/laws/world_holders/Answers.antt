@@ -1,3 +1,5 @@
+use Rattle.world_layouts.proofs.LifeSends.{life_is}
+use Rattle.world_holders.proofs.HolderFacts.{together, strays_left}
 use Rattle.world_holders.proofs.PartsKept.{holders_keep_parts}
 use Rattle.world_holders.proofs.laws.world_holders.Goals as goal
 
@@ -23,8 +25,8 @@ returns c = record {
         periods = c.world_moves.ensures.periods boots w run;
         fences = c.world_moves.ensures.fences boots w run;
         own = c.own_periods_law.ensures.periods;
-        together = order.together;
-        left = order.left;
+        together = together w told;
+        left = λ n l its. strays_left n l (life_is w told c.client_records.ensures.numbered n l its).facts.is.strays;
         stateids = order.layouts.stateids;
         once = order.once;
         granted = order.layouts.granted;
