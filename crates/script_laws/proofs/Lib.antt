@@ -5,3 +5,4 @@ pub mod ClientCounts
 pub mod ClusterJournals
 pub mod BareJournals
 pub mod Scripts
+pub mod OtherBeginnings

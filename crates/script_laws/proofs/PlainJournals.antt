@@ -1,6 +1,7 @@
 -- A journal of packets, deliveries and what data servers enter tells of no period, no fence and no READ, and so obeys all laws of them.
-use Rattle.std.proofs.Common.{◌≡◌, ℕ, Bool, true, false, List, [], ◌∷◌, ◌++◌, subst}
+use Rattle.std.proofs.Common.{◌≡◌, ℕ, Bool, true, false, List, [], ◌∷◌, ◌++◌, subst, ◌∙◌}
 use Rattle.std.specs.List.{AllByRecursion}
+use Rattle.std.proofs.lemmas.List.{append_assoc}
 use Rattle.cluster_model.specs.declared.ids.FileId.{FileId}
 use Rattle.cluster_model.specs.declared.ids.Cred.{Cred}
 use Rattle.cluster_model.specs.declared.ids.MirrorId.{MirrorId}
@@ -8,6 +9,7 @@ use Rattle.cluster_model.specs.declared.entry.Entry.{Entry}
 use Rattle.cluster_model.specs.declared.entry.Entry.TheVariants as entry
 use Rattle.cluster_laws.specs.FenceLaw.{ObeysFences}
 use Rattle.cluster_laws.specs.Periods.{IsInPlace, ArePeriodsFenced, DoOwnersStay}
+use Rattle.cluster_laws.specs.Agreement.{AgreesAlways}
 use Rattle.script_laws.specs.ScriptLaws.{ObeysLaws}
 
 abbrev pub is_plain : Entry → Bool
@@ -43,10 +45,22 @@ no_fence journal before behind f old new live all is = plain_there before (entry
 no_read : (journal before behind : List Entry) (file : FileId) (status : ℕ) (bytes : List ℕ) → ArePlain journal → journal ≡ before ++ entry.ReadAnswer file status bytes ∷ behind → false ≡ true
 no_read journal before behind file status bytes all is = plain_there before (entry.ReadAnswer file status bytes) behind (subst ArePlain is all)
 
+no_free : (journal before behind : List Entry) (f : FileId) (live : List MirrorId) → ArePlain journal → journal ≡ before ++ entry.Free f live ∷ behind → false ≡ true
+no_free journal before behind f live all is = plain_there before (entry.Free f live) behind (subst ArePlain is all)
+
+-- no file is free, so there is nothing to agree on
+plain_agrees : (journal : List Entry) → ArePlain journal → (f : FileId) → AgreesAlways journal f
+plain_agrees journal all f = record {
+  first = λ before behind live is none. let wrong = no_free journal before behind f live all is in absurd cc;
+  steps = λ before between behind live next is none. let wrong = no_free journal (before ++ entry.Free f live ∷ between) behind f next all is in absurd cc;
+  free = λ before between behind live is none periods. let wrong = no_free journal before (between ++ behind) f live all (is ∙ append_assoc before (entry.Free f live ∷ between) behind) in absurd cc;
+}
+
 pub plain_obeys : (journal : List Entry) → ArePlain journal → ObeysLaws journal
 plain_obeys journal all = record {
   fences = λ before behind f old new live is. let wrong = no_fence journal before behind f old new live all is in absurd cc;
   periods = λ before behind e is. plain_in_place before e (plain_there before e behind (subst ArePlain is all));
   owners = λ before behind f old new live is. let wrong = no_fence journal before behind f old new live all is in absurd cc;
   reads = λ range before behind file status bytes is. let wrong = no_read journal before behind file status bytes all is in absurd cc;
+  agreement = λ parts f. plain_agrees journal all f;
 }

@@ -1,10 +1,13 @@
 -- What holds of every script: of its journal, and of the data servers that it ends with (RFC 8435, section 2.2;
 -- RFC 8881, section 18.22).
 use Rattle.std.specs.Prelude.{◌≡◌, ℕ, zero, suc, ◌+◌, Bool, false, List, [], ◌∷◌, Option, Some, None}
+use Rattle.cluster_model.specs.declared.ids.FileId.{FileId}
 use Rattle.cluster_model.specs.declared.entry.Entry.{Entry}
 use Rattle.cluster_model.specs.Event.{EventValue, DeliverPacket, Flow}
 use Rattle.cluster_laws.specs.FenceLaw.{ObeysFences}
 use Rattle.cluster_laws.specs.Periods.{ArePeriodsFenced, DoOwnersStay}
+use Rattle.cluster_laws.specs.Agreement.{AgreesAlways}
+use Rattle.holder_parts.specs.HolderParts.{HoldersKeepParts}
 use Rattle.world_journal.specs.Journal.{max_entries}
 use Rattle.packet_table.specs.Packets.{next_waiting}
 use Rattle.cluster_world.specs.ClusterWorlds.{ClusterState, packets, new_cluster, cluster_step}
@@ -57,14 +60,17 @@ script_end lines = end_of_script (script_of 1 None lines)
 
 -- ---- the laws
 
--- After a fence no write under the fenced uid changes a live mirror; each period is fenced before the next; owners stay; and a READ through
--- the metadata server is answered with bytes that a mirror showed, or as failed where each mirror failed it or left.
+-- After a fence no write under the fenced uid changes a live mirror; each period is fenced before the next; owners stay; a READ through
+-- the metadata server is answered with bytes that a mirror showed, or as failed where each mirror failed it or left; and whenever a file is
+-- free all its live mirrors hold the bytes of one flat file, and nothing else.
 pub record ObeysLaws (journal : List Entry) : Type 0 where
   pub fences : ObeysFences journal
   pub periods : ArePeriodsFenced journal
   pub owners : DoOwnersStay journal
   -- where its records are of bytes, and the fileids of its mirrors have eight of them
   pub reads : IsJournalInRange journal → ObeysReads journal
+  -- where those who hold a file keep their part (RFC 8435, sections 2.2 and 8)
+  pub agreement : HoldersKeepParts journal → (f : FileId) → AgreesAlways journal f
 
 -- the cluster has this journal, and what the journal says of each mirror's bytes, pending writes and owner is so at its data server
 pub record EndsTrue (journal : List Entry) (w : ClusterState) : Type 0 where

@@ -2,6 +2,7 @@
 
 ghost use Rattle.script_laws.specs.ScriptLaws.{EveryScriptObeys};
 
+use bound_worlds::bound_worlds;
 use node_histories::node_histories;
 use world_moves::world_moves;
 use world_reads::world_reads;
@@ -11,12 +12,14 @@ use world_reads::world_reads;
 /// changes a live mirror; each period is fenced before the next; behind a fence owners stay (RFC 8435, section 2.2); and a
 /// READ through the metadata server is answered with bytes that a mirror showed since it began, or as failed where each
 /// mirror that was live then failed it or left (RFC 8881, section 18.22), where the journal's records are of bytes, and the
-/// fileids of its mirrors have eight. And what the journal says of each mirror's bytes,
-/// pending writes and owner is so at its data server.
+/// fileids of its mirrors have eight. Where those who hold a file keep their part in the journal, whenever a file is free all
+/// its live mirrors hold the bytes of one flat file, which knows no mirrors, and nothing else (RFC 8435, sections 2.2 and 8).
+/// And what the journal says of each mirror's bytes, pending writes and owner is so at its data server.
 pub fn script_laws()
     ensures { EveryScriptObeys }
 {
     world_moves();
+    bound_worlds();
     node_histories();
     world_reads();
 }
