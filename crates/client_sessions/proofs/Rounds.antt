@@ -313,8 +313,11 @@ module _ (h : List HistoryItem) (each : Each KeepsSlot [] h) (few : UsesFew h) w
           moved (inr was) =
               let parts = same_sending x xid own name (OnSlot session k asked) (OnSlot session last call) same in
               let slots = same_slot session session k last asked call parts.2 in
-              inr (was.0, subst (λ (c : SlotCallValue). WasUnused (before ++ sending xid name (OnSlot session last call) ∷ (until ++ hearing bytes now ∷ behind)) x own session k c) (sym slots.1) (subst (λ (n : ℕ). WasUnused (before ++ sending xid name (OnSlot session last call) ∷ (until ++ hearing bytes now ∷ behind)) x own session n call) (sym slots.0)
-              (subst (λ (o : List ℕ). WasUnused (before ++ sending xid name (OnSlot session last call) ∷ (until ++ hearing bytes now ∷ behind)) x o session last call) (sym parts.1) (subst (λ (y : ℕ). WasUnused (before ++ sending xid name (OnSlot session last call) ∷ (until ++ hearing bytes now ∷ behind)) y name session last call) (sym parts.0) was.1))))
+              inr (
+                was.0,
+                subst (λ (c : SlotCallValue). WasUnused (before ++ sending xid name (OnSlot session last call) ∷ (until ++ hearing bytes now ∷ behind)) x own session k c) (sym slots.1) (subst (λ (n : ℕ). WasUnused (before ++ sending xid name (OnSlot session last call) ∷ (until ++ hearing bytes now ∷ behind)) x own session n call) (sym slots.0)
+                    (subst (λ (o : List ℕ). WasUnused (before ++ sending xid name (OnSlot session last call) ∷ (until ++ hearing bytes now ∷ behind)) x o session last call) (sym parts.1) (subst (λ (y : ℕ). WasUnused (before ++ sending xid name (OnSlot session last call) ∷ (until ++ hearing bytes now ∷ behind)) y name session last call) (sym parts.0) was.1))),
+              )
       upto_so moves x own k asked (InBack has) =
           absurd (none_among (until ++ hearing bytes now ∷ behind) (none_more [] xid name (OnSlot session last call) until bytes now behind first second) x own (OnSlot session k asked) has)
 

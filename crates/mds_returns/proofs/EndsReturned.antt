@@ -200,7 +200,7 @@ module _ (numbered : EffectsAreNumbered) (servers : List AddressValue) (mirrors 
         → FitsRequest (OnSlot session number (slot.LayoutReturn f stateid failed)) → ReturnsAtEnd servers mirrors before e front file uid
     by_return node xid name session number f stateid failed came fits =
         let so : (owner : List ℕ) (own : FileId) (its : Stateid) (reports : List FailedMirror) → IsCallFrom e node xid owner (OnSlot session number (slot.LayoutReturn own its reports)) → FitsRequest (OnSlot session number (slot.LayoutReturn own its reports))
-            → EndsSo servers mirrors before session its reports front file uid =
+        → EndsSo servers mirrors before session its reports front file uid =
         λ owner own its reports comes suits. ends_so node xid owner session number own its reports comes suits (effect_of node xid owner session number (slot.LayoutReturn own its reports) comes) in
         let mine : EndsSo servers mirrors before session stateid failed front file uid = so name f stateid failed came fits in
         record {

@@ -17,10 +17,10 @@ pub all_layouts : SentLaws → SessionLaws → (boots : List ℕ) (w : ClusterSt
 all_layouts laws sessions boots w run told room =
     let one : IsOneRequestEach told = one_request_each sessions boots w run told room.few_clients room.range room.mds room.starts in
     record {
-  one = one;
-  granted = grants_are_told laws.returns.grants boots w run told room.few_clients room.range room.mds room.starts one room.few_mirrors;
-  uids = uids_are_own laws.returns.grants.layouts boots w run told room.few_clients room.range room.mds room.starts one;
-  stateids = stateids_are_once laws.returns.grants.layouts boots w run told room.few_clients room.range room.mds room.starts one;
-  sent = returns_are_sent laws boots w run told room.few_clients room.range room.mds room.starts one room.few_mirrors;
-  ended = returns_have_ended laws.returns boots w run told room.few_clients room.range room.mds room.starts one room.few_mirrors;
-}
+      one = one;
+      granted = grants_are_told laws.returns.grants boots w run told room.few_clients room.range room.mds room.starts one room.few_mirrors;
+      uids = uids_are_own laws.returns.grants.layouts boots w run told room.few_clients room.range room.mds room.starts one;
+      stateids = stateids_are_once laws.returns.grants.layouts boots w run told room.few_clients room.range room.mds room.starts one;
+      sent = returns_are_sent laws boots w run told room.few_clients room.range room.mds room.starts one room.few_mirrors;
+      ended = returns_have_ended laws.returns boots w run told room.few_clients room.range room.mds room.starts one room.few_mirrors;
+    }
