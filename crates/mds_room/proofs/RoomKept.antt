@@ -91,7 +91,7 @@ module _ (servers : List AddressValue) (mirrors : ℕ) (few : mirrors ≤ 4) (ma
       omega (arith, less, effects, first)
 
 pub runs_have_room : RunsHaveRoom
-runs_have_room servers mirrors events few many calls heard told fresh = record {
+runs_have_room servers mirrors events few many heard told fresh = record {
   room = λ before after is.
       room_at servers mirrors few many before after (subst (λ (l : List MdsEvent). AllByRecursion IsLiveInRange (mds_run servers mirrors l).entries) is told)
       (subst (λ (l : List MdsEvent). has_fresh (server_after servers mirrors l).fresh ≡ true) is fresh);

@@ -8,7 +8,7 @@ use Rattle.cluster_model.specs.declared.entry.Entry.TheVariants.{Free, Swapped}
 use Rattle.device_addr.specs.Universal.{AddressValue}
 use Rattle.mds_rule.specs.ServedFiles.{has_fresh}
 use Rattle.mds_laws.specs.MdsRuns.{MdsInput, Hears, MdsEvent, mds_run}
-use Rattle.mds_replies.specs.ClientCalls.{AreCalls, server_after}
+use Rattle.mds_replies.specs.ClientCalls.{server_after}
 use Rattle.mds_replies.specs.AnsweredRequests.{StaysRoomy}
 
 -- the fileids of mirrors that come into a live list have eight bytes (RFC 1813, section 2.5)
@@ -31,5 +31,5 @@ records_heard (e ∷ events) = heard_with e.input + records_heard events
 -- slot has numbers, has room for numbers at each moment.
 abbrev pub RunsHaveRoom : Type 0
 RunsHaveRoom =
-    (servers : List AddressValue) (mirrors : ℕ) (events : List MdsEvent) → mirrors ≤ 4 → length servers < 2 ^ 32 → AreCalls events → records_heard events + 1 < 4294967296
+    (servers : List AddressValue) (mirrors : ℕ) (events : List MdsEvent) → mirrors ≤ 4 → length servers < 2 ^ 32 → records_heard events + 1 < 4294967296
     → AllByRecursion IsLiveInRange (mds_run servers mirrors events).entries → has_fresh (server_after servers mirrors events).fresh ≡ true → StaysRoomy servers mirrors events
