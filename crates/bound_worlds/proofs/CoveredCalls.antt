@@ -17,7 +17,7 @@ use Rattle.ds_calls.specs.GivenReplies.{reply_of_call}
 use Rattle.ds_calls.specs.DsCallLaws.{DsMessage, HasRecord, record_of, AreToldApart}
 use Rattle.cluster_laws.specs.Machine.{PacketValue, Call, Reply}
 use Rattle.cluster_laws.specs.Holders.{IsCovered}
-use Rattle.holder_parts.specs.CoveredRecords.{WasPosted, IsOnlyRecord, HasAnswered, IsCoveredIn}
+use Rattle.holder_parts.specs.CoveredRecords.{WasPosted, IsOnlyRecord, IsAnsweredSo, IsCoveredIn}
 use Rattle.bound_worlds.specs.MatchedPackets.{Stage, Shows, Hides, entries_of, packets_of, IsServedCall, Matches, AreMatched}
 use Rattle.bound_worlds.proofs.StageLists.{OneGoesOn, FirstDoes, SecondDoes, beginnings, AreCut, cut_at, ShowsAt, shows_at, packets_join, entries_join, matched_at, matched_front, there_behind, next_behind}
 
@@ -61,7 +61,7 @@ module _ (apart : ToldApart) where
       let there : WasPosted (journal ++ more) (Client client) (Server n) (record_of s.message) = still_posted journal more (Client client) (Server n) (record_of s.message) s.posted in
       apart s.message message s.fits fits (only (record_of s.message) there (number_first s.message ∙ ap word number))
 
-  pub stands_among : (stages : List Stage) → AreMatched [] 0 stages → (client n : ℕ) (message : DsMessage) (says : DsReplyValue) → HasAnswered (entries_of stages) client n message says → StandsAmong stages client n message says
+  pub stands_among : (stages : List Stage) → AreMatched [] 0 stages → (client n : ℕ) (message : DsMessage) (says : DsReplyValue) → IsAnsweredSo (entries_of stages) client n message says → StandsAmong stages client n message says
   stands_among stages matched client n message says a = with_stage (shows_at stages a.came.before (Packet a.came.number (Server n) (Client client) a.bytes) a.came.behind a.came.split)
     where
       with_stage : ShowsAt stages a.came.before (Packet a.came.number (Server n) (Client client) a.bytes) a.came.behind → StandsAmong stages client n message says
@@ -120,7 +120,7 @@ module _ (apart : ToldApart) (stages : List Stage) (matched : AreMatched [] 0 st
     where
       with_cut : AreCut stages i.first i.later → IsCovered (packets_of stages) uid id w
       with_cut c =
-          let early : HasAnswered (entries_of c.front) i.client id.server i.wrote (Written i.write_shown i.verifier) = subst (λ (l : List Entry). HasAnswered l i.client id.server i.wrote (Written i.write_shown i.verifier)) (sym c.front_is) i.written in
+          let early : IsAnsweredSo (entries_of c.front) i.client id.server i.wrote (Written i.write_shown i.verifier) = subst (λ (l : List Entry). IsAnsweredSo l i.client id.server i.wrote (Written i.write_shown i.verifier)) (sym c.front_is) i.written in
           let a : StandsAmong c.front i.client id.server i.wrote (Written i.write_shown i.verifier) = stands_among apart c.front (matched_front [] 0 c.front c.back (subst (AreMatched [] 0) c.is matched)) i.client id.server i.wrote (Written i.write_shown i.verifier) early in
           let b : StandsAmong stages i.client id.server i.commit (Committed i.commit_shown i.verifier) = stands_among apart stages matched i.client id.server i.commit (Committed i.commit_shown i.verifier) i.committed in
           let a_is = c.is ∙ (ap (λ (l : List Stage). l ++ c.back) a.is ∙ append_assoc a.front (Shows a.entry _ ∷ a.back) c.back) in

@@ -28,14 +28,14 @@ use Rattle.client_laws.proofs.Orders.{in_more, in_end}
 use Rattle.client_laws.proofs.Places.{Found, found, same_number}
 use Rattle.client_laws.proofs.WriterMoves.{out_sent}
 use Rattle.client_laws.proofs.Stands.{Stands, WriterStands, LayoutStands, IfThere, reported_of}
-use Rattle.client_records.specs.ClientRecords.{IsBelow, AreBelow, IsNextNumber, WasAskedAs, NumbersOn, IsNumberedOn, EachRunIsNumbered}
+use Rattle.client_records.specs.ClientRecords.{IsBelow, CallsAreBelow, IsNextNumber, WasAskedAs, NumbersOn, IsNumberedOn, EachRunIsNumbered}
 use Rattle.client_records.proofs.Cases.{Adds, free, heard_mds, heard_late, Cases}
 use Rattle.client_records.proofs.Told.{any_tells, any_covers}
 use Rattle.client_records.proofs.EachRun.{Base, any_inputs, in_each_run}
 
 -- ---- numbers below another
 
-below_append : (xid : ℕ) (past more : List HistoryItem) → AreBelow xid past → AreBelow xid more → AreBelow xid (past ++ more)
+below_append : (xid : ℕ) (past more : List HistoryItem) → CallsAreBelow xid past → CallsAreBelow xid more → CallsAreBelow xid (past ++ more)
 below_append xid [] more first second = second
 below_append xid (Hears input ∷ past) more first second = below_append xid past more first second
 below_append xid (Enters entry ∷ past) more first second = below_append xid past more first second
@@ -45,7 +45,7 @@ one_more : (xid : ℕ) (o : Option ℕ) → IsBelow xid o → IsBelow (xid + 1) 
 one_more xid None below = below
 one_more xid (Some other) below = omega (arith, below)
 
-below_more : (xid : ℕ) (past : List HistoryItem) → AreBelow xid past → AreBelow (xid + 1) past
+below_more : (xid : ℕ) (past : List HistoryItem) → CallsAreBelow xid past → CallsAreBelow (xid + 1) past
 below_more xid [] below = tt
 below_more xid (Hears input ∷ past) below = below_more xid past below
 below_more xid (Enters entry ∷ past) below = below_more xid past below
@@ -62,7 +62,7 @@ Numbered first past c = NumberedOf first past c.next_xid c.asked
 
 -- it takes no number
 abbrev IsPlain : HistoryItem → Type 0
-IsPlain item = (xid : ℕ) → AreBelow xid (item ∷ [])
+IsPlain item = (xid : ℕ) → CallsAreBelow xid (item ∷ [])
 
 numbers_later : (first : ℕ) (past : List HistoryItem) (item : HistoryItem) (next : ℕ) → IsPlain item → IsNumberedOn first past next → IsNumberedOn first (past ++ item ∷ []) next
 numbers_later first past item next plain (inl none) = inl none
@@ -72,7 +72,7 @@ asked_later : (past more : List HistoryItem) (asked : Option Asked) → IfThere 
 asked_later past more None out = tt
 asked_later past more (Some a) out = record { name = out.name; call = out.call; sent = in_more (Sends (CallsMds a.xid out.name out.call) ∷ []) past more out.sent; same = out.same }
 
-pub later : (first : ℕ) (past : List HistoryItem) (item : HistoryItem) (next : ℕ) (asked : Option Asked) → ((xid : ℕ) → AreBelow xid (item ∷ [])) → NumberedOf first past next asked → NumberedOf first (past ++ item ∷ []) next asked
+pub later : (first : ℕ) (past : List HistoryItem) (item : HistoryItem) (next : ℕ) (asked : Option Asked) → ((xid : ℕ) → CallsAreBelow xid (item ∷ [])) → NumberedOf first past next asked → NumberedOf first (past ++ item ∷ []) next asked
 later first past item next asked plain i = record { numbers = numbers_later first past item next plain i.numbers; asked_as = asked_later past (item ∷ []) asked i.asked_as }
 
 -- ---- a new call
@@ -96,7 +96,7 @@ module _ (first : ℕ) (past : List HistoryItem) (next : ℕ) (send : ClientSend
   goes_on some (inl none) = absurd (some none)
   goes_on some (inr (from, fits, above)) = by_test (next == 4294967295) refl
     where
-      here : AreBelow (next + 1) (Sends send ∷ [])
+      here : CallsAreBelow (next + 1) (Sends send ∷ [])
       here = (subst (IsBelow (next + 1)) (sym is) (omega arith), tt)
 
       by_test : (b : Bool) → (next == 4294967295) ≡ b → IsNumberedOn first (past ++ Sends send ∷ []) (if b then 0 else next + 1)
@@ -127,7 +127,7 @@ module _ (first : ℕ) where
   told_so past c file cred at bytes i = (tt, later first past (Enters (Told file.file (record { 0 = cred }) at bytes)) c.next_xid c.asked (λ xid. tt) i)
 
   -- nothing is out any more
-  freed : (past : List HistoryItem) (item : HistoryItem) (c : ClientValue) → ((xid : ℕ) → AreBelow xid (item ∷ [])) → Numbered first past c → NumberedOf first (past ++ item ∷ []) c.next_xid None
+  freed : (past : List HistoryItem) (item : HistoryItem) (c : ClientValue) → ((xid : ℕ) → CallsAreBelow xid (item ∷ [])) → Numbered first past c → NumberedOf first (past ++ item ∷ []) c.next_xid None
   freed past item c plain i = record { numbers = numbers_later first past item c.next_xid plain i.numbers; asked_as = tt }
 
   -- the record that is out is the same

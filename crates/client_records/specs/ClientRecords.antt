@@ -65,16 +65,16 @@ IsBelow xid None = Unit {0}
 IsBelow xid (Some other) = other < xid
 
 -- the numbers of all calls that stand there are below this one
-abbrev pub AreBelow : ℕ → List HistoryItem → Type 0
-AreBelow xid [] = Unit {0}
-AreBelow xid (Sends send ∷ items) = IsBelow xid (new_number send) × AreBelow xid items
-AreBelow xid (item ∷ items) = AreBelow xid items
+abbrev pub CallsAreBelow : ℕ → List HistoryItem → Type 0
+CallsAreBelow xid [] = Unit {0}
+CallsAreBelow xid (Sends send ∷ items) = IsBelow xid (new_number send) × CallsAreBelow xid items
+CallsAreBelow xid (item ∷ items) = CallsAreBelow xid items
 
 -- from the first number on, within four bytes, above all before it
 pub record IsNextNumber (first : ℕ) (past : List HistoryItem) (xid : ℕ) : Type 0 where
   pub from_first : first ≤ xid
   pub fits : xid < 2 ^ 32
-  pub above : AreBelow xid past
+  pub above : CallsAreBelow xid past
 
 -- the compound of this number went out before, as this record
 pub record WasAskedAs (past : List HistoryItem) (xid : ℕ) (message : List ℕ) : Type 0 where
@@ -97,7 +97,7 @@ NumbersOn first past item = Unit {0}
 
 -- the number of the next call is above those of all before it and of no call before the first; or none is left
 abbrev pub IsNumberedOn : ℕ → List HistoryItem → ℕ → Type 0
-IsNumberedOn first history next = (next ≡ 0) ⊎ ((first ≤ next) × (next < 2 ^ 32) × AreBelow next history)
+IsNumberedOn first history next = (next ≡ 0) ⊎ ((first ≤ next) × (next < 2 ^ 32) × CallsAreBelow next history)
 
 -- ---- of every run
 

@@ -24,7 +24,7 @@ use Rattle.cluster_model.specs.declared.ds_call.Shown.{Shown}
 use Rattle.cluster_model.specs.DsCalls.{DsCallValue, Create, SetAttr, Write, Commit, Read, DsReplyValue, Created, Set, Written, Committed, Bytes, NotSync, Failed}
 use Rattle.ds_calls.specs.MadeCalls.{fileid_handle, asked_stability}
 use Rattle.ds_calls.specs.GivenReplies.{shown_where, handle_fileid, created_as, setattr_answer, write_answer, commit_answer, read_answer, create_answer, answer_by, in_form, reply_of_call}
-use Rattle.ds_calls.specs.DsCallLaws.{IsRefusalNumber, IsAnswerTo, refusal_statuses, status_in, status_by, showing, wcc_showing, Beside, nfs_reply_of, ds_rpc_reply, IsAnswered}
+use Rattle.ds_calls.specs.DsCallLaws.{IsRefusalNumber, IsAnswerTo, refusal_statuses, status_in, status_by, showing, wcc_showing, AttributesBeside, nfs_reply_of, ds_rpc_reply, IsAnswered}
 use Rattle.ds_calls.proofs.DsCallsAgain.{whole_spelled}
 
 -- ---- statuses, handles and what is shown
@@ -76,10 +76,10 @@ given : (form : Form) → IsTrue (is_sound form) → (answer : Value form → Ds
 given form sound answer v fits = ap (answer_by answer) (whole_spelled form sound v fits)
 
 -- the attributes before and after, of an object and of the directory
-abbrev wcc : Beside → Option Shown → Value wcc_data
+abbrev wcc : AttributesBeside → Option Shown → Value wcc_data
 wcc b shown = wcc_data_value (wcc_showing b shown)
 
-answer_back : (b : Beside) (call : DsCallValue) (reply : DsReplyValue) (xid : ℕ) → IsAnswerTo call reply → Fits nfs3_results (reply_value (nfs_reply_of b call reply))
+answer_back : (b : AttributesBeside) (call : DsCallValue) (reply : DsReplyValue) (xid : ℕ) → IsAnswerTo call reply → Fits nfs3_results (reply_value (nfs_reply_of b call reply))
     → reply_of_call call (ds_rpc_reply xid (nfs_reply_of b call reply)) ≡ reply
 answer_back b (Create name owner) (Created fileid shown) xid is fits =
     given create_result refl create_answer (inl (Some (fileid_handle fileid), (Some (fattr3_value (showing b.attributes shown)), wcc_data_value b.directory))) fits
@@ -109,7 +109,7 @@ answer_back b call reply xid is fits = absurd is
 -- ---- the law
 
 module _ (header : (r : RpcReply) → IsReplyReadAgain r) where
-  pub is_answered : (xid : ℕ) (b : Beside) (call : DsCallValue) (reply : DsReplyValue) → IsAnswered xid b call reply
+  pub is_answered : (xid : ℕ) (b : AttributesBeside) (call : DsCallValue) (reply : DsReplyValue) → IsAnswered xid b call reply
   is_answered xid b call reply = λ small is fits. record {
     record_again = header (ds_rpc_reply xid (nfs_reply_of b call reply)) ((small, (refl, ((omega arith, omega arith), tt))), tt, tt);
     answer = answer_back b call reply xid is fits;

@@ -108,16 +108,16 @@ abbrev pub showing : Fattr3 → Shown → Fattr3
 showing any shown = record any { uid = shown.owner.0; size = shown.size; ctime = guard_time shown.seen }
 
 -- what a reply may say beside its answer
-pub record Beside : Type 0 where
+pub record AttributesBeside : Type 0 where
   pub attributes : Fattr3
   pub before : Option WccAttr
   pub directory : WccData
 
-abbrev pub wcc_showing : Beside → Option Shown → WccData
+abbrev pub wcc_showing : AttributesBeside → Option Shown → WccData
 wcc_showing b shown = record { before = b.before; after = option_map (showing b.attributes) shown }
 
 -- the answers as NFSv3 replies (RFC 1813, section 3.3)
-abbrev pub nfs_reply_of : Beside → DsCallValue → DsReplyValue → Nfs3Reply
+abbrev pub nfs_reply_of : AttributesBeside → DsCallValue → DsReplyValue → Nfs3Reply
 nfs_reply_of b (ds.Create name owner) (Created fileid shown) = CreateDone (Some (fileid_handle fileid)) (Some (showing b.attributes shown)) b.directory
 nfs_reply_of b (ds.Create name owner) (Failed status shown) = CreateRefused (status_by status) b.directory
 nfs_reply_of b (ds.SetAttr fileid owner guard) (Set shown) = SetAttrDone (wcc_showing b shown)
@@ -135,11 +135,11 @@ abbrev pub ds_rpc_reply : ℕ → Nfs3Reply → RpcReply
 ds_rpc_reply xid reply = record { xid = xid; verf = auth_none; stat = success; results = arm_spelling nfs3_results (reply_value reply) }
 
 -- the reply's record is read again, and comes to the answer
-pub record IsReadAsAnswer (xid : ℕ) (b : Beside) (call : DsCallValue) (reply : DsReplyValue) : Type 0 where
+pub record IsReadAsAnswer (xid : ℕ) (b : AttributesBeside) (call : DsCallValue) (reply : DsReplyValue) : Type 0 where
   pub record_again : reply_at (reply_bytes (ds_rpc_reply xid (nfs_reply_of b call reply))) ≡ Ok (ds_rpc_reply xid (nfs_reply_of b call reply))
   pub answer : reply_of_call call (ds_rpc_reply xid (nfs_reply_of b call reply)) ≡ reply
 
-abbrev pub IsAnswered : ℕ → Beside → DsCallValue → DsReplyValue → Type 0
+abbrev pub IsAnswered : ℕ → AttributesBeside → DsCallValue → DsReplyValue → Type 0
 IsAnswered xid b call reply = xid < 2 ^ 32 → IsAnswerTo call reply → Fits nfs3_results (reply_value (nfs_reply_of b call reply)) → IsReadAsAnswer xid b call reply
 
 -- what the rule of a data server replies is an answer to the call, where the fileids are in their range

@@ -2,7 +2,7 @@
 
 ghost use Rattle.std.specs.Prelude.{ℕ};
 ghost use Rattle.cluster_model.specs.DsCalls.{DsCallValue, DsReplyValue};
-ghost use Rattle.ds_calls.specs.DsCallLaws.{DsMessage, IsUnderstood, AreToldApart, Beside, IsAnswered, IsAnsweredByRule};
+ghost use Rattle.ds_calls.specs.DsCallLaws.{DsMessage, IsUnderstood, AreToldApart, AttributesBeside, IsAnswered, IsAnsweredByRule};
 ghost use Rattle.cluster_model.specs.Server.{ServerState, Caller};
 
 use nfs3_wire::every_call;
@@ -15,7 +15,7 @@ use rpc_record::every_message;
 pub fn every_ds_call()
     ensures understood { (m : DsMessage) → IsUnderstood m }
     ensures told_apart { (m n : DsMessage) → AreToldApart m n }
-    ensures answered { (xid : ℕ) (b : Beside) (call : DsCallValue) (reply : DsReplyValue) → IsAnswered xid b call reply }
+    ensures answered { (xid : ℕ) (b : AttributesBeside) (call : DsCallValue) (reply : DsReplyValue) → IsAnswered xid b call reply }
     ensures ruled { (s : ServerState) (caller : Caller) (call : DsCallValue) → IsAnsweredByRule s caller call }
 {
     every_call();

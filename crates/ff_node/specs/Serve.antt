@@ -131,7 +131,7 @@ FailsIn rule s event sent held e sent' held' =
     ⊎ ((e ≡ fault.NoMemory) × (held' ≡ behind held (rule.step s event).text)
     × ((part : ℕ) × (part < length (rule.step s event).sends) × (sent' ≡ behind sent (take part (rule.step s event).sends))))
 
-pub record BreaksOff {S : Type 0} (rule : NodeRule S) (s : S) (b : Beside) (end : NodeEnd) (b' : Beside) : Type 0 where
+pub record NodeBreaksOff {S : Type 0} (rule : NodeRule S) (s : S) (b : Beside) (end : NodeEnd) (b' : Beside) : Type 0 where
   pub event : NodeEvent
   pub came : TakesFront b.coming (event.arrival ∷ []) b'.coming
   pub moment : GivesMoments b.moments b.moment (event.moment ∷ []) b'.moments b'.moment
@@ -148,7 +148,7 @@ Stops rule left s b end s' b' =
     × (((end ≡ last_end rule.is_server) × NoMoreComes left s b s' b')
     ⊎ ((0 < left)
     × (((e : Failed) × (end ≡ end_of_link e) × IsUnchanged s b s' b')
-    ⊎ BreaksOff rule s b end b'))))
+    ⊎ NodeBreaksOff rule s b end b'))))
 
 -- ---- what serving did
 
@@ -222,9 +222,9 @@ SendsAll sent records (Ok x) sent' = sent' ≡ behind sent records
 SendsAll sent records (Err e) sent' = (n : ℕ) × (n < length records) × (sent' ≡ behind sent (take n records))
 
 -- what taking an event did: the node, what is sent and what is written are by its rule; or it failed
-abbrev pub DoesEvent : {S : Type 0} → NodeRule S → S → NodeEvent → Option SentRecords → Option (List ℕ) → Result (Unit {0}) EventFault → S → Option SentRecords → Option (List ℕ) → Type 0
-DoesEvent rule s event sent held (Ok x) s' sent' held' = (s' ≡ (rule.step s event).state) × (sent' ≡ behind sent (rule.step s event).sends) × (held' ≡ behind held (rule.step s event).text)
-DoesEvent rule s event sent held (Err e) s' sent' held' = FailsIn rule s event sent held e sent' held'
+abbrev pub NodeDoesEvent : {S : Type 0} → NodeRule S → S → NodeEvent → Option SentRecords → Option (List ℕ) → Result (Unit {0}) EventFault → S → Option SentRecords → Option (List ℕ) → Type 0
+NodeDoesEvent rule s event sent held (Ok x) s' sent' held' = (s' ≡ (rule.step s event).state) × (sent' ≡ behind sent (rule.step s event).sends) × (held' ≡ behind held (rule.step s event).text)
+NodeDoesEvent rule s event sent held (Err e) s' sent' held' = FailsIn rule s event sent held e sent' held'
 
 -- what a node wrote for an event: its bytes, or at an error a beginning of them
 abbrev pub WritesFor : {T E : Type 0} → Option (List ℕ) → List ℕ → Result T E → Option (List ℕ) → Type 0

@@ -2,7 +2,7 @@
 
 ghost use Rattle.std.specs.Prelude.{◌≡◌, MatchOption, OnOk, OnErr, IfNone, Some};
 ghost use Rattle.ff_node.specs.Nodes.{event_at};
-ghost use Rattle.ff_node.specs.Serve.{DoesEvent, NodeRunsOn, NodeServesOn, SendsAll, TakesTurn, beside, disk_counted, disk_faults, end_of_outcome, is_closed, last_end, link_faults, sink_counted, sink_faults, turn_faults};
+ghost use Rattle.ff_node.specs.Serve.{NodeDoesEvent, NodeRunsOn, NodeServesOn, SendsAll, TakesTurn, beside, disk_counted, disk_faults, end_of_outcome, is_closed, last_end, link_faults, sink_counted, sink_faults, turn_faults};
 
 use crate::end::NodeEnd;
 use crate::fault::EventFault;
@@ -59,7 +59,7 @@ fn do_event<N: Node, L: Link, K: Sink, D: Disk>(
     disk: &mut D,
 ) -> Result<(), EventFault>
     requires { N.stands node.old (D.told disk.old) }
-    ensures does { DoesEvent N.rule (N.state node.old) (event_at moment arrival) (L.sent link.old) (K.held sink.old) result (N.state node.new) (L.sent link.new) (K.held sink.new) }
+    ensures does { NodeDoesEvent N.rule (N.state node.old) (event_at moment arrival) (L.sent link.old) (K.held sink.old) result (N.state node.new) (L.sent link.new) (K.held sink.new) }
     ensures writes { K.faults sink.new ≡ sink_counted result (K.faults sink.old) }
     ensures coming { L.coming link.new ≡ L.coming link.old }
     ensures opened { L.opened link.new ≡ L.opened link.old }

@@ -26,7 +26,7 @@ abbrev pub IsOnlyRecord : List Entry → ℕ → ℕ → DsMessage → Type 0
 IsOnlyRecord journal client server message = (bytes : List ℕ) → WasPosted journal (Client client) (Server server) bytes → take 4 bytes ≡ word message.xid → bytes ≡ record_of message
 
 -- the data server sent the client a reply under the number of its call, which says this to what was asked
-pub record HasAnswered (journal : List Entry) (client server : ℕ) (message : DsMessage) (says : DsReplyValue) : Type 0 where
+pub record IsAnsweredSo (journal : List Entry) (client server : ℕ) (message : DsMessage) (says : DsReplyValue) : Type 0 where
   pub fits : HasRecord message
   pub only : IsOnlyRecord journal client server message
   pub bytes : List ℕ
@@ -48,9 +48,9 @@ pub record IsCoveredIn (journal : List Entry) (uid : ℕ) (id : MirrorId) (w : P
   pub later : List Entry
   pub split : journal ≡ first ++ later
   pub write_shown : Option Shown
-  pub written : HasAnswered first client id.server wrote (Written write_shown verifier)
+  pub written : IsAnsweredSo first client id.server wrote (Written write_shown verifier)
   pub commit : DsMessage
   pub commit_is : commit.call ≡ Commit id.fileid
   pub new : (bytes : List ℕ) → WasPosted first (Client client) (Server id.server) bytes → take 4 bytes ≡ word commit.xid → ⊥
   pub commit_shown : Option Shown
-  pub committed : HasAnswered journal client id.server commit (Committed commit_shown verifier)
+  pub committed : IsAnsweredSo journal client id.server commit (Committed commit_shown verifier)

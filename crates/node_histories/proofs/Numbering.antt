@@ -13,13 +13,13 @@ use Rattle.packet_table.specs.Packets.{PacketsValue, packet_numbered, came_at, a
 use Rattle.world_journal.specs.SentPackets.{packets_of}
 use Rattle.cluster_world.specs.Sent.{noting, noting_all, packets_in, bytes_of_packet, bytes_at_place}
 use Rattle.node_histories.specs.Weaves.{HasPacket}
-use Rattle.node_histories.specs.NodeHistories.{AreNumbered}
+use Rattle.node_histories.specs.NodeHistories.{PacketsAreNumbered}
 use Rattle.node_histories.proofs.Stories.{IsAt, at_number}
 
 -- ---- numbers go on
 
-pub numbered_join : (last middle sent : ℕ) (a b : List Entry) → AreNumbered last a middle → AreNumbered middle b sent → AreNumbered last (a ++ b) sent
-numbered_join last middle sent [] b first second = subst (λ (k : ℕ). AreNumbered k b sent) (sym first) second
+pub numbered_join : (last middle sent : ℕ) (a b : List Entry) → PacketsAreNumbered last a middle → PacketsAreNumbered middle b sent → PacketsAreNumbered last (a ++ b) sent
+numbered_join last middle sent [] b first second = subst (λ (k : ℕ). PacketsAreNumbered k b sent) (sym first) second
 numbered_join last middle sent (Packet number from to bytes ∷ a) b first second = (first.0, numbered_join (last + 1) middle sent a b first.1 second)
 numbered_join last middle sent (e ∷ a) b first second = numbered_join last middle sent a b first second
 
@@ -27,19 +27,19 @@ abbrev pub IsNoPacket : Entry → Type 0
 IsNoPacket (Packet number from to bytes) = ⊥
 IsNoPacket e = Unit {0}
 
-pub numbered_none : (last : ℕ) (entries : List Entry) → AllByRecursion IsNoPacket entries → AreNumbered last entries last
+pub numbered_none : (last : ℕ) (entries : List Entry) → AllByRecursion IsNoPacket entries → PacketsAreNumbered last entries last
 numbered_none last [] none = refl
 numbered_none last (Packet number from to bytes ∷ entries) none = absurd none.0
 numbered_none last (e ∷ entries) none = numbered_none last entries none.1
 
-pub numbered_packets : (node : NodeId) (last : ℕ) (sends : List (NodeId × List ℕ)) → AreNumbered last (packets_of node last sends) (last + length sends)
+pub numbered_packets : (node : NodeId) (last : ℕ) (sends : List (NodeId × List ℕ)) → PacketsAreNumbered last (packets_of node last sends) (last + length sends)
 numbered_packets node last [] = omega arith
 numbered_packets node last ((to, bytes) ∷ sends) =
     let on : last + 1 + length sends ≡ last + suc (length sends) = omega arith in
-    (refl, subst (λ (k : ℕ). AreNumbered (last + 1) (packets_of node (last + 1) sends) k) on (numbered_packets node (last + 1) sends))
+    (refl, subst (λ (k : ℕ). PacketsAreNumbered (last + 1) (packets_of node (last + 1) sends) k) on (numbered_packets node (last + 1) sends))
 
 pub numbered_act : (node : NodeId) (last : ℕ) (front entries : List Entry) (sends : List (NodeId × List ℕ)) → AllByRecursion IsNoPacket front → AllByRecursion IsNoPacket entries
-    → AreNumbered last (front ++ (entries ++ packets_of node last sends)) (last + length sends)
+    → PacketsAreNumbered last (front ++ (entries ++ packets_of node last sends)) (last + length sends)
 numbered_act node last front entries sends first second =
     numbered_join last last (last + length sends) front (entries ++ packets_of node last sends) (numbered_none last front first)
     (numbered_join last last (last + length sends) entries (packets_of node last sends) (numbered_none last entries second) (numbered_packets node last sends))
@@ -82,24 +82,24 @@ module _ (journal : List Entry) where
 
   record AreNoted (p : PacketsValue) (rest : List Entry) (sent : ℕ) : Type 0 where
     are : AreNotes journal 0 p.notes
-    numbers : AreNumbered (length p.notes) rest sent
+    numbers : PacketsAreNumbered (length p.notes) rest sent
 
   came_so : (notes : List PacketNote) (place : ℕ) (rest : List Entry) (sent : ℕ) (held : List (NodeId × NodeId)) (o : Option PacketNote) → slice_get notes place ≡ o → AreNotes journal 0 notes
-      → AreNumbered (length notes) rest sent → AreNoted (record { notes = came_at notes place o; held = held }) rest sent
+      → PacketsAreNumbered (length notes) rest sent → AreNoted (record { notes = came_at notes place o; held = held }) rest sent
   came_so notes place rest sent held None is are numbers = record { are = are; numbers = numbers }
   came_so notes place rest sent held (Some note) is are numbers = record {
     are = notes_set 0 notes place note are is;
-    numbers = subst (λ (k : ℕ). AreNumbered k rest sent) (sym (length-set notes place (record { from = note.from; to = note.to; place = note.place; came = true }))) numbers;
+    numbers = subst (λ (k : ℕ). PacketsAreNumbered k rest sent) (sym (length-set notes place (record { from = note.from; to = note.to; place = note.place; came = true }))) numbers;
   }
 
-  comes : (number : ℕ) (p : PacketsValue) (rest : List Entry) (sent : ℕ) → AreNotes journal 0 p.notes → AreNumbered (length p.notes) rest sent → AreNoted (after_coming number p) rest sent
+  comes : (number : ℕ) (p : PacketsValue) (rest : List Entry) (sent : ℕ) → AreNotes journal 0 p.notes → PacketsAreNumbered (length p.notes) rest sent → AreNoted (after_coming number p) rest sent
   comes number p rest sent are numbers = by_number (number == 0)
     where
       by_number : (b : Bool) → AreNoted (record { notes = came_at p.notes (number - 1) (cond b None (slice_get p.notes (number - 1))); held = p.held }) rest sent
       by_number true = record { are = are; numbers = numbers }
       by_number false = came_so p.notes (number - 1) rest sent p.held (slice_get p.notes (number - 1)) refl are numbers
 
-  noted : (p : PacketsValue) (place : ℕ) (e : Entry) (rest : List Entry) (sent : ℕ) → slice_get journal place ≡ Some e → AreNotes journal 0 p.notes → AreNumbered (length p.notes) (e ∷ rest) sent
+  noted : (p : PacketsValue) (place : ℕ) (e : Entry) (rest : List Entry) (sent : ℕ) → slice_get journal place ≡ Some e → AreNotes journal 0 p.notes → PacketsAreNumbered (length p.notes) (e ∷ rest) sent
       → AreNoted (noting p place e) rest sent
   noted p place (Packet number from to bytes) rest sent there are numbers =
       let is : number ≡ 0 + length p.notes + 1 = let same = numbers.0 in omega (arith, same) in
@@ -107,13 +107,13 @@ module _ (journal : List Entry) where
       let longer : length p.notes + 1 ≡ length (p.notes ++ note ∷ []) = sym (length-append p.notes (note ∷ [])) in
       record {
         are = notes_push 0 p.notes note are (subst (λ (k : ℕ). IsNoteOf journal k note) is (record { bytes = bytes; there = there }));
-        numbers = subst (λ (k : ℕ). AreNumbered k rest sent) longer numbers.1;
+        numbers = subst (λ (k : ℕ). PacketsAreNumbered k rest sent) longer numbers.1;
       }
   noted p place (Delivered number) rest sent there are numbers = comes number p rest sent are numbers
   noted p place e rest sent there are numbers = record { are = are; numbers = numbers }
 
   all_noted : (p : PacketsValue) (place : ℕ) (entries : List Entry) (sent : ℕ) → ((k : ℕ) (e : Entry) → slice_get entries k ≡ Some e → slice_get journal (place + k) ≡ Some e) → AreNotes journal 0 p.notes
-      → AreNumbered (length p.notes) entries sent → AreNotes journal 0 (noting_all p place entries).notes
+      → PacketsAreNumbered (length p.notes) entries sent → AreNotes journal 0 (noting_all p place entries).notes
   all_noted p place [] sent stands are numbers = are
   all_noted p place (e ∷ entries) sent stands are numbers =
       let here : place + 0 ≡ place = omega arith in
@@ -122,7 +122,7 @@ module _ (journal : List Entry) where
       (λ k x is. let on : place + suc k ≡ place + 1 + k = omega arith in subst (λ (j : ℕ). slice_get journal j ≡ Some x) on (stands (suc k) x is)) n.are n.numbers
 
   -- the packet of a number was sent
-  pub has_packet : (held : List (NodeId × NodeId)) (sent number : ℕ) (note : PacketNote) → AreNumbered 0 journal sent → packet_numbered (packets_in journal held) number ≡ Some note
+  pub has_packet : (held : List (NodeId × NodeId)) (sent number : ℕ) (note : PacketNote) → PacketsAreNumbered 0 journal sent → packet_numbered (packets_in journal held) number ≡ Some note
       → HasPacket journal number note.from note.to (bytes_at_place journal note.place)
   has_packet held sent number note numbers is =
       let at : IsAt (packets_in journal held).notes number note = at_number (packets_in journal held).notes number note is in

@@ -13,7 +13,7 @@ use Rattle.cluster_machines.specs.Machines.{nth}
 use Rattle.cluster_world.specs.ClusterWorlds.{ClusterState, verifier_after}
 use Rattle.node_histories.specs.Weaves.{entries_in}
 use Rattle.node_histories.specs.ClientLives.{StraysIfLeft}
-use Rattle.node_histories.specs.NodeHistories.{AreTogether, MdsStory, IsMdsStory, ClientStory, AreClientStories, IsClientStory, IsInputOfScript, is_world_entry, HasLife, EnteredByWorld, AreNumbered, IsToldByNodes}
+use Rattle.node_histories.specs.NodeHistories.{AreTogether, MdsStory, IsMdsStory, ClientStory, AreClientStories, IsClientStory, IsInputOfScript, is_world_entry, HasLife, EnteredByWorld, PacketsAreNumbered, IsToldByNodes}
 use Rattle.node_histories.proofs.Parts.{Part, all_there}
 use Rattle.node_histories.proofs.Lives.{client_shower, StoryGoes, TakesPart, takes, starts_again}
 use Rattle.node_histories.proofs.Stories.{AreOfScript, at_number, numbered_so, count_from_1, set_there, StoryAt, story_at, StoriesGo, StoriesGoAt, all_pass, one_goes}
@@ -30,7 +30,7 @@ pub record ToldBy (clients : List ClientValue) (verifiers : List ℕ) (m : MdsVa
   pub mds : MdsStory
   pub mds_is : IsMdsStory mds m journal
   pub origins : HaveOrigins stories mds [] journal
-  pub numbers : AreNumbered 0 journal sent
+  pub numbers : PacketsAreNumbered 0 journal sent
   pub apart : AreApart journal
 
 abbrev pub IsTold : ClusterState → Type 0
@@ -46,7 +46,7 @@ world_origins stories mds journal more all past behind e is = EnteredByWorld (al
 module _ (clients : List ClientValue) (verifiers : List ℕ) (m : MdsValue) (sent : ℕ) (journal : List Entry) (i : ToldBy clients verifiers m sent journal) where
   -- stories that have grown, and what was added has its origins
   grown : (clients' : List ClientValue) (verifiers' : List ℕ) (m' : MdsValue) (sent' : ℕ) (more : List Entry) (go : StoriesGo 1 i.stories clients' verifiers' (journal ++ more))
-      (g : story.MdsGoes i.mds m' (journal ++ more)) → HaveOrigins go.new g.new journal more → AreNumbered sent more sent' → AreApart more → ToldBy clients' verifiers' m' sent' (journal ++ more)
+      (g : story.MdsGoes i.mds m' (journal ++ more)) → HaveOrigins go.new g.new journal more → PacketsAreNumbered sent more sent' → AreApart more → ToldBy clients' verifiers' m' sent' (journal ++ more)
   grown clients' verifiers' m' sent' more go g new numbers apart = record {
     stories = go.new;
     are = go.are;
@@ -59,14 +59,14 @@ module _ (clients : List ClientValue) (verifiers : List ℕ) (m : MdsValue) (sen
   }
 
   -- entries that are no client's and not the metadata server's
-  pub others : (sent' : ℕ) (more : List Entry) → ((stories : List ClientStory) (mds : MdsStory) → HaveOrigins stories mds journal more) → AreNumbered sent more sent' → AreApart more → ToldBy clients verifiers m sent' (journal ++ more)
+  pub others : (sent' : ℕ) (more : List Entry) → ((stories : List ClientStory) (mds : MdsStory) → HaveOrigins stories mds journal more) → PacketsAreNumbered sent more sent' → AreApart more → ToldBy clients verifiers m sent' (journal ++ more)
   others sent' more new numbers apart =
       let go : StoriesGo 1 i.stories clients verifiers (journal ++ more) = all_pass 1 i.stories clients verifiers journal more i.are i.asked in
       let g : story.MdsGoes i.mds m (journal ++ more) = story.passes i.mds m journal i.mds_is more in
       grown clients verifiers m sent' more go g (new go.new g.new) numbers apart
 
   -- an event of the metadata server
-  pub mds_takes : (e : MdsEvent) (sent' : ℕ) (more : List Entry) (p : Part mds_shower journal (mds.items_of e (after_event e m)) more) → AreTogether p.steps → AreNumbered sent more sent' → AreApart more
+  pub mds_takes : (e : MdsEvent) (sent' : ℕ) (more : List Entry) (p : Part mds_shower journal (mds.items_of e (after_event e m)) more) → AreTogether p.steps → PacketsAreNumbered sent more sent' → AreApart more
       → ToldBy clients verifiers (after_event e m).mds sent' (journal ++ more)
   mds_takes e sent' more p together numbers apart =
       let go : StoriesGo 1 i.stories clients verifiers (journal ++ more) = all_pass 1 i.stories clients verifiers journal more i.are i.asked in
@@ -95,7 +95,7 @@ module _ (clients : List ClientValue) (verifiers : List ℕ) (m : MdsValue) (sen
         one_goes 1 (n - 1) i.stories clients verifiers journal more s.story d v i.are i.asked s.there h
 
     -- an input of a client
-    pub client_takes : (input : ClientInput) (sent' : ℕ) (more : List Entry) → IsInputOfScript input → StraysIfLeft c input → Part (client_shower n) journal (items_of input (input_step input c)) more → AreNumbered sent more sent' → AreApart more
+    pub client_takes : (input : ClientInput) (sent' : ℕ) (more : List Entry) → IsInputOfScript input → StraysIfLeft c input → Part (client_shower n) journal (items_of input (input_step input c)) more → PacketsAreNumbered sent more sent' → AreApart more
         → ToldBy (slice_set clients (n - 1) (input_step input c).client) verifiers m sent' (journal ++ more)
     client_takes input sent' more of_script left p numbers apart =
         let s : PlacedStory = placed in

@@ -197,10 +197,10 @@ IsEventInRange event = Unit {0}
 -- ---- a world
 
 -- packets have their numbers in order: those of a journal are the next behind one number, up to another
-abbrev pub AreNumbered : ℕ → List Entry → ℕ → Type 0
-AreNumbered last [] sent = last ≡ sent
-AreNumbered last (entry.Packet number from to bytes ∷ journal) sent = (number ≡ last + 1) × AreNumbered (last + 1) journal sent
-AreNumbered last (e ∷ journal) sent = AreNumbered last journal sent
+abbrev pub PacketsAreNumbered : ℕ → List Entry → ℕ → Type 0
+PacketsAreNumbered last [] sent = last ≡ sent
+PacketsAreNumbered last (entry.Packet number from to bytes ∷ journal) sent = (number ≡ last + 1) × PacketsAreNumbered (last + 1) journal sent
+PacketsAreNumbered last (e ∷ journal) sent = PacketsAreNumbered last journal sent
 
 pub record IsToldByNodes (w : ClusterState) : Type 0 where
   pub stories : List ClientStory
@@ -210,7 +210,7 @@ pub record IsToldByNodes (w : ClusterState) : Type 0 where
   pub mds_is : IsMdsStory mds w.machines.mds w.journal
   pub origins : (past behind : List Entry) (e : Entry) → w.journal ≡ past ++ e ∷ behind → Origin stories mds past e
   -- so what comes under a number is the packet of that number
-  pub numbers : AreNumbered 0 w.journal w.sent
+  pub numbers : PacketsAreNumbered 0 w.journal w.sent
   -- the metadata server sends itself nothing
   pub apart : (past behind : List Entry) (number : ℕ) (bytes : List ℕ) → w.journal ≡ past ++ entry.Packet number Mds Mds bytes ∷ behind → ⊥
 

@@ -33,7 +33,7 @@ use Rattle.read_runs.proofs.LiveTold.{IsOf, live_in_layout, SwapsLast, HasNone, 
 use Rattle.read_runs.proofs.LiveRows.{phase_says}
 use Rattle.read_runs.proofs.WaitingReads.{NoSwapsOf, waits_more, waits_again}
 use Rattle.read_runs.proofs.Answered.{IsRight, AreRight, right_joined, live_entered}
-use Rattle.read_runs.proofs.SentCalls.{AreNumbered}
+use Rattle.read_runs.proofs.SentCalls.{HaveNumbers}
 use Rattle.read_runs.proofs.Holding.{IsReadSo, IsServedSo, HoldsOf, files_set, told_set}
 
 -- ---- entries of one file
@@ -130,7 +130,7 @@ module _ (mirrors : ℕ) (files : List ServedFile) (calls : List AwaitedCall) (n
           told_set files file s (file_behind s step) is h (h ++ map Enters step.entries) i.not_told
           (λ other apart none. live_entered other h step.entries ∙ others_live file other apart step.entries says.own (live_in (entries_in h) other) ∙ none);
       numbered =
-          subst (λ ss. AreNumbered next calls ss) (sym (sends_joined h (map Enters step.entries) ∙ ap (λ l. sends_in h ++ l) (sends_entered step.entries) ∙ append-nil (sends_in h))) i.numbered;
+          subst (λ ss. HaveNumbers next calls ss) (sym (sends_joined h (map Enters step.entries) ∙ ap (λ l. sends_in h ++ l) (sends_entered step.entries) ∙ append-nil (sends_in h))) i.numbered;
       right = right_joined [] h (map Enters step.entries) i.right (rights_of file h step.entries says.own);
     }
 

@@ -22,7 +22,7 @@ use Rattle.mds_histories.proofs.Histories.{sends_joined}
 use Rattle.read_runs.proofs.LiveTold.{live_in_layout, FitsPhase}
 use Rattle.read_runs.proofs.WaitingReads.{IsWaitingFor, NoSwapsOf, waits_more}
 use Rattle.read_runs.proofs.Answered.{AreRight, right_joined, right_stills, AreStillItems, no_swap_stills, live_stills}
-use Rattle.read_runs.proofs.SentCalls.{IsCallSo, AreNumbered, numbers_none, numbers_again, numbers_new, numbers_skip, numbers_forget}
+use Rattle.read_runs.proofs.SentCalls.{IsCallSo, HaveNumbers, numbers_none, numbers_again, numbers_new, numbers_skip, numbers_forget}
 
 -- ---- a file
 
@@ -57,7 +57,7 @@ pub record HoldsOf (mirrors : ℕ) (files : List ServedFile) (calls : List Await
   pub few : mirrors ≤ 4
   pub files_so : AreServedSo files h
   pub not_told : AreNotTold files h
-  pub numbered : AreNumbered next calls (sends_in h)
+  pub numbered : HaveNumbers next calls (sends_in h)
   pub right : AreRight [] h
 
 abbrev pub Holds : MdsValue → List MdsItem → Type 0
@@ -77,7 +77,7 @@ served_more h file s items live none i = record {
 module _ (mirrors : ℕ) (files : List ServedFile) (calls : List AwaitedCall) (next : ℕ) (h : List MdsItem) (i : HoldsOf mirrors files calls next h) where
   -- items by which no live list changes
   pub grown_by : (items : List MdsItem) (more : List AwaitedCall) (xid : ℕ) → ((file : FileId) → live_in (entries_in (h ++ items)) file ≡ live_in (entries_in h) file) → ((file : FileId) → NoSwapsOf file items) → AreRight h items
-      → AreNumbered xid more (sends_in (h ++ items)) → HoldsOf mirrors files more xid (h ++ items)
+      → HaveNumbers xid more (sends_in (h ++ items)) → HoldsOf mirrors files more xid (h ++ items)
   grown_by items more xid live none right n = record {
     few = i.few;
     files_so = λ file s is. served_more h file s items (live file) (none file) (i.files_so file s is);
@@ -86,16 +86,16 @@ module _ (mirrors : ℕ) (files : List ServedFile) (calls : List AwaitedCall) (n
     right = right_joined [] h items i.right right;
   }
 
-  grown : (items : List MdsItem) (more : List AwaitedCall) (xid : ℕ) → AreStillItems items → AreNumbered xid more (sends_in (h ++ items)) → HoldsOf mirrors files more xid (h ++ items)
+  grown : (items : List MdsItem) (more : List AwaitedCall) (xid : ℕ) → AreStillItems items → HaveNumbers xid more (sends_in (h ++ items)) → HoldsOf mirrors files more xid (h ++ items)
   grown items more xid still n = grown_by items more xid (λ file. live_stills file h items still) (λ file. no_swap_stills file items still) (right_stills h items still) n
 
   pub holds_still : (items : List MdsItem) → AreStillItems items → sends_in items ≡ [] → HoldsOf mirrors files calls next (h ++ items)
   holds_still items still none =
-      grown items calls next still (subst (λ (ss : List MdsSend). AreNumbered next calls ss) (sym (sends_joined h items ∙ ap (λ l. sends_in h ++ l) none ∙ append-nil (sends_in h))) i.numbered)
+      grown items calls next still (subst (λ (ss : List MdsSend). HaveNumbers next calls ss) (sym (sends_joined h items ∙ ap (λ l. sends_in h ++ l) none ∙ append-nil (sends_in h))) i.numbered)
 
   -- a send, by its number
-  pushed_send : (s : MdsSend) (more : List AwaitedCall) (xid : ℕ) → AreNumbered xid more (sends_in h ++ s ∷ []) → HoldsOf mirrors files more xid (h ++ Sends s ∷ [])
-  pushed_send s more xid n = grown (Sends s ∷ []) more xid (tt, tt) (subst (λ (ss : List MdsSend). AreNumbered xid more ss) (sym (sends_joined h (Sends s ∷ []))) n)
+  pushed_send : (s : MdsSend) (more : List AwaitedCall) (xid : ℕ) → HaveNumbers xid more (sends_in h ++ s ∷ []) → HoldsOf mirrors files more xid (h ++ Sends s ∷ [])
+  pushed_send s more xid n = grown (Sends s ∷ []) more xid (tt, tt) (subst (λ (ss : List MdsSend). HaveNumbers xid more ss) (sym (sends_joined h (Sends s ∷ []))) n)
 
   pub holds_replied : (s : MdsSend) → number_sent s ≡ None → HoldsOf mirrors files calls next (h ++ Sends s ∷ [])
   holds_replied s none = pushed_send s calls next (numbers_none next calls (sends_in h) s none i.numbered)

@@ -29,22 +29,22 @@ use Rattle.mds_rule.specs.FileOps.{read_length}
 use Rattle.mds_rule.specs.Answers.{resumes, is_done_as, failed_entry, failed_entries, read_result, without_read, read_resumes, read_ends, read_after}
 use Rattle.mds_histories.specs.MdsHistory.{MdsItem, Enters, Sends, sends_in}
 use Rattle.mds_histories.proofs.Histories.{sends_joined}
-use Rattle.read_runs.specs.ReadRuns.{HasCause, WasGiven, IsAnswered}
+use Rattle.read_runs.specs.ReadRuns.{HasReadCause, WasGiven, IsAnswered}
 use Rattle.read_runs.proofs.WaitingReads.{IsWaitingFor, each_failed}
 use Rattle.read_runs.proofs.ReadBecomes.{BecomesSo, GoesOn, Fails, Gives}
 use Rattle.read_runs.proofs.Answered.{live_told}
-use Rattle.read_runs.proofs.SentCalls.{AreNumbered, numbers_none}
+use Rattle.read_runs.proofs.SentCalls.{HaveNumbers, numbers_none}
 use Rattle.read_runs.proofs.Holding.{IsReadSo, IsServedSo, HoldsOf, Holds, grown_by, holds_still, holds_put}
 use Rattle.read_runs.proofs.Steps.{KeepsAt}
 
 -- ---- the answer
 
 -- what a READ that ends rests on
-cause_at : (start since : List MdsItem) (r : ReadState) (at count : ℕ) (live : List MirrorId) (status : ℕ) (bytes : List ℕ) → r.at ≡ at → r.count ≡ count → HasCause start since r.at r.count live status bytes → HasCause start since at count live status bytes
+cause_at : (start since : List MdsItem) (r : ReadState) (at count : ℕ) (live : List MirrorId) (status : ℕ) (bytes : List ℕ) → r.at ≡ at → r.count ≡ count → HasReadCause start since r.at r.count live status bytes → HasReadCause start since at count live status bytes
 cause_at start since r at count live status bytes first second cause =
-    subst (λ (a : ℕ). HasCause start since a count live status bytes) first (subst (λ (n : ℕ). HasCause start since r.at n live status bytes) second cause)
+    subst (λ (a : ℕ). HasReadCause start since a count live status bytes) first (subst (λ (n : ℕ). HasReadCause start since r.at n live status bytes) second cause)
 
-answer_of : (h : List MdsItem) (file : FileId) (c : CompoundRun) (r : ReadState) (status : ℕ) (bytes text : List ℕ) (w : IsWaitingFor h file c r) → HasCause w.start w.since r.at r.count (ids_of r.live) status bytes
+answer_of : (h : List MdsItem) (file : FileId) (c : CompoundRun) (r : ReadState) (status : ℕ) (bytes text : List ℕ) (w : IsWaitingFor h file c r) → HasReadCause w.start w.since r.at r.count (ids_of r.live) status bytes
     → IsAnswered h file status bytes (Sends (Replies c.node (success_reply c.xid text)) ∷ [])
 answer_of h file c r status bytes text w cause = record {
   node = c.node;
@@ -75,7 +75,7 @@ holds_answered mirrors files calls next h file c status bytes text i a =
     let reply = Replies c.node (success_reply c.xid text) in
     let items : List MdsItem = Enters (entry.ReadAnswer file status bytes) ∷ Sends reply ∷ [] in
     grown_by mirrors files calls next h i items calls next (λ other. live_told other h items) (λ other. (tt, (tt, tt))) (a, (tt, tt))
-    (subst (λ ss. AreNumbered next calls ss) (sym (sends_joined h items)) (numbers_none next calls (sends_in h) reply refl i.numbered))
+    (subst (λ ss. HaveNumbers next calls ss) (sym (sends_joined h items)) (numbers_none next calls (sends_in h) reply refl i.numbered))
 
 -- ---- the file without it, or with it as it goes on
 

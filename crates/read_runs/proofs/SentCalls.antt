@@ -25,7 +25,7 @@ pub record IsCallSo (call : AwaitedCall) : Type 0 where
 abbrev pub SentOnce : List MdsSend → Type 0
 SentOnce ss = (a b : MdsSend) (xid : ℕ) → In a ss → In b ss → number_sent a ≡ Some xid → number_sent b ≡ Some xid → a ≡ b
 
-pub record AreNumbered (next : ℕ) (calls : List AwaitedCall) (ss : List MdsSend) : Type 0 where
+pub record HaveNumbers (next : ℕ) (calls : List AwaitedCall) (ss : List MdsSend) : Type 0 where
   pub below : not (next == 0) ≡ true → AreBelow next ss
   pub once : SentOnce ss
   pub were : WereSent calls ss
@@ -67,7 +67,7 @@ once_again ss s once inside a b xid first second as_a as_b = once a b xid (old a
 
 -- ---- what goes out
 
-pub numbers_none : (next : ℕ) (calls : List AwaitedCall) (ss : List MdsSend) (s : MdsSend) → number_sent s ≡ None → AreNumbered next calls ss → AreNumbered next calls (ss ++ s ∷ [])
+pub numbers_none : (next : ℕ) (calls : List AwaitedCall) (ss : List MdsSend) (s : MdsSend) → number_sent s ≡ None → HaveNumbers next calls ss → HaveNumbers next calls (ss ++ s ∷ [])
 numbers_none next calls ss s none n = record {
   below = λ has. below_push next ss s (n.below has) (subst (IsBelow next) (sym none) tt);
   once = once_new ss s n.once (λ x xid inside its is. none-some xid (sym none ∙ is));
@@ -75,7 +75,7 @@ numbers_none next calls ss s none n = record {
   are = n.are;
 }
 
-pub numbers_again : (next : ℕ) (calls : List AwaitedCall) (ss : List MdsSend) (s : MdsSend) → In s ss → AreNumbered next calls ss → AreNumbered next calls (ss ++ s ∷ [])
+pub numbers_again : (next : ℕ) (calls : List AwaitedCall) (ss : List MdsSend) (s : MdsSend) → In s ss → HaveNumbers next calls ss → HaveNumbers next calls (ss ++ s ∷ [])
 numbers_again next calls ss s inside n = record {
   below = λ has. below_push next ss s (n.below has) (in_below next ss s (n.below has) inside);
   once = once_again ss s n.once inside;
@@ -83,8 +83,8 @@ numbers_again next calls ss s inside n = record {
   are = n.are;
 }
 
-pub numbers_new : (next : ℕ) (calls : List AwaitedCall) (ss : List MdsSend) (call : AwaitedCall) → not (next == 0) ≡ true → number_sent call.sent ≡ Some next → IsCallSo call → AreNumbered next calls ss
-    → AreNumbered (xid_after next) (with_call call calls) (ss ++ call.sent ∷ [])
+pub numbers_new : (next : ℕ) (calls : List AwaitedCall) (ss : List MdsSend) (call : AwaitedCall) → not (next == 0) ≡ true → number_sent call.sent ≡ Some next → IsCallSo call → HaveNumbers next calls ss
+    → HaveNumbers (xid_after next) (with_call call calls) (ss ++ call.sent ∷ [])
 numbers_new next calls ss call has number so n = record {
   below = after_below next (ss ++ call.sent ∷ []) (below_push (next + 1) ss call.sent (below_all next ss (n.below has)) (subst (IsBelow (next + 1)) (sym number) (omega arith)));
   once = once_new ss call.sent n.once (λ x xid inside its is. not_used next ss (n.below has) x inside (its ∙ sym is ∙ number));
@@ -96,10 +96,10 @@ numbers_new next calls ss call has number so n = record {
     by_place x (inl old) = n.are x old
     by_place x (inr is) = subst IsCallSo (sym is) so
 
-pub numbers_skip : (next : ℕ) (calls : List AwaitedCall) (ss : List MdsSend) → not (next == 0) ≡ true → AreNumbered next calls ss → AreNumbered (xid_after next) calls ss
+pub numbers_skip : (next : ℕ) (calls : List AwaitedCall) (ss : List MdsSend) → not (next == 0) ≡ true → HaveNumbers next calls ss → HaveNumbers (xid_after next) calls ss
 numbers_skip next calls ss has n = record { below = after_below next ss (below_all next ss (n.below has)); once = n.once; were = n.were; are = n.are }
 
-pub numbers_forget : (next : ℕ) (calls : List AwaitedCall) (ss : List MdsSend) (node : NodeId) (xid : ℕ) → AreNumbered next calls ss → AreNumbered next (without_call node xid calls) ss
+pub numbers_forget : (next : ℕ) (calls : List AwaitedCall) (ss : List MdsSend) (node : NodeId) (xid : ℕ) → HaveNumbers next calls ss → HaveNumbers next (without_call node xid calls) ss
 numbers_forget next calls ss node xid n = record {
   below = n.below;
   once = n.once;

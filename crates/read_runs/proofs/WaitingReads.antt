@@ -28,7 +28,7 @@ use Rattle.mds_laws.specs.MdsRunLaws.{number_sent}
 use Rattle.mds_laws.proofs.Lists.{In, in_more}
 use Rattle.mds_histories.specs.MdsHistory.{MdsItem, Comes, Enters, Sends, entries_in, sends_in}
 use Rattle.mds_histories.proofs.Histories.{sends_joined}
-use Rattle.read_runs.specs.ReadRuns.{Reads, IsNoSwapOf, HasNone, HasSwap, StartsAt, WasAsked, HasFailed}
+use Rattle.read_runs.specs.ReadRuns.{Reads, IsNoSwapOf, HasNone, HasSwap, StartsAt, WasAsked, HasFailedRead}
 
 -- ---- what was asked and what failed, in a longer history
 
@@ -39,7 +39,7 @@ asked_more start since id at count xid behind more a = record {
   new = a.new;
 }
 
-pub failed_more : (start since : List MdsItem) (at count : ℕ) (id : MirrorId) (more : List MdsItem) → HasFailed start since at count id → HasFailed start (since ++ more) at count id
+pub failed_more : (start since : List MdsItem) (at count : ℕ) (id : MirrorId) (more : List MdsItem) → HasFailedRead start since at count id → HasFailedRead start (since ++ more) at count id
 failed_more start since at count id more f = record {
   before = f.before;
   xid = f.xid;
@@ -53,7 +53,7 @@ failed_more start since at count id more f = record {
 abbrev pub HaveFailed : List MdsItem → List MdsItem → ℕ → ℕ → List Mirror → List Failure → Type 0
 HaveFailed start since at count live [] = Unit {0}
 HaveFailed start since at count [] (f ∷ failures) = ⊥
-HaveFailed start since at count (m ∷ live) (f ∷ failures) = HasFailed start since at count m.id × HaveFailed start since at count live failures
+HaveFailed start since at count (m ∷ live) (f ∷ failures) = HasFailedRead start since at count m.id × HaveFailed start since at count live failures
 
 pub have_more : (start since : List MdsItem) (at count : ℕ) (live : List Mirror) (failures : List Failure) (more : List MdsItem) → HaveFailed start since at count live failures → HaveFailed start (since ++ more) at count live failures
 have_more start since at count live [] more h = tt
@@ -62,17 +62,17 @@ have_more start since at count (m ∷ live) (f ∷ failures) more h = (failed_mo
 
 -- the next one fails too
 have_next : (start since : List MdsItem) (at count : ℕ) (live : List Mirror) (failures : List Failure) (f : Failure) (m : Mirror) → HaveFailed start since at count live failures → slice_get live (length failures) ≡ Some m
-    → HasFailed start since at count m.id → HaveFailed start since at count live (failures ++ f ∷ [])
+    → HasFailedRead start since at count m.id → HaveFailed start since at count live (failures ++ f ∷ [])
 have_next start since at count [] failures f m h turn one = absurd (none-some m turn)
-have_next start since at count (x ∷ live) [] f m h turn one = (subst (λ (y : Mirror). HasFailed start since at count y.id) (sym (same_Some x m turn)) one, tt)
+have_next start since at count (x ∷ live) [] f m h turn one = (subst (λ (y : Mirror). HasFailedRead start since at count y.id) (sym (same_Some x m turn)) one, tt)
 have_next start since at count (x ∷ live) (g ∷ failures) f m h turn one = (h.0, have_next start since at count live failures f m h.1 turn one)
 
 -- where none is left, each has failed
 pub each_failed : (start since : List MdsItem) (at count : ℕ) (live : List Mirror) (failures : List Failure) → HaveFailed start since at count live failures → slice_get live (length failures) ≡ None
-    → (id : MirrorId) → In id (ids_of live) → HasFailed start since at count id
+    → (id : MirrorId) → In id (ids_of live) → HasFailedRead start since at count id
 each_failed start since at count [] failures h turn id inside = absurd inside
 each_failed start since at count (m ∷ live) [] h turn id inside = absurd (none-some m (sym turn))
-each_failed start since at count (m ∷ live) (f ∷ failures) h turn id (inl is) = subst (λ (k : MirrorId). HasFailed start since at count k) (sym is) h.0
+each_failed start since at count (m ∷ live) (f ∷ failures) h turn id (inl is) = subst (λ (k : MirrorId). HasFailedRead start since at count k) (sym is) h.0
 each_failed start since at count (m ∷ live) (f ∷ failures) h turn id (inr inside) = each_failed start since at count live failures h.1 turn id inside
 
 -- ---- where a READ stands

@@ -107,7 +107,7 @@ pub record WasGiven (start since : List MdsItem) (at count : ℕ) (live : List M
   pub says : reply_of_call (Read mirror.fileid at count) reply ≡ Bytes shown eof bytes
 
 -- a READ of the mirror was asked, and then it was entered as failed
-pub record HasFailed (start since : List MdsItem) (at count : ℕ) (mirror : MirrorId) : Type 0 where
+pub record HasFailedRead (start since : List MdsItem) (at count : ℕ) (mirror : MirrorId) : Type 0 where
   pub before : List MdsItem
   pub xid : ℕ
   pub behind : List MdsItem
@@ -116,9 +116,9 @@ pub record HasFailed (start since : List MdsItem) (at count : ℕ) (mirror : Mir
   pub asked : WasAsked start before mirror at count xid later
 
 -- status 0, or 5, NFS4ERR_IO (RFC 8881, section 15.1)
-abbrev pub HasCause : List MdsItem → List MdsItem → ℕ → ℕ → List MirrorId → ℕ → List ℕ → Type 0
-HasCause start since at count live status bytes =
-    ((status ≡ 0) × WasGiven start since at count live bytes) ⊎ ((status ≡ 5) × ((m : MirrorId) → IsOneOf m live → HasFailed start since at count m))
+abbrev pub HasReadCause : List MdsItem → List MdsItem → ℕ → ℕ → List MirrorId → ℕ → List ℕ → Type 0
+HasReadCause start since at count live status bytes =
+    ((status ≡ 0) × WasGiven start since at count live bytes) ⊎ ((status ≡ 5) × ((m : MirrorId) → IsOneOf m live → HasFailedRead start since at count m))
 
 -- ---- an answer
 
@@ -137,7 +137,7 @@ pub record IsAnswered (past : List MdsItem) (file : FileId) (status : ℕ) (byte
   pub starts : StartsAt past node asked file start since
   pub live : List MirrorId
   pub live_then : live_in (entries_in start) file ≡ Some live
-  pub cause : HasCause start since at (read_length count) live status bytes
+  pub cause : HasReadCause start since at (read_length count) live status bytes
   pub reply : RpcReply
   pub later : List MdsItem
   pub replied : behind ≡ Sends (Replies node reply) ∷ later

@@ -33,13 +33,13 @@ use Rattle.ds_procedures.specs.Lookup.{max_name}
 use Rattle.ds_procedures.specs.Create.{CreateCase, NotMade, IsThere, create_plan, create_in, create_case, made_how, made_by, creation_unless}
 use Rattle.ds_procedures.specs.Steps.{plan_of}
 use Rattle.ds_calls.specs.MadeCalls.{fileid_handle, guard_time, asked_stability, owner_set, nfs_call_of}
-use Rattle.ds_calls.specs.DsCallLaws.{Beside, IsAnswerTo, nfs_reply_of, IsSpeakable}
+use Rattle.ds_calls.specs.DsCallLaws.{AttributesBeside, IsAnswerTo, nfs_reply_of, IsSpeakable}
 use Rattle.ds_calls.proofs.MirrorNames.{twenty_digits}
 
 -- The same is done, and the reply of NFSv3 says the answer, with something beside it.
 pub record SamePlan (call : DsCallValue) (p : Plan) (d : DsPlan) : Type 0 where
   pub effect : p.effect ≡ d.effect
-  pub beside : Beside
+  pub beside : AttributesBeside
   pub reply : p.reply ≡ nfs_reply_of beside call d.reply
 
 -- ---- handles
@@ -57,17 +57,17 @@ no_wcc : WccData
 no_wcc = record { before = None; after = None }
 
 -- attributes, those from before where there are some, and the directory's
-about : Fattr3 → Option WccAttr → Beside
+about : Fattr3 → Option WccAttr → AttributesBeside
 about attributes before = record { attributes = attributes; before = before; directory = no_wcc }
 
 -- of an object that stays as it is
-unchanged : Fattr3 → Beside
+unchanged : Fattr3 → AttributesBeside
 unchanged a = about a (Some (wcc_attr_of a))
 
-changed : Fattr3 → Fattr3 → Beside
+changed : Fattr3 → Fattr3 → AttributesBeside
 changed before after = about after (Some (wcc_attr_of before))
 
-in_directory : Fattr3 → WccData → Beside
+in_directory : Fattr3 → WccData → AttributesBeside
 in_directory a directory = record { attributes = a; before = None; directory = directory }
 
 -- ---- calls on a file

@@ -8,13 +8,13 @@ use Rattle.cluster_model.specs.DsCalls.{DsCallValue, DsReplyValue, ds_plan}
 use Rattle.ds_procedures.specs.Steps.{step_of}
 use Rattle.ds_files.specs.Receive.{Outcome, outcome_by, outcome_of, outcome_of_step}
 use Rattle.ds_calls.specs.MadeCalls.{nfs_call_of, user_credential}
-use Rattle.ds_calls.specs.DsCallLaws.{DsMessage, record_of, IsUnderstood, Beside, nfs_reply_of, ds_rpc_reply, IsAnswered, IsAnsweredByRule}
+use Rattle.ds_calls.specs.DsCallLaws.{DsMessage, record_of, IsUnderstood, AttributesBeside, nfs_reply_of, ds_rpc_reply, IsAnswered, IsAnsweredByRule}
 use Rattle.same_server.specs.SameServer.{caller_of_user, IsSameServer}
 use Rattle.same_server.proofs.Asked.{is_asked}
 use Rattle.same_server.proofs.Plans.{plan_same}
 
 module _ (understood : (m : DsMessage) → IsUnderstood m)
-    (answered : (xid : ℕ) (b : Beside) (call : DsCallValue) (reply : DsReplyValue) → IsAnswered xid b call reply)
+    (answered : (xid : ℕ) (b : AttributesBeside) (call : DsCallValue) (reply : DsReplyValue) → IsAnswered xid b call reply)
     (ruled : (s : ServerState) (caller : Caller) (call : DsCallValue) → IsAnsweredByRule s caller call) where
   pub same_by : (s : ServerState) (m : DsMessage) → IsSameServer s m
   same_by s m has can =

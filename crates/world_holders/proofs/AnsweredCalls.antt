@@ -21,7 +21,7 @@ use Rattle.node_histories.specs.Weaves.{Seen, items_in, HasPacket}
 use Rattle.node_histories.specs.ClientLives.{Life}
 use Rattle.node_histories.specs.NodeHistories.{HasLife, IsToldByNodes}
 use Rattle.node_histories.proofs.WeaveLemmas.{items_join}
-use Rattle.holder_parts.specs.CoveredRecords.{WasPosted, HasAnswered}
+use Rattle.holder_parts.specs.CoveredRecords.{WasPosted, IsAnsweredSo}
 use Rattle.world_layouts.specs.WorldLayouts.{journal_at}
 use Rattle.world_holders.proofs.LowerLaws.{HasLaws}
 use Rattle.world_holders.proofs.CallNumbers.{HasCall, same_call}
@@ -130,7 +130,7 @@ module _ (w : ClusterState) (t : IsToldByNodes w) (laws : HasLaws t) where
   -- ---- a call is answered
 
   pub has_answered : (n server : ℕ) (l : Life) → HasLife t.stories n l → (xid : ℕ) (name : List ℕ) (uid : ℕ) (call : DsCallValue) → HasItem (items_in l.steps) (calling server xid name uid call) → (journal rest : List Entry) → w.journal ≡ journal ++ rest → (bytes : List ℕ)
-      → WasPosted journal (Server server) (Client n) bytes → (says : DsReplyValue) → IsDsReply bytes xid call says → HasAnswered journal n server (record { xid = xid; machine = name; user = uid; call = call }) says
+      → WasPosted journal (Server server) (Client n) bytes → (says : DsReplyValue) → IsDsReply bytes xid call says → IsAnsweredSo journal n server (record { xid = xid; machine = name; user = uid; call = call }) says
   has_answered n server l its xid name uid call has journal rest whole bytes came says reply = record {
     fits = (send_fits w t laws n l (life_of w t laws.clients.numbered n l its) (CallsServer server xid name uid call) has).0;
     only = λ other posted number. (its_packet n server l its xid name uid call has journal rest whole other posted number).is;

@@ -6,7 +6,7 @@ use Rattle.client_state.specs.ClientSends.{ClientSend, CallsServer, CallsMds, Re
 use Rattle.client_calls.specs.ClientLaws.{new_number}
 use Rattle.client_laws.specs.ClientHistory.{ClientInput, HistoryItem, Hears, Enters, Sends, HasItem, Each, client_history, client_after}
 use Rattle.client_laws.proofs.Orders.{in_more, in_end}
-use Rattle.client_records.specs.ClientRecords.{IsBelow, AreBelow, IsNextNumber, NumbersSend, NumbersOn, IsNumberedOn, EachRunIsNumbered}
+use Rattle.client_records.specs.ClientRecords.{IsBelow, CallsAreBelow, IsNextNumber, NumbersSend, NumbersOn, IsNumberedOn, EachRunIsNumbered}
 use Rattle.node_histories.specs.Weaves.{items_in}
 use Rattle.node_histories.specs.ClientLives.{Life, start_of, client_of, IsOneOf, AreLives}
 use Rattle.world_reads.proofs.Lives.{first_fits}
@@ -20,7 +20,7 @@ heard_no_send send input is = absurd cc
 pub same_send : (x y : ClientSend) → Sends x ≡ Sends y → x ≡ y
 same_send x y is = cc
 
-below_call : (xid : ℕ) (past : List HistoryItem) (send : ClientSend) → AreBelow xid past → HasItem past (Sends send) → new_number send ≡ Some xid → ⊥
+below_call : (xid : ℕ) (past : List HistoryItem) (send : ClientSend) → CallsAreBelow xid past → HasItem past (Sends send) → new_number send ≡ Some xid → ⊥
 below_call xid [] send below has is = has
 below_call xid (Hears input ∷ past) send below (inl here) is = heard_no_send send input here.0
 below_call xid (Hears input ∷ past) send below (inr has) is = below_call xid past send below has is
@@ -73,7 +73,7 @@ from_first first past [] xid send each has is = absurd has
 from_first first past (x ∷ h) xid send each (inl here) is = (number_here first past x send xid each.0 here.0 is).from_first
 from_first first past (x ∷ h) xid send each (inr has) is = from_first first (past ++ x ∷ []) h xid send each.1 has is
 
-below_next : (next : ℕ) (h : List HistoryItem) (xid : ℕ) (send : ClientSend) → AreBelow next h → HasItem h (Sends send) → new_number send ≡ Some xid → xid < next
+below_next : (next : ℕ) (h : List HistoryItem) (xid : ℕ) (send : ClientSend) → CallsAreBelow next h → HasItem h (Sends send) → new_number send ≡ Some xid → xid < next
 below_next next [] xid send below has is = absurd has
 below_next next (Hears input ∷ h) xid send below (inl here) is = heard_no_send send input here.0
 below_next next (Hears input ∷ h) xid send below (inr has) is = below_next next h xid send below has is

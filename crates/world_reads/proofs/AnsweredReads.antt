@@ -169,9 +169,9 @@ module _ (laws : ReadLaws) (boots : List ℕ) (w : ClusterState) (run : IsRunOf 
       let small : a.xid < 2 ^ 32 = subst (λ (n : ℕ). n < 2 ^ 32) taken.number k.speaks.xid_fits in
       let live_then : live_in (entries_in p.first) file ≡ Some a.live =
       live_told file None p.first told_first ∙ (ap (λ (l : List MdsItem). live_in (of_mds.entries_in l) file) p.first_items ∙ a.live_then) in
-      let cause : runs.HasCause (items_in p.first) (items_in p.second) a.at (read_length a.count) a.live status bytes =
-      subst (λ (l : List MdsItem). runs.HasCause l (items_in p.second) a.at (read_length a.count) a.live status bytes) (sym p.first_items)
-      (subst (λ (l : List MdsItem). runs.HasCause a.start l a.at (read_length a.count) a.live status bytes) (sym p.second_items) a.cause) in
+      let cause : runs.HasReadCause (items_in p.first) (items_in p.second) a.at (read_length a.count) a.live status bytes =
+      subst (λ (l : List MdsItem). runs.HasReadCause l (items_in p.second) a.at (read_length a.count) a.live status bytes) (sym p.first_items)
+      (subst (λ (l : List MdsItem). runs.HasReadCause a.start l a.at (read_length a.count) a.live status bytes) (sym p.second_items) a.cause) in
       record {
         client = k.n;
         read = read;

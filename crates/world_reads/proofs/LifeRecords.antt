@@ -13,7 +13,7 @@ use Rattle.client_state.specs.ClientSends.{ClientSend, CallsServer, CallsMds, Re
 use Rattle.client_calls.specs.ClientLaws.{new_number}
 use Rattle.client_laws.specs.ClientHistory.{ClientInput, Requested, Recorded, TimeoutOf, Ticked, LeftProtocol, Strayed, input_step, HistoryItem, Hears, Enters, Sends, entered, sent, HasItem, Each, client_history}
 use Rattle.client_laws.proofs.Orders.{in_more, in_end}
-use Rattle.client_records.specs.ClientRecords.{AreBytes, IsInputInRange, HasSpelling, SendsSpelled, IsBelow, AreBelow, IsNextNumber, NumbersOn, EachRunIsSpelled, EachRunIsNumbered}
+use Rattle.client_records.specs.ClientRecords.{AreBytes, IsInputInRange, HasSpelling, SendsSpelled, IsBelow, CallsAreBelow, IsNextNumber, NumbersOn, EachRunIsSpelled, EachRunIsNumbered}
 use Rattle.node_histories.specs.Weaves.{IsUnseen, WeaveStep, Passes, Unseen, Seen, entries_in, items_in, HasPacket, IsShownAs, AreWoven}
 use Rattle.node_histories.specs.ClientLives.{client_shown, Life, start_of}
 use Rattle.node_histories.specs.NodeHistories.{IsInputOfScript}
@@ -110,7 +110,7 @@ life_spelled spelled journal range n small k numbered f send has =
 abbrev pub compound : ℕ → List ℕ → MdsCallValue → HistoryItem
 compound xid name call = Sends (CallsMds xid name call)
 
-below_has : (xid : ℕ) (past : List HistoryItem) (name : List ℕ) (call : MdsCallValue) → AreBelow xid past → HasItem past (compound xid name call) → ⊥
+below_has : (xid : ℕ) (past : List HistoryItem) (name : List ℕ) (call : MdsCallValue) → CallsAreBelow xid past → HasItem past (compound xid name call) → ⊥
 below_has xid [] name call below has = absurd has
 below_has xid (Hears input ∷ past) name call below (inl here) = not_heard here.0
   where
@@ -156,7 +156,7 @@ from_first first past (x ∷ h) xid name call each (inl here) =
     next.from_first
 from_first first past (x ∷ h) xid name call each (inr has) = from_first first (past ++ x ∷ []) h xid name call each.1 has
 
-pub below_next : (next : ℕ) (h : List HistoryItem) (xid : ℕ) (name : List ℕ) (call : MdsCallValue) → AreBelow next h → HasItem h (compound xid name call) → xid < next
+pub below_next : (next : ℕ) (h : List HistoryItem) (xid : ℕ) (name : List ℕ) (call : MdsCallValue) → CallsAreBelow next h → HasItem h (compound xid name call) → xid < next
 below_next next [] xid name call below has = absurd has
 below_next next (Hears input ∷ h) xid name call below (inl here) = absurd (not_heard here.0)
   where

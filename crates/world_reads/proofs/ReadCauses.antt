@@ -107,7 +107,7 @@ module _ (w : ClusterState) (t : IsToldByNodes w) (range : IsJournalInRange w.jo
         live_range = all_first IsEntryInRange (entries_in a) (entries_in (b ++ rest)) (subst IsJournalInRange (journal_at w t a (b ++ rest) (whole ∙ append_assoc a b rest)) range)
 
     -- a mirror that failed
-    failed_told : (read : ReadCall) → at ≡ read.offset → (m : MirrorId) → In m live → runs.HasFailed (items_in a) (items_in b) at (read_length count) m → law.HasFailed (entries_in a) (entries_in b) file read m
+    failed_told : (read : ReadCall) → at ≡ read.offset → (m : MirrorId) → In m live → runs.HasFailedRead (items_in a) (items_in b) at (read_length count) m → law.HasFailed (entries_in a) (entries_in b) file read m
     failed_told read same m inside f =
         let e : Entry = entry.Failed m f.xid in
         let s : EnteredAt b f.before e f.behind = entered_at b f.before e f.behind (all_second IsToldStep a b told_part) f.split in
@@ -120,7 +120,7 @@ module _ (w : ClusterState) (t : IsToldByNodes w) (range : IsJournalInRange w.jo
         (asked_told w t facts understood a s.earlier ((Seen (Enters e) e ∷ s.later) ++ rest) here told m at (read_length count) f.xid f.later asked has read same)
 
     module _ (same : (s : ServerState) (m : DsMessage) → IsProper s → HasRecord m → DoesTheCall s m) where
-      pub cause_told : (read : ReadCall) → at ≡ read.offset → count ≡ read.count → (status : ℕ) (bytes : List ℕ) → runs.HasCause (items_in a) (items_in b) at (read_length count) live status bytes
+      pub cause_told : (read : ReadCall) → at ≡ read.offset → count ≡ read.count → (status : ℕ) (bytes : List ℕ) → runs.HasReadCause (items_in a) (items_in b) at (read_length count) live status bytes
           → law.HasCause (entries_in a) (entries_in b) file read live status bytes
       cause_told read offset_is count_is status bytes (inl done) =
           let g : runs.WasGiven (items_in a) (items_in b) at (read_length count) live bytes = done.1 in
