@@ -9,6 +9,7 @@ use Rattle.cluster_model.specs.DsCalls.{DsCallValue}
 use Rattle.mirror_writer.specs.declared.call.TakenWrite.{TakenWrite}
 use Rattle.mirror_writer.specs.Writers.{WriterMirror, WriterValue, WriterSends, next_sent, rest_committed, open_committed, is_committed, is_covered, covered_flag}
 use Rattle.mirror_writer.specs.Outstanding.{has_no_mirror}
+use Rattle.mds_calls.specs.FittingCalls.{reports_server}
 use Rattle.mds_calls.specs.MdsCalls.{MdsCallValue}
 use Rattle.client_state.specs.declared.layout.Layout.{Layout}
 use Rattle.client_state.specs.ClientStates.{ClientValue}
@@ -16,7 +17,7 @@ use Rattle.client_state.specs.ClientQueue.{with_writer}
 use Rattle.client_state.specs.ClientSends.{CallsServer, CallsMds, sends_none, ClientStep}
 use Rattle.client_calls.specs.ClientCalls.{calls_next, calls_under, calls_mirror, calls_two, calls_mirrors, is_settled, xid_after}
 use Rattle.client_laws.specs.ClientHistory.{HistoryItem, Sends, HasItem, sent}
-use Rattle.client_laws.specs.ClientRunLaws.{IsReplied, WasCovered, is_reported}
+use Rattle.client_laws.specs.ClientRunLaws.{IsReplied, WasCovered}
 use Rattle.client_laws.proofs.Orders.{in_either}
 use Rattle.client_laws.proofs.Later.{numbers_next, replied_later, layout_later, ask_later, there_later, under_later}
 use Rattle.client_laws.proofs.Places.{all_at, or_left}
@@ -60,7 +61,7 @@ server_called h c server uid call s some =
       replied = server_replied h c server c.next_xid uid c.name call s;
       asked_out = there_later c.asked (AskOut h c.name c.layout) (AskOut (h ++ item ∷ []) c.name c.layout) (λ a. ask_later h (item ∷ []) c.name c.layout a (λ gets none. ((tt, tt), (tt, tt)))) s.asked_out;
       alone = s.alone;
-      layout_stands = there_later c.layout (λ l. LayoutStands h c.name (is_reported (reported_of l)) l) (λ l. LayoutStands (h ++ item ∷ []) c.name (is_reported (reported_of l)) l) (λ l. layout_later h (item ∷ []) c.name (is_reported (reported_of l)) l (tt, tt) (tt, tt)) s.layout_stands;
+      layout_stands = there_later c.layout (λ l. LayoutStands h c.name (reports_server (reported_of l)) l) (λ l. LayoutStands (h ++ item ∷ []) c.name (reports_server (reported_of l)) l) (λ l. layout_later h (item ∷ []) c.name (reports_server (reported_of l)) l (tt, tt) (tt, tt)) s.layout_stands;
       taken_under = under_later h (item ∷ []) (tt, tt) s.taken_under;
       gets_again = s.gets_again;
       returns_again = s.returns_again;
@@ -71,16 +72,16 @@ mirror_goes_next past c l s at some None is = calls_none past c s
 mirror_goes_next past c l s at some (Some sends) is =
     let item : HistoryItem = Sends (CallsServer sends.id.server c.next_xid c.name l.writer.cred sends.call) in
     let called : StandsOf (past ++ item ∷ []) c.name (xid_after c.next_xid) c.layout c.asked c.again = server_called past c sends.id.server l.writer.cred sends.call s some in
-    let old : LayoutStands past c.name (is_reported (reported_of l)) l = subst (λ (o : Option Layout). IfThere o (λ l. LayoutStands past c.name (is_reported (reported_of l)) l)) at s.layout_stands in
-    let later : LayoutStands (past ++ item ∷ []) c.name (is_reported (reported_of l)) l = layout_later past (item ∷ []) c.name (is_reported (reported_of l)) l (tt, tt) (tt, tt) old in
-    let moves : WriterMoves (past ++ item ∷ []) c.name (is_reported (reported_of l)) l.writer sends.writer = send_moves past c.name (is_reported (reported_of l)) l.writer old.writer c.next_xid sends is in
+    let old : LayoutStands past c.name (reports_server (reported_of l)) l = subst (λ (o : Option Layout). IfThere o (λ l. LayoutStands past c.name (reports_server (reported_of l)) l)) at s.layout_stands in
+    let later : LayoutStands (past ++ item ∷ []) c.name (reports_server (reported_of l)) l = layout_later past (item ∷ []) c.name (reports_server (reported_of l)) l (tt, tt) (tt, tt) old in
+    let moves : WriterMoves (past ++ item ∷ []) c.name (reports_server (reported_of l)) l.writer sends.writer = send_moves past c.name (reports_server (reported_of l)) l.writer old.writer c.next_xid sends is in
     record {
       none = refl;
-      sends = ((tt, tt, tt, silent_now past c.name (is_reported (reported_of l)) l old (unsent_sending past c.name (is_reported (reported_of l)) l old c.next_xid sends is), writes_now past c.name (is_reported (reported_of l)) l old sends.call (sends_taken l.writer c.next_xid sends is), tt), tt);
+      sends = ((tt, tt, tt, silent_now past c.name (reports_server (reported_of l)) l old (unsent_sending past c.name (reports_server (reported_of l)) l old c.next_xid sends is), writes_now past c.name (reports_server (reported_of l)) l old sends.call (sends_taken l.writer c.next_xid sends is), tt), tt);
       stands =
           with_layout_stands (past ++ item ∷ []) (record c { next_xid = xid_after c.next_xid }) (Some (with_writer l sends.writer)) called
           (subst (λ (o : Option Layout). KeepsLayout o (Some (with_writer l sends.writer))) (sym at) (λ stage. record { stateid = refl; mirrors = refl; cred = moves.cred; taken = moves.taken; stage = stage }))
-          (layout_after past (past ++ item ∷ []) c.name (is_reported (reported_of l)) (is_reported (reported_of l)) l sends.writer later moves);
+          (layout_after past (past ++ item ∷ []) c.name (reports_server (reported_of l)) (reports_server (reported_of l)) l sends.writer later moves);
     }
 
 mirror_goes_under : (past : List HistoryItem) (c : ClientValue) (layout : Option Layout) → Stands past c → c.layout ≡ layout → c.next_xid ≢ 0 → CallsGo past (calls_under c layout)
@@ -126,8 +127,8 @@ mirrors_go past c s =
 -- ---- a layout that is settled
 
 -- each taken write is covered at each mirror that is not reported
-pub settled_covered : (h : List HistoryItem) (name : List ℕ) (l : Layout) → LayoutStands h name (is_reported (reported_of l)) l → IsSettled l.writer.mirrors
-    → (n : ℕ) (w : TakenWrite) → slice_get l.writer.taken n ≡ Some w → (place : ℕ) (m : Mirror) → slice_get l.mirrors place ≡ Some m → is_reported (reported_of l) m.id.server ≡ false
+pub settled_covered : (h : List HistoryItem) (name : List ℕ) (l : Layout) → LayoutStands h name (reports_server (reported_of l)) l → IsSettled l.writer.mirrors
+    → (n : ℕ) (w : TakenWrite) → slice_get l.writer.taken n ≡ Some w → (place : ℕ) (m : Mirror) → slice_get l.mirrors place ≡ Some m → reports_server (reported_of l) m.id.server ≡ false
     → WasCovered h m.id l.writer.cred w.at w.bytes []
 settled_covered h name l s settled n w there place m at not_so = by_mirror (slice_get l.writer.mirrors place) refl (sym (slice_get-map (λ (x : WriterMirror). x.id) l.writer.mirrors place) ∙ ap (λ k. slice_get k place) s.ids ∙ slice_get-map (λ (x : Mirror). x.id) l.mirrors place ∙ ap (option_map (λ (x : Mirror). x.id)) at)
   where
@@ -135,9 +136,9 @@ settled_covered h name l s settled n w there place m at not_so = by_mirror (slic
     not_both e = absurd cc
 
     by_flag : (x : WriterMirror) → slice_get l.writer.mirrors place ≡ Some x → x.id ≡ m.id → (b : Bool) → x.has_failed ≡ b → (b || is_committed x) ≡ true → WasCovered h m.id l.writer.cred w.at w.bytes []
-    by_flag x found same true failed is = absurd (not_both (sym ((s.writer place x found).reported failed) ∙ ap (λ (i : MirrorId). is_reported (reported_of l) i.server) same ∙ not_so))
+    by_flag x found same true failed is = absurd (not_both (sym ((s.writer place x found).reported failed) ∙ ap (λ (i : MirrorId). reports_server (reported_of l) i.server) same ∙ not_so))
     by_flag x found same false failed is =
-        let mirror : MirrorStands h name l.writer.cred l.writer.taken (is_reported (reported_of l)) x = s.writer place x found in
+        let mirror : MirrorStands h name l.writer.cred l.writer.taken (reports_server (reported_of l)) x = s.writer place x found in
         let within : n < length x.covered = omega (arith, slice_get_within l.writer.taken n w there, mirror.size) in
         let flag : slice_get x.covered n ≡ Some (get_or x.covered n false) = slice_get-get_or x.covered n false within in
         let set : covered_flag (slice_get x.covered n) ≡ true = ap covered_flag flag ∙ all_at is_covered x.covered is n (get_or x.covered n false) flag in

@@ -13,6 +13,7 @@ use Rattle.cluster_model.specs.declared.answer.FailCause.TheVariants as failing
 use Rattle.mds_file_calls.specs.declared.open.OpenFile.{OpenFile}
 use Rattle.mds_calls.specs.declared.ask.MdsAsk.{MdsAsk}
 use Rattle.mds_calls.specs.declared.ask.MdsAsk.TheVariants as ask
+use Rattle.mds_calls.specs.FittingCalls.{reports_server}
 use Rattle.mds_calls.specs.MdsCalls.{MdsCallValue, ExchangeId, CreateSession, OnSlot, SlotCallValue}
 use Rattle.mds_calls.specs.MdsCalls as slot
 use Rattle.client_state.specs.declared.stage.LayoutStage.TheVariants.{Returning}
@@ -26,7 +27,7 @@ use Rattle.client_state.specs.ClientStates.{ClientValue, is_layout_return}
 use Rattle.client_state.specs.ClientSends.{CallsMds, sends_none, RepliesToMds}
 use Rattle.client_calls.specs.ClientCalls.{is_ending, is_settled, return_ask, due_ask, failed_mirrors, open_call, through_call, devices_call, file_call, on_slot, session_call, call_by_ask, returning, layout_asked, asks_as, asks, may_ask, calls_mds, calls_mirrors, calls_all}
 use Rattle.client_laws.specs.ClientHistory.{HistoryItem, Enters, Sends, HasItem, sent}
-use Rattle.client_laws.specs.ClientRunLaws.{IsReplied, WasCovered, MayReturn, ReturnsOnSlot, ReturnsCall, is_reported}
+use Rattle.client_laws.specs.ClientRunLaws.{IsReplied, WasCovered, MayReturn, ReturnsOnSlot, ReturnsCall}
 use Rattle.client_laws.proofs.Orders.{in_either, in_end}
 use Rattle.client_laws.proofs.Later.{numbers_next, replied_later, layout_later, there_later, covered_next, layout_given, under_later}
 use Rattle.client_laws.proofs.Goes.{CallsGo, calls_none, calls_then}
@@ -92,15 +93,15 @@ module _ (past : List HistoryItem) (c : ClientValue) (s : Stands past c) (call :
   item = Sends (CallsMds c.next_xid c.name call)
 
   abbrev LayoutThen : MdsAsk → Type 0
-  LayoutThen kind = IfThere (layout_asked kind c.layout) (λ l. LayoutStands (past ++ Sends (CallsMds c.next_xid c.name call) ∷ []) c.name (is_reported (reported_of l)) l)
+  LayoutThen kind = IfThere (layout_asked kind c.layout) (λ l. LayoutStands (past ++ Sends (CallsMds c.next_xid c.name call) ∷ []) c.name (reports_server (reported_of l)) l)
 
   pub record AskIsRight (kind : MdsAsk) : Type 0 where
     pub returns : ReturnsCall past call
     pub fits : AskFits (past ++ Sends (CallsMds c.next_xid c.name call) ∷ []) (Sends (CallsMds c.next_xid c.name call)) (layout_asked kind c.layout) call kind
-    pub layout : IfThere (layout_asked kind c.layout) (λ l. LayoutStands (past ++ Sends (CallsMds c.next_xid c.name call) ∷ []) c.name (is_reported (reported_of l)) l)
+    pub layout : IfThere (layout_asked kind c.layout) (λ l. LayoutStands (past ++ Sends (CallsMds c.next_xid c.name call) ∷ []) c.name (reports_server (reported_of l)) l)
 
-  same_layout : QuietCall call → IfThere c.layout (λ l. LayoutStands (past ++ Sends (CallsMds c.next_xid c.name call) ∷ []) c.name (is_reported (reported_of l)) l)
-  same_layout quiet = there_later c.layout (λ l. LayoutStands past c.name (is_reported (reported_of l)) l) (λ l. LayoutStands (past ++ item ∷ []) c.name (is_reported (reported_of l)) l) (λ l. layout_later past (item ∷ []) c.name (is_reported (reported_of l)) l (quiet, tt) (tt, tt)) s.layout_stands
+  same_layout : QuietCall call → IfThere c.layout (λ l. LayoutStands (past ++ Sends (CallsMds c.next_xid c.name call) ∷ []) c.name (reports_server (reported_of l)) l)
+  same_layout quiet = there_later c.layout (λ l. LayoutStands past c.name (reports_server (reported_of l)) l) (λ l. LayoutStands (past ++ item ∷ []) c.name (reports_server (reported_of l)) l) (λ l. layout_later past (item ∷ []) c.name (reports_server (reported_of l)) l (quiet, tt) (tt, tt)) s.layout_stands
 
   no_return : (o : Option SlotCallValue) → IsOnSlot o call → ((k : SlotCallValue) → o ≡ Some k → QuietSlot k) → QuietCall call
   no_return o i none = subst QuietCall (sym i.is) (none i.its i.there)
@@ -116,9 +117,9 @@ module _ (past : List HistoryItem) (c : ClientValue) (s : Stands past c) (call :
   -- a LAYOUTRETURN
   give_right : (l : Layout) → c.layout ≡ Some l → IsSettled l.writer.mirrors → (f : OpenFile) (i : IsOnSlot (Some (slot.LayoutReturn f.file l.stateid (failed_mirrors l.mirrors l.statuses))) call)
       → ReturnsCall past call × GivesLayout (past ++ Sends (CallsMds c.next_xid c.name call) ∷ []) (Sends (CallsMds c.next_xid c.name call)) (Some (record l { stage = Returning; was_sent = true })) call
-      × LayoutStands (past ++ Sends (CallsMds c.next_xid c.name call) ∷ []) c.name (is_reported (reported_of l)) (record l { stage = Returning; was_sent = true })
+      × LayoutStands (past ++ Sends (CallsMds c.next_xid c.name call) ∷ []) c.name (reports_server (reported_of l)) (record l { stage = Returning; was_sent = true })
   give_right l at settled f i =
-      let old : LayoutStands past c.name (is_reported (reported_of l)) l = subst (λ (o : Option Layout). IfThere o (λ l. LayoutStands past c.name (is_reported (reported_of l)) l)) at s.layout_stands in
+      let old : LayoutStands past c.name (reports_server (reported_of l)) l = subst (λ (o : Option Layout). IfThere o (λ l. LayoutStands past c.name (reports_server (reported_of l)) l)) at s.layout_stands in
       let is : call ≡ OnSlot i.session i.sequence (slot.LayoutReturn f.file l.stateid (failed_mirrors l.mirrors l.statuses)) = i.is ∙ ap (OnSlot i.session i.sequence) (sym (same_Some _ i.its i.there)) in (
         subst (ReturnsCall past) (sym is) (may_return old),
         record {
@@ -134,14 +135,14 @@ module _ (past : List HistoryItem) (c : ClientValue) (s : Stands past c) (call :
             covered = λ n w there place m found not_so. covered_next past item m.id l.writer.cred w.at w.bytes [] (settled_covered past c.name l old settled n w there place m found not_so);
           };
         },
-        layout_given past (item ∷ []) c.name (is_reported (reported_of l)) l old (tt, tt) none_taken settled,
+        layout_given past (item ∷ []) c.name (reports_server (reported_of l)) l old (tt, tt) none_taken settled,
       )
     where
       none_taken : (client : ℕ) → HasItem (Sends (CallsMds c.next_xid c.name call) ∷ []) (Enters (Answer client (answer.Failed failing.Revoked))) → ⊥
       none_taken client (inl (same, rest)) = absurd (cc (same))
       none_taken client (inr i) = i
 
-      may_return : LayoutStands past c.name (is_reported (reported_of l)) l → MayReturn past l.stateid (failed_mirrors l.mirrors l.statuses)
+      may_return : LayoutStands past c.name (reports_server (reported_of l)) l → MayReturn past l.stateid (failed_mirrors l.mirrors l.statuses)
       may_return old = record {
         grant = old.grant;
         granted = old.granted;
@@ -150,13 +151,13 @@ module _ (past : List HistoryItem) (c : ClientValue) (s : Stands past c) (call :
         covered = λ file at bytes i place m found not_so. by_taken file at bytes place m (ap (λ k. slice_get k place) old.mirrors ∙ found) not_so (old.taken file at bytes (subst (λ (k : ℕ). HasItem old.granted.since (Enters (Sent file (record { 0 = k }) at bytes))) (sym old.uid) i));
       }
         where
-          by_taken : (file : FileId) (at : ℕ) (bytes : List ℕ) (place : ℕ) (m : Mirror) → slice_get l.mirrors place ≡ Some m → is_reported (failed_mirrors l.mirrors l.statuses) m.id.server ≡ false
+          by_taken : (file : FileId) (at : ℕ) (bytes : List ℕ) (place : ℕ) (m : Mirror) → slice_get l.mirrors place ≡ Some m → reports_server (failed_mirrors l.mirrors l.statuses) m.id.server ≡ false
               → (n : ℕ) × (slice_get l.writer.taken n ≡ Some (record { at = at; bytes = bytes })) → WasCovered past m.id old.grant.uid.0 at bytes []
           by_taken file at bytes place m found not_so (n, there) = subst (λ (k : ℕ). WasCovered past m.id k at bytes []) old.uid (settled_covered past c.name l old settled n (record { at = at; bytes = bytes }) there place m found not_so)
 
   give_by : (file : Option OpenFile) (layout : Option Layout) → c.layout ≡ layout → IfThere layout (λ l. IsSettled l.writer.mirrors) → IsOnSlot (file_call (record c { layout = layout }) file ask.LayoutReturn) call
       → ReturnsCall past call × GivesLayout (past ++ Sends (CallsMds c.next_xid c.name call) ∷ []) (Sends (CallsMds c.next_xid c.name call)) (returning layout) call
-      × IfThere (returning layout) (λ l. LayoutStands (past ++ Sends (CallsMds c.next_xid c.name call) ∷ []) c.name (is_reported (reported_of l)) l)
+      × IfThere (returning layout) (λ l. LayoutStands (past ++ Sends (CallsMds c.next_xid c.name call) ∷ []) c.name (reports_server (reported_of l)) l)
   give_by None layout at settled i = absurd (none-some i.its i.there)
   give_by (Some f) None at settled i = absurd (none-some i.its i.there)
   give_by (Some f) (Some l) at settled i = give_right l at settled f i
@@ -166,7 +167,7 @@ module _ (past : List HistoryItem) (c : ClientValue) (s : Stands past c) (call :
   plain_right kind quiet fits same = record {
     returns = right_call past call quiet;
     fits = fits;
-    layout = subst (λ (o : Option Layout). IfThere o (λ l. LayoutStands (past ++ item ∷ []) c.name (is_reported (reported_of l)) l)) (sym same) (same_layout quiet);
+    layout = subst (λ (o : Option Layout). IfThere o (λ l. LayoutStands (past ++ item ∷ []) c.name (reports_server (reported_of l)) l)) (sym same) (same_layout quiet);
   }
 
   session_quiet : (tie : Tie) → session_call tie ≡ Some call → QuietCall call
@@ -241,7 +242,7 @@ same_return ask.Write is = absurd cc
 same_return (ask.Read at count) is = absurd cc
 same_return ask.Renew is = absurd cc
 
-stage_settled : (past : List HistoryItem) (name : List ℕ) (layout : Option Layout) → IfThere layout (λ l. LayoutStands past name (is_reported (reported_of l)) l) → IfThere layout (λ l. l.stage ≡ Returning)
+stage_settled : (past : List HistoryItem) (name : List ℕ) (layout : Option Layout) → IfThere layout (λ l. LayoutStands past name (reports_server (reported_of l)) l) → IfThere layout (λ l. l.stage ≡ Returning)
     → IfThere layout (λ l. IsSettled l.writer.mirrors)
 stage_settled past name None s at = tt
 stage_settled past name (Some l) s at = s.settled (s.returning at)

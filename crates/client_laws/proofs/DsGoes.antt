@@ -23,8 +23,8 @@ use Rattle.client_state.specs.declared.layout.Layout.{Layout}
 use Rattle.client_state.specs.ClientStates.{ClientValue, unmoved}
 use Rattle.client_state.specs.ClientQueue.{with_layout, with_writer, ending, fails_layout, revoked_layout, lost_mirrors, without_commit}
 use Rattle.client_answers.specs.ClientMirrors.{is_commit, with_failed, mirror_failed, after_step, has_writer, answered_out, ds_answered_by, ds_answered, tells_covered}
+use Rattle.mds_calls.specs.FittingCalls.{reports_server}
 use Rattle.client_laws.specs.ClientHistory.{HistoryItem, Hears, Recorded, Enters, Sends}
-use Rattle.client_laws.specs.ClientRunLaws.{is_reported}
 use Rattle.client_laws.proofs.Later.{stands_later, lost_later}
 use Rattle.client_laws.proofs.Places.{same_number}
 use Rattle.client_laws.proofs.WriterMoves.{AfterMoves, FailedThere, also, reply_moves}
@@ -63,12 +63,12 @@ not_getting h name l (Some a) out = λ gets. none-some l (sym (fits gets))
         no_layout : GetsLayout h (Sends (CallsMds a.xid name out.call)) (Some l) out.call → Some l ≡ None
         no_layout g = g.no_layout
 
-module _ (past : List HistoryItem) (c : ClientValue) (l : Layout) (at : c.layout ≡ Some l) (s : Stands past c) (after : WriterAfter) (a : AfterMoves past c.name (is_reported (reported_of l)) l.writer after) where
-  old : LayoutStands past c.name (is_reported (reported_of l)) l
-  old = subst (λ (o : Option Layout). IfThere o (λ l. LayoutStands past c.name (is_reported (reported_of l)) l)) at s.layout_stands
+module _ (past : List HistoryItem) (c : ClientValue) (l : Layout) (at : c.layout ≡ Some l) (s : Stands past c) (after : WriterAfter) (a : AfterMoves past c.name (reports_server (reported_of l)) l.writer after) where
+  old : LayoutStands past c.name (reports_server (reported_of l)) l
+  old = subst (λ (o : Option Layout). IfThere o (λ l. LayoutStands past c.name (reports_server (reported_of l)) l)) at s.layout_stands
 
-  mid : LayoutStands past c.name (also (is_reported (reported_of l)) after.step) (with_writer l after.writer)
-  mid = layout_after past past c.name (is_reported (reported_of l)) (also (is_reported (reported_of l)) after.step) l after.writer old a.moves
+  mid : LayoutStands past c.name (also (reports_server (reported_of l)) after.step) (with_writer l after.writer)
+  mid = layout_after past past c.name (reports_server (reported_of l)) (also (reports_server (reported_of l)) after.step) l after.writer old a.moves
 
   keeps_writer : (new : Layout) → KeepsReturn (with_writer l after.writer) new → KeepsLayout c.layout (Some new)
   keeps_writer new keeps =
@@ -76,19 +76,19 @@ module _ (past : List HistoryItem) (c : ClientValue) (l : Layout) (at : c.layout
       (λ stage. (let k : SameReturn (with_writer l after.writer) new = keeps stage in record { stateid = k.stateid; mirrors = k.mirrors; cred = k.cred ∙ a.moves.cred; taken = k.taken ∙ a.moves.taken; stage = k.stage }))
 
   -- no mirror failed
-  pub none_failed : (came : WriterStep) → after.step ≡ came → ((server : ℕ) → also (is_reported (reported_of l)) came server ≡ true → is_reported (reported_of l) server ≡ true) → Stands past (has_writer c l after)
+  pub none_failed : (came : WriterStep) → after.step ≡ came → ((server : ℕ) → also (reports_server (reported_of l)) came server ≡ true → reports_server (reported_of l) server ≡ true) → Stands past (has_writer c l after)
   none_failed came is narrow =
       with_layout_stands past c (Some (with_writer l after.writer)) s (keeps_writer (with_writer l after.writer) (λ stage. record { stateid = refl; mirrors = refl; cred = refl; taken = refl; stage = stage }))
-      (layout_wider past c.name (also (is_reported (reported_of l)) after.step) (is_reported (reported_of l)) (with_writer l after.writer) (λ server so. narrow server (subst (λ (k : WriterStep). also (is_reported (reported_of l)) k server ≡ true) is so)) mid)
+      (layout_wider past c.name (also (reports_server (reported_of l)) after.step) (reports_server (reported_of l)) (with_writer l after.writer) (λ server so. narrow server (subst (λ (k : WriterStep). also (reports_server (reported_of l)) k server ≡ true) is so)) mid)
 
   told_then : (commit : Bool) (file : OpenFile) → Stands past (has_writer c l after) → RunGoes past (if commit then tells_covered file (has_writer c l after).layout (has_writer c l after) else unmoved (has_writer c l after))
   told_then true file stands = tells_covered_go past file (has_writer c l after) (has_writer c l after).layout refl stands
   told_then false file stands = run_unmoved past (has_writer c l after) stands
 
-  failed_layout : (id : MirrorId) (cause : LeftCause) → after.step ≡ step.Failed id cause → LayoutStands past c.name (is_reported (reported_of (with_failed (with_writer l after.writer) id cause))) (with_failed (with_writer l after.writer) id cause)
+  failed_layout : (id : MirrorId) (cause : LeftCause) → after.step ≡ step.Failed id cause → LayoutStands past c.name (reports_server (reported_of (with_failed (with_writer l after.writer) id cause))) (with_failed (with_writer l after.writer) id cause)
   failed_layout id cause is =
       failed_stands past c.name (with_writer l after.writer) id cause (has_id l.writer l.mirrors id old.ids (subst (FailedThere l.writer) is a.failed))
-      (subst (λ (k : WriterStep). LayoutStands past c.name (also (is_reported (reported_of l)) k) (with_writer l after.writer)) is mid)
+      (subst (λ (k : WriterStep). LayoutStands past c.name (also (reports_server (reported_of l)) k) (with_writer l after.writer)) is mid)
 
   failed_goes : (id : MirrorId) (cause : LeftCause) → after.step ≡ step.Failed id cause → RunGoes past (mirror_failed id cause (Some (with_writer l after.writer)) (has_writer c l after))
   failed_goes id cause is = by_test (has_no_mirror after.writer)
@@ -96,7 +96,7 @@ module _ (past : List HistoryItem) (c : ClientValue) (l : Layout) (at : c.layout
       new : Layout
       new = with_failed (with_writer l after.writer) id cause
 
-      ended : LayoutStands past c.name (is_reported (reported_of (ending new))) (ending new)
+      ended : LayoutStands past c.name (reports_server (reported_of (ending new))) (ending new)
       ended = ended_stands past c.name new (failed_layout id cause is)
 
       keeps : KeepsReturn (with_writer l after.writer) (ending new)
@@ -106,16 +106,16 @@ module _ (past : List HistoryItem) (c : ClientValue) (l : Layout) (at : c.layout
       by_test true =
           fails_goes past _ (with_layout (has_writer c l after) (record (ending new) { untold = [] }))
           (with_layout_stands past c (Some (record (ending new) { untold = [] })) s (keeps_writer (record (ending new) { untold = [] }) (λ stage. (let k : SameReturn (with_writer l after.writer) (ending new) = keeps stage in record { stateid = k.stateid; mirrors = k.mirrors; cred = k.cred; taken = k.taken; stage = k.stage })))
-          (untold_stands past c.name (is_reported (reported_of (ending new))) (ending new) ended [])) tt
+          (untold_stands past c.name (reports_server (reported_of (ending new))) (ending new) ended [])) tt
       by_test false = run_unmoved past (with_layout (has_writer c l after) (ending new)) (with_layout_stands past c (Some (ending new)) s (keeps_writer (ending new) keeps) ended)
 
   step_goes : (commit : Bool) (file : OpenFile) (came : WriterStep) → after.step ≡ came → RunGoes past (after_step commit file came (has_writer c l after))
-  step_goes commit file step.Stranger is = run_unmoved past (has_writer c l after) (none_failed step.Stranger is (λ server. or_false (is_reported (reported_of l) server)))
-  step_goes commit file step.Waiting is = told_then commit file (none_failed step.Waiting is (λ server. or_false (is_reported (reported_of l) server)))
-  step_goes commit file step.Committed is = told_then commit file (none_failed step.Committed is (λ server. or_false (is_reported (reported_of l) server)))
+  step_goes commit file step.Stranger is = run_unmoved past (has_writer c l after) (none_failed step.Stranger is (λ server. or_false (reports_server (reported_of l) server)))
+  step_goes commit file step.Waiting is = told_then commit file (none_failed step.Waiting is (λ server. or_false (reports_server (reported_of l) server)))
+  step_goes commit file step.Committed is = told_then commit file (none_failed step.Committed is (λ server. or_false (reports_server (reported_of l) server)))
   step_goes commit file (step.Failed id cause) is = failed_goes id cause is
   step_goes commit file (step.Fenced id status) is =
-      revoked_goes past (has_writer c l after) (none_failed (step.Fenced id status) is (λ server. or_false (is_reported (reported_of l) server)))
+      revoked_goes past (has_writer c l after) (none_failed (step.Fenced id status) is (λ server. or_false (reports_server (reported_of l) server)))
       (not_getting past c.name l c.asked (subst (λ (o : Option Layout). IfThere c.asked (AskOut past c.name o)) at s.asked_out))
 
   pub after_goes : (commit : Bool) (file : OpenFile) → RunGoes past (after_step commit file after.step (has_writer c l after))
@@ -138,9 +138,9 @@ module _ (h : List HistoryItem) (c : ClientValue) (s : Stands h c) (server : ℕ
       by_test : (b : Bool) → (out.xid == reply.xid) ≡ b
           → RunGoes (h ++ Hears (Recorded (Server server) bytes now) ∷ []) (if b then after_step (is_commit out.call) file (after_reply l.writer reply.xid (reply_of_call out.call reply)).step (has_writer c l (after_reply l.writer reply.xid (reply_of_call out.call reply))) else unmoved c)
       by_test true so =
-          let old : LayoutStands h c.name (is_reported (reported_of l)) l = subst (λ (o : Option Layout). IfThere o (λ l. LayoutStands h c.name (is_reported (reported_of l)) l)) at s.layout_stands in
+          let old : LayoutStands h c.name (reports_server (reported_of l)) l = subst (λ (o : Option Layout). IfThere o (λ l. LayoutStands h c.name (reports_server (reported_of l)) l)) at s.layout_stands in
           after_goes (h ++ item ∷ []) c l at later (after_reply l.writer reply.xid (reply_of_call out.call reply))
-          (reply_moves h c.name (is_reported (reported_of l)) l.writer old.writer c.next_xid s.numbers server bytes now reply reply_is out is (same_number out.xid reply.xid so)) (is_commit out.call) file
+          (reply_moves h c.name (reports_server (reported_of l)) l.writer old.writer c.next_xid s.numbers server bytes now reply reply_is out is (same_number out.xid reply.xid so)) (is_commit out.call) file
       by_test false so = run_unmoved (h ++ item ∷ []) c later
 
   answered_by : (file : Option OpenFile) (layout : Option Layout) → c.layout ≡ layout → RunGoes (h ++ Hears (Recorded (Server server) bytes now) ∷ []) (ds_answered_by file layout server reply.xid (λ call. reply_of_call call reply) c)

@@ -1,4 +1,5 @@
 -- What comes to a client, and what it does then.
+use Rattle.mds_calls.specs.FittingCalls.{reports_server}
 use Rattle.client_laws.proofs.Replied.{ending_queue, replied_so, stands_replied}
 use Rattle.client_laws.proofs.RecallGoes.{IsEnding, recalled_ending}
 use Rattle.client_laws.proofs.SlotKept.{SlotStands}
@@ -37,7 +38,7 @@ use Rattle.client_answers.specs.ClientAnswers.{mds_answered}
 use Rattle.client_callbacks.specs.Callbacks.{CbReply, callback_of}
 use Rattle.mirror_client.specs.ClientRule.{unless_left, with_request, mds_replied, mds_timed_out, timed_out_to, stage_after_tick, layout_at_tick, client_at_tick, resends_late, is_stale_tie, renews, ticks_on, turned, rogue_write, mirror_of_place, strays, found_reply, found_call, record_from}
 use Rattle.client_laws.specs.ClientHistory.{ClientInput, Requested, Recorded, TimeoutOf, Ticked, LeftProtocol, Strayed, input_step, HistoryItem, Hears, Enters, Sends, entered, sent, Each}
-use Rattle.client_laws.specs.ClientRunLaws.{is_reported, IsSilent, WritesEntered, WasStray}
+use Rattle.client_laws.specs.ClientRunLaws.{IsSilent, WritesEntered, WasStray}
 use Rattle.client_laws.proofs.Later.{AreIdle, stands_later, entered_later}
 use Rattle.client_laws.proofs.Places.{same_number}
 use Rattle.client_laws.proofs.WriterMoves.{AfterMoves, timeout_moves, out_taken}
@@ -146,8 +147,8 @@ repeats_right later d server xid uid name call s held entered = by_layout d.layo
     by_layout None at is = absurd (none-some _ is)
     by_layout (Some l) at is =
         let same : ◌≡◌ {A = HeldLayout} (record { uid = l.writer.cred; was_sent = l.was_sent }) (record { uid = uid; was_sent = false }) = same_Some _ _ is in
-        let stands : LayoutStands later d.name (is_reported (reported_of l)) l = subst (λ (o : Option Layout). IfThere o (λ l. LayoutStands later d.name (is_reported (reported_of l)) l)) at s.layout_stands in
-        ((tt, tt, tt, subst (IsSilent later) (ap (λ (k : HeldLayout). k.uid) same) (silent_now later d.name (is_reported (reported_of l)) l stands (ap (λ (k : HeldLayout). k.was_sent) same)), entered, tt), tt)
+        let stands : LayoutStands later d.name (reports_server (reported_of l)) l = subst (λ (o : Option Layout). IfThere o (λ l. LayoutStands later d.name (reports_server (reported_of l)) l)) at s.layout_stands in
+        ((tt, tt, tt, subst (IsSilent later) (ap (λ (k : HeldLayout). k.uid) same) (silent_now later d.name (reports_server (reported_of l)) l stands (ap (λ (k : HeldLayout). k.was_sent) same)), entered, tt), tt)
 
 writes_later : (h more : List HistoryItem) (uid : ℕ) (call : ds.DsCallValue) → WritesEntered h uid call → WritesEntered (h ++ more) uid call
 writes_later h more uid (ds.Write fileid at synced bytes) w = entered_later h more uid at bytes w
@@ -163,21 +164,21 @@ module _ (past : List HistoryItem) (c : ClientValue) (file : OpenFile) (l : Layo
   timed_stands : Stands (past ++ Enters (TimedOut (Client c.number) out.xid) ∷ []) c
   timed_stands = stands_later past (timed ∷ []) c (tt, tt) s
 
-  old : LayoutStands past c.name (is_reported (reported_of l)) l
-  old = subst (λ (o : Option Layout). IfThere o (λ l. LayoutStands past c.name (is_reported (reported_of l)) l)) at s.layout_stands
+  old : LayoutStands past c.name (reports_server (reported_of l)) l
+  old = subst (λ (o : Option Layout). IfThere o (λ l. LayoutStands past c.name (reports_server (reported_of l)) l)) at s.layout_stands
 
-  old_timed : LayoutStands (past ++ Enters (TimedOut (Client c.number) out.xid) ∷ []) c.name (is_reported (reported_of l)) l
-  old_timed = subst (λ (o : Option Layout). IfThere o (λ l. LayoutStands (past ++ timed ∷ []) c.name (is_reported (reported_of l)) l)) at timed_stands.layout_stands
+  old_timed : LayoutStands (past ++ Enters (TimedOut (Client c.number) out.xid) ∷ []) c.name (reports_server (reported_of l)) l
+  old_timed = subst (λ (o : Option Layout). IfThere o (λ l. LayoutStands (past ++ timed ∷ []) c.name (reports_server (reported_of l)) l)) at timed_stands.layout_stands
 
-  late_moves : AfterMoves (past ++ Enters (TimedOut (Client c.number) out.xid) ∷ []) c.name (is_reported (reported_of l)) l.writer (after_timeout l.writer out.xid)
-  late_moves = subst (λ h. AfterMoves h c.name (is_reported (reported_of l)) l.writer (after_timeout l.writer out.xid)) (append-nil (past ++ timed ∷ [])) (timeout_moves (past ++ timed ∷ []) c.name (is_reported (reported_of l)) l.writer old_timed.writer [] out.xid)
+  late_moves : AfterMoves (past ++ Enters (TimedOut (Client c.number) out.xid) ∷ []) c.name (reports_server (reported_of l)) l.writer (after_timeout l.writer out.xid)
+  late_moves = subst (λ h. AfterMoves h c.name (reports_server (reported_of l)) l.writer (after_timeout l.writer out.xid)) (append-nil (past ++ timed ∷ [])) (timeout_moves (past ++ timed ∷ []) c.name (reports_server (reported_of l)) l.writer old_timed.writer [] out.xid)
 
   late_goes_on : RunGoes (past ++ Enters (TimedOut (Client c.number) out.xid) ∷ []) (after_step (is_commit out.call) file (after_timeout l.writer out.xid).step (has_writer c l (after_timeout l.writer out.xid)))
   late_goes_on = after_goes (past ++ timed ∷ []) c l at timed_stands (after_timeout l.writer out.xid) late_moves (is_commit out.call) file
 
   -- the layout is held as before, where the call goes out again
   held_waiting : (commit : Bool) → held_of (after_step commit file step.Waiting (has_writer c l (after_timeout l.writer out.xid))).client.layout ≡ Some (record { uid = l.writer.cred; was_sent = false })
-  held_waiting commit = by_commit commit ∙ ap Some (cc (late_moves.moves.cred, unsent_out past c.name (is_reported (reported_of l)) l old server out out_is))
+  held_waiting commit = by_commit commit ∙ ap Some (cc (late_moves.moves.cred, unsent_out past c.name (reports_server (reported_of l)) l old server out out_is))
     where
       by_commit : (b : Bool) → held_of (after_step b file step.Waiting (has_writer c l (after_timeout l.writer out.xid))).client.layout ≡ Some (record { uid = (after_timeout l.writer out.xid).writer.cred; was_sent = l.was_sent })
       by_commit true = refl
@@ -187,7 +188,7 @@ module _ (past : List HistoryItem) (c : ClientValue) (file : OpenFile) (l : Layo
       → GoFirst past (after_step (is_commit out.call) file came (has_writer c l (after_timeout l.writer out.xid))).client (goes_again (RepeatsToServer server out.xid c.name l.writer.cred out.call) came)
   again_first step.Waiting is =
       idle_first past _ (RepeatsToServer server out.xid c.name l.writer.cred out.call ∷ []) (tt, tt)
-      (λ entries d stands held. repeats_right (past ++ entered entries) d server out.xid l.writer.cred c.name out.call stands (held ∙ held_waiting (is_commit out.call)) (writes_later past (entered entries) l.writer.cred out.call (writes_now past c.name (is_reported (reported_of l)) l old out.call (out_taken l.writer server out out_is))))
+      (λ entries d stands held. repeats_right (past ++ entered entries) d server out.xid l.writer.cred c.name out.call stands (held ∙ held_waiting (is_commit out.call)) (writes_later past (entered entries) l.writer.cred out.call (writes_now past c.name (reports_server (reported_of l)) l old out.call (out_taken l.writer server out out_is))))
   again_first step.Stranger is = idle_first past _ [] tt (λ entries d stands held. tt)
   again_first step.Committed is = idle_first past _ [] tt (λ entries d stands held. tt)
   again_first (step.Failed id cause) is = idle_first past _ [] tt (λ entries d stands held. tt)
@@ -216,9 +217,9 @@ timeout_goes past c (Client number) s = step_none past c s
 
 -- ---- ticks
 
-tick_layout : (past : List HistoryItem) (name : List ℕ) (layout : Option Layout) → IfThere layout (λ l. LayoutStands past name (is_reported (reported_of l)) l) → IfThere (layout_at_tick layout) (λ l. LayoutStands past name (is_reported (reported_of l)) l)
+tick_layout : (past : List HistoryItem) (name : List ℕ) (layout : Option Layout) → IfThere layout (λ l. LayoutStands past name (reports_server (reported_of l)) l) → IfThere (layout_at_tick layout) (λ l. LayoutStands past name (reports_server (reported_of l)) l)
 tick_layout past name None s = tt
-tick_layout past name (Some l) s = ticked_stands past name (is_reported (reported_of l)) l s
+tick_layout past name (Some l) s = ticked_stands past name (reports_server (reported_of l)) l s
 
 tick_keeps : (layout : Option Layout) → KeepsLayout layout (layout_at_tick layout)
 tick_keeps None = tt
@@ -275,7 +276,7 @@ rogue_goes : (past : List HistoryItem) (c : ClientValue) (file : OpenFile) (l : 
 rogue_goes past c file l at bytes None s there unsent some = step_none past c s
 rogue_goes past c file l at bytes (Some m) s there unsent some = record {
   entries = ((tt, tt, tt, tt, tt, tt), tt);
-  sends = ((tt, tt, tt, silent_now (past ++ item ∷ []) c.name (is_reported (reported_of l)) l stands unsent, WasStray file.file (in_end past item), tt), tt);
+  sends = ((tt, tt, tt, silent_now (past ++ item ∷ []) c.name (reports_server (reported_of l)) l stands unsent, WasStray file.file (in_end past item), tt), tt);
   stands = server_called (past ++ item ∷ []) c m.id.server l.writer.cred (ds.Write m.id.fileid at false bytes) later some;
 }
   where
@@ -285,8 +286,8 @@ rogue_goes past c file l at bytes (Some m) s there unsent some = record {
     later : Stands (past ++ Enters (Rogue file.file (record { 0 = l.writer.cred }) at bytes) ∷ []) c
     later = stands_later past (Enters (Rogue file.file (record { 0 = l.writer.cred }) at bytes) ∷ []) c (tt, tt) s
 
-    stands : LayoutStands (past ++ Enters (Rogue file.file (record { 0 = l.writer.cred }) at bytes) ∷ []) c.name (is_reported (reported_of l)) l
-    stands = subst (λ (o : Option Layout). IfThere o (λ k. LayoutStands (past ++ item ∷ []) c.name (is_reported (reported_of k)) k)) there later.layout_stands
+    stands : LayoutStands (past ++ Enters (Rogue file.file (record { 0 = l.writer.cred }) at bytes) ∷ []) c.name (reports_server (reported_of l)) l
+    stands = subst (λ (o : Option Layout). IfThere o (λ k. LayoutStands (past ++ item ∷ []) c.name (reports_server (reported_of k)) k)) there later.layout_stands
 
 stray_goes : (past : List HistoryItem) (c : ClientValue) (file : Option OpenFile) (layout : Option Layout) (place at : ℕ) (bytes : List ℕ) → c.layout ≡ layout → Stands past c → StepGoes past (strays file layout place at bytes c)
 stray_goes past c (Some file) (Some l) place at bytes there s = by_tests l.was_sent (c.next_xid == 0) refl refl

@@ -14,11 +14,12 @@ use Rattle.client_state.specs.declared.asked.Asked.{Asked}
 use Rattle.client_state.specs.declared.stage.LayoutStage.TheVariants.{Returning}
 use Rattle.mds_calls.specs.declared.ask.MdsAsk.{MdsAsk}
 use Rattle.mds_calls.specs.declared.ask.MdsAsk.TheVariants as ask
+use Rattle.mds_calls.specs.FittingCalls.{reports_server}
 use Rattle.mds_calls.specs.MdsCalls.{MdsCallValue}
 use Rattle.client_state.specs.ClientStates.{ClientValue, ClientRun, unmoved, followed_by}
 use Rattle.client_state.specs.ClientSends.{ClientSend, CallsMds, ClientStep, sends_none, and_then, run_then}
 use Rattle.client_laws.specs.ClientHistory.{HistoryItem, Enters, Sends, entered, sent, Each, HasItem}
-use Rattle.client_laws.specs.ClientRunLaws.{SendsAlone, TellsCommitted, ReturnsCommitted, KeepsSilent, WritesApart, WasCovered, is_reported}
+use Rattle.client_laws.specs.ClientRunLaws.{SendsAlone, TellsCommitted, ReturnsCommitted, KeepsSilent, WritesApart, WasCovered}
 use Rattle.client_laws.proofs.Orders.{each_append}
 use Rattle.client_laws.proofs.Later.{AreNumberless, numbers_later, all_replied_later, ask_later, there_later, AreQuiet, AreMute}
 use Rattle.client_laws.proofs.Stands.{StandsOf, Stands, LayoutStands, ReturnOut, AskFits, AskOut, IfThere, reported_of, TakenUnder}
@@ -169,7 +170,7 @@ pub keeps_same : (layout : Option Layout) → KeepsLayout layout layout
 keeps_same None = tt
 keeps_same (Some l) = λ at. record { stateid = refl; mirrors = refl; cred = refl; taken = refl; stage = at }
 
-pub with_layout_stands : (h : List HistoryItem) (c : ClientValue) (new : Option Layout) → Stands h c → KeepsLayout c.layout new → IfThere new (λ l. LayoutStands h c.name (is_reported (reported_of l)) l)
+pub with_layout_stands : (h : List HistoryItem) (c : ClientValue) (new : Option Layout) → Stands h c → KeepsLayout c.layout new → IfThere new (λ l. LayoutStands h c.name (reports_server (reported_of l)) l)
     → StandsOf h c.name c.next_xid new c.asked c.again
 with_layout_stands h c new s keeps stands = record {
   numbers = s.numbers;
@@ -183,7 +184,7 @@ with_layout_stands h c new s keeps stands = record {
 }
 
 -- in a longer history, in which no number is taken
-pub moved_stands : (h more : List HistoryItem) (c : ClientValue) (new : Option Layout) → AreNumberless more → (new ≡ None → AreQuiet more × AreMute more) → Stands h c → KeepsLayout c.layout new → IfThere new (λ l. LayoutStands (h ++ more) c.name (is_reported (reported_of l)) l)
+pub moved_stands : (h more : List HistoryItem) (c : ClientValue) (new : Option Layout) → AreNumberless more → (new ≡ None → AreQuiet more × AreMute more) → Stands h c → KeepsLayout c.layout new → IfThere new (λ l. LayoutStands (h ++ more) c.name (reports_server (reported_of l)) l)
     → ((file : FileId) (cred at : ℕ) (bytes : List ℕ) → HasItem (h ++ more) (Enters (Sent file (record { 0 = cred }) at bytes)) → TakenUnder (h ++ more) cred file at bytes) → StandsOf (h ++ more) c.name c.next_xid new c.asked c.again
 moved_stands h more c new numberless quiet s keeps stands under = record {
   numbers = numbers_later h more c.next_xid numberless s.numbers;

@@ -21,6 +21,7 @@ use Rattle.mirror_writer.specs.declared.call.WriterCall.TheVariants.{NoCall, Out
 use Rattle.mirror_writer.specs.Writers.{WriterMirror}
 use Rattle.mds_file_calls.specs.declared.grant.LayoutGrant.{LayoutGrant}
 use Rattle.mds_calls.specs.declared.ask.MdsAsk.{MdsAsk}
+use Rattle.mds_calls.specs.FittingCalls.{reports_server}
 use Rattle.mds_calls.specs.MdsCalls.{MdsCallValue, OnSlot}
 use Rattle.mds_calls.specs.MdsCalls as slot
 use Rattle.client_state.specs.declared.stage.LayoutStage.TheVariants.{Returning}
@@ -35,7 +36,7 @@ use Rattle.client_state.specs.ClientSends.{ClientSend, CallsServer, CallsMds, Re
 use Rattle.client_calls.specs.ClientCalls.{xid_after}
 use Rattle.client_calls.specs.ClientLaws.{new_number}
 use Rattle.client_laws.specs.ClientHistory.{HistoryItem, Hears, Enters, Sends, Recorded, HasItem}
-use Rattle.client_laws.specs.ClientRunLaws.{IsReplied, WasGranted, WasWritten, WasCovered, is_reported, WasEntered, WasSent, WasStray, WasTakenUnder}
+use Rattle.client_laws.specs.ClientRunLaws.{IsReplied, WasGranted, WasWritten, WasCovered, WasEntered, WasSent, WasStray, WasTakenUnder}
 use Rattle.client_laws.proofs.Orders.{in_more, in_next, in_either}
 use Rattle.client_laws.proofs.Stands.{Every, TakenWritten, TakenCovered, CommitItem, CallStands, MirrorStands, IsSettled, LayoutStands, IfThere, ReturnOut, AskFits, AskOut, QuietItem, QuietSend, IsOut, NumbersStand, TakenUnder, StandsOf, Stands, IdleItem, IdleEntry, MildItem, MildEntry, NumberlessItem, reported_of, MuteItem, MuteSend, IdleSend}
 
@@ -451,7 +452,7 @@ stands_later h more c idle s = record {
   replied = all_replied_later h more c.asked (are_numberless more idle) s.replied;
   asked_out = there_later c.asked (AskOut h c.name c.layout) (AskOut (h ++ more) c.name c.layout) (λ a. ask_later h more c.name c.layout a (λ gets none. (are_quiet more idle, are_mute more idle))) s.asked_out;
   alone = s.alone;
-  layout_stands = there_later c.layout (λ l. LayoutStands h c.name (is_reported (reported_of l)) l) (λ l. LayoutStands (h ++ more) c.name (is_reported (reported_of l)) l) (λ l. layout_later h more c.name (is_reported (reported_of l)) l (are_quiet more idle) (are_mute more idle)) s.layout_stands;
+  layout_stands = there_later c.layout (λ l. LayoutStands h c.name (reports_server (reported_of l)) l) (λ l. LayoutStands (h ++ more) c.name (reports_server (reported_of l)) l) (λ l. layout_later h more c.name (reports_server (reported_of l)) l (are_quiet more idle) (are_mute more idle)) s.layout_stands;
   taken_under = under_later h more (are_mild more idle) s.taken_under;
   gets_again = s.gets_again;
   returns_again = s.returns_again;

@@ -13,6 +13,7 @@ use Rattle.cluster_model.specs.declared.entry.Entry.TheVariants.{Sent, Answer}
 use Rattle.cluster_model.specs.declared.answer.UserAnswer.TheVariants as answer
 use Rattle.cluster_model.specs.declared.answer.FailCause.TheVariants as failing
 use Rattle.nfs4_types.specs.declared.ids.SessionId.{SessionId}
+use Rattle.mds_calls.specs.FittingCalls.{reports_server}
 use Rattle.mds_calls.specs.MdsCalls.{OnSlot}
 use Rattle.mds_calls.specs.MdsCalls as slot
 use Rattle.client_state.specs.ClientSends.{CallsMds}
@@ -31,7 +32,7 @@ use Rattle.client_answers.specs.ClientMirrors.{with_failed, with_status_at, repo
 use Rattle.client_answers.specs.ClientAnswers.{new_layout}
 use Rattle.mirror_client.specs.ClientRule.{stage_after_tick}
 use Rattle.client_laws.specs.ClientHistory.{HistoryItem, Enters, Sends, HasItem}
-use Rattle.client_laws.specs.ClientRunLaws.{WasGranted, is_reported, WasTakenUnder}
+use Rattle.client_laws.specs.ClientRunLaws.{WasGranted, WasTakenUnder}
 use Rattle.client_laws.proofs.Orders.{in_either, in_end}
 use Rattle.client_laws.proofs.Later.{granted_later, mirror_later, under_uid_later, AreQuiet, every_in, recalled_before}
 use Rattle.client_laws.proofs.Places.{FirstPlace, first_place, equal, same_number, or_left, or_right, length_set}
@@ -71,18 +72,18 @@ any_append test (x ∷ xs) ys is = or_right (test x) (list_any test (xs ++ ys)) 
 
 -- a status that is set reports its mirror, and leaves the others reported
 set_reports : (mirrors : List Mirror) (statuses : List (Option ℕ)) (place status server : ℕ) (m : Mirror) → slice_get mirrors place ≡ Some m → length mirrors ≤ length statuses → (m.id.server == server) ≡ true
-    → is_reported (failed_mirrors mirrors (slice_set statuses place (Some status))) server ≡ true
+    → reports_server (failed_mirrors mirrors (slice_set statuses place (Some status))) server ≡ true
 set_reports [] statuses place status server m there few is = absurd (none-some m there)
 set_reports (x ∷ mirrors) [] place status server m there few is = absurd (omega (arith, few))
 set_reports (x ∷ mirrors) (o ∷ statuses) zero status server m there few is = or_left (x.id.server == server) _ (ap (λ (k : Mirror). k.id.server == server) (same_Some x m there) ∙ is)
 set_reports (x ∷ mirrors) (o ∷ statuses) (suc place) status server m there few is =
     any_append (λ f. f.server == server) (failed_at x.id.server o) (failed_mirrors mirrors (slice_set statuses place (Some status))) (set_reports mirrors statuses place status server m there (omega (arith, few)) is)
 
-still_reports : (mirrors : List Mirror) (statuses : List (Option ℕ)) (place status server : ℕ) → is_reported (failed_mirrors mirrors statuses) server ≡ true
-    → is_reported (failed_mirrors mirrors (slice_set statuses place (Some status))) server ≡ true
+still_reports : (mirrors : List Mirror) (statuses : List (Option ℕ)) (place status server : ℕ) → reports_server (failed_mirrors mirrors statuses) server ≡ true
+    → reports_server (failed_mirrors mirrors (slice_set statuses place (Some status))) server ≡ true
 still_reports [] statuses place status server is = absurd (no_mirrors statuses is)
   where
-    no_mirrors : (statuses : List (Option ℕ)) → is_reported (failed_mirrors [] statuses) server ≡ true → ⊥
+    no_mirrors : (statuses : List (Option ℕ)) → reports_server (failed_mirrors [] statuses) server ≡ true → ⊥
     no_mirrors [] is = absurd cc
     no_mirrors (o ∷ statuses) is = absurd cc
 still_reports (x ∷ mirrors) [] place status server is = absurd cc
@@ -91,8 +92,8 @@ still_reports (x ∷ mirrors) (Some was ∷ statuses) zero status server is = is
 still_reports (x ∷ mirrors) (None ∷ statuses) (suc place) status server is = still_reports mirrors statuses place status server is
 still_reports (x ∷ mirrors) (Some was ∷ statuses) (suc place) status server is = by_first (x.id.server == server) is (still_reports mirrors statuses place status server)
   where
-    by_first : (b : Bool) → (b || is_reported (failed_mirrors mirrors statuses) server) ≡ true → (is_reported (failed_mirrors mirrors statuses) server ≡ true → is_reported (failed_mirrors mirrors (slice_set statuses place (Some status))) server ≡ true)
-        → (b || is_reported (failed_mirrors mirrors (slice_set statuses place (Some status))) server) ≡ true
+    by_first : (b : Bool) → (b || reports_server (failed_mirrors mirrors statuses) server) ≡ true → (reports_server (failed_mirrors mirrors statuses) server ≡ true → reports_server (failed_mirrors mirrors (slice_set statuses place (Some status))) server ≡ true)
+        → (b || reports_server (failed_mirrors mirrors (slice_set statuses place (Some status))) server) ≡ true
     by_first true is rest = refl
     by_first false is rest = rest is
 
@@ -123,8 +124,8 @@ is_its_own a b same = subst (λ (k : MirrorId). is_mirror a k ≡ true) (sym sam
 
 -- more is reported
 layout_reports : (h : List HistoryItem) (name : List ℕ) (reports : ℕ → Bool) (l : Layout) (statuses : List (Option ℕ)) → length statuses ≡ 4
-    → ((server : ℕ) → reports server ≡ true → is_reported (failed_mirrors l.mirrors statuses) server ≡ true) → LayoutStands h name reports l
-    → LayoutStands h name (is_reported (failed_mirrors l.mirrors statuses)) (record l { statuses = statuses })
+    → ((server : ℕ) → reports server ≡ true → reports_server (failed_mirrors l.mirrors statuses) server ≡ true) → LayoutStands h name reports l
+    → LayoutStands h name (reports_server (failed_mirrors l.mirrors statuses)) (record l { statuses = statuses })
 layout_reports h name reports l statuses four wider s = record {
   grant = s.grant;
   granted = s.granted;
@@ -135,7 +136,7 @@ layout_reports h name reports l statuses four wider s = record {
   ids = s.ids;
   few = s.few;
   statuses = four;
-  writer = λ place m there. reported_stands h name l.writer.cred l.writer.taken reports m (s.writer place m there) (is_reported (failed_mirrors l.mirrors statuses)) wider;
+  writer = λ place m there. reported_stands h name l.writer.cred l.writer.taken reports m (s.writer place m there) (reports_server (failed_mirrors l.mirrors statuses)) wider;
   entered = s.entered;
   was_taken = s.was_taken;
   was_given = s.was_given;
@@ -166,22 +167,22 @@ layout_wider h name reports wider l widens s = record {
   recalled = s.recalled;
 }
 
-pub failed_stands : (h : List HistoryItem) (name : List ℕ) (l : Layout) (id : MirrorId) (cause : LeftCause) → HasId l.mirrors id → LayoutStands h name (also (is_reported (reported_of l)) (step.Failed id cause)) l
-    → LayoutStands h name (is_reported (reported_of (with_failed l id cause))) (with_failed l id cause)
+pub failed_stands : (h : List HistoryItem) (name : List ℕ) (l : Layout) (id : MirrorId) (cause : LeftCause) → HasId l.mirrors id → LayoutStands h name (also (reports_server (reported_of l)) (step.Failed id cause)) l
+    → LayoutStands h name (reports_server (reported_of (with_failed l id cause))) (with_failed l id cause)
 failed_stands h name l id cause has s =
     let first : FirstPlace (λ (m : Mirror). is_mirror id m.id) l.mirrors = first_place (λ (m : Mirror). is_mirror id m.id) l.mirrors has.place has.mirror has.there (is_its_own id has.mirror.id has.its_id) in
     let on : id.server ≡ first.element.id.server = same_number id.server first.element.id.server (both_first (id.server == first.element.id.server) (id.fileid == first.element.id.fileid) first.passes) in
-    subst (λ (o : Option ℕ). LayoutStands h name (is_reported (failed_mirrors l.mirrors (with_status_at l.statuses o (reported_status cause)))) (record l { statuses = with_status_at l.statuses o (reported_status cause) })) (sym first.first)
-    (layout_reports h name (also (is_reported (reported_of l)) (step.Failed id cause)) l (slice_set l.statuses first.place (Some (reported_status cause))) (length_set l.statuses first.place (Some (reported_status cause)) ∙ s.statuses) (wider first.place first.element first.there on) s)
+    subst (λ (o : Option ℕ). LayoutStands h name (reports_server (failed_mirrors l.mirrors (with_status_at l.statuses o (reported_status cause)))) (record l { statuses = with_status_at l.statuses o (reported_status cause) })) (sym first.first)
+    (layout_reports h name (also (reports_server (reported_of l)) (step.Failed id cause)) l (slice_set l.statuses first.place (Some (reported_status cause))) (length_set l.statuses first.place (Some (reported_status cause)) ∙ s.statuses) (wider first.place first.element first.there on) s)
   where
-    by_or : (place : ℕ) (m : Mirror) → slice_get l.mirrors place ≡ Some m → id.server ≡ m.id.server → (server : ℕ) (b : Bool) → is_reported (reported_of l) server ≡ b → (b || (id.server == server)) ≡ true
-        → is_reported (failed_mirrors l.mirrors (slice_set l.statuses place (Some (reported_status cause)))) server ≡ true
+    by_or : (place : ℕ) (m : Mirror) → slice_get l.mirrors place ≡ Some m → id.server ≡ m.id.server → (server : ℕ) (b : Bool) → reports_server (reported_of l) server ≡ b → (b || (id.server == server)) ≡ true
+        → reports_server (failed_mirrors l.mirrors (slice_set l.statuses place (Some (reported_status cause)))) server ≡ true
     by_or place m there on server true was is = still_reports l.mirrors l.statuses place (reported_status cause) server was
     by_or place m there on server false was is = set_reports l.mirrors l.statuses place (reported_status cause) server m there (omega (arith, s.few, s.statuses)) (ap (λ k. k == server) (sym on) ∙ is)
 
-    wider : (place : ℕ) (m : Mirror) → slice_get l.mirrors place ≡ Some m → id.server ≡ m.id.server → (server : ℕ) → also (is_reported (reported_of l)) (step.Failed id cause) server ≡ true
-        → is_reported (failed_mirrors l.mirrors (slice_set l.statuses place (Some (reported_status cause)))) server ≡ true
-    wider place m there on server is = by_or place m there on server (is_reported (reported_of l) server) refl is
+    wider : (place : ℕ) (m : Mirror) → slice_get l.mirrors place ≡ Some m → id.server ≡ m.id.server → (server : ℕ) → also (reports_server (reported_of l)) (step.Failed id cause) server ≡ true
+        → reports_server (failed_mirrors l.mirrors (slice_set l.statuses place (Some (reported_status cause)))) server ≡ true
+    wider place m there on server is = by_or place m there on server (reports_server (reported_of l) server) refl is
 
 -- ---- its stage, and what is told of it
 
@@ -305,7 +306,7 @@ module _ (h : List HistoryItem) (name : List ℕ) (reports : ℕ → Bool) (l : 
 
 -- ---- a layout is granted
 
-pub new_stands : (h : List HistoryItem) (name : List ℕ) (g : LayoutGrant) (granted : WasGranted h g) → AreQuiet granted.since → (RecalledSince granted → ⊥) → length g.mirrors ≤ 4 → LayoutStands h name (is_reported (reported_of (new_layout g))) (new_layout g)
+pub new_stands : (h : List HistoryItem) (name : List ℕ) (g : LayoutGrant) (granted : WasGranted h g) → AreQuiet granted.since → (RecalledSince granted → ⊥) → length g.mirrors ≤ 4 → LayoutStands h name (reports_server (reported_of (new_layout g))) (new_layout g)
 new_stands h name g granted quiet unrecalled few = record {
   grant = g;
   granted = granted;
@@ -330,9 +331,9 @@ new_stands h name g granted quiet unrecalled few = record {
     new_ids [] = refl
     new_ids (m ∷ mirrors) = ap (λ k. m.id ∷ k) (new_ids mirrors)
 
-    fresh : (m : Mirror) → MirrorStands h name g.uid.0 [] (is_reported (reported_of (new_layout g))) (new_mirror m)
+    fresh : (m : Mirror) → MirrorStands h name g.uid.0 [] (reports_server (reported_of (new_layout g))) (new_mirror m)
     fresh m = record { size = refl; call = tt; answered = tt; covered = λ n is. absurd (cc (is)); reported = λ is. absurd (cc (is)); counts = record { once = λ n. omega arith; taken = λ n past. refl; wanted = λ is. absurd (cc (is)); idle = λ is. refl } }
 
-    by_mirror : (place : ℕ) (m : WriterMirror) (o : Option Mirror) → option_map new_mirror o ≡ Some m → MirrorStands h name g.uid.0 [] (is_reported (reported_of (new_layout g))) m
+    by_mirror : (place : ℕ) (m : WriterMirror) (o : Option Mirror) → option_map new_mirror o ≡ Some m → MirrorStands h name g.uid.0 [] (reports_server (reported_of (new_layout g))) m
     by_mirror place m None is = absurd (none-some m is)
-    by_mirror place m (Some x) is = subst (MirrorStands h name g.uid.0 [] (is_reported (reported_of (new_layout g)))) (same_Some (new_mirror x) m is) (fresh x)
+    by_mirror place m (Some x) is = subst (MirrorStands h name g.uid.0 [] (reports_server (reported_of (new_layout g)))) (same_Some (new_mirror x) m is) (fresh x)

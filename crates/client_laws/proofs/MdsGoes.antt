@@ -16,6 +16,7 @@ use Rattle.mds_calls.specs.declared.ask.MdsAsk.{MdsAsk}
 use Rattle.mds_calls.specs.declared.ask.MdsAsk.TheVariants as ask
 use Rattle.mds_calls.specs.declared.reply.SlotReport.{SlotReport}
 use Rattle.mds_calls.specs.declared.reply.SlotReport.TheVariants.{Taken, Uncached, Delayed, Unknown}
+use Rattle.mds_calls.specs.FittingCalls.{reports_server}
 use Rattle.mds_calls.specs.MdsCalls.{MdsCallValue, OnSlot}
 use Rattle.mds_calls.specs.MdsCalls as slot
 use Rattle.mds_calls.specs.MdsReplies.{MdsAnswerValue, Client, Session, Complete, Opened, Granted, Devices, Written, Bytes, Returned, Renewed, Refused, MdsReplyValue, reply_of_ask}
@@ -29,7 +30,7 @@ use Rattle.client_state.specs.ClientQueue.{revoked_layout}
 use Rattle.client_state.specs.ClientSends.{CallsMds, RepliesToMds}
 use Rattle.client_answers.specs.ClientAnswers.{next_on_slot, without_head, new_layout, learns_devices, layout_returned, head_refused, has_session, deferred, defers, after_refusal, refused_otherwise, is_for_later, asks_later, session_lost, refused_by_mds, by_answer, delayed, mds_answered}
 use Rattle.client_laws.specs.ClientHistory.{HistoryItem, Hears, Sends, Recorded, HasItem, InOrder, entered, Enters}
-use Rattle.client_laws.specs.ClientRunLaws.{IsReplied, WasCovered, CoveredByReturn, is_reported}
+use Rattle.client_laws.specs.ClientRunLaws.{IsReplied, WasCovered, CoveredByReturn}
 use Rattle.client_laws.proofs.Orders.{in_next, in_either, in_end}
 use Rattle.client_laws.proofs.Later.{numbers_later, layout_later, there_later, covered_next, all_replied_later, stands_later, under_later, every_append, not_replied}
 use Rattle.client_laws.proofs.GrantFacts.{granted_kind, granted_few, returned_kind}
@@ -52,7 +53,7 @@ pub record FreeOf (past : List HistoryItem) (next : ℕ) : Type 0 where
   pub replied : AllReplied past
   pub under : (file : FileId) (cred at : ℕ) (bytes : List ℕ) → HasItem past (Enters (Sent file (record { 0 = cred }) at bytes)) → TakenUnder past cred file at bytes
 
-free_stands : (past : List HistoryItem) (name : List ℕ) (next : ℕ) (layout : Option Layout) → FreeOf past next → IfThere layout (λ l. LayoutStands past name (is_reported (reported_of l)) l) → StandsOf past name next layout None None
+free_stands : (past : List HistoryItem) (name : List ℕ) (next : ℕ) (layout : Option Layout) → FreeOf past next → IfThere layout (λ l. LayoutStands past name (reports_server (reported_of l)) l) → StandsOf past name next layout None None
 free_stands past name next layout free stands = record {
   numbers = free.numbers;
   replied = λ xid caller call i. inr (free.replied xid caller call i);
@@ -86,14 +87,14 @@ module _ (past : List HistoryItem) (c : ClientValue) (out : c.asked ≡ None) (n
   free = stands_free past c.name c.next_xid c.layout c.again (subst (λ (o : Option Asked). StandsOf past c.name c.next_xid c.layout o c.again) out s)
 
   -- with another layout
-  with_new : (layout : Option Layout) → IfThere layout (λ l. LayoutStands past c.name (is_reported (reported_of l)) l) → StandsOf past c.name c.next_xid layout c.asked c.again
+  with_new : (layout : Option Layout) → IfThere layout (λ l. LayoutStands past c.name (reports_server (reported_of l)) l) → StandsOf past c.name c.next_xid layout c.asked c.again
   with_new layout stands =
       subst (λ (o : Option Asked). StandsOf past c.name c.next_xid layout o c.again) (sym out)
       (subst (λ (o : Option MdsAsk). StandsOf past c.name c.next_xid layout None o) (sym no_again) (free_stands past c.name c.next_xid layout free stands))
 
-  defer_stands : (layout : Option Layout) → c.layout ≡ layout → IfThere (deferred layout) (λ l. LayoutStands past c.name (is_reported (reported_of l)) l)
+  defer_stands : (layout : Option Layout) → c.layout ≡ layout → IfThere (deferred layout) (λ l. LayoutStands past c.name (reports_server (reported_of l)) l)
   defer_stands None at = tt
-  defer_stands (Some l) at = deferred_stands past c.name (is_reported (reported_of l)) l (subst (λ (o : Option Layout). IfThere o (λ l. LayoutStands past c.name (is_reported (reported_of l)) l)) at s.layout_stands)
+  defer_stands (Some l) at = deferred_stands past c.name (reports_server (reported_of l)) l (subst (λ (o : Option Layout). IfThere o (λ l. LayoutStands past c.name (reports_server (reported_of l)) l)) at s.layout_stands)
 
   defers_stands : (kind : MdsAsk) → Stands past (defers kind c)
   defers_stands ask.LayoutReturn = with_new (deferred c.layout) (defer_stands c.layout refl)
@@ -203,11 +204,11 @@ module _ (h : List HistoryItem) (c : ClientValue) (s : Stands h c) (a : Asked) (
   free_now : FreeOf (h ++ Hears (Recorded Mds bytes now) ∷ []) c.next_xid
   free_now = record { numbers = numbers_later h (item ∷ []) c.next_xid (tt, tt) s.numbers; replied = all_replied; under = under_later h (item ∷ []) (tt, tt) s.taken_under }
 
-  pub layout_now : IfThere c.layout (λ l. LayoutStands (h ++ Hears (Recorded Mds bytes now) ∷ []) c.name (is_reported (reported_of l)) l)
-  layout_now = there_later c.layout (λ l. LayoutStands h c.name (is_reported (reported_of l)) l) (λ l. LayoutStands (h ++ item ∷ []) c.name (is_reported (reported_of l)) l) (λ l. layout_later h (item ∷ []) c.name (is_reported (reported_of l)) l (tt, tt) (tt, tt)) s.layout_stands
+  pub layout_now : IfThere c.layout (λ l. LayoutStands (h ++ Hears (Recorded Mds bytes now) ∷ []) c.name (reports_server (reported_of l)) l)
+  layout_now = there_later c.layout (λ l. LayoutStands h c.name (reports_server (reported_of l)) l) (λ l. LayoutStands (h ++ item ∷ []) c.name (reports_server (reported_of l)) l) (λ l. layout_later h (item ∷ []) c.name (reports_server (reported_of l)) l (tt, tt) (tt, tt)) s.layout_stands
 
   -- nothing is out now
-  with_layout_now : (layout : Option Layout) → IfThere layout (λ l. LayoutStands (h ++ Hears (Recorded Mds bytes now) ∷ []) c.name (is_reported (reported_of l)) l) → StandsOf (h ++ Hears (Recorded Mds bytes now) ∷ []) c.name c.next_xid layout None c.again
+  with_layout_now : (layout : Option Layout) → IfThere layout (λ l. LayoutStands (h ++ Hears (Recorded Mds bytes now) ∷ []) c.name (reports_server (reported_of l)) l) → StandsOf (h ++ Hears (Recorded Mds bytes now) ∷ []) c.name c.next_xid layout None c.again
   with_layout_now layout stands = subst (λ (o : Option MdsAsk). StandsOf past c.name c.next_xid layout None o) (sym no_again) (free_stands past c.name c.next_xid layout free_now stands)
 
   without_now : StandsOf (h ++ Hears (Recorded Mds bytes now) ∷ []) c.name c.next_xid c.layout None c.again
@@ -220,7 +221,7 @@ module _ (h : List HistoryItem) (c : ClientValue) (s : Stands h c) (a : Asked) (
   gets_layout : (g : LayoutGrant) → (reply_of_ask a.ask reply).answer ≡ Granted g → GetsLayout h (Sends (CallsMds a.xid c.name its_ask.call)) c.layout its_ask.call
   gets_layout g says = fits_of ask.LayoutGet (granted_kind a.ask reply g says)
 
-  granted_stands : (g : LayoutGrant) → (reply_of_ask a.ask reply).answer ≡ Granted g → LayoutStands (h ++ Hears (Recorded Mds bytes now) ∷ []) c.name (is_reported (reported_of (new_layout g))) (new_layout g)
+  granted_stands : (g : LayoutGrant) → (reply_of_ask a.ask reply).answer ≡ Granted g → LayoutStands (h ++ Hears (Recorded Mds bytes now) ∷ []) c.name (reports_server (reported_of (new_layout g))) (new_layout g)
   granted_stands g says =
       let gets : GetsLayout h (Sends (CallsMds a.xid c.name its_ask.call)) c.layout its_ask.call = gets_layout g says in
       new_stands past c.name g
@@ -243,7 +244,7 @@ module _ (h : List HistoryItem) (c : ClientValue) (s : Stands h c) (a : Asked) (
       gets.unrecalled r.items b.behind r.reply g.stateid.other b.split (subst (λ (k : MdsCallValue). WasRecalled (gets.before ++ Sends (CallsMds a.xid c.name k) ∷ r.items) r.reply g.stateid.other) (sym gets.is) r.recalled))) (granted_few a.ask reply g says)
 
   -- a return is accepted: what it reports, and what is covered elsewhere
-  pub returned_covered : (l : Layout) → c.layout ≡ Some l → (reply_of_ask a.ask reply).answer ≡ Returned → (old : LayoutStands (h ++ Hears (Recorded Mds bytes now) ∷ []) c.name (is_reported (reported_of l)) l) (n : ℕ) (t : TakenWrite) → slice_get l.writer.taken n ≡ Some t
+  pub returned_covered : (l : Layout) → c.layout ≡ Some l → (reply_of_ask a.ask reply).answer ≡ Returned → (old : LayoutStands (h ++ Hears (Recorded Mds bytes now) ∷ []) c.name (reports_server (reported_of l)) l) (n : ℕ) (t : TakenWrite) → slice_get l.writer.taken n ≡ Some t
       → ReturnAccepted (h ++ Hears (Recorded Mds bytes now) ∷ []) its_ask.call old.grant t.at t.bytes
   returned_covered l there says old n t is =
       let kind : a.ask ≡ ask.LayoutReturn = returned_kind a.ask reply says in
@@ -272,7 +273,7 @@ module _ (h : List HistoryItem) (c : ClientValue) (s : Stands h c) (a : Asked) (
 
   returned_tells : (l : Layout) → c.layout ≡ Some l → (reply_of_ask a.ask reply).answer ≡ Returned → (n : ℕ) → MayTellWrite (h ++ Hears (Recorded Mds bytes now) ∷ []) l.writer n
   returned_tells l there says n t is =
-      let old : LayoutStands past c.name (is_reported (reported_of l)) l = subst (λ (o : Option Layout). IfThere o (λ l. LayoutStands past c.name (is_reported (reported_of l)) l)) there layout_now in
+      let old : LayoutStands past c.name (reports_server (reported_of l)) l = subst (λ (o : Option Layout). IfThere o (λ l. LayoutStands past c.name (reports_server (reported_of l)) l)) there layout_now in
       record {
         grant = old.grant;
         granted = old.granted;

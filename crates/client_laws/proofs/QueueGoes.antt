@@ -1,6 +1,7 @@
 -- The queue is run, and then the calls go out.
 use Rattle.std.proofs.lemmas.Option.{none-some}
 use Rattle.cluster_model.specs.declared.ids.FileId.{FileId}
+use Rattle.mds_calls.specs.FittingCalls.{reports_server}
 use Rattle.client_laws.proofs.Orders.{in_more, in_end, in_either}
 use Rattle.client_laws.proofs.Silent.{silent_now, unsent_writing, free_now, unrecalled_now}
 use Rattle.std.proofs.Common.{◌≡◌, ℕ, Bool, true, false, List, [], ◌∷◌, ◌++◌, length, Option, Some, None, refl, sym, subst, ◌∙◌, inl, inr, ◌⊎◌, ap}
@@ -23,7 +24,6 @@ use Rattle.client_state.specs.ClientStates.{ClientValue, is_layout_return}
 use Rattle.client_state.specs.ClientQueue.{HeadStep, IsDone, IsWaiting, Asks, answers_user, refuses_request, answers_committed, with_layout, with_writer, ends_layout, ending, is_writing, unknown_servers, is_past, taken_write, write_under, write_to, write_by, behind_return, is_all_told, layout_committing, on_open_file, opens_by, head_step, QueueRun, keeps_head, awake, after_head, with_rest, run_requests, run_queue}
 use Rattle.client_calls.specs.ClientCalls.{calls_all, ends_event}
 use Rattle.client_laws.specs.ClientHistory.{HistoryItem, Enters, entered, HasItem}
-use Rattle.client_laws.specs.ClientRunLaws.{is_reported}
 use Rattle.client_laws.proofs.Later.{stands_later, granted_later}
 use Rattle.client_laws.proofs.LayoutMoves.{ending_stands, committing_stands, taking_stands}
 use Rattle.client_laws.proofs.Goes.{RunGoes, StepGoes, run_unmoved, run_follows, run_calls, SameReturn, KeepsReturn, KeepsLayout, with_layout_stands, moved_stands}
@@ -40,8 +40,8 @@ answer_goes past a c s idle = record { entries = ((tt, tt, tt, tt, tt, tt), tt);
 pub ending_keeps : (l : Layout) → KeepsReturn l (ending l)
 ending_keeps l at = subst (λ (stage : LayoutStage). SameReturn l (ends_layout l stage)) (sym at) (record { stateid = refl; mirrors = refl; cred = refl; taken = refl; stage = at })
 
-pub ended_stands : (past : List HistoryItem) (name : List ℕ) (l : Layout) → LayoutStands past name (is_reported (reported_of l)) l → LayoutStands past name (is_reported (reported_of (ending l))) (ending l)
-ended_stands past name l old = subst (λ (failed : List FailedMirror). LayoutStands past name (is_reported failed) (ending l)) (same_report l.stage) (ending_stands past name (is_reported (reported_of l)) l old)
+pub ended_stands : (past : List HistoryItem) (name : List ℕ) (l : Layout) → LayoutStands past name (reports_server (reported_of l)) l → LayoutStands past name (reports_server (reported_of (ending l))) (ending l)
+ended_stands past name l old = subst (λ (failed : List FailedMirror). LayoutStands past name (reports_server failed) (ending l)) (same_report l.stage) (ending_stands past name (reports_server (reported_of l)) l old)
   where
     same_report : (stage : LayoutStage) → reported_of l ≡ reported_of (ends_layout l stage)
     same_report Writing = refl
@@ -52,7 +52,7 @@ ended_stands past name l old = subst (λ (failed : List FailedMirror). LayoutSta
 pub ending_client : (past : List HistoryItem) (c : ClientValue) (l : Layout) → c.layout ≡ Some l → Stands past c → Stands past (with_layout c (ending l))
 ending_client past c l at s =
     with_layout_stands past c (Some (ending l)) s (subst (λ (o : Option Layout). KeepsLayout o (Some (ending l))) (sym at) (ending_keeps l))
-    (ended_stands past c.name l (subst (λ (o : Option Layout). IfThere o (λ l. LayoutStands past c.name (is_reported (reported_of l)) l)) at s.layout_stands))
+    (ended_stands past c.name l (subst (λ (o : Option Layout). IfThere o (λ l. LayoutStands past c.name (reports_server (reported_of l)) l)) at s.layout_stands))
 
 -- ---- the request at the head
 
@@ -72,10 +72,10 @@ uid_of item = 0
 module _ (past : List HistoryItem) (c : ClientValue) (s : Stands past c) where
   taken_goes : (file : OpenFile) (l : Layout) (at : ℕ) (bytes : List ℕ) → c.layout ≡ Some l → l.stage ≡ Writing → overlaps_taken l.writer at (length bytes) ≡ false → RunGoes past (taken_write c file l at bytes)
   taken_goes file l at bytes there writing free = record {
-    entries = ((tt, tt, tt, silent_now past c.name (is_reported (reported_of l)) l old (unsent_writing past c.name (is_reported (reported_of l)) l old writing), free_now past c.name (is_reported (reported_of l)) l old at bytes s.taken_under free, unrecalled_now past c.name (is_reported (reported_of l)) l old writing), tt);
+    entries = ((tt, tt, tt, silent_now past c.name (reports_server (reported_of l)) l old (unsent_writing past c.name (reports_server (reported_of l)) l old writing), free_now past c.name (reports_server (reported_of l)) l old at bytes s.taken_under free, unrecalled_now past c.name (reports_server (reported_of l)) l old writing), tt);
     stands =
         moved_stands past (item ∷ []) c (Some new) (tt, tt) (λ none. absurd (none-some new (sym none))) s (subst (λ (o : Option Layout). KeepsLayout o (Some new)) (sym there) (λ stage. absurd (not_both (sym writing ∙ stage))))
-        (taking_stands past c.name (is_reported (reported_of l)) l old writing file.file at bytes (l.untold ++ length l.writer.taken ∷ [])) under;
+        (taking_stands past c.name (reports_server (reported_of l)) l old writing file.file at bytes (l.untold ++ length l.writer.taken ∷ [])) under;
   }
     where
       item : HistoryItem
@@ -87,8 +87,8 @@ module _ (past : List HistoryItem) (c : ClientValue) (s : Stands past c) where
       not_both : Writing ≡ Returning → ⊥
       not_both e = absurd cc
 
-      old : LayoutStands past c.name (is_reported (reported_of l)) l
-      old = subst (λ (o : Option Layout). IfThere o (λ l. LayoutStands past c.name (is_reported (reported_of l)) l)) there s.layout_stands
+      old : LayoutStands past c.name (reports_server (reported_of l)) l
+      old = subst (λ (o : Option Layout). IfThere o (λ l. LayoutStands past c.name (reports_server (reported_of l)) l)) there s.layout_stands
 
       same_uid : (f : FileId) (cred a : ℕ) (b : List ℕ) → Enters (Sent f (record { 0 = cred }) a b) ≡ Enters (Sent file.file (record { 0 = l.writer.cred }) at bytes) → l.writer.cred ≡ cred
       same_uid f cred a b same = sym (ap uid_of same)
@@ -138,7 +138,7 @@ module _ (past : List HistoryItem) (c : ClientValue) (s : Stands past c) where
   committing_goes (Some l) there =
       with_layout_stands past c (Some (with_writer l (commit_wanted l.writer))) s
       (subst (λ (o : Option Layout). KeepsLayout o (Some (with_writer l (commit_wanted l.writer)))) (sym there) (λ stage. record { stateid = refl; mirrors = refl; cred = refl; taken = refl; stage = stage }))
-      (committing_stands past c.name (is_reported (reported_of l)) l (subst (λ (o : Option Layout). IfThere o (λ l. LayoutStands past c.name (is_reported (reported_of l)) l)) there s.layout_stands))
+      (committing_stands past c.name (reports_server (reported_of l)) l (subst (λ (o : Option Layout). IfThere o (λ l. LayoutStands past c.name (reports_server (reported_of l)) l)) there s.layout_stands))
 
   file_goes : (file : OpenFile) (request : UserRequest) → HeadGoes past c.layout (on_open_file c file request)
   file_goes file (Open name) = answer_goes past _ c s tt

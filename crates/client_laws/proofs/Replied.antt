@@ -11,6 +11,7 @@ use Rattle.cluster_model.specs.declared.entry.Entry.{Entry}
 use Rattle.mds_file_calls.specs.declared.open.OpenFile.{OpenFile}
 use Rattle.mds_calls.specs.declared.ask.MdsAsk.{MdsAsk}
 use Rattle.mds_calls.specs.declared.ask.MdsAsk.TheVariants as ask
+use Rattle.mds_calls.specs.FittingCalls.{reports_server}
 use Rattle.mds_calls.specs.MdsCalls.{MdsCallValue}
 use Rattle.client_state.specs.declared.request.UserRequest.{UserRequest}
 use Rattle.client_state.specs.declared.request.UserRequest.TheVariants.{Open, Write, Through, Commit, Read, Return}
@@ -21,7 +22,6 @@ use Rattle.client_state.specs.ClientSends.{CallsMds, RepliesToMds}
 use Rattle.client_state.specs.ClientQueue.{HeadStep, IsDone, IsWaiting, Asks, answers_user, refuses_request, answers_committed, is_writing, unknown_servers, is_past, write_to, write_by, behind_return, is_all_told, layout_committing, on_open_file, head_step, QueueRun, after_head, awake, with_rest, run_requests, run_queue}
 use Rattle.client_callbacks.specs.Callbacks.{CbReply, callback_of}
 use Rattle.client_laws.specs.ClientHistory.{ClientInput, Recorded, HistoryItem, Hears, Enters, Sends, entered, HasItem}
-use Rattle.client_laws.specs.ClientRunLaws.{is_reported}
 use Rattle.client_laws.specs.RecallLaws.{LastHeard, heard_behind, last_heard, WasRecalled, RecalledSince, up_to}
 use Rattle.client_laws.proofs.Orders.{in_more}
 use Rattle.client_laws.proofs.Later.{numbers_later, all_replied_later, under_later, granted_later, there_later, mirror_later, under_uid_later, every_append, taken_later, not_taken_later, given_later, return_later}
@@ -193,11 +193,11 @@ module _ (h : List HistoryItem) (reply : RpcReply) where
     fits = replied_fits (Sends (CallsMds a.xid name s.call)) layout s.call a.ask so s.fits;
   }
 
-  replied_there : (name : List ℕ) (layout : Option Layout) → ((state : List ℕ) → WasRecalled h reply state → IsEnding layout) → IfThere layout (λ l. LayoutStands h name (is_reported (reported_of l)) l)
-      → IfThere layout (λ l. LayoutStands (h ++ Sends (RepliesToMds reply) ∷ []) name (is_reported (reported_of l)) l)
+  replied_there : (name : List ℕ) (layout : Option Layout) → ((state : List ℕ) → WasRecalled h reply state → IsEnding layout) → IfThere layout (λ l. LayoutStands h name (reports_server (reported_of l)) l)
+      → IfThere layout (λ l. LayoutStands (h ++ Sends (RepliesToMds reply) ∷ []) name (reports_server (reported_of l)) l)
   replied_there name None so s = tt
   replied_there name (Some l) so s =
-      replied_layout name (is_reported (reported_of l)) l s (λ state r. (let e : IsEnding (Some l) = so state r in subst (λ (k : Layout). is_writing k.stage ≡ false) (same_Some e.held l (sym e.there)) e.stage))
+      replied_layout name (reports_server (reported_of l)) l s (λ state r. (let e : IsEnding (Some l) = so state r in subst (λ (k : Layout). is_writing k.stage ≡ false) (same_Some e.held l (sym e.there)) e.stage))
 
   pub stands_replied : (c : ClientValue) → Stands h c → ((state : List ℕ) → WasRecalled h reply state → IsEnding c.layout) → Stands (h ++ Sends (RepliesToMds reply) ∷ []) c
   stands_replied c s so = record {

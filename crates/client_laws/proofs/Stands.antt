@@ -24,6 +24,7 @@ use Rattle.mds_file_calls.specs.declared.grant.LayoutGrant.{LayoutGrant}
 use Rattle.mds_file_calls.specs.declared.layout_return.FailedMirror.{FailedMirror}
 use Rattle.mds_calls.specs.declared.ask.MdsAsk.{MdsAsk}
 use Rattle.mds_calls.specs.declared.ask.MdsAsk.TheVariants as ask
+use Rattle.mds_calls.specs.FittingCalls.{reports_server}
 use Rattle.mds_calls.specs.MdsCalls.{MdsCallValue, OnSlot, SlotCallValue}
 use Rattle.mds_calls.specs.MdsCalls as slot
 use Rattle.client_state.specs.declared.stage.LayoutStage.TheVariants.{Returning}
@@ -35,7 +36,7 @@ use Rattle.client_state.specs.ClientQueue.{is_writing}
 use Rattle.client_calls.specs.ClientCalls.{failed_mirrors}
 use Rattle.client_calls.specs.ClientLaws.{new_number}
 use Rattle.client_laws.specs.ClientHistory.{HistoryItem, Hears, Enters, Sends, HasItem}
-use Rattle.client_laws.specs.ClientRunLaws.{IsReplied, WasGranted, WasWritten, WasCovered, is_reported, WasTakenUnder}
+use Rattle.client_laws.specs.ClientRunLaws.{IsReplied, WasGranted, WasWritten, WasCovered, WasTakenUnder}
 
 abbrev pub Every : {A : Type 0} → (A → Type 0) → List A → Type 0
 Every P [] = Unit {0}
@@ -178,7 +179,7 @@ IfThere (Some a) P = P a
 pub record ReturnOut (h : List HistoryItem) (item : HistoryItem) (stateid : Stateid) (failed : List FailedMirror) (l : Layout) : Type 0 where
   pub its_stateid : stateid ≡ l.stateid
   pub stage : l.stage ≡ Returning
-  pub covered : (n : ℕ) (w : TakenWrite) → slice_get l.writer.taken n ≡ Some w → (place : ℕ) (m : Mirror) → slice_get l.mirrors place ≡ Some m → is_reported failed m.id.server ≡ false
+  pub covered : (n : ℕ) (w : TakenWrite) → slice_get l.writer.taken n ≡ Some w → (place : ℕ) (m : Mirror) → slice_get l.mirrors place ≡ Some m → reports_server failed m.id.server ≡ false
       → WasCovered h m.id l.writer.cred w.at w.bytes (item ∷ [])
 
 -- it takes no write
@@ -306,7 +307,7 @@ pub record StandsOf (h : List HistoryItem) (name : List ℕ) (next : ℕ) (layou
   pub replied : (xid : ℕ) (caller : List ℕ) (call : MdsCallValue) → HasItem h (Sends (CallsMds xid caller call)) → IsOut asked xid ⊎ IsReplied h xid caller call
   pub asked_out : IfThere asked (AskOut h name layout)
   pub alone : IfThere asked (λ a. again ≡ None)
-  pub layout_stands : IfThere layout (λ l. LayoutStands h name (is_reported (reported_of l)) l)
+  pub layout_stands : IfThere layout (λ l. LayoutStands h name (reports_server (reported_of l)) l)
   pub taken_under : (file : FileId) (cred at : ℕ) (bytes : List ℕ) → HasItem h (Enters (Sent file (record { 0 = cred }) at bytes)) → TakenUnder h cred file at bytes
   pub gets_again : again ≡ Some ask.LayoutGet → layout ≡ None
   pub returns_again : again ≡ Some ask.LayoutReturn → IfThere layout (λ l. l.stage ≡ Returning)

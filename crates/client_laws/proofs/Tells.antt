@@ -12,6 +12,7 @@ use Rattle.mirror_writer.specs.Writers.{WriterMirror, WriterValue, covered_flag}
 use Rattle.mirror_writer.specs.Outstanding.{is_covered_everywhere}
 use Rattle.mds_file_calls.specs.declared.open.OpenFile.{OpenFile}
 use Rattle.mds_file_calls.specs.declared.grant.LayoutGrant.{LayoutGrant}
+use Rattle.mds_calls.specs.FittingCalls.{reports_server}
 use Rattle.mds_calls.specs.MdsCalls.{OnSlot}
 use Rattle.mds_calls.specs.MdsCalls as slot
 use Rattle.client_state.specs.declared.layout.Layout.{Layout}
@@ -20,7 +21,7 @@ use Rattle.client_state.specs.ClientQueue.{with_layout}
 use Rattle.client_state.specs.ClientSends.{CallsMds}
 use Rattle.client_answers.specs.ClientMirrors.{told_entry, told_entries, tells, tells_covered}
 use Rattle.client_laws.specs.ClientHistory.{HistoryItem, Hears, Enters, Sends, Recorded, entered, Each}
-use Rattle.client_laws.specs.ClientRunLaws.{WasCovered, CoveredAtEach, CoveredByReturn, MayBeTold, is_reported}
+use Rattle.client_laws.specs.ClientRunLaws.{WasCovered, CoveredAtEach, CoveredByReturn, MayBeTold}
 use Rattle.client_laws.proofs.Orders.{in_more}
 use Rattle.client_laws.proofs.Later.{AreIdle, covered_later, granted_later, stands_later, under_uid_later}
 use Rattle.client_laws.proofs.LayoutMoves.{untold_stands}
@@ -83,7 +84,7 @@ tells_go past file w ns c all s = record { entries = told_go file w ns past all;
 -- ---- those that are covered at each mirror
 
 -- what is covered everywhere is so at each mirror of the grant
-pub covered_each : (past : List HistoryItem) (name : List ℕ) (l : Layout) (s : LayoutStands past name (is_reported (reported_of l)) l) (n : ℕ) → is_covered_everywhere l.writer n ≡ true → (t : TakenWrite) → slice_get l.writer.taken n ≡ Some t → CoveredAtEach past s.grant t.at t.bytes
+pub covered_each : (past : List HistoryItem) (name : List ℕ) (l : Layout) (s : LayoutStands past name (reports_server (reported_of l)) l) (n : ℕ) → is_covered_everywhere l.writer n ≡ true → (t : TakenWrite) → slice_get l.writer.taken n ≡ Some t → CoveredAtEach past s.grant t.at t.bytes
 covered_each past name l s n everywhere t there =
     λ place m found. by_mirror place m (slice_get l.writer.mirrors place) refl (sym (slice_get-map (λ (x : WriterMirror). x.id) l.writer.mirrors place) ∙ ap (λ k. slice_get k place) s.ids ∙ slice_get-map (λ (x : Mirror). x.id) l.mirrors place ∙ ap (λ k. option_map (λ (x : Mirror). x.id) (slice_get k place)) s.mirrors ∙ ap (option_map (λ (x : Mirror). x.id)) found)
   where
@@ -95,7 +96,7 @@ covered_each past name l s n everywhere t there =
         subst (λ (k : ℕ). WasCovered past m.id k t.at t.bytes []) s.uid
         (subst (λ (i : MirrorId). WasCovered past i l.writer.cred t.at t.bytes []) (same_Some x.id m.id is) (subst (λ (k : TakenWrite). WasCovered past x.id l.writer.cred k.at k.bytes []) one its.covered))
 
-covered_tells : (past : List HistoryItem) (name : List ℕ) (l : Layout) → LayoutStands past name (is_reported (reported_of l)) l → (n : ℕ) → is_covered_everywhere l.writer n ≡ true → MayTellWrite past l.writer n
+covered_tells : (past : List HistoryItem) (name : List ℕ) (l : Layout) → LayoutStands past name (reports_server (reported_of l)) l → (n : ℕ) → is_covered_everywhere l.writer n ≡ true → MayTellWrite past l.writer n
 covered_tells past name l s n everywhere t there = record {
   grant = s.grant;
   granted = s.granted;
@@ -108,18 +109,18 @@ every_any : (ns : List ℕ) → Every (λ n. Unit {0}) ns
 every_any [] = tt
 every_any (n ∷ ns) = (tt, every_any ns)
 
-every_covered : (past : List HistoryItem) (name : List ℕ) (l : Layout) → LayoutStands past name (is_reported (reported_of l)) l → (ns : List ℕ) → Every (λ n. Unit {0} × (is_covered_everywhere l.writer n ≡ true)) ns → Every (MayTellWrite past l.writer) ns
+every_covered : (past : List HistoryItem) (name : List ℕ) (l : Layout) → LayoutStands past name (reports_server (reported_of l)) l → (ns : List ℕ) → Every (λ n. Unit {0} × (is_covered_everywhere l.writer n ≡ true)) ns → Every (MayTellWrite past l.writer) ns
 every_covered past name l s [] all = tt
 every_covered past name l s (n ∷ ns) all = (covered_tells past name l s n all.0.1, every_covered past name l s ns all.1)
 
 pub tells_covered_go : (past : List HistoryItem) (file : OpenFile) (c : ClientValue) (layout : Option Layout) → c.layout ≡ layout → Stands past c → RunGoes past (tells_covered file layout c)
 tells_covered_go past file c None at s = run_unmoved past c s
 tells_covered_go past file c (Some l) at s =
-    let old : LayoutStands past c.name (is_reported (reported_of l)) l = subst (λ (o : Option Layout). IfThere o (λ l. LayoutStands past c.name (is_reported (reported_of l)) l)) at s.layout_stands in
+    let old : LayoutStands past c.name (reports_server (reported_of l)) l = subst (λ (o : Option Layout). IfThere o (λ l. LayoutStands past c.name (reports_server (reported_of l)) l)) at s.layout_stands in
     tells_go past file l.writer (filter (is_covered_everywhere l.writer) l.untold) (with_layout c new)
     (every_covered past c.name l old (filter (is_covered_everywhere l.writer) l.untold) (every_filter (λ n. Unit {0}) (is_covered_everywhere l.writer) l.untold (every_any l.untold)))
     (with_layout_stands past c (Some new) s (subst (λ (o : Option Layout). KeepsLayout o (Some new)) (sym at) (λ stage. record { stateid = refl; mirrors = refl; cred = refl; taken = refl; stage = stage }))
-    (untold_stands past c.name (is_reported (reported_of l)) l old (filter (λ n. not (is_covered_everywhere l.writer n)) l.untold)))
+    (untold_stands past c.name (reports_server (reported_of l)) l old (filter (λ n. not (is_covered_everywhere l.writer n)) l.untold)))
   where
     new : Layout
     new = record l { untold = filter (λ n. not (is_covered_everywhere l.writer n)) l.untold }

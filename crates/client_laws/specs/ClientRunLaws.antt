@@ -1,6 +1,5 @@
 -- What holds of a client in every run of it, told by what was sent and what was heard (RFC 8881, RFC 8435, RFC 1813).
-use Rattle.std.specs.Prelude.{◌≡◌, ℕ, Bool, false, ◌==◌, List, [], ◌∷◌, ◌++◌, length, Option, Some, Ok, slice_get, ◌⊎◌}
-use Rattle.std.specs.List.{list_any}
+use Rattle.std.specs.Prelude.{◌≡◌, ℕ, false, List, [], ◌∷◌, ◌++◌, length, Option, Some, Ok, slice_get, ◌⊎◌}
 use Rattle.rpc_record.specs.Replies.{RpcReply, reply_at}
 use Rattle.nfs4_types.specs.declared.ids.SessionId.{SessionId}
 use Rattle.nfs4_types.specs.declared.stateid.Stateid.{Stateid}
@@ -21,7 +20,8 @@ use Rattle.mds_file_calls.specs.declared.grant.LayoutGrant.{LayoutGrant}
 use Rattle.mds_file_calls.specs.declared.layout_return.FailedMirror.{FailedMirror}
 use Rattle.mds_calls.specs.declared.ask.MdsAsk.{MdsAsk}
 use Rattle.mds_calls.specs.declared.ask.MdsAsk.TheVariants as ask
-use Rattle.mds_calls.specs.MdsCalls.{MdsCallValue, ExchangeId, CreateSession, OnSlot, SlotCallValue}
+use Rattle.mds_calls.specs.FittingCalls.{reports_server}
+use Rattle.mds_calls.specs.MdsCalls.{MdsCallValue, OnSlot, SlotCallValue}
 use Rattle.mds_calls.specs.MdsCalls as slot
 use Rattle.mds_calls.specs.MdsReplies.{MdsAnswerValue, Granted, Returned, reply_of_ask}
 use Rattle.client_state.specs.ClientStates.{fresh_client}
@@ -104,10 +104,6 @@ pub record WasCovered (past : List HistoryItem) (id : MirrorId) (uid at : ℕ) (
 
 -- ---- a write is told
 
--- a return reports that the mirror on this data server failed (RFC 8435, section 9.1.1)
-abbrev pub is_reported : List FailedMirror → ℕ → Bool
-is_reported failed server = list_any (λ (f : FailedMirror). f.server == server) failed
-
 -- at each mirror of a layout
 abbrev pub CoveredAtEach : List HistoryItem → LayoutGrant → ℕ → List ℕ → Type 0
 CoveredAtEach past grant at data_of = (place : ℕ) (m : Mirror) → slice_get grant.mirrors place ≡ Some m → WasCovered past m.id grant.uid.0 at data_of []
@@ -115,7 +111,7 @@ CoveredAtEach past grant at data_of = (place : ℕ) (m : Mirror) → slice_get g
 -- at each mirror of a layout that these do not report; and then came these
 abbrev pub CoveredUnreported : List HistoryItem → LayoutGrant → List FailedMirror → ℕ → List ℕ → List HistoryItem → Type 0
 CoveredUnreported past grant failed at data_of behind =
-    (place : ℕ) (m : Mirror) → slice_get grant.mirrors place ≡ Some m → is_reported failed m.id.server ≡ false → WasCovered past m.id grant.uid.0 at data_of behind
+    (place : ℕ) (m : Mirror) → slice_get grant.mirrors place ≡ Some m → reports_server failed m.id.server ≡ false → WasCovered past m.id grant.uid.0 at data_of behind
 
 -- A LAYOUTRETURN of the layout's stateid was sent, and accepted (RFC 8881, section 18.44); and the write was covered at each mirror that it
 -- does not report when it was sent.

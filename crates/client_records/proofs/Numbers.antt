@@ -10,7 +10,7 @@ use Rattle.cluster_model.specs.declared.entry.Entry.TheVariants.{Sent, Rogue, To
 use Rattle.cluster_model.specs.DsCalls as ds
 use Rattle.mds_file_calls.specs.declared.open.OpenFile.{OpenFile}
 use Rattle.client_state.specs.declared.tie.Tie.{Tie}
-use Rattle.cluster_model.specs.DsCalls.{DsCallValue, Commit}
+use Rattle.cluster_model.specs.DsCalls.{DsCallValue}
 use Rattle.mirror_writer.specs.Writers.{WriterMirror, WriterValue}
 use Rattle.mirror_writer.specs.Outstanding.{OutCall, out_at_mirror, out_at}
 use Rattle.client_state.specs.declared.layout.Layout.{Layout}
@@ -22,8 +22,8 @@ use Rattle.client_calls.specs.ClientCalls.{xid_after}
 use Rattle.client_calls.specs.ClientLaws.{new_number}
 use Rattle.client_answers.specs.ClientMirrors.{has_writer}
 use Rattle.client_answers.specs.ClientAnswers.{learns_devices}
+use Rattle.mds_calls.specs.FittingCalls.{reports_server}
 use Rattle.client_laws.specs.ClientHistory.{ClientInput, Requested, Recorded, TimeoutOf, LeftProtocol, HistoryItem, Hears, Enters, Sends, HasItem, entered}
-use Rattle.client_laws.specs.ClientRunLaws.{is_reported}
 use Rattle.client_laws.proofs.Orders.{in_more, in_end}
 use Rattle.client_laws.proofs.Places.{Found, found, same_number}
 use Rattle.client_laws.proofs.WriterMoves.{out_sent}
@@ -118,7 +118,7 @@ found_sent h name reports w server out s is = by_mirror (find (λ (m : WriterMir
 -- of a client whose call timed out
 pub late_sent : (h : List HistoryItem) (c : ClientValue) (l : Layout) (server : ℕ) (out : OutCall) → Stands h c → c.layout ≡ Some l → out_at l.writer server ≡ Some out → HasItem h (Sends (CallsServer server out.xid c.name l.writer.cred out.call))
 late_sent h c l server out s at is =
-    found_sent h c.name (is_reported (reported_of l)) l.writer server out (subst (λ (o : Option Layout). IfThere o (λ l. LayoutStands h c.name (is_reported (reported_of l)) l)) at s.layout_stands).writer is
+    found_sent h c.name (reports_server (reported_of l)) l.writer server out (subst (λ (o : Option Layout). IfThere o (λ l. LayoutStands h c.name (reports_server (reported_of l)) l)) at s.layout_stands).writer is
 
 -- ---- the cases
 

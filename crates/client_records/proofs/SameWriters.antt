@@ -8,8 +8,8 @@ use Rattle.mirror_writer.specs.Writers.{WriterMirror, WriterValue, WriterAfter, 
 use Rattle.mds_file_calls.specs.declared.open.OpenFile.{OpenFile}
 use Rattle.client_state.specs.declared.layout.Layout.{Layout}
 use Rattle.client_state.specs.ClientStates.{ClientValue}
+use Rattle.mds_calls.specs.FittingCalls.{reports_server}
 use Rattle.client_laws.specs.ClientHistory.{ClientInput, HistoryItem}
-use Rattle.client_laws.specs.ClientRunLaws.{is_reported}
 use Rattle.client_laws.proofs.NextSent.{Sending, sending}
 use Rattle.client_laws.proofs.Places.{map_set}
 use Rattle.client_laws.proofs.Stands.{Stands, LayoutStands, IfThere, reported_of, writer_ids}
@@ -23,18 +23,18 @@ pub record SameWriter (old new : WriterValue) : Type 0 where
   pub ids : writer_ids new ≡ writer_ids old
 
 -- how its layout stands
-pub layout_of : (h : List HistoryItem) (c : ClientValue) (l : Layout) → Stands h c → c.layout ≡ Some l → LayoutStands h c.name (is_reported (reported_of l)) l
-layout_of h c l s at = subst (λ (o : Option Layout). IfThere o (λ l. LayoutStands h c.name (is_reported (reported_of l)) l)) at s.layout_stands
+pub layout_of : (h : List HistoryItem) (c : ClientValue) (l : Layout) → Stands h c → c.layout ≡ Some l → LayoutStands h c.name (reports_server (reported_of l)) l
+layout_of h c l s at = subst (λ (o : Option Layout). IfThere o (λ l. LayoutStands h c.name (reports_server (reported_of l)) l)) at s.layout_stands
 
 -- by an answer, and by a timeout
 pub after_same : (Q : ClientInput → Type 0) (I : List HistoryItem → ClientValue → Type 0) (past : List HistoryItem) (c : ClientValue) (file : OpenFile) (l : Layout) (after : WriterAfter) → ComesTo Base Q I past c file l after → SameWriter l.writer after.writer
 after_same Q I past c file l after (ByReply h server bytes now reply out s past_is is) =
-    let old : LayoutStands h c.name (is_reported (reported_of l)) l = layout_of h c l s.base.0 s.layout in
-    let moves = (reply_moves h c.name (is_reported (reported_of l)) l.writer old.writer c.next_xid s.base.0.numbers server bytes now reply s.reply_is out s.out_is s.number).moves in
+    let old : LayoutStands h c.name (reports_server (reported_of l)) l = layout_of h c l s.base.0 s.layout in
+    let moves = (reply_moves h c.name (reports_server (reported_of l)) l.writer old.writer c.next_xid s.base.0.numbers server bytes now reply s.reply_is out s.out_is s.number).moves in
     subst (λ (x : WriterAfter). SameWriter l.writer x.writer) (sym is) (record { cred = moves.cred; taken = moves.taken; ids = moves.ids })
 after_same Q I past c file l after (ByTimeout h server out s past_is is) =
-    let old : LayoutStands h c.name (is_reported (reported_of l)) l = layout_of h c l s.base.0 s.layout in
-    let moves = (timeout_moves h c.name (is_reported (reported_of l)) l.writer old.writer [] out.xid).moves in
+    let old : LayoutStands h c.name (reports_server (reported_of l)) l = layout_of h c l s.base.0 s.layout in
+    let moves = (timeout_moves h c.name (reports_server (reported_of l)) l.writer old.writer [] out.xid).moves in
     subst (λ (x : WriterAfter). SameWriter l.writer x.writer) (sym is) (record { cred = moves.cred; taken = moves.taken; ids = moves.ids })
 
 -- a call goes out

@@ -21,7 +21,8 @@ use Rattle.mds_file_calls.specs.declared.layout_return.FailedMirror.{FailedMirro
 use Rattle.mds_file_calls.specs.FileOps.{device_info_op, io_error_of}
 use Rattle.mds_calls.specs.declared.ask.MdsAsk.{MdsAsk}
 use Rattle.mds_calls.specs.declared.ask.MdsAsk.TheVariants as ask
-use Rattle.mds_calls.specs.MdsCalls.{MdsCallValue, ExchangeId, CreateSession, SlotCallValue}
+use Rattle.mds_calls.specs.FittingCalls.{FitsSlotCall, FitsAsked}
+use Rattle.mds_calls.specs.MdsCalls.{MdsCallValue, SlotCallValue}
 use Rattle.mds_calls.specs.MdsCalls as slot
 use Rattle.mds_calls.specs.MdsCompounds.{slot_ops}
 use Rattle.client_state.specs.declared.stage.LayoutStage.{LayoutStage}
@@ -41,7 +42,6 @@ use Rattle.client_laws.proofs.Stands.{IfThere}
 use Rattle.client_records.proofs.AnswersFit.{IsStateidInRange}
 use Rattle.client_records.proofs.Cases.{IsLayoutBehind}
 use Rattle.client_records.proofs.Ranges.{IsTieInRange}
-use Rattle.client_sessions.specs.FittingCalls.{FitsSlotCall, FitsAsked}
 use Rattle.client_sessions.proofs.GrantedNumbers.{AreServersInRange, IsFileInRange}
 
 -- ---- ranges

@@ -1,42 +1,39 @@
 -- What is told is covered, and a mirror at which it is so was not reported.
-use Rattle.std.proofs.Common.{◌≡◌, ℕ, Bool, true, false, List, [], ◌∷◌, ◌++◌, Option, Some, None, refl, sym, ap, subst, ◌∙◌, inl, inr, ◌⊎◌}
+use Rattle.std.proofs.Common.{◌≡◌, ℕ, Bool, true, false, List, [], ◌∷◌, ◌++◌, Option, Some, refl, sym, ap, subst, ◌∙◌, inl, inr, ◌⊎◌}
 use Rattle.std.specs.Prelude.{slice_get, ◌||◌}
 use Rattle.std.specs.List.{filter}
 use Rattle.std.proofs.lemmas.List.{append_assoc}
 use Rattle.rpc_record.specs.Replies.{RpcReply}
-use Rattle.ds_calls.specs.GivenReplies.{reply_of_call}
-use Rattle.cluster_model.specs.declared.ids.NodeId.TheVariants.{Mds, Server, Client as AClient}
+use Rattle.cluster_model.specs.declared.ids.NodeId.TheVariants.{Server, Client as AClient}
 use Rattle.cluster_model.specs.declared.ids.Mirror.{Mirror}
-use Rattle.cluster_model.specs.declared.ids.FileId.{FileId}
 use Rattle.cluster_model.specs.declared.entry.Entry.{Entry}
 use Rattle.cluster_model.specs.declared.entry.Entry.TheVariants.{Told, TimedOut}
-use Rattle.mirror_writer.specs.declared.call.TakenWrite.{TakenWrite}
 use Rattle.mirror_writer.specs.declared.step.WriterStep.{WriterStep}
 use Rattle.mirror_writer.specs.declared.step.WriterStep.TheVariants as step
-use Rattle.mirror_writer.specs.Writers.{WriterValue, WriterAfter, after_reply, after_timeout}
+use Rattle.mirror_writer.specs.Writers.{WriterAfter}
 use Rattle.mirror_writer.specs.Outstanding.{is_covered_everywhere}
 use Rattle.mds_file_calls.specs.declared.open.OpenFile.{OpenFile}
-use Rattle.mds_file_calls.specs.declared.grant.LayoutGrant.{LayoutGrant}
 use Rattle.mds_file_calls.specs.declared.layout_return.FailedMirror.{FailedMirror}
+use Rattle.mds_calls.specs.FittingCalls.{reports_server}
 use Rattle.mds_calls.specs.MdsCalls.{MdsCallValue, OnSlot}
 use Rattle.mds_calls.specs.MdsCalls as slot
-use Rattle.mds_calls.specs.MdsReplies.{Returned, reply_of_ask}
+use Rattle.mds_calls.specs.MdsReplies.{Returned}
 use Rattle.client_state.specs.declared.layout.Layout.{Layout}
 use Rattle.client_state.specs.declared.asked.Asked.{Asked}
 use Rattle.client_state.specs.ClientStates.{ClientValue}
-use Rattle.client_state.specs.ClientQueue.{is_writing, with_writer}
+use Rattle.client_state.specs.ClientQueue.{with_writer}
 use Rattle.client_state.specs.ClientSends.{ClientSend, CallsMds}
 use Rattle.client_answers.specs.ClientMirrors.{has_writer}
 use Rattle.client_laws.specs.ClientHistory.{ClientInput, HistoryItem, Hears, Enters, Recorded, TimeoutOf}
-use Rattle.client_laws.specs.ClientRunLaws.{CoveredAtEach, CoveredByReturn, is_reported}
+use Rattle.client_laws.specs.ClientRunLaws.{CoveredAtEach, CoveredByReturn}
 use Rattle.client_laws.proofs.Later.{covered_later, granted_later, under_uid_later, stands_later, every_map}
 use Rattle.client_laws.proofs.Places.{every_filter}
 use Rattle.client_laws.proofs.Stands.{Every, Stands, LayoutStands, IfThere, AskOut, reported_of}
-use Rattle.client_laws.proofs.WriterMoves.{failed_by, also, AfterMoves, reply_moves, timeout_moves}
+use Rattle.client_laws.proofs.WriterMoves.{failed_by, AfterMoves, reply_moves, timeout_moves}
 use Rattle.client_laws.proofs.DsGoes.{none_failed, or_false}
 use Rattle.client_laws.proofs.MdsGoes.{ReturnAccepted, returned_covered, its_ask, layout_now}
 use Rattle.client_laws.proofs.Tells.{by_return_later, covered_each}
-use Rattle.client_records.proofs.Cases.{ComesTo, ByReply, ByTimeout, IsQuietStep, IsAnswered, heard_mds, heard_server, heard_late, said}
+use Rattle.client_records.proofs.Cases.{ComesTo, ByReply, ByTimeout, IsQuietStep, IsAnswered, heard_mds, heard_server, said}
 use Rattle.client_records.proofs.Told.{MayTell}
 use Rattle.client_records.proofs.SameWriters.{layout_of}
 use Rattle.client_records.proofs.EachRun.{Base}
@@ -82,28 +79,28 @@ quiet_false (step.Failed id cause) quiet server = absurd quiet
 quiet_false (step.Fenced id status) quiet server = absurd quiet
 
 module _ (Q : ClientInput → Type 0) (I : List HistoryItem → ClientValue → Type 0) where
-  quiet_stands : (past : List HistoryItem) (c : ClientValue) (l : Layout) (at : c.layout ≡ Some l) → Stands past c → (after : WriterAfter) → AfterMoves past c.name (is_reported (reported_of l)) l.writer after → IsQuietStep after.step → Stands past (has_writer c l after)
+  quiet_stands : (past : List HistoryItem) (c : ClientValue) (l : Layout) (at : c.layout ≡ Some l) → Stands past c → (after : WriterAfter) → AfterMoves past c.name (reports_server (reported_of l)) l.writer after → IsQuietStep after.step → Stands past (has_writer c l after)
   quiet_stands past c l at s after moves quiet =
-      none_failed past c l at s after moves after.step refl (λ server is. or_false (is_reported (reported_of l) server) (subst (λ (b : Bool). (is_reported (reported_of l) server || b) ≡ true) (quiet_false after.step quiet server) is))
+      none_failed past c l at s after moves after.step refl (λ server is. or_false (reports_server (reported_of l) server) (subst (λ (b : Bool). (reports_server (reported_of l) server || b) ≡ true) (quiet_false after.step quiet server) is))
 
   -- how the client stands behind an answer or a timeout by which no mirror failed
   came_stands : (past : List HistoryItem) (c : ClientValue) (file : OpenFile) (l : Layout) (after : WriterAfter) → ComesTo Base Q I past c file l after → IsQuietStep after.step → Stands past (has_writer c l after)
   came_stands past c file l after (ByReply h server bytes now reply out s past_is is) quiet =
-      let old : LayoutStands h c.name (is_reported (reported_of l)) l = layout_of h c l s.base.0 s.layout in
-      let moves : AfterMoves (heard_server h server bytes now) c.name (is_reported (reported_of l)) l.writer after =
-      subst (λ (x : WriterAfter). AfterMoves (heard_server h server bytes now) c.name (is_reported (reported_of l)) l.writer x) (sym is)
-      (reply_moves h c.name (is_reported (reported_of l)) l.writer old.writer c.next_xid s.base.0.numbers server bytes now reply s.reply_is out s.out_is s.number) in
+      let old : LayoutStands h c.name (reports_server (reported_of l)) l = layout_of h c l s.base.0 s.layout in
+      let moves : AfterMoves (heard_server h server bytes now) c.name (reports_server (reported_of l)) l.writer after =
+      subst (λ (x : WriterAfter). AfterMoves (heard_server h server bytes now) c.name (reports_server (reported_of l)) l.writer x) (sym is)
+      (reply_moves h c.name (reports_server (reported_of l)) l.writer old.writer c.next_xid s.base.0.numbers server bytes now reply s.reply_is out s.out_is s.number) in
       subst (λ (p : List HistoryItem). Stands p (has_writer c l after)) (sym past_is)
       (quiet_stands (heard_server h server bytes now) c l s.layout (stands_later h (Hears (Recorded (Server server) bytes now) ∷ []) c (tt, tt) s.base.0) after moves quiet)
   came_stands past c file l after (ByTimeout h server out s past_is is) quiet =
-      let old : LayoutStands h c.name (is_reported (reported_of l)) l = layout_of h c l s.base.0 s.layout in
+      let old : LayoutStands h c.name (reports_server (reported_of l)) l = layout_of h c l s.base.0 s.layout in
       let more : List HistoryItem = Hears (TimeoutOf (Server server)) ∷ Enters (TimedOut (AClient c.number) out.xid) ∷ [] in
-      let moves : AfterMoves (h ++ more) c.name (is_reported (reported_of l)) l.writer after =
-      subst (λ (x : WriterAfter). AfterMoves (h ++ more) c.name (is_reported (reported_of l)) l.writer x) (sym is) (timeout_moves h c.name (is_reported (reported_of l)) l.writer old.writer more out.xid) in
+      let moves : AfterMoves (h ++ more) c.name (reports_server (reported_of l)) l.writer after =
+      subst (λ (x : WriterAfter). AfterMoves (h ++ more) c.name (reports_server (reported_of l)) l.writer x) (sym is) (timeout_moves h c.name (reports_server (reported_of l)) l.writer old.writer more out.xid) in
       subst (λ (p : List HistoryItem). Stands p (has_writer c l after)) (sym (past_is ∙ append_assoc h (Hears (TimeoutOf (Server server)) ∷ []) (Enters (TimedOut (AClient c.number) out.xid) ∷ [])))
       (quiet_stands (h ++ more) c l s.layout (stands_later h more c (tt, (tt, tt)) s.base.0) after moves quiet)
 
-  covered_told : (past : List HistoryItem) (name : List ℕ) (l : Layout) → LayoutStands past name (is_reported (reported_of l)) l → (n : ℕ) → is_covered_everywhere l.writer n ≡ true → MayTell IsToldOf past l.writer n
+  covered_told : (past : List HistoryItem) (name : List ℕ) (l : Layout) → LayoutStands past name (reports_server (reported_of l)) l → (n : ℕ) → is_covered_everywhere l.writer n ≡ true → MayTell IsToldOf past l.writer n
   covered_told past name l s n everywhere t there = record { grant = s.grant; granted = s.granted; its_uid = sym s.uid; taken = s.entered n t there; covered = inl (covered_each past name l s n everywhere t there) }
 
   pub covered_each_told : (past : List HistoryItem) (c : ClientValue) (file : OpenFile) (l : Layout) (after : WriterAfter) → ComesTo Base Q I past c file l after → IsQuietStep after.step → (ns : List ℕ)
@@ -120,9 +117,9 @@ module _ (Q : ClientInput → Type 0) (I : List HistoryItem → ClientValue → 
   call_in other send = other
 
   module _ (h : List HistoryItem) (c : ClientValue) (a : Asked) (bytes : List ℕ) (now : ℕ) (reply : RpcReply) (s : IsAnswered Base Q h c a bytes now reply) (out : OutKept h c.name c.layout a.xid) (l : Layout) (at : c.layout ≡ Some l) (says : (said a reply).answer ≡ Returned) where
-    held : LayoutStands (heard_mds h bytes now) c.name (is_reported (reported_of l)) l
+    held : LayoutStands (heard_mds h bytes now) c.name (reports_server (reported_of l)) l
     held =
-        subst (λ (o : Option Layout). IfThere o (λ l. LayoutStands (heard_mds h bytes now) c.name (is_reported (reported_of l)) l)) at
+        subst (λ (o : Option Layout). IfThere o (λ l. LayoutStands (heard_mds h bytes now) c.name (reports_server (reported_of l)) l)) at
         (layout_now h c s.base.0 a s.out bytes now reply s.reply_is s.number)
 
     abbrev its : AskOut h c.name c.layout a

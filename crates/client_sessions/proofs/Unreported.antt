@@ -1,7 +1,7 @@
 -- A mirror of a layout that did not fail is not reported, and one of them did not while a write is not told.
-use Rattle.std.proofs.Common.{◌≡◌, ℕ, zero, suc, Bool, true, false, List, [], ◌∷◌, ◌++◌, length, Option, Some, None, refl, sym, ap, subst, ◌∙◌, inl, inr, ◌⊎◌}
+use Rattle.std.proofs.Common.{◌≡◌, ℕ, zero, suc, Bool, true, false, List, [], ◌∷◌, Option, Some, None, refl, sym, ap, subst, ◌∙◌, inl, inr, ◌⊎◌}
 use Rattle.std.specs.Prelude.{slice_get, slice_set, map, position, replicate, not, ◌||◌, ◌&&◌, ◌==◌}
-use Rattle.std.specs.List.{list_all, list_any}
+use Rattle.std.specs.List.{list_all}
 use Rattle.std.proofs.lemmas.Bool.{eqb-true, eq-eqb}
 use Rattle.std.proofs.lemmas.Option.{none-some, same_Some}
 use Rattle.cluster_model.specs.declared.ids.Mirror.{Mirror}
@@ -9,13 +9,13 @@ use Rattle.cluster_model.specs.declared.ids.MirrorId.{MirrorId}
 use Rattle.cluster_model.specs.declared.phase.LeftCause.{LeftCause}
 use Rattle.cluster_model.specs.Journal.{is_mirror}
 use Rattle.cluster_model.specs.Mirrors.{has_server, are_on_different_servers}
-use Rattle.mirror_writer.specs.Writers.{WriterMirror, new_mirror}
+use Rattle.mirror_writer.specs.Writers.{new_mirror}
 use Rattle.mds_file_calls.specs.declared.layout_return.FailedMirror.{FailedMirror}
 use Rattle.client_state.specs.declared.stage.LayoutStage.{LayoutStage}
 use Rattle.client_state.specs.ClientQueue.{is_writing}
 use Rattle.client_calls.specs.ClientCalls.{failed_mirrors}
 use Rattle.client_answers.specs.ClientMirrors.{with_status_at, reported_status}
-use Rattle.client_laws.specs.ClientRunLaws.{is_reported}
+use Rattle.mds_calls.specs.FittingCalls.{reports_server}
 use Rattle.client_laws.proofs.GrantFacts.{IsSome}
 use Rattle.client_laws.proofs.Places.{map_set, position_passes}
 use Rattle.client_laws.proofs.Stands.{mirror_ids}
@@ -65,35 +65,35 @@ one_place (m ∷ mirrors) apart (suc i) (suc j) a b first second same = ap suc (
 
 -- ---- what is not reported
 
-none_reported : (mirrors : List Mirror) (n server : ℕ) → is_reported (failed_mirrors mirrors (replicate n None)) server ≡ false
+none_reported : (mirrors : List Mirror) (n server : ℕ) → reports_server (failed_mirrors mirrors (replicate n None)) server ≡ false
 none_reported [] zero server = refl
 none_reported [] (suc n) server = refl
 none_reported (m ∷ mirrors) zero server = refl
 none_reported (m ∷ mirrors) (suc n) server = none_reported mirrors n server
 
 -- a status that is set reports its mirror alone
-set_alone : (mirrors : List Mirror) (statuses : List (Option ℕ)) (place status server : ℕ) → ((m : Mirror) → slice_get mirrors place ≡ Some m → (m.id.server == server) ≡ false) → is_reported (failed_mirrors mirrors statuses) server ≡ false
-    → is_reported (failed_mirrors mirrors (slice_set statuses place (Some status))) server ≡ false
+set_alone : (mirrors : List Mirror) (statuses : List (Option ℕ)) (place status server : ℕ) → ((m : Mirror) → slice_get mirrors place ≡ Some m → (m.id.server == server) ≡ false) → reports_server (failed_mirrors mirrors statuses) server ≡ false
+    → reports_server (failed_mirrors mirrors (slice_set statuses place (Some status))) server ≡ false
 set_alone [] [] place status server other was = was
 set_alone [] (o ∷ statuses) zero status server other was = refl
 set_alone [] (o ∷ statuses) (suc place) status server other was = refl
 set_alone (x ∷ mirrors) [] place status server other was = was
-set_alone (x ∷ mirrors) (None ∷ statuses) zero status server other was = joined (x.id.server == server) (is_reported (failed_mirrors mirrors statuses) server) (other x refl) was
+set_alone (x ∷ mirrors) (None ∷ statuses) zero status server other was = joined (x.id.server == server) (reports_server (failed_mirrors mirrors statuses) server) (other x refl) was
 set_alone (x ∷ mirrors) (Some old ∷ statuses) zero status server other was = was
 set_alone (x ∷ mirrors) (None ∷ statuses) (suc place) status server other was = set_alone mirrors statuses place status server other was
 set_alone (x ∷ mirrors) (Some old ∷ statuses) (suc place) status server other was =
-    joined (x.id.server == server) (is_reported (failed_mirrors mirrors (slice_set statuses place (Some status))) server) (neither (x.id.server == server) (is_reported (failed_mirrors mirrors statuses) server) was).0
-    (set_alone mirrors statuses place status server other (neither (x.id.server == server) (is_reported (failed_mirrors mirrors statuses) server) was).1)
+    joined (x.id.server == server) (reports_server (failed_mirrors mirrors (slice_set statuses place (Some status))) server) (neither (x.id.server == server) (reports_server (failed_mirrors mirrors statuses) server) was).0
+    (set_alone mirrors statuses place status server other (neither (x.id.server == server) (reports_server (failed_mirrors mirrors statuses) server) was).1)
 
 -- nor is a mirror on another server by that one's failure
-failed_alone : (mirrors : List Mirror) (statuses : List (Option ℕ)) (id : MirrorId) (status server : ℕ) → (id.server == server) ≡ false → is_reported (failed_mirrors mirrors statuses) server ≡ false
-    → is_reported (failed_mirrors mirrors (with_status_at statuses (position (λ (m : Mirror). is_mirror id m.id) mirrors) status)) server ≡ false
+failed_alone : (mirrors : List Mirror) (statuses : List (Option ℕ)) (id : MirrorId) (status server : ℕ) → (id.server == server) ≡ false → reports_server (failed_mirrors mirrors statuses) server ≡ false
+    → reports_server (failed_mirrors mirrors (with_status_at statuses (position (λ (m : Mirror). is_mirror id m.id) mirrors) status)) server ≡ false
 failed_alone mirrors statuses id status server other was = by_place (position (λ (m : Mirror). is_mirror id m.id) mirrors) refl
   where
     its : (m : Mirror) → is_mirror id m.id ≡ true → (m.id.server == server) ≡ false
     its m passes = subst (λ (k : ℕ). (k == server) ≡ false) (eqb-true id.server m.id.server (both (id.server == m.id.server) (id.fileid == m.id.fileid) passes).0) other
 
-    by_place : (o : Option ℕ) → position (λ (m : Mirror). is_mirror id m.id) mirrors ≡ o → is_reported (failed_mirrors mirrors (with_status_at statuses o status)) server ≡ false
+    by_place : (o : Option ℕ) → position (λ (m : Mirror). is_mirror id m.id) mirrors ≡ o → reports_server (failed_mirrors mirrors (with_status_at statuses o status)) server ≡ false
     by_place None at = was
     by_place (Some place) at = set_alone mirrors statuses place status server (λ m there. its m (position_passes (λ (m : Mirror). is_mirror id m.id) mirrors place m at there)) was
 
@@ -154,13 +154,13 @@ pub record HasKept (mirrors : List Mirror) (failed : List FailedMirror) : Type 0
   pub place : ℕ
   pub mirror : Mirror
   pub there : slice_get mirrors place ≡ Some mirror
-  pub kept : is_reported failed mirror.id.server ≡ false
+  pub kept : reports_server failed mirror.id.server ≡ false
 
 -- by its marks, its mirrors and their statuses, its stage, and what is not told
 pub record UnreportedOf (marks : List (MirrorId × Bool)) (mirrors : List Mirror) (statuses : List (Option ℕ)) (stage : LayoutStage) (untold : List ℕ) : Type 0 where
   pub ids : map (λ (k : MirrorId × Bool). k.0) marks ≡ mirror_ids mirrors
   pub apart : are_on_different_servers mirrors ≡ true
-  pub kept : (place : ℕ) (id : MirrorId) → slice_get marks place ≡ Some (id, false) → is_reported (failed_mirrors mirrors statuses) id.server ≡ false
+  pub kept : (place : ℕ) (id : MirrorId) → slice_get marks place ≡ Some (id, false) → reports_server (failed_mirrors mirrors statuses) id.server ≡ false
   pub live : is_writing stage ≡ true → list_all is_marked marks ≡ false
   pub told : (untold ≡ []) ⊎ (list_all is_marked marks ≡ false)
 
@@ -191,7 +191,7 @@ module _ (marks : List (MirrorId × Bool)) (mirrors : List Mirror) (statuses : L
   some_kept live = by_mark (unmarked marks live)
     where
       by_mirror : (place : ℕ) (id : MirrorId) → slice_get marks place ≡ Some (id, false) → (m : Mirror) × (slice_get mirrors place ≡ Some m) × (m.id ≡ id) → HasKept mirrors (failed_mirrors mirrors statuses)
-      by_mirror place id there (m, found, same) = record { place = place; mirror = m; there = found; kept = ap (λ (k : MirrorId). is_reported (failed_mirrors mirrors statuses) k.server) same ∙ u.kept place id there }
+      by_mirror place id there (m, found, same) = record { place = place; mirror = m; there = found; kept = ap (λ (k : MirrorId). reports_server (failed_mirrors mirrors statuses) k.server) same ∙ u.kept place id there }
 
       by_mark : (place : ℕ) × (id : MirrorId) × (slice_get marks place ≡ Some (id, false)) → HasKept mirrors (failed_mirrors mirrors statuses)
       by_mark (place, id, there) = by_mirror place id there (mirror_at marks mirrors u.ids place id false there)

@@ -16,15 +16,16 @@ use Rattle.mds_file_calls.specs.declared.open.OpenFile.{OpenFile}
 use Rattle.mds_file_calls.specs.declared.grant.LayoutGrant.{LayoutGrant}
 use Rattle.mds_file_calls.specs.declared.layout_return.FailedMirror.{FailedMirror}
 use Rattle.mds_calls.specs.declared.reply.SlotReport.TheVariants.{Delayed}
+use Rattle.mds_calls.specs.FittingCalls.{reports_server}
 use Rattle.mds_calls.specs.MdsCalls.{MdsCallValue, SlotCallValue, OnSlot}
 use Rattle.mds_calls.specs.MdsCalls as slot
 use Rattle.mds_calls.specs.MdsReplies.{MdsReplyValue, Granted, Returned, Refused}
 use Rattle.client_state.specs.declared.request.UserRequest.{UserRequest}
-use Rattle.client_state.specs.declared.request.UserRequest.TheVariants.{Open, Write as ToWrite, Through, Commit, Read, Return}
+use Rattle.client_state.specs.declared.request.UserRequest.TheVariants.{Write as ToWrite}
 use Rattle.client_state.specs.ClientStates.{fresh_client}
 use Rattle.client_state.specs.ClientSends.{CallsServer, CallsMds}
-use Rattle.client_laws.specs.ClientHistory.{ClientInput, Requested, Recorded, TimeoutOf, Ticked, LeftProtocol, Strayed, HistoryItem, Hears, Enters, Sends, InOrder, HasItem, Each, client_history}
-use Rattle.client_laws.specs.ClientRunLaws.{WasGranted, IsDsReply, CoveredAtEach, CoveredByReturn, WasTakenUnder, is_reported}
+use Rattle.client_laws.specs.ClientHistory.{ClientInput, Requested, Recorded, LeftProtocol, HistoryItem, Hears, Enters, Sends, InOrder, HasItem, Each, client_history}
+use Rattle.client_laws.specs.ClientRunLaws.{WasGranted, IsDsReply, CoveredAtEach, CoveredByReturn, WasTakenUnder}
 use Rattle.client_sessions.specs.HeardReplies.{IsHeard, IsNoCompound}
 use Rattle.client_sessions.specs.ClientSessions.{bad_session}
 
@@ -106,7 +107,7 @@ pub record HasUnreported (grant : LayoutGrant) (failed : List FailedMirror) : Ty
   pub place : ℕ
   pub mirror : Mirror
   pub there : slice_get grant.mirrors place ≡ Some mirror
-  pub kept : is_reported failed mirror.id.server ≡ false
+  pub kept : reports_server failed mirror.id.server ≡ false
 
 -- what is told is covered at each mirror; or at each that its return does not report, which is some
 pub record IsToldOf (past : List HistoryItem) (uid at : ℕ) (data_of : List ℕ) : Type 0 where

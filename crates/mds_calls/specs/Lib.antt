@@ -1,4 +1,5 @@
 pub mod MdsCalls
 pub mod MdsCompounds
+pub mod FittingCalls
 pub mod MdsReplies
 pub mod MdsCallLaws

@@ -6,13 +6,14 @@ use Rattle.cluster_model.specs.declared.ids.NodeId.{NodeId}
 use Rattle.nfs4_compound.specs.Args.{argop4}
 use Rattle.nfs4_compound.specs.Compounds.{CompoundValue}
 use Rattle.mds_file_calls.specs.FileOps.{device_info_op}
-use Rattle.mds_calls.specs.MdsCalls.{SlotCallValue, MdsCallValue, OnSlot}
+use Rattle.mds_calls.specs.FittingCalls.{FitsRequest}
+use Rattle.mds_calls.specs.MdsCalls.{SlotCallValue, MdsCallValue}
 use Rattle.mds_calls.specs.MdsCalls as slot
 use Rattle.mds_calls.specs.MdsCompounds.{slot_ops}
 use Rattle.mds_receive.specs.MdsReceive.{IncomingValue, PassedOver, IsReply, IsAnswered, IsCompound, incoming_of}
 use Rattle.mds_laws.specs.MdsRuns.{MdsInput, MdsEvent, Hears, IsTimedOut, Ticks, RecallsFile, Resilvers}
 use Rattle.mds_replies.specs.ClientCalls.{IsCallIn, IsCallFrom}
-use Rattle.mds_replies.specs.AnsweredRequests.{FitsRequest, HearsFitCall}
+use Rattle.mds_replies.specs.AnsweredRequests.{HearsFitCall}
 use Rattle.mds_replies.proofs.Turns.{is_waiting_op}
 
 -- ---- what an event brings

@@ -15,12 +15,13 @@ use Rattle.nfs4_session.specs.Clients.{client_in, number_in}
 use Rattle.table_slots.specs.TableSlots.{is_of_session}
 use Rattle.mds_calls.specs.declared.reply.SlotReport.{SlotReport}
 use Rattle.mds_calls.specs.declared.reply.SlotReport.TheVariants.{Taken, Uncached, Delayed, Unknown}
+use Rattle.mds_calls.specs.FittingCalls.{FitsRequest}
 use Rattle.mds_calls.specs.MdsCalls.{SlotCallValue, OnSlot, ask_on_slot}
 use Rattle.mds_calls.specs.MdsCalls as slot
 use Rattle.mds_calls.specs.MdsReplies.{MdsAnswerValue, Refused, MdsReplyValue, slot_status, slot_told, results_of_ask, reply_of_ask}
 use Rattle.mds_rule.specs.OpSteps.{refused_as}
 use Rattle.mds_laws.specs.MdsRuns.{MdsEvent}
-use Rattle.mds_replies.specs.AnsweredRequests.{FitsRequest, TookEffectAmong, IsRefusedWith, HasNoSession, IsOutOfOrder, IsUnread}
+use Rattle.mds_replies.specs.AnsweredRequests.{TookEffectAmong, IsRefusedWith, HasNoSession, IsOutOfOrder, IsUnread}
 use Rattle.mds_replies.proofs.ReplyForms.{IsRefusal, reply_fits}
 use Rattle.mds_replies.proofs.ReplySent.{read_as}
 use Rattle.mds_replies.proofs.SlotHistories.{IsTaken, MeansKept, SlotBy, SlotSo, ByReport, StandsWith}

@@ -26,6 +26,7 @@ use Rattle.nfs4_session.specs.Bindings.{after_binding}
 use Rattle.nfs4_session.specs.TableLaw.{TableMove, Bind, BeginRequest, table_after, KeepsTable}
 use Rattle.nfs4_session.specs.Beginning.{table_begun}
 use Rattle.mds_session_calls.specs.SessionOps.{exchange_id_op, create_session_op}
+use Rattle.mds_calls.specs.FittingCalls.{FitsRequest}
 use Rattle.mds_calls.specs.MdsCalls.{SlotCallValue, MdsCallValue, ExchangeId, CreateSession, OnSlot, ask_on_slot, is_kept_reply}
 use Rattle.mds_calls.specs.MdsCalls as slot
 use Rattle.mds_calls.specs.MdsCompounds.{slot_ops, mds_ops}
@@ -42,7 +43,7 @@ use Rattle.mds_laws.proofs.Lists.{In, AllOf}
 use Rattle.mds_laws.proofs.Keeping.{Keeps, IsNoRequest, joined}
 use Rattle.mds_replies.specs.ClientCalls.{IsCallFrom, server_after, IsEventOf}
 use Rattle.mds_replies.specs.SlotReplies.{request_of, TookEffect, EffectsAreNumbered}
-use Rattle.mds_replies.specs.AnsweredRequests.{FitsRequest, HearsFitCall, AreFitCalls, StaysRoomy, IsFreeAt, StandsFor, AnswersRequest, EachReplyStands}
+use Rattle.mds_replies.specs.AnsweredRequests.{HearsFitCall, AreFitCalls, StaysRoomy, IsFreeAt, StandsFor, AnswersRequest, EachReplyStands}
 use Rattle.mds_replies.proofs.HeldFiles.{in_behind}
 use Rattle.mds_replies.proofs.PeriodKept.{sent_with_calls, in_sent}
 use Rattle.mds_replies.proofs.OutCalls.{are_called}

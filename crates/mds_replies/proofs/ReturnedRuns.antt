@@ -37,14 +37,15 @@ use Rattle.nfs4_session.specs.Requests.{request_answer, after_request, pass_of}
 use Rattle.nfs4_session.specs.Bindings.{after_binding}
 use Rattle.mds_session_calls.specs.SessionOps.{exchange_id_op, create_session_op}
 use Rattle.mds_file_calls.specs.declared.layout_return.FailedMirror.{FailedMirror}
-use Rattle.mds_calls.specs.MdsCalls.{SlotCallValue, MdsCallValue, ExchangeId, CreateSession, OnSlot, is_kept_reply}
+use Rattle.mds_calls.specs.FittingCalls.{FitsRequest}
+use Rattle.mds_calls.specs.MdsCalls.{SlotCallValue, MdsCallValue, ExchangeId, CreateSession, OnSlot}
 use Rattle.mds_calls.specs.MdsCalls as slot
 use Rattle.mds_calls.specs.MdsCompounds.{slot_ops, mds_ops}
 use Rattle.mds_rule.specs.MdsStates.{CompoundRun, ServedFile, MdsSend, Replies, MdsValue, MdsStep, served, with_served, new_mds}
 use Rattle.mds_rule.specs.ServedFiles.{file_behind, file_stepped, is_period_end}
 use Rattle.mds_rule.specs.OpSteps.{with_result, refused_as}
 use Rattle.mds_rule.specs.LayoutOps.{no_stateid}
-use Rattle.mds_rule.specs.Compounds.{compound_bytes, finishes, in_slot, sequenced, sequence_result}
+use Rattle.mds_rule.specs.Compounds.{finishes, in_slot, sequenced, sequence_result}
 use Rattle.mds_rule.specs.Goes.{calls_out}
 use Rattle.mds_laws.specs.MdsRuns.{MdsInput, MdsEvent, Hears, IsTimedOut, Ticks, RecallsFile, Resilvers, after_event, run_from}
 use Rattle.mds_laws.proofs.Lists.{In, AllOf}
@@ -52,7 +53,7 @@ use Rattle.mds_laws.proofs.Keeping.{HeardAny, Keeps}
 use Rattle.mds_laws.proofs.OpsWalk.{served_again}
 use Rattle.mds_replies.specs.ClientCalls.{IsCallFrom, server_after, IsEventOf}
 use Rattle.mds_replies.specs.SlotReplies.{request_of, EffectsAreNumbered}
-use Rattle.mds_replies.specs.AnsweredRequests.{FitsRequest, HearsFitCall, AreFitCalls, StaysRoomy}
+use Rattle.mds_replies.specs.AnsweredRequests.{HearsFitCall, AreFitCalls, StaysRoomy}
 use Rattle.mds_replies.specs.ReturnedPeriods.{IsReturned, ReturnsCome}
 use Rattle.mds_replies.proofs.WaitingCompounds.{in_joined}
 use Rattle.mds_replies.proofs.PeriodKept.{sent_with_calls, in_sent}
@@ -65,7 +66,7 @@ use Rattle.mds_replies.proofs.LayoutReturnRuns as giving
 use Rattle.mds_replies.proofs.TakenRequests.{taken_mds, taken_compound, HasEnded}
 use Rattle.mds_replies.proofs.TakenMeans.{after_is, stands_then, return_of, step_of, same_report}
 use Rattle.mds_replies.proofs.CallEvents.{Brings, ACall, Nothing, brings, is_return_call, FitsOps, ops_fit}
-use Rattle.mds_replies.proofs.Turns.{Stands, FineOp, IsSo, cases, finish_keeps, AreFine, run_keeps, alone_keeps, out_keeps, BringsNone, other_keeps}
+use Rattle.mds_replies.proofs.Turns.{IsSo, cases, finish_keeps, AreFine, run_keeps, alone_keeps, out_keeps, BringsNone, other_keeps}
 
 -- ---- compounds that wait have no operation left
 

@@ -21,6 +21,7 @@ use Rattle.nfs4_session.specs.Bindings.{after_binding}
 use Rattle.table_slots.specs.TableSlots.{is_of_session}
 use Rattle.mds_calls.specs.declared.reply.SlotReport.{SlotReport}
 use Rattle.mds_calls.specs.declared.reply.SlotReport.TheVariants.{Taken, Uncached, Delayed, Unknown}
+use Rattle.mds_calls.specs.FittingCalls.{FitsRequest}
 use Rattle.mds_calls.specs.MdsCalls.{SlotCallValue, MdsCallValue, OnSlot, ask_on_slot}
 use Rattle.mds_calls.specs.MdsCalls as slot
 use Rattle.mds_calls.specs.MdsCompounds.{mds_ops}
@@ -31,7 +32,7 @@ use Rattle.mds_laws.specs.MdsRuns.{MdsInput, MdsEvent, Hears}
 use Rattle.mds_laws.specs.SlotUses.{first_request}
 use Rattle.mds_replies.specs.ClientCalls.{IsCallFrom, server_after, IsEventOf}
 use Rattle.mds_replies.specs.SlotReplies.{request_of, TookEffect}
-use Rattle.mds_replies.specs.AnsweredRequests.{FitsRequest, MeansSo, TookEffectAmong, MeansTaken, IsUnknown, IsUnread, IsFreeAt, StandsByReport, StandsFor, AnswersRequest}
+use Rattle.mds_replies.specs.AnsweredRequests.{MeansSo, TookEffectAmong, MeansTaken, IsUnknown, IsUnread, IsFreeAt, StandsByReport, StandsFor, AnswersRequest}
 
 -- ---- an event's compound asks for a layout, or gives one back
 

@@ -35,7 +35,8 @@ use Rattle.mds_file_calls.specs.declared.layout_return.FailedMirror.{FailedMirro
 use Rattle.mds_file_calls.specs.declared.open.OpenFile.{OpenFile}
 use Rattle.mds_file_calls.specs.FileResults.{layout_get_ok}
 use Rattle.mds_calls.specs.declared.ask.MdsAsk.TheVariants as ask
-use Rattle.mds_calls.specs.MdsCalls.{SlotCallValue, MdsCallValue, OnSlot, ask_on_slot, is_kept_reply}
+use Rattle.mds_calls.specs.FittingCalls.{reports_server, FitsSlotCall, FitsRequest}
+use Rattle.mds_calls.specs.MdsCalls.{SlotCallValue, OnSlot, ask_on_slot}
 use Rattle.mds_calls.specs.MdsCalls as slot
 use Rattle.mds_calls.specs.MdsCompounds.{slot_ops, mds_ops}
 use Rattle.mds_calls.specs.MdsReplies.{MdsAnswerValue, Granted, answer_where, reply_of_ask}
@@ -49,7 +50,7 @@ use Rattle.mds_laws.proofs.Lists.{In, in_more}
 use Rattle.mds_replies.specs.ClientCalls.{IsCallFrom, HearsCall, AreCalls, server_after, IsEventOf}
 use Rattle.mds_replies.specs.SlotReplies.{request_of, TookEffect, EffectsAreNumbered}
 use Rattle.mds_replies.specs.LayoutReplies.{HasPeriod}
-use Rattle.mds_replies.specs.AnsweredRequests.{reports_server, FitsSlotCall, FitsRequest, HearsFitCall, AreFitCalls, FitsMirrorId, HasSpareNumbers, StaysRoomy, IsGrantedNow, GrantsSo, ReturnsSo, MeansSo}
+use Rattle.mds_replies.specs.AnsweredRequests.{HearsFitCall, AreFitCalls, FitsMirrorId, HasSpareNumbers, StaysRoomy, IsGrantedNow, GrantsSo, ReturnsSo, MeansSo}
 use Rattle.mds_replies.proofs.Periods.{run_behind}
 use Rattle.mds_replies.proofs.OutCalls.{AreCalled, are_called}
 use Rattle.mds_replies.proofs.ReplySent.{event_is, reply_is}

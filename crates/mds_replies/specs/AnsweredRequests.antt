@@ -1,8 +1,7 @@
 -- What a reply to a client's request on a slot stands on, in every run of a metadata server to which clients of this cluster call (RFC 8881,
 -- sections 2.10.6, 18.43, 18.44 and 18.46).
-use Rattle.std.specs.Prelude.{◌≡◌, ℕ, ◌+◌, ◌<◌, ◌≤◌, ◌^◌, ◌⊎◌, Bool, true, false, ◌==◌, List, [], ◌∷◌, ◌++◌, length, map, Option, Some, None, slice_get}
-use Rattle.std.specs.List.{AllByRecursion, list_any}
-use Rattle.ff_xdr.specs.Form.{Fits}
+use Rattle.std.specs.Prelude.{◌≡◌, ℕ, ◌+◌, ◌<◌, ◌≤◌, ◌^◌, ◌⊎◌, true, false, List, [], ◌∷◌, ◌++◌, length, map, Option, Some, None, slice_get}
+use Rattle.std.specs.List.{AllByRecursion}
 use Rattle.rpc_record.specs.Replies.{RpcReply}
 use Rattle.cluster_model.specs.declared.ids.NodeId.{NodeId}
 use Rattle.cluster_model.specs.declared.ids.NodeId.TheVariants as node_of
@@ -12,7 +11,6 @@ use Rattle.cluster_model.specs.declared.phase.EndCause.{EndCause}
 use Rattle.cluster_model.specs.declared.phase.EndCause.TheVariants as ends_as
 use Rattle.cluster_model.specs.declared.entry.Entry.{Entry}
 use Rattle.cluster_model.specs.declared.entry.Entry.TheVariants as entry
-use Rattle.ff_layout.specs.ReturnBody.{ff_layoutreturn4}
 use Rattle.nfs4_types.specs.declared.ids.SessionId.{SessionId}
 use Rattle.nfs4_types.specs.declared.stateid.Stateid.{Stateid}
 use Rattle.nfs4_types.specs.declared.status.Stat4.{Stat4}
@@ -24,9 +22,9 @@ use Rattle.device_addr.specs.Universal.{AddressValue}
 use Rattle.same_layout.specs.SameLayout.{unseen}
 use Rattle.mds_file_calls.specs.declared.grant.LayoutGrant.{LayoutGrant}
 use Rattle.mds_file_calls.specs.declared.layout_return.FailedMirror.{FailedMirror}
-use Rattle.mds_file_calls.specs.FileOps.{io_error_of}
 use Rattle.mds_calls.specs.declared.reply.SlotReport.{SlotReport}
 use Rattle.mds_calls.specs.declared.reply.SlotReport.TheVariants.{Taken, Uncached, Delayed, Unknown}
+use Rattle.mds_calls.specs.FittingCalls.{reports_server, FitsRequest}
 use Rattle.mds_calls.specs.MdsCalls.{SlotCallValue, MdsCallValue, OnSlot, ask_on_slot}
 use Rattle.mds_calls.specs.MdsCalls as slot
 use Rattle.mds_calls.specs.MdsReplies.{MdsAnswerValue, Granted, Returned, Refused, MdsReplyValue, reply_of_ask}
@@ -46,23 +44,7 @@ use Rattle.mds_replies.specs.ClientIds.{GivesSession}
 
 -- ---- calls that fit their forms
 
--- a data server is reported
-abbrev pub reports_server : List FailedMirror → ℕ → Bool
-reports_server failed server = list_any (λ (f : FailedMirror). f.server == server) failed
-
--- the number of a file is one that its handle says; what is reported has a spelling
-abbrev pub FitsSlotCall : SlotCallValue → Type 0
-FitsSlotCall (slot.LayoutGet file) = file.file.0 < 2 ^ 64
-FitsSlotCall (slot.LayoutReturn file stateid failed) =
-    (file.0 < 2 ^ 64) × (AllByRecursion (λ (f : FailedMirror). f.server < 2 ^ 64) failed × Fits ff_layoutreturn4 (map (io_error_of stateid) failed, []))
-FitsSlotCall call = Unit {0}
-
--- the session's id has sixteen bytes
-abbrev pub FitsRequest : MdsCallValue → Type 0
-FitsRequest (OnSlot session number call) = (length session.0 ≡ 16) × FitsSlotCall call
-FitsRequest call = Unit {0}
-
--- each compound that comes is such a call of a client
+-- each compound that comes is a call of a client whose numbers fit their forms
 abbrev pub HearsFitCall : MdsInput → Type 0
 HearsFitCall (Hears node bytes) =
     (xid : ℕ) (v : CompoundValue) → incoming_of bytes ≡ IsCompound xid v → (name : List ℕ) × (call : MdsCallValue) × IsCallIn v name call × FitsRequest call

@@ -16,6 +16,7 @@ use Rattle.nfs4_session.specs.Bindings.{after_binding}
 use Rattle.nfs4_session.specs.Clients.{client_in}
 use Rattle.device_addr.specs.Universal.{AddressValue}
 use Rattle.mds_file_calls.specs.declared.layout_return.FailedMirror.{FailedMirror}
+use Rattle.mds_calls.specs.FittingCalls.{reports_server}
 use Rattle.mds_calls.specs.MdsCalls.{OnSlot}
 use Rattle.mds_calls.specs.MdsCalls as slot
 use Rattle.mds_rule.specs.MdsStates.{ServedFile, served}
@@ -24,7 +25,7 @@ use Rattle.mds_laws.proofs.Lists.{In}
 use Rattle.mds_replies.specs.ClientCalls.{IsCallFrom, server_after, IsEventOf}
 use Rattle.mds_replies.specs.SlotReplies.{request_of}
 use Rattle.mds_replies.specs.LayoutReplies.{HasPeriod}
-use Rattle.mds_replies.specs.AnsweredRequests.{reports_server, AreFitCalls, StaysRoomy}
+use Rattle.mds_replies.specs.AnsweredRequests.{AreFitCalls, StaysRoomy}
 
 -- A LAYOUTRETURN of the client that had the period took effect in this event, and its stateid names the file and the uid; behind the event each
 -- live mirror is one that it did not report.

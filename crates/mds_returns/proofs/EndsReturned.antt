@@ -1,5 +1,5 @@
 -- A period is entered as ended by a return only in the event of a LAYOUTRETURN of its client, behind the mirrors that it reports.
-use Rattle.std.proofs.Common.{◌≡◌, ℕ, Bool, true, false, cond, List, [], ◌∷◌, ◌++◌, Option, Some, None, refl, sym, ap, subst, ◌∙◌, inl, inr}
+use Rattle.std.proofs.Common.{◌≡◌, ℕ, Bool, true, false, cond, List, [], ◌∷◌, ◌++◌, Some, None, refl, sym, ap, subst, ◌∙◌, inl, inr}
 use Rattle.std.specs.Prelude.{◌==◌, map}
 use Rattle.std.proofs.lemmas.List.{append-nil}
 use Rattle.ff_xdr.specs.Form.{Value, arm_of}
@@ -24,6 +24,7 @@ use Rattle.nfs4_session.specs.Slots.{TakesEffect}
 use Rattle.nfs4_session.specs.Requests.{request_answer, pass_of}
 use Rattle.nfs4_session.specs.Bindings.{after_binding}
 use Rattle.mds_file_calls.specs.declared.layout_return.FailedMirror.{FailedMirror}
+use Rattle.mds_calls.specs.FittingCalls.{reports_server, FitsRequest}
 use Rattle.mds_calls.specs.MdsCalls.{SlotCallValue, MdsCallValue, ExchangeId, CreateSession, OnSlot}
 use Rattle.mds_calls.specs.MdsCalls as slot
 use Rattle.mds_calls.specs.MdsCompounds.{slot_ops, mds_ops}
@@ -37,7 +38,7 @@ use Rattle.mds_laws.proofs.Lists.{In}
 use Rattle.mds_replies.specs.ClientCalls.{IsCallFrom, server_after, IsEventOf}
 use Rattle.mds_replies.specs.SlotReplies.{request_of, TookEffect, EffectsAreNumbered}
 use Rattle.mds_replies.specs.LayoutReplies.{HasPeriod}
-use Rattle.mds_replies.specs.AnsweredRequests.{reports_server, FitsRequest, AreFitCalls, StaysRoomy}
+use Rattle.mds_replies.specs.AnsweredRequests.{AreFitCalls, StaysRoomy}
 use Rattle.mds_replies.specs.ReturnedPeriods.{IsReturned, ReturnsCome}
 use Rattle.mds_replies.proofs.EndCauses.{left_none}
 use Rattle.mds_replies.proofs.ReportedMirrors.{errors_for, unreported_off}

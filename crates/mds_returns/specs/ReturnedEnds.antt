@@ -15,13 +15,14 @@ use Rattle.nfs4_types.specs.Stateids.{three_words}
 use Rattle.nfs4_session.specs.Clients.{client_in}
 use Rattle.device_addr.specs.Universal.{AddressValue}
 use Rattle.mds_file_calls.specs.declared.layout_return.FailedMirror.{FailedMirror}
+use Rattle.mds_calls.specs.FittingCalls.{reports_server, FitsRequest}
 use Rattle.mds_calls.specs.MdsCalls.{OnSlot}
 use Rattle.mds_calls.specs.MdsCalls as slot
 use Rattle.mds_laws.specs.MdsRuns.{MdsEvent, after_event, mds_run}
 use Rattle.mds_laws.proofs.Lists.{In}
 use Rattle.mds_replies.specs.ClientCalls.{IsCallFrom, server_after, IsEventOf}
 use Rattle.mds_replies.specs.LayoutReplies.{HasPeriod}
-use Rattle.mds_replies.specs.AnsweredRequests.{reports_server, FitsRequest, AreFitCalls, StaysRoomy}
+use Rattle.mds_replies.specs.AnsweredRequests.{AreFitCalls, StaysRoomy}
 
 -- A LAYOUTRETURN of the client that had the period came in this event. Where it is this call, its stateid names the file and the uid, and each
 -- mirror that is live at the end was so in the period, and is not reported.

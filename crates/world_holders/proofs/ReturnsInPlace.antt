@@ -17,12 +17,13 @@ use Rattle.cluster_world.specs.ClusterWorlds.{ClusterState}
 use Rattle.nfs4_types.specs.declared.stateid.Stateid.{Stateid}
 use Rattle.mds_file_calls.specs.declared.grant.LayoutGrant.{LayoutGrant}
 use Rattle.mds_file_calls.specs.declared.layout_return.FailedMirror.{FailedMirror}
+use Rattle.mds_calls.specs.FittingCalls.{reports_server}
 use Rattle.mds_calls.specs.MdsCalls.{OnSlot}
 use Rattle.mds_calls.specs.MdsCalls as slot
 use Rattle.mds_laws.proofs.Lists.{In}
 use Rattle.client_state.specs.ClientSends.{ClientSend, CallsServer, CallsMds, spelled_send}
 use Rattle.client_laws.specs.ClientHistory.{HistoryItem, Hears, LeftProtocol, Enters, Sends, HasItem, Each, client_history}
-use Rattle.client_laws.specs.ClientRunLaws.{WasGranted, AreGrantedOnce, IsSilent, KeepsSilent, WasCovered, CoveredUnreported, MayReturn, ReturnsCommitted, is_reported}
+use Rattle.client_laws.specs.ClientRunLaws.{WasGranted, AreGrantedOnce, IsSilent, KeepsSilent, WasCovered, CoveredUnreported, MayReturn, ReturnsCommitted}
 use Rattle.client_laws.proofs.Later.{granted_later}
 use Rattle.client_sessions.specs.LayoutEnds.{GoesAtOnce}
 use Rattle.node_histories.specs.Weaves.{Seen, items_in, IsSendingOf, AreWoven}
@@ -197,7 +198,7 @@ module _ (w : ClusterState) (t : IsToldByNodes w) (laws : HasLaws t) where
 
     -- ---- all is covered
 
-    covered_at : (id : MirrorId) → In id (ids_of r.grant.mirrors) → is_reported r.failed id.server ≡ false → (a b : List Entry) (g : FileId) (at : ℕ) (bytes : List ℕ) → past ≡ a ++ Sent g (record { 0 = uid }) at bytes ∷ b → ClientEntry t a (Sent g (record { 0 = uid }) at bytes)
+    covered_at : (id : MirrorId) → In id (ids_of r.grant.mirrors) → reports_server r.failed id.server ≡ false → (a b : List Entry) (g : FileId) (at : ℕ) (bytes : List ℕ) → past ≡ a ++ Sent g (record { 0 = uid }) at bytes ∷ b → ClientEntry t a (Sent g (record { 0 = uid }) at bytes)
         → IsCoveredIn past uid id (the_write at bytes)
     covered_at id inside kept a b g at bytes split k = by_side (side_of a b (journal_at r.life r.earlier) r.since (Sent g (record { 0 = uid }) at bytes) r.posted (sym split ∙ r.before))
       where
@@ -232,7 +233,7 @@ module _ (w : ClusterState) (t : IsToldByNodes w) (laws : HasLaws t) where
         by_covers c =
             let one : c.grant ≡ r.grant = (once c.grant r.grant c.granted r.granted (c.its_uid ∙ sym r.its_uid)).0 in
             let p : HasPlace c.grant.mirrors id = place_of c.grant.mirrors id (subst (λ (x : LayoutGrant). In id (ids_of x.mirrors)) (sym one) inside) in
-            let was : WasCovered (items_in r.earlier) p.mirror.id c.grant.uid.0 at bytes [] = c.covered p.place p.mirror p.there (subst (λ (x : MirrorId). is_reported r.failed x.server ≡ false) (sym p.is) kept) in
+            let was : WasCovered (items_in r.earlier) p.mirror.id c.grant.uid.0 at bytes [] = c.covered p.place p.mirror p.there (subst (λ (x : MirrorId). reports_server r.failed x.server ≡ false) (sym p.is) kept) in
             covered_in w t laws r.n r.life r.its r.earlier (Seen returns r.posted ∷ r.later) r.split past (r.posted ∷ r.since) (Ended f (record { 0 = uid }) Returned ∷ behind) r.before is id uid at bytes []
             (subst (λ (u : ℕ). WasCovered (items_in r.earlier) id u at bytes []) c.its_uid (subst (λ (x : MirrorId). WasCovered (items_in r.earlier) x c.grant.uid.0 at bytes []) p.is was))
 
@@ -248,7 +249,7 @@ module _ (w : ClusterState) (t : IsToldByNodes w) (laws : HasLaws t) where
             (covers_so (items_in r.earlier) (items_in k.earlier) (items_in s.middle) g uid at bytes r.stateid r.failed
             (ap (λ (l : LifeSteps). items_in l) s.is ∙ items_join k.earlier (Seen (Enters (Sent g (record { 0 = uid }) at bytes)) (Sent g (record { 0 = uid }) at bytes) ∷ s.middle)) may once by_stateid h)
 
-    by_whose : (id : MirrorId) → In id (ids_of r.grant.mirrors) → is_reported r.failed id.server ≡ false → (a b : List Entry) (g : FileId) (at : ℕ) (bytes : List ℕ) → past ≡ a ++ Sent g (record { 0 = uid }) at bytes ∷ b → IsWhose t a (Sent g (record { 0 = uid }) at bytes)
+    by_whose : (id : MirrorId) → In id (ids_of r.grant.mirrors) → reports_server r.failed id.server ≡ false → (a b : List Entry) (g : FileId) (at : ℕ) (bytes : List ℕ) → past ≡ a ++ Sent g (record { 0 = uid }) at bytes ∷ b → IsWhose t a (Sent g (record { 0 = uid }) at bytes)
         → IsCoveredIn past uid id (the_write at bytes)
     by_whose id inside kept a b g at bytes split (OfClient k) = covered_at id inside kept a b g at bytes split k
     by_whose id inside kept a b g at bytes split (OfMds s) =

@@ -27,6 +27,7 @@ use Rattle.nfs4_types.specs.Stateids.{three_words}
 use Rattle.nfs4_session.specs.Clients.{client_in}
 use Rattle.mds_file_calls.specs.declared.grant.LayoutGrant.{LayoutGrant}
 use Rattle.mds_calls.specs.declared.ask.MdsAsk.TheVariants as ask
+use Rattle.mds_calls.specs.FittingCalls.{reports_server}
 use Rattle.mds_calls.specs.MdsCalls.{MdsCallValue, OnSlot}
 use Rattle.mds_calls.specs.MdsCalls as slot
 use Rattle.mds_calls.specs.MdsReplies.{MdsAnswerValue, MdsReplyValue, Returned, reply_of_ask}
@@ -49,7 +50,7 @@ use Rattle.world_reads.proofs.Steps.{Splits, Longer, Shorter, splits, all_first}
 use Rattle.world_reads.proofs.OwnEntries.{IsToldStep, all_told}
 use Rattle.world_reads.proofs.MdsPlaces.{Steps}
 use Rattle.world_reads.proofs.LifeRecords.{compound}
-use Rattle.mds_replies.specs.AnsweredRequests.{StaysRoomy, reports_server, ReturnsSo}
+use Rattle.mds_replies.specs.AnsweredRequests.{StaysRoomy, ReturnsSo}
 use Rattle.mds_replies.specs.PeriodEntries.{IsBegun, UidsEndOnce}
 use Rattle.world_layouts.specs.WorldLayouts.{IsOneRequestEach, StartsAreFew, journal_at, ReturnsHaveEnded}
 use Rattle.world_layouts.proofs.LifeSends.{LifeSteps, hearing_from}

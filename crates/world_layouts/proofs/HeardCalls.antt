@@ -17,6 +17,7 @@ use Rattle.nfs4_compound.specs.Compounds.{CompoundValue}
 use Rattle.nfs4_compound.specs.Laws.{AreGivenWhole}
 use Rattle.mds_receive.specs.MdsReceive.{IsAnswered, IsCompound, of_reply, incoming_of}
 use Rattle.mds_receive.specs.MdsReceiveLaws.{HasCallRecord, compound_with, IsTakenWhole}
+use Rattle.mds_calls.specs.FittingCalls.{FitsAsked}
 use Rattle.mds_calls.specs.MdsCalls.{MdsCallValue}
 use Rattle.mds_calls.specs.MdsCompounds.{mds_ops, mds_call_bytes}
 use Rattle.mds_calls.specs.MdsCallLaws.{MdsMessage, HasCompoundRecord, IsCompoundUnderstood, compound_message_call}
@@ -25,7 +26,7 @@ use Rattle.mds_laws.specs.MdsRuns.{MdsInput, MdsEvent, Hears, IsTimedOut, Ticks,
 use Rattle.mds_histories.specs.MdsHistory.{MdsItem, Comes, Enters, Sends, mds_history}
 use Rattle.mds_histories.proofs.Histories.{history_on}
 use Rattle.mds_replies.specs.ClientCalls.{IsCallIn, HearsCall, AreCalls, server_after, IsEventOf}
-use Rattle.client_laws.specs.ClientHistory.{HistoryItem, HasItem, Each, client_history}
+use Rattle.client_laws.specs.ClientHistory.{HistoryItem, HasItem}
 use Rattle.client_laws.specs.ClientHistory as client
 use Rattle.client_laws.proofs.Orders.{in_more}
 use Rattle.client_records.specs.ClientRecords.{EachRunIsSpelled, EachRunIsNumbered}
@@ -43,7 +44,7 @@ use Rattle.world_reads.proofs.LifeRecords.{compound}
 use Rattle.world_reads.proofs.ClientForms.{IsTakenAs, taken_as}
 use Rattle.world_reads.proofs.WorldClients.{IsAskedBy, asked_by}
 use Rattle.mds_replies.specs.AnsweredRequests.{HearsFitCall, AreFitCalls}
-use Rattle.world_layouts.specs.AskedFits.{FitsAsked, EachRunAsksFit}
+use Rattle.client_sessions.specs.FittingCalls.{EachRunAsksFit}
 use Rattle.world_layouts.proofs.LifeRanges.{life_asks}
 use Rattle.world_layouts.proofs.LifeSends.{LifeSteps, SaysThen, SaysReply, SaysCall, ClientSent, client_sent, LifeIs, life_is, has_record, packet_says}
 

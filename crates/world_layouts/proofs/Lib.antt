@@ -1,7 +1,6 @@
 pub mod MdsMoments
 pub mod OneLife
 pub mod LifeSends
-pub mod FittingAsks
 pub mod LifeRanges
 pub mod HeardCalls
 pub mod RepliesHeard

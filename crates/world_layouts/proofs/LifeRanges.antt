@@ -6,6 +6,7 @@ use Rattle.cluster_model.specs.declared.ids.NodeId.TheVariants.{Client}
 use Rattle.cluster_model.specs.declared.entry.Entry.{Entry}
 use Rattle.cluster_model.specs.declared.entry.Entry.TheVariants as entry
 use Rattle.cluster_laws.proofs.Lists.{all_split}
+use Rattle.mds_calls.specs.FittingCalls.{FitsAsked}
 use Rattle.mds_calls.specs.MdsCalls.{MdsCallValue}
 use Rattle.client_state.specs.declared.request.UserRequest.TheVariants.{Open, Write, Through, Commit, Read, Return}
 use Rattle.client_state.specs.ClientStates.{ClientValue}
@@ -18,7 +19,7 @@ use Rattle.node_histories.specs.NodeHistories.{IsInputOfScript}
 use Rattle.world_reads.specs.WorldReads.{IsEntryInRange, IsJournalInRange}
 use Rattle.world_reads.proofs.Steps.{all_second}
 use Rattle.world_reads.proofs.Lives.{LifeFacts}
-use Rattle.world_layouts.specs.AskedFits.{FitsAsked, AsksFit, EachRunAsksFit}
+use Rattle.client_sessions.specs.FittingCalls.{AsksFit, EachRunAsksFit}
 
 -- ---- what came to it is of bytes
 

@@ -10,7 +10,8 @@ use Rattle.cluster_model.specs.declared.entry.Entry.{Entry}
 use Rattle.cluster_world.specs.ClusterWorlds.{ClusterState}
 use Rattle.nfs4_compound.specs.Args.{argop4}
 use Rattle.mds_receive.specs.MdsReceive.{IsCompound, incoming_of}
-use Rattle.mds_calls.specs.MdsCalls.{MdsCallValue, ExchangeId, CreateSession, OnSlot, SlotCallValue, ask_of, ask_on_slot, takes_slot}
+use Rattle.mds_calls.specs.FittingCalls.{FitsAsked}
+use Rattle.mds_calls.specs.MdsCalls.{MdsCallValue, ExchangeId, CreateSession, OnSlot, ask_of, takes_slot}
 use Rattle.mds_calls.specs.MdsCalls as slot
 use Rattle.mds_calls.specs.MdsCompounds.{mds_ops}
 use Rattle.mds_calls.specs.MdsCallLaws.{HasCompoundRecord}
@@ -28,7 +29,6 @@ use Rattle.world_reads.proofs.Lives.{LivesOf}
 use Rattle.world_reads.proofs.LifeRecords.{compound}
 use Rattle.world_reads.proofs.LifeCalls.{same_compound}
 use Rattle.world_reads.proofs.WorldClients.{IsLifeIn, of_client}
-use Rattle.world_layouts.specs.AskedFits.{FitsAsked}
 use Rattle.world_layouts.proofs.OneLife.{one_life}
 use Rattle.world_layouts.proofs.LifeSends.{LifeSteps}
 use Rattle.world_layouts.proofs.HeardCalls.{CompoundLaws, CameFrom, Arrival, came_at, caller_of, is_call_in}

@@ -22,6 +22,7 @@ use Rattle.nfs4_compound.specs.Args.{argop4}
 use Rattle.nfs4_compound.specs.Compounds.{CompoundValue}
 use Rattle.mds_file_calls.specs.declared.grant.LayoutGrant.{LayoutGrant}
 use Rattle.mds_file_calls.specs.declared.layout_return.FailedMirror.{FailedMirror}
+use Rattle.mds_calls.specs.FittingCalls.{FitsRequest}
 use Rattle.mds_calls.specs.MdsCalls.{MdsCallValue, OnSlot, SlotCallValue}
 use Rattle.mds_calls.specs.MdsCalls as slot
 use Rattle.mds_calls.specs.MdsCompounds.{mds_ops, slot_ops}
@@ -47,7 +48,7 @@ use Rattle.world_reads.proofs.Steps.{HasItemIn, ItemStep, item_step, all_first}
 use Rattle.world_reads.proofs.OwnEntries.{no_true, IsToldStep, all_told, journal_at as mds_journal_at, live_told}
 use Rattle.world_reads.proofs.MdsPlaces.{Steps, hearing, ArrivedAt, arrived_at}
 use Rattle.world_reads.proofs.LifeRecords.{compound}
-use Rattle.mds_replies.specs.AnsweredRequests.{StaysRoomy, FitsRequest}
+use Rattle.mds_replies.specs.AnsweredRequests.{StaysRoomy}
 use Rattle.mds_returns.specs.ReturnedEnds.{ReturnsAtEnd, ReturnsComeAtEnds}
 use Rattle.world_layouts.specs.WorldLayouts.{IsOneRequestEach, StartsAreFew, journal_at, WasReturnedBy, ReturnsAreSent}
 use Rattle.world_layouts.proofs.MdsMoments.{IsEnteredBy, entered_by}

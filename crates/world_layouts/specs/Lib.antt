@@ -1,4 +1,3 @@
-pub mod AskedFits
 pub mod ReadReplies
 pub mod WorldLayouts
 pub mod LayoutsInOrder

@@ -7,13 +7,14 @@ use Rattle.nfs4_types.specs.declared.ids.SessionId.{SessionId}
 use Rattle.nfs4_types.specs.declared.status.Stat4.TheVariants as stat
 use Rattle.device_addr.specs.Universal.{AddressValue}
 use Rattle.mds_calls.specs.declared.reply.SlotReport.TheVariants.{Unknown}
+use Rattle.mds_calls.specs.FittingCalls.{FitsRequest}
 use Rattle.mds_calls.specs.MdsCalls.{SlotCallValue, OnSlot, ask_on_slot}
-use Rattle.mds_calls.specs.MdsReplies.{MdsAnswerValue, Refused, MdsReplyValue, reply_of_ask}
+use Rattle.mds_calls.specs.MdsReplies.{MdsAnswerValue, Refused, reply_of_ask}
 use Rattle.mds_rule.specs.MdsStates.{Replies}
 use Rattle.mds_laws.specs.MdsRuns.{MdsEvent, after_event}
 use Rattle.mds_laws.proofs.Lists.{In}
 use Rattle.mds_replies.specs.ClientCalls.{IsCallFrom, server_after, IsEventOf}
-use Rattle.mds_replies.specs.AnsweredRequests.{FitsRequest, AreFitCalls, StaysRoomy, IsRefusedWith, AnswersRequest}
+use Rattle.mds_replies.specs.AnsweredRequests.{AreFitCalls, StaysRoomy, IsRefusedWith, AnswersRequest}
 
 -- a request is refused behind these events, and told so: its session is gone (BADSESSION), or its number is out of order (SEQ_MISORDERED)
 abbrev pub IsRefusedSo : List AddressValue → ℕ → List MdsEvent → SessionId → ℕ → MdsAnswerValue → Type 0

@@ -14,12 +14,13 @@ use Rattle.cluster_laws.specs.FenceLaw.{live_in}
 use Rattle.cluster_laws.specs.Holders.{HasEndedClean}
 use Rattle.mds_file_calls.specs.declared.grant.LayoutGrant.{LayoutGrant}
 use Rattle.mds_file_calls.specs.declared.layout_return.FailedMirror.{FailedMirror}
+use Rattle.mds_calls.specs.FittingCalls.{reports_server}
 use Rattle.mds_calls.specs.MdsCalls.{SlotCallValue, OnSlot}
 use Rattle.table_slots.specs.TableSlots.{is_of_session}
 use Rattle.mds_calls.specs.MdsCalls as slot
 use Rattle.client_state.specs.ClientSends.{CallsMds}
 use Rattle.client_laws.specs.ClientHistory.{HistoryItem, Sends, HasItem, client_history}
-use Rattle.client_laws.specs.ClientRunLaws.{WasGranted, AreGrantedOnce, CoveredByReturn, is_reported}
+use Rattle.client_laws.specs.ClientRunLaws.{WasGranted, AreGrantedOnce, CoveredByReturn}
 use Rattle.client_sessions.specs.LayoutEnds.{HasUnreported}
 use Rattle.cluster_world.specs.ClusterWorlds.{ClusterState}
 use Rattle.mds_laws.proofs.Lists.{In}
@@ -90,7 +91,7 @@ pub record WasReturnedBy {w : ClusterState} (told : IsToldByNodes w) (past : Lis
   pub granted : WasGranted (items_in earlier) grant
   pub its_stateid : grant.stateid ≡ stateid
   pub its_uid : grant.uid.0 ≡ uid
-  pub live : (ids : List MirrorId) → live_in past file ≡ Some ids → (id : MirrorId) → In id ids → In id (ids_of grant.mirrors) × (is_reported failed id.server ≡ false)
+  pub live : (ids : List MirrorId) → live_in past file ≡ Some ids → (id : MirrorId) → In id ids → In id (ids_of grant.mirrors) × (reports_server failed id.server ≡ false)
 
 abbrev pub ReturnsAreSent : {w : ClusterState} → IsToldByNodes w → Type 0
 ReturnsAreSent {w} told =

@@ -1,5 +1,3 @@
-use Rattle.world_layouts.specs.ReadReplies.{EachReplyIsRead}
-use Rattle.world_layouts.proofs.FittingAsks.{asks_fit}
 use Rattle.world_layouts.proofs.OwnIds.{IdLaws}
 use Rattle.world_layouts.proofs.AllLayouts.{all_layouts}
 use Rattle.world_layouts.proofs.laws.world_layouts.Goals as goal
@@ -17,7 +15,7 @@ returns c = record {
             replies = c.every_message.ensures.reply_again;
             spells = c.every_message.ensures.reply_spelled;
             taken = c.receive_law.ensures.taken;
-            fit = asks_fit c.fitting_calls.ensures.fit;
+            fit = c.fitting_calls.ensures.fit;
           };
           stands = λ servers mirrors events before after e fit roomy split node reply sent. (read servers mirrors events before after e fit roomy split node reply sent).0;
           refused = λ servers mirrors events before after e fit roomy split node reply sent. (read servers mirrors events before after e fit roomy split node reply sent).1;
