@@ -11,7 +11,7 @@ use Rattle.cluster_model.specs.declared.entry.Entry.TheVariants.{Sent, Rogue, To
 use Rattle.mirror_writer.specs.declared.mirror.TheConstants.{ACCES, STALE}
 use Rattle.cluster_model.specs.declared.ids.NodeId.TheVariants.{Server}
 use Rattle.cluster_model.specs.declared.ds_call.Shown.{Shown}
-use Rattle.cluster_model.specs.DsCalls.{DsCallValue, Write, Failed}
+use Rattle.cluster_model.specs.DsCalls.{DsCallValue, Write, Commit, Failed}
 use Rattle.mds_file_calls.specs.declared.open.OpenFile.{OpenFile}
 use Rattle.mds_file_calls.specs.declared.grant.LayoutGrant.{LayoutGrant}
 use Rattle.mds_file_calls.specs.declared.layout_return.FailedMirror.{FailedMirror}
@@ -39,16 +39,37 @@ bad_stateid = 10025
 abbrev pub IsFenceStatus : ℕ → Type 0
 IsFenceStatus status = (status ≡ ACCES) ⊎ (status ≡ STALE)
 
+-- a WRITE to the mirror's file, or a COMMIT of it
+abbrev pub IsCallTo : MirrorId → DsCallValue → Type 0
+IsCallTo id (Write fileid at synced bytes) = fileid ≡ id.fileid
+IsCallTo id (Commit fileid) = fileid ≡ id.fileid
+IsCallTo id call = ⊥
+
+-- a call to one of the layout's mirrors, under its uid, was refused as one whose layout is no more
+pub record WasFenced (behind : List HistoryItem) (grant : LayoutGrant) : Type 0 where
+  pub place : ℕ
+  pub mirror : Mirror
+  pub there : slice_get grant.mirrors place ≡ Some mirror
+  pub xid : ℕ
+  pub name : List ℕ
+  pub call : DsCallValue
+  pub to_mirror : IsCallTo mirror.id call
+  pub bytes : List ℕ
+  pub now : ℕ
+  pub status : ℕ
+  pub shown : Option Shown
+  pub says : IsDsReply bytes xid call (Failed status shown)
+  pub fence : IsFenceStatus status
+  pub order : InOrder (Sends (CallsServer mirror.id.server xid name grant.uid.0 call) ∷ Hears (Recorded (Server mirror.id.server) bytes now) ∷ []) behind
+
 -- a LAYOUTRETURN of it was answered: accepted, or the stateid is unknown; a request on the session on which it was granted was answered that the
--- session is gone; or a call to a data server under its uid was refused as one whose layout is no more
+-- session is gone; or a call to one of its mirrors was refused so
 pub data HasLayoutEnded (behind : List HistoryItem) (session : SessionId) (file : FileId) (grant : LayoutGrant) : Type 0 where
   ByReturn : (xid : ℕ) (name : List ℕ) (sequence : ℕ) (failed : List FailedMirror) (says : MdsReplyValue) (more : List HistoryItem)
       → IsHeard behind xid name (OnSlot session sequence (slot.LayoutReturn file grant.stateid failed)) says more → (says.answer ≡ Returned) ⊎ (says.answer ≡ Refused bad_stateid) → HasLayoutEnded behind session file grant
   BySession : (xid : ℕ) (name : List ℕ) (sequence : ℕ) (call : SlotCallValue) (says : MdsReplyValue) (more : List HistoryItem)
       → IsHeard behind xid name (OnSlot session sequence call) says more → says.answer ≡ Refused bad_session → HasLayoutEnded behind session file grant
-  ByFence : (server xid : ℕ) (name : List ℕ) (call : DsCallValue) (bytes : List ℕ) (now status : ℕ) (shown : Option Shown)
-      → IsDsReply bytes xid call (Failed status shown) → IsFenceStatus status
-      → InOrder (Sends (CallsServer server xid name grant.uid.0 call) ∷ Hears (Recorded (Server server) bytes now) ∷ []) behind → HasLayoutEnded behind session file grant
+  ByFence : WasFenced behind grant → HasLayoutEnded behind session file grant
 
 -- A reply to this LAYOUTGET was heard that is final, with no compound between: it granted nothing, or what it granted has ended since.
 pub record IsAskSettled (past : List HistoryItem) (xid : ℕ) (name : List ℕ) (session : SessionId) (sequence : ℕ) (file : OpenFile) : Type 0 where

@@ -20,7 +20,9 @@ use Rattle.nfs4_session.specs.Clients.{SessionState, client_in, session_of}
 use Rattle.table_slots.specs.TableSlots.{is_of_session}
 use Rattle.device_addr.specs.Universal.{AddressValue}
 use Rattle.same_layout.specs.SameLayout.{unseen}
+use Rattle.compound_reply.specs.Replied.{success_reply}
 use Rattle.mds_file_calls.specs.declared.grant.LayoutGrant.{LayoutGrant}
+use Rattle.mds_file_calls.specs.declared.open.OpenFile.{OpenFile}
 use Rattle.mds_file_calls.specs.declared.layout_return.FailedMirror.{FailedMirror}
 use Rattle.mds_calls.specs.declared.reply.SlotReport.{SlotReport}
 use Rattle.mds_calls.specs.declared.reply.SlotReport.TheVariants.{Taken, Uncached, Delayed, Unknown}
@@ -35,7 +37,7 @@ use Rattle.mds_rule.specs.ServedFiles.{has_fresh}
 use Rattle.mds_laws.specs.MdsRuns.{MdsInput, Hears, MdsEvent, after_event}
 use Rattle.mds_laws.proofs.Lists.{In}
 use Rattle.mds_replies.specs.ClientCalls.{IsCallIn, IsCallFrom, server_after, IsEventOf}
-use Rattle.nfs4_session.specs.Slots.{SlotState, Refuses, is_in_progress}
+use Rattle.nfs4_session.specs.Slots.{SlotState, Cached, Refuses, is_in_progress}
 use Rattle.nfs4_session.specs.Requests.{request_answer}
 use Rattle.nfs4_session.specs.Bindings.{after_binding}
 use Rattle.mds_replies.specs.SlotReplies.{request_of, TookEffect, count_taken}
@@ -69,6 +71,25 @@ pub record HasSpareNumbers (m : MdsValue) : Type 0 where
 pub record StaysRoomy (servers : List AddressValue) (mirrors : ℕ) (events : List MdsEvent) : Type 0 where
   pub room : (before after : List MdsEvent) → events ≡ before ++ after → HasSpareNumbers (server_after servers mirrors before)
   pub counts : (before after : List MdsEvent) → events ≡ before ++ after → (session : SessionId) → count_taken servers mirrors before session + 1 < 4294967296
+
+-- ---- a session's slot
+
+-- the first slot of a session, where it stands
+abbrev pub first_slot : Option SessionState → Option SlotState
+first_slot None = None
+first_slot (Some session) = slice_get session.slots 0
+
+-- of the session that has this id
+abbrev pub slot_of : MdsValue → SessionId → Option SlotState
+slot_of m session = first_slot (session_of m.sessions.clients session)
+
+-- The slot keeps the reply to its last request (RFC 8881, section 2.10.6.1.3), which gives this answer to what was asked.
+pub record KeepsAnswer (m : MdsValue) (session : SessionId) (call : SlotCallValue) (answer : MdsAnswerValue) : Type 0 where
+  pub slot : SlotState
+  pub there : slot_of m session ≡ Some slot
+  pub bytes : List ℕ
+  pub kept : slot.reply ≡ Cached bytes
+  pub says : (reply_of_ask (ask_on_slot call) (success_reply 0 bytes)).answer ≡ answer
 
 -- ---- what a request that took effect came to
 
@@ -107,9 +128,15 @@ NamesNone m client file stateid = (uid : ℕ) → stateid.other ≡ three_words 
 abbrev pub bad_stateid : ℕ
 bad_stateid = 10025
 
--- an answer to a request that took effect in an event behind these
+-- what is granted is so granted
+abbrev pub GrantsIfGranted : List AddressValue → ℕ → List MdsEvent → MdsEvent → ℕ → FileId → MdsAnswerValue → Type 0
+GrantsIfGranted servers mirrors early f client file (Granted grant) = GrantsSo servers mirrors early f client file grant
+GrantsIfGranted servers mirrors early f client file answer = Unit {0}
+
+-- An answer to a request that took effect in an event behind these: to a LAYOUTGET the one that the slot keeps behind the event, so it has no other.
 abbrev pub MeansSo : List AddressValue → ℕ → List MdsEvent → MdsEvent → SessionId → SlotCallValue → MdsAnswerValue → Type 0
-MeansSo servers mirrors early f session (slot.LayoutGet file) (Granted grant) = GrantsSo servers mirrors early f (client_in session) file.file grant
+MeansSo servers mirrors early f session (slot.LayoutGet file) answer =
+    KeepsAnswer (server_after servers mirrors (early ++ f ∷ [])) session (slot.LayoutGet file) answer × GrantsIfGranted servers mirrors early f (client_in session) file.file answer
 MeansSo servers mirrors early f session (slot.LayoutReturn file stateid failed) Returned = ReturnsSo servers mirrors early f (client_in session) file stateid failed
 MeansSo servers mirrors early f session (slot.LayoutReturn file stateid failed) (Refused status) =
     status ≡ bad_stateid → NamesNone (server_after servers mirrors early) (client_in session) file stateid
@@ -146,23 +173,17 @@ abbrev pub IsRefusedWith : List AddressValue → ℕ → List MdsEvent → Sessi
 IsRefusedWith servers mirrors before session number status =
     (node : NodeId) × (call : SlotCallValue) × (request_answer (after_binding (server_after servers mirrors before).sessions session node) (request_of session number call) ≡ Refuses status)
 
--- Why a request is unknown to its slot: the session is gone (BADSESSION), or the number is out of order (SEQ_MISORDERED); or the reply to a
--- request that took effect has no spelling.
-pub data IsUnknown (servers : List AddressValue) (mirrors : ℕ) (events before : List MdsEvent) (session : SessionId) (number : ℕ) (answer : MdsAnswerValue) : Type 0 where
-  HasNoSession : answer ≡ Refused 10052 → IsRefusedWith servers mirrors before session number stat.BadSession → IsUnknown servers mirrors events before session number answer
-  IsOutOfOrder : answer ≡ Refused 10063 → IsRefusedWith servers mirrors before session number stat.SeqMisordered → IsUnknown servers mirrors events before session number answer
-  IsUnread : TookEffectAmong servers mirrors events session number → IsUnknown servers mirrors events before session number answer
+-- why a request is unknown to its slot: the session is gone (BADSESSION), or the number is out of order (SEQ_MISORDERED)
+pub data IsUnknown (servers : List AddressValue) (mirrors : ℕ) (before : List MdsEvent) (session : SessionId) (number : ℕ) (answer : MdsAnswerValue) : Type 0 where
+  HasNoSession : answer ≡ Refused 10052 → IsRefusedWith servers mirrors before session number stat.BadSession → IsUnknown servers mirrors before session number answer
+  IsOutOfOrder : answer ≡ Refused 10063 → IsRefusedWith servers mirrors before session number stat.SeqMisordered → IsUnknown servers mirrors before session number answer
+
+-- that request was no LAYOUTGET
+abbrev pub WasNoGet : (servers : List AddressValue) (mirrors : ℕ) (events : List MdsEvent) (session : SessionId) (number : ℕ) → TookEffectAmong servers mirrors events session number → Type 0
+WasNoGet servers mirrors events session number t =
+    (name : List ℕ) (file : OpenFile) → IsCallFrom t.f t.took.node t.took.xid name (OnSlot session number (slot.LayoutGet file)) → ⊥
 
 -- ---- a slot that is free
-
--- the first slot of a session, where it stands
-abbrev pub first_slot : Option SessionState → Option SlotState
-first_slot None = None
-first_slot (Some session) = slice_get session.slots 0
-
--- of the session that has this id
-abbrev pub slot_of : MdsValue → SessionId → Option SlotState
-slot_of m session = first_slot (session_of m.sessions.clients session)
 
 -- The slot has gone on to another number, or its request of this number is not in progress: it is free for the next one (RFC 8881, section
 -- 2.10.6.1).
@@ -170,14 +191,15 @@ abbrev pub IsFreeAt : MdsValue → SessionId → ℕ → Type 0
 IsFreeAt m session number = (slot : SlotState) → slot_of m session ≡ Some slot → slot.last ≡ number → is_in_progress slot.reply ≡ false
 
 -- What the slot is told by the reply, in the last of these events, to a request that came behind `before`: the request of its number took effect;
--- it did, and its reply was not kept; it is refused for now; or it is unknown. A request that took effect is not in progress any more behind the
+-- it did, was no LAYOUTGET, and its reply was not kept; it is refused for now; or it is unknown. A request that took effect is not in progress any more behind the
 -- events.
 abbrev pub StandsByReport : List AddressValue → ℕ → List MdsEvent → List MdsEvent → SessionId → ℕ → SlotCallValue → MdsAnswerValue → SlotReport → Type 0
 StandsByReport servers mirrors events before session number call answer Taken =
     (t : TookEffectAmong servers mirrors events session number) × MeansTaken servers mirrors events session number call answer t × IsFreeAt (server_after servers mirrors events) session number
-StandsByReport servers mirrors events before session number call answer Uncached = TookEffectAmong servers mirrors events session number × IsFreeAt (server_after servers mirrors events) session number
+StandsByReport servers mirrors events before session number call answer Uncached =
+    (t : TookEffectAmong servers mirrors events session number) × WasNoGet servers mirrors events session number t × IsFreeAt (server_after servers mirrors events) session number
 StandsByReport servers mirrors events before session number call answer Delayed = Unit {0}
-StandsByReport servers mirrors events before session number call answer Unknown = IsUnknown servers mirrors events before session number answer
+StandsByReport servers mirrors events before session number call answer Unknown = IsUnknown servers mirrors before session number answer
 
 abbrev pub StandsFor : List AddressValue → ℕ → List MdsEvent → List MdsEvent → SessionId → ℕ → SlotCallValue → MdsReplyValue → Type 0
 StandsFor servers mirrors events before session number call says = StandsByReport servers mirrors events before session number call says.answer says.slot

@@ -1,6 +1,6 @@
 -- The layouts of the clients of a world: each is granted once, as the journal says, and ends as the metadata server says (RFC 8881, sections
 -- 12.5.5, 18.43 and 18.44; RFC 8435, section 2.2).
-use Rattle.std.specs.Prelude.{◌≡◌, ℕ, ◌+◌, ◌<◌, ◌≤◌, ◌^◌, true, false, List, ◌∷◌, ◌++◌, length, Some}
+use Rattle.std.specs.Prelude.{◌≡◌, ℕ, ◌+◌, ◌<◌, ◌≤◌, ◌^◌, true, false, List, [], ◌∷◌, ◌++◌, length, Some}
 use Rattle.nfs4_types.specs.declared.ids.SessionId.{SessionId}
 use Rattle.nfs4_types.specs.declared.stateid.Stateid.{Stateid}
 use Rattle.cluster_model.specs.declared.ids.NodeId.TheVariants.{Client}
@@ -8,10 +8,12 @@ use Rattle.cluster_model.specs.declared.ids.FileId.{FileId}
 use Rattle.cluster_model.specs.declared.ids.MirrorId.{MirrorId}
 use Rattle.cluster_model.specs.declared.phase.EndCause.TheVariants.{Returned}
 use Rattle.cluster_model.specs.declared.entry.Entry.{Entry}
-use Rattle.cluster_model.specs.declared.entry.Entry.TheVariants.{Granted, Ended}
+use Rattle.cluster_model.specs.declared.entry.Entry.TheVariants.{Delivered, Granted, Ended}
 use Rattle.cluster_model.specs.Phases.{ids_of}
 use Rattle.cluster_laws.specs.FenceLaw.{live_in}
+use Rattle.cluster_laws.specs.Agreement.{causes_of}
 use Rattle.cluster_laws.specs.Holders.{HasEndedClean}
+use Rattle.holder_parts.specs.HeldOwners.{DoHoldersOwn}
 use Rattle.mds_file_calls.specs.declared.grant.LayoutGrant.{LayoutGrant}
 use Rattle.mds_file_calls.specs.declared.layout_return.FailedMirror.{FailedMirror}
 use Rattle.mds_calls.specs.FittingCalls.{reports_server}
@@ -21,7 +23,7 @@ use Rattle.mds_calls.specs.MdsCalls as slot
 use Rattle.client_state.specs.ClientSends.{CallsMds}
 use Rattle.client_laws.specs.ClientHistory.{HistoryItem, Sends, HasItem, client_history}
 use Rattle.client_laws.specs.ClientRunLaws.{WasGranted, AreGrantedOnce, CoveredByReturn}
-use Rattle.client_sessions.specs.LayoutEnds.{HasUnreported}
+use Rattle.client_sessions.specs.LayoutEnds.{HasUnreported, WasFenced}
 use Rattle.cluster_world.specs.ClusterWorlds.{ClusterState}
 use Rattle.mds_laws.proofs.Lists.{In}
 use Rattle.node_histories.specs.Weaves.{WeaveStep, Seen, entries_in, items_in}
@@ -111,6 +113,22 @@ IsOneRequestEach told =
     (n : ℕ) (l : Life) → HasLife told.stories n l → (xid other : ℕ) (name names : List ℕ) (session asked : SessionId) (number : ℕ) (c d : SlotCallValue)
     → HasItem (items_in l.steps) (Sends (CallsMds xid name (OnSlot session number c))) → HasItem (items_in l.steps) (Sends (CallsMds other names (OnSlot asked number d))) → is_of_session session asked ≡ true
     → (session ≡ asked) × (c ≡ d)
+
+-- ---- what it means that a data server refuses a call of a holder
+
+-- the journal has entered that the period of this uid ended
+abbrev pub HasPeriodEnded : List Entry → ℕ → Type 0
+HasPeriodEnded journal uid = causes_of uid journal ≡ [] → ⊥
+
+-- where a life heard that a call to a mirror of its layout was refused as one whose layout is no more, the period had ended (RFC 8435, section 2.2)
+abbrev pub RefusalsAreEnds : {w : ClusterState} → IsToldByNodes w → Type 0
+RefusalsAreEnds told =
+    (n : ℕ) (l : Life) (earlier later : List (WeaveStep HistoryItem)) (grant : LayoutGrant) → HasLife told.stories n l → l.steps ≡ earlier ++ later → WasGranted (items_in earlier) grant → WasFenced (items_in earlier) grant
+    → HasPeriodEnded (journal_at l earlier) grant.uid.0
+
+-- what is asked for that: whenever a record came, the mirrors of each period that had not ended belonged to its uid
+abbrev pub HoldersOwnAtDeliveries : List Entry → Type 0
+HoldersOwnAtDeliveries journal = (past behind : List Entry) (number : ℕ) → journal ≡ past ++ Delivered number ∷ behind → DoHoldersOwn past
 
 -- ---- what is asked of a world
 
