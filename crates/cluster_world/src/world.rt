@@ -2,6 +2,7 @@
 
 ghost use Rattle.std.specs.Prelude.{◌≡◌, ◌≤◌, IfOk, Err, Some, None, length, option_copied, option_map};
 ghost use Rattle.node_config.specs.declared.config.TheConstants.{MAX_SERVERS, MAX_MIRRORS, MAX_NUMBER};
+ghost use Rattle.world_journal.specs.Journal.{IsJournalInRange};
 ghost use Rattle.world_journal.specs.declared.fault.WorldFault.{WorldFault};
 ghost use Rattle.packet_table.specs.Packets.{next_waiting};
 ghost use Rattle.cluster_script.specs.ClusterLines.{cluster_event};
@@ -135,7 +136,8 @@ impl ClusterWorld {
 
     /// The journal: the entries of all events that happened, in order.
     pub fn journal(&self) -> &[Entry]
-        ensures { result.now ≡ self.now.world.journal }
+        ensures is { result.now ≡ self.now.world.journal }
+        ensures range { IsJournalInRange self.now.world.journal }
     {
         self.stage.journal.entries()
     }

@@ -4,6 +4,11 @@ use Rattle.std.proofs.lemmas.List.{append_assoc, append-nil, take-append-drop}
 use Rattle.ff_xdr.specs.declared.error.NoMemory.{NoMemory}
 use Rattle.cluster_model.specs.declared.entry.Entry.{Entry}
 use Rattle.cluster_model.specs.Print.{print, line_of}
+use Rattle.line_runs.specs.declared.end.RunEnd.{RunEnd}
+use Rattle.line_runs.specs.declared.end.RunEnd.TheVariants as ends
+use Rattle.line_runs.specs.Runs.{HasBecome}
+use Rattle.world_journal.specs.Journal.{IsJournalInRange}
+use Rattle.ff_replay.specs.Script.{journal_behind, script_budget, EndsInRange}
 use Rattle.journal_print.specs.Brief.{brief, brief_line}
 use Rattle.line_runs.specs.Writing.{IsBeginningOf, PrintsText}
 use Rattle.journal_print.specs.declared.mode.Mode.{Mode}
@@ -41,3 +46,13 @@ prints_in_part mode old new i xs (Err y) e is at = (trace_of mode (take i xs), b
 -- nothing is printed of no entries
 pub prints_none : (mode : Mode) (text : List ℕ) (xs : List Entry) → xs ≡ [] → text ≡ text ++ trace_of mode xs
 prints_none mode text xs none = sym (append-nil text) ∙ ap (λ t. text ++ t) (sym (no_trace mode)) ∙ ap (λ l. text ++ trace_of mode l) (sym none)
+
+-- where lines ended the run, what the player is then has the journal of the lines
+pub ends_in_range : (source : Option (List ℕ)) (end : RunEnd) (state : List Entry) → HasBecome script_budget (journal_behind false None) source end state → IsJournalInRange state → EndsInRange source end
+ends_in_range None end state became range = tt
+ends_in_range (Some bytes) ends.Done state became range = subst IsJournalInRange became range
+ends_in_range (Some bytes) (ends.BadLine n) state became range = subst IsJournalInRange became range
+ends_in_range (Some bytes) (ends.Limit count) state became range = subst IsJournalInRange became range
+ends_in_range (Some bytes) ends.ReadFault state became range = tt
+ends_in_range (Some bytes) ends.WriteFault state became range = tt
+ends_in_range (Some bytes) ends.NoMemory state became range = tt

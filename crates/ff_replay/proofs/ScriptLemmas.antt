@@ -13,7 +13,7 @@ use Rattle.cluster_world.specs.ClusterWorlds.{ClusterState}
 use Rattle.journal_print.specs.declared.mode.Mode.{Mode}
 use Rattle.ff_replay.specs.declared.setup.Setup.{Setup}
 use Rattle.ff_replay.specs.declared.setup.Setup.TheVariants.{Bare, Cluster}
-use Rattle.ff_replay.specs.Script.{ScriptLine, SaysNothing, SetsUp, Happens, setup_in, words_in, line_in, Script, by_line, with_event, script_of, ScriptWorld, BareWorld, ClusterWorld, setup_of_world, setup_of, journal_so_far, count_of, world_in, run_in, run_behind, script_from, run_from, trace_of, closing_of, meaning_from}
+use Rattle.ff_replay.specs.Script.{ScriptLine, SaysNothing, SetsUp, Happens, setup_in, words_in, line_in, Script, by_line, with_event, script_of, ScriptWorld, BareWorld, ClusterWorld, setup_of_world, setup_of, journal_so_far, count_of, world_in, run_in, run_behind, script_from, run_from, trace_of, closing_of, meaning_from, journal_behind}
 use Rattle.ff_replay.specs.Player.{LinePlayed, Outside, Limited, Goes, event_played, played_by, played, flowed, entries_by}
 use Rattle.ff_replay.specs.Ending.{no_trace}
 use Rattle.ff_replay.proofs.PlayLemmas.{trace_append}
@@ -146,6 +146,49 @@ limited_effect mode stage bad run is =
       closing = (no_more mode stage bad run none).1;
     }
 
+-- ---- the journal behind lines
+
+-- a script is the same from whichever number on, but for the number of its bad line
+record SameScript (s t : Script) : Type 0 where
+  pub setup : s.setup ≡ t.setup
+  pub events : s.events ≡ t.events
+
+same_line : (n m : ℕ) (setup : Option Setup) (v : Option ScriptLine) (rest other : Option Setup → Script) → ((chosen : Option Setup) → SameScript (rest chosen) (other chosen)) → SameScript (by_line n setup v rest) (by_line m setup v other)
+same_line n m setup None rest other same = record { setup = refl; events = refl }
+same_line n m setup (Some SaysNothing) rest other same = same setup
+same_line n m setup (Some (SetsUp chosen)) rest other same = record { setup = refl; events = (same (Some chosen)).events }
+same_line n m setup (Some (Happens event)) rest other same = record { setup = (same setup).setup; events = ap (λ (es : List EventValue). event ∷ es) (same setup).events }
+
+same_script : (n m : ℕ) (setup : Option Setup) (lines : List (List ℕ)) → SameScript (script_of n setup lines) (script_of m setup lines)
+same_script n m setup [] = record { setup = refl; events = refl }
+same_script n m setup (line ∷ lines) =
+    same_line n m setup (line_in setup line) (λ chosen. script_of (n + 1) chosen lines) (λ chosen. script_of (m + 1) chosen lines) (λ chosen. same_script (n + 1) (m + 1) chosen lines)
+
+same_run : (flows : Bool) (stage : Option ScriptWorld) (n m : ℕ) (lines : List (List ℕ)) → run_from flows stage n lines ≡ run_from flows stage m lines
+same_run flows stage n m lines =
+    let s : SameScript (script_from stage n lines) (script_from stage m lines) = same_script n m (setup_of stage) lines in
+    ap (λ (c : Option Setup). run_behind flows (world_in stage c) (script_from stage n lines).events) s.setup ∙ ap (λ (es : List EventValue). run_behind flows (world_in stage (script_from stage m lines).setup) es) s.events
+
+joined : (stage next : Option ScriptWorld) (flows : Bool) (number : ℕ) (entries : List Entry) (lines : List (List ℕ)) (run : Run) → run ≡ adds entries (run_from flows next number lines) → journal_so_far next ≡ journal_so_far stage ++ entries
+    → journal_so_far stage ++ run.entries ≡ journal_behind flows next lines
+joined stage next flows number entries lines run is journal_is =
+    let rest : List Entry = (run_from flows next number lines).entries in
+    ap (λ (r : Run). journal_so_far stage ++ r.entries) is ∙ sym (append_assoc (journal_so_far stage) entries rest) ∙ ap (λ (j : List Entry). j ++ rest) (sym journal_is)
+    ∙ ap (λ (r : Run). journal_so_far next ++ r.entries) (same_run flows next number 1 lines)
+
+pub journal_first : (stage next : Option ScriptWorld) (flows : Bool) (line : List ℕ) (lines : List (List ℕ)) (entries : List Entry) → played stage line ≡ Goes next flows entries → journal_behind false stage (line ∷ lines) ≡ journal_behind flows next lines
+journal_first stage next flows line lines entries is =
+    let split = line_on 1 stage line lines (Goes next flows entries) is in joined stage next flows 2 entries lines (run_from false stage 1 (line ∷ lines)) split.1 split.2
+
+none_behind : (stage : Option ScriptWorld) (run : Run) → run.entries ≡ [] → journal_so_far stage ++ run.entries ≡ journal_so_far stage
+none_behind stage run none = ap (λ (es : List Entry). journal_so_far stage ++ es) none ∙ append-nil (journal_so_far stage)
+
+pub journal_outside : (stage : Option ScriptWorld) (line : List ℕ) (lines : List (List ℕ)) → played stage line ≡ Outside → journal_behind false stage (line ∷ lines) ≡ journal_so_far stage
+journal_outside stage line lines is = none_behind stage (run_from false stage 1 (line ∷ lines)) (ap (λ (r : Run). r.entries) (line_on 1 stage line lines Outside is).1)
+
+pub journal_limited : (stage : Option ScriptWorld) (line : List ℕ) (lines : List (List ℕ)) → played stage line ≡ Limited → journal_behind false stage (line ∷ lines) ≡ journal_so_far stage
+journal_limited stage line lines is = none_behind stage (run_from false stage 1 (line ∷ lines)) (ap (λ (r : Run). r.entries) (line_on 1 stage line lines Limited is))
+
 -- ---- the first line, and what is to come
 
 -- it is played
@@ -210,6 +253,16 @@ goes_within mode number sizes w (Some next) flows entries lines is =
 pub limited_within : (mode : Mode) (number : ℕ) (sizes : ClusterSizes) (w : ClusterState) (lines : List (List ℕ)) → flowed sizes w ≡ Limited
     → EndsAtLimit mode (Some (ClusterWorld sizes w)) (meaning_from mode true (Some (ClusterWorld sizes w)) number lines)
 limited_within mode number sizes w lines is = limited_effect mode (Some (ClusterWorld sizes w)) (script_of number (Some (Cluster sizes)) lines).bad _ (flow_now sizes w number lines Limited is)
+
+pub journal_within : (sizes : ClusterSizes) (w : ClusterState) (next : Option ScriptWorld) (flows : Bool) (entries : List Entry) (lines : List (List ℕ)) → flowed sizes w ≡ Goes next flows entries
+    → journal_behind true (Some (ClusterWorld sizes w)) lines ≡ journal_behind flows next lines
+journal_within sizes w None flows entries lines is = absurd (flow_now sizes w 1 lines (Goes None flows entries) is)
+journal_within sizes w (Some next) flows entries lines is =
+    let on = flow_now sizes w 1 lines (Goes (Some next) flows entries) is in
+    joined (Some (ClusterWorld sizes w)) (Some next) flows 1 entries lines (run_from true (Some (ClusterWorld sizes w)) 1 lines) (on.1 ∙ ap (λ c. adds entries (run_behind flows next (script_of 1 (Some c) lines).events)) (sym on.0)) on.2
+
+pub journal_stops : (sizes : ClusterSizes) (w : ClusterState) (lines : List (List ℕ)) → flowed sizes w ≡ Limited → journal_behind true (Some (ClusterWorld sizes w)) lines ≡ w.journal
+journal_stops sizes w lines is = none_behind (Some (ClusterWorld sizes w)) (run_from true (Some (ClusterWorld sizes w)) 1 lines) (ap (λ (r : Run). r.entries) (flow_now sizes w 1 lines Limited is))
 
 -- a flow is within the grammar
 pub flow_not_outside : (sizes : ClusterSizes) (w : ClusterState) → flowed sizes w ≡ Outside → ⊥

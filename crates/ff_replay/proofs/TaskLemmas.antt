@@ -16,9 +16,9 @@ use Rattle.ff_world.specs.World.{WorldStep, world_step}
 use Rattle.cluster_world.specs.ClusterWorlds.{ClusterState, packets, cluster_step}
 use Rattle.world_journal.specs.declared.fault.WorldFault.{WorldFault}
 use Rattle.journal_print.specs.declared.mode.Mode.{Mode}
-use Rattle.ff_replay.specs.Script.{ScriptLine, SaysNothing, SetsUp, Happens, ScriptWorld, BareWorld, ClusterWorld, setup_of, journal_so_far, line_in, trace_of, closing_of, meaning_from, script_task}
+use Rattle.ff_replay.specs.Script.{ScriptLine, SaysNothing, SetsUp, Happens, ScriptWorld, BareWorld, ClusterWorld, setup_of, journal_so_far, line_in, trace_of, closing_of, meaning_from, journal_behind, script_task}
 use Rattle.ff_replay.specs.Player.{LinePlayed, Outside, Limited, Goes, bare_goes, cluster_goes, flows_by, is_flow, cluster_played, played_by, played, flowed, flowing, PlayerValue, PlayerState, with_trace, GoesFrom, PlayerPlays, is_unfinished, IsOfCluster, IsWithinFlow, IsBetween}
-use Rattle.ff_replay.proofs.ScriptLemmas.{goes_first, outside_first, limited_first, text_first, goes_within, limited_within, flow_not_outside, text_within}
+use Rattle.ff_replay.proofs.ScriptLemmas.{goes_first, outside_first, limited_first, text_first, goes_within, limited_within, flow_not_outside, text_within, journal_first, journal_outside, journal_limited, journal_within, journal_stops}
 
 begins_first : (part text more all : List ℕ) → IsBeginningOf part text → all ≡ text ++ more → IsBeginningOf part all
 begins_first part text more all begins is = record {
@@ -39,7 +39,7 @@ goes_line mode number flows old new line goes =
       now = ap (λ (p : PlayerState). p.trace) goes.now;
       same = λ lines. goes_first mode number old.stage goes.next flows line lines goes.entries goes.is
           ∙ ap (λ s. after_text (trace_of mode goes.entries) (meaning_from mode flows s (number + 1) lines)) (sym stage);
-      after = λ lines. refl;
+      after = λ lines. journal_first old.stage goes.next flows line lines goes.entries goes.is ∙ ap (λ (k : Option ScriptWorld). journal_behind flows k lines) (sym stage);
     }
 
 begins_line : (mode : Mode) (number : ℕ) (flows : Bool) (old new : PlayerState) (line : List ℕ) (r : Result LineStep NoMemory) → PlayerPlays mode old (played old.stage line) r new → IfOk r (λ done. flows ≡ is_unfinished done)
@@ -54,7 +54,7 @@ begins_line mode number flows old new line (Ok step.Outside) refuses is = record
   why = λ lines. let first = outside_first mode number old.stage line lines refuses.0 in (first.bad, first.past, first.text);
   adds = λ lines. (outside_first mode number old.stage line lines refuses.0).text;
   closing = λ lines. (outside_first mode number old.stage line lines refuses.0).closing ∙ ap (λ (p : PlayerState). closing_of mode (journal_so_far p.stage)) (sym refuses.1);
-  after = λ lines. refl;
+  after = λ lines. journal_outside old.stage line lines refuses.0 ∙ ap (λ (p : PlayerState). journal_so_far p.stage) (sym refuses.1);
 }
 begins_line mode number flows old new line (Ok (step.Limited count)) limited is =
     let first = λ (lines : List (List ℕ)). limited_first mode number old.stage line lines limited.is in record {
@@ -63,7 +63,7 @@ begins_line mode number flows old new line (Ok (step.Limited count)) limited is 
       why = λ lines. ((first lines).past, limited.count_is ∙ (first lines).count);
       adds = λ lines. (first lines).text;
       closing = λ lines. (first lines).closing ∙ ap (closing_of mode) (sym limited.journal);
-      after = λ lines. refl;
+      after = λ lines. journal_limited old.stage line lines limited.is ∙ sym limited.journal;
     }
 begins_line mode number flows old new line (Err e) begun is = record {
   part = begun.part;
@@ -92,7 +92,7 @@ goes_flow mode number flows sizes w spent text new goes =
       now = ap (λ (p : PlayerState). p.trace) goes.now;
       same = λ lines. goes_within mode number sizes w goes.next flows goes.entries lines goes.is
           ∙ ap (λ s. after_text (trace_of mode goes.entries) (meaning_from mode flows s number lines)) (sym stage);
-      after = λ lines. refl;
+      after = λ lines. journal_within sizes w goes.next flows goes.entries lines goes.is ∙ ap (λ (k : Option ScriptWorld). journal_behind flows k lines) (sym stage);
     }
 
 steps_flow : (mode : Mode) (number : ℕ) (flows : Bool) (sizes : ClusterSizes) (w : ClusterState) (spent : Option WorldFault) (text : List ℕ) (new : PlayerState) (r : Result LineStep NoMemory)
@@ -110,7 +110,7 @@ steps_flow mode number flows sizes w spent text new (Ok (step.Limited count)) li
       why = λ lines. ((first lines).past, limited.count_is ∙ (first lines).count);
       adds = λ lines. (first lines).text;
       closing = λ lines. (first lines).closing ∙ ap (closing_of mode) (sym limited.journal);
-      after = λ lines. refl;
+      after = λ lines. journal_stops sizes w lines limited.is ∙ sym limited.journal;
     }
 steps_flow mode number flows sizes w spent text new (Err e) begun is = record {
   part = begun.part;

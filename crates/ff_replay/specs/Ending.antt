@@ -21,10 +21,10 @@ ends_between : (mode : Mode) (stage : Option ScriptWorld) (number : ℕ) → IsA
 ends_between mode None number = record { effect = (λ i. record { text = no_trace mode i; bad = None; past = false; count = 0; closing = same_closing mode [] i }); same = refl }
 ends_between mode (Some (BareWorld w)) number =
     let count : count_of (Some (BareWorld w)) + 0 ≡ count_of (Some (BareWorld w)) = omega arith in
-    record { effect = (λ i. record { text = no_trace mode i; bad = None; past = false; count = count i; closing = same_closing mode w.journal i }); same = refl }
+    record { effect = (λ i. record { text = no_trace mode i; bad = None; past = false; count = count i; closing = same_closing mode w.journal i }); same = append-nil w.journal }
 ends_between mode (Some (ClusterWorld sizes w)) number =
     let count : count_of (Some (ClusterWorld sizes w)) + 0 ≡ count_of (Some (ClusterWorld sizes w)) = omega arith in
-    record { effect = (λ i. record { text = no_trace mode i; bad = None; past = false; count = count i; closing = same_closing mode w.journal i }); same = refl }
+    record { effect = (λ i. record { text = no_trace mode i; bad = None; past = false; count = count i; closing = same_closing mode w.journal i }); same = append-nil w.journal }
 
 -- between two lines there is no flow under way
 pub at_end_of : (mode : Mode) (flows : Bool) (stage : Option ScriptWorld) (number : ℕ) → flows ≡ false → IsAtEnd (script_task mode flows stage) (ahead_of number (script_task mode flows stage))

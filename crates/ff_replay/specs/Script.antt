@@ -1,12 +1,16 @@
 -- What a script says, and the trace of it.
-use Rattle.std.specs.Prelude.{ℕ, ◌+◌, Bool, true, false, ◌==◌, List, [], ◌∷◌, ◌++◌, length, codes, Option, Some, None, option_map, if◌then◌else◌}
+use Rattle.std.specs.Prelude.{⊤, ℕ, ◌+◌, Bool, true, false, ◌==◌, List, [], ◌∷◌, ◌++◌, length, codes, Option, Some, None, option_map, if◌then◌else◌}
 use Rattle.std.specs.Str.{bytes_eq}
 use Rattle.cluster_model.specs.declared.entry.Entry.{Entry}
 use Rattle.cluster_model.specs.Event.{EventValue}
 use Rattle.cluster_model.specs.Print.{print}
 use Rattle.journal_print.specs.Brief.{brief}
 use Rattle.journal_print.specs.Counts.{counts}
+use Rattle.line_runs.specs.declared.end.RunEnd.{RunEnd}
+use Rattle.line_runs.specs.declared.end.RunEnd.TheVariants as ends
+use Rattle.line_runs.specs.Lines.{script_lines}
 use Rattle.line_runs.specs.Runs.{LinesMeaning}
+use Rattle.world_journal.specs.Journal.{IsJournalInRange}
 use Rattle.line_runs.specs.Tasks.{TaskValue}
 use Rattle.ff_script.specs.Line as bare
 use Rattle.cluster_script.specs.declared.sizes.ClusterSizes.{ClusterSizes}
@@ -173,6 +177,21 @@ script_meaning mode = meaning_from mode false None 1
 abbrev pub script_budget : ℕ
 script_budget = 67108864
 
--- the task as its run sees it, where this is the world so far, and whether a flow is under way
-abbrev pub script_task : Mode → Bool → Option ScriptWorld → TaskValue (Unit {0})
-script_task mode flows stage = record { meaning = meaning_from mode flows stage; after = λ lines. tt; entries = count_of stage; closing = closing_of mode (journal_so_far stage); state = tt }
+-- the whole journal behind lines, and behind what is left of a flow
+abbrev pub journal_behind : Bool → Option ScriptWorld → List (List ℕ) → List Entry
+journal_behind flows stage lines = journal_so_far stage ++ (run_from flows stage 1 lines).entries
+
+-- the task as its run sees it, where this is the world so far, and whether a flow is under way: it is its journal
+abbrev pub script_task : Mode → Bool → Option ScriptWorld → TaskValue (List Entry)
+script_task mode flows stage =
+    record { meaning = meaning_from mode flows stage; after = journal_behind flows stage; entries = count_of stage; closing = closing_of mode (journal_so_far stage); state = journal_so_far stage }
+
+-- Where lines ended a run of a source, the journal of its lines is of bytes, and the fileids of its mirrors have eight (RFC 1813, section 2.5).
+abbrev pub EndsInRange : Option (List ℕ) → RunEnd → Type 0
+EndsInRange None end = ⊤
+EndsInRange (Some bytes) ends.Done = IsJournalInRange (journal_behind false None (script_lines script_budget bytes))
+EndsInRange (Some bytes) (ends.BadLine n) = IsJournalInRange (journal_behind false None (script_lines script_budget bytes))
+EndsInRange (Some bytes) (ends.Limit count) = IsJournalInRange (journal_behind false None (script_lines script_budget bytes))
+EndsInRange (Some bytes) ends.ReadFault = ⊤
+EndsInRange (Some bytes) ends.WriteFault = ⊤
+EndsInRange (Some bytes) ends.NoMemory = ⊤

@@ -2,6 +2,7 @@
 
 ghost use Rattle.std.specs.Prelude.{◌≡◌, ◌≢◌, ◌<◌, ℕ, List, false, None, Some, Ok, IfOk};
 ghost use Rattle.line_runs.specs.declared.end.LineStep.TheVariants as step;
+ghost use Rattle.world_journal.specs.Journal.{IsJournalInRange};
 ghost use Rattle.ff_replay.specs.Script.{journal_so_far};
 ghost use Rattle.ff_replay.specs.Player.{PlayerPlays, with_trace, played, flowing, is_unfinished, room_of};
 
@@ -46,8 +47,9 @@ impl Player {
     }
 
     /// The journal so far; before the setup it has no entry.
-    fn journal(&self) -> &[Entry]
-        ensures { result.now ≡ journal_so_far self.now.stage }
+    pub fn journal(&self) -> &[Entry]
+        ensures is { result.now ≡ journal_so_far self.now.stage }
+        ensures range { IsJournalInRange (journal_so_far self.now.stage) }
     {
         match &self.stage {
             None => &[],
@@ -109,13 +111,15 @@ impl Player {
 }
 
 impl LineTask for Player {
+    ghost use Rattle.std.specs.Prelude.{List};
+    ghost use Rattle.cluster_model.specs.declared.entry.Entry.{Entry};
     ghost use Rattle.ff_replay.specs.Script.{script_budget, script_task};
     ghost use Rattle.ff_replay.specs.Player.{IsBetween, IsWithinFlow, room_of};
     ghost use Rattle.ff_replay.specs.Ending.{at_end_of};
 
     ghost BUDGET = { script_budget };
 
-    ghost State = { Unit {0} };
+    ghost State = { List Entry };
 
     ghost value = { λ player. script_task player.mode player.flows player.stage };
 

@@ -2,7 +2,7 @@
 
 ghost use Rattle.std.specs.Prelude.{◌≡◌, ◌≢◌, ◌<◌, ◌-◌, false, IfOk, None, Some, Ok, length};
 ghost use Rattle.line_runs.specs.declared.end.LineStep.TheVariants as step;
-ghost use Rattle.world_journal.specs.Journal.{max_entries};
+ghost use Rattle.world_journal.specs.Journal.{IsJournalInRange, max_entries};
 ghost use Rattle.ff_script.specs.Line.{event_value};
 ghost use Rattle.cluster_script.specs.declared.sizes.ClusterSizes.{ClusterSizes};
 ghost use Rattle.cluster_script.specs.ClusterLines.{cluster_event};
@@ -168,7 +168,8 @@ impl Stage {
 
     /// The journal so far.
     pub fn journal(&self) -> &[Entry]
-        ensures { result.now ≡ journal_in (stage_world self.now) }
+        ensures is { result.now ≡ journal_in (stage_world self.now) }
+        ensures range { IsJournalInRange (journal_in (stage_world self.now)) }
     {
         match self {
             Stage::Bare(world) => world.journal(),

@@ -1,6 +1,7 @@
 //! The world of a script.
 
 ghost use Rattle.std.specs.Prelude.{◌≡◌, ◌+◌, ◌<◌, ◌≤◌, ◌^◌, [], ◌∷◌, IfOk, Err, Some, None, length, option_copied};
+ghost use Rattle.world_journal.specs.Journal.{IsJournalInRange};
 ghost use Rattle.world_journal.specs.declared.fault.WorldFault.{WorldFault};
 ghost use Rattle.ff_script.specs.Line.{event_value};
 ghost use Rattle.cluster_model.specs.Event.{Deliver, Restart};
@@ -116,7 +117,8 @@ impl World {
 
     /// The journal: the entries of all events that happened, in order.
     pub fn journal(&self) -> &[Entry]
-        ensures { result.now ≡ self.now.world.journal }
+        ensures is { result.now ≡ self.now.world.journal }
+        ensures range { IsJournalInRange self.now.world.journal }
     {
         self.journal.entries()
     }

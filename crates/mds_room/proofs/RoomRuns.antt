@@ -41,7 +41,7 @@ all_up : (b c : ℕ) → b ≤ c → (files : List ServedFile) → AllOf (Below 
 all_up b c le [] all = tt
 all_up b c le (s ∷ files) all = (below_up b c s.file le all.0, all_up b c le files all.1)
 
-few_files : (m : MdsValue) → may_make m ≡ true → length m.files < 4096
+pub few_files : (m : MdsValue) → may_make m ≡ true → length m.files < 4096
 few_files m may =
     let first = and_parts (nat_lt (length m.files) max_files && not (nat_lt (uids_left m) SPARE_UIDS)) (has_fresh m.fresh) may in
     let second = and_parts (nat_lt (length m.files) max_files) (not (nat_lt (uids_left m) SPARE_UIDS)) first.0 in

@@ -33,3 +33,10 @@ abbrev pub RunsHaveRoom : Type 0
 RunsHaveRoom =
     (servers : List AddressValue) (mirrors : ℕ) (events : List MdsEvent) → mirrors ≤ 4 → length servers < 2 ^ 32 → records_heard events + 1 < 4294967296
     → AllByRecursion IsLiveInRange (mds_run servers mirrors events).entries → has_fresh (server_after servers mirrors events).fresh ≡ true → StaysRoomy servers mirrors events
+
+-- Uids are drawn no faster than entries are made, one more for each file. So a run of few entries, of which no file is made with more than four
+-- mirrors, and to which fewer records came than a slot has numbers, has room for numbers at each moment.
+abbrev pub ShortRunsHaveRoom : Type 0
+ShortRunsHaveRoom =
+    (servers : List AddressValue) (mirrors : ℕ) (events : List MdsEvent) → mirrors ≤ 4 → length servers < 2 ^ 32 → records_heard events + 1 < 4294967296 → length (mds_run servers mirrors events).entries ≤ 4000000000
+    → AllByRecursion IsLiveInRange (mds_run servers mirrors events).entries → StaysRoomy servers mirrors events

@@ -1,7 +1,11 @@
 -- The journal of a world, and its limits.
-use Rattle.std.specs.Prelude.{◌≡◌, ℕ, ◌+◌, ◌≤◌, Bool, true, false, ◌&&◌, nat_le, if◌then◌else◌, List, ◌++◌, length, Option, Some, None, Result, Ok, Err}
+use Rattle.std.specs.Prelude.{◌≡◌, ℕ, ◌+◌, ◌^◌, ◌<◌, ◌≤◌, Bool, true, false, ◌&&◌, nat_le, if◌then◌else◌, List, ◌++◌, length, Option, Some, None, Result, Ok, Err}
 use Rattle.world_journal.specs.declared.journal.TheConstants.{MAX_ENTRIES, MAX_HEX}
+use Rattle.std.specs.List.{AllByRecursion}
+use Rattle.ff_xdr.specs.Laws.{IsBytes}
+use Rattle.cluster_model.specs.declared.ids.MirrorId.{MirrorId}
 use Rattle.cluster_model.specs.declared.entry.Entry.{Entry}
+use Rattle.cluster_model.specs.declared.entry.Entry.TheVariants.{Packet, Free, Swapped}
 use Rattle.cluster_model.specs.Print.{hex_of}
 use Rattle.world_journal.specs.declared.fault.WorldFault.{WorldFault}
 use Rattle.world_journal.specs.declared.fault.WorldFault.TheVariants.{Limit, NoMemory}
@@ -16,6 +20,18 @@ max_hex = MAX_HEX
 -- a journal is within the limits
 abbrev pub is_within : List Entry → Bool
 is_within journal = nat_le (length journal) max_entries && nat_le (hex_of journal) max_hex
+
+-- ---- the numbers of a journal
+
+-- A record is of bytes, and a mirror's fileid has eight of them (RFC 1813, section 2.5).
+abbrev pub IsEntryInRange : Entry → Type 0
+IsEntryInRange (Packet number from to bytes) = IsBytes bytes
+IsEntryInRange (Free file live) = AllByRecursion (λ (m : MirrorId). m.fileid < 2 ^ 64) live
+IsEntryInRange (Swapped file old new) = new.fileid < 2 ^ 64
+IsEntryInRange e = Unit {0}
+
+abbrev pub IsJournalInRange : List Entry → Type 0
+IsJournalInRange journal = AllByRecursion IsEntryInRange journal
 
 -- ---- the journal in the code
 

@@ -1,11 +1,14 @@
 //! The journal of a world, within its limits.
 
-ghost use Rattle.std.specs.Prelude.{◌≡◌, ◌+◌, ◌≤◌, [], length, true};
+ghost use Rattle.std.specs.Prelude.{◌≡◌, ◌+◌, ◌≤◌, ◌<◌, ◌^◌, [], length, true, OnSome};
+ghost use Rattle.std.specs.List.{AllByRecursion};
+ghost use Rattle.ff_xdr.specs.Laws.{IsBytes};
+ghost use Rattle.cluster_model.specs.declared.ids.MirrorId.{MirrorId};
 ghost use Rattle.cluster_model.specs.Print.{hex_len, hex_of};
-ghost use Rattle.world_journal.specs.Journal.{AddsEntries, is_within, within, hex_within, max_entries, max_hex};
+ghost use Rattle.world_journal.specs.Journal.{AddsEntries, IsEntryInRange, IsJournalInRange, is_within, within, hex_within, max_entries, max_hex};
 
 use crate::fault::WorldFault;
-use cluster_model::{Entry, UserAnswer};
+use cluster_model::{Entry, MirrorId, UserAnswer};
 use std::alloc::Global;
 use std::marker::Model;
 
@@ -26,13 +29,13 @@ impl Model for Journal {
     ghost use Rattle.std.specs.Prelude.{◌≡◌, List};
     ghost use Rattle.cluster_model.specs.declared.entry.Entry.{Entry};
     ghost use Rattle.cluster_model.specs.Print.{hex_of};
-    ghost use Rattle.world_journal.specs.Journal.{IsBounded};
+    ghost use Rattle.world_journal.specs.Journal.{IsBounded, IsJournalInRange};
 
     ghost Value = { List Entry };
 
     ghost view = { λ j. j.entries.items };
 
-    ghost invariant = { λ j. (j.hex ≡ hex_of j.entries.items) × IsBounded j.entries.items };
+    ghost invariant = { λ j. (j.hex ≡ hex_of j.entries.items) × IsBounded j.entries.items × IsJournalInRange j.entries.items };
 }
 
 /// The sum, where it is within the limit.
@@ -48,9 +51,34 @@ fn add_within(limit: u64, sum: u64, more: usize) -> Option<u64>
     }
 }
 
+/// How many bytes there are.
+fn len_of(bytes: &[u8]) -> usize
+    ensures size { result ≡ length bytes.now }
+    ensures range { IsBytes bytes.now }
+{
+    bytes.len()
+}
+
+/// Says of a number that it has eight bytes.
+fn wide(number: u64) -> u64
+    ensures { result ≡ number }
+{
+    number
+}
+
+/// Says of fileids that they have eight bytes.
+fn are_fileids(ids: &[MirrorId])
+    ensures { AllByRecursion (λ (m : MirrorId). m.fileid < 2 ^ 64) ids.now }
+{
+    for id in ids {
+        wide(id.fileid);
+    }
+}
+
 /// How many bytes stand as hexadecimal in the line of an entry.
 fn hex_bytes(entry: &Entry) -> usize
-    ensures { result ≡ hex_len entry.now }
+    ensures size { result ≡ hex_len entry.now }
+    ensures range { IsEntryInRange entry.now }
 {
     match entry {
         Entry::Packet { bytes, .. }
@@ -63,7 +91,15 @@ fn hex_bytes(entry: &Entry) -> usize
         | Entry::Answer {
             answer: UserAnswer::Bytes { bytes, .. },
             ..
-        } => bytes.bytes().len(),
+        } => len_of(bytes.bytes()),
+        Entry::Free { live, .. } => {
+            are_fileids(live.as_slice());
+            0
+        }
+        Entry::Swapped { new, .. } => {
+            wide(new.fileid);
+            0
+        }
         _ => 0,
     }
 }
@@ -71,7 +107,8 @@ fn hex_bytes(entry: &Entry) -> usize
 /// How many bytes stand as hexadecimal with these entries, where the limit lets them in.
 fn add_hex(hex: u64, entries: &[Entry]) -> Option<u64>
     requires { hex ≤ max_hex }
-    ensures { result ≡ within max_hex (hex + hex_of entries.now) }
+    ensures sum { result ≡ within max_hex (hex + hex_of entries.now) }
+    ensures range { OnSome result (IsJournalInRange entries.now) }
 {
     let mut sum = hex;
     for entry in entries {
@@ -84,7 +121,8 @@ fn add_hex(hex: u64, entries: &[Entry]) -> Option<u64>
 pub fn tally(count: u64, hex: u64, entries: &[Entry]) -> Option<u64>
     requires count { count ≤ max_entries }
     requires hex { hex ≤ max_hex }
-    ensures { result ≡ hex_within count hex entries.now }
+    ensures sum { result ≡ hex_within count hex entries.now }
+    ensures range { OnSome result (IsJournalInRange entries.now) }
 {
     add_within(MAX_ENTRIES, count, entries.len())?;
     add_hex(hex, entries)
@@ -110,7 +148,8 @@ impl Journal {
 
     /// The entries, in order.
     pub fn entries(&self) -> &[Entry]
-        ensures { result.now ≡ self.now }
+        ensures are { result.now ≡ self.now }
+        ensures range { IsJournalInRange self.now }
     {
         self.entries.as_slice()
     }

@@ -17,7 +17,7 @@ returns-in_err-act c =
     let is_noted : packet_numbered (packets old.world) c.args.number ≡ Some c.in-Some.note = ap (λ p. packet_numbered p c.args.number) (sym noted) ∙ sym c.get.ensures ∙ c.in-Some.is in
     let did : HasActed (coming c.in-Some.note old.world) c.new-out.result c.receive.new.self c.receive.new.out =
     subst (λ bytes. HasActed (receives c.self.inside.moment c.in-Some.note.from c.in-Some.note.to bytes c.self.inside.machines) c.new-out.result c.receive.new.self c.receive.new.out)
-    (c.bytes_at-message.ensures ∙ ap (λ journal. bytes_at_place journal c.in-Some.note.place) c.entries.ensures) c.in_ok-receive.ensures in
+    (c.bytes_at-message.ensures ∙ ap (λ journal. bytes_at_place journal c.in-Some.note.place) c.entries.ensures.are) c.in_ok-receive.ensures in
     let p = err_from_is_err_and c.from_residual-in_err-act.result c.from_residual-in_err-act.ensures.1 in
     let after : StageValue = record { world = record old.world { machines = c.receive.new.self }; packets = c.self.inside.packets } in
     subst (λ (v : StageValue). StageBecomes v (delivering c.args.number v.world) c.from_residual-in_err-act.result after) c.self.view_is
@@ -32,7 +32,7 @@ returns c =
     let is_noted : packet_numbered (packets old.world) c.args.number ≡ Some c.in-Some.note = ap (λ p. packet_numbered p c.args.number) (sym noted) ∙ sym c.get.ensures ∙ c.in-Some.is in
     let did : HasActed (coming c.in-Some.note old.world) c.new-out.result c.receive.new.self c.receive.new.out =
     subst (λ bytes. HasActed (receives c.self.inside.moment c.in-Some.note.from c.in-Some.note.to bytes c.self.inside.machines) c.new-out.result c.receive.new.self c.receive.new.out)
-    (c.bytes_at-message.ensures ∙ ap (λ journal. bytes_at_place journal c.in-Some.note.place) c.entries.ensures) c.in_ok-receive.ensures in
+    (c.bytes_at-message.ensures ∙ ap (λ journal. bytes_at_place journal c.in-Some.note.place) c.entries.ensures.are) c.in_ok-receive.ensures in
     let after : StageValue = record { world = record old.world { machines = c.receive.new.self }; packets = c.self.inside.packets } in
     subst (λ (v : StageValue). StageBecomes v (delivering c.args.number v.world) c.enter-2.result c.enter-2.new.self) c.self.view_is
     (comes after old _ _ c.enter-2.result c.enter-2.new.self refl
