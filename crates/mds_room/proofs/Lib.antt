@@ -6,3 +6,4 @@ pub mod RoomRuns
 pub mod UidsFew
 pub mod LiveTold
 pub mod RoomKept
+pub mod SetupStays

@@ -40,3 +40,7 @@ abbrev pub ShortRunsHaveRoom : Type 0
 ShortRunsHaveRoom =
     (servers : List AddressValue) (mirrors : ℕ) (events : List MdsEvent) → mirrors ≤ 4 → length servers < 2 ^ 32 → records_heard events + 1 < 4294967296 → length (mds_run servers mirrors events).entries ≤ 4000000000
     → AllByRecursion IsLiveInRange (mds_run servers mirrors events).entries → StaysRoomy servers mirrors events
+
+-- the data servers that a metadata server knows, and how many mirrors it wants for a file, stay as they were set up
+abbrev pub SetupStays : Type 0
+SetupStays = (servers : List AddressValue) (mirrors : ℕ) (events : List MdsEvent) → ((mds_run servers mirrors events).mds.servers ≡ servers) × ((mds_run servers mirrors events).mds.mirrors ≡ mirrors)
