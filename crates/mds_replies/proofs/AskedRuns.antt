@@ -1,7 +1,7 @@
 -- Each reply answers a call that came: where that takes no slot in this event, and where it does in this event or before.
 use Rattle.std.proofs.Common.{◌≡◌, ℕ, Bool, true, false, List, [], ◌∷◌, ◌++◌, Option, None, refl, sym, ap, subst, ◌∙◌}
 use Rattle.std.proofs.lemmas.List.{append_assoc, append-nil}
-use Rattle.ff_xdr.specs.Form.{Value, spelling}
+use Rattle.ff_xdr.specs.Form.{Value}
 use Rattle.rpc_record.specs.Replies.{RpcReply}
 use Rattle.compound_reply.specs.Replied.{success_reply}
 use Rattle.cluster_model.specs.declared.ids.NodeId.{NodeId}
@@ -9,10 +9,9 @@ use Rattle.cluster_model.specs.declared.entry.Entry.{Entry}
 use Rattle.device_addr.specs.Universal.{AddressValue}
 use Rattle.nfs4_types.specs.declared.ids.SessionId.{SessionId}
 use Rattle.nfs4_types.specs.declared.status.Stat4.{Stat4}
-use Rattle.nfs4_types.specs.Status.{stat4_number}
 use Rattle.nfs4_compound.specs.Args.{argop4}
 use Rattle.nfs4_compound.specs.Results.{resop4}
-use Rattle.nfs4_compound.specs.Compounds.{CompoundValue, compound4_res}
+use Rattle.nfs4_compound.specs.Compounds.{CompoundValue}
 use Rattle.nfs4_compound.specs.declared.stop.Stop.TheVariants as stop
 use Rattle.nfs4_session.specs.Slots.{SlotAnswer, TakesEffect, Repeats, Refuses}
 use Rattle.nfs4_session.specs.Clients.{SessionsState}
@@ -20,13 +19,13 @@ use Rattle.nfs4_session.specs.Requests.{request_answer}
 use Rattle.nfs4_session.specs.Bindings.{after_binding}
 use Rattle.nfs4_session.specs.TableLaw.{TableMove, table_after}
 use Rattle.mds_session_calls.specs.SessionOps.{exchange_id_op, create_session_op}
-use Rattle.mds_calls.specs.MdsCalls.{SlotCallValue, MdsCallValue, ExchangeId, CreateSession, OnSlot, ask_of, ask_on_slot, takes_slot}
+use Rattle.mds_calls.specs.MdsCalls.{SlotCallValue, MdsCallValue, ExchangeId, CreateSession, OnSlot, ask_on_slot, takes_slot}
 use Rattle.mds_calls.specs.MdsCalls as slot
 use Rattle.mds_calls.specs.MdsCompounds.{slot_ops, mds_ops}
 use Rattle.mds_receive.specs.MdsReceive.{IsCompound, incoming_of}
 use Rattle.mds_rule.specs.MdsStates.{CompoundRun, WaitingRead, WaitingWrite, ServedFile, MdsSend, Replies, MdsValue, MdsStep}
 use Rattle.mds_rule.specs.OpSteps.{with_result, refused_as}
-use Rattle.mds_rule.specs.Compounds.{compound_bytes, sequenced}
+use Rattle.mds_rule.specs.Compounds.{compound_bytes, kept_in_slot, sequenced}
 use Rattle.mds_laws.specs.MdsRuns.{MdsInput, MdsEvent, Hears, IsTimedOut, Ticks, RecallsFile, Resilvers, after_event}
 use Rattle.mds_laws.proofs.Lists.{In, AllOf}
 use Rattle.mds_laws.proofs.Keeping.{Keeps, IsNoRequest}
@@ -38,12 +37,13 @@ use Rattle.mds_replies.proofs.HeldFiles.{in_behind}
 use Rattle.mds_replies.proofs.PeriodKept.{sent_with_calls, in_sent}
 use Rattle.mds_replies.proofs.OutCalls.{are_called}
 use Rattle.mds_replies.proofs.ReplySent.{run_of_call, event_is, of_calls}
-use Rattle.mds_replies.proofs.HolderCases.{AllWait}
+use Rattle.mds_replies.proofs.HolderCases.{AllWait, IsNoTurn}
+use Rattle.mds_replies.proofs.LegibleResults.{IsLegible}
 use Rattle.mds_replies.proofs.SameRuns.{Like}
 use Rattle.mds_replies.proofs.TakenRequests.{taken_mds, taken_compound}
 use Rattle.mds_replies.proofs.TakenMeans.{one_more}
 use Rattle.mds_replies.proofs.CallEvents.{Brings, ACall, Nothing, brings, is_return_call, FitsOps, ops_fit}
-use Rattle.mds_replies.proofs.Turns.{sends, own_reply, IsSo, finish_keeps, AreFine, run_keeps, alone_keeps, out_keeps, BringsNone, other_keeps}
+use Rattle.mds_replies.proofs.Turns.{AnyLeft, says_any, sends, own_reply, IsSo, finish_keeps, AreFine, run_keeps, alone_keeps, out_keeps, BringsNone, other_keeps}
 use Rattle.mds_replies.proofs.SlotTables.{all_more}
 use Rattle.mds_replies.proofs.RequestRuns.{fit_at}
 
@@ -104,7 +104,7 @@ AnyEntry e = Unit {0}
 abbrev AnyTable : SessionsState → Type 0
 AnyTable s = Unit {0}
 
-any_moves : (s : SessionsState) (move : TableMove) → IsNoRequest move → AnyTable s → AnyTable (table_after s move)
+any_moves : (s : SessionsState) (move : TableMove) → IsNoTurn move → AnyTable s → AnyTable (table_after s move)
 any_moves s move none q = tt
 
 -- ---- an event
@@ -139,8 +139,9 @@ module _ (servers : List AddressValue) (mirrors : ℕ) (past : List MdsEvent) (e
   stays_asked : (s : SessionsState) (move : TableMove) → IsNoRequest move → (node : NodeId) (reply : RpcReply) → AskedIn s node reply → AskedIn (table_after s move) node reply
   stays_asked s move none node reply a = a
 
-  replied : (s : SessionsState) → AnyTable s → (c : CompoundRun) (results : List (Value resop4)) (status : Stat4) → W c → Asked c.node (success_reply c.xid (spelling compound4_res (stat4_number status, (c.tag, c.results ++ results))))
-  replied s q c results status w = waited c (spelling compound4_res (stat4_number status, (c.tag, c.results ++ results))) w
+  replied : (s : SessionsState) → AnyTable s → (c : CompoundRun) (result : Value resop4) (status : Stat4) → IsLegible result → W c
+      → AnyTable (kept_in_slot s c.slot (compound_bytes (with_result c result) status)) × Asked c.node (success_reply c.xid (compound_bytes (with_result c result) status))
+  replied s q c result status read w = (tt, waited c (compound_bytes (with_result c result) status) w)
 
   abbrev So : MdsValue → List Entry → List MdsSend → Type 0
   So = IsSo W ends AnyTable any_moves AskedIn stays_asked replied AnyEntry (λ x none. tt)
@@ -202,13 +203,13 @@ module _ (servers : List AddressValue) (mirrors : ℕ) (past : List MdsEvent) (e
   exchange_so node xid name verifier came =
       ran_so node xid name (ExchangeId verifier) came
       (alone_keeps W ends AnyTable any_moves AskedIn stays_asked replied AnyEntry (λ x n. tt) e.now (server_after servers mirrors past) (new_compound node xid name (ExchangeId verifier) came) (exchange_id_op name verifier) refl refl refl
-      (λ d status l t q. mine node xid name (ExchangeId verifier) came (new_compound node xid name (ExchangeId verifier) came) d status refl refl l))
+      (λ d status l its t q. (tt, mine node xid name (ExchangeId verifier) came (new_compound node xid name (ExchangeId verifier) came) d status refl refl l)))
 
   create_so : (node : NodeId) (xid : ℕ) (name : List ℕ) (client sequence : ℕ) → IsCallFrom e node xid name (CreateSession client sequence) → EventSo
   create_so node xid name client sequence came =
       ran_so node xid name (CreateSession client sequence) came
       (alone_keeps W ends AnyTable any_moves AskedIn stays_asked replied AnyEntry (λ x n. tt) e.now (server_after servers mirrors past) (new_compound node xid name (CreateSession client sequence) came) (create_session_op client sequence) refl refl refl
-      (λ d status l t q. mine node xid name (CreateSession client sequence) came (new_compound node xid name (CreateSession client sequence) came) d status refl refl l))
+      (λ d status l its t q. (tt, mine node xid name (CreateSession client sequence) came (new_compound node xid name (CreateSession client sequence) came) d status refl refl l)))
 
   fine_ops : (returns : Bool) (ops : List (Value argop4)) → FitsOps returns ops → AreFine W ends AnyTable any_moves AskedIn stays_asked replied AnyEntry (λ x none. tt) ops
   fine_ops returns [] f = tt
@@ -224,9 +225,9 @@ module _ (servers : List AddressValue) (mirrors : ℕ) (past : List MdsEvent) (e
     slot_keeps : (a : SlotAnswer) → Keeps So (server_after servers mirrors past) (sequenced e.now bound new_run (slot_ops name call) (request_of session number call) a)
     slot_keeps TakesEffect =
         λ es ss j.
-        run_keeps W ends AnyTable any_moves AskedIn stays_asked replied AnyEntry (λ x n. tt) e.now (slot_ops name call) (fine_ops (is_return_call call) (slot_ops name call) (ops_fit name call)) (taken_mds e.now (server_after servers mirrors past) node session number call)
-        (taken_compound node xid name session number call) refl (λ d status l t q. mine node xid name (OnSlot session number call) came (taken_compound node xid name session number call) d status refl refl l)
-        (λ d l none some. record {
+        run_keeps W ends AnyTable any_moves AskedIn stays_asked replied AnyEntry (λ x n. tt) AnyLeft (λ left ops c its. tt) e.now (slot_ops name call) (fine_ops (is_return_call call) (slot_ops name call) (ops_fit name call)) (says_any (slot_ops name call)) (taken_mds e.now (server_after servers mirrors past) node session number call)
+        (taken_compound node xid name session number call) tt refl (λ left d status l its t q. (tt, mine node xid name (OnSlot session number call) came (taken_compound node xid name session number call) d status refl refl l))
+        (λ d op l its none some. record {
           early = past;
           f = e;
           late = [];
@@ -249,7 +250,7 @@ module _ (servers : List AddressValue) (mirrors : ℕ) (past : List MdsEvent) (e
     slot_keeps (Refuses status) =
         λ es ss j.
         let refused : CompoundRun = with_result new_run (refused_as 53 status) in
-        finish_keeps W ends AnyTable any_moves AskedIn stays_asked replied AnyEntry (λ x k. tt) bound refused status (λ q. own node xid name (OnSlot session number call) came (compound_bytes refused status)) es ss
+        finish_keeps W ends AnyTable any_moves AskedIn stays_asked replied AnyEntry (λ x k. tt) bound refused status (λ q. (tt, own node xid name (OnSlot session number call) came (compound_bytes refused status))) es ss
         (record { waits = j.waits; table = tt; entries = j.entries; replies = j.replies; were = j.were })
 
     slot_so : EventSo

@@ -1,6 +1,6 @@
 -- Compounds, and what comes of answers and timeouts, keep what is kept in each case.
-use Rattle.std.proofs.Common.{◌≡◌, ℕ, Bool, true, false, List, [], ◌∷◌, ◌++◌, length, Option, Some, None, refl, sym, ap, subst, ◌∙◌, inr}
-use Rattle.std.specs.Prelude.{not, ◌==◌, slice_get, slice_set, remove, drop, position, map}
+use Rattle.std.proofs.Common.{◌≡◌, ◌≤◌, ℕ, ◌+◌, Bool, true, false, List, [], ◌∷◌, ◌++◌, length, Option, Some, None, refl, sym, ap, subst, ◌∙◌, inr}
+use Rattle.std.specs.Prelude.{not, ◌==◌, nat_lt, if◌then◌else◌, slice_get, slice_set, remove, drop, position, map}
 use Rattle.std.specs.List.{find}
 use Rattle.std.specs.Option.{option_map}
 use Rattle.std.proofs.lemmas.Bool.{cond_both, and_parts, eqb-true}
@@ -15,7 +15,14 @@ use Rattle.cluster_model.specs.declared.phase.EndCause.TheVariants.{Recalled, No
 use Rattle.cluster_model.specs.declared.ds_call.Shown.{Shown}
 use Rattle.cluster_model.specs.declared.entry.Entry.{Entry}
 use Rattle.cluster_model.specs.declared.entry.Entry.TheVariants as entry
-use Rattle.cluster_model.specs.DsCalls.{DsCallValue, DsReplyValue}
+use Rattle.cluster_model.specs.DsCalls.{DsCallValue, DsReplyValue, Created, Set, Written, Committed, Bytes, NotSync, Failed}
+use Rattle.cluster_model.specs.declared.ids.Mirror.{Mirror}
+use Rattle.cluster_model.specs.declared.limits.TheConstants.{MAX_TIMEOUTS}
+use Rattle.cluster_model.specs.declared.call_stage.CallStage.{CallStage}
+use Rattle.cluster_model.specs.declared.call_stage.CallStage.TheVariants.{Waits, Out, KeptOut, KeptBack, Done, GivenUp}
+use Rattle.cluster_model.specs.declared.phase.LeftCause.{LeftCause}
+use Rattle.cluster_model.specs.declared.phase.LeftCause.TheVariants.{Error, Timeouts}
+use Rattle.cluster_model.specs.Fences.{is_out, odd_status}
 use Rattle.cluster_model.specs.Nodes.{is_node}
 use Rattle.file_rule.specs.MdsFiles.{MdsFile}
 use Rattle.file_rule.specs.FilePhases.{Answers, TimesOut, OwnEnds, Revokes, Sees, phase, is_outstanding}
@@ -40,7 +47,6 @@ use Rattle.nfs4_session.specs.Slots.{SlotAnswer, TakesEffect, Repeats, Refuses}
 use Rattle.nfs4_session.specs.Requests.{request_answer, after_request}
 use Rattle.nfs4_session.specs.Beginning.{table_begun}
 use Rattle.nfs4_session.specs.Bindings.{after_binding}
-use Rattle.nfs4_session.specs.TableLaw.{FinishRequest}
 use Rattle.recall.specs.declared.recall.Outcome.{Outcome}
 use Rattle.recall.specs.declared.recall.Outcome.TheVariants as outcome
 use Rattle.recall.specs.Recalls.{RecallsAfter}
@@ -49,14 +55,16 @@ use Rattle.mds_rule.specs.MdsStates as mds
 use Rattle.mds_rule.specs.MdsStates.{CompoundRun, WaitingRead, WaitingWrite, ServedFile, MdsSend, CallsServer, CallsBack, Replies, AwaitedCall, MdsValue, MdsStep, sends_none, and_then, served, with_served, is_call_to, without_call}
 use Rattle.mds_rule.specs.declared.waiter.Waiter.{Waiter}
 use Rattle.mds_rule.specs.declared.waiter.Waiter.TheVariants.{ForFile, ForRead, ForWrite, ForRecall}
-use Rattle.mds_rule.specs.OpSteps.{OpStep, Goes, Ends, Waits, with_result, refuses, refused_as, unread, stopped, is_operation_number}
+use Rattle.mds_rule.specs.OpSteps.{OpStep, Goes, Ends, Waits as WaitsFor, with_result, refuses, refused_as, unread, stopped, is_operation_number}
 use Rattle.mds_rule.specs.ServedFiles.{has_fresh, file_stepped, takes_input}
 use Rattle.mds_rule.specs.FileOps.{write_result}
 use Rattle.mds_rule.specs.Compounds.{operate, has_session, operates, compound_bytes, kept_in_slot, finishes, op_then, with_ops, runs, sequence_in, in_slot, sequenced, sequence_of, may_stand_alone, first_alone, first_by, first_operation, new_run, runs_compound}
 use Rattle.mds_rule.specs.Answers.{server_number, is_file_out, is_awaited_by, is_awaited, sized, fileid_of, attributes_shown, sees_in, sees_size, resumes, is_done_as, has_failed_as, failed_entry, failed_entries, read_result, without_read, read_ends, read_step_at, read_from, read_of, steps_read, is_read_out, write_answer, write_ends, write_of, write_in, steps_write, with_failed, failures_by_place, has_failed_everywhere, write_over, sees_ctime, recall_end, recall_outcome, recalls_after, own_answer, server_answered, answered_as, answers_found, takes_answer, timed_out_for}
 use Rattle.mds_laws.specs.SlotUses.{first_request}
 use Rattle.mds_laws.proofs.Keeping.{Becomes, Enters, Keeps, KeepsOp, HeardOf, Hearing, IsWriterOf, IsWriteOf, then_keeps, none_keeps, same, becomes_keeps, enters_keeps, stays, silent_keeps}
+use Rattle.mds_replies.proofs.FewBytes.{GivesFew}
 use Rattle.mds_replies.proofs.HolderCases.{Cases, RunCases, WaitCases}
+use Rattle.mds_replies.proofs.LegibleResults.{as_it_is, read_legible, write_legible}
 use Rattle.mds_replies.proofs.WaitingCompounds.{reads_set, reads_without}
 use Rattle.mds_laws.proofs.Lists.{found_in, found_passes, got_in}
 use Rattle.mds_laws.proofs.OwnWriters.{StaysWriter}
@@ -72,7 +80,7 @@ module _ (I : MdsValue → List Entry → List MdsSend → Type 0) (Heard : Hear
   -- what its slot keeps of the reply
   slot_walk : (m : MdsValue) (slot : Option SlotPass) (bytes : List ℕ) → Becomes I m (record m { sessions = kept_in_slot m.sessions slot bytes })
   slot_walk m None bytes = λ es ss i. i
-  slot_walk m (Some slot) bytes = k.tables m (FinishRequest slot bytes) tt
+  slot_walk m (Some slot) bytes = r.finishes m slot bytes
 
   finish_walk : (m : MdsValue) (c : CompoundRun) (status : Stat4) → Keeps I m (finishes m c status)
   finish_walk m c status es ss i =
@@ -84,7 +92,7 @@ module _ (I : MdsValue → List Entry → List MdsSend → Type 0) (Heard : Hear
   op_walk : (m : MdsValue) (s : OpStep) (next : MdsValue → CompoundRun → MdsStep) → KeepsOp I m s → ((n : MdsValue) (d : CompoundRun) → Keeps I n (next n d)) → Keeps I m (op_then s next)
   op_walk m (Goes n entries c) next q all = enters_keeps I m n entries (next n c) q (all n c)
   op_walk m (Ends n entries c status) next q all = enters_keeps I m n entries (finishes n c status) q (finish_walk n c status)
-  op_walk m (Waits n entries) next q all = enters_keeps I m n entries (sends_none n) q (same I n)
+  op_walk m (WaitsFor n entries) next q all = enters_keeps I m n entries (sends_none n) q (same I n)
 
   stop_walk : (m : MdsValue) (c : CompoundRun) (s : Stop) → KeepsOp I m (stopped m c s)
   stop_walk m c (stop.End rest) = stays I m
@@ -204,9 +212,51 @@ module _ (I : MdsValue → List Entry → List MdsSend → Type 0) (Heard : Hear
 
   pub waiting_walk : WaitCases I W
   waiting_walk = record {
-    done = λ now m c result its. resume_walk now m (is_done_as m c result) c.ops (stays I m);
-    failed = λ now m c number its. resume_walk now m (has_failed_as m c number) c.ops (stays I m);
+    done = λ now m c result read its. resume_walk now m (is_done_as m c result) c.ops (stays I m);
+    failed = λ now m c number read its. resume_walk now m (has_failed_as m c number) c.ops (stays I m);
   }
+
+-- ---- a read that ends gives few bytes
+
+abbrev EndsFew : Option ReadEnd → Type 0
+EndsFew (Some (end.Bytes eof bytes)) = length bytes ≤ 4294967295
+EndsFew other = Unit {0}
+
+abbrev StepsFew : (ReadState → ReadAfter) → Type 0
+StepsFew step = (r : ReadState) → EndsFew (step r).end
+
+turn_few : (r : ReadState) (o : Option Mirror) → EndsFew (read.end_of r o)
+turn_few r None = tt
+turn_few r (Some m) = tt
+
+fails_few : (r : ReadState) (xid : ℕ) (cause : LeftCause) (o : Option Mirror) → EndsFew (read.fails r xid cause o).end
+fails_few r xid cause None = tt
+fails_few r xid cause (Some m) =
+    let next : ReadState = read.with_failure r (record { id = m.id; xid = xid; cause = cause }) in turn_few next (read.in_turn next)
+
+answered_few : (r : ReadState) (xid : ℕ) (reply : DsReplyValue) → GivesFew reply → EndsFew (read.answered r xid reply).end
+answered_few r xid (Bytes shown eof bytes) few = few
+answered_few r xid (Failed status shown) few = fails_few r xid (Error status) (read.in_turn r)
+answered_few r xid (Created fileid shown) few = fails_few r xid (Error odd_status) (read.in_turn r)
+answered_few r xid (Set shown) few = fails_few r xid (Error odd_status) (read.in_turn r)
+answered_few r xid (Written shown verifier) few = fails_few r xid (Error odd_status) (read.in_turn r)
+answered_few r xid (Committed shown verifier) few = fails_few r xid (Error odd_status) (read.in_turn r)
+answered_few r xid (NotSync shown) few = fails_few r xid (Error odd_status) (read.in_turn r)
+
+reply_steps_few : (r : ReadState) (xid : ℕ) (reply : DsReplyValue) → GivesFew reply → EndsFew (read.after_reply r xid reply).end
+reply_steps_few r xid reply few = cond_both (is_out xid r.stage) (read.answered r xid reply) (read.goes_on r) (λ (a : ReadAfter). EndsFew a.end) (λ its. answered_few r xid reply few) (λ off. tt)
+
+late_steps_few : (r : ReadState) (xid : ℕ) (stage : CallStage) → EndsFew (read.late r xid stage).end
+late_steps_few r xid (Out own timeouts) =
+    cond_both (own == xid) (if nat_lt (timeouts + 1) MAX_TIMEOUTS then read.goes_on (read.at_stage r (Out own (timeouts + 1))) else read.fails r xid Timeouts (read.in_turn r)) (read.goes_on r) (λ (a : ReadAfter). EndsFew a.end)
+    (λ its.
+    cond_both (nat_lt (timeouts + 1) MAX_TIMEOUTS) (read.goes_on (read.at_stage r (Out own (timeouts + 1)))) (read.fails r xid Timeouts (read.in_turn r)) (λ (a : ReadAfter). EndsFew a.end) (λ again. tt) (λ last. fails_few r xid Timeouts (read.in_turn r)))
+    (λ other. tt)
+late_steps_few r xid Waits = tt
+late_steps_few r xid (KeptOut own) = tt
+late_steps_few r xid KeptBack = tt
+late_steps_few r xid Done = tt
+late_steps_few r xid GivenUp = tt
 
 module _ (I : MdsValue → List Entry → List MdsSend → Type 0) (Heard : HeardOf) (W : CompoundRun → Type 0) (k : Cases I Heard W) (g : WaitCases I W) where
   -- ---- what an answer shows
@@ -235,46 +285,46 @@ module _ (I : MdsValue → List Entry → List MdsSend → Type 0) (Heard : Hear
   read_gone m file s is place =
       k.puts m file s (record s { reads = remove s.reads place }) is refl refl refl (old_write s.file s.write) (λ a. record { reads_so = reads_without W s.reads place a.reads_so; write_so = a.write_so })
 
-  read_end_walk : (now : ℕ) (m : MdsValue) (file : FileId) (s : ServedFile) → served m file ≡ Some s → (place : ℕ) (r : WaitingRead) → W r.compound → (after : ReadState) (o : Option ReadEnd)
+  read_end_walk : (now : ℕ) (m : MdsValue) (file : FileId) (s : ServedFile) → served m file ≡ Some s → (place : ℕ) (r : WaitingRead) → W r.compound → (after : ReadState) (o : Option ReadEnd) → EndsFew o
       → Keeps I m (read_ends now m file s place r after o)
-  read_end_walk now m file s is place r its after None =
+  read_end_walk now m file s is place r its after None few =
       none_keeps I m _
       (k.puts m file s (record s { reads = slice_set s.reads place (record { compound = r.compound; read = after }) }) is refl refl refl (old_write s.file s.write)
       (λ a. record { reads_so = reads_set W s.reads place (record { compound = r.compound; read = after }) a.reads_so its; write_so = a.write_so }))
-  read_end_walk now m file s is place r its after (Some (end.Bytes eof bytes)) =
+  read_end_walk now m file s is place r its after (Some (end.Bytes eof bytes)) few =
       let n : MdsValue = without_read m file s place in
       let q = resumes now (is_done_as n r.compound (read_result eof bytes)) r.compound.ops in
-      enters_keeps I m m (entry.ReadAnswer file 0 bytes ∷ []) q (k.notes m (entry.ReadAnswer file 0 bytes) refl) (becomes_keeps I m n q (read_gone m file s is place) (g.done now n r.compound (read_result eof bytes) its))
-  read_end_walk now m file s is place r its after (Some (end.AllFailed failures)) =
+      enters_keeps I m m (entry.ReadAnswer file 0 bytes ∷ []) q (k.notes m (entry.ReadAnswer file 0 bytes) refl) (becomes_keeps I m n q (read_gone m file s is place) (g.done now n r.compound (read_result eof bytes) (read_legible eof bytes few) its))
+  read_end_walk now m file s is place r its after (Some (end.AllFailed failures)) few =
       let n : MdsValue = without_read m file s place in
       let q = resumes now (has_failed_as n r.compound 25) r.compound.ops in
-      enters_keeps I m m (entry.ReadAnswer file 5 [] ∷ []) q (k.notes m (entry.ReadAnswer file 5 []) refl) (becomes_keeps I m n q (read_gone m file s is place) (g.failed now n r.compound 25 its))
+      enters_keeps I m m (entry.ReadAnswer file 5 [] ∷ []) q (k.notes m (entry.ReadAnswer file 5 []) refl) (becomes_keeps I m n q (read_gone m file s is place) (g.failed now n r.compound 25 (as_it_is (refused_as 25 stat.Io) refl) its))
 
-  read_at_walk : (now : ℕ) (m : MdsValue) (file : FileId) (s : ServedFile) → served m file ≡ Some s → (step : ReadState → ReadAfter) (place : ℕ) (o : Option WaitingRead) → slice_get s.reads place ≡ o
+  read_at_walk : (now : ℕ) (m : MdsValue) (file : FileId) (s : ServedFile) → served m file ≡ Some s → (step : ReadState → ReadAfter) → StepsFew step → (place : ℕ) (o : Option WaitingRead) → slice_get s.reads place ≡ o
       → Keeps I m (read_step_at now m file s step place o)
-  read_at_walk now m file s is step place None there = same I m
-  read_at_walk now m file s is step place (Some r) there =
+  read_at_walk now m file s is step few place None there = same I m
+  read_at_walk now m file s is step few place (Some r) there =
       let after : ReadAfter = step r.read in
       λ es ss i.
       enters_keeps I m m (failed_entries r.read after.read) (read_ends now m file s place r after.read after.end) (failures_walk m (drop (length r.read.failures) after.read.failures))
-      (read_end_walk now m file s is place r ((k.wait m es ss i file s is).reads_so r (got_in s.reads place r there)) after.read after.end) es ss i
+      (read_end_walk now m file s is place r ((k.wait m es ss i file s is).reads_so r (got_in s.reads place r there)) after.read after.end (few r.read)) es ss i
 
-  read_from_walk : (now : ℕ) (m : MdsValue) (file : FileId) (s : ServedFile) → served m file ≡ Some s → (step : ReadState → ReadAfter) (o : Option ℕ) → Keeps I m (read_from now m file s step o)
-  read_from_walk now m file s is step None = same I m
-  read_from_walk now m file s is step (Some place) = read_at_walk now m file s is step place (slice_get s.reads place) refl
+  read_from_walk : (now : ℕ) (m : MdsValue) (file : FileId) (s : ServedFile) → served m file ≡ Some s → (step : ReadState → ReadAfter) → StepsFew step → (o : Option ℕ) → Keeps I m (read_from now m file s step o)
+  read_from_walk now m file s is step few None = same I m
+  read_from_walk now m file s is step few (Some place) = read_at_walk now m file s is step few place (slice_get s.reads place) refl
 
-  read_of_walk : (now : ℕ) (m : MdsValue) (file : FileId) (xid : ℕ) (step : ReadState → ReadAfter) (o : Option ServedFile) → served m file ≡ o → Keeps I m (read_of now m file xid step o)
-  read_of_walk now m file xid step None is = same I m
-  read_of_walk now m file xid step (Some s) is = read_from_walk now m file s is step (position (is_read_out xid) s.reads)
+  read_of_walk : (now : ℕ) (m : MdsValue) (file : FileId) (xid : ℕ) (step : ReadState → ReadAfter) → StepsFew step → (o : Option ServedFile) → served m file ≡ o → Keeps I m (read_of now m file xid step o)
+  read_of_walk now m file xid step few None is = same I m
+  read_of_walk now m file xid step few (Some s) is = read_from_walk now m file s is step few (position (is_read_out xid) s.reads)
 
-  read_steps : (now : ℕ) (m : MdsValue) (file : FileId) (xid : ℕ) (step : ReadState → ReadAfter) → Keeps I m (steps_read now m file xid step)
-  read_steps now m file xid step = read_of_walk now m file xid step (served m file) refl
+  read_steps : (now : ℕ) (m : MdsValue) (file : FileId) (xid : ℕ) (step : ReadState → ReadAfter) → StepsFew step → Keeps I m (steps_read now m file xid step)
+  read_steps now m file xid step few = read_of_walk now m file xid step few (served m file) refl
 
   -- ---- an own write
 
   write_goes_on : (now : ℕ) (m : MdsValue) (c : CompoundRun) (count : ℕ) (failed : Bool) → W c → Keeps I m (resumes now (write_answer m c count failed) c.ops)
-  write_goes_on now m c count true its = g.failed now m c 38 its
-  write_goes_on now m c count false its = g.done now m c (write_result count) its
+  write_goes_on now m c count true its = g.failed now m c 38 (as_it_is (refused_as 38 stat.Io) refl) its
+  write_goes_on now m c count false its = g.done now m c (write_result count) (write_legible count) its
 
   write_end_walk : (now : ℕ) (m : MdsValue) (file : FileId) (s : ServedFile) → served m file ≡ Some s → (w : WaitingWrite) → W w.compound → IsWriteOf s.file s.write (Some w) → (o : Option (List Bool))
       → Keeps I m (write_ends now m file s w o)
@@ -345,7 +395,8 @@ module _ (I : MdsValue → List Entry → List MdsSend → Type 0) (Heard : Hear
       let t : ServedFile = sized s server (fileid_of c reply) (attributes_shown reply) in
       ap (is_file_out node xid) (served_again m file s t at) ∙ (ap (λ (f : MdsFile). is_outstanding f (server_number node) xid) (sized_same s server (fileid_of c reply) (attributes_shown reply)) ∙ out)
 
-  module _ (now : ℕ) (m : MdsValue) (xid : ℕ) (call : AwaitedCall) (replies : DsCallValue → DsReplyValue) (number : call.xid ≡ xid) (heard : Heard call replies) where
+  module _ (now : ℕ) (m : MdsValue) (xid : ℕ) (call : AwaitedCall) (replies : DsCallValue → DsReplyValue) (number : call.xid ≡ xid) (heard : Heard call replies)
+      (few : (c : DsCallValue) → GivesFew (replies c)) where
     server_walk : (server own uid : ℕ) (c : DsCallValue) → call.sent ≡ CallsServer server own uid c → (caller : Waiter) → call.caller ≡ caller → is_awaited_by m call.node call.xid caller ≡ true
         → Keeps I m (server_answered now m server xid c (replies c) caller)
     server_walk server own uid c sent (ForFile file) caller out =
@@ -360,7 +411,7 @@ module _ (I : MdsValue → List Entry → List MdsSend → Type 0) (Heard : Hear
         (ap (is_file_out call.node call.xid) (sym at) ∙ still_out m file server c answer call.node call.xid (served m file) refl out) at))))
     server_walk server own uid c sent (ForRead file) caller out =
         becomes_keeps I m (sees_size m file server c (replies c)) (steps_read now (sees_size m file server c (replies c)) file xid (λ r. read.after_reply r xid (replies c))) (sees m file server c (replies c))
-        (read_steps now (sees_size m file server c (replies c)) file xid (λ r. read.after_reply r xid (replies c)))
+        (read_steps now (sees_size m file server c (replies c)) file xid (λ r. read.after_reply r xid (replies c)) (λ r. reply_steps_few r xid (replies c) (few c)))
     server_walk server own uid c sent (ForWrite file) caller out =
         let reply : DsReplyValue = replies c in
         let n : MdsValue = sees_size m file server c reply in
@@ -383,25 +434,25 @@ module _ (I : MdsValue → List Entry → List MdsSend → Type 0) (Heard : Hear
   awaits_still m calls node xid (ForWrite file) is = is
   awaits_still m calls node xid ForRecall is = is
 
-  found_walk : (now : ℕ) (m : MdsValue) (node : NodeId) (xid : ℕ) (replies : DsCallValue → DsReplyValue) (status : ℕ) → Hearing I Heard node xid replies → (o : Option AwaitedCall) → find (is_call_to node xid) m.calls ≡ o
+  found_walk : (now : ℕ) (m : MdsValue) (node : NodeId) (xid : ℕ) (replies : DsCallValue → DsReplyValue) (status : ℕ) → Hearing I Heard node xid replies → ((c : DsCallValue) → GivesFew (replies c)) → (o : Option AwaitedCall) → find (is_call_to node xid) m.calls ≡ o
       → Keeps I m (answers_found now m node xid replies status o)
-  found_walk now m node xid replies status hearing None found = same I m
-  found_walk now m node xid replies status hearing (Some call) found =
+  found_walk now m node xid replies status hearing few None found = same I m
+  found_walk now m node xid replies status hearing few (Some call) found =
       let n : MdsValue = record m { calls = without_call node xid m.calls } in
       let its : is_call_to node xid call ≡ true = found_passes (is_call_to node xid) m.calls call found in
       cond_both (is_awaited m call) (answered_as now n xid replies status call.caller call.sent) (sends_none n) (λ (s : MdsStep). Keeps I m s)
       (λ is. λ es ss i.
       becomes_keeps I m n (answered_as now n xid replies status call.caller call.sent) (k.forgets m node xid)
-      (answered_walk now n xid call replies (eqb-true call.xid xid (and_parts (is_node call.node node) (call.xid == xid) its).1) (hearing m es ss i call (found_in (is_call_to node xid) m.calls call found) its) status call.sent refl
+      (answered_walk now n xid call replies (eqb-true call.xid xid (and_parts (is_node call.node node) (call.xid == xid) its).1) (hearing m es ss i call (found_in (is_call_to node xid) m.calls call found) its) few status call.sent refl
       (awaits_still m (without_call node xid m.calls) call.node call.xid call.caller is))
       es ss i)
       (λ off. none_keeps I m n (k.forgets m node xid))
 
-  pub answer_walk : (now : ℕ) (m : MdsValue) (node : NodeId) (xid : ℕ) (replies : DsCallValue → DsReplyValue) (status : ℕ) → Hearing I Heard node xid replies → Keeps I m (takes_answer now m node xid replies status)
-  answer_walk now m node xid replies status hearing = found_walk now m node xid replies status hearing (find (is_call_to node xid) m.calls) refl
+  pub answer_walk : (now : ℕ) (m : MdsValue) (node : NodeId) (xid : ℕ) (replies : DsCallValue → DsReplyValue) (status : ℕ) → Hearing I Heard node xid replies → ((c : DsCallValue) → GivesFew (replies c)) → Keeps I m (takes_answer now m node xid replies status)
+  answer_walk now m node xid replies status hearing few = found_walk now m node xid replies status hearing few (find (is_call_to node xid) m.calls) refl
 
   pub timeout_walk : (now : ℕ) (m : MdsValue) (xid : ℕ) (caller : Waiter) → Keeps I m (timed_out_for now m xid caller)
   timeout_walk now m xid (ForFile file) = silent_keeps I m _ (takes_by I Heard W k m file (TimesOut xid) (λ s. k.timeouts m file s xid))
-  timeout_walk now m xid (ForRead file) = read_steps now m file xid (λ r. read.after_timeout r xid)
+  timeout_walk now m xid (ForRead file) = read_steps now m file xid (λ r. read.after_timeout r xid) (λ r. late_steps_few r xid r.stage)
   timeout_walk now m xid (ForWrite file) = write_steps now m file (λ w. writer.after_timeout w xid) (λ w. timeout_kept w xid)
   timeout_walk now m xid ForRecall = recalls_walk m (recalls.after_timeout m.recalls xid)

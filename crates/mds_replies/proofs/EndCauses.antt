@@ -31,7 +31,7 @@ use Rattle.cluster_model.specs.Fences.{is_out, is_over, odd_status, FenceState, 
 use Rattle.cluster_model.specs.Phases.{is_last_live, with_phase, is_clean, unreported, left_entries, end_entries, PhaseStep, freed, made, granted, revoked, mirror_left, fence_entries, fence_done, has_targets, swapped_entries, resilvered}
 use Rattle.copy_rule.specs.declared.copy_target.CopyStep.{CopyStep}
 use Rattle.copy_rule.specs.declared.copy_target.CopyStep.TheVariants as copy_step
-use Rattle.copy_rule.specs.Copies.{CopyState, CopyCall, has_outcome, swaps_of}
+use Rattle.copy_rule.specs.Copies.{CopyState, has_outcome, swaps_of}
 use Rattle.copy_rule.specs.Copies as copy
 use Rattle.file_rule.specs.declared.creation.Creation.{Creation}
 use Rattle.file_rule.specs.declared.fresh.Fresh.{Fresh}

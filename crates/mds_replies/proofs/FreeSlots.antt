@@ -75,7 +75,7 @@ free_stays s move none session n free =
 pub free_begins : (s : SessionsState) (request : Sequence) (now : ℕ) → request.slot ≡ 0 → (session : SessionId) (n : ℕ) → FreeFor (client_in session) (number_in session) n (client_in request.session) (number_in request.session) (slot_begun request.sequence)
     → FreeIn s session n → FreeIn (after_request s request now) session n
 free_begins s request now at session n its free =
-    request_so (FreeFor (client_in session) (number_in session) n) (λ client number. λ its so same. refl) (finished_free (client_in session) (number_in session) n) s request now at its free
+    request_so (FreeFor (client_in session) (number_in session) n) s request now at its free
 
 -- ---- each session has a first slot
 

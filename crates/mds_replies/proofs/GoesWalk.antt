@@ -43,6 +43,7 @@ use Rattle.nfs4_types.specs.declared.sequence.Sequence.{Sequence}
 use Rattle.nfs4_session.specs.TableLaw.{Bind}
 use Rattle.mds_laws.proofs.Requested.{behind_request, behind_begin, KeepsBegin}
 use Rattle.mds_laws.proofs.Keeping.{Becomes, Keeps, KeepsBehind, HeardOf, HeardAny, Hearing, HearsSo, hears_any, then_keeps, none_keeps, same, becomes_keeps, silent_keeps, then_behind, behind_then, enters_behind, moved}
+use Rattle.mds_replies.proofs.FewBytes.{reply_few}
 use Rattle.mds_replies.proofs.HolderCases.{Cases, RunCases, GivesAnswers, WaitCases, OutCases, out_of}
 use Rattle.mds_replies.proofs.WaitingCompounds.{set_same}
 use Rattle.mds_laws.proofs.Lists.{In, found_in}
@@ -174,7 +175,7 @@ module _ (I : MdsValue → List Entry → List MdsSend → Type 0) (Heard : Hear
   incoming_walk now m node PassedOver hearing replied run = same I m
   incoming_walk now m node (IsReply reply) hearing replied run =
       then_keeps I m (takes_answer now m node reply.xid (λ call. reply_of_call call reply) (recall_status reply.stat reply.results)) (calls_out [])
-      (answer_walk I Heard W k g now m node reply.xid (λ call. reply_of_call call reply) (recall_status reply.stat reply.results) (hearing reply refl)) (λ n. out_walk I (out_of I Heard W k) [] n)
+      (answer_walk I Heard W k g now m node reply.xid (λ call. reply_of_call call reply) (recall_status reply.stat reply.results) (hearing reply refl) (λ call. reply_few call reply)) (λ n. out_walk I (out_of I Heard W k) [] n)
   incoming_walk now m node (IsAnswered bytes) hearing replied run =
       λ es ss i. subst (λ (l : List Entry). I m l (ss ++ Answers node bytes ∷ [])) (sym (append-nil es)) (replied bytes refl es ss i)
   incoming_walk now m node (IsCompound xid v) hearing replied run =

@@ -17,11 +17,14 @@ use Rattle.cluster_model.specs.declared.entry.Entry.{Entry}
 use Rattle.cluster_model.specs.DsCalls.{DsCallValue, DsReplyValue}
 use Rattle.cluster_model.specs.declared.ds_call.Shown.{Shown}
 use Rattle.file_rule.specs.FilePhases.{FileInput, AsksLayout, OwnWrite, Recall as ToRecall, Returns, Revokes, OwnEnds, Resilver, Answers as IsAnswer, TimesOut, Ticks, Sees, CallOut, call_out, is_outstanding, are_spent}
-use Rattle.mirror_writer.specs.Writers.{WriterValue, WriterSends}
+use Rattle.mirror_writer.specs.Writers.{WriterSends}
 use Rattle.mirror_writer.specs.Writers as writer
 use Rattle.nfs4_types.specs.declared.stateid.Stateid.{Stateid}
 use Rattle.nfs4_session.specs.declared.back.BackCall.{BackCall}
 use Rattle.nfs4_types.specs.declared.ids.SessionId.{SessionId}
+use Rattle.nfs4_types.specs.declared.status.Stat4.TheVariants as stat
+use Rattle.nfs4_session.specs.declared.begin.SlotPass.{SlotPass}
+use Rattle.mds_rule.specs.OpSteps.{refused_as}
 use Rattle.nfs4_session.specs.TableLaw.{TableMove, ExchangeId, CreateSession, BeginRequest, FinishRequest, Bind, CallBack, DestroySession, DestroyClient, Expire}
 use Rattle.recall.specs.declared.recall.Recall.{Recall}
 use Rattle.open_state.specs.Opens.{OpensValue}
@@ -36,6 +39,7 @@ use Rattle.mds_rule.specs.Answers.{server_number, fileid_of, attributes_shown, o
 use Rattle.mds_rule.specs.Goes.{xid_after, calls_as, calls_server, has_xids}
 use Rattle.mds_laws.specs.MdsRunLaws.{IsUidOf}
 use Rattle.mds_laws.proofs.Lists.{In}
+use Rattle.mds_replies.proofs.LegibleResults.{IsLegible}
 use Rattle.mds_laws.proofs.Keeping.{is_note, is_write_call, is_read_call, IsWriteOf, Becomes, Enters, Keeps, IsNoRequest, moved, TakesInput, HeardOf}
 
 -- an input that neither an answer nor a timeout brings, and that is no return and no end of an own write
@@ -71,13 +75,13 @@ NoneNew old new = (p : ℕ × NodeId) → In p new → In p old
 abbrev pub AnyCompound : CompoundRun → Type 0
 AnyCompound c = Unit {0}
 
--- a call of the table of clients that is no request and destroys no session
+-- a call of the table of clients that begins no request and ends none, and destroys no session
 abbrev pub IsPlainMove : TableMove → Type 0
 IsPlainMove (BeginRequest request now) = ⊥
 IsPlainMove (DestroySession session) = ⊥
 IsPlainMove (ExchangeId verifier owner now) = Unit {0}
 IsPlainMove (CreateSession client sequence program node now) = Unit {0}
-IsPlainMove (FinishRequest pass reply) = Unit {0}
+IsPlainMove (FinishRequest pass reply) = ⊥
 IsPlainMove (Bind session node) = Unit {0}
 IsPlainMove (CallBack client) = Unit {0}
 IsPlainMove (DestroyClient client) = Unit {0}
@@ -93,6 +97,40 @@ plain_no_request (Bind session node) is = tt
 plain_no_request (CallBack client) is = tt
 plain_no_request (DestroyClient client) is = tt
 plain_no_request (Expire now) is = tt
+
+-- a call of the table that begins no request and ends none
+abbrev pub IsNoTurn : TableMove → Type 0
+IsNoTurn (BeginRequest request now) = ⊥
+IsNoTurn (FinishRequest pass reply) = ⊥
+IsNoTurn (DestroySession session) = Unit {0}
+IsNoTurn (ExchangeId verifier owner now) = Unit {0}
+IsNoTurn (CreateSession client sequence program node now) = Unit {0}
+IsNoTurn (Bind session node) = Unit {0}
+IsNoTurn (CallBack client) = Unit {0}
+IsNoTurn (DestroyClient client) = Unit {0}
+IsNoTurn (Expire now) = Unit {0}
+
+pub plain_no_turn : (move : TableMove) → IsPlainMove move → IsNoTurn move
+plain_no_turn (BeginRequest request now) is = is
+plain_no_turn (FinishRequest pass reply) is = is
+plain_no_turn (DestroySession session) is = tt
+plain_no_turn (ExchangeId verifier owner now) is = tt
+plain_no_turn (CreateSession client sequence program node now) is = tt
+plain_no_turn (Bind session node) is = tt
+plain_no_turn (CallBack client) is = tt
+plain_no_turn (DestroyClient client) is = tt
+plain_no_turn (Expire now) is = tt
+
+pub no_turn_no_request : (move : TableMove) → IsNoTurn move → IsNoRequest move
+no_turn_no_request (BeginRequest request now) none = none
+no_turn_no_request (FinishRequest pass reply) none = tt
+no_turn_no_request (DestroySession session) none = tt
+no_turn_no_request (ExchangeId verifier owner now) none = tt
+no_turn_no_request (CreateSession client sequence program node now) none = tt
+no_turn_no_request (Bind session node) none = tt
+no_turn_no_request (CallBack client) none = tt
+no_turn_no_request (DestroyClient client) none = tt
+no_turn_no_request (Expire now) none = tt
 
 -- ---- the cases
 
@@ -147,18 +185,20 @@ pub record Cases (I : MdsValue → List Entry → List MdsSend → Type 0) (Hear
 abbrev pub GivesAnswers : (MdsValue → List Entry → List MdsSend → Type 0) → Type 0
 GivesAnswers I = (m : MdsValue) (node : NodeId) (bytes : List ℕ) (reply : RpcReply) → bytes ≡ reply_bytes reply → (es : List Entry) (ss : List MdsSend) → I m es ss → I m es (ss ++ Answers node bytes ∷ [])
 
--- where compounds are run: what they reply, which is of success, the returns in them, who is confirmed, and the sessions that they destroy
+-- where compounds are run: what they reply, which is of success, what the slot keeps of it, the returns in them, who is confirmed, and the
+-- sessions that they destroy
 pub record RunCases (I : MdsValue → List Entry → List MdsSend → Type 0) (W : CompoundRun → Type 0) : Type 0 where
   pub replies : (m : MdsValue) (node : NodeId) (xid : ℕ) (results : List ℕ) (es : List Entry) (ss : List MdsSend) → I m es ss → I m es (ss ++ Replies node (success_reply xid results) ∷ [])
+  pub finishes : (m : MdsValue) (pass : SlotPass) (bytes : List ℕ) → Becomes I m (moved m (FinishRequest pass bytes))
   pub returns : (m : MdsValue) (file : FileId) (s : ServedFile) (n : ℕ) (cred : Cred) (errors : List (Value ff_ioerr4)) → TakesInput I m file s (Returns n cred (report_of errors s.file.layout.live))
   pub confirms : (m : MdsValue) (client : ℕ) (node : NodeId) → Becomes I m (confirms client node m)
   pub destroys : (m : MdsValue) (session : SessionId) → Becomes I m (moved m (DestroySession session))
   pub any : (c : CompoundRun) → W c
 
--- how a compound that waited goes on
+-- how a compound that waited goes on, with a result that is read back
 pub record WaitCases (I : MdsValue → List Entry → List MdsSend → Type 0) (W : CompoundRun → Type 0) : Type 0 where
-  pub done : (now : ℕ) (m : MdsValue) (c : CompoundRun) (result : Value resop4) → W c → Keeps I m (resumes now (is_done_as m c result) c.ops)
-  pub failed : (now : ℕ) (m : MdsValue) (c : CompoundRun) (number : ℕ) → W c → Keeps I m (resumes now (has_failed_as m c number) c.ops)
+  pub done : (now : ℕ) (m : MdsValue) (c : CompoundRun) (result : Value resop4) → IsLegible result → W c → Keeps I m (resumes now (is_done_as m c result) c.ops)
+  pub failed : (now : ℕ) (m : MdsValue) (c : CompoundRun) (number : ℕ) → IsLegible (refused_as number stat.Io) → W c → Keeps I m (resumes now (has_failed_as m c number) c.ops)
 
 -- ---- the calls that go out alone
 

@@ -14,17 +14,16 @@ use Rattle.nfs4_session.specs.Slots.{SlotState, SlotReply, NoRequest, InProgress
 use Rattle.nfs4_session.specs.Clients.{client_in, number_in}
 use Rattle.table_slots.specs.TableSlots.{is_of_session}
 use Rattle.mds_calls.specs.declared.reply.SlotReport.{SlotReport}
-use Rattle.mds_calls.specs.declared.reply.SlotReport.TheVariants.{Taken, Uncached, Delayed, Unknown}
 use Rattle.mds_calls.specs.FittingCalls.{FitsRequest}
 use Rattle.mds_calls.specs.MdsCalls.{SlotCallValue, OnSlot, ask_on_slot}
 use Rattle.mds_calls.specs.MdsCalls as slot
 use Rattle.mds_calls.specs.MdsReplies.{MdsAnswerValue, Refused, MdsReplyValue, slot_status, slot_told, results_of_ask, reply_of_ask}
 use Rattle.mds_rule.specs.OpSteps.{refused_as}
 use Rattle.mds_laws.specs.MdsRuns.{MdsEvent}
-use Rattle.mds_replies.specs.AnsweredRequests.{TookEffectAmong, IsRefusedWith, HasNoSession, IsOutOfOrder, IsUnread}
+use Rattle.mds_replies.specs.AnsweredRequests.{TookEffectAmong, IsRefusedWith, HasNoSession, IsOutOfOrder}
 use Rattle.mds_replies.proofs.ReplyForms.{IsRefusal, reply_fits}
 use Rattle.mds_replies.proofs.ReplySent.{read_as}
-use Rattle.mds_replies.proofs.SlotHistories.{IsTaken, MeansKept, SlotBy, SlotSo, ByReport, StandsWith}
+use Rattle.mds_replies.proofs.SlotHistories.{get_event, event_of_get, IsTaken, KeptSo, SlotBy, SlotSo, ByReport, StandsWith}
 
 -- ---- how a refusal of a SEQUENCE is read
 
@@ -49,7 +48,7 @@ module _ (servers : List AddressValue) (mirrors : ℕ) (past : List MdsEvent) (F
   -- ---- what is kept
 
   abbrev Kept : ℕ → ℕ → ℕ → List ℕ → Type 0
-  Kept client number sequence bytes = (t : IsTaken servers mirrors past client number sequence) × MeansKept servers mirrors past client number sequence t bytes
+  Kept client number sequence bytes = (t : IsTaken servers mirrors past client number sequence) × KeptSo servers mirrors past client number sequence t bytes
 
   abbrev kept_bytes : SlotAnswer → List ℕ
   kept_bytes TakesEffect = []
@@ -74,12 +73,15 @@ module _ (servers : List AddressValue) (mirrors : ℕ) (past : List MdsEvent) (F
       by_test true at its = subst (λ (n : ℕ). Kept client number n bytes) (sym (eqb-true sequence s.last at)) (repeats_again client number s.last s.reply bytes p its)
       by_test false at its = absurd (not_other ((sequence == sequence_after s.last) && not (is_in_progress s.reply)) bytes its)
 
+  not_get : false ≡ true → ⊥
+  not_get is = absurd cc
+
   -- ---- why it is refused
 
   pub data RefusedAs (client number sequence : ℕ) (status : Stat4) : Type 0 where
     AsMisordered : status ≡ stat.SeqMisordered → RefusedAs client number sequence status
     AsDelayed : status ≡ stat.Delay → RefusedAs client number sequence status
-    AsUncached : status ≡ stat.RetryUncachedRep → IsTaken servers mirrors past client number sequence → RefusedAs client number sequence status
+    AsUncached : status ≡ stat.RetryUncachedRep → (t : IsTaken servers mirrors past client number sequence) → get_event t.f ≡ false → RefusedAs client number sequence status
 
   abbrev status_in : SlotAnswer → Stat4
   status_in TakesEffect = stat.Ok
@@ -90,7 +92,7 @@ module _ (servers : List AddressValue) (mirrors : ℕ) (past : List MdsEvent) (F
   refused_again client number last NoRequest status p is = AsMisordered (ap status_in is)
   refused_again client number last InProgress status p is = AsDelayed (ap status_in is)
   refused_again client number last (Cached reply) status p is = absurd cc
-  refused_again client number last NotKept status p is = AsUncached (ap status_in is) p
+  refused_again client number last NotKept status p is = AsUncached (ap status_in is) p.0 p.1
 
   misordered_or : (client number sequence : ℕ) (b : Bool) (status : Stat4) → Refuses status ≡ cond b TakesEffect (Refuses stat.SeqMisordered) → RefusedAs client number sequence status
   misordered_or client number sequence true status is = absurd cc
@@ -118,10 +120,8 @@ module _ (servers : List AddressValue) (mirrors : ℕ) (past : List MdsEvent) (F
 
   pub stands_kept : (before : List MdsEvent) (session : SessionId) (sequence xid : ℕ) (bytes : List ℕ) (c : SlotCallValue) → FitsRequest (OnSlot session sequence c) → Kept (client_in session) (number_in session) sequence bytes → F session sequence
       → StandsWith servers mirrors F past before session sequence c (reply_of_ask (ask_on_slot c) (success_reply xid bytes))
-  stands_kept before session sequence xid bytes c fits k free = by_report (reply_of_ask (ask_on_slot c) (success_reply xid bytes)).slot
-    where
-      by_report : (r : SlotReport) → ByReport servers mirrors F past before session sequence c (reply_of_ask (ask_on_slot c) (success_reply xid bytes)).answer r
-      by_report Taken = (
+  stands_kept before session sequence xid bytes c fits k free =
+      subst (λ (r : SlotReport). ByReport servers mirrors F past before session sequence c (reply_of_ask (ask_on_slot c) (success_reply xid bytes)).answer r) (sym (k.1.1 c xid)) (
         record {
           early = k.0.early;
           f = k.0.f;
@@ -131,12 +131,9 @@ module _ (servers : List AddressValue) (mirrors : ℕ) (past : List MdsEvent) (F
           its = of_session session k.0.asked k.0.its_client k.0.its_number;
           took = k.0.took;
         },
-        λ name came. k.1 name session sequence c came fits,
+        λ name came. k.1.0 name session sequence c came fits,
         free,
       )
-      by_report Uncached = (among session sequence k.0, free)
-      by_report Delayed = tt
-      by_report Unknown = IsUnread (among session sequence k.0)
 
   abbrev Says : List MdsEvent → SessionId → ℕ → SlotCallValue → Stat4 → Type 0
   Says before session sequence c status = StandsWith servers mirrors F past before session sequence c (record { slot = slot_status (stat4_number status); answer = Refused (stat4_number status) })
@@ -154,6 +151,7 @@ module _ (servers : List AddressValue) (mirrors : ℕ) (past : List MdsEvent) (F
   pub stands_refused : (before : List MdsEvent) (session : SessionId) (sequence xid : ℕ) (c : SlotCallValue) (status : Stat4) → RefusedAs (client_in session) (number_in session) sequence status → IsRefusedWith servers mirrors before session sequence status
       → (status ≡ stat.RetryUncachedRep → F session sequence)
       → StandsWith servers mirrors F past before session sequence c (reply_of_ask (ask_on_slot c) (success_reply xid (spelling compound4_res (stat4_number status, ([], refused_as 53 status ∷ [])))))
+  unfolding among
   stands_refused before session sequence xid c status (AsMisordered is) w free = read_refusal before session sequence xid c stat.SeqMisordered status is (record { some = refl; its_number = refl; fits = refl }) (IsOutOfOrder refl (subst (λ (s : Stat4). IsRefusedWith servers mirrors before session sequence s) is w))
   stands_refused before session sequence xid c status (AsDelayed is) w free = read_refusal before session sequence xid c stat.Delay status is (record { some = refl; its_number = refl; fits = refl }) tt
-  stands_refused before session sequence xid c status (AsUncached is t) w free = read_refusal before session sequence xid c stat.RetryUncachedRep status is (record { some = refl; its_number = refl; fits = refl }) (among session sequence t, free is)
+  stands_refused before session sequence xid c status (AsUncached is t other) w free = read_refusal before session sequence xid c stat.RetryUncachedRep status is (record { some = refl; its_number = refl; fits = refl }) (among session sequence t, λ name file came. absurd (not_get (sym other ∙ event_of_get t.f t.took.node t.took.xid name session sequence file came)), free is)

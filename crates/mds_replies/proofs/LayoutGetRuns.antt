@@ -1,9 +1,10 @@
 -- What a client's LAYOUTGET that takes effect comes to: it is refused, or the layout of the file is granted to the client.
-use Rattle.std.proofs.Common.{◌≡◌, ◌≤◌, ◌<◌, ℕ, Bool, true, false, List, [], ◌∷◌, ◌++◌, length, Option, Some, None, refl, sym, ap, subst, ◌∙◌, arith, inl, inr, ◌⊎◌, length-append}
+use Rattle.std.proofs.Common.{◌≡◌, ◌≤◌, ◌<◌, ℕ, ◌+◌, Bool, true, false, List, [], ◌∷◌, ◌++◌, length, Option, Some, None, refl, sym, ap, subst, ◌∙◌, arith, inl, inr, ◌⊎◌, length-append}
 use Rattle.std.specs.Prelude.{◌==◌, ◌^◌}
 use Rattle.std.proofs.lemmas.Bool.{cond_both, ltb-false}
 use Rattle.ff_xdr.specs.Arms.{arm}
-use Rattle.ff_xdr.specs.Form.{Value, Fits, word}
+use Rattle.std.specs.List.{flat_map}
+use Rattle.ff_xdr.specs.Form.{Value, Fits, word, spelling}
 use Rattle.ff_xdr.proofs.Fields.{length-word}
 use Rattle.cluster_model.specs.declared.ids.NodeId.{NodeId}
 use Rattle.cluster_model.specs.declared.ids.NodeId.TheVariants.{Mds, Server, Client}
@@ -31,6 +32,8 @@ use Rattle.mds_operations.specs.declared.layout_get.LayoutGetFound.{LayoutGetFou
 use Rattle.mds_operations.specs.Orders.{is_root, file_of, refusal}
 use Rattle.mds_operations.specs.LayoutGets.{layout_get_order}
 use Rattle.mds_operations.specs.PutFh.{object_numbered}
+use Rattle.mds_calls.specs.declared.reply.SlotReport.TheVariants.{Taken}
+use Rattle.mds_calls.specs.MdsReplies.{slot_answer_of}
 use Rattle.mds_rule.specs.MdsStates.{CompoundRun, ServedFile, MdsValue, MdsStep, sends_none, confirmed_node, served, with_served}
 use Rattle.mds_rule.specs.ServedFiles.{has_fresh, takes_input, asks_back}
 use Rattle.mds_rule.specs.OpSteps.{OpStep, refuses, refused_as, refused_or}
@@ -63,14 +66,18 @@ pub record HasGot (m n : MdsValue) (client : ℕ) (file : FileId) (entries : Lis
   pub seqid : its.seqid < 4294967296
   pub whence : IsGrantedNow entries file its.file.layout.cred.0 ⊎ HasPeriod m file client its.file.layout.cred.0
 
+-- few bytes stand behind the first result
+abbrev pub IsShort : Value resop4 → List (Value resop4) → Type 0
+IsShort first results = length (flat_map (λ (v : Value resop4). spelling resop4 v) results) ≤ length (spelling resop4 first) + 64
+
 pub data GetEnds (m : MdsValue) (node : NodeId) (xid : ℕ) (pass : SlotPass) (first : Value resop4) (file : FileId) (step : MdsStep) : Type 0 where
-  IsRefused : (n : MdsValue) (results : List (Value resop4)) (status : Stat4) → HasEnded m n node xid pass results status step → (stat4_number status == 0) ≡ false → GetEnds m node xid pass first file step
+  IsRefused : (n : MdsValue) (results : List (Value resop4)) (status : Stat4) → HasEnded m n node xid pass results status step → (stat4_number status == 0) ≡ false → IsShort first results → GetEnds m node xid pass first file step
   Grants : (n : MdsValue) (got : HasGot m n (client_in pass.session) file step.entries)
       → HasEnded m n node xid pass (first ∷ arm 22 resop4 (inl tt) ∷ layout_of_file file got.its ∷ []) stat.Ok step → GetEnds m node xid pass first file step
 
 -- ---- forms
 
-words_length : (a b c : ℕ) → length (three_words a b c) ≡ 12
+pub words_length : (a b c : ℕ) → length (three_words a b c) ≡ 12
 words_length a b c =
     let outer = length-append (word a) (word b ++ word c) in
     let inner = length-append (word b) (word c) in
@@ -80,6 +87,31 @@ layout_fits : (file : FileId) (s : ServedFile) → s.seqid < 4294967296 → layo
 layout_fits file s few short =
     let body = body_short s.file.layout.cred.0 s.file.layout.live (omega (arith, short)) in
     (tt, ((omega (arith, few), words_length file.0 s.file.layout.cred.0 0), (omega arith, ((omega arith, (omega arith, (omega arith, (omega arith, body)))), tt))))
+
+-- ---- sizes
+
+put_size : length (spelling resop4 (arm 22 resop4 (inl tt))) ≡ 8
+unfolding word
+put_size = refl
+
+later_size : length (spelling resop4 (arm 50 resop4 (inr (inl false)))) ≡ 12
+unfolding word
+later_size = refl
+
+-- two words
+refused_size : (number status : ℕ) → length (word number ++ word status) ≡ 8
+refused_size number status = let both = length-append (word number) (word status) in let a = length-word number in let b = length-word status in omega (arith, both, a, b)
+
+two_short : (first x : Value resop4) (k : ℕ) → length (spelling resop4 x) ≡ k → k ≤ 64 → IsShort first (first ∷ x ∷ [])
+two_short first x k is few =
+    let outer = length-append (spelling resop4 first) (spelling resop4 x ++ []) in
+    let inner = length-append (spelling resop4 x) [] in omega (arith, outer, inner, is, few)
+
+three_short : (first x y : Value resop4) (k j : ℕ) → length (spelling resop4 x) ≡ k → length (spelling resop4 y) ≡ j → k + j ≤ 64 → IsShort first (first ∷ x ∷ y ∷ [])
+three_short first x y k j is its few =
+    let outer = length-append (spelling resop4 first) (spelling resop4 x ++ (spelling resop4 y ++ [])) in
+    let middle = length-append (spelling resop4 x) (spelling resop4 y ++ []) in
+    let inner = length-append (spelling resop4 y) [] in omega (arith, outer, middle, inner, is, its, few)
 
 -- LAYOUTTRYLATER is given in a result of its own
 abbrev IsOther : Stat4 → Type 0
@@ -121,7 +153,7 @@ get_statuses o args found status is =
 
 -- ---- the LAYOUTGET
 
-module _ (now : ℕ) (m : MdsValue) (node : NodeId) (xid : ℕ) (pass : SlotPass) (kept : Bool) (first : Value resop4) (its_first : Fits resop4 first) (stateid : Stateid) (object : Object) (file : FileId)
+module _ (now : ℕ) (m : MdsValue) (node : NodeId) (xid : ℕ) (pass : SlotPass) (kept : Bool) (first : Value resop4) (its_first : Fits resop4 first) (took_first : slot_answer_of (first ∷ []) ≡ Taken) (stateid : Stateid) (object : Object) (file : FileId)
     (its_file : is_root (Some object) ≡ false → file_or_none (file_of (Some object)) ≡ file) (fresh : has_fresh m.fresh ≡ true) (holds : (s : ServedFile) → served m (file_or_none (file_of (Some object))) ≡ Some s → HolderHolds s)
     (seqids : (s : ServedFile) → served m (file_or_none (file_of (Some object))) ≡ Some s → s.seqid < 4294967296) where
   abbrev C : CompoundRun
@@ -143,7 +175,8 @@ module _ (now : ℕ) (m : MdsValue) (node : NodeId) (xid : ℕ) (pass : SlotPass
   refused_then : (n : MdsValue) (es : List Entry) (status : Stat4) → SameTable m n → IsRefusal 50 status → Then (Rattle.mds_rule.specs.OpSteps.Ends n es (run_with node xid pass kept [] (first ∷ arm 22 resop4 (inl tt) ∷ refused_as 50 status ∷ []) (Some object)) status)
   refused_then n es status same r =
       IsRefused n (first ∷ arm 22 resop4 (inl tt) ∷ refused_as 50 status ∷ []) status
-      (record { mds = refl; sends = refl; same = same; fits = reply_fits (stat4_number status) (first ∷ arm 22 resop4 (inl tt) ∷ refused_as 50 status ∷ []) r.its_number (omega arith) (its_first, (tt, (r.fits, tt))) }) r.some
+      (record { mds = refl; sends = refl; same = same; taken = took_first; fits = reply_fits (stat4_number status) (first ∷ arm 22 resop4 (inl tt) ∷ refused_as 50 status ∷ []) r.its_number (omega arith) (its_first, (tt, (r.fits, tt))) }) r.some
+      (three_short first (arm 22 resop4 (inl tt)) (refused_as 50 status) 8 8 put_size (refused_size 50 (stat4_number status)) (omega arith))
 
   later_then : (p : Option Phase) → Then (later_by m C now p)
   later_then None = refused_then m [] stat.LayoutUnavailable (same_table m) (record { some = refl; its_number = refl; fits = refl })
@@ -153,8 +186,9 @@ module _ (now : ℕ) (m : MdsValue) (node : NodeId) (xid : ℕ) (pass : SlotPass
         mds = refl;
         sends = refl;
         same = asks_same m F now (served m F);
+        taken = took_first;
         fits = reply_fits 10058 (first ∷ arm 22 resop4 (inl tt) ∷ arm 50 resop4 (inr (inl false)) ∷ []) refl (omega arith) (its_first, (tt, (tt, tt)));
-      }) refl
+      }) refl (three_short first (arm 22 resop4 (inl tt)) (arm 50 resop4 (inr (inl false))) 8 12 put_size later_size (omega arith))
 
   -- a grant
   granted_then : (x : MdsStep) (t : ServedFile) → SameTable m x.mds → served x.mds F ≡ Some t → (its : ServedFile) → its.file ≡ t.file → (got : F ≡ file → HasGot m (with_served x.mds F its) client file (x.entries ++ []))
@@ -170,6 +204,7 @@ module _ (now : ℕ) (m : MdsValue) (node : NodeId) (xid : ℕ) (pass : SlotPass
         mds = refl;
         sends = refl;
         same = record { sessions = same.sessions; calls = same.calls };
+        taken = took_first;
         fits = reply_fits 0 (first ∷ arm 22 resop4 (inl tt) ∷ layout_of_file F its ∷ []) refl (omega arith)
             (its_first, (tt, (layout_fits F its (subst (λ (s : ServedFile). s.seqid < 4294967296) (same_its one) g.seqid) (subst (λ (s : ServedFile). layout_length s.file.layout.cred.0 s.file.layout.live ≤ 4096) (same_its one) g.short), tt)));
       }))
@@ -247,13 +282,14 @@ module _ (now : ℕ) (m : MdsValue) (node : NodeId) (xid : ℕ) (pass : SlotPass
 
 -- ---- the whole compound
 
-module _ (now : ℕ) (m : MdsValue) (node : NodeId) (xid : ℕ) (pass : SlotPass) (kept : Bool) (ops : List (Value argop4)) (first : Value resop4) (its_first : Fits resop4 first) (file : FileId) (small : file.0 < 2 ^ 64) (stateid : Stateid)
+module _ (now : ℕ) (m : MdsValue) (node : NodeId) (xid : ℕ) (pass : SlotPass) (kept : Bool) (ops : List (Value argop4)) (first : Value resop4) (its_first : Fits resop4 first) (took_first : slot_answer_of (first ∷ []) ≡ Taken) (file : FileId) (small : file.0 < 2 ^ 64) (stateid : Stateid)
     (fresh : has_fresh m.fresh ≡ true) (holds : (f : FileId) (s : ServedFile) → served m f ≡ Some s → HolderHolds s) (seqids : (f : FileId) (s : ServedFile) → served m f ≡ Some s → s.seqid < 4294967296) where
   pub get_ends : GetEnds m node xid pass first file (runs now (put_fh_op file ∷ layout_get_op stateid ∷ []) m (run_with node xid pass kept ops (first ∷ []) None))
   get_ends =
       put_first now m node xid pass kept ops first (GetEnds m node xid pass first file)
       (λ status r other. IsRefused m (first ∷ refused_as 22 status ∷ []) status
-      (record { mds = refl; sends = refl; same = same_table m; fits = reply_fits (stat4_number status) (first ∷ refused_as 22 status ∷ []) r.its_number (omega arith) (its_first, (r.fits, tt)) }) r.some)
+      (record { mds = refl; sends = refl; same = same_table m; taken = took_first; fits = reply_fits (stat4_number status) (first ∷ refused_as 22 status ∷ []) r.its_number (omega arith) (its_first, (r.fits, tt)) }) r.some
+      (two_short first (refused_as 22 status) 8 (refused_size 22 (stat4_number status)) (omega arith)))
       file small (layout_get_op stateid)
-      (get_then now m node xid pass kept first its_first stateid (object_numbered file.0) file (numbered_file file) fresh
+      (get_then now m node xid pass kept first its_first took_first stateid (object_numbered file.0) file (numbered_file file) fresh
       (holds (file_or_none (file_of (Some (object_numbered file.0))))) (seqids (file_or_none (file_of (Some (object_numbered file.0))))))

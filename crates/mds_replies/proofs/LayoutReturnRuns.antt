@@ -36,6 +36,8 @@ use Rattle.mds_operations.specs.Stateids.{is_open_of, is_layout_of, named_by, is
 use Rattle.mds_operations.specs.Orders.{is_file, file_of, refusal}
 use Rattle.mds_operations.specs.LayoutReturns.{is_whole, layout_return_order}
 use Rattle.mds_operations.specs.PutFh.{object_numbered}
+use Rattle.mds_calls.specs.declared.reply.SlotReport.TheVariants.{Taken}
+use Rattle.mds_calls.specs.MdsReplies.{slot_answer_of}
 use Rattle.mds_rule.specs.MdsStates.{CompoundRun, ServedFile, MdsValue, MdsStep, served}
 use Rattle.mds_rule.specs.ServedFiles.{takes_input}
 use Rattle.mds_rule.specs.OpSteps.{OpStep, Ends, refuses, refused_as, refused_or}
@@ -196,7 +198,7 @@ was_on false is = absurd cc
 
 -- ---- the LAYOUTRETURN
 
-module _ (now : ℕ) (m : MdsValue) (node : NodeId) (xid : ℕ) (pass : SlotPass) (kept : Bool) (first : Value resop4) (its_first : Fits resop4 first) (stateid : Stateid) (failed : List FailedMirror) (file : FileId)
+module _ (now : ℕ) (m : MdsValue) (node : NodeId) (xid : ℕ) (pass : SlotPass) (kept : Bool) (first : Value resop4) (its_first : Fits resop4 first) (took_first : slot_answer_of (first ∷ []) ≡ Taken) (stateid : Stateid) (failed : List FailedMirror) (file : FileId)
     (fits : Fits ff_layoutreturn4 (errors_for stateid failed, []))
     (holds : (f : FileId) (s : ServedFile) → served m f ≡ Some s → HolderHolds s) (creds : (f : FileId) (s : ServedFile) → served m f ≡ Some s → IsByClient s.file.layout.phase → (65536 ≤ s.file.layout.cred.0) × (s.file.layout.cred.0 < 2 ^ 32)) where
   abbrev C : CompoundRun
@@ -221,7 +223,7 @@ module _ (now : ℕ) (m : MdsValue) (node : NodeId) (xid : ℕ) (pass : SlotPass
   refused_then : (status : Stat4) → IsRefusal 51 status → (stat4_number status ≡ 10025 → NamesNone m client file stateid) → Then (Ends m [] (run_with node xid pass kept [] (first ∷ arm 22 resop4 (inl tt) ∷ refused_as 51 status ∷ []) (Some (object_numbered file.0))) status)
   refused_then status r none =
       IsRefused m (first ∷ arm 22 resop4 (inl tt) ∷ refused_as 51 status ∷ []) status
-      (record { mds = refl; sends = refl; same = same_table m; fits = reply_fits (stat4_number status) (first ∷ arm 22 resop4 (inl tt) ∷ refused_as 51 status ∷ []) r.its_number (omega arith) (its_first, (tt, (r.fits, tt))) })
+      (record { mds = refl; sends = refl; same = same_table m; taken = took_first; fits = reply_fits (stat4_number status) (first ∷ arm 22 resop4 (inl tt) ∷ refused_as 51 status ∷ []) r.its_number (omega arith) (its_first, (tt, (r.fits, tt))) })
       r.some none refl
 
   -- a layout that the client has is named by its stateid
@@ -259,6 +261,7 @@ module _ (now : ℕ) (m : MdsValue) (node : NodeId) (xid : ℕ) (pass : SlotPass
         mds = refl;
         sends = refl;
         same = input_same m file (Returns (client_number (holder_of n.its.file.layout.phase)) n.its.file.layout.cred (report_of (errors_for stateid failed) n.its.file.layout.live)) (served m file);
+        taken = took_first;
         fits = reply_fits 0 (first ∷ arm 22 resop4 (inl tt) ∷ no_stateid ∷ []) refl (omega arith) (its_first, (tt, (tt, tt)));
       }) refl))
 
@@ -285,13 +288,13 @@ module _ (now : ℕ) (m : MdsValue) (node : NodeId) (xid : ℕ) (pass : SlotPass
 
 -- ---- the whole compound
 
-module _ (now : ℕ) (m : MdsValue) (node : NodeId) (xid : ℕ) (pass : SlotPass) (kept : Bool) (ops : List (Value argop4)) (first : Value resop4) (its_first : Fits resop4 first) (file : FileId) (small : file.0 < 2 ^ 64) (stateid : Stateid)
+module _ (now : ℕ) (m : MdsValue) (node : NodeId) (xid : ℕ) (pass : SlotPass) (kept : Bool) (ops : List (Value argop4)) (first : Value resop4) (its_first : Fits resop4 first) (took_first : slot_answer_of (first ∷ []) ≡ Taken) (file : FileId) (small : file.0 < 2 ^ 64) (stateid : Stateid)
     (failed : List FailedMirror) (fits : Fits ff_layoutreturn4 (errors_for stateid failed, [])) (holds : (f : FileId) (s : ServedFile) → served m f ≡ Some s → HolderHolds s)
     (creds : (f : FileId) (s : ServedFile) → served m f ≡ Some s → IsByClient s.file.layout.phase → (65536 ≤ s.file.layout.cred.0) × (s.file.layout.cred.0 < 2 ^ 32)) where
   pub return_ends : ReturnEnds m node xid pass first file stateid failed (runs now (put_fh_op file ∷ layout_return_op stateid failed ∷ []) m (run_with node xid pass kept ops (first ∷ []) None))
   return_ends =
       put_first now m node xid pass kept ops first (ReturnEnds m node xid pass first file stateid failed)
       (λ status r other. IsRefused m (first ∷ refused_as 22 status ∷ []) status
-      (record { mds = refl; sends = refl; same = same_table m; fits = reply_fits (stat4_number status) (first ∷ refused_as 22 status ∷ []) r.its_number (omega arith) (its_first, (r.fits, tt)) }) r.some
+      (record { mds = refl; sends = refl; same = same_table m; taken = took_first; fits = reply_fits (stat4_number status) (first ∷ refused_as 22 status ∷ []) r.its_number (omega arith) (its_first, (r.fits, tt)) }) r.some
       (λ number. absurd (eqb-false (stat4_number status) 10025 other number)) refl)
-      file small (layout_return_op stateid failed) (return_then now m node xid pass kept first its_first stateid failed file fits holds creds)
+      file small (layout_return_op stateid failed) (return_then now m node xid pass kept first its_first took_first stateid failed file fits holds creds)

@@ -2,6 +2,8 @@ pub mod NowUids
 pub mod FileEnds
 pub mod CallsLeave
 pub mod EndsOnce
+pub mod FewBytes
+pub mod LegibleResults
 pub mod HolderCases
 pub mod WaitingCompounds
 pub mod LayoutHolders
@@ -28,11 +30,16 @@ pub mod HoldersHold
 pub mod KeptFiles
 pub mod SameTables
 pub mod ReplyForms
+pub mod LegibleReplies
+pub mod CallCounts
 pub mod TakenRequests
 pub mod LayoutGetRuns
+pub mod GetSizes
+pub mod KeptReplies
 pub mod ReportedMirrors
 pub mod LayoutReturnRuns
 pub mod TakenMeans
+pub mod TakenTells
 pub mod EndCauses
 pub mod SameRuns
 pub mod Turns
@@ -43,6 +50,7 @@ pub mod OneOfAll
 pub mod FreeSlots
 pub mod SlotHistories
 pub mod JudgedRequests
+pub mod LegibleOps
 pub mod RequestRuns
 pub mod EventTables
 pub mod CountedSlots

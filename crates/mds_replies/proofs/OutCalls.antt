@@ -101,6 +101,7 @@ cases = record {
 runs : RunCases IsSo AnyCompound
 runs = record {
   replies = λ m node xid results es ss i. sends m.calls ss (Replies node (success_reply xid results)) i;
+  finishes = λ m pass bytes es ss i. i;
   returns = λ m file s n cred errors at fresh es ss i. behind m file s (phase file s.file (Returns n cred (report_of errors s.file.layout.live)) m.fresh) es ss i;
   confirms = λ m client node es ss i. i;
   destroys = λ m session es ss i. i;

@@ -277,6 +277,7 @@ module _ (file : FileId) (client uid : ℕ) where
   runs : RunCases IsSo AnyCompound
   runs = record {
     replies = λ m node xid results es ss i. sends m.files m.calls es ss (Replies node (success_reply xid results)) i;
+    finishes = λ m pass bytes es ss i. i;
     returns = λ m other s n cred errors at fresh es ss i. inputs m other s (Returns n cred (report_of errors s.file.layout.live)) at es ss i;
     confirms = λ m client node es ss i. i;
     destroys = λ m session es ss i. i;

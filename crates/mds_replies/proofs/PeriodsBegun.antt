@@ -208,6 +208,7 @@ cases = record {
 runs : RunCases IsSo AnyCompound
 runs = record {
   replies = λ m node xid results es ss i. sends m es ss (Replies node (success_reply xid results)) i;
+  finishes = λ m pass bytes es ss i. i;
   returns = λ m file s n cred errors at fresh es ss i. inputs m file s (Returns n cred (report_of errors s.file.layout.live)) (λ few. reports_leave file errors s.file.layout.live few) at es ss i;
   confirms = λ m client node es ss i. i;
   destroys = λ m session es ss i. i;

@@ -1,5 +1,5 @@
 -- Each reply that a metadata server sends answers a call that came, and stands on what the slot says of it, in every run.
-use Rattle.std.proofs.Common.{◌≡◌, ℕ, Bool, true, false, List, [], ◌∷◌, ◌++◌, Option, None, refl, sym, ap, subst, ◌∙◌, inl, inr, ◌⊎◌}
+use Rattle.std.proofs.Common.{◌≡◌, ◌≤◌, ℕ, Bool, true, false, List, [], ◌∷◌, ◌++◌, length, Option, Some, None, refl, sym, ap, subst, ◌∙◌, inl, inr, ◌⊎◌, arith}
 use Rattle.std.proofs.lemmas.List.{append_assoc, append-nil}
 use Rattle.std.proofs.lemmas.Option.{same_Some, none-some}
 use Rattle.ff_xdr.specs.Arms.{arm}
@@ -23,9 +23,10 @@ use Rattle.nfs4_session.specs.Slots.{SlotAnswer, TakesEffect, Repeats, Refuses}
 use Rattle.nfs4_session.specs.Clients.{SessionsState, client_in, number_in}
 use Rattle.nfs4_session.specs.Requests.{request_answer, after_request, pass_of, after_finish}
 use Rattle.nfs4_session.specs.Bindings.{after_binding}
-use Rattle.nfs4_session.specs.TableLaw.{TableMove, Bind, BeginRequest, table_after, KeepsTable}
+use Rattle.nfs4_session.specs.TableLaw.{TableMove, Bind, BeginRequest, FinishRequest, table_after, KeepsTable}
 use Rattle.nfs4_session.specs.Beginning.{table_begun}
 use Rattle.mds_session_calls.specs.SessionOps.{exchange_id_op, create_session_op}
+use Rattle.mds_calls.specs.declared.reply.SlotReport.TheVariants.{Taken}
 use Rattle.mds_calls.specs.FittingCalls.{FitsRequest}
 use Rattle.mds_calls.specs.MdsCalls.{SlotCallValue, MdsCallValue, ExchangeId, CreateSession, OnSlot, ask_on_slot, is_kept_reply}
 use Rattle.mds_calls.specs.MdsCalls as slot
@@ -48,18 +49,24 @@ use Rattle.mds_replies.proofs.HeldFiles.{in_behind}
 use Rattle.mds_replies.proofs.PeriodKept.{sent_with_calls, in_sent}
 use Rattle.mds_replies.proofs.OutCalls.{are_called}
 use Rattle.mds_replies.proofs.ReplySent.{run_of_call, event_is, of_calls}
-use Rattle.mds_replies.proofs.HolderCases.{AllWait}
+use Rattle.mds_replies.proofs.HolderCases.{AllWait, IsNoTurn}
 use Rattle.mds_replies.proofs.SameRuns.{Like}
 use Rattle.mds_replies.proofs.TakenRequests.{taken_mds, taken_compound, HasEnded}
 use Rattle.mds_replies.proofs.LayoutGetRuns.{GetEnds, IsRefused, Grants}
+use Rattle.mds_replies.proofs.GetSizes.{refused_short, granted_short}
 use Rattle.mds_replies.proofs.ReportedMirrors.{errors_for}
 use Rattle.mds_replies.proofs.LayoutReturnRuns.{given_step, ReturnEnds, Accepts}
 use Rattle.mds_replies.proofs.LayoutReturnRuns as giving
-use Rattle.mds_replies.proofs.TakenMeans.{one_more, after_is, first_in, get_of, return_of, effect_means}
+use Rattle.mds_replies.proofs.TakenMeans.{one_more, after_is, first_in, first_fits, get_of, return_of, effect_means}
+use Rattle.mds_replies.proofs.TakenTells.{layout_tells}
+use Rattle.mds_replies.proofs.CallCounts.{few_operations}
+use Rattle.mds_replies.proofs.LegibleResults.{IsLegible}
+use Rattle.mds_replies.proofs.LegibleReplies.{TellsTaken, tells_fitting, legible_more, tells_so}
+use Rattle.mds_replies.proofs.LegibleOps.{IsLegibleRun, run_on, calls_say}
 use Rattle.mds_replies.proofs.CallEvents.{Brings, ACall, Nothing, brings, is_return_call, FitsOps, ops_fit}
-use Rattle.mds_replies.proofs.Turns.{has_waiting, sends, own_reply, IsSo, finish_keeps, AreFine, run_keeps, alone_keeps, go_out, out_keeps, BringsNone, other_keeps}
-use Rattle.mds_replies.proofs.SlotTables.{TableSo, ClientSo, SessionSo, all_more, move_so, request_so, done_so, SlotJudged, NoSession, BySlot, judged}
-use Rattle.mds_replies.proofs.SlotHistories.{is_layout_call, event_of_call, same_ops, IsTaken, MeansKept, SlotSo, slot_more, kept_now, slot_done, WaitsSo, waits_more, effect_too, StandsWith, AnswersWith, stands_taken, waited_answers, answers_on, stands_behind, answers_request}
+use Rattle.mds_replies.proofs.Turns.{has_waiting, AnyLeft, says_any, sends, own_reply, IsSo, finish_keeps, AreFine, run_keeps, alone_keeps, go_out, out_keeps, BringsNone, other_keeps}
+use Rattle.mds_replies.proofs.SlotTables.{TableSo, ClientSo, SessionSo, all_more, turn_so, end_so, request_so, done_so, SlotJudged, NoSession, BySlot, judged}
+use Rattle.mds_replies.proofs.SlotHistories.{get_event, event_of_return, is_layout_call, event_of_call, same_ops, IsTaken, KeptSo, SlotSo, slot_more, kept_now, slot_done, WaitsSo, waits_more, effect_too, StandsWith, AnswersWith, stands_taken, waited_answers, answers_on, stands_behind, answers_request}
 use Rattle.mds_replies.proofs.FreeSlots.{IsRunTable, run_table_on, run_table, is_table, FreeIn, free_stays, finish_frees, first_so, answered_free}
 use Rattle.mds_replies.proofs.JudgedRequests.{repeats_kept, RefusedAs, refused_by, stands_kept, stands_no_session, stands_refused}
 
@@ -106,18 +113,34 @@ module _ (tables : KeepsTable) (numbered : EffectsAreNumbered) (servers : List A
   abbrev Slots : SessionsState → Type 0
   Slots s = TableSo (SlotSo servers mirrors (past ++ e ∷ [])) s
 
-  slots_move : (s : SessionsState) (move : TableMove) → IsNoRequest move → TableSo (SlotSo servers mirrors (past ++ e ∷ [])) s → TableSo (SlotSo servers mirrors (past ++ e ∷ [])) (table_after s move)
-  slots_move s move none q =
-      move_so (SlotSo servers mirrors (past ++ e ∷ [])) (λ client number. tt) (λ client number sequence reply slot p. slot_done servers mirrors (past ++ e ∷ []) client number sequence reply slot p) s move none q
+  slots_move : (s : SessionsState) (move : TableMove) → IsNoTurn move → TableSo (SlotSo servers mirrors (past ++ e ∷ [])) s → TableSo (SlotSo servers mirrors (past ++ e ∷ [])) (table_after s move)
+  slots_move s move none q = turn_so (SlotSo servers mirrors (past ++ e ∷ [])) (λ client number. tt) s move none q
+
+  -- a reply is kept that tells that the request was taken
+  slots_end : (s : SessionsState) (slot : Option SlotPass) (bytes : List ℕ) → TellsTaken bytes → Slots s → Slots (kept_in_slot s slot bytes)
+  slots_end s None bytes told q = q
+  slots_end s (Some pass) bytes told q =
+      end_so (SlotSo servers mirrors (past ++ e ∷ [])) (λ client number. tt) s pass bytes (λ client number sequence slot p. slot_done servers mirrors (past ++ e ∷ []) client number sequence bytes told slot p) q
+
+  run_end : (s : SessionsState) (slot : Option SlotPass) (bytes : List ℕ) → IsRunTable s → IsRunTable (kept_in_slot s slot bytes)
+  run_end s None bytes run = run
+  run_end s (Some pass) bytes run = run_table_on s (FinishRequest pass bytes) run
 
   abbrev Q : SessionsState → Type 0
   Q s = TableSo (SlotSo servers mirrors (past ++ e ∷ [])) s × IsRunTable s
 
-  moves : (s : SessionsState) (move : TableMove) → IsNoRequest move → Q s → Q (table_after s move)
+  moves : (s : SessionsState) (move : TableMove) → IsNoTurn move → Q s → Q (table_after s move)
   moves s move none q = (slots_move s move none q.0, run_table_on s move q.1)
 
-  bare_moves : (s : SessionsState) (move : TableMove) → IsNoRequest move → IsRunTable s → IsRunTable (table_after s move)
+  bare_moves : (s : SessionsState) (move : TableMove) → IsNoTurn move → IsRunTable s → IsRunTable (table_after s move)
   bare_moves s move none q = run_table_on s move q
+
+  ends_with : (s : SessionsState) (slot : Option SlotPass) (bytes : List ℕ) → TellsTaken bytes → Q s → Q (kept_in_slot s slot bytes)
+  ends_with s slot bytes told q = (slots_end s slot bytes told q.0, run_end s slot bytes q.1)
+
+  -- without a slot nothing is kept
+  ends_without : (s : SessionsState) (slot : Option SlotPass) (bytes : List ℕ) → slot ≡ None → Q s → Q (kept_in_slot s slot bytes)
+  ends_without s slot bytes none q = subst (λ (o : Option SlotPass). Q (kept_in_slot s o bytes)) (sym none) q
 
   -- a reply, where the table of clients is this one
   abbrev Answered : SessionsState → NodeId → RpcReply → Type 0
@@ -157,19 +180,25 @@ module _ (tables : KeepsTable) (numbered : EffectsAreNumbered) (servers : List A
 
   module _ (A : SessionsState → NodeId → RpcReply → Type 0) (on : (s : SessionsState) (move : TableMove) → IsNoRequest move → (node : NodeId) (reply : RpcReply) → A s node reply → A (table_after s move) node reply)
       (lift : (s : SessionsState) (node : NodeId) (reply : RpcReply) → Answered s node reply → A s node reply) where
-    replied_by : (s : SessionsState) → IsRunTable s → (c : CompoundRun) (bytes : List ℕ) → WaitsSo servers mirrors (past ++ e ∷ []) c → A (kept_in_slot s c.slot bytes) c.node (success_reply c.xid bytes)
-    replied_by s run c bytes w =
+    replied_by : (s : SessionsState) → IsRunTable s → (c : CompoundRun) (bytes : List ℕ) → WaitsSo servers mirrors (past ++ e ∷ []) c → TellsTaken bytes → A (kept_in_slot s c.slot bytes) c.node (success_reply c.xid bytes)
+    replied_by s run c bytes w told =
         lift (kept_in_slot s c.slot bytes) c.node (success_reply c.xid bytes)
-        (waited_answers servers mirrors (FreeIn (kept_in_slot s c.slot bytes)) (past ++ e ∷ []) c bytes w
+        (waited_answers servers mirrors (FreeIn (kept_in_slot s c.slot bytes)) (past ++ e ∷ []) c bytes w told
         (subst (λ (o : Option SlotPass). FreeIn (kept_in_slot s o bytes) w.session w.number) (sym w.slot) (finish_frees s (is_table tables s run) w.session w.number bytes)))
 
-    replied : (s : SessionsState) → Q s → (c : CompoundRun) (results : List (Value resop4)) (status : Stat4) → WaitsSo servers mirrors (past ++ e ∷ []) c
-        → A (kept_in_slot s c.slot (spelling compound4_res (stat4_number status, (c.tag, c.results ++ results)))) c.node (success_reply c.xid (spelling compound4_res (stat4_number status, (c.tag, c.results ++ results))))
-    replied s q c results status w = replied_by s q.1 c (spelling compound4_res (stat4_number status, (c.tag, c.results ++ results))) w
+    waited_tells : (c : CompoundRun) (result : Value resop4) (status : Stat4) → IsLegible result → WaitsSo servers mirrors (past ++ e ∷ []) c → TellsTaken (compound_bytes (with_result c result) status)
+    waited_tells c result status read w = tells_so 0 (with_result c result) status (legible_more 0 c (with_result c result) result w.legible read refl refl)
 
-    bare_replied : (s : SessionsState) → IsRunTable s → (c : CompoundRun) (results : List (Value resop4)) (status : Stat4) → WaitsSo servers mirrors (past ++ e ∷ []) c
-        → A (kept_in_slot s c.slot (spelling compound4_res (stat4_number status, (c.tag, c.results ++ results)))) c.node (success_reply c.xid (spelling compound4_res (stat4_number status, (c.tag, c.results ++ results))))
-    bare_replied s q c results status w = replied_by s q c (spelling compound4_res (stat4_number status, (c.tag, c.results ++ results))) w
+    replied : (s : SessionsState) → Q s → (c : CompoundRun) (result : Value resop4) (status : Stat4) → IsLegible result → WaitsSo servers mirrors (past ++ e ∷ []) c
+        → Q (kept_in_slot s c.slot (compound_bytes (with_result c result) status)) × A (kept_in_slot s c.slot (compound_bytes (with_result c result) status)) c.node (success_reply c.xid (compound_bytes (with_result c result) status))
+    replied s q c result status read w =
+        let bytes : List ℕ = compound_bytes (with_result c result) status in
+        (ends_with s c.slot bytes (waited_tells c result status read w) q, replied_by s q.1 c bytes w (waited_tells c result status read w))
+
+    bare_replied : (s : SessionsState) → IsRunTable s → (c : CompoundRun) (result : Value resop4) (status : Stat4) → IsLegible result → WaitsSo servers mirrors (past ++ e ∷ []) c
+        → IsRunTable (kept_in_slot s c.slot (compound_bytes (with_result c result) status)) × A (kept_in_slot s c.slot (compound_bytes (with_result c result) status)) c.node (success_reply c.xid (compound_bytes (with_result c result) status))
+    bare_replied s q c result status read w =
+        let bytes : List ℕ = compound_bytes (with_result c result) status in (run_end s c.slot bytes q, replied_by s q c bytes w (waited_tells c result status read w))
 
     abbrev So : MdsValue → List Entry → List MdsSend → Type 0
     So = IsSo (λ (c : CompoundRun). WaitsSo servers mirrors (past ++ e ∷ []) c) ends (λ (s : SessionsState). Q s) moves A on replied AnyEntry (λ x none. tt)
@@ -253,23 +282,23 @@ module _ (tables : KeepsTable) (numbered : EffectsAreNumbered) (servers : List A
   -- ---- a compound of a client
 
   module _ (node : NodeId) (xid : ℕ) (name : List ℕ) where
-    -- it answers a call, or it is the compound's of this event, and then this holds of the table of clients
-    abbrev Own : (SessionsState → Type 0) → SessionsState → NodeId → RpcReply → Type 0
-    Own T s other reply = Answered s other reply ⊎ (IsFrom node xid other reply × T s)
+    -- it answers a call, or it is the compound's of this event, and then this holds of the table of clients and of it
+    abbrev Own : (SessionsState → RpcReply → Type 0) → SessionsState → NodeId → RpcReply → Type 0
+    Own T s other reply = Answered s other reply ⊎ (IsFrom node xid other reply × T s reply)
 
-    lifted : (T : SessionsState → Type 0) (s : SessionsState) (other : NodeId) (reply : RpcReply) → Answered s other reply → Own T s other reply
+    lifted : (T : SessionsState → RpcReply → Type 0) (s : SessionsState) (other : NodeId) (reply : RpcReply) → Answered s other reply → Own T s other reply
     lifted T s other reply a = inl a
 
-    own_stays : (T : SessionsState → Type 0) → ((s : SessionsState) (move : TableMove) → IsNoRequest move → T s → T (table_after s move)) → (s : SessionsState) (move : TableMove) → IsNoRequest move → (other : NodeId) (reply : RpcReply) → Own T s other reply
+    own_stays : (T : SessionsState → RpcReply → Type 0) → ((s : SessionsState) (move : TableMove) → IsNoRequest move → (reply : RpcReply) → T s reply → T (table_after s move) reply) → (s : SessionsState) (move : TableMove) → IsNoRequest move → (other : NodeId) (reply : RpcReply) → Own T s other reply
         → Own T (table_after s move) other reply
     own_stays T on s move none other reply (inl a) = inl (answered_stays s move none other reply a)
-    own_stays T on s move none other reply (inr from) = inr (from.0, on s move none from.1)
+    own_stays T on s move none other reply (inr from) = inr (from.0, on s move none reply from.1)
 
-    abbrev AnyTable : SessionsState → Type 0
-    AnyTable s = Unit {0}
+    abbrev AnyTable : SessionsState → RpcReply → Type 0
+    AnyTable s reply = Unit {0}
 
     any_stays : (s : SessionsState) (move : TableMove) → IsNoRequest move → (other : NodeId) (reply : RpcReply) → Own AnyTable s other reply → Own AnyTable (table_after s move) other reply
-    any_stays = own_stays AnyTable (λ s move none t. tt)
+    any_stays = own_stays AnyTable (λ s move none reply t. tt)
 
     abbrev new_of : MdsCallValue → CompoundRun
     new_of call = record { node = node; xid = xid; tag = []; ops = mds_ops name call; stop = stop.End None; results = []; slot = None; is_kept = false; current = None }
@@ -278,8 +307,8 @@ module _ (tables : KeepsTable) (numbered : EffectsAreNumbered) (servers : List A
     moved_from call came other reply from = subst (λ (x : NodeId). IsCallFrom e x reply.xid name call) (sym from.0) (subst (λ (x : ℕ). IsCallFrom e node x name call) (sym from.1) came)
 
     -- the reply of this event's compound
-    own_answers : (T : SessionsState → Type 0) (call : MdsCallValue) → IsCallFrom e node xid name call
-        → ((other : NodeId) (reply : RpcReply) → In (Replies other reply) (after_event e (server_after servers mirrors past)).sends → IsFrom node xid other reply → T (after_event e (server_after servers mirrors past)).mds.sessions → (also : List ℕ) (session : SessionId) (number : ℕ)
+    own_answers : (T : SessionsState → RpcReply → Type 0) (call : MdsCallValue) → IsCallFrom e node xid name call
+        → ((other : NodeId) (reply : RpcReply) → In (Replies other reply) (after_event e (server_after servers mirrors past)).sends → IsFrom node xid other reply → T (after_event e (server_after servers mirrors past)).mds.sessions reply → (also : List ℕ) (session : SessionId) (number : ℕ)
         (c : SlotCallValue) → IsCallFrom e other reply.xid also (OnSlot session number c) → FitsRequest (OnSlot session number c) → StandsFor servers mirrors (past ++ e ∷ []) past session number c (reply_of_ask (ask_on_slot c) reply))
         → (other : NodeId) (reply : RpcReply) → In (Replies other reply) (after_event e (server_after servers mirrors past)).sends → Own T (after_event e (server_after servers mirrors past)).mds.sessions other reply → AnswersRequest servers mirrors (past ++ e ∷ []) other reply
     own_answers T call came stands other reply inside (inl a) = said_behind other reply a
@@ -300,13 +329,13 @@ module _ (tables : KeepsTable) (numbered : EffectsAreNumbered) (servers : List A
     exchange_so verifier came =
         alone_so (ExchangeId verifier) came refl
         (alone_keeps (λ (c : CompoundRun). WaitsSo servers mirrors (past ++ e ∷ []) c) ends (λ (s : SessionsState). Q s) moves (Own AnyTable) any_stays (replied (Own AnyTable) any_stays (lifted AnyTable)) AnyEntry (λ x n. tt) e.now
-        (server_after servers mirrors past) (new_of (ExchangeId verifier)) (exchange_id_op name verifier) refl refl refl (λ d status l t q. inr ((l.node, l.xid), tt)))
+        (server_after servers mirrors past) (new_of (ExchangeId verifier)) (exchange_id_op name verifier) refl refl refl (λ d status l its t q. (ends_without t d.slot (compound_bytes d status) l.slot q, inr ((l.node, l.xid), tt))))
 
     create_so : (client sequence : ℕ) → IsCallFrom e node xid name (CreateSession client sequence) → EventSo
     create_so client sequence came =
         alone_so (CreateSession client sequence) came refl
         (alone_keeps (λ (c : CompoundRun). WaitsSo servers mirrors (past ++ e ∷ []) c) ends (λ (s : SessionsState). Q s) moves (Own AnyTable) any_stays (replied (Own AnyTable) any_stays (lifted AnyTable)) AnyEntry (λ x n. tt) e.now
-        (server_after servers mirrors past) (new_of (CreateSession client sequence)) (create_session_op client sequence) refl refl refl (λ d status l t q. inr ((l.node, l.xid), tt)))
+        (server_after servers mirrors past) (new_of (CreateSession client sequence)) (create_session_op client sequence) refl refl refl (λ d status l its t q. (ends_without t d.slot (compound_bytes d status) l.slot q, inr ((l.node, l.xid), tt))))
 
     -- ---- on a slot
 
@@ -314,12 +343,12 @@ module _ (tables : KeepsTable) (numbered : EffectsAreNumbered) (servers : List A
       abbrev bound : SessionsState
       bound = after_binding (server_after servers mirrors past).sessions session node
 
-      -- it is free for the next number
-      abbrev Freed : SessionsState → Type 0
-      Freed s = FreeIn s session number
+      -- it is free for the next number, and the reply to a call that is no layout's tells that it was taken
+      abbrev Freed : SlotCallValue → SessionsState → RpcReply → Type 0
+      Freed call s reply = FreeIn s session number × (is_layout_call call ≡ false → (c : SlotCallValue) → (reply_of_ask (ask_on_slot c) reply).slot ≡ Taken)
 
-      freed_stays : (s : SessionsState) (move : TableMove) → IsNoRequest move → (other : NodeId) (reply : RpcReply) → Own Freed s other reply → Own Freed (table_after s move) other reply
-      freed_stays = own_stays Freed (λ s move none free. free_stays s move none session number free)
+      freed_stays : (call : SlotCallValue) (s : SessionsState) (move : TableMove) → IsNoRequest move → (other : NodeId) (reply : RpcReply) → Own (Freed call) s other reply → Own (Freed call) (table_after s move) other reply
+      freed_stays call = own_stays (Freed call) (λ s move none reply free. (free_stays s move none session number free.0, free.1))
 
       taken : (call : SlotCallValue) → IsCallFrom e node xid name (OnSlot session number call) → request_answer (after_binding (server_after servers mirrors past).sessions session node) (request_of session number call) ≡ TakesEffect
           → TookEffect servers mirrors past e session number
@@ -343,50 +372,72 @@ module _ (tables : KeepsTable) (numbered : EffectsAreNumbered) (servers : List A
         after_so = after_is numbered servers mirrors events past after e fit roomy split node xid name session number call came effect fits.0
 
         table_ended : (n : MdsValue) (results : List (Value resop4)) (status : Stat4) → HasEnded (taken_mds e.now (server_after servers mirrors past) node session number call) n node xid (pass_of (request_of session number call)) results status step
+            → (get_event e ≡ true → length (spelling compound4_res (stat4_number status, ([], results))) ≤ 32768)
             → TableSo (SlotSo servers mirrors (past ++ e ∷ [])) (after_binding (server_after servers mirrors past).sessions session node) → TableSo (SlotSo servers mirrors (past ++ e ∷ [])) step.mds.sessions
-        table_ended n results status ended table =
+        table_ended n results status ended few table =
             let bytes : List ℕ = spelling compound4_res (stat4_number status, ([], results)) in
             let is : step.mds.sessions ≡ after_finish (after_request bound (request_of session number call) e.now) (pass_of (request_of session number call)) bytes =
             ap (λ (x : MdsValue). x.sessions) ended.mds ∙ ap (λ (s : SessionsState). after_finish s (pass_of (request_of session number call)) bytes) ended.same.sessions in
             let sent : In (Replies node (success_reply xid bytes)) (after_event e (server_after servers mirrors past)).sends =
             subst (λ (s : MdsStep). In (Replies node (success_reply xid bytes)) s.sends) (sym after_so) (first_in (Replies node (success_reply xid bytes)) [] step.sends (calls_out [] step.mds).sends ended.sends) in
             subst (λ (s : SessionsState). TableSo (SlotSo servers mirrors (past ++ e ∷ [])) s) (sym is)
-            (done_so (SlotSo servers mirrors (past ++ e ∷ [])) (λ client k. tt) (λ client k sequence reply slot p. slot_done servers mirrors (past ++ e ∷ []) client k sequence reply slot p) bound session number 0 (is_kept_reply call) e.now bytes
-            (kept_now servers mirrors (past ++ e ∷ []) (client_in session) (number_in session) number its bytes
-            (λ also asked n2 c comes fits2.
-            effect_means numbered servers mirrors events past after e fit roomy split node xid also asked n2 c comes (effect_too servers mirrors past e session number (taken call came effect) node xid also asked n2 c comes) fits2 (success_reply xid bytes) sent))
+            (done_so (SlotSo servers mirrors (past ++ e ∷ [])) bound session number 0 (is_kept_reply call) e.now bytes
+            (kept_now servers mirrors (past ++ e ∷ []) (client_in session) (number_in session) number its bytes (
+              λ also asked n2 c comes fits2.
+                  effect_means numbered servers mirrors events past after e fit roomy split node xid also asked n2 c comes (effect_too servers mirrors past e session number (taken call came effect) node xid also asked n2 c comes) fits2 (success_reply xid bytes) sent,
+              tells_fitting (stat4_number status) results ended.fits ended.taken,
+            ) few)
             table)
 
         -- its own reply
-        effect_stands : (other : NodeId) (reply : RpcReply) → In (Replies other reply) (after_event e (server_after servers mirrors past)).sends → Freed (after_event e (server_after servers mirrors past)).mds.sessions → (also : List ℕ) (asked : SessionId) (n : ℕ) (c : SlotCallValue)
-            → IsCallFrom e other reply.xid also (OnSlot asked n c) → FitsRequest (OnSlot asked n c) → StandsFor servers mirrors (past ++ e ∷ []) past asked n c (reply_of_ask (ask_on_slot c) reply)
+        effect_told : (other : NodeId) (reply : RpcReply) → In (Replies other reply) (after_event e (server_after servers mirrors past)).sends → Freed call (after_event e (server_after servers mirrors past)).mds.sessions reply → (also : List ℕ) (asked : SessionId) (n : ℕ)
+            (c : SlotCallValue) → IsCallFrom e other reply.xid also (OnSlot asked n c) → FitsRequest (OnSlot asked n c) → (reply_of_ask (ask_on_slot c) reply).slot ≡ Taken
+        effect_told other reply inside free also asked n c comes fits2 = by_kind (is_layout_call call) refl
+          where
+            by_kind : (b : Bool) → is_layout_call call ≡ b → (reply_of_ask (ask_on_slot c) reply).slot ≡ Taken
+            by_kind true on =
+                layout_tells numbered servers mirrors events past after e fit roomy split other reply.xid also asked n c (sym (event_of_call e other reply.xid also asked n c comes) ∙ event_of_call e node xid name session number call came ∙ on) comes
+                (effect_too servers mirrors past e session number (taken call came effect) other reply.xid also asked n c comes) fits2 reply inside c
+            by_kind false off = free.1 off c
+
+        effect_stands : (other : NodeId) (reply : RpcReply) → In (Replies other reply) (after_event e (server_after servers mirrors past)).sends → Freed call (after_event e (server_after servers mirrors past)).mds.sessions reply → (also : List ℕ) (asked : SessionId) (n : ℕ)
+            (c : SlotCallValue) → IsCallFrom e other reply.xid also (OnSlot asked n c) → FitsRequest (OnSlot asked n c) → StandsFor servers mirrors (past ++ e ∷ []) past asked n c (reply_of_ask (ask_on_slot c) reply)
         effect_stands other reply inside free also asked n c comes fits2 =
             stands_behind servers mirrors (FreeIn (after_event e (server_after servers mirrors past)).mds.sessions) (past ++ e ∷ []) free_behind past asked n c (reply_of_ask (ask_on_slot c) reply)
             (stands_taken servers mirrors (FreeIn (after_event e (server_after servers mirrors past)).mds.sessions) (past ++ e ∷ []) past [] e refl session number (taken call came effect) other reply.xid also asked n c comes (reply_of_ask (ask_on_slot c) reply)
+            (effect_told other reply inside free also asked n c comes fits2)
             (effect_means numbered servers mirrors events past after e fit roomy split other reply.xid also asked n c comes (effect_too servers mirrors past e session number (taken call came effect) other reply.xid also asked n c comes) fits2 reply inside)
-            (subst (λ (q : Sequence). FreeIn (after_event e (server_after servers mirrors past)).mds.sessions q.session q.sequence) (same_request call came other reply.xid also asked n c comes) free))
+            (subst (λ (q : Sequence). FreeIn (after_event e (server_after servers mirrors past)).mds.sessions q.session q.sequence) (same_request call came other reply.xid also asked n c comes) free.0))
 
         freed : (d : CompoundRun) (status : Stat4) → Like (taken_compound node xid name session number call) d → (s : SessionsState) → IsRunTable s → FreeIn (kept_in_slot s d.slot (compound_bytes d status)) session number
         freed d status l s run =
             subst (λ (o : Option SlotPass). FreeIn (kept_in_slot s o (compound_bytes d status)) session number) (sym l.slot) (finish_frees s (is_table tables s run) session number (compound_bytes d status))
 
-        mine : (d : CompoundRun) (status : Stat4) → Like (taken_compound node xid name session number call) d → (s : SessionsState) → IsRunTable s
-            → Own Freed (kept_in_slot s d.slot (compound_bytes d status)) d.node (success_reply d.xid (compound_bytes d status))
-        mine d status l s run = inr ((l.node, l.xid), freed d status l s run)
+        -- the run behind the SEQUENCE
+        begins_legible : IsLegibleRun (slot_ops name call) (taken_compound node xid name session number call)
+        begins_legible = record {
+          tag = refl;
+          request = request_of session number call;
+          its = first_fits numbered servers mirrors events past after e fit roomy split node xid name session number call came effect fits.0;
+          rest = [];
+          results = refl;
+          legible = tt;
+          few = let all = few_operations e node xid name (OnSlot session number call) came in omega (arith, all);
+        }
 
         -- the table behind the request
         begun_run : IsRunTable (after_binding (server_after servers mirrors past).sessions session node) → IsRunTable (after_request (after_binding (server_after servers mirrors past).sessions session node) (request_of session number call) e.now)
         begun_run run =
             subst (λ (a : SlotAnswer). IsRunTable (table_begun bound (after_request bound (request_of session number call) e.now) a)) effect (run_table_on bound (BeginRequest (request_of session number call) e.now) run)
 
-        effect_ends : So (Own Freed) freed_stays (lifted Freed) step.mds ([] ++ step.entries) (sent_with_calls (server_after servers mirrors past).calls ++ step.sends) → EventSo
+        effect_ends : So (Own (Freed call)) (freed_stays call) (lifted (Freed call)) step.mds ([] ++ step.entries) (sent_with_calls (server_after servers mirrors past).calls ++ step.sends) → EventSo
         effect_ends so =
-            ended_at (Own Freed) freed_stays (lifted Freed)
-            (subst (λ (s : MdsStep). So (Own Freed) freed_stays (lifted Freed) s.mds ([] ++ s.entries) (sent_with_calls (server_after servers mirrors past).calls ++ s.sends)) (sym after_so)
-            (joined (So (Own Freed) freed_stays (lifted Freed)) (calls_out [] step.mds).mds [] step.entries (calls_out [] step.mds).entries (sent_with_calls (server_after servers mirrors past).calls) step.sends (calls_out [] step.mds).sends
-            (go_out (λ (c : CompoundRun). WaitsSo servers mirrors (past ++ e ∷ []) c) ends (λ (s : SessionsState). Q s) moves (Own Freed) freed_stays (replied (Own Freed) freed_stays (lifted Freed)) AnyEntry (λ x n. tt) step.mds ([] ++ step.entries)
+            ended_at (Own (Freed call)) (freed_stays call) (lifted (Freed call))
+            (subst (λ (s : MdsStep). So (Own (Freed call)) (freed_stays call) (lifted (Freed call)) s.mds ([] ++ s.entries) (sent_with_calls (server_after servers mirrors past).calls ++ s.sends)) (sym after_so)
+            (joined (So (Own (Freed call)) (freed_stays call) (lifted (Freed call))) (calls_out [] step.mds).mds [] step.entries (calls_out [] step.mds).entries (sent_with_calls (server_after servers mirrors past).calls) step.sends (calls_out [] step.mds).sends
+            (go_out (λ (c : CompoundRun). WaitsSo servers mirrors (past ++ e ∷ []) c) ends (λ (s : SessionsState). Q s) moves (Own (Freed call)) (freed_stays call) (replied (Own (Freed call)) (freed_stays call) (lifted (Freed call))) AnyEntry (λ x n. tt) step.mds ([] ++ step.entries)
             (sent_with_calls (server_after servers mirrors past).calls ++ step.sends) so)))
-            (own_answers Freed (OnSlot session number call) came (λ other reply inside from free also asked n c comes fits2. effect_stands other reply inside free also asked n c comes fits2))
+            (own_answers (Freed call) (OnSlot session number call) came (λ other reply inside from free also asked n c comes fits2. effect_stands other reply inside free also asked n c comes fits2))
 
         bound_slots : Slots (after_binding (server_after servers mirrors past).sessions session node)
         bound_slots = slots_move (server_after servers mirrors past).sessions (Bind session node) tt begun_table
@@ -397,10 +448,14 @@ module _ (tables : KeepsTable) (numbered : EffectsAreNumbered) (servers : List A
         plain_effect : is_layout_call call ≡ false → EventSo
         plain_effect off =
             effect_ends
-            (run_keeps (λ (c : CompoundRun). WaitsSo servers mirrors (past ++ e ∷ []) c) ends (λ (s : SessionsState). Q s) moves (Own Freed) freed_stays (replied (Own Freed) freed_stays (lifted Freed)) AnyEntry (λ x n. tt) e.now (slot_ops name call)
-            (fine_ops (Own Freed) freed_stays (lifted Freed) (is_return_call call) (slot_ops name call) (ops_fit name call))
-            (taken_mds e.now (server_after servers mirrors past) node session number call) (taken_compound node xid name session number call) refl (λ d status l s q. mine d status l s q.1)
-            (λ d l none some. record {
+            (run_keeps (λ (c : CompoundRun). WaitsSo servers mirrors (past ++ e ∷ []) c) ends (λ (s : SessionsState). Q s) moves (Own (Freed call)) (freed_stays call) (replied (Own (Freed call)) (freed_stays call) (lifted (Freed call))) AnyEntry (λ x n. tt) IsLegibleRun run_on e.now (slot_ops name call)
+            (fine_ops (Own (Freed call)) (freed_stays call) (lifted (Freed call)) (is_return_call call) (slot_ops name call) (ops_fit name call))
+            (calls_say name call off) (taken_mds e.now (server_after servers mirrors past) node session number call) (taken_compound node xid name session number call) begins_legible refl
+            (λ left d status l its s q. (
+              ends_with s d.slot (compound_bytes d status) (tells_so (length left) d status its) q,
+              inr ((l.node, l.xid), (freed d status l s q.1, λ plain c. tells_so (length left) d status its c d.xid)),
+            ))
+            (λ d op l its none some. record {
               early = past;
               f = e;
               late = [];
@@ -414,10 +469,11 @@ module _ (tables : KeepsTable) (numbered : EffectsAreNumbered) (servers : List A
               ops = none;
               stop = l.stop;
               slot = l.slot;
+              legible = its;
             })
             [] (sent_with_calls (server_after servers mirrors past).calls)
-            (start_with (Own Freed) freed_stays (lifted Freed) (after_request (after_binding (server_after servers mirrors past).sessions session node) (request_of session number call) e.now) (
-              request_so (SlotSo servers mirrors (past ++ e ∷ [])) (λ client k. tt) (λ client k sequence reply slot p. slot_done servers mirrors (past ++ e ∷ []) client k sequence reply slot p) bound (request_of session number call) e.now refl
+            (start_with (Own (Freed call)) (freed_stays call) (lifted (Freed call)) (after_request (after_binding (server_after servers mirrors past).sessions session node) (request_of session number call) e.now) (
+              request_so (SlotSo servers mirrors (past ++ e ∷ [])) bound (request_of session number call) e.now refl
                   (its, event_of_call e node xid name session number call came ∙ off) bound_slots,
               taken_run,
             )))
@@ -425,11 +481,13 @@ module _ (tables : KeepsTable) (numbered : EffectsAreNumbered) (servers : List A
         layout_effect : is_layout_call call ≡ true → (TableSo (SlotSo servers mirrors (past ++ e ∷ [])) (after_binding (server_after servers mirrors past).sessions session node) → TableSo (SlotSo servers mirrors (past ++ e ∷ [])) step.mds.sessions)
             → has_waiting (slot_ops name call) ≡ false → EventSo
         layout_effect on table none =
-            let b : Bare (Own Freed) freed_stays (lifted Freed) step.mds ([] ++ step.entries) (sent_with_calls (server_after servers mirrors past).calls ++ step.sends) =
-            run_keeps (λ (c : CompoundRun). WaitsSo servers mirrors (past ++ e ∷ []) c) ends (λ (s : SessionsState). IsRunTable s) bare_moves (Own Freed) freed_stays (bare_replied (Own Freed) freed_stays (lifted Freed)) AnyEntry (λ x n. tt) e.now (slot_ops name call)
-            (bare_ops (Own Freed) freed_stays (lifted Freed) (is_return_call call) (slot_ops name call) (ops_fit name call))
-            (taken_mds e.now (server_after servers mirrors past) node session number call) (taken_compound node xid name session number call) refl mine (λ d l left some. absurd (not_both (sym none ∙ some))) [] (sent_with_calls (server_after servers mirrors past).calls)
-            (bare_with (Own Freed) freed_stays (lifted Freed) (after_request (after_binding (server_after servers mirrors past).sessions session node) (request_of session number call) e.now) taken_run) in
+            let b : Bare (Own (Freed call)) (freed_stays call) (lifted (Freed call)) step.mds ([] ++ step.entries) (sent_with_calls (server_after servers mirrors past).calls ++ step.sends) =
+            run_keeps (λ (c : CompoundRun). WaitsSo servers mirrors (past ++ e ∷ []) c) ends (λ (s : SessionsState). IsRunTable s) bare_moves (Own (Freed call)) (freed_stays call) (bare_replied (Own (Freed call)) (freed_stays call) (lifted (Freed call))) AnyEntry (λ x n. tt) AnyLeft (λ left ops c its. tt) e.now (slot_ops name call)
+            (bare_ops (Own (Freed call)) (freed_stays call) (lifted (Freed call)) (is_return_call call) (slot_ops name call) (ops_fit name call))
+            (says_any (slot_ops name call)) (taken_mds e.now (server_after servers mirrors past) node session number call) (taken_compound node xid name session number call) tt refl
+            (λ left d status l its s run. (run_end s d.slot (compound_bytes d status) run, inr ((l.node, l.xid), (freed d status l s run, λ off. absurd (not_both (sym off ∙ on))))))
+            (λ d op l its left some. absurd (not_both (sym none ∙ some))) [] (sent_with_calls (server_after servers mirrors past).calls)
+            (bare_with (Own (Freed call)) (freed_stays call) (lifted (Freed call)) (after_request (after_binding (server_after servers mirrors past).sessions session node) (request_of session number call) e.now) taken_run) in
             effect_ends (record { waits = b.waits; table = (table bound_slots, b.table); entries = b.entries; replies = b.replies; were = b.were })
 
       -- a request that takes effect
@@ -443,9 +501,11 @@ module _ (tables : KeepsTable) (numbered : EffectsAreNumbered) (servers : List A
               → GetEnds (taken_mds e.now (server_after servers mirrors past) node session number (slot.LayoutGet file)) node xid (pass_of (request_of session number (slot.LayoutGet file)))
               (sequence_result (request_of session number (slot.LayoutGet file))) file.file (runs e.now (slot_ops name (slot.LayoutGet file)) (taken_mds e.now (server_after servers mirrors past) node session number (slot.LayoutGet file)) (taken_compound node xid name session number (slot.LayoutGet file)))
               → TableSo (SlotSo servers mirrors (past ++ e ∷ [])) (runs e.now (slot_ops name (slot.LayoutGet file)) (taken_mds e.now (server_after servers mirrors past) node session number (slot.LayoutGet file)) (taken_compound node xid name session number (slot.LayoutGet file))).mds.sessions
-          by_end table (IsRefused n results status ended some) = table_ended (slot.LayoutGet file) came effect fits n results status ended table
+          by_end table (IsRefused n results status ended some few) =
+              table_ended (slot.LayoutGet file) came effect fits n results status ended (λ gets. refused_short (request_of session number (slot.LayoutGet file)) (stat4_number status) results fits.0 few) table
           by_end table (Grants n got ended) =
-              table_ended (slot.LayoutGet file) came effect fits n (sequence_result (request_of session number (slot.LayoutGet file)) ∷ arm 22 resop4 (inl tt) ∷ layout_of_file file.file got.its ∷ []) stat.Ok ended table
+              table_ended (slot.LayoutGet file) came effect fits n (sequence_result (request_of session number (slot.LayoutGet file)) ∷ arm 22 resop4 (inl tt) ∷ layout_of_file file.file got.its ∷ []) stat.Ok ended
+              (λ gets. granted_short (request_of session number (slot.LayoutGet file)) file.file got.its fits.0 got.short) table
       effect_so (slot.LayoutReturn file stateid failed) came effect fits =
           layout_effect (slot.LayoutReturn file stateid failed) came effect fits refl
           (λ table. by_end table (return_of numbered servers mirrors events past after e fit roomy split node xid name session number file stateid failed came effect fits.0 fits.1)) refl
@@ -456,11 +516,13 @@ module _ (tables : KeepsTable) (numbered : EffectsAreNumbered) (servers : List A
               (runs e.now (slot_ops name (slot.LayoutReturn file stateid failed)) (taken_mds e.now (server_after servers mirrors past) node session number (slot.LayoutReturn file stateid failed)) (taken_compound node xid name session number (slot.LayoutReturn file stateid failed)))
               → TableSo (SlotSo servers mirrors (past ++ e ∷ []))
               (runs e.now (slot_ops name (slot.LayoutReturn file stateid failed)) (taken_mds e.now (server_after servers mirrors past) node session number (slot.LayoutReturn file stateid failed)) (taken_compound node xid name session number (slot.LayoutReturn file stateid failed))).mds.sessions
-          by_end table (giving.IsRefused n results status ended some none entries) = table_ended (slot.LayoutReturn file stateid failed) came effect fits n results status ended table
+          by_end table (giving.IsRefused n results status ended some none entries) =
+              table_ended (slot.LayoutReturn file stateid failed) came effect fits n results status ended (λ gets. absurd (not_both (sym (event_of_return e node xid name session number file stateid failed came) ∙ gets))) table
           by_end table (Accepts given ended entries) =
               table_ended (slot.LayoutReturn file stateid failed) came effect fits
               (given_step (taken_mds e.now (server_after servers mirrors past) node session number (slot.LayoutReturn file stateid failed)) file given.its (errors_for stateid failed)).mds
-              (sequence_result (request_of session number (slot.LayoutReturn file stateid failed)) ∷ arm 22 resop4 (inl tt) ∷ no_stateid ∷ []) stat.Ok ended table
+              (sequence_result (request_of session number (slot.LayoutReturn file stateid failed)) ∷ arm 22 resop4 (inl tt) ∷ no_stateid ∷ []) stat.Ok ended
+              (λ gets. absurd (not_both (sym (event_of_return e node xid name session number file stateid failed came) ∙ gets))) table
       effect_so slot.ReclaimComplete came effect fits = plain_effect slot.ReclaimComplete came effect fits refl
       effect_so (slot.Open text) came effect fits = plain_effect (slot.Open text) came effect fits refl
       effect_so (slot.DeviceInfo numbers) came effect fits = plain_effect (slot.DeviceInfo numbers) came effect fits refl
@@ -523,7 +585,7 @@ module _ (tables : KeepsTable) (numbered : EffectsAreNumbered) (servers : List A
                 not_repeats x = absurd cc
             by_slot (BySlot s p at) asked n c same fits =
                 stands_kept servers mirrors (past ++ e ∷ []) (FreeIn bound) past asked n xid bytes c fits
-                (subst (λ (q : Sequence). (t : IsTaken servers mirrors (past ++ e ∷ []) (client_in q.session) (number_in q.session) q.sequence) × MeansKept servers mirrors (past ++ e ∷ []) (client_in q.session) (number_in q.session) q.sequence t bytes) same
+                (subst (λ (q : Sequence). (t : IsTaken servers mirrors (past ++ e ∷ []) (client_in q.session) (number_in q.session) q.sequence) × KeptSo servers mirrors (past ++ e ∷ []) (client_in q.session) (number_in q.session) q.sequence t bytes) same
                 (repeats_kept servers mirrors (past ++ e ∷ []) (FreeIn bound) (client_in session) (number_in session) s number bytes p (sym is ∙ at)))
                 (subst (λ (q : Sequence). FreeIn bound q.session q.sequence) same (answered_free bound session number call (Repeats bytes) is (λ x. absurd cc) (is_table tables bound bound_run)))
 
@@ -532,7 +594,7 @@ module _ (tables : KeepsTable) (numbered : EffectsAreNumbered) (servers : List A
             other_ends (Refuses status) is
             (finish_keeps (λ (c : CompoundRun). WaitsSo servers mirrors (past ++ e ∷ []) c) ends (λ (s : SessionsState). Q s) moves Answered answered_stays (replied Answered answered_stays (λ s other reply x. x)) AnyEntry (λ x k. tt)
             (record (server_after servers mirrors past) { sessions = after_binding (server_after servers mirrors past).sessions session node }) (with_result (new_of (OnSlot session number call)) (refused_as 53 status)) status
-            (λ q. answer_so (success_reply xid (spelling compound4_res (stat4_number status, ([], refused_as 53 status ∷ [])))) refl (λ also asked n c same fits. by_slot its_slot asked n c same)))
+            (λ q. (q, answer_so (success_reply xid (spelling compound4_res (stat4_number status, ([], refused_as 53 status ∷ [])))) refl (λ also asked n c same fits. by_slot its_slot asked n c same))))
           where
             by_slot : SlotJudged (SlotSo servers mirrors (past ++ e ∷ [])) session number (request_answer (after_binding (server_after servers mirrors past).sessions session node) (request_of session number call))
                 → (asked : SessionId) (n : ℕ) (c : SlotCallValue) → request_of session number call ≡ request_of asked n c

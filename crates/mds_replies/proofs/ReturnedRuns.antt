@@ -66,7 +66,7 @@ use Rattle.mds_replies.proofs.LayoutReturnRuns as giving
 use Rattle.mds_replies.proofs.TakenRequests.{taken_mds, taken_compound, HasEnded}
 use Rattle.mds_replies.proofs.TakenMeans.{after_is, stands_then, return_of, step_of, same_report}
 use Rattle.mds_replies.proofs.CallEvents.{Brings, ACall, Nothing, brings, is_return_call, FitsOps, ops_fit}
-use Rattle.mds_replies.proofs.Turns.{IsSo, cases, finish_keeps, AreFine, run_keeps, alone_keeps, out_keeps, BringsNone, other_keeps}
+use Rattle.mds_replies.proofs.Turns.{AnyLeft, says_any, IsSo, cases, finish_keeps, AreFine, run_keeps, alone_keeps, out_keeps, BringsNone, other_keeps}
 
 -- ---- compounds that wait have no operation left
 
@@ -84,9 +84,9 @@ AnyEntry e = Unit {0}
 
 module _ (E : Entry → Type 0) (plain : (e : Entry) → IsNoReturn e → E e) where
   abbrev So : MdsValue → List Entry → List MdsSend → Type 0
-  So = IsSo Left (λ c l. l) AnyTable (λ s move is i. tt) AnyReply (λ t move is node reply a. tt) (λ t q x results status l. tt) E plain
+  So = IsSo Left (λ c l. l) AnyTable (λ s move is i. tt) AnyReply (λ t move is node reply a. tt) (λ t q x result status read l. (tt, tt)) E plain
 
-  fine_ops : (returns : Bool) → (returns ≡ true → (e : Entry) → E e) → (ops : List (Value argop4)) → FitsOps returns ops → AreFine Left (λ c l. l) AnyTable (λ s move is i. tt) AnyReply (λ t move is node reply a. tt) (λ t q x results status l. tt) E plain ops
+  fine_ops : (returns : Bool) → (returns ≡ true → (e : Entry) → E e) → (ops : List (Value argop4)) → FitsOps returns ops → AreFine Left (λ c l. l) AnyTable (λ s move is i. tt) AnyReply (λ t move is node reply a. tt) (λ t q x result status read l. (tt, tt)) E plain ops
   fine_ops returns any [] fit = tt
   fine_ops returns any (op ∷ ops) fit = (record { last = fit.0.0; any = λ is. any (fit.0.1 is) }, fine_ops returns any ops fit.1)
 
@@ -104,13 +104,13 @@ module _ (E : Entry → Type 0) (plain : (e : Entry) → IsNoReturn e → E e) w
   }
 
   finish_so : (m : MdsValue) (c : CompoundRun) (status : Stat4) → Keeps So m (finishes m c status)
-  finish_so m c status = finish_keeps Left (λ x l. l) AnyTable (λ s move is i. tt) AnyReply (λ t move is node reply a. tt) (λ t q x results status l. tt) E plain m c status (λ q. tt)
+  finish_so m c status = finish_keeps Left (λ x l. l) AnyTable (λ s move is i. tt) AnyReply (λ t move is node reply a. tt) (λ t q x result status read l. (tt, tt)) E plain m c status (λ q. (tt, tt))
 
   slot_keeps : (now : ℕ) (m : MdsValue) (c : CompoundRun) (ops : List (Value argop4)) (s : Sequence) → c.stop ≡ stop.End None → (a : SlotAnswer)
-      → (a ≡ TakesEffect → AreFine Left (λ x l. l) AnyTable (λ t move is i. tt) AnyReply (λ t move is node reply a. tt) (λ t q x results status l. tt) E plain ops) → Keeps So m (sequenced now m c ops s a)
+      → (a ≡ TakesEffect → AreFine Left (λ x l. l) AnyTable (λ t move is i. tt) AnyReply (λ t move is node reply a. tt) (λ t q x result status read l. (tt, tt)) E plain ops) → Keeps So m (sequenced now m c ops s a)
   slot_keeps now m c ops s end TakesEffect fine =
-      λ es ss i. run_keeps Left (λ x l. l) AnyTable (λ t move is j. tt) AnyReply (λ t move is node reply a. tt) (λ t q x results status l. tt) E plain now ops (fine refl) (record m { sessions = after_request m.sessions s now }) (in_slot c s) end (λ d status l t q. tt)
-      (λ d l none some. (none, l.stop ∙ end)) es ss (with_table m (after_request m.sessions s now) es ss i)
+      λ es ss i. run_keeps Left (λ x l. l) AnyTable (λ t move is j. tt) AnyReply (λ t move is node reply a. tt) (λ t q x result status read l. (tt, tt)) E plain AnyLeft (λ left some x its. tt) now ops (fine refl) (says_any ops) (record m { sessions = after_request m.sessions s now }) (in_slot c s) tt end (λ left d status l its t q. (tt, tt))
+      (λ d op l its none some. (none, l.stop ∙ end)) es ss (with_table m (after_request m.sessions s now) es ss i)
   slot_keeps now m c ops s end (Repeats reply) fine = sends_reply m c.node (success_reply c.xid reply)
   slot_keeps now m c ops s end (Refuses status) fine = finish_so m (with_result c (refused_as 53 status)) status
 
@@ -125,9 +125,9 @@ module _ (E : Entry → Type 0) (plain : (e : Entry) → IsNoReturn e → E e) w
 
   call_keeps : (now : ℕ) (m : MdsValue) (node : NodeId) (xid : ℕ) (name : List ℕ) (call : MdsCallValue) → AnyWhere m node call → Keeps So m (run_of_call now m node xid name call)
   call_keeps now m node xid name (ExchangeId verifier) any =
-      alone_keeps Left (λ x l. l) AnyTable (λ t move is i. tt) AnyReply (λ t move is node reply a. tt) (λ t q x results status l. tt) E plain now m (new_of node xid name (ExchangeId verifier)) (exchange_id_op name verifier) refl refl refl (λ d status l t q. tt)
+      alone_keeps Left (λ x l. l) AnyTable (λ t move is i. tt) AnyReply (λ t move is node reply a. tt) (λ t q x result status read l. (tt, tt)) E plain now m (new_of node xid name (ExchangeId verifier)) (exchange_id_op name verifier) refl refl refl (λ d status l its t q. (tt, tt))
   call_keeps now m node xid name (CreateSession client sequence) any =
-      alone_keeps Left (λ x l. l) AnyTable (λ t move is i. tt) AnyReply (λ t move is node reply a. tt) (λ t q x results status l. tt) E plain now m (new_of node xid name (CreateSession client sequence)) (create_session_op client sequence) refl refl refl (λ d status l t q. tt)
+      alone_keeps Left (λ x l. l) AnyTable (λ t move is i. tt) AnyReply (λ t move is node reply a. tt) (λ t q x result status read l. (tt, tt)) E plain now m (new_of node xid name (CreateSession client sequence)) (create_session_op client sequence) refl refl refl (λ d status l its t q. (tt, tt))
   call_keeps now m node xid name (OnSlot session number call) any =
       let n : MdsValue = record m { sessions = after_binding m.sessions session node } in
       λ es ss i.
@@ -135,7 +135,7 @@ module _ (E : Entry → Type 0) (plain : (e : Entry) → IsNoReturn e → E e) w
       (λ effect. fine_ops (is_return_call call) (λ is. any is effect) (slot_ops name call) (ops_fit name call)) es ss (with_table m (after_binding m.sessions session node) es ss i)
 
   none_brought : (e : MdsEvent) → ((node : NodeId) (bytes : List ℕ) → e.input ≡ Hears node bytes → (xid : ℕ) (c : Rattle.nfs4_compound.specs.Compounds.CompoundValue) → Rattle.mds_receive.specs.MdsReceive.incoming_of bytes ≡ Rattle.mds_receive.specs.MdsReceive.IsCompound xid c → ⊥)
-      → (input : MdsInput) → e.input ≡ input → BringsNone Left (λ x l. l) AnyTable (λ t move is i. tt) AnyReply (λ t move is node reply a. tt) (λ t q x results status l. tt) E plain input
+      → (input : MdsInput) → e.input ≡ input → BringsNone Left (λ x l. l) AnyTable (λ t move is i. tt) AnyReply (λ t move is node reply a. tt) (λ t q x result status read l. (tt, tt)) E plain input
   none_brought e none (Hears node bytes) at = none node bytes at
   none_brought e none (IsTimedOut to) at = tt
   none_brought e none Ticks at = tt
@@ -149,8 +149,8 @@ module _ (E : Entry → Type 0) (plain : (e : Entry) → IsNoReturn e → E e) w
   event_keeps : (e : MdsEvent) (m : MdsValue) (b : Brings e) → AnyBrought e m b → Keeps So m (after_event e m)
   event_keeps e m (ACall node xid name call came fits) any =
       subst (λ (s : MdsStep). Keeps So m s) (sym (event_is e m node xid name call came))
-      (out_keeps Left (λ x l. l) AnyTable (λ t move is i. tt) AnyReply (λ t move is node reply a. tt) (λ t q x results status l. tt) E plain m (run_of_call e.now m node xid name call) (call_keeps e.now m node xid name call any))
-  event_keeps e m (Nothing none) any = other_keeps Left (λ x l. l) AnyTable (λ t move is i. tt) AnyReply (λ t move is node reply a. tt) (λ t q x results status l. tt) E plain e m (none_brought e none e.input refl)
+      (out_keeps Left (λ x l. l) AnyTable (λ t move is i. tt) AnyReply (λ t move is node reply a. tt) (λ t q x result status read l. (tt, tt)) E plain m (run_of_call e.now m node xid name call) (call_keeps e.now m node xid name call any))
+  event_keeps e m (Nothing none) any = other_keeps Left (λ x l. l) AnyTable (λ t move is i. tt) AnyReply (λ t move is node reply a. tt) (λ t q x result status read l. (tt, tt)) E plain e m (none_brought e none e.input refl)
 
 -- ---- behind each run
 
@@ -278,7 +278,7 @@ module _ (numbered : EffectsAreNumbered) (servers : List AddressValue) (mirrors 
     not_out there =
         none_in (calls_out [] step.mds).entries
         (Rattle.mds_replies.proofs.GoesWalk.out_walk (So IsNoReturn (λ x none. none)) (Rattle.mds_replies.proofs.HolderCases.out_of (So IsNoReturn (λ x none. none)) HeardAny Left
-        (cases Left (λ x l. l) AnyTable (λ t move is i. tt) AnyReply (λ t move is node reply a. tt) (λ t q x results status l. tt) IsNoReturn (λ x none. none))) [] step.mds [] (sent_with_calls step.mds.calls)
+        (cases Left (λ x l. l) AnyTable (λ t move is i. tt) AnyReply (λ t move is node reply a. tt) (λ t q x result status read l. (tt, tt)) IsNoReturn (λ x none. none))) [] step.mds [] (sent_with_calls step.mds.calls)
         (starts IsNoReturn (λ x none. none) step.mds step_waits)).entries file cred there
 
     given_back : (g : HasGiven m1 (client_in session) f stateid)

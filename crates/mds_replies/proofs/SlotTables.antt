@@ -10,6 +10,7 @@ use Rattle.nfs4_types.specs.declared.sequence.Sequence.{Sequence}
 use Rattle.nfs4_types.specs.declared.status.Stat4.{Stat4}
 use Rattle.nfs4_types.specs.declared.status.Stat4.TheVariants.{BadSession}
 use Rattle.nfs4_session.specs.declared.faults.IdFault.{IdFault}
+use Rattle.nfs4_session.specs.declared.begin.SlotPass.{SlotPass}
 use Rattle.nfs4_session.specs.Slots.{SlotState, SlotAnswer, Refuses, new_slot, slot_answer, slot_begun, slot_finished, kept_as}
 use Rattle.nfs4_session.specs.Clients.{ClientState, SessionState, SessionsState, has_id, has_number, client_in, number_in, session_of_client, change_first, remove_first, renewed_at, with_sessions}
 use Rattle.nfs4_session.specs.ExchangeIds.{ExchangeCase, IsKnown, IsAgain, ReplacesUnconfirmed, Restarts, IsNewOwner, exchange_case, exchange_fault, new_client, after_exchange, is_unconfirmed_of}
@@ -18,6 +19,7 @@ use Rattle.nfs4_session.specs.Requests.{answer_by_slot, answer_by_session, reque
 use Rattle.nfs4_session.specs.Bindings.{bound_to, bound_last, client_bound, last_session, called_back, client_called_back}
 use Rattle.nfs4_session.specs.Ends.{without_client, destroy_client_fault, has_ended}
 use Rattle.nfs4_session.specs.TableLaw.{TableMove, ExchangeId, CreateSession, BeginRequest, FinishRequest, Bind, CallBack, DestroySession, DestroyClient, Expire, table_after, exchanged_unless, called_back_by, destroyed_unless, expired_by}
+use Rattle.mds_replies.proofs.HolderCases.{IsNoTurn, no_turn_no_request}
 use Rattle.mds_laws.proofs.Keeping.{IsNoRequest}
 use Rattle.mds_laws.proofs.Lists.{AllOf, all_push, all_in, found_in, found_passes}
 
@@ -114,7 +116,16 @@ table_more P R stays s all =
 pub renewed_so : (P : ℕ → ℕ → SlotState → Type 0) (client now : ℕ) (cs : List ClientState) → AllOf (ClientSo P) cs → AllOf (ClientSo P) (change_first (has_id client) (renewed_at now) cs)
 renewed_so P client now cs all = all_change (ClientSo P) (ClientSo P) (has_id client) (renewed_at now) (λ c i. i) (λ c is i. i) cs all
 
-module _ (P : ℕ → ℕ → SlotState → Type 0) (finished : (client number sequence : ℕ) (reply : List ℕ) (slot : SlotState) → P client number slot → P client number (slot_finished sequence reply slot)) where
+module _ (P : ℕ → ℕ → SlotState → Type 0) where
+  -- a request's end with this reply keeps it
+  abbrev pub KeepsEnd : List ℕ → Type 0
+  KeepsEnd reply = (client number sequence : ℕ) (slot : SlotState) → P client number slot → P client number (slot_finished sequence reply slot)
+
+  -- what the call gives a slot to keep does
+  abbrev pub KeepsEnds : TableMove → Type 0
+  KeepsEnds (FinishRequest pass reply) = KeepsEnd reply
+  KeepsEnds move = Unit {0}
+
   abbrev So : ClientState → Type 0
   So c = AllOf (SessionSo P c.id) c.sessions
 
@@ -164,25 +175,60 @@ module _ (P : ℕ → ℕ → SlotState → Type 0) (finished : (client number s
   expired_so s (Some c) i = all_remove (ClientSo P) (has_id c.id) s.clients i
 
   -- where it holds of the slot of a session that is made
-  pub move_with : (s : SessionsState) (move : TableMove) → ((client : ℕ) → (table_after s move).numbers ≡ s.numbers + 1 → P client (s.numbers + 1) new_slot) → IsNoRequest move → TableSo P s → TableSo P (table_after s move)
-  move_with s (ExchangeId verifier owner now) new is i = exchanged_so s verifier owner now (exchange_case s.clients verifier owner) (exchange_fault s (exchange_case s.clients verifier owner)) i
-  move_with s (CreateSession client sequence program node now) new is i = created_so s program node now (create_session_case s client sequence) new i
-  move_with s (BeginRequest request now) new is i = absurd is
-  move_with s (FinishRequest pass reply) new is i =
+  pub move_by : (s : SessionsState) (move : TableMove) → KeepsEnds move → ((client : ℕ) → (table_after s move).numbers ≡ s.numbers + 1 → P client (s.numbers + 1) new_slot) → IsNoRequest move → TableSo P s → TableSo P (table_after s move)
+  move_by s (ExchangeId verifier owner now) ends new is i = exchanged_so s verifier owner now (exchange_case s.clients verifier owner) (exchange_fault s (exchange_case s.clients verifier owner)) i
+  move_by s (CreateSession client sequence program node now) ends new is i = created_so s program node now (create_session_case s client sequence) new i
+  move_by s (BeginRequest request now) ends new is i = absurd is
+  move_by s (FinishRequest pass reply) ends new is i =
       change (has_id (client_in pass.session)) (λ c. with_sessions c (change_first (has_number (number_in pass.session)) (change_slot pass.slot (slot_finished pass.sequence reply)) c.sessions))
       (λ c its. sessions_change c.id (has_number (number_in pass.session)) (change_slot pass.slot (slot_finished pass.sequence reply))
-      (λ x so. (changed_first pass.slot (slot_finished pass.sequence reply) x.slots so.0, change_so (P c.id x.number) (P c.id x.number) pass.slot (slot_finished pass.sequence reply) (λ slot p. p) (λ slot p. finished c.id x.number pass.sequence reply slot p) x.slots so.1)) c.sessions its) s.clients i
-  move_with s (Bind session node) new is i =
+      (λ x so. (changed_first pass.slot (slot_finished pass.sequence reply) x.slots so.0, change_so (P c.id x.number) (P c.id x.number) pass.slot (slot_finished pass.sequence reply) (λ slot p. p) (λ slot p. ends c.id x.number pass.sequence slot p) x.slots so.1)) c.sessions its) s.clients i
+  move_by s (Bind session node) ends new is i =
       change (has_id (client_in session)) (client_bound (number_in session) node) (λ c its. bound_so c.id (number_in session) node c.sessions (find (has_number (number_in session)) c.sessions) refl its) s.clients i
-  move_with s (CallBack client) new is i = back_so s client (last_session (find (has_id client) s.clients)) i
-  move_with s (DestroySession session) new is i =
+  move_by s (CallBack client) ends new is i = back_so s client (last_session (find (has_id client) s.clients)) i
+  move_by s (DestroySession session) ends new is i =
       change (has_id (client_in session)) (λ c. with_sessions c (remove_first (has_number (number_in session)) c.sessions)) (λ c its. all_remove (SessionSo P c.id) (has_number (number_in session)) c.sessions its) s.clients i
-  move_with s (DestroyClient client) new is i = destroyed_so s client (destroy_client_fault (find (has_id client) s.clients)) i
-  move_with s (Expire now) new is i = expired_so s (find (has_ended now) s.clients) i
+  move_by s (DestroyClient client) ends new is i = destroyed_so s client (destroy_client_fault (find (has_id client) s.clients)) i
+  move_by s (Expire now) ends new is i = expired_so s (find (has_ended now) s.clients) i
+
+module _ (P : ℕ → ℕ → SlotState → Type 0) (finished : (client number sequence : ℕ) (reply : List ℕ) (slot : SlotState) → P client number slot → P client number (slot_finished sequence reply slot)) where
+  any_ends : (move : TableMove) → KeepsEnds P move
+  any_ends (FinishRequest pass reply) = λ client number sequence slot p. finished client number sequence reply slot p
+  any_ends (ExchangeId verifier owner now) = tt
+  any_ends (CreateSession client sequence program node now) = tt
+  any_ends (BeginRequest request now) = tt
+  any_ends (Bind session node) = tt
+  any_ends (CallBack client) = tt
+  any_ends (DestroySession session) = tt
+  any_ends (DestroyClient client) = tt
+  any_ends (Expire now) = tt
+
+  pub move_with : (s : SessionsState) (move : TableMove) → ((client : ℕ) → (table_after s move).numbers ≡ s.numbers + 1 → P client (s.numbers + 1) new_slot) → IsNoRequest move → TableSo P s → TableSo P (table_after s move)
+  move_with s move new is i = move_by P s move (any_ends move) new is i
 
 module _ (P : ℕ → ℕ → SlotState → Type 0) (new : (client number : ℕ) → P client number new_slot) (finished : (client number sequence : ℕ) (reply : List ℕ) (slot : SlotState) → P client number slot → P client number (slot_finished sequence reply slot)) where
   pub move_so : (s : SessionsState) (move : TableMove) → IsNoRequest move → TableSo P s → TableSo P (table_after s move)
   move_so s move is i = move_with P finished s move (λ client due. new client (s.numbers + 1)) is i
+
+module _ (P : ℕ → ℕ → SlotState → Type 0) where
+  -- ---- a call that begins no request and ends none, and one that ends one
+
+  other_ends : (move : TableMove) → IsNoTurn move → KeepsEnds P move
+  other_ends (FinishRequest pass reply) none = absurd none
+  other_ends (ExchangeId verifier owner now) none = tt
+  other_ends (CreateSession client sequence program node now) none = tt
+  other_ends (BeginRequest request now) none = tt
+  other_ends (Bind session node) none = tt
+  other_ends (CallBack client) none = tt
+  other_ends (DestroySession session) none = tt
+  other_ends (DestroyClient client) none = tt
+  other_ends (Expire now) none = tt
+
+  pub turn_so : ((client number : ℕ) → P client number new_slot) → (s : SessionsState) (move : TableMove) → IsNoTurn move → TableSo P s → TableSo P (table_after s move)
+  turn_so new s move none i = move_by P s move (other_ends move none) (λ client due. new client (s.numbers + 1)) (no_turn_no_request move none) i
+
+  pub end_so : ((client number : ℕ) → P client number new_slot) → (s : SessionsState) (pass : SlotPass) (reply : List ℕ) → KeepsEnd P reply → TableSo P s → TableSo P (after_finish s pass reply)
+  end_so new s pass reply ends i = move_by P s (FinishRequest pass reply) ends (λ client due. new client (s.numbers + 1)) tt i
 
   -- ---- a request begins on the first slot
 

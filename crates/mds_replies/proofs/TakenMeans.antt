@@ -26,8 +26,8 @@ use Rattle.nfs4_types.specs.Status.{stat4_number}
 use Rattle.nfs4_types.specs.Stateids.{layout_stateid_of}
 use Rattle.nfs4_compound.specs.Results.{resop4}
 use Rattle.nfs4_compound.specs.Compounds.{compound4_res}
-use Rattle.nfs4_session.specs.Slots.{TakesEffect}
-use Rattle.nfs4_session.specs.Clients.{client_in}
+use Rattle.nfs4_session.specs.Slots.{SlotState, TakesEffect, kept_as, slot_begun}
+use Rattle.nfs4_session.specs.Clients.{SessionsState, client_in, session_of}
 use Rattle.nfs4_session.specs.Requests.{request_answer, pass_of}
 use Rattle.nfs4_session.specs.Bindings.{after_binding}
 use Rattle.mds_file_calls.specs.declared.grant.LayoutGrant.{LayoutGrant}
@@ -50,13 +50,15 @@ use Rattle.mds_laws.proofs.Lists.{In, in_more}
 use Rattle.mds_replies.specs.ClientCalls.{IsCallFrom, HearsCall, AreCalls, server_after, IsEventOf}
 use Rattle.mds_replies.specs.SlotReplies.{request_of, TookEffect, EffectsAreNumbered}
 use Rattle.mds_replies.specs.LayoutReplies.{HasPeriod}
-use Rattle.mds_replies.specs.AnsweredRequests.{HearsFitCall, AreFitCalls, FitsMirrorId, HasSpareNumbers, StaysRoomy, IsGrantedNow, GrantsSo, ReturnsSo, MeansSo}
+use Rattle.mds_replies.specs.AnsweredRequests.{HearsFitCall, AreFitCalls, FitsMirrorId, HasSpareNumbers, StaysRoomy, first_slot, slot_of, KeepsAnswer, IsGrantedNow, GrantsSo, GrantsIfGranted, ReturnsSo, MeansSo}
 use Rattle.mds_replies.proofs.Periods.{run_behind}
 use Rattle.mds_replies.proofs.OutCalls.{AreCalled, are_called}
 use Rattle.mds_replies.proofs.ReplySent.{event_is, reply_is}
 use Rattle.mds_replies.proofs.HoldersHold.{HolderHolds, holder_holds, uid_was_drawn, seqid_fits}
 use Rattle.mds_replies.proofs.KeptFiles.{FileStandsAs, out_kept}
 use Rattle.mds_replies.proofs.GrantRead.{grant_read}
+use Rattle.mds_replies.proofs.KeptReplies.{has_begun, has_finished, kept_short, out_leaves}
+use Rattle.mds_replies.proofs.GetSizes.{refused_short, granted_short}
 use Rattle.mds_replies.proofs.ReplyForms.{sequence_fits, refused_says, done_says}
 use Rattle.mds_replies.proofs.TakenRequests.{taken_mds, taken_compound, taken_is, HasEnded}
 use Rattle.mds_replies.proofs.LayoutGetRuns.{HasGot, GetEnds, IsRefused, Grants, get_ends}
@@ -128,7 +130,7 @@ module _ (numbered : EffectsAreNumbered) (servers : List AddressValue) (mirrors 
     holds file s at = holder_holds servers mirrors early now_room.fresh file s at
 
     -- the reply is the compound's
-    own_reply : (n : MdsValue) (results : List (Value resop4)) (status : Stat4) → HasEnded m1 n node xid (pass_of (request_of session number call)) results status step → (reply : RpcReply)
+    pub own_reply : (n : MdsValue) (results : List (Value resop4)) (status : Stat4) → HasEnded m1 n node xid (pass_of (request_of session number call)) results status step → (reply : RpcReply)
         → In (Replies node reply) (after_event f (server_after servers mirrors early)).sends → reply ≡ success_reply xid (spelling compound4_res (stat4_number status, ([], results)))
     own_reply n results status ended reply sent =
         reply_is f (server_after servers mirrors early) step node node reply (success_reply xid (spelling compound4_res (stat4_number status, ([], results)))) after_is ended.sends
@@ -141,6 +143,24 @@ module _ (numbered : EffectsAreNumbered) (servers : List AddressValue) (mirrors 
         subst (λ (x : MdsValue). FileStandsAs s.file.layout s.holder s.seqid x.files file) (sym (one_more servers mirrors early f ∙ ap (λ (x : MdsStep). x.mds) after_is))
         (out_kept s.file.layout s.holder s.seqid file step.mds
         (subst (λ (x : MdsValue). FileStandsAs s.file.layout s.holder s.seqid x.files file) (sym ended.mds) (record { its = s; there = at; layout_is = refl; holder_is = refl; seqid_is = refl })))
+
+    -- the slot keeps the reply behind the event
+    pub keeps_then : (n : MdsValue) (results : List (Value resop4)) (status : Stat4) → HasEnded m1 n node xid (pass_of (request_of session number call)) results status step
+        → length (spelling compound4_res (stat4_number status, ([], results))) ≤ 32768
+        → KeepsAnswer (server_after servers mirrors (early ++ f ∷ [])) session call (reply_of_ask (ask_on_slot call) (success_reply xid (spelling compound4_res (stat4_number status, ([], results))))).answer
+    keeps_then n results status ended short =
+        let bytes : List ℕ = spelling compound4_res (stat4_number status, ([], results)) in
+        let bound : SessionsState = after_binding (server_after servers mirrors early).sessions session node in
+        let kept : SlotState = record { last = number; reply = kept_as bytes } in
+        let begun : slot_of n session ≡ Some (slot_begun number) = subst (λ (s : SessionsState). first_slot (session_of s.clients session) ≡ Some (slot_begun number)) (sym ended.same.sessions) (has_begun session bound number call f.now effect) in
+        let done : slot_of step.mds session ≡ Some kept = subst (λ (x : MdsValue). slot_of x session ≡ Some kept) (sym ended.mds) (has_finished session bound number call f.now n.sessions bytes begun) in
+        record {
+          slot = kept;
+          there = subst (λ (x : MdsValue). slot_of x session ≡ Some kept) (sym (one_more servers mirrors early f ∙ ap (λ (x : MdsStep). x.mds) after_is)) (out_leaves session kept step.mds done);
+          bytes = bytes;
+          kept = kept_short bytes short;
+          says = refl;
+        }
 
     entered_then : (x : Entry) → In x step.entries → In x (after_event f (server_after servers mirrors early)).entries
     entered_then x inside = subst (λ (s : MdsStep). In x s.entries) (sym after_is) (in_more x step.entries (calls_out [] step.mds).entries inside)
@@ -157,7 +177,7 @@ module _ (numbered : EffectsAreNumbered) (servers : List AddressValue) (mirrors 
         (sequence_result (request_of session number (slot.LayoutGet file))) file.file GotStep
     get_of =
         get_ends f.now (taken_mds f.now (server_after servers mirrors early) node session number (slot.LayoutGet file)) node xid (pass_of (request_of session number (slot.LayoutGet file))) true
-        (mds_ops name (OnSlot session number (slot.LayoutGet file))) (sequence_result (request_of session number (slot.LayoutGet file))) (first_fits (slot.LayoutGet file) came effect its_id) file.file small file.stateid
+        (mds_ops name (OnSlot session number (slot.LayoutGet file))) (sequence_result (request_of session number (slot.LayoutGet file))) (first_fits (slot.LayoutGet file) came effect its_id) refl file.file small file.stateid
         now_room.fresh (λ g s at. holder_holds servers mirrors early now_room.fresh g s at) (λ g s at. seqid_fits servers mirrors early g s at)
 
     granted_so : (n : MdsValue) (got : HasGot (taken_mds f.now (server_after servers mirrors early) node session number (slot.LayoutGet file)) n (client_in session) file.file GotStep.entries)
@@ -193,20 +213,33 @@ module _ (numbered : EffectsAreNumbered) (servers : List AddressValue) (mirrors 
         by_whence (inl now) = inl (now.0, entered_then (slot.LayoutGet file) came effect its_id _ now.1)
         by_whence (inr p) = inr (record { file_is = p.file_is; there = p.there; holder = p.holder; node = p.node; is_recalled = p.is_recalled; phase = p.phase; its_uid = p.its_uid })
 
+    means_of : (reply : RpcReply) (n : MdsValue) (results : List (Value resop4)) (status : Stat4)
+        → HasEnded (taken_mds f.now (server_after servers mirrors early) node session number (slot.LayoutGet file)) n node xid (pass_of (request_of session number (slot.LayoutGet file))) results status GotStep
+        → reply ≡ success_reply xid (spelling compound4_res (stat4_number status, ([], results))) → length (spelling compound4_res (stat4_number status, ([], results))) ≤ 32768
+        → KeepsAnswer (server_after servers mirrors (early ++ f ∷ [])) session (slot.LayoutGet file) (reply_of_ask ask.LayoutGet reply).answer
+    means_of reply n results status ended is short =
+        subst (λ (r : RpcReply). KeepsAnswer (server_after servers mirrors (early ++ f ∷ [])) session (slot.LayoutGet file) (reply_of_ask ask.LayoutGet r).answer) (sym is)
+        (keeps_then (slot.LayoutGet file) came effect its_id n results status ended short)
+
     pub get_means : (reply : RpcReply) → In (Replies node reply) (after_event f (server_after servers mirrors early)).sends → MeansSo servers mirrors early f session (slot.LayoutGet file) (reply_of_ask ask.LayoutGet reply).answer
     get_means reply sent = by_end get_of
       where
         by_end : GetEnds (taken_mds f.now (server_after servers mirrors early) node session number (slot.LayoutGet file)) node xid (pass_of (request_of session number (slot.LayoutGet file)))
             (sequence_result (request_of session number (slot.LayoutGet file))) file.file GotStep → MeansSo servers mirrors early f session (slot.LayoutGet file) (reply_of_ask ask.LayoutGet reply).answer
-        by_end (IsRefused n results status ended some) =
-            subst (λ (a : MdsAnswerValue). MeansSo servers mirrors early f session (slot.LayoutGet file) a)
-            (sym (ap (λ (r : RpcReply). (reply_of_ask ask.LayoutGet r).answer) (own_reply (slot.LayoutGet file) came effect its_id n results status ended reply sent) ∙ refused_says ask.LayoutGet xid (stat4_number status) results ended.fits some)) tt
+        by_end (IsRefused n results status ended some few) =
+            (means_of reply n results status ended (own_reply (slot.LayoutGet file) came effect its_id n results status ended reply sent)
+            (refused_short (request_of session number (slot.LayoutGet file)) (stat4_number status) results its_id few),
+            subst (λ (a : MdsAnswerValue). GrantsIfGranted servers mirrors early f (client_in session) file.file a)
+            (sym (ap (λ (r : RpcReply). (reply_of_ask ask.LayoutGet r).answer) (own_reply (slot.LayoutGet file) came effect its_id n results status ended reply sent) ∙ refused_says ask.LayoutGet xid (stat4_number status) results ended.fits some)) tt)
         by_end (Grants n got ended) =
-            subst (λ (a : MdsAnswerValue). MeansSo servers mirrors early f session (slot.LayoutGet file) a)
+            (means_of reply n (sequence_result (request_of session number (slot.LayoutGet file)) ∷ arm 22 resop4 (inl tt) ∷ layout_of_file file.file got.its ∷ []) stat.Ok ended
+            (own_reply (slot.LayoutGet file) came effect its_id n (sequence_result (request_of session number (slot.LayoutGet file)) ∷ arm 22 resop4 (inl tt) ∷ layout_of_file file.file got.its ∷ []) stat.Ok ended reply sent)
+            (granted_short (request_of session number (slot.LayoutGet file)) file.file got.its its_id got.short),
+            subst (λ (a : MdsAnswerValue). GrantsIfGranted servers mirrors early f (client_in session) file.file a)
             (sym (ap (λ (r : RpcReply). (reply_of_ask ask.LayoutGet r).answer) (own_reply (slot.LayoutGet file) came effect its_id n (sequence_result (request_of session number (slot.LayoutGet file)) ∷ arm 22 resop4 (inl tt) ∷ layout_of_file file.file got.its ∷ []) stat.Ok ended reply sent) ∙ done_says ask.LayoutGet xid (sequence_result (request_of session number (slot.LayoutGet file)) ∷ arm 22 resop4 (inl tt) ∷ layout_of_file file.file got.its ∷ []) ended.fits))
-            (by_read (layout_get_ok (layout_of_file file.file got.its)) refl)
+            (by_read (layout_get_ok (layout_of_file file.file got.its)) refl))
           where
-            by_read : (o : Option LayoutGrant) → layout_get_ok (layout_of_file file.file got.its) ≡ o → MeansSo servers mirrors early f session (slot.LayoutGet file) (answer_where Granted o)
+            by_read : (o : Option LayoutGrant) → layout_get_ok (layout_of_file file.file got.its) ≡ o → GrantsIfGranted servers mirrors early f (client_in session) file.file (answer_where Granted o)
             by_read None is = tt
             by_read (Some grant) is = granted_so n got ended grant is
 
@@ -228,7 +261,7 @@ module _ (numbered : EffectsAreNumbered) (servers : List AddressValue) (mirrors 
     pub return_of : ReturnEnds GivenMds node xid (pass_of (request_of session number (slot.LayoutReturn file stateid failed))) (sequence_result (request_of session number (slot.LayoutReturn file stateid failed))) file stateid failed GivenStep
     return_of =
         return_ends f.now GivenMds node xid (pass_of (request_of session number call)) true (mds_ops name (OnSlot session number call)) (sequence_result (request_of session number call))
-        (first_fits call came effect its_id) file fits.0 stateid failed fits.1.1 (λ g s at. holder_holds servers mirrors early now_room.fresh g s at)
+        (first_fits call came effect its_id) refl file fits.0 stateid failed fits.1.1 (λ g s at. holder_holds servers mirrors early now_room.fresh g s at)
         (λ g s at held. (uid_was_drawn servers mirrors early g s at held, now_room.creds g s at))
 
     -- the input of the table of phases

@@ -23,6 +23,8 @@ use Rattle.nfs4_session.specs.Slots.{SlotAnswer, TakesEffect}
 use Rattle.nfs4_session.specs.Requests.{request_answer, after_request, pass_of}
 use Rattle.nfs4_session.specs.Bindings.{after_binding}
 use Rattle.mds_file_calls.specs.FileOps.{put_fh_op}
+use Rattle.mds_calls.specs.declared.reply.SlotReport.TheVariants.{Taken}
+use Rattle.mds_calls.specs.MdsReplies.{slot_answer_of}
 use Rattle.mds_calls.specs.MdsCalls.{SlotCallValue, OnSlot, is_kept_reply}
 use Rattle.mds_calls.specs.MdsCompounds.{slot_ops, mds_ops}
 use Rattle.mds_operations.specs.declared.object.Object.{Object}
@@ -62,12 +64,13 @@ taken_is now m node xid name session number call effect =
 
 -- ---- how it ends
 
--- The compound ended by this status and with these results: its slot keeps the reply, which is all that is sent. `n` is the server behind the
--- operations.
+-- The compound ended by this status and with these results, of which the first is the SEQUENCE's: its slot keeps the reply, which is all that is
+-- sent. `n` is the server behind the operations.
 pub record HasEnded (m n : MdsValue) (node : NodeId) (xid : ℕ) (pass : SlotPass) (results : List (Value resop4)) (status : Stat4) (step : MdsStep) : Type 0 where
   pub mds : step.mds ≡ record n { sessions = kept_in_slot n.sessions (Some pass) (spelling compound4_res (stat4_number status, ([], results))) }
   pub sends : step.sends ≡ Replies node (success_reply xid (spelling compound4_res (stat4_number status, ([], results)))) ∷ []
   pub same : SameTable m n
+  pub taken : slot_answer_of results ≡ Taken
   pub fits : Fits compound4_res (stat4_number status, ([], results))
 
 -- ---- PUTFH in front of another operation

@@ -5,7 +5,7 @@ use Rattle.std.specs.List.{list_any}
 use Rattle.std.proofs.lemmas.Bool.{cond_both}
 use Rattle.std.proofs.lemmas.List.{append-nil}
 use Rattle.std.proofs.lemmas.Option.{same_Some, none-some}
-use Rattle.ff_xdr.specs.Form.{Value, spelling, arm_of}
+use Rattle.ff_xdr.specs.Form.{Value, arm_of}
 use Rattle.ff_xdr.specs.Arms.{of_each_arm}
 use Rattle.rpc_record.specs.Replies.{RpcReply}
 use Rattle.compound_reply.specs.Replied.{success_reply}
@@ -23,12 +23,11 @@ use Rattle.recall.specs.Recalls.{without_file}
 use Rattle.nfs4_types.specs.declared.ids.SessionId.{SessionId}
 use Rattle.nfs4_types.specs.declared.status.Stat4.{Stat4}
 use Rattle.nfs4_types.specs.declared.status.Stat4.TheVariants as stat
-use Rattle.nfs4_types.specs.Status.{stat4_number}
 use Rattle.nfs4_compound.specs.declared.stop.Stop.{Stop}
 use Rattle.nfs4_compound.specs.declared.stop.Stop.TheVariants as stop
 use Rattle.nfs4_compound.specs.Args.{argop4}
 use Rattle.nfs4_compound.specs.Results.{resop4}
-use Rattle.nfs4_compound.specs.Compounds.{CompoundValue, compound4_res}
+use Rattle.nfs4_compound.specs.Compounds.{CompoundValue}
 use Rattle.nfs4_session.specs.declared.begin.SlotPass.{SlotPass}
 use Rattle.nfs4_session.specs.Clients.{SessionsState}
 use Rattle.nfs4_session.specs.TableLaw.{TableMove, FinishRequest, DestroySession, table_after}
@@ -52,7 +51,8 @@ use Rattle.mds_laws.proofs.Keeping.{moved, HeardAny, Becomes, Keeps, KeepsOp, Ta
 use Rattle.mds_laws.proofs.Numbers.{WereSent, sent_more, sent_with, sent_without}
 use Rattle.mds_laws.proofs.OpsWalk.{place_served}
 use Rattle.mds_laws.proofs.Requested.{behind_begin}
-use Rattle.mds_replies.proofs.HolderCases.{plain_no_request, AllWait, Cases, WaitCases, out_of, comes_unasked}
+use Rattle.mds_replies.proofs.HolderCases.{plain_no_request, IsNoTurn, plain_no_turn, AllWait, Cases, WaitCases, out_of, comes_unasked}
+use Rattle.mds_replies.proofs.LegibleResults.{IsLegible}
 use Rattle.mds_replies.proofs.WaitingCompounds.{same_wait}
 use Rattle.mds_replies.proofs.ServedWalk.{exchanges, creates, binds, destroys_session, destroys_client, reclaims_all}
 use Rattle.mds_replies.proofs.OpsWalk.{puts_fh, gets_fh, looks_up, gets_attr, opens, closes_file, commits, reads, writes, layout_gets, layout_returns, layout_commits, device_infos}
@@ -116,6 +116,34 @@ or_true : (a b : Bool) → b ≡ true → (a || b) ≡ true
 or_true true b is = refl
 or_true false b is = is
 
+-- ---- what is so of a compound's run
+
+abbrev pub StepsTo : (CompoundRun → Type 0) → OpStep → Type 0
+StepsTo P (Goes m entries d) = P d
+StepsTo P (Ends m entries d status) = P d
+StepsTo P (Waits m entries) = Unit {0}
+
+-- where it is so with these operations to come, it is so behind each
+abbrev pub Says : (List (Value argop4) → CompoundRun → Type 0) → List (Value argop4) → Type 0
+Says L [] = Unit {0}
+Says L (op ∷ ops) = ((now : ℕ) (m : MdsValue) (c : CompoundRun) → L (op ∷ ops) c → StepsTo (L ops) (operates now m c op)) × Says L ops
+
+-- nothing
+abbrev pub AnyRun : CompoundRun → Type 0
+AnyRun c = Unit {0}
+
+abbrev pub AnyLeft : List (Value argop4) → CompoundRun → Type 0
+AnyLeft ops c = Unit {0}
+
+pub steps_any : (s : OpStep) → StepsTo AnyRun s
+steps_any (Goes m entries d) = tt
+steps_any (Ends m entries d status) = tt
+steps_any (Waits m entries) = tt
+
+pub says_any : (ops : List (Value argop4)) → Says AnyLeft ops
+says_any [] = tt
+says_any (op ∷ ops) = (λ now m c its. steps_any (operates now m c op), says_any ops)
+
 pub record Stands (W : CompoundRun → Type 0) (Q : SessionsState → Type 0) (A : SessionsState → NodeId → RpcReply → Type 0) (E : Entry → Type 0) (files : List ServedFile) (sessions : SessionsState) (calls : List AwaitedCall) (es : List Entry)
     (ss : List MdsSend) : Type 0 where
   pub waits : AllOf (λ (s : ServedFile). AllWait W s.reads s.write) files
@@ -124,10 +152,10 @@ pub record Stands (W : CompoundRun → Type 0) (Q : SessionsState → Type 0) (A
   pub replies : (node : NodeId) (reply : RpcReply) → In (Replies node reply) ss → A sessions node reply
   pub were : WereSent calls ss
 
-module _ (W : CompoundRun → Type 0) (left : (c : CompoundRun) → W c → (c.ops ≡ []) × (c.stop ≡ stop.End None)) (Q : SessionsState → Type 0) (keeps : (s : SessionsState) (move : TableMove) → IsNoRequest move → Q s → Q (table_after s move))
+module _ (W : CompoundRun → Type 0) (left : (c : CompoundRun) → W c → (c.ops ≡ []) × (c.stop ≡ stop.End None)) (Q : SessionsState → Type 0) (keeps : (s : SessionsState) (move : TableMove) → IsNoTurn move → Q s → Q (table_after s move))
     (A : SessionsState → NodeId → RpcReply → Type 0) (stays_said : (s : SessionsState) (move : TableMove) → IsNoRequest move → (node : NodeId) (reply : RpcReply) → A s node reply → A (table_after s move) node reply)
-    (replied : (s : SessionsState) → Q s → (c : CompoundRun) (results : List (Value resop4)) (status : Stat4) → W c
-    → A (kept_in_slot s c.slot (spelling compound4_res (stat4_number status, (c.tag, c.results ++ results)))) c.node (success_reply c.xid (spelling compound4_res (stat4_number status, (c.tag, c.results ++ results)))))
+    (replied : (s : SessionsState) → Q s → (c : CompoundRun) (result : Value resop4) (status : Stat4) → IsLegible result → W c
+    → Q (kept_in_slot s c.slot (compound_bytes (with_result c result) status)) × A (kept_in_slot s c.slot (compound_bytes (with_result c result) status)) c.node (success_reply c.xid (compound_bytes (with_result c result) status)))
     (E : Entry → Type 0) (plain : (e : Entry) → IsNoReturn e → E e) where
   abbrev pub IsSo : MdsValue → List Entry → List MdsSend → Type 0
   IsSo m es ss = Stands W Q A E m.files m.sessions m.calls es ss
@@ -238,7 +266,7 @@ module _ (W : CompoundRun → Type 0) (left : (c : CompoundRun) → W c → (c.o
   cases = record {
     wait = λ m es ss i file s at. wait_at m file s at i.waits;
     quiet = λ m confirmed opens reclaimed recalls old es ss i. i;
-    tables = λ m move is es ss i. record { waits = i.waits; table = keeps m.sessions move (plain_no_request move is) i.table; entries = i.entries; replies = λ node reply inside. stays_said m.sessions move (plain_no_request move is) node reply (i.replies node reply inside); were = i.were };
+    tables = λ m move is es ss i. record { waits = i.waits; table = keeps m.sessions move (plain_no_turn move is) i.table; entries = i.entries; replies = λ node reply inside. stays_said m.sessions move (plain_no_request move is) node reply (i.replies node reply inside); were = i.were };
     notes = λ m e note es ss i. record { waits = i.waits; table = i.table; entries = all_push E es e i.entries (plain e (note_no_return e note)); replies = i.replies; were = i.were };
     puts = λ m file s t at same holder seqid write waits es ss i. set m file t m.calls es ss ss (waits (wait_at m file s at i.waits)) i.replies i.were i;
     again_to = λ m file s client at its es ss i. held m file s client true at es ss i;
@@ -273,9 +301,15 @@ module _ (W : CompoundRun → Type 0) (left : (c : CompoundRun) → W c → (c.o
 
   -- ---- a compound that ends
 
-  slot_keeps : (m : MdsValue) (slot : Option SlotPass) (bytes : List ℕ) → Becomes IsSo m (record m { sessions = kept_in_slot m.sessions slot bytes })
-  slot_keeps m None bytes = λ es ss i. i
-  slot_keeps m (Some slot) bytes = cases.tables m (FinishRequest slot bytes) tt
+  slot_keeps : (m : MdsValue) (slot : Option SlotPass) (bytes : List ℕ) (es : List Entry) (ss : List MdsSend) → Q (kept_in_slot m.sessions slot bytes) → IsSo m es ss → IsSo (record m { sessions = kept_in_slot m.sessions slot bytes }) es ss
+  slot_keeps m None bytes es ss its i = i
+  slot_keeps m (Some slot) bytes es ss its i = record {
+    waits = i.waits;
+    table = its;
+    entries = i.entries;
+    replies = λ node reply inside. stays_said m.sessions (FinishRequest slot bytes) tt node reply (i.replies node reply inside);
+    were = i.were;
+  }
 
   abbrev parts_in : MdsSend → NodeId × RpcReply → NodeId × RpcReply
   parts_in (CallsServer server xid uid call) other = other
@@ -288,35 +322,43 @@ module _ (W : CompoundRun → Type 0) (left : (c : CompoundRun) → W c → (c.o
       let same : (other, said) ≡ (node, reply) = ap (λ (s : MdsSend). parts_in s (node, reply)) is in
       subst (λ (p : NodeId × RpcReply). A t p.0 p.1) (sym same) its
 
-  pub finish_keeps : (m : MdsValue) (c : CompoundRun) (status : Stat4) → (Q m.sessions → A (kept_in_slot m.sessions c.slot (compound_bytes c status)) c.node (success_reply c.xid (compound_bytes c status))) → Keeps IsSo m (finishes m c status)
+  pub finish_keeps : (m : MdsValue) (c : CompoundRun) (status : Stat4)
+      → (Q m.sessions → Q (kept_in_slot m.sessions c.slot (compound_bytes c status)) × A (kept_in_slot m.sessions c.slot (compound_bytes c status)) c.node (success_reply c.xid (compound_bytes c status))) → Keeps IsSo m (finishes m c status)
   finish_keeps m c status its es ss i =
       let n : MdsValue = record m { sessions = kept_in_slot m.sessions c.slot (compound_bytes c status) } in
       let reply = success_reply c.xid (compound_bytes c status) in
+      let both = its i.table in
       subst (λ (l : List Entry). IsSo n l (ss ++ Replies c.node reply ∷ [])) (sym (append-nil es))
-      (sends n es ss (Replies c.node reply) (own_reply n.sessions c.node reply (its i.table)) (slot_keeps m c.slot (compound_bytes c status) es ss i))
+      (sends n es ss (Replies c.node reply) (own_reply n.sessions c.node reply both.1) (slot_keeps m c.slot (compound_bytes c status) es ss both.0 i))
 
-  waiting_done : (now : ℕ) (m : MdsValue) (c : CompoundRun) (result : Value resop4) → W c → Keeps IsSo m (resumes now (is_done_as m c result) c.ops)
-  waiting_done now m c result its =
+  waiting_done : (now : ℕ) (m : MdsValue) (c : CompoundRun) (result : Value resop4) → IsLegible result → W c → Keeps IsSo m (resumes now (is_done_as m c result) c.ops)
+  waiting_done now m c result read its =
       let d : CompoundRun = with_result c result in
       subst (λ (ops : List (Value argop4)). Keeps IsSo m (op_then (Goes m [] d) (λ n x. runs now ops n x))) (sym (left c its).0)
       (subst (λ (s : Stop). Keeps IsSo m (op_then (Goes m [] d) (λ n x. op_then (stopped n (with_ops x []) s) (λ k y. sends_none k)))) (sym (left c its).1)
       (enters_keeps IsSo m m [] (op_then (Ends m [] (with_ops d []) stat.Ok) (λ k y. sends_none k)) (stays IsSo m)
-      (enters_keeps IsSo m m [] (finishes m (with_ops d []) stat.Ok) (stays IsSo m) (finish_keeps m (with_ops d []) stat.Ok (λ q. replied m.sessions q c (result ∷ []) stat.Ok its)))))
+      (enters_keeps IsSo m m [] (finishes m (with_ops d []) stat.Ok) (stays IsSo m) (finish_keeps m (with_ops d []) stat.Ok (λ q. replied m.sessions q c result stat.Ok read its)))))
 
   pub waiting : WaitCases IsSo W
   waiting = record {
     done = waiting_done;
-    failed = λ now m c number its.
-        enters_keeps IsSo m m [] (finishes m (with_result c (refused_as number stat.Io)) stat.Io) (stays IsSo m) (finish_keeps m (with_result c (refused_as number stat.Io)) stat.Io (λ q. replied m.sessions q c (refused_as number stat.Io ∷ []) stat.Io its));
+    failed = λ now m c number read its.
+        enters_keeps IsSo m m [] (finishes m (with_result c (refused_as number stat.Io)) stat.Io) (stays IsSo m) (finish_keeps m (with_result c (refused_as number stat.Io)) stat.Io (λ q. replied m.sessions q c (refused_as number stat.Io) stat.Io read its));
   }
 
   -- ---- the operations of a compound
 
-  op_keeps : (m : MdsValue) (c : CompoundRun) (s : OpStep) (next : MdsValue → CompoundRun → MdsStep) → KeepsOp IsSo m s → StepsLike c s
-      → ((d : CompoundRun) (status : Stat4) → Like c d → (t : SessionsState) → Q t → A (kept_in_slot t d.slot (compound_bytes d status)) d.node (success_reply d.xid (compound_bytes d status))) → ((n : MdsValue) (d : CompoundRun) → Like c d → Keeps IsSo n (next n d)) → Keeps IsSo m (op_then s next)
-  op_keeps m c (Goes n entries d) next q like mine all = enters_keeps IsSo m n entries (next n d) q (all n d like)
-  op_keeps m c (Ends n entries d status) next q like mine all = enters_keeps IsSo m n entries (finishes n d status) q (finish_keeps n d status (λ q. mine d status like n.sessions q))
-  op_keeps m c (Waits n entries) next q like mine all = enters_keeps IsSo m n entries (sends_none n) q (same IsSo n)
+  -- what a compound's reply leaves, where P is so of its run
+  abbrev Ended : CompoundRun → (CompoundRun → Type 0) → Type 0
+  Ended c P =
+      (d : CompoundRun) (status : Stat4) → Like c d → P d → (t : SessionsState) → Q t
+      → Q (kept_in_slot t d.slot (compound_bytes d status)) × A (kept_in_slot t d.slot (compound_bytes d status)) d.node (success_reply d.xid (compound_bytes d status))
+
+  op_keeps : (m : MdsValue) (c : CompoundRun) (P : CompoundRun → Type 0) (s : OpStep) (next : MdsValue → CompoundRun → MdsStep) → KeepsOp IsSo m s → StepsLike c s → StepsTo P s → Ended c P
+      → ((n : MdsValue) (d : CompoundRun) → Like c d → P d → Keeps IsSo n (next n d)) → Keeps IsSo m (op_then s next)
+  op_keeps m c P (Goes n entries d) next q like to mine all = enters_keeps IsSo m n entries (next n d) q (all n d like to)
+  op_keeps m c P (Ends n entries d status) next q like to mine all = enters_keeps IsSo m n entries (finishes n d status) q (finish_keeps n d status (λ q. mine d status like to n.sessions q))
+  op_keeps m c P (Waits n entries) next q like to mine all = enters_keeps IsSo m n entries (sends_none n) q (same IsSo n)
 
   returned_any : ((e : Entry) → E e) → (m : MdsValue) (file : FileId) (s : ServedFile) (n : ℕ) (cred : Cred) (errors : List (Value ff_ioerr4)) → TakesInput IsSo m file s (Returns n cred (report_of errors s.file.layout.live))
   returned_any any m file s n cred errors at fresh es ss i =
@@ -404,30 +446,42 @@ module _ (W : CompoundRun → Type 0) (left : (c : CompoundRun) → W c → (c.o
   with_ops_like c ops = record { node = refl; xid = refl; tag = refl; stop = refl; slot = refl; more = []; results = sym (append-nil c.results) }
 
   -- none is left
-  end_keeps : (now : ℕ) (m : MdsValue) (c : CompoundRun) → c.stop ≡ stop.End None → ((d : CompoundRun) (status : Stat4) → Like c d → (t : SessionsState) → Q t → A (kept_in_slot t d.slot (compound_bytes d status)) d.node (success_reply d.xid (compound_bytes d status))) → Keeps IsSo m (runs now [] m c)
-  end_keeps now m c end mine =
+  end_keeps : (now : ℕ) (m : MdsValue) (c : CompoundRun) (P : CompoundRun → Type 0) → c.stop ≡ stop.End None → P (with_ops c []) → Ended c P → Keeps IsSo m (runs now [] m c)
+  end_keeps now m c P end its mine =
       subst (λ (s : Stop). Keeps IsSo m (op_then (stopped m (with_ops c []) s) (λ n d. sends_none n))) (sym end)
-      (enters_keeps IsSo m m [] (finishes m (with_ops c []) stat.Ok) (stays IsSo m) (finish_keeps m (with_ops c []) stat.Ok (λ q. mine (with_ops c []) stat.Ok (with_ops_like c []) m.sessions q)))
+      (enters_keeps IsSo m m [] (finishes m (with_ops c []) stat.Ok) (stays IsSo m) (finish_keeps m (with_ops c []) stat.Ok (λ q. mine (with_ops c []) stat.Ok (with_ops_like c []) its m.sessions q)))
 
-  pub run_keeps : (now : ℕ) (ops : List (Value argop4)) → AreFine ops → (m : MdsValue) (c : CompoundRun) → c.stop ≡ stop.End None
-      → ((d : CompoundRun) (status : Stat4) → Like c d → (t : SessionsState) → Q t → A (kept_in_slot t d.slot (compound_bytes d status)) d.node (success_reply d.xid (compound_bytes d status))) → ((d : CompoundRun) → Like c d → d.ops ≡ [] → has_waiting ops ≡ true → W d) → Keeps IsSo m (runs now ops m c)
-  run_keeps now [] fine m c end mine waits = end_keeps now m c end mine
-  run_keeps now (op ∷ ops) fine m c end mine waits =
-      let x : CompoundRun = with_ops c ops in
-      let like : Like c x = with_ops_like c ops in
-      op_keeps m x (operates now m x op) (λ n d. runs now ops n d) (operates_keeps now m x op (λ is. waits x like (fine.0.last is) (ap (λ (b : Bool). b || has_waiting ops) is)) fine.0.any) (operates_like now m x op) (λ d status l. mine d status (like_then c x d like l))
-      (λ n d l. run_keeps now ops fine.1 n d (l.stop ∙ end) (λ y status r. mine y status (like_then c d y (like_then c x d like l) r)) (λ y r none some. waits y (like_then c d y (like_then c x d like l) r) none (or_true (is_waiting_op (arm_of argop4 op)) (has_waiting ops) some)))
+  -- L is so of the run of a compound with these operations to come
+  module _ (L : List (Value argop4) → CompoundRun → Type 0) (on : (left ops : List (Value argop4)) (c : CompoundRun) → L left c → L left (with_ops c ops)) where
+    abbrev EachEnd : CompoundRun → Type 0
+    EachEnd c = (left : List (Value argop4)) → Ended c (L left)
+
+    each_then : (c d : CompoundRun) → Like c d → EachEnd c → EachEnd d
+    each_then c d like mine left x status l its t q = mine left x status (like_then c d x like l) its t q
+
+    pub run_keeps : (now : ℕ) (ops : List (Value argop4)) → AreFine ops → Says L ops → (m : MdsValue) (c : CompoundRun) → L ops c → c.stop ≡ stop.End None → EachEnd c
+        → ((d : CompoundRun) (op : Value argop4) → Like c d → L (op ∷ []) d → d.ops ≡ [] → has_waiting ops ≡ true → W d) → Keeps IsSo m (runs now ops m c)
+    run_keeps now [] fine says m c its end mine waits = end_keeps now m c (L []) end (on [] [] c its) (mine [])
+    run_keeps now (op ∷ ops) fine says m c its end mine waits =
+        let x : CompoundRun = with_ops c ops in
+        let like : Like c x = with_ops_like c ops in
+        let so : L (op ∷ ops) x = on (op ∷ ops) ops c its in
+        op_keeps m x (L ops) (operates now m x op) (λ n d. runs now ops n d)
+        (operates_keeps now m x op (λ is. waits x op like (subst (λ (rest : List (Value argop4)). L (op ∷ rest) x) (fine.0.last is) so) (fine.0.last is) (ap (λ (b : Bool). b || has_waiting ops) is)) fine.0.any) (operates_like now m x op) (says.0 now m x so)
+        (each_then c x like mine ops)
+        (λ n d l to.
+        run_keeps now ops fine.1 says.1 n d to (l.stop ∙ end) (each_then c d (like_then c x d like l) mine)
+        (λ y o r done none some. waits y o (like_then c d y (like_then c x d like l) r) done none (or_true (is_waiting_op (arm_of argop4 op)) (has_waiting ops) some)))
 
   -- an operation without a SEQUENCE, alone
-  pub alone_keeps : (now : ℕ) (m : MdsValue) (c : CompoundRun) (op : Value argop4) → is_waiting_op (arm_of argop4 op) ≡ false → (arm_of argop4 op == 51) ≡ false → c.stop ≡ stop.End None
-      → ((d : CompoundRun) (status : Stat4) → Like c d → (t : SessionsState) → Q t → A (kept_in_slot t d.slot (compound_bytes d status)) d.node (success_reply d.xid (compound_bytes d status)))
+  pub alone_keeps : (now : ℕ) (m : MdsValue) (c : CompoundRun) (op : Value argop4) → is_waiting_op (arm_of argop4 op) ≡ false → (arm_of argop4 op == 51) ≡ false → c.stop ≡ stop.End None → Ended c AnyRun
       → Keeps IsSo m (op_then (operate now m (with_ops c []) op) (λ n d. runs now [] n d))
   alone_keeps now m c op quick other end mine =
       let x : CompoundRun = with_ops c [] in
       let like : Like c x = with_ops_like c [] in
-      op_keeps m x (operate now m x op) (λ n d. runs now [] n d) (operate_keeps now m x op (λ is. absurd (not_so (sym quick ∙ is))) (λ is. absurd (not_so (sym other ∙ is)))) (operate_like now m x op)
-      (λ d status l. mine d status (like_then c x d like l))
-      (λ n d l. end_keeps now n d (l.stop ∙ end) (λ y status r. mine y status (like_then c d y (like_then c x d like l) r)))
+      op_keeps m x AnyRun (operate now m x op) (λ n d. runs now [] n d) (operate_keeps now m x op (λ is. absurd (not_so (sym quick ∙ is))) (λ is. absurd (not_so (sym other ∙ is)))) (operate_like now m x op) (steps_any (operate now m x op))
+      (λ d status l its. mine d status (like_then c x d like l) its)
+      (λ n d l to. end_keeps now n d AnyRun (l.stop ∙ end) tt (λ y status r its. mine y status (like_then c d y (like_then c x d like l) r) its))
     where
       not_so : false ≡ true → ⊥
       not_so e = absurd cc

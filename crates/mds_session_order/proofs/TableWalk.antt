@@ -291,8 +291,8 @@ module _ (P : SessionsState → Type 0) (keeps : (s : SessionsState) (move : Tab
 
   waiting : WaitCases IsSo W
   waiting = record {
-    done = λ now m c result its. enters_keeps IsSo m m [] (runs now c.ops m (with_result c result)) (stays IsSo m) (run_keeps now c.ops m (with_result c result) its);
-    failed = λ now m c number its. enters_keeps IsSo m m [] (finishes m (with_result c (refused_as number stat.Io)) stat.Io) (stays IsSo m) (finish_keeps m (with_result c (refused_as number stat.Io)) stat.Io);
+    done = λ now m c result read its. enters_keeps IsSo m m [] (runs now c.ops m (with_result c result)) (stays IsSo m) (run_keeps now c.ops m (with_result c result) its);
+    failed = λ now m c number read its. enters_keeps IsSo m m [] (finishes m (with_result c (refused_as number stat.Io)) stat.Io) (stays IsSo m) (finish_keeps m (with_result c (refused_as number stat.Io)) stat.Io);
   }
 
   -- ---- the first one, behind what its request leaves of the table of clients
