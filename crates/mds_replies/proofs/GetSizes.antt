@@ -17,8 +17,6 @@ use Rattle.mds_rule.specs.LayoutOps.{layout_of_file}
 use Rattle.mds_rule.specs.Compounds.{sequence_result}
 use Rattle.mds_replies.proofs.LayoutGetRuns.{IsShort, words_length}
 
-
-
 pub compound_size : (status : ℕ) (results : List (Value resop4)) → length (spelling compound4_res (status, ([], results))) ≡ 12 + length (flat_map (λ (v : Value resop4). spelling resop4 v) results)
 compound_size status results =
     let all = flat_map (λ (v : Value resop4). spelling resop4 v) results in

@@ -226,18 +226,20 @@ module _ (numbered : EffectsAreNumbered) (servers : List AddressValue) (mirrors 
       where
         by_end : GetEnds (taken_mds f.now (server_after servers mirrors early) node session number (slot.LayoutGet file)) node xid (pass_of (request_of session number (slot.LayoutGet file)))
             (sequence_result (request_of session number (slot.LayoutGet file))) file.file GotStep → MeansSo servers mirrors early f session (slot.LayoutGet file) (reply_of_ask ask.LayoutGet reply).answer
-        by_end (IsRefused n results status ended some few) =
-            (means_of reply n results status ended (own_reply (slot.LayoutGet file) came effect its_id n results status ended reply sent)
-            (refused_short (request_of session number (slot.LayoutGet file)) (stat4_number status) results its_id few),
-            subst (λ (a : MdsAnswerValue). GrantsIfGranted servers mirrors early f (client_in session) file.file a)
-            (sym (ap (λ (r : RpcReply). (reply_of_ask ask.LayoutGet r).answer) (own_reply (slot.LayoutGet file) came effect its_id n results status ended reply sent) ∙ refused_says ask.LayoutGet xid (stat4_number status) results ended.fits some)) tt)
-        by_end (Grants n got ended) =
-            (means_of reply n (sequence_result (request_of session number (slot.LayoutGet file)) ∷ arm 22 resop4 (inl tt) ∷ layout_of_file file.file got.its ∷ []) stat.Ok ended
-            (own_reply (slot.LayoutGet file) came effect its_id n (sequence_result (request_of session number (slot.LayoutGet file)) ∷ arm 22 resop4 (inl tt) ∷ layout_of_file file.file got.its ∷ []) stat.Ok ended reply sent)
-            (granted_short (request_of session number (slot.LayoutGet file)) file.file got.its its_id got.short),
-            subst (λ (a : MdsAnswerValue). GrantsIfGranted servers mirrors early f (client_in session) file.file a)
-            (sym (ap (λ (r : RpcReply). (reply_of_ask ask.LayoutGet r).answer) (own_reply (slot.LayoutGet file) came effect its_id n (sequence_result (request_of session number (slot.LayoutGet file)) ∷ arm 22 resop4 (inl tt) ∷ layout_of_file file.file got.its ∷ []) stat.Ok ended reply sent) ∙ done_says ask.LayoutGet xid (sequence_result (request_of session number (slot.LayoutGet file)) ∷ arm 22 resop4 (inl tt) ∷ layout_of_file file.file got.its ∷ []) ended.fits))
-            (by_read (layout_get_ok (layout_of_file file.file got.its)) refl))
+        by_end (IsRefused n results status ended some few) = (
+          means_of reply n results status ended (own_reply (slot.LayoutGet file) came effect its_id n results status ended reply sent)
+              (refused_short (request_of session number (slot.LayoutGet file)) (stat4_number status) results its_id few),
+          subst (λ (a : MdsAnswerValue). GrantsIfGranted servers mirrors early f (client_in session) file.file a)
+              (sym (ap (λ (r : RpcReply). (reply_of_ask ask.LayoutGet r).answer) (own_reply (slot.LayoutGet file) came effect its_id n results status ended reply sent) ∙ refused_says ask.LayoutGet xid (stat4_number status) results ended.fits some)) tt,
+        )
+        by_end (Grants n got ended) = (
+          means_of reply n (sequence_result (request_of session number (slot.LayoutGet file)) ∷ arm 22 resop4 (inl tt) ∷ layout_of_file file.file got.its ∷ []) stat.Ok ended
+              (own_reply (slot.LayoutGet file) came effect its_id n (sequence_result (request_of session number (slot.LayoutGet file)) ∷ arm 22 resop4 (inl tt) ∷ layout_of_file file.file got.its ∷ []) stat.Ok ended reply sent)
+              (granted_short (request_of session number (slot.LayoutGet file)) file.file got.its its_id got.short),
+          subst (λ (a : MdsAnswerValue). GrantsIfGranted servers mirrors early f (client_in session) file.file a)
+              (sym (ap (λ (r : RpcReply). (reply_of_ask ask.LayoutGet r).answer) (own_reply (slot.LayoutGet file) came effect its_id n (sequence_result (request_of session number (slot.LayoutGet file)) ∷ arm 22 resop4 (inl tt) ∷ layout_of_file file.file got.its ∷ []) stat.Ok ended reply sent) ∙ done_says ask.LayoutGet xid (sequence_result (request_of session number (slot.LayoutGet file)) ∷ arm 22 resop4 (inl tt) ∷ layout_of_file file.file got.its ∷ []) ended.fits))
+              (by_read (layout_get_ok (layout_of_file file.file got.its)) refl),
+        )
           where
             by_read : (o : Option LayoutGrant) → layout_get_ok (layout_of_file file.file got.its) ≡ o → GrantsIfGranted servers mirrors early f (client_in session) file.file (answer_where Granted o)
             by_read None is = tt

@@ -16,7 +16,7 @@ use Rattle.ff_replay.specs.declared.setup.Setup.TheVariants.{Bare, Cluster}
 use Rattle.ff_replay.specs.Script.{Script, script_of, run_from}
 use Rattle.ff_laws.specs.ReadLaw.{ObeysReads}
 use Rattle.world_moves.specs.WorldMoves.{TellsTruth}
-use Rattle.world_reads.specs.WorldReads.{IsJournalInRange}
+use Rattle.world_journal.specs.Journal.{IsJournalInRange}
 
 -- what the lines of a script enter: up to the first that is outside the grammar, or the event that would pass a limit
 abbrev pub script_journal : List (List ℕ) → List Entry

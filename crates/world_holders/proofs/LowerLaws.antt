@@ -10,7 +10,7 @@ use Rattle.client_sends.specs.SendsOfUsers.{SendsAsUser}
 use Rattle.client_sessions.specs.LayoutEnds.{EntersGranted, EachRunStraysAtOnce, EachRunTakesBytes}
 use Rattle.client_records.specs.ClientRecords.{EachRunIsSpelled, EachRunIsNumbered}
 use Rattle.node_histories.specs.NodeHistories.{IsToldByNodes}
-use Rattle.world_reads.specs.WorldReads.{IsJournalInRange}
+use Rattle.world_journal.specs.Journal.{IsJournalInRange}
 use Rattle.world_layouts.specs.WorldLayouts.{GrantsAreOnce, GrantsAreTold, UidsAreOwn, StateidsAreOnce, ReturnsAreSent, ReturnsHaveEnded}
 use Rattle.client_sessions.specs.EnteredFiles.{EntersForFile}
 use Rattle.world_holders.proofs.HolderFacts.{EachRunOwnsPeriods, AreEntriesTogether, StraysHaveLeft}

@@ -3,7 +3,7 @@ use Rattle.std.specs.Prelude.{ℕ, ◌^◌, ◌<◌, List, length}
 use Rattle.cluster_world.specs.ClusterWorlds.{ClusterState}
 use Rattle.node_histories.specs.NodeHistories.{IsToldByNodes}
 use Rattle.world_moves.specs.WorldMoves.{IsRunOf}
-use Rattle.world_reads.specs.WorldReads.{IsJournalInRange}
+use Rattle.world_journal.specs.Journal.{IsJournalInRange}
 use Rattle.holder_parts.specs.HolderParts.{HoldersKeepParts}
 use Rattle.world_layouts.specs.WorldLayouts.{GrantsAreOnce}
 use Rattle.world_layouts.specs.LayoutsInOrder.{HasLayoutsInOrder}

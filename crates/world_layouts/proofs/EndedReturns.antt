@@ -45,7 +45,7 @@ use Rattle.node_histories.specs.Weaves.{items_in}
 use Rattle.node_histories.specs.NodeHistories.{IsToldByNodes}
 use Rattle.node_histories.proofs.WeaveLemmas.{items_join}
 use Rattle.world_moves.specs.WorldMoves.{IsRunOf}
-use Rattle.world_reads.specs.WorldReads.{IsJournalInRange}
+use Rattle.world_journal.specs.Journal.{IsJournalInRange}
 use Rattle.world_reads.proofs.Steps.{Splits, Longer, Shorter, splits, all_first}
 use Rattle.world_reads.proofs.OwnEntries.{IsToldStep, all_told}
 use Rattle.world_reads.proofs.MdsPlaces.{Steps}

@@ -22,7 +22,7 @@ use Rattle.node_histories.specs.Weaves.{items_in}
 use Rattle.node_histories.specs.ClientLives.{Life, start_of}
 use Rattle.node_histories.specs.NodeHistories.{HasLife, IsToldByNodes}
 use Rattle.world_moves.specs.WorldMoves.{IsRunOf}
-use Rattle.world_reads.specs.WorldReads.{IsJournalInRange}
+use Rattle.world_journal.specs.Journal.{IsJournalInRange}
 use Rattle.world_reads.proofs.Steps.{Splits, Longer, Shorter, splits, all_first}
 use Rattle.world_reads.proofs.LifeRecords.{compound}
 use Rattle.mds_replies.specs.AnsweredRequests.{StaysRoomy, GrantsSo}

@@ -36,7 +36,7 @@ use Rattle.node_histories.specs.NodeHistories.{HasLife, IsToldByNodes}
 use Rattle.node_histories.proofs.WeaveLemmas.{entries_join, items_join}
 use Rattle.world_moves.specs.WorldMoves.{IsRunOf}
 use Rattle.world_moves.proofs.ReplyRecords.{incoming_reply}
-use Rattle.world_reads.specs.WorldReads.{IsJournalInRange}
+use Rattle.world_journal.specs.Journal.{IsJournalInRange}
 use Rattle.world_reads.proofs.Steps.{all_by_places}
 use Rattle.world_reads.proofs.OwnEntries.{all_told, journal_at}
 use Rattle.world_reads.proofs.MdsPlaces.{hearing, ArrivedAt, arrived_at}

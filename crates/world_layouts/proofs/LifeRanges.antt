@@ -16,9 +16,10 @@ use Rattle.client_records.specs.ClientRecords.{AreBytes, IsInputInRange, EachRun
 use Rattle.node_histories.specs.Weaves.{IsUnseen, WeaveStep, Passes, Unseen, Seen, entries_in, items_in, HasPacket, IsShownAs, AreWoven}
 use Rattle.node_histories.specs.ClientLives.{client_shown, Life, start_of}
 use Rattle.node_histories.specs.NodeHistories.{IsInputOfScript}
-use Rattle.world_reads.specs.WorldReads.{IsEntryInRange, IsJournalInRange}
+use Rattle.world_journal.specs.Journal.{IsEntryInRange, IsJournalInRange}
 use Rattle.world_reads.proofs.Steps.{all_second}
 use Rattle.world_reads.proofs.Lives.{LifeFacts}
+use Rattle.world_reads.proofs.LifeRecords.{are_bytes}
 use Rattle.client_sessions.specs.FittingCalls.{AsksFit, EachRunAsksFit}
 
 -- ---- what came to it is of bytes
@@ -48,7 +49,7 @@ module _ (journal : List Entry) (range : IsJournalInRange journal) where
   packet_bytes begun rest is number from to bytes p =
       let packet : Entry = entry.Packet number from to bytes in
       let whole : journal ≡ p.before ++ packet ∷ (p.behind ++ rest) = is ∙ (ap (λ (l : List Entry). l ++ rest) p.split ∙ append_assoc p.before (packet ∷ p.behind) rest) in
-      all_split IsEntryInRange p.before packet (p.behind ++ rest) (subst IsJournalInRange whole range)
+      are_bytes bytes (all_split IsEntryInRange p.before packet (p.behind ++ rest) (subst IsJournalInRange whole range))
 
   seen_heard : (node : NodeId) (begun rest : List Entry) → journal ≡ begun ++ rest → (item : HistoryItem) (e : Entry) → IsShownAs node begun (client_shown item) e → IsOfBytes item
   seen_heard node begun rest is (Hears (Recorded from bytes now)) (entry.Delivered number) shown = packet_bytes begun rest is number from node bytes shown

@@ -19,7 +19,7 @@ use Rattle.node_histories.specs.Weaves.{ItemShown, IsUnseen, IsArrival, WeaveSte
 use Rattle.node_histories.specs.ClientLives.{client_shown, Life, journal_of, IsLife}
 use Rattle.node_histories.specs.NodeHistories.{ClientStory, HasLife, is_client_entry, is_mds_entry, is_server_entry, is_world_entry, Origin, EnteredByClient, EnteredByMds, EnteredByServer, EnteredByWorld, SentByClient, SentByMds, SentByServer, IsToldByNodes}
 use Rattle.node_histories.proofs.WeaveLemmas.{items_join, IsSeenAt, seen_at}
-use Rattle.world_reads.specs.WorldReads.{IsJournalInRange}
+use Rattle.world_journal.specs.Journal.{IsJournalInRange}
 use Rattle.world_reads.proofs.Steps.{HasItemIn, ItemStep, item_step}
 use Rattle.world_reads.proofs.OwnEntries.{no_true}
 use Rattle.world_reads.proofs.Lives.{LifeFacts, life_facts, LivesOf, lives_of}

@@ -36,7 +36,7 @@ use Rattle.node_histories.specs.ClientLives.{Life, start_of}
 use Rattle.node_histories.specs.NodeHistories.{HasLife, IsToldByNodes}
 use Rattle.node_histories.proofs.WeaveLemmas.{items_join}
 use Rattle.world_moves.specs.WorldMoves.{IsRunOf}
-use Rattle.world_reads.specs.WorldReads.{IsJournalInRange}
+use Rattle.world_journal.specs.Journal.{IsJournalInRange}
 use Rattle.world_reads.proofs.Steps.{all_first}
 use Rattle.world_reads.proofs.LifeRecords.{compound}
 use Rattle.world_layouts.specs.ReadReplies.{IsRefusedSo}

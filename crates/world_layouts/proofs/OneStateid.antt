@@ -9,7 +9,7 @@ use Rattle.client_laws.specs.ClientRunLaws.{WasGranted}
 use Rattle.node_histories.specs.ClientLives.{Life, start_of}
 use Rattle.node_histories.specs.NodeHistories.{HasLife, IsToldByNodes}
 use Rattle.world_moves.specs.WorldMoves.{IsRunOf}
-use Rattle.world_reads.specs.WorldReads.{IsJournalInRange}
+use Rattle.world_journal.specs.Journal.{IsJournalInRange}
 use Rattle.mds_replies.specs.AnsweredRequests.{StaysRoomy}
 use Rattle.world_layouts.specs.WorldLayouts.{IsOneRequestEach, StartsAreFew, StateidsAreOnce}
 use Rattle.world_layouts.proofs.GrantedUids.{LayoutLaws, GrantTook, grant_took, IsMoment, moment_of, items_of_life}

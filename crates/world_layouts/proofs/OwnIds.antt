@@ -26,7 +26,7 @@ use Rattle.node_histories.specs.Weaves.{items_in}
 use Rattle.node_histories.specs.ClientLives.{Life, IsOneOf, AreLives}
 use Rattle.node_histories.specs.NodeHistories.{HasLife, IsToldByNodes}
 use Rattle.world_moves.specs.WorldMoves.{IsRunOf}
-use Rattle.world_reads.specs.WorldReads.{IsJournalInRange}
+use Rattle.world_journal.specs.Journal.{IsJournalInRange}
 use Rattle.world_reads.proofs.Steps.{same_front}
 use Rattle.world_reads.proofs.Lives.{LivesOf}
 use Rattle.world_reads.proofs.LifeRecords.{compound}

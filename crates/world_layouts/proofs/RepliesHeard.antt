@@ -26,7 +26,8 @@ use Rattle.world_moves.specs.WorldMoves.{IsRunOf}
 use Rattle.client_records.specs.ClientRecords.{AreBytes}
 use Rattle.client_records.proofs.HeldBytes.{by_place}
 use Rattle.cluster_laws.proofs.Lists.{all_split}
-use Rattle.world_reads.specs.WorldReads.{IsEntryInRange, IsJournalInRange}
+use Rattle.world_journal.specs.Journal.{IsEntryInRange, IsJournalInRange}
+use Rattle.world_reads.proofs.LifeRecords.{are_bytes}
 use Rattle.world_reads.proofs.MdsPlaces.{Steps, SentIn, sent_in}
 use Rattle.mds_replies.specs.GivenAnswers.{EachReplyIsWhole, IsAnsweredNow, EachAnswerIsNow, EachReplyIsAsked}
 use Rattle.world_layouts.proofs.MdsMoments.{IsSentBy, sent_by}
@@ -171,7 +172,7 @@ module _ (laws : ReplyLaws) (boots : List ℕ) (w : ClusterState) (run : IsRunOf
   pub answers_call : (past behind : List Entry) (number n : ℕ) (bytes : List ℕ) → w.journal ≡ past ++ entry.Packet number Mds (Client n) bytes ∷ behind → (reply : RpcReply) → reply_at bytes ≡ Ok reply → AnswersCall t past n reply
   answers_call past behind number n bytes whole reply is =
       let s : SentTo t past number n bytes = sent_to w t past behind number n bytes whole in
-      let are : AreBytes bytes = all_split IsEntryInRange past (entry.Packet number Mds (Client n) bytes) behind (subst IsJournalInRange whole range) in
+      let are : AreBytes bytes = are_bytes bytes (all_split IsEntryInRange past (entry.Packet number Mds (Client n) bytes) behind (subst IsJournalInRange whole range)) in
       let r : SentReply (after_event s.e (server_after t.mds.servers t.mds.mirrors s.before)).sends n bytes = reply_of_send s.before s.after s.e s.split n bytes are reply is s.send s.sent s.spelled in
       let a : AnswersRequest t.mds.servers t.mds.mirrors (s.before ++ s.e ∷ []) (Client n) r.reply =
       laws.stands t.mds.servers t.mds.mirrors t.mds.events s.before s.after s.e (are_fit_calls laws.calls boots w run t few range) roomy s.split (Client n) r.reply r.sent in

@@ -43,7 +43,7 @@ use Rattle.node_histories.specs.ClientLives.{client_shown, Life}
 use Rattle.node_histories.specs.NodeHistories.{HasLife, is_client_entry, is_server_entry, is_world_entry, Origin, EnteredByClient, EnteredByMds, EnteredByServer, EnteredByWorld, SentByClient, SentByMds, SentByServer, IsToldByNodes}
 use Rattle.node_histories.proofs.WeaveLemmas.{entries_join, items_join}
 use Rattle.world_moves.specs.WorldMoves.{IsRunOf}
-use Rattle.world_reads.specs.WorldReads.{IsJournalInRange}
+use Rattle.world_journal.specs.Journal.{IsJournalInRange}
 use Rattle.world_reads.proofs.Steps.{HasItemIn, ItemStep, item_step, all_first}
 use Rattle.world_reads.proofs.OwnEntries.{no_true, IsToldStep, all_told, journal_at as mds_journal_at, live_told}
 use Rattle.world_reads.proofs.MdsPlaces.{Steps, hearing, ArrivedAt, arrived_at}

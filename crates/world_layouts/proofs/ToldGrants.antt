@@ -33,7 +33,7 @@ use Rattle.node_histories.specs.ClientLives.{Life}
 use Rattle.node_histories.specs.NodeHistories.{HasLife, IsToldByNodes}
 use Rattle.node_histories.proofs.WeaveLemmas.{items_join}
 use Rattle.world_moves.specs.WorldMoves.{IsRunOf}
-use Rattle.world_reads.specs.WorldReads.{IsJournalInRange}
+use Rattle.world_journal.specs.Journal.{IsJournalInRange}
 use Rattle.world_reads.proofs.LifeRecords.{compound}
 use Rattle.mds_replies.specs.AnsweredRequests.{StaysRoomy, layout_read}
 use Rattle.mds_replies.specs.PeriodEntries.{IsBegun, PeriodsBegin, IsConfirmed, PeriodsAreConfirmed}

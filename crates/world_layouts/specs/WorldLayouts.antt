@@ -29,7 +29,7 @@ use Rattle.mds_laws.proofs.Lists.{In}
 use Rattle.node_histories.specs.Weaves.{WeaveStep, Seen, entries_in, items_in}
 use Rattle.node_histories.specs.ClientLives.{Life, start_of}
 use Rattle.node_histories.specs.NodeHistories.{HasLife, IsToldByNodes}
-use Rattle.world_reads.specs.WorldReads.{IsJournalInRange}
+use Rattle.world_journal.specs.Journal.{IsJournalInRange}
 use Rattle.mds_replies.specs.AnsweredRequests.{StaysRoomy}
 
 -- ---- moments of a life

@@ -46,7 +46,7 @@ use Rattle.ff_laws.specs.declared.read_call.ReadCall.{ReadCall}
 use Rattle.ff_laws.specs.ReadCalls.{read_by, client_read_of}
 use Rattle.ff_laws.specs.ReadLaw as law
 use Rattle.ff_laws.proofs.ServedReads.{IsReadServed, served_lawful}
-use Rattle.world_reads.specs.WorldReads.{IsJournalInRange}
+use Rattle.world_journal.specs.Journal.{IsJournalInRange}
 use Rattle.world_reads.proofs.Steps.{ItemSplit, split_items, same_front, all_first, all_second}
 use Rattle.world_reads.proofs.OwnEntries.{no_true, IsToldStep, all_told, journal_at, live_told, no_swaps}
 use Rattle.world_reads.proofs.MdsPlaces.{Steps, hearing, ArrivedAt, arrived_at}

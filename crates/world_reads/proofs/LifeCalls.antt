@@ -16,7 +16,7 @@ use Rattle.client_records.specs.ClientRecords.{NumbersOn, WasAskedAs, IsNumbered
 use Rattle.node_histories.specs.Weaves.{WeaveStep, Seen, items_in, AreWoven, StandsAt}
 use Rattle.node_histories.specs.ClientLives.{client_shown, Life, start_of, client_of, IsOneOf, AreLives}
 use Rattle.node_histories.proofs.WeaveLemmas.{items_join, IsSeenAt, seen_at}
-use Rattle.world_reads.specs.WorldReads.{IsJournalInRange}
+use Rattle.world_journal.specs.Journal.{IsJournalInRange}
 use Rattle.world_reads.proofs.SilentClients.{AsksNone, StaysSilent, stays_silent}
 use Rattle.world_reads.proofs.Lives.{LifeFacts, first_fits}
 use Rattle.world_reads.proofs.LifeRecords.{compound, life_spelled, one_compound, from_first, below_next}

@@ -1,6 +1,7 @@
 -- What a life of a client sends has a spelling, since all that came to it is in range; and each compound has a number of its own.
-use Rattle.std.proofs.Common.{◌≡◌, ◌<◌, ◌≤◌, ℕ, ◌^◌, List, [], ◌∷◌, ◌++◌, Option, Some, None, refl, sym, ap, subst, ◌∙◌, inl, inr, ◌⊎◌, arith, append_assoc}
+use Rattle.std.proofs.Common.{◌≡◌, ◌<◌, ◌≤◌, ℕ, suc, ◌^◌, List, [], ◌∷◌, ◌++◌, Some, sym, ap, subst, ◌∙◌, inl, inr, arith, append_assoc}
 use Rattle.std.specs.List.{AllByRecursion}
+use Rattle.ff_xdr.specs.Laws.{IsBytes}
 use Rattle.cluster_model.specs.declared.ids.NodeId.{NodeId}
 use Rattle.cluster_model.specs.declared.ids.NodeId.TheVariants.{Client}
 use Rattle.cluster_model.specs.declared.entry.Entry.{Entry}
@@ -9,7 +10,7 @@ use Rattle.cluster_laws.proofs.Lists.{all_split}
 use Rattle.mds_calls.specs.MdsCalls.{MdsCallValue}
 use Rattle.client_state.specs.declared.request.UserRequest.TheVariants.{Open, Write, Through, Commit, Read, Return}
 use Rattle.client_state.specs.ClientStates.{ClientValue}
-use Rattle.client_state.specs.ClientSends.{ClientSend, CallsServer, CallsMds, RepeatsToServer, RepeatsToMds, RepliesToMds}
+use Rattle.client_state.specs.ClientSends.{ClientSend, CallsMds}
 use Rattle.client_calls.specs.ClientLaws.{new_number}
 use Rattle.client_laws.specs.ClientHistory.{ClientInput, Requested, Recorded, TimeoutOf, Ticked, LeftProtocol, Strayed, input_step, HistoryItem, Hears, Enters, Sends, entered, sent, HasItem, Each, client_history}
 use Rattle.client_laws.proofs.Orders.{in_more, in_end}
@@ -17,7 +18,7 @@ use Rattle.client_records.specs.ClientRecords.{AreBytes, IsInputInRange, HasSpel
 use Rattle.node_histories.specs.Weaves.{IsUnseen, WeaveStep, Passes, Unseen, Seen, entries_in, items_in, HasPacket, IsShownAs, AreWoven}
 use Rattle.node_histories.specs.ClientLives.{client_shown, Life, start_of}
 use Rattle.node_histories.specs.NodeHistories.{IsInputOfScript}
-use Rattle.world_reads.specs.WorldReads.{IsEntryInRange, IsJournalInRange}
+use Rattle.world_journal.specs.Journal.{IsEntryInRange, IsJournalInRange}
 use Rattle.world_reads.proofs.Steps.{all_second}
 use Rattle.world_reads.proofs.Lives.{LifeFacts}
 
@@ -43,12 +44,17 @@ unseen_heard (Hears (Strayed place at bytes)) is = tt
 unseen_heard (Enters entry) is = tt
 unseen_heard (Sends send) is = tt
 
+-- by bytes and by places
+pub are_bytes : (bytes : List ℕ) → IsBytes bytes → AreBytes bytes
+are_bytes [] is = tt
+are_bytes (b ∷ bytes) is = (is 0, are_bytes bytes (λ i. is (suc i)))
+
 module _ (journal : List Entry) (range : IsJournalInRange journal) where
   packet_bytes : (begun rest : List Entry) → journal ≡ begun ++ rest → (number : ℕ) (from to : NodeId) (bytes : List ℕ) → HasPacket begun number from to bytes → AreBytes bytes
   packet_bytes begun rest is number from to bytes p =
       let packet : Entry = entry.Packet number from to bytes in
       let whole : journal ≡ p.before ++ packet ∷ (p.behind ++ rest) = is ∙ (ap (λ (l : List Entry). l ++ rest) p.split ∙ append_assoc p.before (packet ∷ p.behind) rest) in
-      all_split IsEntryInRange p.before packet (p.behind ++ rest) (subst IsJournalInRange whole range)
+      are_bytes bytes (all_split IsEntryInRange p.before packet (p.behind ++ rest) (subst IsJournalInRange whole range))
 
   seen_heard : (node : NodeId) (begun rest : List Entry) → journal ≡ begun ++ rest → (item : HistoryItem) (e : Entry) → IsShownAs node begun (client_shown item) e → IsHeard item
   seen_heard node begun rest is (Hears (Recorded from bytes now)) (entry.Delivered number) shown = packet_bytes begun rest is number from node bytes shown

@@ -11,7 +11,7 @@ use Rattle.cluster_model.specs.Journal.{is_mirror}
 use Rattle.cluster_laws.specs.FenceLaw.{is_file, swapped_in, first_free, changed_live, live_after, live_by, live_in}
 use Rattle.cluster_laws.proofs.Lists.{all_append}
 use Rattle.mds_laws.proofs.Lists.{In}
-use Rattle.world_reads.specs.WorldReads.{IsEntryInRange, IsJournalInRange}
+use Rattle.world_journal.specs.Journal.{IsEntryInRange, IsJournalInRange}
 
 abbrev Fits : MirrorId → Type 0
 Fits m = m.fileid < 2 ^ 64

@@ -19,7 +19,7 @@ use Rattle.node_histories.specs.Weaves.{IsUnseen, IsArrival, WeaveStep, Passes, 
 use Rattle.node_histories.specs.ClientLives.{client_shown, Life, start_of, client_of, journal_of, IsLife, Restarts, IsFirst, IsOneOf, AreLives}
 use Rattle.node_histories.specs.NodeHistories.{ClientStory, IsClientStory, AreClientStories, IsRequestOfScript, IsInputOfScript, LivesOfScript, HasLife}
 use Rattle.node_histories.proofs.Stories.{AreOfScript, at_number, count_from_1}
-use Rattle.world_reads.specs.WorldReads.{IsEntryInRange}
+use Rattle.world_journal.specs.Journal.{IsEntryInRange}
 use Rattle.world_reads.proofs.Steps.{all_second}
 
 -- ---- the numbers with which a life starts

@@ -32,7 +32,7 @@ use Rattle.ff_laws.specs.declared.read_call.ReadCall.{ReadCall}
 use Rattle.ff_laws.specs.ReadCalls.{handle_number}
 use Rattle.ff_laws.specs.ReadLaw as law
 use Rattle.world_reads.proofs.Steps.{all_first, all_second}
-use Rattle.world_reads.specs.WorldReads.{IsEntryInRange, IsJournalInRange}
+use Rattle.world_journal.specs.Journal.{IsEntryInRange, IsJournalInRange}
 use Rattle.world_reads.proofs.OwnEntries.{IsToldStep, all_told, journal_at, no_replies}
 use Rattle.world_reads.proofs.MdsPlaces.{Steps, EnteredAt, entered_at, SentAt, sent_at, in_sends}
 use Rattle.world_reads.proofs.SentNumbers.{StoryFacts}

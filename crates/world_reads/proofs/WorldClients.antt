@@ -34,7 +34,7 @@ use Rattle.node_histories.proofs.WeaveLemmas.{IsSeenAt, seen_at}
 use Rattle.world_moves.specs.WorldMoves.{IsRunOf, IsEntryCarried}
 use Rattle.world_moves.proofs.ReplyRecords.{incoming_reply}
 use Rattle.read_runs.specs.ReadRuns.{ReadsInForm, HearsInForm, AreInForm}
-use Rattle.world_reads.specs.WorldReads.{IsJournalInRange}
+use Rattle.world_journal.specs.Journal.{IsJournalInRange}
 use Rattle.world_reads.proofs.Steps.{all_by_places, all_second}
 use Rattle.world_reads.proofs.OwnEntries.{is_own, no_true, unseen_at, journal_at}
 use Rattle.world_reads.proofs.Lives.{LifeFacts, life_facts, LivesOf, lives_of}

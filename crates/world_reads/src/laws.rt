@@ -5,7 +5,7 @@ ghost use Rattle.cluster_world.specs.ClusterWorlds.{ClusterState};
 ghost use Rattle.ff_laws.specs.ReadLaw.{ObeysReads};
 ghost use Rattle.node_histories.specs.NodeHistories.{IsToldByNodes};
 ghost use Rattle.world_moves.specs.WorldMoves.{IsRunOf};
-ghost use Rattle.world_reads.specs.WorldReads.{IsJournalInRange};
+ghost use Rattle.world_journal.specs.Journal.{IsJournalInRange};
 
 use client_records::client_records;
 use ds_calls::every_ds_call;

@@ -12,16 +12,16 @@ use Rattle.mds_histories.specs.MdsHistory.{MdsItem, Comes, Enters, Sends, mds_hi
 use Rattle.mds_histories.specs.MdsHistory as of_mds
 use Rattle.mds_histories.proofs.Histories.{entries_of_run}
 use Rattle.mds_room.specs.Room.{IsLiveInRange, heard_with, records_heard, ShortRunsHaveRoom, SetupStays}
-use Rattle.node_histories.specs.Weaves.{IsUnseen, IsArrival, WeaveStep, Passes, Unseen, Seen, entries_in, items_in}
+use Rattle.node_histories.specs.Weaves.{IsUnseen, Passes, Unseen, Seen, entries_in, items_in}
 use Rattle.node_histories.specs.ClientLives.{Life, AreLives, journal_of}
-use Rattle.node_histories.specs.NodeHistories.{input_shown, mds_shown, ClientStory, HasLife, IsToldByNodes}
+use Rattle.node_histories.specs.NodeHistories.{input_shown, mds_shown, HasLife, IsToldByNodes}
 use Rattle.world_moves.specs.WorldMoves.{IsRunOf}
-use Rattle.world_reads.specs.WorldReads.{IsEntryInRange, IsJournalInRange}
+use Rattle.world_journal.specs.Journal.{IsEntryInRange}
 use Rattle.world_reads.proofs.OwnEntries.{IsToldStep, all_told}
 use Rattle.world_reads.proofs.MdsPlaces.{Steps}
 use Rattle.world_reads.proofs.Lives.{LivesOf, lives_of}
 use Rattle.world_layouts.specs.WorldLayouts.{IsWorldRoomy}
-use Rattle.world_room.specs.WorldRoom.{IsWorldSmall, EachSmallWorldIsRoomy}
+use Rattle.world_room.specs.WorldRoom.{IsWorldSmall}
 
 -- ---- records that came
 

@@ -3,7 +3,7 @@ use Rattle.std.specs.Prelude.{ℕ, ◌^◌, ◌<◌, ◌≤◌, List, length}
 use Rattle.cluster_world.specs.ClusterWorlds.{ClusterState}
 use Rattle.node_histories.specs.NodeHistories.{IsToldByNodes}
 use Rattle.world_moves.specs.WorldMoves.{IsRunOf}
-use Rattle.world_reads.specs.WorldReads.{IsJournalInRange}
+use Rattle.world_journal.specs.Journal.{IsJournalInRange}
 use Rattle.world_layouts.specs.WorldLayouts.{IsWorldRoomy}
 
 -- Fewer than 2^32 clients and data servers, and a journal of at most 400,000 entries, as a script's is, whose records are of bytes and fileids have
