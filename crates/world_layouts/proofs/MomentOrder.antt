@@ -105,7 +105,7 @@ module _ (w : ClusterState) (t : IsToldByNodes w) (numbered : EachRunIsNumbered)
       omega (arith, less)
 
   -- steps that have it have all that went before it, and it
-  has_before : (a b : List HistoryItem) (xid : ℕ) (name : List ℕ) (call : MdsCallValue) → items_in l.steps ≡ a ++ compound xid name call ∷ b → (upto rest : LifeSteps) → l.steps ≡ upto ++ rest → HasItem (items_in upto) (compound xid name call)
+  pub has_before : (a b : List HistoryItem) (xid : ℕ) (name : List ℕ) (call : MdsCallValue) → items_in l.steps ≡ a ++ compound xid name call ∷ b → (upto rest : LifeSteps) → l.steps ≡ upto ++ rest → HasItem (items_in upto) (compound xid name call)
       → length a < length (items_in upto)
   has_before a b xid name call is upto rest split has = by_split (splits (items_in upto) (items_in rest) a (compound xid name call ∷ b) (sym (ap (λ (s : LifeSteps). items_in s) split ∙ items_join upto rest) ∙ is))
     where

@@ -1,0 +1,111 @@
+-- A LAYOUTGET that took effect, in the history of the life that sent it, and the reply by which it was settled: this is the one that its slot keeps.
+use Rattle.std.proofs.Common.{◌≡◌, ◌<◌, ◌≤◌, ℕ, ◌+◌, ◌^◌, true, length, List, [], ◌∷◌, ◌++◌, refl, sym, ap, subst, ◌∙◌, inl, inr, arith, append_assoc, length-append}
+use Rattle.std.specs.List.{AllByRecursion}
+use Rattle.cluster_model.specs.declared.ids.NodeId.TheVariants.{Mds}
+use Rattle.cluster_world.specs.ClusterWorlds.{ClusterState}
+use Rattle.nfs4_types.specs.declared.ids.SessionId.{SessionId}
+use Rattle.nfs4_types.specs.declared.status.Stat4.TheVariants as stat
+use Rattle.table_slots.specs.TableSlots.{is_of_session}
+use Rattle.mds_calls.specs.declared.reply.SlotReport.{SlotReport}
+use Rattle.mds_calls.specs.declared.reply.SlotReport.TheVariants.{Taken, Uncached, Delayed, Unknown}
+use Rattle.mds_calls.specs.MdsCalls.{MdsCallValue, OnSlot, SlotCallValue}
+use Rattle.mds_calls.specs.MdsReplies.{MdsReplyValue, MdsAnswerValue, Refused, reply_of_ask}
+use Rattle.mds_calls.specs.MdsCalls.{ask_on_slot}
+use Rattle.mds_laws.specs.MdsRuns.{MdsEvent}
+use Rattle.mds_replies.specs.ClientCalls.{IsEventOf}
+use Rattle.mds_replies.specs.SlotReplies.{count_taken}
+use Rattle.mds_replies.specs.AnsweredRequests.{StaysRoomy, IsRefusedWith, TookEffectAmong}
+use Rattle.mds_reports.specs.SlotReports.{AgreesWith}
+use Rattle.client_laws.specs.ClientHistory.{HistoryItem, HasItem}
+use Rattle.client_laws.proofs.Orders.{in_either}
+use Rattle.client_sessions.specs.HeardReplies.{IsHeard, IsNoCompound}
+use Rattle.node_histories.specs.Weaves.{items_in}
+use Rattle.node_histories.specs.ClientLives.{Life}
+use Rattle.node_histories.specs.NodeHistories.{HasLife, IsToldByNodes}
+use Rattle.world_moves.specs.WorldMoves.{IsRunOf}
+use Rattle.world_reads.specs.WorldReads.{IsJournalInRange}
+use Rattle.world_reads.proofs.LifeRecords.{compound}
+use Rattle.world_layouts.specs.WorldLayouts.{StartsAreFew}
+use Rattle.world_layouts.proofs.LifeSends.{hearing_from}
+use Rattle.world_layouts.proofs.HeardCalls.{are_fit_calls}
+use Rattle.world_layouts.proofs.MomentOrder.{less_or, BeginsWith, begins_with, has_middle}
+use Rattle.world_layouts.proofs.OwnRequests.{OwnRequest, own_request, SplitAt, split_at}
+use Rattle.world_layouts.proofs.OneRequest.{IsIn, Front, This, Back, is_in, Heard, fits_first, room_first, behind_reply, none_asked, asked_behind, asked_at, asked_round, under, early, late, whole, early_less, refused_not}
+use Rattle.world_grants.proofs.OneEffect.{OnceLaws}
+use Rattle.world_grants.proofs.RepliesBehind.{upto_reply}
+
+no_compound : (items : List HistoryItem) → AllByRecursion IsNoCompound items → (xid : ℕ) (name : List ℕ) (call : MdsCallValue) → HasItem items (compound xid name call) → ⊥
+no_compound [] all xid name call has = absurd has
+no_compound (x ∷ items) all xid name call (inl here) = subst IsNoCompound (sym here.0) all.0
+no_compound (x ∷ items) all xid name call (inr has) = no_compound items all.1 xid name call has
+
+not_heard : (xid : ℕ) (name : List ℕ) (call : MdsCallValue) (bytes : List ℕ) (now : ℕ) → compound xid name call ≡ hearing_from Mds bytes now → ⊥
+not_heard xid name call bytes now is = absurd cc
+
+other_number : (xid own : ℕ) (name other : List ℕ) (session asked : SessionId) (number : ℕ) (c d : SlotCallValue) → compound xid name (OnSlot session (number + 1) c) ≡ compound own other (OnSlot asked number d) → ⊥
+other_number xid own name other session asked number c d is = let same : number + 1 ≡ number = cc is in absurd (omega (arith, same))
+
+module _ (laws : OnceLaws) (boots : List ℕ) (w : ClusterState) (run : IsRunOf boots w) (t : IsToldByNodes w) (few : length w.machines.clients < 2 ^ 32) (range : IsJournalInRange w.journal) (roomy : StaysRoomy t.mds.servers t.mds.mirrors t.mds.events)
+    (starts : StartsAreFew t) (n : ℕ) (l : Life) (its : HasLife t.stories n l) where
+  -- what a reply tells the slot and its answer agree
+  pub agrees : (past : List HistoryItem) (name : List ℕ) (session : SessionId) (number : ℕ) (c : SlotCallValue) (says : MdsReplyValue) (behind : List HistoryItem) → Heard laws.sessions boots w run t few range roomy starts n l past name (OnSlot session number c) says behind
+      → AgreesWith says.answer says.slot
+  agrees past name session number c says behind h =
+      let a = h.was.answered in
+      subst (λ (r : MdsReplyValue). AgreesWith r.answer r.slot) h.says_so
+      (laws.reports t.mds.servers t.mds.mirrors t.mds.events a.before a.after a.e (are_fit_calls laws.sessions.ids.replies.calls boots w run t few range) roomy a.split _ h.reply a.sent c)
+
+  -- a request that was answered before another went out was in order when it came
+  module _ (tail : List HistoryItem) (session : SessionId) (number xid : ℕ) (name : List ℕ) (c : SlotCallValue) (says : MdsReplyValue) (upto : List HistoryItem) (is : items_in l.steps ≡ upto ++ tail)
+      (told : IsHeard upto xid name (OnSlot session number c) says []) (quiet : AllByRecursion IsNoCompound told.until) where
+    abbrev came : List MdsEvent
+    came = early laws.sessions boots w run t few range roomy starts n l its upto tail is session number xid name c says [] told
+
+    abbrev since : List MdsEvent
+    since = late laws.sessions boots w run t few range roomy starts n l its upto tail is session number xid name c says [] told
+
+    split_there : t.mds.events ≡ came ++ since
+    split_there = whole laws.sessions boots w run t few range roomy starts n l its upto tail is session number xid name c says [] told
+
+    none_later : TookEffectAmong t.mds.servers t.mds.mirrors came session (number + 1) → ⊥
+    none_later k =
+        let q : List HistoryItem = asked_behind laws.sessions boots w run t few range roomy starts n l its upto tail is session number xid name c says [] told in
+        let at : items_in l.steps ≡ told.before ++ compound xid name (OnSlot session number c) ∷ q = asked_at laws.sessions boots w run t few range roomy starts n l its upto tail is session number xid name c says [] told in
+        let has : HasItem (items_in l.steps) (compound xid name (OnSlot session number c)) = subst (λ (h : List HistoryItem). HasItem h (compound xid name (OnSlot session number c))) (sym at) (has_middle told.before q (compound xid name (OnSlot session number c))) in
+        let o : OwnRequest t n l k.early (k.late ++ since) k.f k.took.node k.took.xid k.asked (number + 1) =
+        own_request laws.sessions.ids boots w run t few range roomy starts n l its xid name session number c has came since split_there (number + 1) k in
+        let s : SplitAt (items_in l.steps) (compound k.took.xid o.name (OnSlot k.asked (number + 1) o.call)) = split_at (items_in l.steps) (compound k.took.xid o.name (OnSlot k.asked (number + 1) o.call)) o.has in
+        let u = under laws.sessions boots w run t few range roomy starts n l its upto tail is session number xid name c says [] told in
+        let sent : length s.before < length upto =
+        less_or (length upto) (length s.before)
+        (λ most.
+        let later = behind_reply laws.sessions boots w run t few range roomy starts n l its upto name (OnSlot session number c) says [] u.heard s.before s.behind k.took.xid o.name (OnSlot k.asked (number + 1) o.call) s.is most k.early (k.late ++ since) k.f o.split o.called in
+        let first = early_less laws.sessions boots w run t few range roomy starts n l its upto tail is session number xid name c says [] told in
+        let size = ap (λ (x : List MdsEvent). length x) k.split in
+        let parts = length-append k.early (k.f ∷ k.late) in
+        absurd (omega (arith, later, first, size, parts))) in
+        let place : BeginsWith s.before (compound k.took.xid o.name (OnSlot k.asked (number + 1) o.call)) upto = begins_with s.before (compound k.took.xid o.name (OnSlot k.asked (number + 1) o.call)) s.behind upto tail (sym s.is ∙ is) sent in
+        let inside : HasItem upto (compound k.took.xid o.name (OnSlot k.asked (number + 1) o.call)) =
+        subst (λ (h : List HistoryItem). HasItem h (compound k.took.xid o.name (OnSlot k.asked (number + 1) o.call))) (sym place.is) (has_middle s.before place.more (compound k.took.xid o.name (OnSlot k.asked (number + 1) o.call))) in
+        by_place q at k.asked k.its k.took.xid o.name o.call
+        (is_in told.before (compound xid name (OnSlot session number c)) (told.until ++ hearing_from Mds told.bytes told.now ∷ []) (compound k.took.xid o.name (OnSlot k.asked (number + 1) o.call))
+        (subst (λ (h : List HistoryItem). HasItem h (compound k.took.xid o.name (OnSlot k.asked (number + 1) o.call))) told.split inside))
+      where
+        by_place : (q : List HistoryItem) (at : items_in l.steps ≡ told.before ++ compound xid name (OnSlot session number c) ∷ q) (asked : SessionId) (same : is_of_session session asked ≡ true) (own : ℕ) (other : List ℕ) (d : SlotCallValue)
+            → IsIn told.before (compound xid name (OnSlot session number c)) (told.until ++ hearing_from Mds told.bytes told.now ∷ []) (compound own other (OnSlot asked (number + 1) d)) → ⊥
+        by_place q at asked same own other d (Front has) =
+            none_asked laws.sessions boots w run t few range roomy starts n l its told.before q xid name session number c at
+            (asked_round laws.sessions boots w run t few range roomy starts n l its upto tail is session number xid name c says [] told) own other asked d has same
+        by_place q at asked same own other d (This one) = other_number own xid other name asked session number d c one
+        by_place q at asked same own other d (Back has) = by_end (in_either told.until (hearing_from Mds told.bytes told.now ∷ []) (compound own other (OnSlot asked (number + 1) d)) has)
+          where
+            by_end : HasItem told.until (compound own other (OnSlot asked (number + 1) d)) ⊎ HasItem (hearing_from Mds told.bytes told.now ∷ []) (compound own other (OnSlot asked (number + 1) d)) → ⊥
+            by_end (inl between) = no_compound told.until quiet own other (OnSlot asked (number + 1) d) between
+            by_end (inr (inl last)) = not_heard own other (OnSlot asked (number + 1) d) told.bytes told.now last.0
+            by_end (inr (inr none)) = none
+
+    pub not_misordered : IsRefusedWith t.mds.servers t.mds.mirrors came session number stat.SeqMisordered → ⊥
+    not_misordered refused =
+        refused_not laws.sessions boots w run t few range roomy starts n l its upto tail is session number xid name c says [] told
+        (λ most. none_later (laws.sessions.taken t.mds.servers t.mds.mirrors came since (fits_first laws.sessions boots w run t few range roomy starts came since split_there) (room_first laws.sessions boots w run t few range roomy starts came since split_there) session
+        (number + 1) (omega arith) most)) refused
