@@ -72,7 +72,7 @@ module _ (I : MdsValue → List Entry → List MdsSend → Type 0) (Heard : Hear
   -- what its slot keeps of the reply
   slot_walk : (m : MdsValue) (slot : Option SlotPass) (bytes : List ℕ) → Becomes I m (record m { sessions = kept_in_slot m.sessions slot bytes })
   slot_walk m None bytes = λ es ss i. i
-  slot_walk m (Some slot) bytes = k.tables m (FinishRequest slot bytes) tt
+  slot_walk m (Some slot) bytes = r.finishes m slot bytes
 
   finish_walk : (m : MdsValue) (c : CompoundRun) (status : Stat4) → Keeps I m (finishes m c status)
   finish_walk m c status es ss i =

@@ -93,6 +93,7 @@ module _ (P : MdsSend → Type 0) (called : (s : MdsSend) → IsCall s → P s) 
     returns = λ m file s n cred errors at fresh es ss i. behind m file s (phase file s.file (Returns n cred (report_of errors s.file.layout.live)) m.fresh) es ss i;
     confirms = λ m client node es ss i. i;
     destroys = λ m session es ss i. i;
+    finishes = λ m slot bytes es ss i. i;
     any = λ c. tt;
   }
 

@@ -22,6 +22,7 @@ use Rattle.mirror_writer.specs.Writers as writer
 use Rattle.nfs4_types.specs.declared.stateid.Stateid.{Stateid}
 use Rattle.nfs4_session.specs.declared.back.BackCall.{BackCall}
 use Rattle.nfs4_types.specs.declared.ids.SessionId.{SessionId}
+use Rattle.nfs4_session.specs.declared.begin.SlotPass.{SlotPass}
 use Rattle.nfs4_session.specs.TableLaw.{TableMove, ExchangeId, CreateSession, BeginRequest, FinishRequest, Bind, CallBack, DestroySession, DestroyClient, Expire}
 use Rattle.recall.specs.declared.recall.Recall.{Recall}
 use Rattle.open_state.specs.Opens.{OpensValue}
@@ -71,13 +72,13 @@ NoneNew old new = (p : ℕ × NodeId) → In p new → In p old
 abbrev pub AnyCompound : CompoundRun → Type 0
 AnyCompound c = Unit {0}
 
--- a call of the table of clients that is no request and destroys no session
+-- a call of the table of clients that neither begins nor ends a request, and destroys no session
 abbrev pub IsPlainMove : TableMove → Type 0
 IsPlainMove (BeginRequest request now) = ⊥
 IsPlainMove (DestroySession session) = ⊥
 IsPlainMove (ExchangeId verifier owner now) = Unit {0}
 IsPlainMove (CreateSession client sequence program node now) = Unit {0}
-IsPlainMove (FinishRequest pass reply) = Unit {0}
+IsPlainMove (FinishRequest pass reply) = ⊥
 IsPlainMove (Bind session node) = Unit {0}
 IsPlainMove (CallBack client) = Unit {0}
 IsPlainMove (DestroyClient client) = Unit {0}
@@ -147,12 +148,14 @@ pub record Cases (I : MdsValue → List Entry → List MdsSend → Type 0) (Hear
 abbrev pub GivesAnswers : (MdsValue → List Entry → List MdsSend → Type 0) → Type 0
 GivesAnswers I = (m : MdsValue) (node : NodeId) (bytes : List ℕ) (reply : RpcReply) → bytes ≡ reply_bytes reply → (es : List Entry) (ss : List MdsSend) → I m es ss → I m es (ss ++ Answers node bytes ∷ [])
 
--- where compounds are run: what they reply, which is of success, the returns in them, who is confirmed, and the sessions that they destroy
+-- where compounds are run: what they reply, which is of success, and what is kept of it, the returns in them, who is confirmed, and the sessions
+-- that they destroy
 pub record RunCases (I : MdsValue → List Entry → List MdsSend → Type 0) (W : CompoundRun → Type 0) : Type 0 where
   pub replies : (m : MdsValue) (node : NodeId) (xid : ℕ) (results : List ℕ) (es : List Entry) (ss : List MdsSend) → I m es ss → I m es (ss ++ Replies node (success_reply xid results) ∷ [])
   pub returns : (m : MdsValue) (file : FileId) (s : ServedFile) (n : ℕ) (cred : Cred) (errors : List (Value ff_ioerr4)) → TakesInput I m file s (Returns n cred (report_of errors s.file.layout.live))
   pub confirms : (m : MdsValue) (client : ℕ) (node : NodeId) → Becomes I m (confirms client node m)
   pub destroys : (m : MdsValue) (session : SessionId) → Becomes I m (moved m (DestroySession session))
+  pub finishes : (m : MdsValue) (slot : SlotPass) (bytes : List ℕ) → Becomes I m (moved m (FinishRequest slot bytes))
   pub any : (c : CompoundRun) → W c
 
 -- how a compound that waited goes on

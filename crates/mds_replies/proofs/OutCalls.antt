@@ -104,6 +104,7 @@ runs = record {
   returns = λ m file s n cred errors at fresh es ss i. behind m file s (phase file s.file (Returns n cred (report_of errors s.file.layout.live)) m.fresh) es ss i;
   confirms = λ m client node es ss i. i;
   destroys = λ m session es ss i. i;
+  finishes = λ m slot bytes es ss i. i;
   any = λ c. tt;
 }
 

@@ -114,7 +114,24 @@ table_more P R stays s all =
 pub renewed_so : (P : ℕ → ℕ → SlotState → Type 0) (client now : ℕ) (cs : List ClientState) → AllOf (ClientSo P) cs → AllOf (ClientSo P) (change_first (has_id client) (renewed_at now) cs)
 renewed_so P client now cs all = all_change (ClientSo P) (ClientSo P) (has_id client) (renewed_at now) (λ c i. i) (λ c is i. i) cs all
 
-module _ (P : ℕ → ℕ → SlotState → Type 0) (finished : (client number sequence : ℕ) (reply : List ℕ) (slot : SlotState) → P client number slot → P client number (slot_finished sequence reply slot)) where
+-- a reply that is to be kept is so
+abbrev pub KeepsGiven : (List ℕ → Type 0) → TableMove → Type 0
+KeepsGiven Gives (FinishRequest pass reply) = Gives reply
+KeepsGiven Gives move = Unit {0}
+
+any_given : (move : TableMove) → KeepsGiven (λ (reply : List ℕ). Unit {0}) move
+any_given (ExchangeId verifier owner now) = tt
+any_given (CreateSession client sequence program node now) = tt
+any_given (BeginRequest request now) = tt
+any_given (FinishRequest pass reply) = tt
+any_given (Bind session node) = tt
+any_given (CallBack client) = tt
+any_given (DestroySession session) = tt
+any_given (DestroyClient client) = tt
+any_given (Expire now) = tt
+
+module _ (P : ℕ → ℕ → SlotState → Type 0) (Gives : List ℕ → Type 0)
+    (finished : (client number sequence : ℕ) (reply : List ℕ) (slot : SlotState) → Gives reply → P client number slot → P client number (slot_finished sequence reply slot)) where
   abbrev So : ClientState → Type 0
   So c = AllOf (SessionSo P c.id) c.sessions
 
@@ -164,21 +181,25 @@ module _ (P : ℕ → ℕ → SlotState → Type 0) (finished : (client number s
   expired_so s (Some c) i = all_remove (ClientSo P) (has_id c.id) s.clients i
 
   -- where it holds of the slot of a session that is made
-  pub move_with : (s : SessionsState) (move : TableMove) → ((client : ℕ) → (table_after s move).numbers ≡ s.numbers + 1 → P client (s.numbers + 1) new_slot) → IsNoRequest move → TableSo P s → TableSo P (table_after s move)
-  move_with s (ExchangeId verifier owner now) new is i = exchanged_so s verifier owner now (exchange_case s.clients verifier owner) (exchange_fault s (exchange_case s.clients verifier owner)) i
-  move_with s (CreateSession client sequence program node now) new is i = created_so s program node now (create_session_case s client sequence) new i
-  move_with s (BeginRequest request now) new is i = absurd is
-  move_with s (FinishRequest pass reply) new is i =
+  pub move_given : (s : SessionsState) (move : TableMove) → ((client : ℕ) → (table_after s move).numbers ≡ s.numbers + 1 → P client (s.numbers + 1) new_slot) → IsNoRequest move → KeepsGiven Gives move → TableSo P s → TableSo P (table_after s move)
+  move_given s (ExchangeId verifier owner now) new is given i = exchanged_so s verifier owner now (exchange_case s.clients verifier owner) (exchange_fault s (exchange_case s.clients verifier owner)) i
+  move_given s (CreateSession client sequence program node now) new is given i = created_so s program node now (create_session_case s client sequence) new i
+  move_given s (BeginRequest request now) new is given i = absurd is
+  move_given s (FinishRequest pass reply) new is given i =
       change (has_id (client_in pass.session)) (λ c. with_sessions c (change_first (has_number (number_in pass.session)) (change_slot pass.slot (slot_finished pass.sequence reply)) c.sessions))
       (λ c its. sessions_change c.id (has_number (number_in pass.session)) (change_slot pass.slot (slot_finished pass.sequence reply))
-      (λ x so. (changed_first pass.slot (slot_finished pass.sequence reply) x.slots so.0, change_so (P c.id x.number) (P c.id x.number) pass.slot (slot_finished pass.sequence reply) (λ slot p. p) (λ slot p. finished c.id x.number pass.sequence reply slot p) x.slots so.1)) c.sessions its) s.clients i
-  move_with s (Bind session node) new is i =
+      (λ x so. (changed_first pass.slot (slot_finished pass.sequence reply) x.slots so.0, change_so (P c.id x.number) (P c.id x.number) pass.slot (slot_finished pass.sequence reply) (λ slot p. p) (λ slot p. finished c.id x.number pass.sequence reply slot given p) x.slots so.1)) c.sessions its) s.clients i
+  move_given s (Bind session node) new is given i =
       change (has_id (client_in session)) (client_bound (number_in session) node) (λ c its. bound_so c.id (number_in session) node c.sessions (find (has_number (number_in session)) c.sessions) refl its) s.clients i
-  move_with s (CallBack client) new is i = back_so s client (last_session (find (has_id client) s.clients)) i
-  move_with s (DestroySession session) new is i =
+  move_given s (CallBack client) new is given i = back_so s client (last_session (find (has_id client) s.clients)) i
+  move_given s (DestroySession session) new is given i =
       change (has_id (client_in session)) (λ c. with_sessions c (remove_first (has_number (number_in session)) c.sessions)) (λ c its. all_remove (SessionSo P c.id) (has_number (number_in session)) c.sessions its) s.clients i
-  move_with s (DestroyClient client) new is i = destroyed_so s client (destroy_client_fault (find (has_id client) s.clients)) i
-  move_with s (Expire now) new is i = expired_so s (find (has_ended now) s.clients) i
+  move_given s (DestroyClient client) new is given i = destroyed_so s client (destroy_client_fault (find (has_id client) s.clients)) i
+  move_given s (Expire now) new is given i = expired_so s (find (has_ended now) s.clients) i
+
+pub move_with : (P : ℕ → ℕ → SlotState → Type 0) (finished : (client number sequence : ℕ) (reply : List ℕ) (slot : SlotState) → P client number slot → P client number (slot_finished sequence reply slot)) (s : SessionsState) (move : TableMove)
+    → ((client : ℕ) → (table_after s move).numbers ≡ s.numbers + 1 → P client (s.numbers + 1) new_slot) → IsNoRequest move → TableSo P s → TableSo P (table_after s move)
+move_with P finished s move new is i = move_given P (λ (reply : List ℕ). Unit {0}) (λ client number sequence reply slot given p. finished client number sequence reply slot p) s move new is (any_given move) i
 
 module _ (P : ℕ → ℕ → SlotState → Type 0) (new : (client number : ℕ) → P client number new_slot) (finished : (client number sequence : ℕ) (reply : List ℕ) (slot : SlotState) → P client number slot → P client number (slot_finished sequence reply slot)) where
   pub move_so : (s : SessionsState) (move : TableMove) → IsNoRequest move → TableSo P s → TableSo P (table_after s move)

@@ -10,7 +10,7 @@ use Rattle.file_rule.specs.MdsFiles.{FileStep}
 use Rattle.file_rule.specs.FilePhases.{FileInput, AsksLayout, Returns, Answers as IsAnswer, OwnEnds, TimesOut, Sees, phase}
 use Rattle.mds_rows.specs.Draws.{drawn}
 use Rattle.nfs4_session.specs.Clients.{SessionsState}
-use Rattle.nfs4_session.specs.TableLaw.{TableMove, BeginRequest, DestroySession, table_after}
+use Rattle.nfs4_session.specs.TableLaw.{TableMove, BeginRequest, FinishRequest, DestroySession, table_after}
 use Rattle.recall.specs.Recalls.{without_file}
 use Rattle.layout_report.specs.Reports.{report_of}
 use Rattle.mds_rule.specs.Answers.{own_answer, failures_by_place}
@@ -82,6 +82,7 @@ module _ (P : SessionsState → Type 0) (keeps : (s : SessionsState) (move : Tab
     returns = λ m file s n cred errors at fresh es ss i. behind m file s (phase file s.file (Returns n cred (report_of errors s.file.layout.live)) m.fresh) ss i;
     confirms = λ m client node es ss i. i;
     destroys = λ m session es ss i. record { table = keeps m.sessions (DestroySession session) i.table; were = i.were };
+    finishes = λ m slot bytes es ss i. record { table = keeps m.sessions (FinishRequest slot bytes) i.table; were = i.were };
     any = λ c. tt;
   }
 

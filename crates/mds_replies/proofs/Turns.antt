@@ -275,7 +275,13 @@ module _ (W : CompoundRun → Type 0) (left : (c : CompoundRun) → W c → (c.o
 
   slot_keeps : (m : MdsValue) (slot : Option SlotPass) (bytes : List ℕ) → Becomes IsSo m (record m { sessions = kept_in_slot m.sessions slot bytes })
   slot_keeps m None bytes = λ es ss i. i
-  slot_keeps m (Some slot) bytes = cases.tables m (FinishRequest slot bytes) tt
+  slot_keeps m (Some slot) bytes = λ es ss i. record {
+    waits = i.waits;
+    table = keeps m.sessions (FinishRequest slot bytes) tt i.table;
+    entries = i.entries;
+    replies = λ node reply inside. stays_said m.sessions (FinishRequest slot bytes) tt node reply (i.replies node reply inside);
+    were = i.were;
+  }
 
   abbrev parts_in : MdsSend → NodeId × RpcReply → NodeId × RpcReply
   parts_in (CallsServer server xid uid call) other = other

@@ -61,18 +61,15 @@ further e entries uid r = record { file = r.file; end = record { cause = r.end.c
 
 end_in : (uid : ℕ) (entries : List Entry) → (causes_of uid entries ≡ [] → ⊥) → IsEndIn entries uid
 end_in uid [] some = absurd (some refl)
-end_in uid (entry.Ended file cred cause ∷ entries) some = by_test (cred.0 == uid) refl
+end_in uid (entry.Ended file cred cause ∷ entries) some = by_test (λ none. end_in uid entries none) (cred.0 == uid) refl
   where
-    by_test : (b : Bool) → (cred.0 == uid) ≡ b → IsEndIn (entry.Ended file cred cause ∷ entries) uid
-    by_test true is =
+    by_test : ((causes_of uid entries ≡ [] → ⊥) → IsEndIn entries uid) → (b : Bool) → (cred.0 == uid) ≡ b → IsEndIn (entry.Ended file cred cause ∷ entries) uid
+    by_test again true is =
         subst (λ (k : ℕ). IsEndIn (entry.Ended file cred cause ∷ entries) k) (eqb-true cred.0 uid is) (record { file = file; end = record { cause = cause; there = inl refl } })
-    by_test false is =
+    by_test again false is =
         let none : cause_in uid (entry.Ended file cred cause) ≡ [] = ap (λ (b : Bool). cond {A = List EndCause} b (cause ∷ []) []) is in
-        further (entry.Ended file cred cause) entries uid (end_in uid entries (λ rest. some (ap (λ (l : List EndCause). l ++ causes_of uid entries) none ∙ rest)))
-end_in uid (e ∷ entries) some = further e entries uid (end_in uid entries (λ rest. some (no_cause uid e entries rest)))
-  where
-    no_cause : (uid : ℕ) (e : Entry) (entries : List Entry) → causes_of uid entries ≡ [] → causes_of uid (e ∷ entries) ≡ []
-    no_cause uid e entries rest = rest
+        further (entry.Ended file cred cause) entries uid (again (λ rest. some (ap (λ (l : List EndCause). l ++ causes_of uid entries) none ∙ rest)))
+end_in uid (e ∷ entries) some = further e entries uid (end_in uid entries (λ rest. some rest))
 
 module _ (laws : OnceLaws) (boots : List ℕ) (w : ClusterState) (run : IsRunOf boots w) (t : IsToldByNodes w) (few : length w.machines.clients < 2 ^ 32) (range : IsJournalInRange w.journal) (roomy : StaysRoomy t.mds.servers t.mds.mirrors t.mds.events)
     (starts : StartsAreFew t) (n : ℕ) (l : Life) (its : HasLife t.stories n l) where

@@ -76,7 +76,7 @@ same_answer m session c a b j k =
 
 -- ---- one event
 
-own_session : (session : SessionId) → is_of_session session session ≡ true
+pub own_session : (session : SessionId) → is_of_session session session ≡ true
 own_session session =
     both (client_in session == client_in session) (number_in session == number_in session) (eq-eqb (client_in session) (client_in session) refl) (eq-eqb (number_in session) (number_in session) refl)
   where

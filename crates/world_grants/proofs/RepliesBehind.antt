@@ -30,7 +30,7 @@ use Rattle.world_grants.proofs.OneEffect.{OnceLaws, own_session}
 abbrev pub upto_reply : {past behind : List HistoryItem} {says : MdsReplyValue} (xid : ℕ) (name : List ℕ) (call : MdsCallValue) → IsHeard past xid name call says behind → List HistoryItem
 upto_reply xid name call h = h.before ++ compound xid name call ∷ (h.until ++ hearing_from Mds h.bytes h.now ∷ [])
 
-pub heard_last : (past : List HistoryItem) (xid : ℕ) (name : List ℕ) (call : MdsCallValue) (says : MdsReplyValue) (behind : List HistoryItem) (h : IsHeard past xid name call says behind) → IsHeard (upto_reply xid name call h) xid name call says []
+abbrev pub heard_last : (past : List HistoryItem) (xid : ℕ) (name : List ℕ) (call : MdsCallValue) (says : MdsReplyValue) (behind : List HistoryItem) (h : IsHeard past xid name call says behind) → IsHeard (upto_reply xid name call h) xid name call says []
 heard_last past xid name call says behind h = record { before = h.before; until = h.until; bytes = h.bytes; now = h.now; split = refl; reply = h.reply; reply_is = h.reply_is; number = h.number; says_so = h.says_so }
 
 pub past_is : (past : List HistoryItem) (xid : ℕ) (name : List ℕ) (call : MdsCallValue) (says : MdsReplyValue) (behind : List HistoryItem) (h : IsHeard past xid name call says behind) → past ≡ upto_reply xid name call h ++ behind
@@ -41,7 +41,7 @@ past_is past xid name call says behind h =
     ∙ sym (append_assoc h.before (sends ∷ (h.until ++ hears ∷ [])) behind ∙ ap (λ (l : List HistoryItem). h.before ++ sends ∷ l) (append_assoc h.until (hears ∷ []) behind))
 
 -- in a longer history, with items before
-pub heard_behind : (front past : List HistoryItem) (xid : ℕ) (name : List ℕ) (call : MdsCallValue) (says : MdsReplyValue) (behind : List HistoryItem) → IsHeard past xid name call says behind → IsHeard (front ++ past) xid name call says behind
+abbrev pub heard_behind : (front past : List HistoryItem) (xid : ℕ) (name : List ℕ) (call : MdsCallValue) (says : MdsReplyValue) (behind : List HistoryItem) → IsHeard past xid name call says behind → IsHeard (front ++ past) xid name call says behind
 heard_behind front past xid name call says behind h = record {
   before = front ++ h.before;
   until = h.until;

@@ -1,21 +1,21 @@
 -- A LAYOUTGET that took effect, in the history of the life that sent it, and the reply by which it was settled: this is the one that its slot keeps.
-use Rattle.std.proofs.Common.{◌≡◌, ◌<◌, ◌≤◌, ℕ, ◌+◌, ◌^◌, true, length, List, [], ◌∷◌, ◌++◌, refl, sym, ap, subst, ◌∙◌, inl, inr, arith, append_assoc, length-append}
+use Rattle.std.proofs.Common.{◌≡◌, ◌<◌, ◌≤◌, ℕ, ◌+◌, ◌^◌, true, false, length, List, [], ◌∷◌, ◌++◌, refl, sym, ap, subst, ◌∙◌, inl, inr, ◌⊎◌, arith, append_assoc, length-append}
 use Rattle.std.specs.List.{AllByRecursion}
-use Rattle.cluster_model.specs.declared.ids.NodeId.TheVariants.{Mds}
+use Rattle.cluster_model.specs.declared.ids.NodeId.TheVariants.{Mds, Client}
 use Rattle.cluster_world.specs.ClusterWorlds.{ClusterState}
 use Rattle.nfs4_types.specs.declared.ids.SessionId.{SessionId}
 use Rattle.nfs4_types.specs.declared.status.Stat4.TheVariants as stat
 use Rattle.table_slots.specs.TableSlots.{is_of_session}
 use Rattle.mds_calls.specs.declared.reply.SlotReport.{SlotReport}
 use Rattle.mds_calls.specs.declared.reply.SlotReport.TheVariants.{Taken, Uncached, Delayed, Unknown}
-use Rattle.mds_calls.specs.MdsCalls.{MdsCallValue, OnSlot, SlotCallValue}
+use Rattle.mds_calls.specs.MdsCalls.{MdsCallValue, OnSlot, SlotCallValue, ask_of, ask_on_slot, takes_slot}
 use Rattle.mds_calls.specs.MdsReplies.{MdsReplyValue, MdsAnswerValue, Refused, reply_of_ask}
-use Rattle.mds_calls.specs.MdsCalls.{ask_on_slot}
-use Rattle.mds_laws.specs.MdsRuns.{MdsEvent}
+use Rattle.mds_calls.specs.MdsCalls as slot
+use Rattle.mds_laws.specs.MdsRuns.{MdsEvent, Hears}
 use Rattle.mds_replies.specs.ClientCalls.{IsEventOf}
 use Rattle.mds_replies.specs.SlotReplies.{count_taken}
 use Rattle.mds_replies.specs.AnsweredRequests.{StaysRoomy, IsRefusedWith, TookEffectAmong}
-use Rattle.mds_reports.specs.SlotReports.{AgreesWith}
+use Rattle.mds_reports.specs.SlotReports.{AgreesWith, AgreesRead, CameAlone}
 use Rattle.client_laws.specs.ClientHistory.{HistoryItem, HasItem}
 use Rattle.client_laws.proofs.Orders.{in_either}
 use Rattle.client_sessions.specs.HeardReplies.{IsHeard, IsNoCompound}
@@ -29,6 +29,7 @@ use Rattle.world_layouts.specs.WorldLayouts.{StartsAreFew}
 use Rattle.world_layouts.proofs.LifeSends.{hearing_from}
 use Rattle.world_layouts.proofs.HeardCalls.{are_fit_calls}
 use Rattle.world_layouts.proofs.MomentOrder.{less_or, BeginsWith, begins_with, has_middle}
+use Rattle.world_layouts.proofs.OwnCalls.{CalledOwn, own_call, same_takes}
 use Rattle.world_layouts.proofs.OwnRequests.{OwnRequest, own_request, SplitAt, split_at}
 use Rattle.world_layouts.proofs.OneRequest.{IsIn, Front, This, Back, is_in, Heard, fits_first, room_first, behind_reply, none_asked, asked_behind, asked_at, asked_round, under, early, late, whole, early_less, refused_not}
 use Rattle.world_grants.proofs.OneEffect.{OnceLaws}
@@ -45,15 +46,42 @@ not_heard xid name call bytes now is = absurd cc
 other_number : (xid own : ℕ) (name other : List ℕ) (session asked : SessionId) (number : ℕ) (c d : SlotCallValue) → compound xid name (OnSlot session (number + 1) c) ≡ compound own other (OnSlot asked number d) → ⊥
 other_number xid own name other session asked number c d is = let same : number + 1 ≡ number = cc is in absurd (omega (arith, same))
 
+both_ways : true ≡ false → ⊥
+both_ways is = absurd cc
+
+slot_taken : (c : SlotCallValue) → takes_slot (ask_on_slot c) ≡ true
+slot_taken slot.ReclaimComplete = refl
+slot_taken (slot.Open name) = refl
+slot_taken (slot.LayoutGet file) = refl
+slot_taken (slot.DeviceInfo servers) = refl
+slot_taken (slot.Write file at bytes) = refl
+slot_taken (slot.Read file at count) = refl
+slot_taken (slot.LayoutReturn file stateid failed) = refl
+slot_taken slot.Renew = refl
+
 module _ (laws : OnceLaws) (boots : List ℕ) (w : ClusterState) (run : IsRunOf boots w) (t : IsToldByNodes w) (few : length w.machines.clients < 2 ^ 32) (range : IsJournalInRange w.journal) (roomy : StaysRoomy t.mds.servers t.mds.mirrors t.mds.events)
     (starts : StartsAreFew t) (n : ℕ) (l : Life) (its : HasLife t.stories n l) where
   -- what a reply tells the slot and its answer agree
   pub agrees : (past : List HistoryItem) (name : List ℕ) (session : SessionId) (number : ℕ) (c : SlotCallValue) (says : MdsReplyValue) (behind : List HistoryItem) → Heard laws.sessions boots w run t few range roomy starts n l past name (OnSlot session number c) says behind
       → AgreesWith says.answer says.slot
   agrees past name session number c says behind h =
-      let a = h.was.answered in
       subst (λ (r : MdsReplyValue). AgreesWith r.answer r.slot) h.says_so
-      (laws.reports t.mds.servers t.mds.mirrors t.mds.events a.before a.after a.e (are_fit_calls laws.sessions.ids.replies.calls boots w run t few range) roomy a.split _ h.reply a.sent c)
+      (by_kind (laws.reports t.mds.servers t.mds.mirrors t.mds.events h.was.answered.before h.was.answered.after h.was.answered.e (are_fit_calls laws.sessions.ids.replies.calls boots w run t few range) roomy h.was.answered.split (Client n) h.reply h.was.answered.sent))
+    where
+      same_bytes : (x y : List ℕ) → Hears (Client n) x ≡ Hears (Client n) y → x ≡ y
+      same_bytes x y is = cc
+
+      not_alone : CameAlone h.was.answered.e (Client n) h.reply.xid → ⊥
+      not_alone a =
+          let own : CalledOwn t n l h.was.answered.before h.was.answered.after h.was.answered.e h.reply.xid name (OnSlot session number c) =
+          own_call laws.sessions.ids.replies.calls boots w run t few range n l its h.reply.xid name (OnSlot session number c) h.has h.was.answered.before h.was.answered.after h.was.answered.e h.was.answered.split a.name a.call a.came in
+          let takes : takes_slot (ask_of a.call) ≡ takes_slot (ask_of (OnSlot session number c)) =
+          same_takes laws.sessions.ids.replies.calls boots w run t few range h.was.answered.e (Client n) h.reply.xid a.name name a.call (OnSlot session number c) a.came own.called (same_bytes a.came.bytes own.called.bytes (sym a.came.input ∙ own.called.input)) in
+          absurd (both_ways (sym (takes ∙ slot_taken c) ∙ a.alone))
+
+      by_kind : AgreesRead h.reply ⊎ CameAlone h.was.answered.e (Client n) h.reply.xid → AgreesWith (reply_of_ask (ask_on_slot c) h.reply).answer (reply_of_ask (ask_on_slot c) h.reply).slot
+      by_kind (inl reads) = reads c
+      by_kind (inr alone) = absurd (not_alone alone)
 
   -- a request that was answered before another went out was in order when it came
   module _ (tail : List HistoryItem) (session : SessionId) (number xid : ℕ) (name : List ℕ) (c : SlotCallValue) (says : MdsReplyValue) (upto : List HistoryItem) (is : items_in l.steps ≡ upto ++ tail)

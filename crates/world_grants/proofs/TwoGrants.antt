@@ -3,6 +3,7 @@ use Rattle.std.proofs.Common.{◌≡◌, ◌<◌, ◌≤◌, ℕ, ◌^◌, Bool,
 use Rattle.std.specs.Prelude.{nat_lt}
 use Rattle.std.proofs.lemmas.Bool.Decides.{nat_tests}
 use Rattle.std.proofs.lemmas.Bool.{ltb-true}
+use Rattle.cluster_model.specs.declared.ids.NodeId.TheVariants.{Server}
 use Rattle.cluster_model.specs.declared.ids.FileId.{FileId}
 use Rattle.cluster_world.specs.ClusterWorlds.{ClusterState}
 use Rattle.nfs4_types.specs.Stateids.{three_words}
@@ -22,7 +23,8 @@ use Rattle.mds_replies.specs.LayoutReplies.{HasPeriod}
 use Rattle.mds_replies.specs.SlotReplies.{TookEffect}
 use Rattle.mds_replies.specs.AnsweredRequests.{StaysRoomy, KeepsAnswer, StandsByReport, IsUnknown, HasNoSession, IsOutOfOrder, TookEffectAmong, WasNoGet, IsFreeAt, bad_stateid}
 use Rattle.mds_reports.specs.SlotReports.{AgreesWith}
-use Rattle.client_laws.specs.ClientHistory.{HistoryItem, InOrder, HasItem, Each, client_history}
+use Rattle.client_state.specs.ClientSends.{CallsServer}
+use Rattle.client_laws.specs.ClientHistory.{HistoryItem, Hears, Sends, Recorded, InOrder, HasItem, Each, client_history}
 use Rattle.client_laws.specs.ClientRunLaws.{WasGranted}
 use Rattle.client_sessions.specs.HeardReplies.{IsHeard}
 use Rattle.client_sessions.specs.LayoutEnds.{AsksForOne, IsAskSettled, HasLayoutEnded, ByReturn, BySession, ByFence, WasFenced}
@@ -62,14 +64,11 @@ one_grant g k is = cc
 not_both : {A : Type 0} (answer : MdsAnswerValue) (a b : ℕ) → answer ≡ Refused a → answer ≡ Refused b → (a ≡ b → ⊥) → A
 not_both answer a b first second apart = absurd (apart (one_status a b (sym first ∙ second)))
 
-apart_68 : 10052 ≡ 10068 → ⊥
-apart_68 is = absurd (omega (arith, is))
+apart_up : (a b : ℕ) → a < b → a ≡ b → ⊥
+apart_up a b less is = absurd (omega (arith, less, is))
 
-apart_08 : 10052 ≡ 10008 → ⊥
-apart_08 is = absurd (omega (arith, is))
-
-apart_63 : 10052 ≡ 10063 → ⊥
-apart_63 is = absurd (omega (arith, is))
+apart_down : (a b : ℕ) → b < a → a ≡ b → ⊥
+apart_down a b less is = absurd (omega (arith, less, is))
 
 -- a LAYOUTRETURN that was accepted, or of no stateid, was not answered otherwise
 not_ended : (answer : MdsAnswerValue) (status : ℕ) → (answer ≡ Returned) ⊎ (answer ≡ Refused bad_stateid) → answer ≡ Refused status → (10025 ≡ status → ⊥) → ⊥
@@ -119,7 +118,7 @@ fenced_after front behind grant f = record {
   shown = f.shown;
   says = f.says;
   fence = f.fence;
-  order = in_after _ front behind f.order;
+  order = in_after (Sends (CallsServer f.mirror.id.server f.xid f.name grant.uid.0 f.call) ∷ Hears (Recorded (Server f.mirror.id.server) f.bytes f.now) ∷ []) front behind f.order;
 }
 
 begins_less : (a b c : List HistoryItem) → c ≡ a ++ b → length a ≤ length c
@@ -186,13 +185,13 @@ module _ (laws : OnceLaws) (boots : List ℕ) (w : ClusterState) (run : IsRunOf 
       abbrev more : List HistoryItem
       more = behind ++ asks ∷ rest
 
-      upto_at : items_in l.steps ≡ upto ++ more
+      abbrev upto_at : items_in l.steps ≡ upto ++ more
       upto_at = asks_at ∙ (ap (λ (x : List HistoryItem). x ++ asks ∷ rest) split ∙ append_assoc upto behind (asks ∷ rest))
 
       less : length upto ≤ length j.before
       less = begins_less upto behind j.before split
 
-      reply : HeardUnder laws.sessions.ids.replies boots w run t few range roomy n l upto xid name (OnSlot i.session sequence c) says []
+      abbrev reply : HeardUnder laws.sessions.ids.replies boots w run t few range roomy n l upto xid name (OnSlot i.session sequence c) says []
       reply = under laws.sessions boots w run t few range roomy starts n l its upto more upto_at i.session sequence xid name c says [] told
 
       agree : (r : SlotReport) → says.slot ≡ r → AgreesWith says.answer r
@@ -202,15 +201,15 @@ module _ (laws : OnceLaws) (boots : List ℕ) (w : ClusterState) (run : IsRunOf 
       gone_not : IsUnknown t.mds.servers t.mds.mirrors reply.heard.was.answered.answers.early i.session sequence says.answer → says.answer ≡ Refused 10052 → ⊥
       gone_not (HasNoSession gone refused) status =
           not_lost laws boots w run t few range roomy starts n l its upto more upto_at i.session sequence xid name c says [] told refused j.before rest j.session j.sequence second.early after second.f effect at second.took less client
-      gone_not (IsOutOfOrder order refused) status = not_both says.answer 10052 10063 status order apart_63
+      gone_not (IsOutOfOrder order refused) status = not_both says.answer 10052 10063 status order (apart_up 10052 10063 (omega arith))
 
       lost_not : says.answer ≡ Refused 10052 → ⊥
       lost_not status = by_slot says.slot refl
         where
           by_slot : (r : SlotReport) → says.slot ≡ r → ⊥
           by_slot Taken slot_is = agree Taken slot_is status
-          by_slot Uncached slot_is = not_both says.answer 10052 10068 status (agree Uncached slot_is) apart_68
-          by_slot Delayed slot_is = not_both says.answer 10052 10008 status (agree Delayed slot_is) apart_08
+          by_slot Uncached slot_is = not_both says.answer 10052 10068 status (agree Uncached slot_is) (apart_up 10052 10068 (omega arith))
+          by_slot Delayed slot_is = not_both says.answer 10052 10008 status (agree Delayed slot_is) (apart_down 10052 10008 (omega arith))
           by_slot Unknown slot_is = gone_not (unknown_so laws.sessions boots w run t few range roomy starts n l its upto more upto_at i.session sequence xid name c says [] told slot_is) status
 
     -- ---- by the reply that settled the first
@@ -219,16 +218,16 @@ module _ (laws : OnceLaws) (boots : List ℕ) (w : ClusterState) (run : IsRunOf 
       abbrev upto : List HistoryItem
       upto = upto_reply i.xid i.name (get_call i) s.heard
 
-      settled_split : j.before ≡ upto ++ s.behind
+      abbrev settled_split : j.before ≡ upto ++ s.behind
       settled_split = past_is j.before i.xid i.name (get_call i) s.says s.behind s.heard
 
-      told : IsHeard (upto_reply i.xid i.name (get_call i) s.heard) i.xid i.name (OnSlot i.session i.sequence (slot.LayoutGet i.file)) s.says []
+      abbrev told : IsHeard (upto_reply i.xid i.name (get_call i) s.heard) i.xid i.name (OnSlot i.session i.sequence (slot.LayoutGet i.file)) s.says []
       told = heard_last j.before i.xid i.name (get_call i) s.says s.behind s.heard
 
-      settled_at : items_in l.steps ≡ upto ++ (s.behind ++ asks ∷ rest)
+      abbrev settled_at : items_in l.steps ≡ upto ++ (s.behind ++ asks ∷ rest)
       settled_at = upto_at upto s.behind settled_split i.xid i.name i.sequence (slot.LayoutGet i.file) s.says told
 
-      settled : HeardUnder laws.sessions.ids.replies boots w run t few range roomy n l upto i.xid i.name (OnSlot i.session i.sequence (slot.LayoutGet i.file)) s.says []
+      abbrev settled : HeardUnder laws.sessions.ids.replies boots w run t few range roomy n l upto i.xid i.name (OnSlot i.session i.sequence (slot.LayoutGet i.file)) s.says []
       settled = reply upto s.behind settled_split i.xid i.name i.sequence (slot.LayoutGet i.file) s.says told
 
       -- ---- it was taken
@@ -272,19 +271,19 @@ module _ (laws : OnceLaws) (boots : List ℕ) (w : ClusterState) (run : IsRunOf 
           abbrev gives : MdsCallValue
           gives = OnSlot i.session sequence (slot.LayoutReturn i.file.file g.stateid failed)
 
-          there : IsHeard (upto ++ s.behind) xid name (OnSlot i.session sequence (slot.LayoutReturn i.file.file g.stateid failed)) says more
+          abbrev there : IsHeard (upto ++ s.behind) xid name (OnSlot i.session sequence (slot.LayoutReturn i.file.file g.stateid failed)) says more
           there = heard_behind upto s.behind xid name gives says more heard
 
           abbrev returned : List HistoryItem
           returned = upto_reply xid name gives there
 
-          returned_split : j.before ≡ returned ++ more
+          abbrev returned_split : j.before ≡ returned ++ more
           returned_split = settled_split ∙ past_is (upto ++ s.behind) xid name gives says more there
 
-          told_return : IsHeard (upto_reply xid name gives there) xid name (OnSlot i.session sequence (slot.LayoutReturn i.file.file g.stateid failed)) says []
+          abbrev told_return : IsHeard (upto_reply xid name gives there) xid name (OnSlot i.session sequence (slot.LayoutReturn i.file.file g.stateid failed)) says []
           told_return = heard_last (upto ++ s.behind) xid name gives says more there
 
-          return_reply : HeardUnder laws.sessions.ids.replies boots w run t few range roomy n l returned xid name (OnSlot i.session sequence (slot.LayoutReturn i.file.file g.stateid failed)) says []
+          abbrev return_reply : HeardUnder laws.sessions.ids.replies boots w run t few range roomy n l returned xid name (OnSlot i.session sequence (slot.LayoutReturn i.file.file g.stateid failed)) says []
           return_reply = reply returned more returned_split xid name sequence (slot.LayoutReturn i.file.file g.stateid failed) says told_return
 
           taken_not : says.slot ≡ Taken → (says.answer ≡ Returned) ⊎ (says.answer ≡ Refused bad_stateid) → ⊥
