@@ -201,25 +201,27 @@ pub move_with : (P : ℕ → ℕ → SlotState → Type 0) (finished : (client n
     → ((client : ℕ) → (table_after s move).numbers ≡ s.numbers + 1 → P client (s.numbers + 1) new_slot) → IsNoRequest move → TableSo P s → TableSo P (table_after s move)
 move_with P finished s move new is i = move_given P (λ (reply : List ℕ). Unit {0}) (λ client number sequence reply slot given p. finished client number sequence reply slot p) s move new is (any_given move) i
 
+-- a request begins on the first slot
+pub request_kept : (P : ℕ → ℕ → SlotState → Type 0) (s : SessionsState) (request : Sequence) (now : ℕ) → request.slot ≡ 0 → P (client_in request.session) (number_in request.session) (slot_begun request.sequence) → TableSo P s → TableSo P (after_request s request now)
+request_kept P s request now at its i =
+    renewed_so P (client_in request.session) now _
+    (all_change (ClientSo P) (ClientSo P) (has_id (client_in request.session))
+    (λ c. with_sessions c (change_first (has_number (number_in request.session)) (change_slot request.slot (λ slot. slot_begun request.sequence)) c.sessions)) (λ c so. so)
+    (λ c is so.
+    all_change (SessionSo P c.id) (SessionSo P c.id) (has_number (number_in request.session)) (change_slot request.slot (λ slot. slot_begun request.sequence)) (λ x p. p)
+    (λ x one p. (
+      changed_first request.slot (λ slot. slot_begun request.sequence) x.slots p.0,
+      change_so (P c.id x.number) (P c.id x.number) request.slot (λ slot. slot_begun request.sequence) (λ slot q. q)
+          (λ slot q. subst (λ (k : ℕ). P k x.number (slot_begun request.sequence)) (sym (eqb-true c.id (client_in request.session) is))
+          (subst (λ (j : ℕ). P (client_in request.session) j (slot_begun request.sequence)) (sym (eqb-true x.number (number_in request.session) one)) its)) x.slots p.1,
+    )) c.sessions so) s.clients i)
+
 module _ (P : ℕ → ℕ → SlotState → Type 0) (new : (client number : ℕ) → P client number new_slot) (finished : (client number sequence : ℕ) (reply : List ℕ) (slot : SlotState) → P client number slot → P client number (slot_finished sequence reply slot)) where
   pub move_so : (s : SessionsState) (move : TableMove) → IsNoRequest move → TableSo P s → TableSo P (table_after s move)
   move_so s move is i = move_with P finished s move (λ client due. new client (s.numbers + 1)) is i
 
-  -- ---- a request begins on the first slot
-
   pub request_so : (s : SessionsState) (request : Sequence) (now : ℕ) → request.slot ≡ 0 → P (client_in request.session) (number_in request.session) (slot_begun request.sequence) → TableSo P s → TableSo P (after_request s request now)
-  request_so s request now at its i =
-      renewed_so P (client_in request.session) now _
-      (all_change (ClientSo P) (ClientSo P) (has_id (client_in request.session))
-      (λ c. with_sessions c (change_first (has_number (number_in request.session)) (change_slot request.slot (λ slot. slot_begun request.sequence)) c.sessions)) (λ c so. so)
-      (λ c is so.
-      all_change (SessionSo P c.id) (SessionSo P c.id) (has_number (number_in request.session)) (change_slot request.slot (λ slot. slot_begun request.sequence)) (λ x p. p)
-      (λ x one p. (
-        changed_first request.slot (λ slot. slot_begun request.sequence) x.slots p.0,
-        change_so (P c.id x.number) (P c.id x.number) request.slot (λ slot. slot_begun request.sequence) (λ slot q. q)
-            (λ slot q. subst (λ (k : ℕ). P k x.number (slot_begun request.sequence)) (sym (eqb-true c.id (client_in request.session) is))
-            (subst (λ (j : ℕ). P (client_in request.session) j (slot_begun request.sequence)) (sym (eqb-true x.number (number_in request.session) one)) its)) x.slots p.1,
-      )) c.sessions so) s.clients i)
+  request_so s request now at its i = request_kept P s request now at its i
 
   -- it begins, and is done at once
   pub done_so : (s : SessionsState) (session : SessionId) (sequence highest : ℕ) (kept : Bool) (now : ℕ) (reply : List ℕ) → P (client_in session) (number_in session) (record { last = sequence; reply = kept_as reply }) → TableSo P s

@@ -1,14 +1,14 @@
 -- A reply whose first result is that of a SEQUENCE that is OK is read as one to a request that took effect, and has its status.
-use Rattle.std.proofs.Common.{◌≡◌, ◌<◌, ℕ, ◌+◌, zero, suc, Bool, true, false, cond, List, [], ◌∷◌, ◌++◌, length, Result, Ok, Err, refl, sym, ap, subst, ◌∙◌, arith, append-nil}
+use Rattle.std.proofs.Common.{◌≡◌, ◌<◌, ℕ, ◌+◌, zero, suc, Bool, true, false, cond, List, [], ◌∷◌, ◌++◌, length, Option, Some, None, Result, Ok, Err, refl, sym, ap, subst, ◌∙◌, arith, append-nil}
 use Rattle.std.specs.Prelude.{◌==◌, nat_lt, take, drop}
 use Rattle.std.specs.Int.{Width, w32, byte_len, from_be_bytes}
 use Rattle.std.specs.List.{flat_map}
-use Rattle.std.specs.Option.{Option, Some, None}
 use Rattle.ff_xdr.specs.declared.error.XdrError.{XdrError}
 use Rattle.ff_xdr.specs.declared.error.XdrWhy.TheVariants.{Short, TooLong, Rest}
 use Rattle.ff_xdr.specs.Form.{Form, Pair, Array, Value, Fits, spelling, word}
 use Rattle.ff_xdr.specs.Reading.{Read, ◌>>=◌, number_at, length_at, many_at, reading, rest_of, whole}
-use Rattle.ff_xdr.proofs.Places.{Stands, bind_ok, guard_ok, ok_is, stands_first, stands_second, stands_between}
+use Rattle.ff_xdr.specs.Laws.{Stands}
+use Rattle.ff_xdr.proofs.Places.{bind_ok, guard_ok, ok_is, stands_first, stands_second, stands_between}
 use Rattle.ff_xdr.proofs.Again.{again_where}
 use Rattle.nfs4_types.specs.declared.sequence.Sequence.{Sequence}
 use Rattle.nfs4_types.specs.declared.status.Stat4.{Stat4}
@@ -23,7 +23,9 @@ use Rattle.mds_calls.specs.declared.reply.SlotReport.TheVariants.{Taken}
 use Rattle.mds_calls.specs.declared.reply.SlotReport.{SlotReport}
 use Rattle.mds_calls.specs.MdsCalls.{SlotCallValue, ask_on_slot}
 use Rattle.mds_calls.specs.MdsCalls as slot
-use Rattle.mds_calls.specs.MdsReplies.{MdsAnswerValue, Refused, MdsReplyValue, answer_if, answer_where, results_of_ask, slot_told, slot_answer_of, compound_answer, compound_reply}
+use Rattle.mds_session_calls.specs.SessionResults.{reclaim_complete_results, renew_results}
+use Rattle.mds_file_calls.specs.FileResults.{open_results, layout_get_results, device_info_results, write_results, read_results, layout_return_results}
+use Rattle.mds_calls.specs.MdsReplies.{MdsAnswerValue, Complete, Opened, Granted, Devices, Written, Bytes, Returned, Renewed, Refused, MdsReplyValue, answer_if, answer_where, results_of_ask, slot_told, slot_answer_of, compound_answer, compound_reply}
 use Rattle.mds_rule.specs.Compounds.{sequence_result}
 use Rattle.mds_replies.proofs.ExchangeRuns.{no_tag}
 use Rattle.mds_reports.specs.SlotReports.{AgreesWith, AgreesRead}
@@ -154,14 +156,14 @@ module _ (status : ℕ) (first : Value resop4) (more : List (Value resop4)) (fit
 -- ---- what is told
 
 -- results of a call that is OK are no refusal with BADSESSION
+same_status : (a b : ℕ) → Refused a ≡ Refused b → a ≡ b
+same_status a b is = cc
+
+not_less : (a b : ℕ) → a < b → a ≡ b → ⊥
+not_less a b less is = absurd (omega (arith, less, is))
+
 not_odd : Refused 10006 ≡ Refused 10052 → ⊥
-not_odd is = absurd (omega (arith, number))
-  where
-    number : 10006 ≡ 10052
-    number = same 10006 10052 is
-      where
-        same : (a b : ℕ) → Refused a ≡ Refused b → a ≡ b
-        same a b e = cc
+not_odd is = not_less 10006 10052 (omega arith) (same_status 10006 10052 is)
 
 where_not : {A : Type 0} (answer : A → MdsAnswerValue) → ((a : A) → answer a ≡ Refused 10052 → ⊥) → (o : Option A) → answer_where answer o ≡ Refused 10052 → ⊥
 where_not answer each None is = not_odd is
@@ -171,15 +173,25 @@ if_not : (answer : MdsAnswerValue) → (answer ≡ Refused 10052 → ⊥) → (b
 if_not answer not true is = not is
 if_not answer not false is = not_odd is
 
+abbrev is_refusal : MdsAnswerValue → Bool
+is_refusal (Refused status) = true
+is_refusal answer = false
+
+plain_not : (answer : MdsAnswerValue) → is_refusal answer ≡ false → answer ≡ Refused 10052 → ⊥
+plain_not answer off is = not_so (sym (ap is_refusal is) ∙ off)
+  where
+    not_so : true ≡ false → ⊥
+    not_so e = absurd cc
+
 results_not : (c : SlotCallValue) (results : List (Value resop4)) → results_of_ask (ask_on_slot c) results ≡ Refused 10052 → ⊥
-results_not slot.ReclaimComplete results = if_not _ (λ is. absurd cc) _
-results_not (slot.Open name) results = where_not _ (λ a is. absurd cc) _
-results_not (slot.LayoutGet file) results = where_not _ (λ a is. absurd cc) _
-results_not (slot.DeviceInfo servers) results = where_not _ (λ a is. absurd cc) _
-results_not (slot.Write file at bytes) results = if_not _ (λ is. absurd cc) _
-results_not (slot.Read file at count) results = where_not _ (λ a is. absurd cc) _
-results_not (slot.LayoutReturn file stateid failed) results = if_not _ (λ is. absurd cc) _
-results_not slot.Renew results = if_not _ (λ is. absurd cc) _
+results_not slot.ReclaimComplete results = if_not Complete (plain_not Complete refl) (reclaim_complete_results results)
+results_not (slot.Open name) results = where_not Opened (λ a. plain_not (Opened a) refl) (open_results results)
+results_not (slot.LayoutGet file) results = where_not Granted (λ a. plain_not (Granted a) refl) (layout_get_results results)
+results_not (slot.DeviceInfo servers) results = where_not Devices (λ a. plain_not (Devices a) refl) (device_info_results (length servers) results)
+results_not (slot.Write file at bytes) results = if_not Written (plain_not Written refl) (write_results results)
+results_not (slot.Read file at count) results = where_not (λ b. Bytes b.eof b.bytes) (λ b. plain_not (Bytes b.eof b.bytes) refl) (read_results at count results)
+results_not (slot.LayoutReturn file stateid failed) results = if_not Returned (plain_not Returned refl) (layout_return_results results)
+results_not slot.Renew results = if_not Renewed (plain_not Renewed refl) (renew_results results)
 
 answer_not : (c : SlotCallValue) (status : ℕ) (results : List (Value resop4)) → (status == 10052) ≡ false → compound_answer (ask_on_slot c) status results ≡ Refused 10052 → ⊥
 answer_not c status results other = by_test (status == 0)

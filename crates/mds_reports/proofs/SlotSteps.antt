@@ -31,21 +31,30 @@ use Rattle.open_state.specs.Opens.{opens_of}
 use Rattle.mds_operations.specs.declared.object.Object.{Object}
 use Rattle.mds_operations.specs.Orders.{Order, refusal}
 use Rattle.mds_operations.specs.PutFh.{put_fh_order, object_of}
+use Rattle.mds_operations.specs.Opens.{open_order}
+use Rattle.mds_operations.specs.Reads.{read_order}
 use Rattle.mds_operations.specs.Writes.{write_order}
+use Rattle.mds_operations.specs.LayoutReturns.{layout_return_order}
 use Rattle.mds_operations.specs.LayoutGets.{layout_get_order}
 use Rattle.mds_operations.specs.GetDeviceInfo.{device_info_order}
 use Rattle.mds_rule.specs.MdsStates.{CompoundRun, ServedFile, MdsValue, MdsStep, sends_none, confirmed_node, served, file_named}
 use Rattle.mds_rule.specs.OpSteps.{OpStep, Goes, Ends, Waits, with_result, refuses, by_order, refused_or}
 use Rattle.mds_rule.specs.ServedFiles.{takes_input, asks_back}
 use Rattle.mds_rule.specs.SessionOps.{reclaims}
-use Rattle.mds_rule.specs.FileOps.{client_of, current_file, name_in, put_object, runs_put_fh, get_object, runs_get_fh, opens_or_makes, creation_in, open_named, runs_open, read_length, reads_at, read_ask, runs_read, write_ask, writes_file, is_delay, write_refused, runs_write}
+use Rattle.mds_rule.specs.FileOps.{client_of, current_file, stateid_in, named_in, may_make, can_open, name_in, put_object, runs_put_fh, get_object, runs_get_fh, opens_or_makes, creation_in, open_named, runs_open, read_length, reads_at, read_ask, runs_read, write_ask, writes_file, is_delay, write_refused, runs_write}
 use Rattle.mds_rule.specs.LayoutOps.{layout_asked, layout_found, granted_in, grants_to, is_granted, is_try_later, phase_behind, later_by, layout_answer, runs_layout_get, errors_of, return_by, returns_file, file_return, device_from, device_size, device_answer, runs_get_device_info}
 use Rattle.mds_rule.specs.Compounds.{operate}
 use Rattle.mds_operations.specs.declared.layout_get.LayoutGetFound.{LayoutGetFound}
 use Rattle.mds_calls.specs.MdsCalls.{SlotCallValue}
 use Rattle.mds_calls.specs.MdsCalls as slot
 use Rattle.mds_calls.specs.MdsCompounds.{slot_ops}
-use Rattle.mds_file_calls.specs.FileOps.{device_info_op}
+use Rattle.nfs4_types.specs.Handles.{file_handle_of}
+use Rattle.nfs4_types.specs.Ids.{device_id_of}
+use Rattle.nfs4_types.specs.Stateids.{stateid4_value}
+use Rattle.nfs4_file_ops.specs.OpenHow.{createhow4, openflag4}
+use Rattle.mds_file_calls.specs.declared.open.TheConstants.{SHARE_BOTH}
+use Rattle.mds_file_calls.specs.declared.layouts.TheConstants.{MAX_COUNT}
+use Rattle.mds_file_calls.specs.FileOps.{whole_length, flex_files, reads_and_writes, put_fh_op, device_info_op, return_body}
 use Rattle.mds_laws.proofs.Lists.{AllOf}
 use Rattle.mds_replies.proofs.ReplyForms.{in_order}
 use Rattle.mds_replies.proofs.SameTables.{SameTable, input_same, asks_same}
@@ -85,7 +94,7 @@ opens_stays m c name None = refl
 
 open_stays : (m : MdsValue) (c : CompoundRun) (args : Value open4_args) → StepStays m (runs_open m c args)
 open_stays m c (seqid, (access, (deny, (clientid, (owner, (how, claim)))))) =
-    ordered m c 18 _ (opens_or_makes m c (name_in claim) (file_named m (name_in claim))) (refl, (refl, (refl, (refl, (refl, (refl, (refl, tt))))))) (opens_stays m c (name_in claim) (file_named m (name_in claim)))
+    ordered m c 18 (open_order c.current (name_in claim) access (creation_in how) (record { file = file_named m (name_in claim); can_open = can_open m (client_of c) (file_named m (name_in claim)); can_make = may_make m })) (opens_or_makes m c (name_in claim) (file_named m (name_in claim))) (refl, (refl, (refl, (refl, (refl, (refl, (refl, tt))))))) (opens_stays m c (name_in claim) (file_named m (name_in claim)))
 
 -- ---- bytes
 
@@ -95,7 +104,7 @@ reads_stay m c file at count (Some s) = tt
 
 read_stays : (m : MdsValue) (c : CompoundRun) (args : Value read4_args) → StepStays m (runs_read m c args)
 read_stays m c (stateid, (offset, count)) =
-    ordered m c 25 _ (reads_at m c (current_file c) offset (read_length count) (served m (current_file c))) (refl, (refl, (refl, (refl, (refl, tt))))) (reads_stay m c (current_file c) offset (read_length count) (served m (current_file c)))
+    ordered m c 25 (read_order c.current (read_ask m c (stateid, (offset, count)))) (reads_at m c (current_file c) offset (read_length count) (served m (current_file c))) (refl, (refl, (refl, (refl, (refl, tt))))) (reads_stay m c (current_file c) offset (read_length count) (served m (current_file c)))
 
 writes_stay : (m : MdsValue) (c : CompoundRun) (args : Value write4_args) → StepStays m (writes_file m c args)
 writes_stay m c (stateid, (offset, (stable, []))) = refl
@@ -158,7 +167,10 @@ returns_stay m c (Some errors) = by_file (served m (current_file c))
     by_file (Some s) = (input_same m (current_file c) (Returns _ s.file.layout.cred (report_of errors s.file.layout.live)) (served m (current_file c))).sessions
 
 file_return_stays : (m : MdsValue) (c : CompoundRun) (reclaim : Bool) (layout_type : ℕ) (args : Value layoutreturn_file4) → StepStays m (file_return m c reclaim layout_type args)
-file_return_stays m c reclaim layout_type (offset, (length, (stateid, body))) = ordered m c 51 _ (returns_file m c (errors_of body)) (refl, (refl, (refl, (refl, (refl, tt))))) (returns_stay m c (errors_of body))
+file_return_stays m c reclaim layout_type (offset, (length, (stateid, body))) =
+    ordered m c 51
+    (layout_return_order c.current (record { layout_type = layout_type; reclaim = reclaim; offset = offset; length = length; has_body = is_some (errors_of body); named = named_in m c (stateid_in stateid) }))
+    (returns_file m c (errors_of body)) (refl, (refl, (refl, (refl, (refl, tt))))) (returns_stay m c (errors_of body))
 
 reclaims_stay : (m : MdsValue) (c : CompoundRun) (o : Option SlotPass) → StepStays m (reclaims m c o)
 reclaims_stay m c None = refl
@@ -173,14 +185,26 @@ OpStays op = (now : ℕ) (m : MdsValue) (c : CompoundRun) → StepStays m (opera
 
 devices_stay : (servers : List ℕ) → AllOf OpStays (map device_info_op servers)
 devices_stay [] = tt
-devices_stay (n ∷ servers) = (λ now m c. device_stays m c _, devices_stay servers)
+devices_stay (n ∷ servers) = (λ now m c. device_stays m c ((device_id_of n).0, (flex_files, (MAX_COUNT, []))), devices_stay servers)
+
+abbrev put_stays_at : (file : FileId) → OpStays (put_fh_op file)
+put_stays_at file now m c = put_fh_stays m c (file_handle_of file.0)
 
 pub ops_stay : (name : List ℕ) (call : SlotCallValue) → AllOf OpStays (slot_ops name call)
 ops_stay name slot.ReclaimComplete = (λ now m c. reclaims_stay m c c.slot, tt)
-ops_stay name (slot.Open file) = (λ now m c. refl, (λ now m c. open_stays m c _, (λ now m c. get_stays m c c.current, tt)))
-ops_stay name (slot.LayoutGet file) = (λ now m c. put_fh_stays m c _, (λ now m c. layout_get_stays m c now _, tt))
+ops_stay name (slot.Open file) = (
+  λ now m c. refl,
+  (λ now m c. open_stays m c (0, (SHARE_BOTH, (0, (0, (name, (arm 1 openflag4 (arm 0 createhow4 ([], [])), inl file)))))), (λ now m c. get_stays m c c.current, tt)),
+)
+ops_stay name (slot.LayoutGet file) = (
+  put_stays_at file.file,
+  (λ now m c. layout_get_stays m c now (false, (flex_files, (reads_and_writes, (0, (whole_length, (0, (stateid4_value file.stateid, MAX_COUNT))))))), tt),
+)
 ops_stay name (slot.DeviceInfo servers) = devices_stay servers
-ops_stay name (slot.Write file at bytes) = (λ now m c. put_fh_stays m c _, (λ now m c. write_stays m c now _, tt))
-ops_stay name (slot.Read file at count) = (λ now m c. put_fh_stays m c _, (λ now m c. read_stays m c _, tt))
-ops_stay name (slot.LayoutReturn file stateid failed) = (λ now m c. put_fh_stays m c _, (λ now m c. file_return_stays m c false _ _, tt))
+ops_stay name (slot.Write file at bytes) = (put_stays_at file.file, (λ now m c. write_stays m c now (stateid4_value file.stateid, (at, (2, bytes))), tt))
+ops_stay name (slot.Read file at count) = (put_stays_at file.file, (λ now m c. read_stays m c (stateid4_value file.stateid, (at, count)), tt))
+ops_stay name (slot.LayoutReturn file stateid failed) = (
+  put_stays_at file,
+  (λ now m c. file_return_stays m c false flex_files (0, (whole_length, (stateid4_value stateid, return_body stateid failed))), tt),
+)
 ops_stay name slot.Renew = tt
