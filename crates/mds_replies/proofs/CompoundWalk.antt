@@ -40,7 +40,6 @@ use Rattle.nfs4_session.specs.Slots.{SlotAnswer, TakesEffect, Repeats, Refuses}
 use Rattle.nfs4_session.specs.Requests.{request_answer, after_request}
 use Rattle.nfs4_session.specs.Beginning.{table_begun}
 use Rattle.nfs4_session.specs.Bindings.{after_binding}
-use Rattle.nfs4_session.specs.TableLaw.{FinishRequest}
 use Rattle.recall.specs.declared.recall.Outcome.{Outcome}
 use Rattle.recall.specs.declared.recall.Outcome.TheVariants as outcome
 use Rattle.recall.specs.Recalls.{RecallsAfter}

@@ -4,9 +4,9 @@ use Rattle.std.specs.Prelude.{◌==◌, nat_lt, take, drop}
 use Rattle.std.specs.Int.{Width, w32, byte_len, from_be_bytes}
 use Rattle.std.specs.List.{flat_map}
 use Rattle.ff_xdr.specs.declared.error.XdrError.{XdrError}
-use Rattle.ff_xdr.specs.declared.error.XdrWhy.TheVariants.{Short, TooLong, Rest}
+use Rattle.ff_xdr.specs.declared.error.XdrWhy.TheVariants.{Short, TooLong}
 use Rattle.ff_xdr.specs.Form.{Form, Pair, Array, Value, Fits, spelling, word}
-use Rattle.ff_xdr.specs.Reading.{Read, ◌>>=◌, number_at, length_at, many_at, reading, rest_of, whole}
+use Rattle.ff_xdr.specs.Reading.{◌>>=◌, number_at, length_at, many_at, reading, rest_of, whole}
 use Rattle.ff_xdr.specs.Laws.{Stands}
 use Rattle.ff_xdr.proofs.Places.{bind_ok, guard_ok, ok_is, stands_first, stands_second, stands_between}
 use Rattle.ff_xdr.proofs.Again.{again_where}
@@ -17,7 +17,6 @@ use Rattle.nfs4_compound.specs.Results.{resop4}
 use Rattle.nfs4_compound.specs.Compounds.{compound4_res, tag4}
 use Rattle.nfs4_compound.proofs.Statuses.{stat_fits}
 use Rattle.compound_reply.specs.Replied.{success_reply}
-use Rattle.mds_calls.specs.declared.ask.MdsAsk.{MdsAsk}
 use Rattle.mds_calls.specs.declared.ask.MdsAsk.TheVariants as ask
 use Rattle.mds_calls.specs.declared.reply.SlotReport.TheVariants.{Taken}
 use Rattle.mds_calls.specs.declared.reply.SlotReport.{SlotReport}
@@ -25,7 +24,7 @@ use Rattle.mds_calls.specs.MdsCalls.{SlotCallValue, ask_on_slot}
 use Rattle.mds_calls.specs.MdsCalls as slot
 use Rattle.mds_session_calls.specs.SessionResults.{reclaim_complete_results, renew_results}
 use Rattle.mds_file_calls.specs.FileResults.{open_results, layout_get_results, device_info_results, write_results, read_results, layout_return_results}
-use Rattle.mds_calls.specs.MdsReplies.{MdsAnswerValue, Complete, Opened, Granted, Devices, Written, Bytes, Returned, Renewed, Refused, MdsReplyValue, answer_if, answer_where, results_of_ask, slot_told, slot_answer_of, compound_answer, compound_reply}
+use Rattle.mds_calls.specs.MdsReplies.{MdsAnswerValue, Complete, Opened, Granted, Devices, Written, Bytes, Returned, Renewed, Refused, answer_if, answer_where, results_of_ask, slot_told, compound_answer, compound_reply}
 use Rattle.mds_rule.specs.Compounds.{sequence_result}
 use Rattle.mds_replies.proofs.ExchangeRuns.{no_tag}
 use Rattle.mds_reports.specs.SlotReports.{AgreesWith, AgreesRead}
@@ -140,18 +139,19 @@ module _ (status : ℕ) (first : Value resop4) (more : List (Value resop4)) (fit
       let place : n.0.1 ≡ p2 + 4 = length_place 4294967295 bytes b.a.1 n.0 n.1 ∙ ap (λ (k : ℕ). k + 4) second_place in
       let list : BeginsWith first b.b.0 =
       first_of bytes first (p2 + 4) ((p2 + 4) + length (spelling resop4 first)) n.0.0 b.b read_first (subst (λ (k : ℕ). many_at (λ place. reading resop4 bytes place) n.0.0 k ≡ Ok b.b) place n.2) in
-      let its_list : BeginsWith first a.b.0.1 = subst (λ (w : Value (Pair tag4 listed) × ℕ). BeginsWith first w.0.1) b.same list in
-      (
+      let its_list : BeginsWith first a.b.0.1 = subst (λ (w : Value (Pair tag4 listed) × ℕ). BeginsWith first w.0.1) b.same list in (
         sym (ap (λ (w : Value compound4_res × ℕ). w.0.0) a.same) ∙ sym (ap (λ (p : ℕ × ℕ). p.0) status_is),
         subst (λ (w : Value compound4_res × ℕ). BeginsWith first w.0.1.1) a.same its_list,
       )
 
   reads_front : ReadsFront bytes status first
-  reads_front = record { so = λ v e.
+  reads_front = record {
+    so = λ v e.
         (let r = bind_ok (reading compound4_res bytes 0) (λ x. rest_of bytes x.1 >>= λ nothing. Ok x.0) v e in
         let s = bind_ok (rest_of bytes r.0.1) (λ nothing. Ok r.0.0) v r.2 in
         let same : r.0.0 ≡ v = ok_is {A = Value compound4_res} r.0.0 v s.2 in
-        subst (λ (x : Value compound4_res). (x.0 ≡ status) × BeginsWith first x.1.1) same (front_so r.0 r.1)) }
+        subst (λ (x : Value compound4_res). (x.0 ≡ status) × BeginsWith first x.1.1) same (front_so r.0 r.1));
+  }
 
 -- ---- what is told
 

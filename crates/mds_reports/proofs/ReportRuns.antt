@@ -1,6 +1,6 @@
 -- What each reply of a run tells a slot agrees with its answer.
-use Rattle.std.proofs.Common.{◌≡◌, ◌<◌, ℕ, ◌+◌, ◌^◌, Bool, true, false, cond, List, [], ◌∷◌, ◌++◌, length, Option, Some, None, refl, sym, ap, subst, ◌∙◌, inl, inr, ◌⊎◌, arith, append_assoc, append-nil}
-use Rattle.std.specs.Prelude.{◌==◌, ◌||◌, map, is_some}
+use Rattle.std.proofs.Common.{◌≡◌, ◌<◌, ℕ, ◌+◌, ◌^◌, true, false, List, [], ◌∷◌, ◌++◌, length, Option, None, refl, sym, ap, subst, ◌∙◌, inl, inr, arith, append_assoc, append-nil}
+use Rattle.std.specs.Prelude.{map}
 use Rattle.std.proofs.lemmas.Bool.{cond_both}
 use Rattle.ff_xdr.specs.Form.{Value, Fits, spelling, arm_of}
 use Rattle.ff_xdr.specs.Arms.{arm}
@@ -25,32 +25,30 @@ use Rattle.nfs4_compound.specs.Args.{argop4}
 use Rattle.nfs4_compound.specs.Results.{resop4}
 use Rattle.nfs4_compound.specs.Compounds.{CompoundValue, compound4_res}
 use Rattle.nfs4_session.specs.declared.begin.SlotPass.{SlotPass}
-use Rattle.nfs4_session.specs.Slots.{SlotAnswer, TakesEffect, Repeats, Refuses, slot_answer}
-use Rattle.nfs4_session.specs.Clients.{SessionsState, session_of}
-use Rattle.nfs4_session.specs.Requests.{request_answer, after_request, pass_of}
+use Rattle.nfs4_session.specs.Slots.{SlotAnswer, TakesEffect, Repeats, Refuses}
+use Rattle.nfs4_session.specs.Clients.{SessionsState}
+use Rattle.nfs4_session.specs.Requests.{request_answer}
 use Rattle.nfs4_session.specs.Bindings.{after_binding}
-use Rattle.nfs4_session.specs.TableLaw.{Bind, KeepsTable}
+use Rattle.nfs4_session.specs.TableLaw.{Bind}
 use Rattle.mds_file_calls.specs.declared.open.TheConstants.{SHARE_BOTH}
 use Rattle.mds_file_calls.specs.declared.layouts.TheConstants.{MAX_COUNT}
 use Rattle.mds_file_calls.specs.FileOps.{whole_length, flex_files, reads_and_writes, put_fh_op, device_info_op, return_body}
 use Rattle.mds_session_calls.specs.declared.create_session.TheConstants.{WITH_BACK_CHANNEL}
 use Rattle.nfs4_session_ops.specs.CallbackSec.{callback_sec4}
 use Rattle.mds_session_calls.specs.SessionOps.{fore_channel, back_channel, callback_program, exchange_id_op, create_session_op}
-use Rattle.mds_calls.specs.FittingCalls.{FitsRequest}
-use Rattle.mds_calls.specs.MdsCalls.{MdsCallValue, ExchangeId, CreateSession, OnSlot, SlotCallValue, ask_of, ask_on_slot, takes_slot}
+use Rattle.mds_calls.specs.MdsCalls.{MdsCallValue, ExchangeId, CreateSession, OnSlot, SlotCallValue, ask_of, takes_slot}
 use Rattle.mds_calls.specs.MdsCalls as slot
 use Rattle.mds_calls.specs.MdsReplies.{MdsReplyValue}
 use Rattle.mds_calls.specs.MdsCompounds.{slot_ops, mds_ops}
 use Rattle.mds_receive.specs.MdsReceive.{IsCompound, incoming_of}
-use Rattle.mds_rule.specs.MdsStates.{CompoundRun, ServedFile, MdsSend, Replies, MdsValue, MdsStep, sends_none, new_mds}
+use Rattle.mds_rule.specs.MdsStates.{CompoundRun, ServedFile, MdsSend, Replies, MdsValue, MdsStep, sends_none}
 use Rattle.mds_rule.specs.OpSteps.{OpStep, Goes, Ends, Waits, with_result, refuses, refused_as, stopped}
 use Rattle.mds_rule.specs.Compounds.{operate, has_session, operates, compound_bytes, kept_in_slot, sequence_result, finishes, op_then, with_ops, runs, sequenced}
 use Rattle.mds_laws.specs.MdsRuns.{MdsInput, MdsEvent, Hears, IsTimedOut, Ticks, RecallsFile, Resilvers, after_event}
 use Rattle.mds_laws.proofs.Lists.{In, AllOf}
 use Rattle.mds_laws.proofs.Keeping.{HeardAny, Keeps, KeepsOp, same, enters_keeps, stays}
-use Rattle.mds_laws.proofs.Numbers.{WereSent}
 use Rattle.mds_replies.specs.ClientCalls.{IsCallFrom, server_after, IsEventOf}
-use Rattle.mds_replies.specs.SlotReplies.{request_of, EffectsAreNumbered, TookEffect, count_taken}
+use Rattle.mds_replies.specs.SlotReplies.{request_of, EffectsAreNumbered}
 use Rattle.mds_replies.specs.AnsweredRequests.{AreFitCalls, StaysRoomy, HearsFitCall}
 use Rattle.mds_replies.proofs.HolderCases.{AllWait}
 use Rattle.mds_replies.proofs.CallEvents.{Brings, ACall, Nothing, brings}
@@ -59,7 +57,6 @@ use Rattle.mds_replies.proofs.JudgedRequests.{refusal_read}
 use Rattle.mds_replies.proofs.OpsWalk.{puts_fh, gets_fh, opens, reads, writes, layout_gets, layout_returns, device_infos}
 use Rattle.mds_replies.proofs.OutCalls.{are_called}
 use Rattle.mds_replies.proofs.PeriodKept.{sent_with_calls, in_sent}
-use Rattle.mds_replies.proofs.Periods.{run_behind}
 use Rattle.mds_replies.proofs.ReplyForms.{sequence_fits}
 use Rattle.mds_replies.proofs.ReplySent.{run_of_call, event_is, of_calls}
 use Rattle.mds_replies.proofs.SameRuns.{Like, like_then, StepsLike, operates_like, operate_like}
@@ -67,12 +64,12 @@ use Rattle.mds_replies.proofs.ServedWalk.{exchanges, creates, reclaims_all}
 use Rattle.mds_replies.proofs.SlotTables.{TableSo, SlotJudged, NoSession, BySlot, judged, request_kept}
 use Rattle.mds_replies.proofs.TakenMeans.{one_more, are_calls}
 use Rattle.mds_replies.proofs.TakenRequests.{taken_mds, taken_compound}
-use Rattle.mds_replies.proofs.Turns.{is_waiting_op, has_waiting}
-use Rattle.mds_reports.specs.SlotReports.{AgreesWith, AgreesRead, CameAlone, ReportsAgree}
+use Rattle.mds_replies.proofs.Turns.{is_waiting_op}
+use Rattle.mds_reports.specs.SlotReports.{AgreesWith, CameAlone, ReportsAgree}
 use Rattle.mds_reports.proofs.SlotSteps.{IsOtherStatus, StepStays, OpStays, ops_stay}
 use Rattle.mds_reports.proofs.StandingSessions.{stands_behind}
 use Rattle.mds_reports.proofs.KeptReplies.{AgreesBytes, SlotAgrees, AnswerAgrees, IsSequenceRefusal, IsGone, IsMisordered, IsDelayed, IsUncached, plain_agrees, slot_agrees}
-use Rattle.mds_reports.proofs.ReportTurns.{WaitsAgreed, bytes_agree, W, IsAgreed, IsSo, cases, sends, own_reply, finish_keeps, agreed_keeps, returned, out_keeps, BringsNone, other_keeps}
+use Rattle.mds_reports.proofs.ReportTurns.{bytes_agree, W, IsAgreed, IsSo, cases, sends, own_reply, finish_keeps, agreed_keeps, returned, out_keeps, BringsNone, other_keeps}
 
 -- ---- a SEQUENCE that is refused
 

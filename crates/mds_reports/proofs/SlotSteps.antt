@@ -1,9 +1,9 @@
 -- The operations of a client's requests on a slot leave the table of clients as it is, and end by another status than BADSESSION.
-use Rattle.std.proofs.Common.{◌≡◌, ℕ, Bool, true, false, cond, List, [], ◌∷◌, ◌++◌, length, Option, Some, None, refl, inl}
+use Rattle.std.proofs.Common.{◌≡◌, ℕ, Bool, true, false, List, [], ◌∷◌, ◌++◌, length, Option, Some, None, refl, inl}
 use Rattle.std.specs.Prelude.{◌==◌, map, nat_eq, is_some}
 use Rattle.std.specs.List.{list_any}
 use Rattle.std.proofs.lemmas.Bool.{cond_both}
-use Rattle.ff_xdr.specs.Form.{Value, arm_of}
+use Rattle.ff_xdr.specs.Form.{Value}
 use Rattle.ff_xdr.specs.Arms.{arm}
 use Rattle.cluster_model.specs.declared.ids.NodeId.{NodeId}
 use Rattle.cluster_model.specs.declared.ids.NodeId.TheVariants.{Mds, Server, Client}
@@ -13,7 +13,6 @@ use Rattle.device_addr.specs.Universal.{AddressValue}
 use Rattle.ff_layout.specs.IoError.{ff_ioerr4}
 use Rattle.layout_report.specs.Reports.{report_of}
 use Rattle.file_rule.specs.FilePhases.{AsksLayout, Returns}
-use Rattle.nfs4_types.specs.declared.stateid.Stateid.{Stateid}
 use Rattle.nfs4_types.specs.declared.status.Stat4.{Stat4}
 use Rattle.nfs4_types.specs.declared.status.Stat4.TheVariants as stat
 use Rattle.nfs4_types.specs.Status.{stat4_number}
@@ -27,7 +26,6 @@ use Rattle.nfs4_compound.specs.Args.{argop4}
 use Rattle.nfs4_compound.specs.Results.{resop4}
 use Rattle.nfs4_session.specs.declared.begin.SlotPass.{SlotPass}
 use Rattle.nfs4_session.specs.Clients.{client_in}
-use Rattle.open_state.specs.Opens.{opens_of}
 use Rattle.mds_operations.specs.declared.object.Object.{Object}
 use Rattle.mds_operations.specs.Orders.{Order, refusal}
 use Rattle.mds_operations.specs.PutFh.{put_fh_order, object_of}
@@ -39,9 +37,9 @@ use Rattle.mds_operations.specs.LayoutGets.{layout_get_order}
 use Rattle.mds_operations.specs.GetDeviceInfo.{device_info_order}
 use Rattle.mds_rule.specs.MdsStates.{CompoundRun, ServedFile, MdsValue, MdsStep, sends_none, confirmed_node, served, file_named}
 use Rattle.mds_rule.specs.OpSteps.{OpStep, Goes, Ends, Waits, with_result, refuses, by_order, refused_or}
-use Rattle.mds_rule.specs.ServedFiles.{takes_input, asks_back}
+use Rattle.mds_rule.specs.ServedFiles.{takes_input}
 use Rattle.mds_rule.specs.SessionOps.{reclaims}
-use Rattle.mds_rule.specs.FileOps.{client_of, current_file, stateid_in, named_in, may_make, can_open, name_in, put_object, runs_put_fh, get_object, runs_get_fh, opens_or_makes, creation_in, open_named, runs_open, read_length, reads_at, read_ask, runs_read, write_ask, writes_file, is_delay, write_refused, runs_write}
+use Rattle.mds_rule.specs.FileOps.{client_of, current_file, stateid_in, named_in, may_make, can_open, name_in, put_object, runs_put_fh, get_object, opens_or_makes, creation_in, runs_open, read_length, reads_at, read_ask, runs_read, write_ask, writes_file, write_refused, runs_write}
 use Rattle.mds_rule.specs.LayoutOps.{layout_asked, layout_found, granted_in, grants_to, is_granted, is_try_later, phase_behind, later_by, layout_answer, runs_layout_get, errors_of, return_by, returns_file, file_return, device_from, device_size, device_answer, runs_get_device_info}
 use Rattle.mds_rule.specs.Compounds.{operate}
 use Rattle.mds_operations.specs.declared.layout_get.LayoutGetFound.{LayoutGetFound}
@@ -57,7 +55,7 @@ use Rattle.mds_file_calls.specs.declared.layouts.TheConstants.{MAX_COUNT}
 use Rattle.mds_file_calls.specs.FileOps.{whole_length, flex_files, reads_and_writes, put_fh_op, device_info_op, return_body}
 use Rattle.mds_laws.proofs.Lists.{AllOf}
 use Rattle.mds_replies.proofs.ReplyForms.{in_order}
-use Rattle.mds_replies.proofs.SameTables.{SameTable, input_same, asks_same}
+use Rattle.mds_replies.proofs.SameTables.{input_same}
 
 -- another status than BADSESSION
 abbrev pub IsOtherStatus : Stat4 → Type 0

@@ -1,10 +1,10 @@
 -- The session of a request that takes effect stands behind it.
-use Rattle.std.proofs.Common.{◌≡◌, ℕ, Bool, true, false, cond, List, [], ◌∷◌, Option, Some, None, refl, sym, ap, ◌∙◌}
+use Rattle.std.proofs.Common.{◌≡◌, ℕ, Bool, true, false, cond, List, [], ◌∷◌, Option, Some, None, refl, ap, ◌∙◌}
 use Rattle.std.specs.Prelude.{◌==◌, is_some}
 use Rattle.std.specs.List.{find}
 use Rattle.std.proofs.lemmas.Bool.{cond_both}
 use Rattle.nfs4_types.specs.declared.ids.SessionId.{SessionId}
-use Rattle.nfs4_session.specs.Slots.{SlotState, TakesEffect, slot_begun}
+use Rattle.nfs4_session.specs.Slots.{TakesEffect, slot_begun}
 use Rattle.nfs4_session.specs.Clients.{ClientState, SessionState, SessionsState, client_in, number_in, has_id, has_number, session_of_client, session_of, change_first, renewed_at, with_sessions}
 use Rattle.nfs4_session.specs.Requests.{change_slot, answer_by_session, request_answer, after_request}
 use Rattle.mds_calls.specs.MdsCalls.{SlotCallValue}

@@ -1,44 +1,36 @@
 -- Where a session that was given is gone, no record has its client's id, and none will have it.
-use Rattle.std.proofs.Common.{◌≡◌, ◌≤◌, ◌<◌, ℕ, ◌+◌, Bool, true, false, List, [], ◌∷◌, ◌++◌, Option, Some, None, refl, sym, ap, subst, ◌∙◌, inl, inr, ◌⊎◌, arith}
+use Rattle.std.proofs.Common.{◌≡◌, ◌≤◌, ℕ, ◌+◌, Bool, true, false, List, [], ◌∷◌, ◌++◌, Option, Some, None, refl, sym, ap, subst, ◌∙◌, inl, inr, ◌⊎◌, arith}
 use Rattle.std.specs.Prelude.{◌==◌, ◌&&◌, not, slice_get, if◌then◌else◌}
 use Rattle.std.specs.List.{find}
 use Rattle.std.proofs.lemmas.Bool.{cond_both, eqb-true, eq-eqb, and_parts}
 use Rattle.std.proofs.lemmas.Option.{same_Some, none-some}
-use Rattle.std.proofs.lemmas.List.{append_assoc}
 use Rattle.ff_xdr.specs.Form.{long}
 use Rattle.device_addr.specs.Universal.{AddressValue}
 use Rattle.cluster_model.specs.declared.ids.NodeId.{NodeId}
 use Rattle.nfs4_types.specs.declared.ids.SessionId.{SessionId}
-use Rattle.nfs4_types.specs.declared.sequence.Sequence.{Sequence}
 use Rattle.nfs4_types.specs.declared.status.Stat4.TheVariants as stat
-use Rattle.nfs4_session.specs.Slots.{SlotState, SlotReply, NoRequest, InProgress, Cached, Uncached, SlotAnswer, TakesEffect, Repeats, Refuses, sequence_after, answer_again, is_in_progress, slot_answer}
-use Rattle.nfs4_session.specs.Clients.{ClientState, MadeSession, SessionState, SessionsState, client_id, session_id, client_in, number_in, has_id, has_number, session_of_client, change_first, remove_first}
-use Rattle.nfs4_session.specs.ExchangeIds.{new_client}
-use Rattle.nfs4_session.specs.CreateSessions.{CreateSessionCase, IsDue, IsReplay, create_session_case, after_creating, is_before_restart, with_new_session, created_session}
+use Rattle.nfs4_session.specs.Slots.{SlotState, SlotReply, NoRequest, InProgress, Cached, Uncached, SlotAnswer, TakesEffect, Refuses, sequence_after, answer_again, is_in_progress, slot_answer}
+use Rattle.nfs4_session.specs.Clients.{ClientState, MadeSession, SessionState, SessionsState, client_id, client_in, number_in, has_id, has_number, session_of_client, remove_first}
+use Rattle.nfs4_session.specs.CreateSessions.{CreateSessionCase, IsDue, create_session_case, after_creating, is_before_restart, with_new_session, created_session}
 use Rattle.nfs4_session.specs.Requests.{answer_by_slot, answer_by_session, request_answer}
 use Rattle.nfs4_session.specs.Bindings.{client_bound, after_binding}
-use Rattle.nfs4_session.specs.TableLaw.{TableMove, ExchangeId as Exchanges, CreateSession as Creates, Bind, table_after, KeepsTable}
+use Rattle.nfs4_session.specs.TableLaw.{TableMove, CreateSession as Creates, Bind, table_after, KeepsTable}
 use Rattle.mds_session_calls.specs.SessionOps as asked
 use Rattle.mds_calls.specs.MdsCalls.{SlotCallValue}
 use Rattle.mds_rule.specs.MdsStates.{MdsValue, new_mds}
-use Rattle.mds_rule.specs.Goes.{calls_out}
-use Rattle.mds_laws.specs.MdsRuns.{MdsEvent, after_event, run_from}
+use Rattle.mds_laws.specs.MdsRuns.{MdsEvent, after_event}
 use Rattle.mds_laws.proofs.Lists.{In, found_in, found_passes}
 use Rattle.mds_replies.specs.ClientCalls.{HearsCall, AreCalls, server_after, IsEventOf}
-use Rattle.mds_replies.specs.ClientIds.{GivesId, GivesSession}
+use Rattle.mds_replies.specs.ClientIds.{GivesSession}
 use Rattle.mds_replies.specs.SlotReplies.{request_of}
-use Rattle.mds_replies.specs.AnsweredRequests.{IsRefusedWith}
 use Rattle.mds_replies.proofs.Periods.{run_behind}
-use Rattle.mds_replies.proofs.TakenMeans.{one_more}
 use Rattle.mds_replies.proofs.TableRuns.{run_keeps}
-use Rattle.mds_replies.proofs.ClientRecords.{IsTable}
 use Rattle.mds_replies.proofs.ExchangeRuns.{IsGiven, OfOld, OfNew, Gave}
 use Rattle.mds_replies.proofs.OneOwner.{gave_in}
-use Rattle.mds_replies.proofs.CreateRuns.{session_client, IsKnown, fits_long}
 use Rattle.mds_replies.proofs.SessionRuns.{GaveSession, Makes as MakesNow, Replays, gave_session, its_client}
 use Rattle.mds_session_order.specs.SessionOrder.{IdsStayGone}
 use Rattle.mds_session_order.proofs.Numbered.{HasKey, Hits, key_change, has_last, stays_or_passes, change_hits, is_found}
-use Rattle.mds_session_order.proofs.TableSteps.{DestroysNone, HasSession, number_of, Stays, Makes, Came, Stood, Made, IsNew}
+use Rattle.mds_session_order.proofs.TableSteps.{DestroysNone, HasSession, number_of, Came, Stood, Made, IsNew}
 use Rattle.mds_session_order.proofs.TableFacts.{Facts, DueSo, ReplaySo, CaseSo, case_so, facts_keep, new_facts, facts_of_run, one_record, came, id_stays, not_new}
 use Rattle.mds_session_order.proofs.TableWalk.{FilesWait, calls_keep, calls_out_keep, new_calls_keep}
 use Rattle.mds_session_order.proofs.NewSessions.{due_number, replay_number}

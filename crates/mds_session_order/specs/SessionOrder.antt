@@ -1,6 +1,6 @@
 -- In which order ids and sessions are given, in every run of a metadata server to which clients of this cluster call (RFC 8881, sections
 -- 18.35 and 18.36).
-use Rattle.std.specs.Prelude.{◌≡◌, ℕ, Bool, true, List, [], ◌∷◌, ◌++◌}
+use Rattle.std.specs.Prelude.{◌≡◌, ℕ, true, List, [], ◌∷◌, ◌++◌}
 use Rattle.nfs4_types.specs.declared.ids.SessionId.{SessionId}
 use Rattle.nfs4_types.specs.declared.status.Stat4.TheVariants as stat
 use Rattle.nfs4_session.specs.Clients.{client_in}

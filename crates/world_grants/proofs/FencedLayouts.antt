@@ -5,7 +5,6 @@ use Rattle.std.specs.List.{AllByRecursion}
 use Rattle.std.proofs.lemmas.Bool.{eqb-true}
 use Rattle.std.proofs.lemmas.Grind.{flat_map-append}
 use Rattle.cluster_model.specs.declared.ids.FileId.{FileId}
-use Rattle.cluster_model.specs.declared.ids.Cred.{Cred}
 use Rattle.cluster_model.specs.declared.phase.EndCause.{EndCause}
 use Rattle.cluster_model.specs.declared.entry.Entry.{Entry}
 use Rattle.cluster_model.specs.declared.entry.Entry.TheVariants as entry
@@ -16,7 +15,6 @@ use Rattle.mds_file_calls.specs.declared.grant.LayoutGrant.{LayoutGrant}
 use Rattle.mds_calls.specs.MdsCalls.{OnSlot}
 use Rattle.mds_rule.specs.MdsStates.{MdsValue, new_mds}
 use Rattle.mds_laws.specs.MdsRuns.{MdsEvent, run_from}
-use Rattle.mds_laws.proofs.Lists.{In}
 use Rattle.mds_histories.specs.MdsHistory as of_mds
 use Rattle.mds_histories.specs.MdsHistory.{MdsItem}
 use Rattle.mds_histories.proofs.Histories.{entries_of_run}
@@ -26,7 +24,7 @@ use Rattle.mds_replies.specs.AnsweredRequests.{StaysRoomy}
 use Rattle.client_laws.specs.ClientHistory.{HistoryItem}
 use Rattle.client_laws.specs.ClientRunLaws.{WasGranted}
 use Rattle.client_sessions.specs.LayoutEnds.{WasFenced}
-use Rattle.node_histories.specs.Weaves.{WeaveStep, entries_in, items_in}
+use Rattle.node_histories.specs.Weaves.{entries_in, items_in}
 use Rattle.node_histories.specs.ClientLives.{Life}
 use Rattle.node_histories.specs.NodeHistories.{HasLife, IsToldByNodes}
 use Rattle.node_histories.proofs.WeaveLemmas.{entries_join, items_join}
@@ -38,8 +36,7 @@ use Rattle.world_reads.proofs.MdsPlaces.{Steps}
 use Rattle.world_reads.proofs.LifeRecords.{compound}
 use Rattle.world_layouts.specs.WorldLayouts.{StartsAreFew, RefusalsAreEnds, HasPeriodEnded, journal_at}
 use Rattle.world_layouts.proofs.LifeSends.{LifeSteps}
-use Rattle.world_layouts.proofs.MomentOrder.{Begins, has_before}
-use Rattle.world_layouts.proofs.OwnCalls.{CalledOwn}
+use Rattle.world_layouts.proofs.MomentOrder.{has_before}
 use Rattle.world_layouts.proofs.ToldEnds.{IsEndTold, ends_told, causes_told}
 use Rattle.world_grants.proofs.OneEffect.{OnceLaws}
 use Rattle.world_grants.proofs.RepliesBehind.{EffectAt}

@@ -1,19 +1,15 @@
 -- A LAYOUTGET that took effect, in the history of the life that sent it, and the reply by which it was settled: this is the one that its slot keeps.
-use Rattle.std.proofs.Common.{◌≡◌, ◌<◌, ◌≤◌, ℕ, ◌+◌, ◌^◌, true, false, length, List, [], ◌∷◌, ◌++◌, refl, sym, ap, subst, ◌∙◌, inl, inr, ◌⊎◌, arith, append_assoc, length-append}
+use Rattle.std.proofs.Common.{◌≡◌, ◌<◌, ℕ, ◌+◌, ◌^◌, true, false, length, List, [], ◌∷◌, ◌++◌, refl, sym, ap, subst, ◌∙◌, inl, inr, ◌⊎◌, arith, length-append}
 use Rattle.std.specs.List.{AllByRecursion}
 use Rattle.cluster_model.specs.declared.ids.NodeId.TheVariants.{Mds, Client}
 use Rattle.cluster_world.specs.ClusterWorlds.{ClusterState}
 use Rattle.nfs4_types.specs.declared.ids.SessionId.{SessionId}
 use Rattle.nfs4_types.specs.declared.status.Stat4.TheVariants as stat
 use Rattle.table_slots.specs.TableSlots.{is_of_session}
-use Rattle.mds_calls.specs.declared.reply.SlotReport.{SlotReport}
-use Rattle.mds_calls.specs.declared.reply.SlotReport.TheVariants.{Taken, Uncached, Delayed, Unknown}
 use Rattle.mds_calls.specs.MdsCalls.{MdsCallValue, OnSlot, SlotCallValue, ask_of, ask_on_slot, takes_slot}
-use Rattle.mds_calls.specs.MdsReplies.{MdsReplyValue, MdsAnswerValue, Refused, reply_of_ask}
+use Rattle.mds_calls.specs.MdsReplies.{MdsReplyValue, reply_of_ask}
 use Rattle.mds_calls.specs.MdsCalls as slot
 use Rattle.mds_laws.specs.MdsRuns.{MdsEvent, Hears}
-use Rattle.mds_replies.specs.ClientCalls.{IsEventOf}
-use Rattle.mds_replies.specs.SlotReplies.{count_taken}
 use Rattle.mds_replies.specs.AnsweredRequests.{StaysRoomy, IsRefusedWith, TookEffectAmong}
 use Rattle.mds_reports.specs.SlotReports.{AgreesWith, AgreesRead, CameAlone}
 use Rattle.client_laws.specs.ClientHistory.{HistoryItem, HasItem}
@@ -33,7 +29,6 @@ use Rattle.world_layouts.proofs.OwnCalls.{CalledOwn, own_call, same_takes}
 use Rattle.world_layouts.proofs.OwnRequests.{OwnRequest, own_request, SplitAt, split_at}
 use Rattle.world_layouts.proofs.OneRequest.{IsIn, Front, This, Back, is_in, Heard, fits_first, room_first, behind_reply, none_asked, asked_behind, asked_at, asked_round, under, early, late, whole, early_less, refused_not}
 use Rattle.world_grants.proofs.OneEffect.{OnceLaws}
-use Rattle.world_grants.proofs.RepliesBehind.{upto_reply}
 
 no_compound : (items : List HistoryItem) → AllByRecursion IsNoCompound items → (xid : ℕ) (name : List ℕ) (call : MdsCallValue) → HasItem items (compound xid name call) → ⊥
 no_compound [] all xid name call has = absurd has

@@ -1,10 +1,9 @@
 -- Two grants under one uid that a life heard are to one LAYOUTGET, and so one (RFC 8881, section 18.43; RFC 8435, section 2.2).
-use Rattle.std.proofs.Common.{◌≡◌, ◌<◌, ◌≤◌, ℕ, ◌^◌, Bool, true, false, length, List, [], ◌∷◌, ◌++◌, refl, sym, ap, subst, ◌∙◌, inl, inr, ◌⊎◌, arith, append_assoc, append-nil, length-append}
+use Rattle.std.proofs.Common.{◌≡◌, ◌<◌, ◌≤◌, ℕ, ◌^◌, Bool, true, false, length, List, [], ◌∷◌, ◌++◌, refl, sym, ap, subst, ◌∙◌, inl, inr, ◌⊎◌, arith, append_assoc, length-append}
 use Rattle.std.specs.Prelude.{nat_lt}
 use Rattle.std.proofs.lemmas.Bool.Decides.{nat_tests}
 use Rattle.std.proofs.lemmas.Bool.{ltb-true}
 use Rattle.cluster_model.specs.declared.ids.NodeId.TheVariants.{Server}
-use Rattle.cluster_model.specs.declared.ids.FileId.{FileId}
 use Rattle.cluster_world.specs.ClusterWorlds.{ClusterState}
 use Rattle.nfs4_types.specs.Stateids.{three_words}
 use Rattle.nfs4_types.specs.declared.ids.SessionId.{SessionId}
@@ -21,7 +20,7 @@ use Rattle.mds_laws.specs.MdsRuns.{MdsEvent}
 use Rattle.mds_replies.specs.ClientCalls.{server_after, IsEventOf}
 use Rattle.mds_replies.specs.LayoutReplies.{HasPeriod}
 use Rattle.mds_replies.specs.SlotReplies.{TookEffect}
-use Rattle.mds_replies.specs.AnsweredRequests.{StaysRoomy, KeepsAnswer, StandsByReport, IsUnknown, HasNoSession, IsOutOfOrder, TookEffectAmong, WasNoGet, IsFreeAt, bad_stateid}
+use Rattle.mds_replies.specs.AnsweredRequests.{StaysRoomy, KeepsAnswer, StandsByReport, IsUnknown, HasNoSession, IsOutOfOrder, bad_stateid}
 use Rattle.mds_reports.specs.SlotReports.{AgreesWith}
 use Rattle.client_state.specs.ClientSends.{CallsServer}
 use Rattle.client_laws.specs.ClientHistory.{HistoryItem, Hears, Sends, Recorded, InOrder, HasItem, Each, client_history}
@@ -320,7 +319,7 @@ module _ (laws : OnceLaws) (boots : List ℕ) (w : ClusterState) (run : IsRunOf 
                   not_ended says.answer 10008 answer (agree returned more returned_split xid name sequence (slot.LayoutReturn i.file.file g.stateid failed) says told_return Delayed slot_is) (below_from 10008 (omega arith))
               by_slot Unknown slot_is =
                   by_unknown (unknown_so laws.sessions boots w run t few range roomy starts n l its returned (more ++ asks ∷ rest)
-                      (upto_at returned more returned_split xid name sequence (slot.LayoutReturn i.file.file g.stateid failed) says told_return) i.session sequence xid name (slot.LayoutReturn i.file.file g.stateid failed) says [] told_return slot_is)
+                  (upto_at returned more returned_split xid name sequence (slot.LayoutReturn i.file.file g.stateid failed) says told_return) i.session sequence xid name (slot.LayoutReturn i.file.file g.stateid failed) says [] told_return slot_is)
 
         ended_not : HasLayoutEnded s.behind i.session i.file.file g → ⊥
         ended_not (ByReturn xid name sequence failed says more heard answer) = return_not xid name sequence failed says more heard answer
@@ -355,7 +354,7 @@ module _ (laws : OnceLaws) (boots : List ℕ) (w : ClusterState) (run : IsRunOf 
           by_slot Taken slot_is = taken_ended slot_is
           by_slot Uncached slot_is =
               by_uncached (subst (λ (r : SlotReport). StandsByReport t.mds.servers t.mds.mirrors (settled.heard.was.answered.before ++ settled.heard.was.answered.e ∷ []) settled.heard.was.answered.answers.early i.session i.sequence (slot.LayoutGet i.file) s.says.answer r) slot_is
-                  (stands laws.sessions boots w run t few range roomy starts n l its upto (s.behind ++ asks ∷ rest) settled_at i.session i.sequence i.xid i.name (slot.LayoutGet i.file) s.says [] told))
+              (stands laws.sessions boots w run t few range roomy starts n l its upto (s.behind ++ asks ∷ rest) settled_at i.session i.sequence i.xid i.name (slot.LayoutGet i.file) s.says [] told))
           by_slot Delayed slot_is = s.final slot_is
           by_slot Unknown slot_is =
               by_unknown (unknown_so laws.sessions boots w run t few range roomy starts n l its upto (s.behind ++ asks ∷ rest) settled_at i.session i.sequence i.xid i.name (slot.LayoutGet i.file) s.says [] told slot_is)

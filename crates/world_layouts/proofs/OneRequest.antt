@@ -1,10 +1,9 @@
 -- Of a life, one request has a number of a session.
-use Rattle.std.proofs.Common.{◌≡◌, ◌<◌, ◌≤◌, ℕ, ◌+◌, ◌^◌, suc, Bool, true, false, length, List, [], ◌∷◌, ◌++◌, refl, sym, ap, subst, ◌∙◌, inl, inr, ◌⊎◌, arith, append_assoc, append-nil, length-append}
+use Rattle.std.proofs.Common.{◌≡◌, ◌<◌, ◌≤◌, ℕ, ◌+◌, ◌^◌, Bool, true, false, length, List, [], ◌∷◌, ◌++◌, refl, sym, ap, subst, ◌∙◌, inl, inr, ◌⊎◌, arith, append_assoc, length-append}
 use Rattle.std.specs.Prelude.{nat_le, nat_lt, ◌==◌, ◌&&◌}
 use Rattle.std.specs.List.{AllByRecursion}
 use Rattle.std.proofs.lemmas.Bool.Decides.{nat_tests}
 use Rattle.std.proofs.lemmas.Bool.{leb-true, ltb-true, and_parts, eqb-true, eq-eqb}
-use Rattle.rpc_record.specs.Replies.{RpcReply}
 use Rattle.cluster_model.specs.declared.ids.NodeId.TheVariants.{Mds, Client}
 use Rattle.cluster_world.specs.ClusterWorlds.{ClusterState}
 use Rattle.nfs4_types.specs.declared.ids.SessionId.{SessionId}
@@ -14,8 +13,8 @@ use Rattle.table_slots.specs.TableSlots.{is_of_session}
 use Rattle.device_addr.specs.Universal.{AddressValue}
 use Rattle.mds_calls.specs.declared.reply.SlotReport.{SlotReport}
 use Rattle.mds_calls.specs.declared.reply.SlotReport.TheVariants.{Taken, Uncached, Unknown}
-use Rattle.mds_calls.specs.MdsCalls.{MdsCallValue, ExchangeId, CreateSession, OnSlot, SlotCallValue, ask_of, ask_on_slot}
-use Rattle.mds_calls.specs.MdsReplies.{MdsReplyValue, Session, Refused, reply_of_ask}
+use Rattle.mds_calls.specs.MdsCalls.{MdsCallValue, ExchangeId, CreateSession, OnSlot, SlotCallValue}
+use Rattle.mds_calls.specs.MdsReplies.{MdsReplyValue, Session}
 use Rattle.mds_calls.specs.MdsReplies as says_of
 use Rattle.mds_laws.specs.MdsRuns.{MdsEvent}
 use Rattle.mds_replies.specs.ClientCalls.{IsCallFrom, AreCalls, server_after, IsEventOf}
@@ -25,26 +24,22 @@ use Rattle.mds_replies.specs.ClientIds.{GivesId, GivesSession}
 use Rattle.mds_replies.specs.AnsweredRequests.{HearsFitCall, AreFitCalls, StaysRoomy, StandsByReport, StandsFor, TookEffectAmong, IsFreeAt, IsRefusedWith, IsUnknown, HasNoSession, IsOutOfOrder}
 use Rattle.mds_replies.specs.SlotOrder.{SlotsStayFree, OrderIsByCount, CountsTookEffect, TakenAreCounted, FirstIsFree}
 use Rattle.mds_session_order.specs.SessionOrder.{SessionsAreNew}
-use Rattle.client_state.specs.ClientStates.{fresh_client}
-use Rattle.client_laws.specs.ClientHistory.{HistoryItem, HasItem, Each, client_history}
-use Rattle.client_laws.proofs.Orders.{in_more}
+use Rattle.client_laws.specs.ClientHistory.{HistoryItem, HasItem, Each}
 use Rattle.client_sessions.specs.HeardReplies.{IsHeard}
-use Rattle.client_sessions.specs.ClientSessions.{WasGivenSession, bad_session}
-use Rattle.client_sessions.specs.SessionRounds.{IsUsed, IsUnused, WasUsed, WasUnused, IsOfRound, IsInRound, KeepsRound, UsesFew, EachRunKeepsRounds}
-use Rattle.node_histories.specs.Weaves.{entries_in, items_in}
-use Rattle.node_histories.specs.ClientLives.{Life, start_of}
+use Rattle.client_sessions.specs.SessionRounds.{IsUsed, WasUsed, WasUnused, IsOfRound, IsInRound, KeepsRound, UsesFew, EachRunKeepsRounds}
+use Rattle.node_histories.specs.Weaves.{items_in}
+use Rattle.node_histories.specs.ClientLives.{Life}
 use Rattle.node_histories.specs.NodeHistories.{HasLife, IsToldByNodes}
-use Rattle.node_histories.proofs.WeaveLemmas.{items_join}
 use Rattle.world_moves.specs.WorldMoves.{IsRunOf}
 use Rattle.world_reads.specs.WorldReads.{IsJournalInRange}
 use Rattle.world_reads.proofs.Steps.{all_first}
 use Rattle.world_reads.proofs.LifeRecords.{compound}
 use Rattle.world_layouts.specs.WorldLayouts.{IsOneRequestEach, StartsAreFew}
-use Rattle.world_layouts.proofs.LifeSends.{LifeSteps, each_at, hearing_from, LifeIs, life_is}
+use Rattle.world_layouts.proofs.LifeSends.{each_at, hearing_from, LifeIs, life_is}
 use Rattle.world_layouts.proofs.HeardCalls.{are_calls, are_fit_calls}
 use Rattle.world_layouts.proofs.OwnCalls.{CalledOwn, own_call}
 use Rattle.world_layouts.proofs.HeardItems.{HeardReply, HeardUnder, heard_under, heard_reply, stands_so, answered_now}
-use Rattle.world_layouts.proofs.MomentOrder.{Begins, begins, BeginsWith, begins_with, has_middle, comes_later}
+use Rattle.world_layouts.proofs.MomentOrder.{BeginsWith, begins_with, has_middle, comes_later}
 use Rattle.world_layouts.proofs.OwnIds.{IdLaws}
 use Rattle.world_layouts.proofs.OwnRequests.{OwnRequest, own_request, SplitAt, split_at}
 

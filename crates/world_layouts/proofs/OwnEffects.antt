@@ -1,41 +1,26 @@
 -- The request that took effect under a number of a life's session is the life's; and what an accepted request came to.
-use Rattle.std.proofs.Common.{◌≡◌, ◌<◌, ℕ, ◌^◌, true, length, List, [], ◌∷◌, ◌++◌, Some, None, sym, ap, subst, ◌∙◌, append_assoc}
-use Rattle.std.specs.Prelude.{◌==◌}
-use Rattle.std.proofs.lemmas.Bool.{and_parts, eqb-true}
+use Rattle.std.proofs.Common.{◌≡◌, ◌<◌, ℕ, ◌^◌, length, List, [], ◌∷◌, ◌++◌, sym, subst, ◌∙◌, append_assoc}
 use Rattle.cluster_model.specs.declared.ids.NodeId.{NodeId}
-use Rattle.cluster_model.specs.declared.entry.Entry.{Entry}
 use Rattle.cluster_world.specs.ClusterWorlds.{ClusterState}
 use Rattle.nfs4_types.specs.declared.ids.SessionId.{SessionId}
-use Rattle.nfs4_types.specs.declared.sequence.Sequence.{Sequence}
-use Rattle.nfs4_session.specs.Clients.{client_in, number_in}
-use Rattle.table_slots.specs.TableSlots.{is_of_session}
-use Rattle.nfs4_compound.specs.Compounds.{CompoundValue}
 use Rattle.mds_calls.specs.declared.reply.SlotReport.{SlotReport}
 use Rattle.mds_calls.specs.declared.reply.SlotReport.TheVariants.{Taken}
-use Rattle.mds_calls.specs.MdsCalls.{MdsCallValue, ExchangeId, CreateSession, OnSlot, SlotCallValue}
-use Rattle.mds_calls.specs.MdsCompounds.{mds_ops}
+use Rattle.mds_calls.specs.MdsCalls.{OnSlot, SlotCallValue}
 use Rattle.mds_calls.specs.MdsReplies.{MdsAnswerValue, MdsReplyValue}
 use Rattle.mds_laws.specs.MdsRuns.{MdsEvent}
-use Rattle.mds_laws.specs.SlotUses.{first_request}
 use Rattle.mds_replies.specs.ClientCalls.{IsCallFrom, IsEventOf}
 use Rattle.mds_replies.specs.SlotReplies.{TookEffect}
-use Rattle.client_state.specs.ClientStates.{client_name}
 use Rattle.client_laws.specs.ClientHistory.{HistoryItem, HasItem}
-use Rattle.client_laws.proofs.Orders.{in_more}
-use Rattle.node_histories.specs.Weaves.{entries_in, items_in}
+use Rattle.node_histories.specs.Weaves.{items_in}
 use Rattle.node_histories.specs.ClientLives.{Life}
 use Rattle.node_histories.specs.NodeHistories.{HasLife, IsToldByNodes}
-use Rattle.node_histories.proofs.WeaveLemmas.{items_join}
 use Rattle.world_moves.specs.WorldMoves.{IsRunOf}
 use Rattle.world_reads.specs.WorldReads.{IsJournalInRange}
 use Rattle.world_reads.proofs.LifeRecords.{compound}
 use Rattle.mds_replies.specs.AnsweredRequests.{StaysRoomy, MeansSo, StandsByReport, StandsFor, TookEffectAmong}
 use Rattle.world_layouts.specs.WorldLayouts.{IsOneRequestEach, StartsAreFew}
-use Rattle.world_layouts.proofs.LifeSends.{LifeSteps}
-use Rattle.world_layouts.proofs.HeardCalls.{CameFrom, Arrival, came_at, caller_of, is_call_in}
-use Rattle.world_layouts.proofs.RepliesHeard.{asked_place}
 use Rattle.world_layouts.proofs.HeardItems.{HeardReply, stands_so}
-use Rattle.world_layouts.proofs.OwnIds.{IdLaws, IsIdOf, session_is_own, one_id}
+use Rattle.world_layouts.proofs.OwnIds.{IdLaws}
 use Rattle.world_layouts.proofs.OwnRequests.{OwnRequest, own_request}
 
 -- the request that took effect is on this session, and is this one

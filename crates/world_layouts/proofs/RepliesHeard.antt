@@ -30,8 +30,7 @@ use Rattle.world_reads.specs.WorldReads.{IsEntryInRange, IsJournalInRange}
 use Rattle.world_reads.proofs.MdsPlaces.{Steps, SentIn, sent_in}
 use Rattle.mds_replies.specs.GivenAnswers.{EachReplyIsWhole, IsAnsweredNow, EachAnswerIsNow, EachReplyIsAsked}
 use Rattle.world_layouts.proofs.MdsMoments.{IsSentBy, sent_by}
-use Rattle.device_addr.specs.Universal.{AddressValue}
-use Rattle.mds_replies.specs.AnsweredRequests.{AreFitCalls, StaysRoomy, AnswersRequest, EachReplyStands}
+use Rattle.mds_replies.specs.AnsweredRequests.{StaysRoomy, AnswersRequest, EachReplyStands}
 use Rattle.world_layouts.proofs.HeardCalls.{CompoundLaws, CameFrom, Arrival, came_at, caller_of, are_fit_calls, none_answered}
 
 in_middle : {A : Type 0} (front back : List A) (x : A) → In x (front ++ x ∷ back)
