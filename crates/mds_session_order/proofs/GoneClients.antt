@@ -1,44 +1,36 @@
 -- Where a session that was given is gone, no record has its client's id, and none will have it.
-use Rattle.std.proofs.Common.{◌≡◌, ◌≤◌, ◌<◌, ℕ, ◌+◌, Bool, true, false, List, [], ◌∷◌, ◌++◌, Option, Some, None, refl, sym, ap, subst, ◌∙◌, inl, inr, ◌⊎◌, arith}
+use Rattle.std.proofs.Common.{◌≡◌, ◌≤◌, ℕ, ◌+◌, Bool, true, false, List, [], ◌∷◌, ◌++◌, Option, Some, None, refl, sym, ap, subst, ◌∙◌, inl, inr, ◌⊎◌, arith}
 use Rattle.std.specs.Prelude.{◌==◌, ◌&&◌, not, slice_get, if◌then◌else◌}
 use Rattle.std.specs.List.{find}
 use Rattle.std.proofs.lemmas.Bool.{cond_both, eqb-true, eq-eqb, and_parts}
 use Rattle.std.proofs.lemmas.Option.{same_Some, none-some}
-use Rattle.std.proofs.lemmas.List.{append_assoc}
 use Rattle.ff_xdr.specs.Form.{long}
 use Rattle.device_addr.specs.Universal.{AddressValue}
 use Rattle.cluster_model.specs.declared.ids.NodeId.{NodeId}
 use Rattle.nfs4_types.specs.declared.ids.SessionId.{SessionId}
-use Rattle.nfs4_types.specs.declared.sequence.Sequence.{Sequence}
 use Rattle.nfs4_types.specs.declared.status.Stat4.TheVariants as stat
-use Rattle.nfs4_session.specs.Slots.{SlotState, SlotReply, NoRequest, InProgress, Cached, Uncached, SlotAnswer, TakesEffect, Repeats, Refuses, sequence_after, answer_again, is_in_progress, slot_answer}
-use Rattle.nfs4_session.specs.Clients.{ClientState, MadeSession, SessionState, SessionsState, client_id, session_id, client_in, number_in, has_id, has_number, session_of_client, change_first, remove_first}
-use Rattle.nfs4_session.specs.ExchangeIds.{new_client}
-use Rattle.nfs4_session.specs.CreateSessions.{CreateSessionCase, IsDue, IsReplay, create_session_case, after_creating, is_before_restart, with_new_session, created_session}
+use Rattle.nfs4_session.specs.Slots.{SlotState, SlotReply, NoRequest, InProgress, Cached, Uncached, SlotAnswer, TakesEffect, Refuses, sequence_after, answer_again, is_in_progress, slot_answer}
+use Rattle.nfs4_session.specs.Clients.{ClientState, MadeSession, SessionState, SessionsState, client_id, client_in, number_in, has_id, has_number, session_of_client, remove_first}
+use Rattle.nfs4_session.specs.CreateSessions.{CreateSessionCase, IsDue, create_session_case, after_creating, is_before_restart, with_new_session, created_session}
 use Rattle.nfs4_session.specs.Requests.{answer_by_slot, answer_by_session, request_answer}
 use Rattle.nfs4_session.specs.Bindings.{client_bound, after_binding}
-use Rattle.nfs4_session.specs.TableLaw.{TableMove, ExchangeId as Exchanges, CreateSession as Creates, Bind, table_after, KeepsTable}
+use Rattle.nfs4_session.specs.TableLaw.{TableMove, CreateSession as Creates, Bind, table_after, KeepsTable}
 use Rattle.mds_session_calls.specs.SessionOps as asked
 use Rattle.mds_calls.specs.MdsCalls.{SlotCallValue}
 use Rattle.mds_rule.specs.MdsStates.{MdsValue, new_mds}
-use Rattle.mds_rule.specs.Goes.{calls_out}
-use Rattle.mds_laws.specs.MdsRuns.{MdsEvent, after_event, run_from}
+use Rattle.mds_laws.specs.MdsRuns.{MdsEvent, after_event}
 use Rattle.mds_laws.proofs.Lists.{In, found_in, found_passes}
 use Rattle.mds_replies.specs.ClientCalls.{HearsCall, AreCalls, server_after, IsEventOf}
-use Rattle.mds_replies.specs.ClientIds.{GivesId, GivesSession}
+use Rattle.mds_replies.specs.ClientIds.{GivesSession}
 use Rattle.mds_replies.specs.SlotReplies.{request_of}
-use Rattle.mds_replies.specs.AnsweredRequests.{IsRefusedWith}
 use Rattle.mds_replies.proofs.Periods.{run_behind}
-use Rattle.mds_replies.proofs.TakenMeans.{one_more}
 use Rattle.mds_replies.proofs.TableRuns.{run_keeps}
-use Rattle.mds_replies.proofs.ClientRecords.{IsTable}
 use Rattle.mds_replies.proofs.ExchangeRuns.{IsGiven, OfOld, OfNew, Gave}
 use Rattle.mds_replies.proofs.OneOwner.{gave_in}
-use Rattle.mds_replies.proofs.CreateRuns.{session_client, IsKnown, fits_long}
 use Rattle.mds_replies.proofs.SessionRuns.{GaveSession, Makes as MakesNow, Replays, gave_session, its_client}
 use Rattle.mds_session_order.specs.SessionOrder.{IdsStayGone}
 use Rattle.mds_session_order.proofs.Numbered.{HasKey, Hits, key_change, has_last, stays_or_passes, change_hits, is_found}
-use Rattle.mds_session_order.proofs.TableSteps.{DestroysNone, HasSession, number_of, Stays, Makes, Came, Stood, Made, IsNew}
+use Rattle.mds_session_order.proofs.TableSteps.{DestroysNone, HasSession, number_of, Came, Stood, Made, IsNew}
 use Rattle.mds_session_order.proofs.TableFacts.{Facts, DueSo, ReplaySo, CaseSo, case_so, facts_keep, new_facts, facts_of_run, one_record, came, id_stays, not_new}
 use Rattle.mds_session_order.proofs.TableWalk.{FilesWait, calls_keep, calls_out_keep, new_calls_keep}
 use Rattle.mds_session_order.proofs.NewSessions.{due_number, replay_number}
@@ -50,9 +42,9 @@ abbrev MadeStand : SessionsState → Type 0
 MadeStand s = (c : ClientState) → In c s.clients → (made : MadeSession) → c.made ≡ Some made → HasSession made.number c.sessions
 
 -- the record that has this id has this session
-record HasGiven (id number : ℕ) (s : SessionsState) : Type 0 where
-  given : id ≤ client_id 1 s.ids
-  has : (c : ClientState) → In c s.clients → c.id ≡ id → HasSession number c.sessions
+pub record HasGiven (id number : ℕ) (s : SessionsState) : Type 0 where
+  pub given : id ≤ client_id 1 s.ids
+  pub has : (c : ClientState) → In c s.clients → c.id ≡ id → HasSession number c.sessions
 
 abbrev Whole : SessionsState → Type 0
 Whole s = Facts s × MadeStand s
@@ -78,7 +70,7 @@ module _ (s : SessionsState) (move : TableMove) (none : DestroysNone move) (f : 
 whole_keeps : (s : SessionsState) (move : TableMove) → DestroysNone move → Whole s → Whole (table_after s move)
 whole_keeps s move none w = (facts_keep s move w.0, made_stand s move none w.0 w.1)
 
-abbrev Has : ℕ → ℕ → SessionsState → Type 0
+abbrev pub Has : ℕ → ℕ → SessionsState → Type 0
 Has id number s = Facts s × HasGiven id number s
 
 has_given_keeps : (id number : ℕ) (s : SessionsState) (move : TableMove) → DestroysNone move → Has id number s → Has id number (table_after s move)
@@ -167,14 +159,14 @@ module _ (session : SessionId) (number : ℕ) (call : SlotCallValue) (s : Sessio
 
 -- ---- an id that no record has
 
-record IsGone (id : ℕ) (s : SessionsState) : Type 0 where
-  given : id ≤ client_id 1 s.ids
-  none : (c : ClientState) → In c s.clients → c.id ≡ id → ⊥
+pub record IsGone (id : ℕ) (s : SessionsState) : Type 0 where
+  pub given : id ≤ client_id 1 s.ids
+  pub none : (c : ClientState) → In c s.clients → c.id ≡ id → ⊥
 
-abbrev Gone : ℕ → SessionsState → Type 0
+abbrev pub Gone : ℕ → SessionsState → Type 0
 Gone id s = Facts s × IsGone id s
 
-gone_keeps : (id : ℕ) (s : SessionsState) (move : TableMove) → Gone id s → Gone id (table_after s move)
+pub gone_keeps : (id : ℕ) (s : SessionsState) (move : TableMove) → Gone id s → Gone id (table_after s move)
 gone_keeps id s move g = (facts_keep s move g.0, record { given = id_stays s move g.0 id g.1.given; none = λ d inside is. by_it d (came s move d inside) is })
   where
     by_it : (d : ClientState) → Came (DestroysNone move) s (table_after s move).ids (table_after s move).numbers d → d.id ≡ id → ⊥
@@ -183,7 +175,7 @@ gone_keeps id s move g = (facts_keep s move g.0, record { given = id_stays s mov
     by_it d (IsNew new nothing more) is = not_new s move g.0 id g.1.given d new is
 
 -- a session that is refused with BADSESSION has no client
-refused_gone : (s : SessionsState) (session : SessionId) (number : ℕ) (node : NodeId) (call : SlotCallValue) → Has (client_in session) (number_in session) s
+pub refused_gone : (s : SessionsState) (session : SessionId) (number : ℕ) (node : NodeId) (call : SlotCallValue) → Has (client_in session) (number_in session) s
     → request_answer (after_binding s session node) (request_of session number call) ≡ Refuses stat.BadSession → Gone (client_in session) s
 refused_gone s session number node call h is = (h.0, record { given = h.1.given; none = λ c inside its. by_bound c its (key_change (λ (x : ClientState). x.id) (has_id (client_in session)) (client_bound (number_in session) node) (λ x. refl) c s.clients inside) })
   where
@@ -200,7 +192,7 @@ gone_not_given s id verifier owner now ids g gone (OfNew new more) is =
 
 -- ---- runs
 
-calls_front : (xs ys : List MdsEvent) → AreCalls (xs ++ ys) → AreCalls xs
+pub calls_front : (xs ys : List MdsEvent) → AreCalls (xs ++ ys) → AreCalls xs
 calls_front [] ys calls = tt
 calls_front (x ∷ xs) ys calls = (calls.0, calls_front xs ys calls.1)
 
@@ -250,7 +242,7 @@ module _ (keeps : KeepsTable) (servers : List AddressValue) (mirrors : ℕ) wher
           (calls_keep (Has client number) (has_given_keeps client number) (server_after servers mirrors early) (d ∷ []) (hears, tt) w.0 (f, replayed_has s f client w.1.1 g.sequence number r)).1
 
   -- from then on
-  has_later : (before early late : List MdsEvent) (d : MdsEvent) → IsEventOf before early d late → AreCalls before → (client : ℕ) (session : SessionId) → GivesSession servers mirrors early d client session
+  pub has_later : (before early late : List MdsEvent) (d : MdsEvent) → IsEventOf before early d late → AreCalls before → (client : ℕ) (session : SessionId) → GivesSession servers mirrors early d client session
       → Has (client_in session) (number_in session) (server_after servers mirrors before).sessions
   has_later before early late d split calls client session g =
       let all : AreCalls (early ++ d ∷ late) = subst AreCalls split calls in

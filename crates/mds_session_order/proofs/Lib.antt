@@ -4,3 +4,4 @@ pub mod TableFacts
 pub mod NewSessions
 pub mod TableWalk
 pub mod GoneClients
+pub mod GoneRequests

@@ -219,8 +219,8 @@ module _ (laws : ReturnLaws) (boots : List ℕ) (w : ClusterState) (run : IsRunO
       let call : MdsCallValue = OnSlot returned.session returned.sequence (slot.LayoutReturn returned.file grant.stateid returned.failed) in
       let h : HeardReply laws.grants.layouts.ids.replies boots w run t few range roomy n l (items_in earlier) returned.name call says r.behind =
       heard_reply laws.grants.layouts.ids.replies boots w run t few range roomy n l its (items_in earlier) (items_in later) items returned.xid returned.name call says r.behind r.heard in
-      let k : TookSo t (h.was.answered.before ++ h.was.answered.e ∷ []) returned.session (slot.LayoutReturn returned.file grant.stateid returned.failed) Returned =
-      subst (λ (a : MdsAnswerValue). TookSo t (h.was.answered.before ++ h.was.answered.e ∷ []) returned.session (slot.LayoutReturn returned.file grant.stateid returned.failed) a) returned.says.says_so
+      let k : TookSo t (h.was.answered.before ++ h.was.answered.e ∷ []) returned.session returned.sequence (slot.LayoutReturn returned.file grant.stateid returned.failed) Returned =
+      subst (λ (a : MdsAnswerValue). TookSo t (h.was.answered.before ++ h.was.answered.e ∷ []) returned.session returned.sequence (slot.LayoutReturn returned.file grant.stateid returned.failed) a) returned.says.says_so
       (took_so laws.grants.layouts.ids boots w run t few range roomy starts one n l its (items_in earlier) returned.name returned.session returned.sequence (slot.LayoutReturn returned.file grant.stateid returned.failed) says r.behind h
       (returned_taken returned.says.reply returned.says.says_so)) in
       let so : ReturnsSo t.mds.servers t.mds.mirrors k.early k.f (client_in returned.session) returned.file grant.stateid returned.failed = k.means in

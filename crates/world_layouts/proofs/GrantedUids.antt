@@ -12,6 +12,7 @@ use Rattle.mds_calls.specs.MdsCalls as slot
 use Rattle.mds_calls.specs.MdsReplies.{MdsAnswerValue, MdsReplyValue, Granted, reply_of_ask}
 use Rattle.mds_laws.specs.MdsRuns.{MdsEvent}
 use Rattle.mds_replies.specs.ClientCalls.{HearsCall, AreCalls, server_after, IsEventOf}
+use Rattle.mds_replies.specs.SlotReplies.{TookEffect}
 use Rattle.mds_replies.specs.LayoutReplies.{HasPeriod, PeriodsAreOwn}
 use Rattle.client_state.specs.ClientStates.{client_name}
 use Rattle.client_laws.specs.ClientHistory.{HistoryItem, client_history}
@@ -25,7 +26,7 @@ use Rattle.world_moves.specs.WorldMoves.{IsRunOf}
 use Rattle.world_journal.specs.Journal.{IsJournalInRange}
 use Rattle.world_reads.proofs.Steps.{Splits, Longer, Shorter, splits, all_first}
 use Rattle.world_reads.proofs.LifeRecords.{compound}
-use Rattle.mds_replies.specs.AnsweredRequests.{StaysRoomy, GrantsSo}
+use Rattle.mds_replies.specs.AnsweredRequests.{StaysRoomy, KeepsAnswer, GrantsSo}
 use Rattle.world_layouts.specs.WorldLayouts.{IsOneRequestEach, StartsAreFew, UidsAreOwn}
 use Rattle.world_layouts.proofs.LifeSends.{hearing_from, life_is}
 use Rattle.world_layouts.proofs.HeardCalls.{are_calls}
@@ -82,6 +83,8 @@ module _ (laws : LayoutLaws) (boots : List ℕ) (w : ClusterState) (run : IsRunO
     pub f : MdsEvent
     pub late : List MdsEvent
     pub split : IsEventOf (heard.was.answered.before ++ heard.was.answered.e ∷ []) early f late
+    pub took : TookEffect t.mds.servers t.mds.mirrors early f granted.session granted.sequence
+    pub keeps : KeepsAnswer (server_after t.mds.servers t.mds.mirrors (early ++ f ∷ [])) granted.session (slot.LayoutGet granted.file) (Granted grant)
     pub grants : GrantsSo t.mds.servers t.mds.mirrors early f (client_in granted.session) granted.file.file grant
     pub owner : IsIdOf t (client_name n) l.verifier (client_in granted.session)
 
@@ -91,8 +94,8 @@ module _ (laws : LayoutLaws) (boots : List ℕ) (w : ClusterState) (run : IsRunO
       let call : MdsCallValue = OnSlot granted.session granted.sequence (slot.LayoutGet granted.file) in
       let h : HeardReply laws.ids.replies boots w run t few range roomy n l past granted.name call g.says g.behind =
       heard_reply laws.ids.replies boots w run t few range roomy n l its past rest is granted.xid granted.name call g.says g.behind g.heard in
-      let k : TookSo t (h.was.answered.before ++ h.was.answered.e ∷ []) granted.session (slot.LayoutGet granted.file) (Granted grant) =
-      subst (λ (a : MdsAnswerValue). TookSo t (h.was.answered.before ++ h.was.answered.e ∷ []) granted.session (slot.LayoutGet granted.file) a) g.answer
+      let k : TookSo t (h.was.answered.before ++ h.was.answered.e ∷ []) granted.session granted.sequence (slot.LayoutGet granted.file) (Granted grant) =
+      subst (λ (a : MdsAnswerValue). TookSo t (h.was.answered.before ++ h.was.answered.e ∷ []) granted.session granted.sequence (slot.LayoutGet granted.file) a) g.answer
       (took_so laws.ids boots w run t few range roomy starts one n l its past granted.name granted.session granted.sequence (slot.LayoutGet granted.file) g.says g.behind h g.taken) in
       let sends : HistoryItem = compound granted.xid granted.name call in
       record {
@@ -102,7 +105,9 @@ module _ (laws : LayoutLaws) (boots : List ℕ) (w : ClusterState) (run : IsRunO
         f = k.f;
         late = k.late;
         split = k.split;
-        grants = k.means;
+        took = k.took;
+        keeps = k.means.0;
+        grants = k.means.1;
         owner =
             session_is_own laws.ids boots w run t few range roomy n l its granted.before (granted.since ++ rest) granted.xid granted.name granted.session granted.sequence (slot.LayoutGet granted.file)
             (is ∙ (ap (λ (x : List HistoryItem). x ++ rest) granted.split ∙ append_assoc granted.before (sends ∷ granted.since) rest));

@@ -1,5 +1,5 @@
 -- What a life sends behind a reply that it heard comes to the metadata server behind the event in which the reply was sent.
-use Rattle.std.proofs.Common.{◌≡◌, ◌<◌, ◌≤◌, ℕ, ◌+◌, ◌^◌, suc, Bool, true, false, length, List, [], ◌∷◌, ◌++◌, refl, sym, ap, subst, ◌∙◌, inl, inr, arith, append_assoc, length-append}
+use Rattle.std.proofs.Common.{◌≡◌, ◌<◌, ◌≤◌, ℕ, ◌+◌, Bool, true, false, length, List, [], ◌∷◌, ◌++◌, refl, sym, ap, subst, ◌∙◌, inl, inr, arith, append_assoc, length-append}
 use Rattle.std.specs.Prelude.{nat_le, map}
 use Rattle.std.proofs.lemmas.Bool.Decides.{nat_tests}
 use Rattle.std.proofs.lemmas.Bool.{leb-true}
@@ -16,7 +16,7 @@ use Rattle.mds_replies.specs.ClientCalls.{server_after, IsEventOf}
 use Rattle.client_records.specs.ClientRecords.{NumbersOn, EachRunIsNumbered}
 use Rattle.client_laws.specs.ClientHistory.{HistoryItem, HasItem, Each}
 use Rattle.client_laws.proofs.Orders.{in_more}
-use Rattle.node_histories.specs.Weaves.{WeaveStep, Passes, Unseen, Seen, entries_in, items_in}
+use Rattle.node_histories.specs.Weaves.{WeaveStep, Seen, entries_in, items_in}
 use Rattle.node_histories.specs.ClientLives.{Life}
 use Rattle.node_histories.specs.NodeHistories.{HasLife, IsToldByNodes}
 use Rattle.node_histories.proofs.WeaveLemmas.{entries_join, items_join}
@@ -105,7 +105,7 @@ module _ (w : ClusterState) (t : IsToldByNodes w) (numbered : EachRunIsNumbered)
       omega (arith, less)
 
   -- steps that have it have all that went before it, and it
-  has_before : (a b : List HistoryItem) (xid : ℕ) (name : List ℕ) (call : MdsCallValue) → items_in l.steps ≡ a ++ compound xid name call ∷ b → (upto rest : LifeSteps) → l.steps ≡ upto ++ rest → HasItem (items_in upto) (compound xid name call)
+  pub has_before : (a b : List HistoryItem) (xid : ℕ) (name : List ℕ) (call : MdsCallValue) → items_in l.steps ≡ a ++ compound xid name call ∷ b → (upto rest : LifeSteps) → l.steps ≡ upto ++ rest → HasItem (items_in upto) (compound xid name call)
       → length a < length (items_in upto)
   has_before a b xid name call is upto rest split has = by_split (splits (items_in upto) (items_in rest) a (compound xid name call ∷ b) (sym (ap (λ (s : LifeSteps). items_in s) split ∙ items_join upto rest) ∙ is))
     where

@@ -1,10 +1,9 @@
 -- Of a life, one request has a number of a session.
-use Rattle.std.proofs.Common.{◌≡◌, ◌<◌, ◌≤◌, ℕ, ◌+◌, ◌^◌, suc, Bool, true, false, length, List, [], ◌∷◌, ◌++◌, refl, sym, ap, subst, ◌∙◌, inl, inr, ◌⊎◌, arith, append_assoc, append-nil, length-append}
+use Rattle.std.proofs.Common.{◌≡◌, ◌<◌, ◌≤◌, ℕ, ◌+◌, ◌^◌, Bool, true, false, length, List, [], ◌∷◌, ◌++◌, refl, sym, ap, subst, ◌∙◌, inl, inr, ◌⊎◌, arith, append_assoc, length-append}
 use Rattle.std.specs.Prelude.{nat_le, nat_lt, ◌==◌, ◌&&◌}
 use Rattle.std.specs.List.{AllByRecursion}
 use Rattle.std.proofs.lemmas.Bool.Decides.{nat_tests}
 use Rattle.std.proofs.lemmas.Bool.{leb-true, ltb-true, and_parts, eqb-true, eq-eqb}
-use Rattle.rpc_record.specs.Replies.{RpcReply}
 use Rattle.cluster_model.specs.declared.ids.NodeId.TheVariants.{Mds, Client}
 use Rattle.cluster_world.specs.ClusterWorlds.{ClusterState}
 use Rattle.nfs4_types.specs.declared.ids.SessionId.{SessionId}
@@ -14,38 +13,33 @@ use Rattle.table_slots.specs.TableSlots.{is_of_session}
 use Rattle.device_addr.specs.Universal.{AddressValue}
 use Rattle.mds_calls.specs.declared.reply.SlotReport.{SlotReport}
 use Rattle.mds_calls.specs.declared.reply.SlotReport.TheVariants.{Taken, Uncached, Unknown}
-use Rattle.mds_calls.specs.MdsCalls.{MdsCallValue, ExchangeId, CreateSession, OnSlot, SlotCallValue, ask_of, ask_on_slot}
-use Rattle.mds_calls.specs.MdsReplies.{MdsReplyValue, Session, Refused, reply_of_ask}
+use Rattle.mds_calls.specs.MdsCalls.{MdsCallValue, ExchangeId, CreateSession, OnSlot, SlotCallValue}
+use Rattle.mds_calls.specs.MdsReplies.{MdsReplyValue, Session}
 use Rattle.mds_calls.specs.MdsReplies as says_of
 use Rattle.mds_laws.specs.MdsRuns.{MdsEvent}
 use Rattle.mds_replies.specs.ClientCalls.{IsCallFrom, AreCalls, server_after, IsEventOf}
 use Rattle.mds_replies.specs.ClientCalls.{HearsCall}
 use Rattle.mds_replies.specs.SlotReplies.{count_taken}
 use Rattle.mds_replies.specs.ClientIds.{GivesId, GivesSession}
-use Rattle.mds_replies.specs.AnsweredRequests.{HearsFitCall, AreFitCalls, StaysRoomy, StandsByReport, StandsFor, TookEffectAmong, IsFreeAt, IsRefusedWith}
+use Rattle.mds_replies.specs.AnsweredRequests.{HearsFitCall, AreFitCalls, StaysRoomy, StandsByReport, StandsFor, TookEffectAmong, IsFreeAt, IsRefusedWith, IsUnknown, HasNoSession, IsOutOfOrder}
 use Rattle.mds_replies.specs.SlotOrder.{SlotsStayFree, OrderIsByCount, CountsTookEffect, TakenAreCounted, FirstIsFree}
 use Rattle.mds_session_order.specs.SessionOrder.{SessionsAreNew}
-use Rattle.client_state.specs.ClientStates.{fresh_client}
-use Rattle.client_laws.specs.ClientHistory.{HistoryItem, HasItem, Each, client_history}
-use Rattle.client_laws.proofs.Orders.{in_more}
+use Rattle.client_laws.specs.ClientHistory.{HistoryItem, HasItem, Each}
 use Rattle.client_sessions.specs.HeardReplies.{IsHeard}
-use Rattle.client_sessions.specs.ClientSessions.{WasGivenSession, bad_session}
-use Rattle.client_sessions.specs.SessionRounds.{IsUsed, IsUnused, WasUsed, WasUnused, IsOfRound, IsInRound, KeepsRound, UsesFew, EachRunKeepsRounds}
-use Rattle.node_histories.specs.Weaves.{entries_in, items_in}
-use Rattle.node_histories.specs.ClientLives.{Life, start_of}
+use Rattle.client_sessions.specs.SessionRounds.{IsUsed, WasUsed, WasUnused, IsOfRound, IsInRound, KeepsRound, UsesFew, EachRunKeepsRounds}
+use Rattle.node_histories.specs.Weaves.{items_in}
+use Rattle.node_histories.specs.ClientLives.{Life}
 use Rattle.node_histories.specs.NodeHistories.{HasLife, IsToldByNodes}
-use Rattle.node_histories.proofs.WeaveLemmas.{items_join}
 use Rattle.world_moves.specs.WorldMoves.{IsRunOf}
 use Rattle.world_journal.specs.Journal.{IsJournalInRange}
 use Rattle.world_reads.proofs.Steps.{all_first}
 use Rattle.world_reads.proofs.LifeRecords.{compound}
-use Rattle.world_layouts.specs.ReadReplies.{IsRefusedSo}
 use Rattle.world_layouts.specs.WorldLayouts.{IsOneRequestEach, StartsAreFew}
-use Rattle.world_layouts.proofs.LifeSends.{LifeSteps, each_at, hearing_from, LifeIs, life_is}
+use Rattle.world_layouts.proofs.LifeSends.{each_at, hearing_from, LifeIs, life_is}
 use Rattle.world_layouts.proofs.HeardCalls.{are_calls, are_fit_calls}
 use Rattle.world_layouts.proofs.OwnCalls.{CalledOwn, own_call}
 use Rattle.world_layouts.proofs.HeardItems.{HeardReply, HeardUnder, heard_under, heard_reply, stands_so, answered_now}
-use Rattle.world_layouts.proofs.MomentOrder.{Begins, begins, BeginsWith, begins_with, has_middle, comes_later}
+use Rattle.world_layouts.proofs.MomentOrder.{BeginsWith, begins_with, has_middle, comes_later}
 use Rattle.world_layouts.proofs.OwnIds.{IdLaws}
 use Rattle.world_layouts.proofs.OwnRequests.{OwnRequest, own_request, SplitAt, split_at}
 
@@ -62,18 +56,18 @@ pub record SessionLaws : Type 0 where
 -- ---- lists of items
 
 -- an item before another in one list
-before_it : (a b c d : List HistoryItem) (x y : HistoryItem) → a ++ x ∷ b ≡ c ++ y ∷ d → length a < length c → BeginsWith a x c
+pub before_it : (a b c d : List HistoryItem) (x y : HistoryItem) → a ++ x ∷ b ≡ c ++ y ∷ d → length a < length c → BeginsWith a x c
 before_it a b c d x y is less = begins_with a x b c (y ∷ d) is less
 
-in_front : (a : List HistoryItem) (x : HistoryItem) (c : List HistoryItem) → BeginsWith a x c → HasItem c x
+pub in_front : (a : List HistoryItem) (x : HistoryItem) (c : List HistoryItem) → BeginsWith a x c → HasItem c x
 in_front a x c r = subst (λ (h : List HistoryItem). HasItem h x) (sym r.is) (has_middle a r.more x)
 
-data IsIn (a : List HistoryItem) (s : HistoryItem) (b : List HistoryItem) (x : HistoryItem) : Type 0 where
+pub data IsIn (a : List HistoryItem) (s : HistoryItem) (b : List HistoryItem) (x : HistoryItem) : Type 0 where
   Front : HasItem a x → IsIn a s b x
   This : x ≡ s → IsIn a s b x
   Back : HasItem b x → IsIn a s b x
 
-is_in : (a : List HistoryItem) (s : HistoryItem) (b : List HistoryItem) (x : HistoryItem) → HasItem (a ++ s ∷ b) x → IsIn a s b x
+pub is_in : (a : List HistoryItem) (s : HistoryItem) (b : List HistoryItem) (x : HistoryItem) → HasItem (a ++ s ∷ b) x → IsIn a s b x
 is_in [] s b x (inl here) = This here.0
 is_in [] s b x (inr there) = Back there
 is_in (y ∷ a) s b x (inl here) = Front (inl here)
@@ -93,7 +87,7 @@ of_round client sequence session (y ∷ items) all x (inl here) = subst (IsOfRou
 of_round client sequence session (y ∷ items) all x (inr there) = of_round client sequence session items all.1 x there
 
 -- two items at one place are one
-same_place : (a b p q : List HistoryItem) (x y : HistoryItem) → a ++ x ∷ b ≡ p ++ y ∷ q → length a ≡ length p → x ≡ y
+pub same_place : (a b p q : List HistoryItem) (x y : HistoryItem) → a ++ x ∷ b ≡ p ++ y ∷ q → length a ≡ length p → x ≡ y
 same_place [] b [] q x y is size = cc is
 same_place [] b (z ∷ p) q x y is size = absurd (omega (arith, size))
 same_place (z ∷ a) b [] q x y is size = absurd (omega (arith, size))
@@ -126,19 +120,19 @@ among_more servers mirrors events more session number t = record {
 
 module _ (laws : SessionLaws) (boots : List ℕ) (w : ClusterState) (run : IsRunOf boots w) (t : IsToldByNodes w) (few : length w.machines.clients < 2 ^ 32) (range : IsJournalInRange w.journal) (roomy : StaysRoomy t.mds.servers t.mds.mirrors t.mds.events)
     (starts : StartsAreFew t) where
-  abbrev Heard : (n : ℕ) (l : Life) → List HistoryItem → List ℕ → MdsCallValue → MdsReplyValue → List HistoryItem → Type 0
+  abbrev pub Heard : (n : ℕ) (l : Life) → List HistoryItem → List ℕ → MdsCallValue → MdsReplyValue → List HistoryItem → Type 0
   Heard n l past name call says behind = HeardReply laws.ids.replies boots w run t few range roomy n l past name call says behind
 
-  calls_all : AreCalls t.mds.events
+  pub calls_all : AreCalls t.mds.events
   calls_all = are_calls laws.ids.replies.calls boots w run t few range
 
-  fits_all : AreFitCalls t.mds.events
+  pub fits_all : AreFitCalls t.mds.events
   fits_all = are_fit_calls laws.ids.replies.calls boots w run t few range
 
-  fits_first : (a b : List MdsEvent) → t.mds.events ≡ a ++ b → AreFitCalls (a ++ b)
+  pub fits_first : (a b : List MdsEvent) → t.mds.events ≡ a ++ b → AreFitCalls (a ++ b)
   fits_first a b is = subst AreFitCalls is fits_all
 
-  room_first : (a b : List MdsEvent) → t.mds.events ≡ a ++ b → StaysRoomy t.mds.servers t.mds.mirrors (a ++ b)
+  pub room_first : (a b : List MdsEvent) → t.mds.events ≡ a ++ b → StaysRoomy t.mds.servers t.mds.mirrors (a ++ b)
   room_first a b is = subst (StaysRoomy t.mds.servers t.mds.mirrors) is roomy
 
   -- of more events than are left there is room for those before
@@ -162,7 +156,9 @@ module _ (laws : SessionLaws) (boots : List ℕ) (w : ClusterState) (run : IsRun
   by_report events early session number c says (inl taken) stands =
       let s : StandsByReport t.mds.servers t.mds.mirrors events early session number c says.answer Taken = subst (λ (r : SlotReport). StandsByReport t.mds.servers t.mds.mirrors events early session number c says.answer r) taken stands in
       (s.0, s.2)
-  by_report events early session number c says (inr uncached) stands = subst (λ (r : SlotReport). StandsByReport t.mds.servers t.mds.mirrors events early session number c says.answer r) uncached stands
+  by_report events early session number c says (inr uncached) stands =
+      let s : StandsByReport t.mds.servers t.mds.mirrors events early session number c says.answer Uncached = subst (λ (r : SlotReport). StandsByReport t.mds.servers t.mds.mirrors events early session number c says.answer r) uncached stands in
+      (s.0, s.2)
 
   used_so : (n : ℕ) (l : Life) (past : List HistoryItem) (name : List ℕ) (session : SessionId) (number : ℕ) (c : SlotCallValue) (says : MdsReplyValue) (behind : List HistoryItem) (h : Heard n l past name (OnSlot session number c) says behind) → IsUsed says
       → IsTakenBy h.was.answered.before h.was.answered.e session number
@@ -176,7 +172,7 @@ module _ (laws : SessionLaws) (boots : List ℕ) (w : ClusterState) (run : IsRun
     i : LifeIs w t n laws.ids.replies.calls.numbered l
     i = life_is w t laws.ids.replies.calls.numbered n l its
 
-    whole_at : (before : List MdsEvent) (e : MdsEvent) (after : List MdsEvent) → IsEventOf t.mds.events before e after → t.mds.events ≡ (before ++ e ∷ []) ++ after
+    pub whole_at : (before : List MdsEvent) (e : MdsEvent) (after : List MdsEvent) → IsEventOf t.mds.events before e after → t.mds.events ≡ (before ++ e ∷ []) ++ after
     whole_at before e after is = is ∙ sym (append_assoc before (e ∷ []) after)
 
     uses_few : UsesFew (items_in l.steps)
@@ -194,17 +190,17 @@ module _ (laws : SessionLaws) (boots : List ℕ) (w : ClusterState) (run : IsRun
     each_round =
         subst (λ (h : List HistoryItem). Each KeepsRound [] h) i.facts.is.history (laws.rounds n l.verifier l.first_xid l.inputs (subst UsesFew (sym i.facts.is.history) uses_few))
 
-    round_at : (a b : List HistoryItem) (xid : ℕ) (name : List ℕ) (session : SessionId) (number : ℕ) (c : SlotCallValue) → items_in l.steps ≡ a ++ compound xid name (OnSlot session number c) ∷ b → IsInRound a session number
+    pub round_at : (a b : List HistoryItem) (xid : ℕ) (name : List ℕ) (session : SessionId) (number : ℕ) (c : SlotCallValue) → items_in l.steps ≡ a ++ compound xid name (OnSlot session number c) ∷ b → IsInRound a session number
     round_at a b xid name session number c is = each_at KeepsRound [] a b (compound xid name (OnSlot session number c)) (subst (λ (h : List HistoryItem). Each KeepsRound [] h) is each_round)
 
     -- ---- what comes behind a reply
 
-    heard_in : (past rest : List HistoryItem) → items_in l.steps ≡ past ++ rest → (xid : ℕ) (name : List ℕ) (call : MdsCallValue) (says : MdsReplyValue) (behind : List HistoryItem) → IsHeard past xid name call says behind
+    pub heard_in : (past rest : List HistoryItem) → items_in l.steps ≡ past ++ rest → (xid : ℕ) (name : List ℕ) (call : MdsCallValue) (says : MdsReplyValue) (behind : List HistoryItem) → IsHeard past xid name call says behind
         → HeardUnder laws.ids.replies boots w run t few range roomy n l past xid name call says behind
     heard_in past rest is xid name call says behind heard = heard_under laws.ids.replies boots w run t few range roomy n l its past rest is xid name call says behind heard
 
     -- a reply that was heard in `past`, and a compound that went out behind it
-    behind_reply : (past : List HistoryItem) (name : List ℕ) (call : MdsCallValue) (says : MdsReplyValue) (behind : List HistoryItem) (h : Heard n l past name call says behind) (a b : List HistoryItem) (xid : ℕ) (other : List ℕ) (asked : MdsCallValue)
+    pub behind_reply : (past : List HistoryItem) (name : List ℕ) (call : MdsCallValue) (says : MdsReplyValue) (behind : List HistoryItem) (h : Heard n l past name call says behind) (a b : List HistoryItem) (xid : ℕ) (other : List ℕ) (asked : MdsCallValue)
         → items_in l.steps ≡ a ++ compound xid other asked ∷ b → length past ≤ length a → (early late : List MdsEvent) (f : MdsEvent) → IsEventOf t.mds.events early f late → CalledOwn t n l early late f xid other asked → length h.was.answered.before < length early
     behind_reply past name call says behind h a b xid other asked is less early late f split c =
         let place : List HistoryItem = h.before ++ compound h.reply.xid name call ∷ h.until in
@@ -225,7 +221,7 @@ module _ (laws : SessionLaws) (boots : List ℕ) (w : ClusterState) (run : IsRun
 
     -- ---- a session of an older round is another
 
-    abbrev gives_session : (past : List HistoryItem) (name : List ℕ) (client sequence : ℕ) (says : MdsReplyValue) (behind : List HistoryItem) (h : Heard n l past name (CreateSession client sequence) says behind) (session : SessionId) → says.answer ≡ Session session
+    abbrev pub gives_session : (past : List HistoryItem) (name : List ℕ) (client sequence : ℕ) (says : MdsReplyValue) (behind : List HistoryItem) (h : Heard n l past name (CreateSession client sequence) says behind) (session : SessionId) → says.answer ≡ Session session
         → GivesSession t.mds.servers t.mds.mirrors h.was.answered.before h.was.answered.e client session
     gives_session past name client sequence says behind h session is = record {
       node = Client n;
@@ -238,7 +234,7 @@ module _ (laws : SessionLaws) (boots : List ℕ) (w : ClusterState) (run : IsRun
       says = ap (λ (s : MdsReplyValue). s.answer) h.says_so ∙ is;
     }
 
-    abbrev gives_id : (past : List HistoryItem) (name : List ℕ) (verifier : ℕ) (says : MdsReplyValue) (behind : List HistoryItem) (h : Heard n l past name (ExchangeId verifier) says behind) (client sequence : ℕ) → says.answer ≡ says_of.Client client sequence
+    abbrev pub gives_id : (past : List HistoryItem) (name : List ℕ) (verifier : ℕ) (says : MdsReplyValue) (behind : List HistoryItem) (h : Heard n l past name (ExchangeId verifier) says behind) (client sequence : ℕ) → says.answer ≡ says_of.Client client sequence
         → GivesId t.mds.servers t.mds.mirrors h.was.answered.before h.was.answered.e name verifier client
     gives_id past name verifier says behind h client sequence is = record {
       node = Client n;
@@ -251,11 +247,11 @@ module _ (laws : SessionLaws) (boots : List ℕ) (w : ClusterState) (run : IsRun
     }
 
     -- a compound without a slot is answered in the event in which it came
-    called_now : (past : List HistoryItem) (name : List ℕ) (call : MdsCallValue) (says : MdsReplyValue) (behind : List HistoryItem) (h : Heard n l past name call says behind) → IsCallFrom h.was.answered.e (Client n) h.reply.xid name call
+    pub called_now : (past : List HistoryItem) (name : List ℕ) (call : MdsCallValue) (says : MdsReplyValue) (behind : List HistoryItem) (h : Heard n l past name call says behind) → IsCallFrom h.was.answered.e (Client n) h.reply.xid name call
         → CalledOwn t n l h.was.answered.before h.was.answered.after h.was.answered.e h.reply.xid name call
     called_now past name call says behind h came = own_call laws.ids.replies.calls boots w run t few range n l its h.reply.xid name call h.has h.was.answered.before h.was.answered.after h.was.answered.e h.was.answered.split name call came
 
-    behind_event : (a b c d : List MdsEvent) (x y : MdsEvent) → IsEventOf t.mds.events a x b → IsEventOf t.mds.events c y d → length a < length c → BeginsWith a x c
+    pub behind_event : (a b c d : List MdsEvent) (x y : MdsEvent) → IsEventOf t.mds.events a x b → IsEventOf t.mds.events c y d → length a < length c → BeginsWith a x c
     behind_event a b c d x y first second less = begins_with a x b c (y ∷ d) (sym first ∙ second) less
 
     -- a request on a session before the EXCHANGE_ID of a round is on another session
@@ -317,8 +313,25 @@ module _ (laws : SessionLaws) (boots : List ℕ) (w : ClusterState) (run : IsRun
 
     -- ---- a number that is next is in order
 
-    item_there : (b : List HistoryItem) (a : List HistoryItem) (xid : ℕ) (name : List ℕ) (call : MdsCallValue) → items_in l.steps ≡ a ++ compound xid name call ∷ b → HasItem (items_in l.steps) (compound xid name call)
+    pub item_there : (b : List HistoryItem) (a : List HistoryItem) (xid : ℕ) (name : List ℕ) (call : MdsCallValue) → items_in l.steps ≡ a ++ compound xid name call ∷ b → HasItem (items_in l.steps) (compound xid name call)
     item_there b a xid name call is = subst (λ (h : List HistoryItem). HasItem h (compound xid name call)) (sym is) (has_middle a b (compound xid name call))
+
+    -- in its round nothing was asked for behind the number that is next
+    pub none_asked : (a b : List HistoryItem) (xid : ℕ) (name : List ℕ) (session : SessionId) (number : ℕ) (c : SlotCallValue) → items_in l.steps ≡ a ++ compound xid name (OnSlot session number c) ∷ b → IsInRound a session number
+        → (own : ℕ) (other : List ℕ) (asked : SessionId) (d : SlotCallValue) → HasItem a (compound own other (OnSlot asked (number + 1) d)) → is_of_session session asked ≡ true → ⊥
+    none_asked a b xid name session number c is r own other asked d inside its_session =
+        by_place (is_in r.before (compound r.xid r.name (ExchangeId r.verifier)) r.rest (compound own other (OnSlot asked (number + 1) d)) (subst (λ (x : List HistoryItem). HasItem x (compound own other (OnSlot asked (number + 1) d))) r.split inside))
+      where
+        too_far : (k : ℕ) (P : Type 0) → k ≡ number + 1 → (k < number) ⊎ ((k ≡ number) × P) → ⊥
+        too_far k P at (inl smaller) = absurd (omega (arith, at, smaller))
+        too_far k P at (inr same) = let one = same.0 in absurd (omega (arith, at, one))
+
+        by_place : IsIn r.before (compound r.xid r.name (ExchangeId r.verifier)) r.rest (compound own other (OnSlot asked (number + 1) d)) → ⊥
+        by_place (Front has) = other_session a b xid name session number c is r own other asked (number + 1) d has its_session
+        by_place (This same) = not_exchange own r.xid r.verifier other r.name asked (number + 1) d same
+        by_place (Back has) =
+            let on : asked ≡ session = of_round r.given.clientid r.given.sequence session r.rest r.only (compound own other (OnSlot asked (number + 1) d)) has in
+            too_far (number + 1) _ refl (r.upto own other (number + 1) d (subst (λ (x : SessionId). HasItem r.rest (compound own other (OnSlot x (number + 1) d))) on has))
 
     -- at a request of this number nothing behind it took effect by an event in which a reply was sent that was heard by then
     none_behind : (a b : List HistoryItem) (xid : ℕ) (name : List ℕ) (session : SessionId) (number : ℕ) (c : SlotCallValue) → items_in l.steps ≡ a ++ compound xid name (OnSlot session number c) ∷ b → IsInRound a session number
@@ -334,66 +347,52 @@ module _ (laws : SessionLaws) (boots : List ℕ) (w : ClusterState) (run : IsRun
         let place : BeginsWith s.before (compound taken.took.xid o.name (OnSlot taken.asked (number + 1) o.call)) a =
         before_it s.before s.behind a b (compound taken.took.xid o.name (OnSlot taken.asked (number + 1) o.call)) (compound xid name (OnSlot session number c)) (sym s.is ∙ is) before in
         let inside : HasItem a (compound taken.took.xid o.name (OnSlot taken.asked (number + 1) o.call)) = in_front s.before (compound taken.took.xid o.name (OnSlot taken.asked (number + 1) o.call)) a place in
-        by_place o (is_in r.before (compound r.xid r.name (ExchangeId r.verifier)) r.rest (compound taken.took.xid o.name (OnSlot taken.asked (number + 1) o.call)) (subst (λ (x : List HistoryItem). HasItem x (compound taken.took.xid o.name (OnSlot taken.asked (number + 1) o.call))) r.split inside))
-      where
-        too_far : (k : ℕ) (P : Type 0) → k ≡ number + 1 → (k < number) ⊎ ((k ≡ number) × P) → ⊥
-        too_far k P at (inl smaller) = absurd (omega (arith, at, smaller))
-        too_far k P at (inr same) = let one = same.0 in absurd (omega (arith, at, one))
-
-        by_place : (o : OwnRequest t n l taken.early (taken.late ++ late) taken.f taken.took.node taken.took.xid taken.asked (number + 1)) → IsIn r.before (compound r.xid r.name (ExchangeId r.verifier)) r.rest (compound taken.took.xid o.name (OnSlot taken.asked (number + 1) o.call)) → ⊥
-        by_place o (Front has) = other_session a b xid name session number c is r taken.took.xid o.name taken.asked (number + 1) o.call has taken.its
-        by_place o (This same) = not_exchange taken.took.xid r.xid r.verifier o.name r.name taken.asked (number + 1) o.call same
-        by_place o (Back has) =
-            let on : taken.asked ≡ session = of_round r.given.clientid r.given.sequence session r.rest r.only (compound taken.took.xid o.name (OnSlot taken.asked (number + 1) o.call)) has in
-            too_far (number + 1) _ refl
-            (r.upto taken.took.xid o.name (number + 1) o.call (subst (λ (x : SessionId). HasItem r.rest (compound taken.took.xid o.name (OnSlot x (number + 1) o.call))) on has))
+        none_asked a b xid name session number c is r taken.took.xid o.name taken.asked o.call inside taken.its
 
     -- ---- two requests
 
-    -- a request of this number that was told unknown, and not that its session is gone, was in order
-    module _ (a b : List HistoryItem) (xid : ℕ) (name : List ℕ) (session : SessionId) (number : ℕ) (c : SlotCallValue) (is : items_in l.steps ≡ a ++ compound xid name (OnSlot session number c) ∷ b) (r : IsInRound a session number)
-        (p q : List HistoryItem) (own : ℕ) (other : List ℕ) (d : SlotCallValue) (at : items_in l.steps ≡ p ++ compound own other (OnSlot session number d) ∷ q) (r_old : IsInRound p session number)
-        (u : WasUnused a own other session number d) where
-      under : HeardUnder laws.ids.replies boots w run t few range roomy n l a own other (OnSlot session number d) u.says u.behind
-      under = heard_in a (compound xid name (OnSlot session number c) ∷ b) is own other (OnSlot session number d) u.says u.behind u.heard
+    -- a reply to a request, heard in `past`: where no request behind its number took effect when it came, it was in order
+    module _ (past tail : List HistoryItem) (is : items_in l.steps ≡ past ++ tail) (session : SessionId) (number : ℕ) (own : ℕ) (other : List ℕ) (d : SlotCallValue) (says : MdsReplyValue) (behind : List HistoryItem)
+        (told : IsHeard past own other (OnSlot session number d) says behind) where
+      -- the place of the request, and its round
+      abbrev pub asked_behind : List HistoryItem
+      asked_behind = (told.until ++ hearing_from Mds told.bytes told.now ∷ behind) ++ tail
 
-      abbrev heard : Heard n l a other (OnSlot session number d) u.says u.behind
-      heard = under.heard
+      pub asked_at : items_in l.steps ≡ told.before ++ compound own other (OnSlot session number d) ∷ asked_behind
+      asked_at =
+          is ∙ (ap (λ (x : List HistoryItem). x ++ tail) told.split ∙ append_assoc told.before (compound own other (OnSlot session number d) ∷ (told.until ++ hearing_from Mds told.bytes told.now ∷ behind)) tail)
 
-      abbrev early : List MdsEvent
+      pub asked_round : IsInRound told.before session number
+      asked_round = round_at told.before asked_behind own other session number d asked_at
+
+      pub under : HeardUnder laws.ids.replies boots w run t few range roomy n l past own other (OnSlot session number d) says behind
+      under = heard_in past tail is own other (OnSlot session number d) says behind told
+
+      abbrev pub early : List MdsEvent
       early = under.heard.was.answered.answers.early
 
-      abbrev late : List MdsEvent
+      abbrev pub late : List MdsEvent
       late = under.heard.was.answered.answers.f ∷ (under.heard.was.answered.answers.late ++ under.heard.was.answered.after)
 
-      whole : t.mds.events ≡ early ++ late
+      pub whole : t.mds.events ≡ early ++ late
       whole = under.heard.was.answered.asked_split
 
-      early_less : length early ≤ length under.heard.was.answered.before
+      pub early_less : length early ≤ length under.heard.was.answered.before
       early_less =
           let size = ap (λ (x : List MdsEvent). length x) under.heard.was.answered.answers.split in
           let left = length-append under.heard.was.answered.before (under.heard.was.answered.e ∷ []) in
           let right = length-append early (under.heard.was.answered.answers.f ∷ under.heard.was.answered.answers.late) in
           omega (arith, size, left, right)
 
-      count : ℕ
-      count = count_taken t.mds.servers t.mds.mirrors early session
-
-      -- nothing behind this number took effect
-      not_more : number + 1 ≤ count_taken t.mds.servers t.mds.mirrors early session → ⊥
-      not_more most =
-          none_behind a b xid name session number c is r other (OnSlot session number d) u.says u.behind under.heard early late whole early_less
-          (laws.taken t.mds.servers t.mds.mirrors early late (fits_first early late whole) (room_first early late whole) session (number + 1) (omega arith) most)
-
-      refused_not : IsRefusedWith t.mds.servers t.mds.mirrors early session number stat.SeqMisordered → ⊥
-      refused_not refused = by_last r_old.last
+      pub refused_not : (number + 1 ≤ count_taken t.mds.servers t.mds.mirrors early session → ⊥) → IsRefusedWith t.mds.servers t.mds.mirrors early session number stat.SeqMisordered → ⊥
+      refused_not not_more refused = by_last asked_round.last
         where
-          some : (number ≡ 1) ⊎ ((last : ℕ) × (number ≡ last + 1) × WasUsed p session last) → 1 ≤ number
+          some : (number ≡ 1) ⊎ ((last : ℕ) × (number ≡ last + 1) × WasUsed told.before session last) → 1 ≤ number
           some (inl one) = omega (arith, one)
           some (inr used) = let next = used.1 in omega (arith, next)
 
           order : (number ≡ count_taken t.mds.servers t.mds.mirrors early session → ⊥) × (number ≡ count_taken t.mds.servers t.mds.mirrors early session + 1 → IsFreeAt (server_after t.mds.servers t.mds.mirrors early) session (count_taken t.mds.servers t.mds.mirrors early session) → ⊥)
-          order = laws.misordered t.mds.servers t.mds.mirrors t.mds.events early (under.heard.was.answered.answers.late ++ under.heard.was.answered.after) under.heard.was.answered.answers.f whole fits_all roomy session number refused (some r_old.last)
+          order = laws.misordered t.mds.servers t.mds.mirrors t.mds.events early (under.heard.was.answered.answers.late ++ under.heard.was.answered.after) under.heard.was.answered.answers.f whole fits_all roomy session number refused (some asked_round.last)
 
           below : count_taken t.mds.servers t.mds.mirrors early session + 1 ≤ number
           below = by_test (nat_le (count_taken t.mds.servers t.mds.mirrors early session + 1) number) refl
@@ -412,18 +411,18 @@ module _ (laws : SessionLaws) (boots : List ℕ) (w : ClusterState) (run : IsRun
                       less_or_same k more apart none false its = apart (grind (arith, nat_tests, its, more))
 
           -- the one before is done, and its slot free, when this one comes
-          by_last : (number ≡ 1) ⊎ ((last : ℕ) × (number ≡ last + 1) × WasUsed p session last) → ⊥
+          by_last : (number ≡ 1) ⊎ ((last : ℕ) × (number ≡ last + 1) × WasUsed told.before session last) → ⊥
           by_last (inl one) =
               let less = below in
               let none : count_taken t.mds.servers t.mds.mirrors early session ≡ 0 = omega (arith, one, less) in
               order.1 (omega (arith, one, none))
               (subst (λ (k : ℕ). IsFreeAt (server_after t.mds.servers t.mds.mirrors early) session k) (sym none) (laws.first t.mds.servers t.mds.mirrors early late (fits_first early late whole) (room_first early late whole) session none))
           by_last (inr (last, next, used)) =
-              let old = heard_in p (compound own other (OnSlot session number d) ∷ q) at used.xid used.name (OnSlot session last used.call) used.says used.behind used.heard in
+              let old = heard_in told.before (compound own other (OnSlot session number d) ∷ asked_behind) asked_at used.xid used.name (OnSlot session last used.call) used.says used.behind used.heard in
               let ans = old.heard.was.answered in
-              let k : IsTakenBy ans.before ans.e session last = used_so n l p used.name session last used.call used.says used.behind old.heard used.used in
-              let later = behind_reply p used.name (OnSlot session last used.call) used.says used.behind old.heard p q under.heard.reply.xid other (OnSlot session number d)
-              (subst (λ (x : ℕ). items_in l.steps ≡ p ++ compound x other (OnSlot session number d) ∷ q) (sym under.number) at) (omega arith) early (under.heard.was.answered.answers.late ++ under.heard.was.answered.after) under.heard.was.answered.answers.f whole under.heard.was.own in
+              let k : IsTakenBy ans.before ans.e session last = used_so n l told.before used.name session last used.call used.says used.behind old.heard used.used in
+              let later = behind_reply told.before used.name (OnSlot session last used.call) used.says used.behind old.heard told.before asked_behind under.heard.reply.xid other (OnSlot session number d)
+              (subst (λ (x : ℕ). items_in l.steps ≡ told.before ++ compound x other (OnSlot session number d) ∷ asked_behind) (sym under.number) asked_at) (omega arith) early (under.heard.was.answered.answers.late ++ under.heard.was.answered.after) under.heard.was.answered.answers.f whole under.heard.was.own in
               let place : BeginsWith ans.before ans.e early = begins_with ans.before ans.e ans.after early late (sym ans.split ∙ whole) later in
               let upto : early ≡ (ans.before ++ ans.e ∷ []) ++ place.more = place.is ∙ sym (append_assoc ans.before (ans.e ∷ []) place.more) in
               let all : t.mds.events ≡ ((ans.before ++ ans.e ∷ []) ++ place.more) ++ late = whole ∙ ap (λ (x : List MdsEvent). x ++ late) upto in
@@ -437,12 +436,44 @@ module _ (laws : SessionLaws) (boots : List ℕ) (w : ClusterState) (run : IsRun
               let same : last ≡ count_taken t.mds.servers t.mds.mirrors early session = omega (arith, next, counted, less) in
               order.1 (omega (arith, next, same)) (subst (λ (x : ℕ). IsFreeAt (server_after t.mds.servers t.mds.mirrors early) session x) same free)
 
-      pub not_unused : ⊥
-      not_unused = by_refusal (under.heard.was.answered.refused other session number d under.heard.was.own.called under.heard.was.own.fits.0 (ap (λ (x : MdsReplyValue). x.slot) under.heard.says_so ∙ u.unused.slot))
+      -- what it stands on
+      pub stands : StandsFor t.mds.servers t.mds.mirrors (under.heard.was.answered.before ++ under.heard.was.answered.e ∷ []) early session number d says
+      stands =
+          subst (λ (r : MdsReplyValue). StandsFor t.mds.servers t.mds.mirrors (under.heard.was.answered.before ++ under.heard.was.answered.e ∷ []) early session number d r) under.heard.says_so
+          (stands_so laws.ids.replies boots w run t few range roomy n l (under.heard.before ++ compound under.heard.reply.xid other (OnSlot session number d) ∷ under.heard.until) under.heard.bytes under.heard.now (behind ++ under.heard.rest) under.heard.reply other
+          session number d under.heard.was)
+
+      -- where it is told unknown, its session is gone
+      pub unknown_so : says.slot ≡ Unknown → IsUnknown t.mds.servers t.mds.mirrors early session number says.answer
+      unknown_so is_unknown = subst (λ (r : SlotReport). StandsByReport t.mds.servers t.mds.mirrors (under.heard.was.answered.before ++ under.heard.was.answered.e ∷ []) early session number d says.answer r) is_unknown stands
+
+    -- a request of this number that was told unknown, and not that its session is gone, was in order
+    module _ (a b : List HistoryItem) (xid : ℕ) (name : List ℕ) (session : SessionId) (number : ℕ) (c : SlotCallValue) (is : items_in l.steps ≡ a ++ compound xid name (OnSlot session number c) ∷ b) (r : IsInRound a session number)
+        (own : ℕ) (other : List ℕ) (d : SlotCallValue) (u : WasUnused a own other session number d) where
+      abbrev tail : List HistoryItem
+      tail = compound xid name (OnSlot session number c) ∷ b
+
+      abbrev before : List MdsEvent
+      before = early a tail is session number own other d u.says u.behind u.heard
+
+      abbrev behind : List MdsEvent
+      behind = late a tail is session number own other d u.says u.behind u.heard
+
+      all : t.mds.events ≡ before ++ behind
+      all = whole a tail is session number own other d u.says u.behind u.heard
+
+      not_more : number + 1 ≤ count_taken t.mds.servers t.mds.mirrors before session → ⊥
+      not_more most =
+          none_behind a b xid name session number c is r other (OnSlot session number d) u.says u.behind (under a tail is session number own other d u.says u.behind u.heard).heard before behind all
+          (early_less a tail is session number own other d u.says u.behind u.heard)
+          (laws.taken t.mds.servers t.mds.mirrors before behind (fits_first before behind all) (room_first before behind all) session (number + 1) (omega arith) most)
+
+      not_unused : ⊥
+      not_unused = by_unknown (unknown_so a tail is session number own other d u.says u.behind u.heard u.unused.slot)
         where
-          by_refusal : IsRefusedSo t.mds.servers t.mds.mirrors early session number (reply_of_ask (ask_on_slot d) under.heard.reply).answer → ⊥
-          by_refusal (inl gone) = u.unused.not_gone (sym (ap (λ (x : MdsReplyValue). x.answer) under.heard.says_so) ∙ gone.0)
-          by_refusal (inr order) = refused_not order.1
+          by_unknown : IsUnknown t.mds.servers t.mds.mirrors before session number u.says.answer → ⊥
+          by_unknown (HasNoSession gone refused) = u.unused.not_gone gone
+          by_unknown (IsOutOfOrder order refused) = refused_not a tail is session number own other d u.says u.behind u.heard not_more refused
 
     -- a request that went out before another of its number is on another session
     before_other : (a b p q : List HistoryItem) (xid own : ℕ) (name other : List ℕ) (session asked : SessionId) (number : ℕ) (c d : SlotCallValue) → items_in l.steps ≡ a ++ compound xid name (OnSlot session number c) ∷ b
@@ -452,9 +483,9 @@ module _ (laws : SessionLaws) (boots : List ℕ) (w : ClusterState) (run : IsRun
         let inside : HasItem a (compound own other (OnSlot asked number d)) = in_front p (compound own other (OnSlot asked number d)) a (before_it p q a b (compound own other (OnSlot asked number d)) (compound xid name (OnSlot session number c)) (sym at ∙ is) less) in
         by_place r (is_in r.before (compound r.xid r.name (ExchangeId r.verifier)) r.rest (compound own other (OnSlot asked number d)) (subst (λ (x : List HistoryItem). HasItem x (compound own other (OnSlot asked number d))) r.split inside))
       where
-        by_upto : (r : IsInRound a session number) → (number < number) ⊎ ((number ≡ number) × WasUnused a own other session number d) → items_in l.steps ≡ p ++ compound own other (OnSlot session number d) ∷ q → ⊥
-        by_upto r (inl wrong) here = absurd (omega (arith, wrong))
-        by_upto r (inr unused) here = not_unused a b xid name session number c is r p q own other d here (round_at p q own other session number d here) unused.1
+        by_upto : (r : IsInRound a session number) → (number < number) ⊎ ((number ≡ number) × WasUnused a own other session number d) → ⊥
+        by_upto r (inl wrong) = absurd (omega (arith, wrong))
+        by_upto r (inr unused) = not_unused a b xid name session number c is r own other d unused.1
 
         by_place : (r : IsInRound a session number) → IsIn r.before (compound r.xid r.name (ExchangeId r.verifier)) r.rest (compound own other (OnSlot asked number d)) → ⊥
         by_place r (Front has) = other_session a b xid name session number c is r own other asked number d has same
@@ -462,24 +493,27 @@ module _ (laws : SessionLaws) (boots : List ℕ) (w : ClusterState) (run : IsRun
         by_place r (Back has) =
             let on : asked ≡ session = of_round r.given.clientid r.given.sequence session r.rest r.only (compound own other (OnSlot asked number d)) has in
             by_upto r (r.upto own other number d (subst (λ (x : SessionId). HasItem r.rest (compound own other (OnSlot x number d))) on has))
-            (subst (λ (x : SessionId). items_in l.steps ≡ p ++ compound own other (OnSlot x number d) ∷ q) on at)
 
-    pub one_each : (xid other : ℕ) (name names : List ℕ) (session asked : SessionId) (number : ℕ) (c d : SlotCallValue) → HasItem (items_in l.steps) (compound xid name (OnSlot session number c))
-        → HasItem (items_in l.steps) (compound other names (OnSlot asked number d)) → is_of_session session asked ≡ true → (session ≡ asked) × (c ≡ d)
-    one_each xid other name names session asked number c d has also same =
+    -- it is sent once
+    pub one_send : (xid other : ℕ) (name names : List ℕ) (session asked : SessionId) (number : ℕ) (c d : SlotCallValue) → HasItem (items_in l.steps) (compound xid name (OnSlot session number c))
+        → HasItem (items_in l.steps) (compound other names (OnSlot asked number d)) → is_of_session session asked ≡ true → compound xid name (OnSlot session number c) ≡ compound other names (OnSlot asked number d)
+    one_send xid other name names session asked number c d has also same =
         let s : SplitAt (items_in l.steps) (compound xid name (OnSlot session number c)) = split_at (items_in l.steps) (compound xid name (OnSlot session number c)) has in
         let o : SplitAt (items_in l.steps) (compound other names (OnSlot asked number d)) = split_at (items_in l.steps) (compound other names (OnSlot asked number d)) also in
         by_place s o (nat_lt (length o.before) (length s.before)) (nat_lt (length s.before) (length o.before)) refl refl
       where
         by_place : (s : SplitAt (items_in l.steps) (compound xid name (OnSlot session number c))) (o : SplitAt (items_in l.steps) (compound other names (OnSlot asked number d))) (a b : Bool) → nat_lt (length o.before) (length s.before) ≡ a
-            → nat_lt (length s.before) (length o.before) ≡ b → (session ≡ asked) × (c ≡ d)
+            → nat_lt (length s.before) (length o.before) ≡ b → compound xid name (OnSlot session number c) ≡ compound other names (OnSlot asked number d)
         by_place s o true b less more =
             absurd (before_other s.before s.behind o.before o.behind xid other name names session asked number c d s.is o.is (ltb-true (length o.before) (length s.before) less) same)
         by_place s o false true less more =
             absurd (before_other o.before o.behind s.before s.behind other xid names name asked session number d c o.is s.is (ltb-true (length s.before) (length o.before) more) (turned_round session asked same))
         by_place s o false false less more =
-            same_request xid other name names session asked number number c d
-            (same_place s.before s.behind o.before o.behind (compound xid name (OnSlot session number c)) (compound other names (OnSlot asked number d)) (sym s.is ∙ o.is) (grind (arith, nat_tests, less, more)))
+            same_place s.before s.behind o.before o.behind (compound xid name (OnSlot session number c)) (compound other names (OnSlot asked number d)) (sym s.is ∙ o.is) (grind (arith, nat_tests, less, more))
+
+    pub one_each : (xid other : ℕ) (name names : List ℕ) (session asked : SessionId) (number : ℕ) (c d : SlotCallValue) → HasItem (items_in l.steps) (compound xid name (OnSlot session number c))
+        → HasItem (items_in l.steps) (compound other names (OnSlot asked number d)) → is_of_session session asked ≡ true → (session ≡ asked) × (c ≡ d)
+    one_each xid other name names session asked number c d has also same = same_request xid other name names session asked number number c d (one_send xid other name names session asked number c d has also same)
 
 pub one_request_each : SessionLaws → (boots : List ℕ) (w : ClusterState) → IsRunOf boots w → (t : IsToldByNodes w) → length w.machines.clients < 2 ^ 32 → IsJournalInRange w.journal → StaysRoomy t.mds.servers t.mds.mirrors t.mds.events → StartsAreFew t → IsOneRequestEach t
 one_request_each laws boots w run t few range roomy starts n l its xid other name names session asked number c d has also same =

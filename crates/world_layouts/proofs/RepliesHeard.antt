@@ -31,9 +31,7 @@ use Rattle.world_reads.proofs.LifeRecords.{are_bytes}
 use Rattle.world_reads.proofs.MdsPlaces.{Steps, SentIn, sent_in}
 use Rattle.mds_replies.specs.GivenAnswers.{EachReplyIsWhole, IsAnsweredNow, EachAnswerIsNow, EachReplyIsAsked}
 use Rattle.world_layouts.proofs.MdsMoments.{IsSentBy, sent_by}
-use Rattle.device_addr.specs.Universal.{AddressValue}
-use Rattle.mds_replies.specs.AnsweredRequests.{AreFitCalls, StaysRoomy, AnswersRequest, EachReplyStands}
-use Rattle.world_layouts.specs.ReadReplies.{TellsRefused}
+use Rattle.mds_replies.specs.AnsweredRequests.{StaysRoomy, AnswersRequest, EachReplyStands}
 use Rattle.world_layouts.proofs.HeardCalls.{CompoundLaws, CameFrom, Arrival, came_at, caller_of, are_fit_calls, none_answered}
 
 in_middle : {A : Type 0} (front back : List A) (x : A) → In x (front ++ x ∷ back)
@@ -129,7 +127,6 @@ pub record AnswersCall {w : ClusterState} (t : IsToldByNodes w) (past : List Ent
   pub since : List Entry
   pub place : past ≡ entries_in earlier ++ since
   pub answers : AnswersRequest t.mds.servers t.mds.mirrors (before ++ e ∷ []) (Client n) reply
-  pub refused : TellsRefused t.mds.servers t.mds.mirrors (before ++ e ∷ []) (Client n) reply answers
   pub asked_split : IsEventOf t.mds.events answers.early answers.f (answers.late ++ after)
   pub arrival : Arrival t answers.early (answers.late ++ after) answers.f (Client n) answers.came.bytes
   pub caller : CameFrom t (entries_in arrival.earlier) (Client n) answers.came.bytes reply.xid answers.came.v
@@ -137,9 +134,6 @@ pub record AnswersCall {w : ClusterState} (t : IsToldByNodes w) (past : List Ent
 pub record ReplyLaws : Type 0 where
   pub calls : CompoundLaws
   pub stands : EachReplyStands
-  pub refused : (servers : List AddressValue) (mirrors : ℕ) (events before after : List MdsEvent) (e : MdsEvent) (fit : AreFitCalls events) (room : StaysRoomy servers mirrors events) (split : IsEventOf events before e after)
-      (node : NodeId) (reply : RpcReply) (sent : In (Replies node reply) (after_event e (server_after servers mirrors before)).sends)
-      → TellsRefused servers mirrors (before ++ e ∷ []) node reply (stands servers mirrors events before after e fit room split node reply sent)
   pub whole : EachReplyIsWhole
   pub now : EachAnswerIsNow
   pub asked : EachReplyIsAsked
@@ -199,8 +193,6 @@ module _ (laws : ReplyLaws) (boots : List ℕ) (w : ClusterState) (run : IsRunOf
         since = [];
         place = sym s.place ∙ sym (append-nil (entries_in s.earlier));
         answers = a;
-        refused =
-            laws.refused t.mds.servers t.mds.mirrors t.mds.events s.before s.after s.e (are_fit_calls laws.calls boots w run t few range) roomy s.split (Client n) r.reply r.sent;
         asked_split = asked;
         arrival = arrival;
         caller = k;

@@ -3,7 +3,6 @@ use Rattle.std.specs.Prelude.{ℕ, List}
 use Rattle.cluster_world.specs.ClusterWorlds.{ClusterState}
 use Rattle.node_histories.specs.NodeHistories.{IsToldByNodes}
 use Rattle.world_moves.specs.WorldMoves.{IsRunOf}
-use Rattle.world_layouts.specs.ReadReplies.{EachReplyIsRead}
 use Rattle.world_layouts.specs.WorldLayouts.{IsWorldRoomy, IsOneRequestEach, GrantsAreTold, UidsAreOwn, StateidsAreOnce, ReturnsAreSent, ReturnsHaveEnded}
 
 pub record HasLayoutsInOrder {w : ClusterState} (told : IsToldByNodes w) : Type 0 where
@@ -14,6 +13,6 @@ pub record HasLayoutsInOrder {w : ClusterState} (told : IsToldByNodes w) : Type 
   pub sent : ReturnsAreSent told
   pub ended : ReturnsHaveEnded told
 
--- in each world that has room, where replies to requests that took effect have a spelling, which is not proved yet of every run of a metadata server
+-- in each world that has room
 abbrev pub EachWorldIsInOrder : Type 0
-EachWorldIsInOrder = EachReplyIsRead → (boots : List ℕ) (w : ClusterState) → IsRunOf boots w → (told : IsToldByNodes w) → IsWorldRoomy told → HasLayoutsInOrder told
+EachWorldIsInOrder = (boots : List ℕ) (w : ClusterState) → IsRunOf boots w → (told : IsToldByNodes w) → IsWorldRoomy told → HasLayoutsInOrder told

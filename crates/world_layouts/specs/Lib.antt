@@ -1,3 +1,2 @@
-pub mod ReadReplies
 pub mod WorldLayouts
 pub mod LayoutsInOrder

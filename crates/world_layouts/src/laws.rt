@@ -13,8 +13,7 @@ use mds_session_order::session_order;
 use nfs4_compound::every_listing;
 use rpc_record::every_message;
 
-/// In every world that is told by its nodes and has room, where replies to requests that took effect have a spelling
-/// (`EachReplyIsRead`):
+/// In every world that is told by its nodes and has room:
 ///
 /// - of a life, one request has a number of a session (RFC 8881, section 2.10.6.1);
 /// - what a client was granted, the journal had granted to it, while the mirrors of the grant were live (RFC 8881, section

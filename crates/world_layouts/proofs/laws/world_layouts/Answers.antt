@@ -4,7 +4,7 @@ use Rattle.world_layouts.proofs.laws.world_layouts.Goals as goal
 
 pub returns : goal.returns
 returns c = record {
-  in_order = λ read boots w run told room.
+  in_order = λ boots w run told room.
       (let ids : IdLaws = record {
         replies = record {
           calls = record {
@@ -17,8 +17,7 @@ returns c = record {
             taken = c.receive_law.ensures.taken;
             fit = c.fitting_calls.ensures.fit;
           };
-          stands = λ servers mirrors events before after e fit roomy split node reply sent. (read servers mirrors events before after e fit roomy split node reply sent).0;
-          refused = λ servers mirrors events before after e fit roomy split node reply sent. (read servers mirrors events before after e fit roomy split node reply sent).1;
+          stands = c.replies_law.ensures.stands;
           whole = c.answers_law.ensures.whole;
           now = c.answers_law.ensures.now;
           asked = c.answers_law.ensures.asked;

@@ -1,0 +1,6 @@
+pub mod FrontRead
+pub mod SlotSteps
+pub mod KeptReplies
+pub mod StandingSessions
+pub mod ReportTurns
+pub mod ReportRuns
