@@ -18,7 +18,7 @@ use Rattle.client_laws.specs.ClientRunLaws.{WasGranted}
 use Rattle.client_laws.proofs.Orders.{in_more, in_end, in_either}
 use Rattle.client_sessions.specs.HeardReplies.{IsHeard, IsNoCompound}
 use Rattle.client_sessions.specs.ClientSessions.{WasGivenId, IsNew, IsAgain, WasGivenSession, IsNextOnSlot, IsFirst, IsBehind}
-use Rattle.client_sessions.specs.LayoutEnds.{HasLayoutEnded, ByReturn, BySession, ByFence, IsAskSettled}
+use Rattle.client_sessions.specs.LayoutEnds.{HasLayoutEnded, WasFenced, ByReturn, BySession, ByFence, IsAskSettled}
 
 pub all_more : (P : HistoryItem → Type 0) (xs ys : List HistoryItem) → AllByRecursion P xs → AllByRecursion P ys → AllByRecursion P (xs ++ ys)
 all_more P [] ys first second = second
@@ -87,10 +87,28 @@ slot_later past more session sequence none (IsBehind xid name last call says beh
 
 -- ---- a layout
 
+abbrev pub fenced_later : (behind more : List HistoryItem) (grant : LayoutGrant) → WasFenced behind grant → WasFenced (behind ++ more) grant
+fenced_later behind more grant f = record {
+  place = f.place;
+  mirror = f.mirror;
+  there = f.there;
+  xid = f.xid;
+  name = f.name;
+  call = f.call;
+  to_mirror = f.to_mirror;
+  bytes = f.bytes;
+  now = f.now;
+  status = f.status;
+  shown = f.shown;
+  says = f.says;
+  fence = f.fence;
+  order = in_more (Sends (CallsServer f.mirror.id.server f.xid f.name grant.uid.0 f.call) ∷ Hears (Recorded (Server f.mirror.id.server) f.bytes f.now) ∷ []) behind more f.order;
+}
+
 pub ended_later : (behind more : List HistoryItem) (session : SessionId) (file : FileId) (grant : LayoutGrant) → HasLayoutEnded behind session file grant → HasLayoutEnded (behind ++ more) session file grant
 ended_later behind more session file grant (ByReturn xid name sequence failed says rest heard is) = ByReturn xid name sequence failed says (rest ++ more) (heard_later behind more xid name _ says rest heard) is
 ended_later behind more session file grant (BySession xid name sequence call says rest heard is) = BySession xid name sequence call says (rest ++ more) (heard_later behind more xid name _ says rest heard) is
-ended_later behind more session file grant (ByFence server xid name call bytes now status shown says fence order) = ByFence server xid name call bytes now status shown says fence (in_more (Sends (CallsServer server xid name grant.uid.0 call) ∷ Hears (Recorded (Server server) bytes now) ∷ []) behind more order)
+ended_later behind more session file grant (ByFence f) = ByFence (fenced_later behind more grant f)
 
 pub settled_later : (past more : List HistoryItem) (xid : ℕ) (name : List ℕ) (session : SessionId) (sequence : ℕ) (file : OpenFile) → IsAskSettled past xid name session sequence file → IsAskSettled (past ++ more) xid name session sequence file
 settled_later past more xid name session sequence file s = record {

@@ -26,13 +26,14 @@ use Rattle.client_state.specs.ClientStates.{ClientValue}
 use Rattle.client_state.specs.ClientSends.{CallsMds}
 use Rattle.client_answers.specs.ClientAnswers.{new_layout}
 use Rattle.client_laws.specs.ClientHistory.{ClientInput, HistoryItem, Hears, Sends, Recorded, HasItem}
-use Rattle.client_laws.proofs.Stands.{WriterStands, MirrorStands, IfThere, IsOut}
+use Rattle.client_laws.proofs.Stands.{WriterStands, MirrorStands, writer_ids, IfThere, IsOut}
 use Rattle.client_laws.proofs.GrantFacts.{granted_kind}
 use Rattle.client_records.proofs.Cases.{IsAnswered, said, heard_mds}
 use Rattle.client_records.proofs.EachRun.{Base}
 use Rattle.client_sessions.specs.HeardReplies.{IsNoCompound}
 use Rattle.client_sessions.specs.LayoutEnds.{HasLayoutEnded, IsAskSettled, HasNotLeft}
 use Rattle.client_sessions.proofs.HeardLater.{all_more, heard_later, settled_later}
+use Rattle.client_sessions.proofs.WriterIds.{new_ids}
 use Rattle.client_sessions.proofs.CallsMade.{IsOnSession, IsBy}
 use Rattle.client_sessions.proofs.SlotStands.{AskedOut, IsSlotFile, IsFileOf, asked_heard}
 use Rattle.client_sessions.proofs.Settling.{out_settles, layout_settles}
@@ -63,8 +64,8 @@ fresh_stands name cred mirrors place m there = by_mirror (slice_get mirrors plac
 -- with another tie, and another file, of which as much holds
 module _ (past : List HistoryItem) (held : ℕ) (name : List ℕ) (tie : Tie) (file : Option OpenFile) (asked : Option Asked) (stateid : Stateid) (writer : WriterValue) (o : LayoutOf past held name tie file asked stateid writer) (more : List HistoryItem) where
   pub layout_answered : (tie' : Tie) (file' : Option OpenFile) (stateid' : Stateid) (writer' : WriterValue) → ((session : SessionId) → IsHere tie session → IsHere tie' session) → ((f : OpenFile) → file ≡ Some f → file' ≡ Some f) → stateid' ≡ stateid → writer'.cred ≡ writer.cred
-      → WriterStands (o.behind ++ more) name any_server writer' → LayoutOf (past ++ more) held name tie' file' None stateid' writer'
-  layout_answered tie' file' stateid' writer' here there same cred stands = record {
+      → writer_ids writer' ≡ writer_ids writer → WriterStands (o.behind ++ more) name any_server writer' → LayoutOf (past ++ more) held name tie' file' None stateid' writer'
+  layout_answered tie' file' stateid' writer' here there same cred ids stands = record {
     session = o.session;
     sequence = o.sequence;
     other = o.other;
@@ -77,6 +78,7 @@ module _ (past : List HistoryItem) (held : ℕ) (name : List ℕ) (tie : Tie) (f
     is = o.is;
     stateid_is = same ∙ o.stateid_is;
     uid_is = cred ∙ o.uid_is;
+    ids_are = ids ∙ o.ids_are;
     file_is = there o.other o.file_is;
     on = here o.session o.on;
     stands = stands;
@@ -118,7 +120,7 @@ module _ (h : List HistoryItem) (c : ClientValue) (a : Asked) (bytes : List ℕ)
   held_still tie file (Some l) None at keeps holds = absurd keeps
   held_still tie file (Some l) (Some new) at keeps holds =
       let o : LayoutOf h i.held c.name c.tie c.file c.asked l.stateid l.writer = its_layout h c i l at in
-      layout_answered h i.held c.name c.tie c.file c.asked l.stateid l.writer o (item ∷ []) tie file new.stateid new.writer (holds l at).here (holds l at).there keeps.stateid keeps.cred
+      layout_answered h i.held c.name c.tie c.file c.asked l.stateid l.writer o (item ∷ []) tie file new.stateid new.writer (holds l at).here (holds l at).there keeps.stateid keeps.cred keeps.ids
       (keeps.stands (o.behind ++ item ∷ []) (writer_behind h i.held c.name c.tie c.file c.asked l.stateid l.writer o (item ∷ [])))
 
   -- the layout is held still
@@ -184,6 +186,7 @@ module _ (h : List HistoryItem) (c : ClientValue) (a : Asked) (bytes : List ℕ)
         is = is;
         stateid_is = refl;
         uid_is = refl;
+        ids_are = new_ids g.mirrors;
         file_is = its;
         on = here session (here_so c.tie session sequence by);
         stands = fresh_stands c.name g.uid.0 g.mirrors;

@@ -80,7 +80,7 @@ Holds number verifier past c = Slots number verifier past c × Layouts past c
 
 pub ticked_some : (name : List ℕ) (layout : Option Layout) → KeepsSome name layout (layout_at_tick layout)
 ticked_some name None = tt
-ticked_some name (Some l) = record { stateid = refl; cred = refl; stands = λ h s. s }
+ticked_some name (Some l) = record { stateid = refl; cred = refl; ids = refl; stands = λ h s. s }
 
 pub behind_some : (name : List ℕ) (kind : MdsAsk) (old new : Option Layout) → IsLayoutBehind kind old new → KeepsSome name old new
 behind_some name kind old new (inl same) = subst (KeepsSome name old) (sym same) (itself old)
@@ -92,7 +92,7 @@ behind_some name kind old new (inr (back, same)) = subst (KeepsSome name old) (s
   where
     put_off : (layout : Option Layout) → KeepsSome name layout (deferred layout)
     put_off None = tt
-    put_off (Some l) = record { stateid = refl; cred = refl; stands = λ h s. s }
+    put_off (Some l) = record { stateid = refl; cred = refl; ids = refl; stands = λ h s. s }
 
 -- ---- the tie
 
@@ -145,6 +145,7 @@ same_asked past held name tie file a late stateid writer o = record {
   is = o.is;
   stateid_is = o.stateid_is;
   uid_is = o.uid_is;
+  ids_are = o.ids_are;
   file_is = o.file_is;
   on = o.on;
   stands = o.stands;
@@ -196,6 +197,7 @@ called_back past c s slot is i = record { held = i.held; layout_of = of_layout c
       is = o.is;
       stateid_is = o.stateid_is;
       uid_is = o.uid_is;
+      ids_are = o.ids_are;
       file_is = o.file_is;
       on = subst (λ (t : Tie). IsHere t o.session) is o.on;
       stands = o.stands;
