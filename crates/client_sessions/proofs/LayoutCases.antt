@@ -221,7 +221,7 @@ module _ (number verifier : ℕ) where
     );
     ends = λ past c l at i. (k.ends past c l at i.0, its_some past c l (ending l) at (ending_keeps c.name l) i.1);
     commits = λ past c l at i. (k.commits past c l at i.0, its_some past c l (with_writer l (commit_wanted l.writer)) at (record { stateid = refl; cred = refl; ids = refl; stands = λ h s. s }) i.1);
-    calls = λ past c l s at some is i. ((tt, tt, tt, tt), ((k.calls past c l s at some is i.0).1, calls_so past c l s at is i.1));
+    calls = λ past c l s at some is i. ((tt, tt, has_grant past c i.1 l at, tt), ((k.calls past c l s at some is i.0).1, calls_so past c l s at is i.1));
     asks = λ past c kind call none some due is i.
         (let m = made number verifier past c i.0 kind call due is in (
           (asks_one past c kind call none m.0 m.1 i.1, returns_own past c kind call none m.0 m.1 i.1, tt, tt),
@@ -298,7 +298,7 @@ module _ (number verifier : ℕ) where
         let next : Slots number verifier (past ++ rogue ∷ []) c × Layouts (past ++ rogue ∷ []) c = (slots.later number verifier past c i.0 rogue tt, later past c i.1 rogue tt tt) in (
           (tt, tt, has_grant past c i.1 l straying.layout, has_grant_for past c i.1 file l straying.file_is straying.layout),
           (
-            (tt, tt, tt, tt),
+            (tt, tt, has_grant (past ++ rogue ∷ []) c next.1 l straying.layout, tt),
             (
               slots.later number verifier (past ++ rogue ∷ []) c next.0 (Sends (CallsServer m.id.server c.next_xid c.name l.writer.cred (ds.Write m.id.fileid at false bytes))) tt,
               later (past ++ rogue ∷ []) c next.1 (Sends (CallsServer m.id.server c.next_xid c.name l.writer.cred (ds.Write m.id.fileid at false bytes))) tt tt,

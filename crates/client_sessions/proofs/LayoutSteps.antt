@@ -65,9 +65,10 @@ HeldEntry past (Sent file uid at bytes) = HasGrant past uid.0 × AllByRecursion 
 HeldEntry past (Rogue file uid at bytes) = HasGrant past uid.0
 HeldEntry past entry = Unit {0}
 
--- a write is taken and strays under a layout that was granted, and none is taken once the client left the protocol
+-- a write is taken and strays, and a data server is called, under a layout that was granted, and none is taken once the client left the protocol
 abbrev pub EntersHeld : List HistoryItem → HistoryItem → Type 0
 EntersHeld past (Enters entry) = HeldEntry past entry
+EntersHeld past (Sends (CallsServer server xid name uid call)) = HasGrant past uid
 EntersHeld past item = Unit {0}
 
 abbrev pub SaysHeld : List HistoryItem → HistoryItem → Type 0
