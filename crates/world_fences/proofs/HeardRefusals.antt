@@ -2,6 +2,7 @@
 use Rattle.std.proofs.Common.{◌≡◌, ◌<◌, ◌≤◌, ℕ, zero, suc, List, [], ◌∷◌, ◌++◌, Some, refl, sym, ap, subst, ◌∙◌, inl, inr, append_assoc}
 use Rattle.std.specs.Prelude.{slice_get, take}
 use Rattle.std.specs.List.{AllByRecursion}
+use Rattle.std.proofs.lemmas.List.Concat.{flat_map-append}
 use Rattle.std.proofs.lemmas.Option.{none-some, same_Some}
 use Rattle.ff_xdr.specs.Form.{word}
 use Rattle.rpc_record.specs.Replies.{RpcReply}
@@ -10,7 +11,6 @@ use Rattle.cluster_model.specs.declared.ids.NodeId.TheVariants.{Server, Client}
 use Rattle.cluster_model.specs.declared.ids.FileId.{FileId}
 use Rattle.cluster_model.specs.declared.ids.Mirror.{Mirror}
 use Rattle.cluster_model.specs.declared.ids.MirrorId.{MirrorId}
-use Rattle.cluster_model.specs.declared.phase.EndCause.{EndCause}
 use Rattle.cluster_model.specs.declared.entry.Entry.{Entry}
 use Rattle.cluster_model.specs.declared.entry.Entry.TheVariants as entry
 use Rattle.cluster_model.specs.Journal.{content_of}
@@ -54,8 +54,7 @@ no_part [] b is = (refl, is)
 no_part (x ∷ a) b is = absurd cc
 
 causes_join : (uid : ℕ) (a b : List Entry) → causes_of uid (a ++ b) ≡ causes_of uid a ++ causes_of uid b
-causes_join uid [] b = refl
-causes_join uid (e ∷ a) b = ap (λ (l : List EndCause). cause_in uid e ++ l) (causes_join uid a b) ∙ sym (append_assoc (cause_in uid e) (causes_of uid a) (causes_of uid b))
+causes_join uid a b = flat_map-append (cause_in uid) a b
 
 causes_within : (uid : ℕ) (a b c : List Entry) → causes_of uid (a ++ (b ++ c)) ≡ [] → causes_of uid b ≡ []
 causes_within uid a b c none =

@@ -13,10 +13,10 @@ use Rattle.cluster_model.specs.Ticks.{next_tick}
 use Rattle.cluster_model.specs.Server.{ServerState, Nothing, Root, named, file_at, mirror_of, Caller, may_write, allows, is_member, Refusal, Acces, Inval, NotSync as OutOfSync, Fbig, NoSpc, Jukebox, max_file, max_total, max_ticks, total_size, tick_refusal, room_refusal, write_refusal, commit_refusal, Effect, OnFile}
 use Rattle.cluster_model.specs.ServerLaws.{copy_of}
 use Rattle.cluster_model.specs.GuardLaws.{IsTold}
+use Rattle.cluster_laws.proofs.Lists.{all_at}
 use Rattle.cluster_model.specs.DsCalls.{DsCallValue, Create, SetAttr, Write, Commit, Read, DsReplyValue, Created, Set, Written, Committed, Bytes, NotSync, Failed, shown_by, refusal_reply, unless, write_at, commit_at, shown_after, ds_plan}
 use Rattle.same_server.specs.SameServer.{caller_of_user}
 use Rattle.proper_servers.specs.ProperServers.{IsProperFile, IsProper}
-use Rattle.proper_servers.proofs.ProperFiles.{each_at}
 use Rattle.client_sessions.specs.LayoutEnds.{IsFenceStatus, IsCallTo}
 
 -- ---- replies that tell of no lost layout
@@ -90,7 +90,7 @@ none_at [] i is = omega arith
 none_at (x ∷ xs) zero is = absurd cc
 none_at (x ∷ xs) (suc i) is = let rest : length xs ≤ i = none_at xs i is in omega (arith, rest)
 
-id_is : (id : MirrorId) (server fileid : ℕ) → id.server ≡ server → id.fileid ≡ fileid → record { server = server; fileid = fileid } ≡ id
+id_is : (id : MirrorId) (server fileid : ℕ) → id.server ≡ server → id.fileid ≡ fileid → ◌≡◌ {A = MirrorId} (record { server = server; fileid = fileid }) id
 id_is id server fileid first second = subst (λ (x : ℕ). ◌≡◌ {A = MirrorId} (record { server = x; fileid = fileid }) id) first (subst (λ (y : ℕ). ◌≡◌ {A = MirrorId} (record { server = id.server; fileid = y }) id) second refl)
 
 -- a mirror that belongs to this uid
@@ -107,7 +107,7 @@ module _ (s : ServerState) (journal : List Entry) (told : IsTold s journal) (pro
 
   may : (f : StoredFile) → slice_get s.files (id.fileid - 2) ≡ Some f → may_write f (caller_of_user uid) ≡ true
   may f there =
-      owner_may f uid (each_at IsProperFile s.files (id.fileid - 2) f proper.files there).mode
+      owner_may f uid (all_at IsProperFile s.files (id.fileid - 2) f proper.files there).mode
       (ap (λ (c : Copy). c.owner) (told.each (id.fileid - 2) f there ∙ ap (λ (x : MirrorId). content_of journal x) its_place) ∙ owner)
 
   write_loses : (at : ℕ) (synced : Bool) (bytes : List ℕ) → TellsNoLoss (write_at s (caller_of_user uid) at synced bytes (named s.files id.fileid)).reply
