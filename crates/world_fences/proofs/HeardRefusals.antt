@@ -176,7 +176,7 @@ module _ (w : ClusterState) (t : IsToldByNodes w) (laws : HasFenceLaws t) (n : �
     o2 : OrderStep o1.later coming []
     o2 = order_step o1.later coming [] o1.rest
 
-    front : LifeSteps
+    abbrev front : LifeSteps
     front = o1.earlier ++ o1.step ∷ o2.earlier
 
     at : earlier ≡ front ++ o2.step ∷ o2.later
@@ -192,10 +192,10 @@ module _ (w : ClusterState) (t : IsToldByNodes w) (laws : HasFenceLaws t) (n : �
         seen_step (Client n) l.begun front (o2.later ++ later) coming o2.step (subst (λ (x : LifeSteps). AreWoven client_shown (Client n) l.begun x) whole i.facts.is.woven) o2.is (hears_not (Server server) f.bytes f.now) in
         came_by n (journal_at l front) (Server server) f.bytes s.entry s.shown
 
-    rest : List Entry
+    abbrev rest : List Entry
     rest = entries_in (o2.step ∷ (o2.later ++ later)) ++ i.facts.rest
 
-    replied : Entry
+    abbrev replied : Entry
     replied = entry.Packet posted.number (Server server) (Client n) f.bytes
 
     journal_is : w.journal ≡ posted.before ++ replied ∷ (posted.behind ++ rest)
@@ -206,7 +206,7 @@ module _ (w : ClusterState) (t : IsToldByNodes w) (laws : HasFenceLaws t) (n : �
     a : AnswersArrival posted.before server (Client n) f.bytes
     a = answers_arrival w t posted.before (posted.behind ++ rest) posted.number server n f.bytes journal_is
 
-    since : List Entry
+    abbrev since : List Entry
     since = (outcome_of a.server a.asked).entries
 
     delivered : w.journal ≡ a.before ++ entry.Delivered a.number ∷ (since ++ replied ∷ (posted.behind ++ rest))
@@ -221,7 +221,7 @@ module _ (w : ClusterState) (t : IsToldByNodes w) (laws : HasFenceLaws t) (n : �
         posted_call w t laws.calls asked.before (asked.behind ++ (entry.Delivered a.number ∷ (since ++ replied ∷ (posted.behind ++ rest)))) asked.number n server a.asked
         (joined w.journal a.before asked.behind asked.before (entry.Delivered a.number ∷ (since ++ replied ∷ (posted.behind ++ rest))) (entry.Packet asked.number (Client n) (Server server) a.asked) delivered asked.split)
 
-    came_as : DsMessage
+    abbrev came_as : DsMessage
     came_as = record { xid = call_of_record.xid; machine = call_of_record.name; user = call_of_record.uid; call = call_of_record.call }
 
     number : take 4 a.asked ≡ word f.xid
@@ -240,7 +240,7 @@ module _ (w : ClusterState) (t : IsToldByNodes w) (laws : HasFenceLaws t) (n : �
 
     -- ---- the period of the layout, before that
 
-    upto : LifeSteps
+    abbrev upto : LifeSteps
     upto = p.earlier ++ Seen (Sends p.send) p.packet ∷ []
 
     u : MadeUnder upto uid
@@ -301,7 +301,7 @@ module _ (w : ClusterState) (t : IsToldByNodes w) (laws : HasFenceLaws t) (n : �
       above : 2 ≤ f.mirror.id.fileid
       above = id_at (λ (id : MirrorId). 2 ≤ id.fileid) grant.mirrors f.place f.mirror f.there (placed.1 (ids_of grant.mirrors) live)
 
-      message : DsMessage
+      abbrev message : DsMessage
       message = record { xid = f.xid; machine = f.name; user = uid; call = f.call }
 
       answered : IsAnswerTo a.server message f.says.reply
