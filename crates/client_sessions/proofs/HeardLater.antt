@@ -1,21 +1,19 @@
 -- Replies that were heard, in a longer history.
-use Rattle.std.proofs.Common.{◌≡◌, ℕ, List, [], ◌∷◌, ◌++◌, Ok, refl, sym, ap, subst, ◌∙◌, inl, inr, ◌⊎◌}
+use Rattle.std.proofs.Common.{◌≡◌, ℕ, List, [], ◌∷◌, ◌++◌, refl, sym, ap, subst, ◌∙◌, inl, inr}
 use Rattle.std.specs.List.{AllByRecursion}
 use Rattle.std.proofs.lemmas.List.{append_assoc}
-use Rattle.rpc_record.specs.Replies.{RpcReply, reply_at}
 use Rattle.cluster_model.specs.declared.ids.NodeId.TheVariants.{Mds, Server}
 use Rattle.nfs4_types.specs.declared.ids.SessionId.{SessionId}
 use Rattle.cluster_model.specs.declared.ids.FileId.{FileId}
-use Rattle.cluster_model.specs.DsCalls.{DsCallValue}
 use Rattle.mds_file_calls.specs.declared.open.OpenFile.{OpenFile}
 use Rattle.mds_file_calls.specs.declared.grant.LayoutGrant.{LayoutGrant}
-use Rattle.mds_calls.specs.MdsCalls.{MdsCallValue, OnSlot, ask_of}
+use Rattle.mds_calls.specs.MdsCalls.{MdsCallValue, OnSlot}
 use Rattle.mds_calls.specs.MdsCalls as slot
-use Rattle.mds_calls.specs.MdsReplies.{MdsReplyValue, Granted, reply_of_ask}
+use Rattle.mds_calls.specs.MdsReplies.{MdsReplyValue, Granted}
 use Rattle.client_state.specs.ClientSends.{CallsServer, CallsMds}
-use Rattle.client_laws.specs.ClientHistory.{HistoryItem, Hears, Enters, Sends, Recorded, HasItem}
+use Rattle.client_laws.specs.ClientHistory.{HistoryItem, Hears, Sends, Recorded, HasItem}
 use Rattle.client_laws.specs.ClientRunLaws.{WasGranted}
-use Rattle.client_laws.proofs.Orders.{in_more, in_end, in_either}
+use Rattle.client_laws.proofs.Orders.{in_more}
 use Rattle.client_sessions.specs.HeardReplies.{IsHeard, IsNoCompound}
 use Rattle.client_sessions.specs.ClientSessions.{WasGivenId, IsNew, IsAgain, WasGivenSession, IsNextOnSlot, IsFirst, IsBehind}
 use Rattle.client_sessions.specs.LayoutEnds.{HasLayoutEnded, WasFenced, ByReturn, BySession, ByFence, IsAskSettled}

@@ -1,5 +1,5 @@
 -- What a client asks for, gives back and enters in each of its runs.
-use Rattle.std.proofs.Common.{◌≡◌, ℕ, List, [], ◌∷◌, ◌++◌, refl}
+use Rattle.std.proofs.Common.{ℕ, List, [], ◌∷◌, ◌++◌, refl}
 use Rattle.cluster_model.specs.declared.entry.Entry.{Entry}
 use Rattle.cluster_model.specs.declared.entry.Entry.TheVariants as entry
 use Rattle.cluster_model.specs.declared.entry.Entry.TheVariants.{Sent, Rogue, Told}
@@ -8,7 +8,6 @@ use Rattle.client_state.specs.ClientSends.{CallsServer, CallsMds, RepeatsToServe
 use Rattle.client_laws.specs.ClientHistory.{ClientInput, HistoryItem, Hears, Enters, Sends, client_history, Each}
 use Rattle.client_laws.specs.ClientRunLaws.{InEachRun}
 use Rattle.client_laws.proofs.Orders.{each_weaker}
-use Rattle.client_records.proofs.InputsKeep.{RunIs}
 use Rattle.client_records.proofs.EachRun.{any_inputs, in_each_run}
 use Rattle.client_sessions.specs.ClientSessions.{SaysWho, KeepsSlot, EachRunSaysWho}
 use Rattle.client_sessions.specs.LayoutEnds.{AsksForOne, ReturnsOwn, EntersUnder, EntersGranted, CallsGranted}
@@ -16,7 +15,7 @@ use Rattle.client_sessions.specs.EnteredFiles.{EntersForFile}
 use Rattle.client_sessions.proofs.Slots.{Slots}
 use Rattle.client_sessions.proofs.SlotCases.{slot_cases}
 use Rattle.client_sessions.proofs.LayoutsHeld.{Layouts}
-use Rattle.client_sessions.proofs.LayoutSteps.{HeldEntry, EntersHeld, SaysHeld, Holds}
+use Rattle.client_sessions.proofs.LayoutSteps.{HeldEntry, SaysHeld, Holds}
 use Rattle.client_sessions.proofs.LayoutCases.{layout_cases}
 use Rattle.client_sessions.proofs.UntoldStands.{Untold}
 use Rattle.client_sessions.proofs.ToldOf.{ToldEntry, TellsHeld}

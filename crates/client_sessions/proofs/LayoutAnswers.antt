@@ -1,5 +1,5 @@
 -- An answer of the metadata server, by a client that holds a layout or none.
-use Rattle.std.proofs.Common.{◌≡◌, ℕ, Bool, true, false, List, [], ◌∷◌, ◌++◌, Option, Some, None, refl, sym, ap, subst, ◌∙◌, inl, inr, ◌⊎◌, arith}
+use Rattle.std.proofs.Common.{◌≡◌, ℕ, false, List, [], ◌∷◌, ◌++◌, Option, Some, None, refl, sym, ap, subst, ◌∙◌, inl, inr, ◌⊎◌, arith}
 use Rattle.std.specs.Prelude.{slice_get, option_map}
 use Rattle.std.specs.List.{AllByRecursion}
 use Rattle.std.proofs.lemmas.Option.{none-some, same_Some, slice_get-map}
@@ -8,16 +8,14 @@ use Rattle.nfs4_types.specs.declared.ids.SessionId.{SessionId}
 use Rattle.nfs4_types.specs.declared.stateid.Stateid.{Stateid}
 use Rattle.cluster_model.specs.declared.ids.NodeId.TheVariants.{Mds}
 use Rattle.cluster_model.specs.declared.ids.Mirror.{Mirror}
-use Rattle.mirror_writer.specs.Writers.{WriterMirror, WriterValue, new_writer, new_mirror}
+use Rattle.mirror_writer.specs.Writers.{WriterValue, new_writer, new_mirror}
 use Rattle.mds_file_calls.specs.declared.open.OpenFile.{OpenFile}
 use Rattle.mds_file_calls.specs.declared.grant.LayoutGrant.{LayoutGrant}
-use Rattle.mds_calls.specs.declared.ask.MdsAsk.{MdsAsk}
 use Rattle.mds_calls.specs.declared.ask.MdsAsk.TheVariants as ask
-use Rattle.mds_calls.specs.declared.reply.SlotReport.{SlotReport}
-use Rattle.mds_calls.specs.declared.reply.SlotReport.TheVariants.{Taken, Uncached, Delayed, Unknown}
+use Rattle.mds_calls.specs.declared.reply.SlotReport.TheVariants.{Delayed}
 use Rattle.mds_calls.specs.MdsCalls.{MdsCallValue, ExchangeId, CreateSession, OnSlot, SlotCallValue, ask_on_slot, ask_of}
 use Rattle.mds_calls.specs.MdsCalls as slot
-use Rattle.mds_calls.specs.MdsReplies.{MdsAnswerValue, Granted}
+use Rattle.mds_calls.specs.MdsReplies.{Granted}
 use Rattle.client_state.specs.declared.layout.Layout.{Layout}
 use Rattle.client_state.specs.declared.asked.Asked.{Asked}
 use Rattle.client_state.specs.declared.tie.Tie.{Tie}
@@ -30,14 +28,13 @@ use Rattle.client_laws.proofs.Stands.{WriterStands, MirrorStands, writer_ids, If
 use Rattle.client_laws.proofs.GrantFacts.{granted_kind}
 use Rattle.client_records.proofs.Cases.{IsAnswered, said, heard_mds}
 use Rattle.client_records.proofs.EachRun.{Base}
-use Rattle.client_sessions.specs.HeardReplies.{IsNoCompound}
 use Rattle.client_sessions.specs.LayoutEnds.{HasLayoutEnded, IsAskSettled, HasNotLeft}
 use Rattle.client_sessions.proofs.HeardLater.{all_more, heard_later, settled_later}
 use Rattle.client_sessions.proofs.WriterIds.{new_ids}
 use Rattle.client_sessions.proofs.CallsMade.{IsOnSession, IsBy}
 use Rattle.client_sessions.proofs.SlotStands.{AskedOut, IsSlotFile, IsFileOf, asked_heard}
 use Rattle.client_sessions.proofs.Settling.{out_settles, layout_settles}
-use Rattle.client_sessions.proofs.LayoutsHeld.{any_server, IsHere, LayoutOf, IsHeld, LayoutsOf, Layouts, KeepsLayout, KeepsSome, some_held, sent_before, its_layout, writer_behind}
+use Rattle.client_sessions.proofs.LayoutsHeld.{any_server, IsHere, LayoutOf, IsHeld, LayoutsOf, Layouts, KeepsSome, some_held, sent_before, its_layout, writer_behind}
 
 -- ---- a new layout
 

@@ -1,8 +1,8 @@
 -- How the layout that a client holds came, and what became of all that it asked for.
-use Rattle.std.proofs.Common.{◌≡◌, ℕ, Bool, true, false, List, [], ◌∷◌, ◌++◌, length, Option, Some, None, refl, sym, ap, subst, ◌∙◌, inl, inr, ◌⊎◌}
+use Rattle.std.proofs.Common.{◌≡◌, ℕ, Bool, true, false, List, [], ◌∷◌, ◌++◌, Option, Some, None, refl, sym, ap, subst, ◌∙◌, inl, inr, ◌⊎◌}
 use Rattle.std.specs.List.{AllByRecursion}
 use Rattle.std.proofs.lemmas.List.{append-nil}
-use Rattle.std.proofs.lemmas.Option.{none-some, same_Some}
+use Rattle.std.proofs.lemmas.Option.{same_Some}
 use Rattle.nfs4_types.specs.declared.ids.SessionId.{SessionId}
 use Rattle.nfs4_types.specs.declared.stateid.Stateid.{Stateid}
 use Rattle.cluster_model.specs.declared.ids.FileId.{FileId}
@@ -19,12 +19,11 @@ use Rattle.client_state.specs.declared.stage.LayoutStage.TheVariants.{Writing, E
 use Rattle.client_state.specs.declared.layout.Layout.{Layout}
 use Rattle.client_state.specs.declared.asked.Asked.{Asked}
 use Rattle.client_state.specs.declared.tie.Tie.{Tie}
-use Rattle.client_state.specs.declared.tie.Tie.TheVariants.{NoClient, HasClient, HasSession}
+use Rattle.client_state.specs.declared.tie.Tie.TheVariants.{HasSession}
 use Rattle.client_state.specs.ClientStates.{ClientValue}
 use Rattle.client_state.specs.ClientQueue.{ends_layout, ending}
-use Rattle.client_state.specs.ClientSends.{ClientSend, CallsMds}
+use Rattle.client_state.specs.ClientSends.{CallsMds}
 use Rattle.client_laws.specs.ClientHistory.{ClientInput, Requested, Recorded, TimeoutOf, Ticked, LeftProtocol, Strayed, HistoryItem, Hears, Sends, HasItem}
-use Rattle.client_laws.specs.ClientRunLaws.{WasGranted}
 use Rattle.client_laws.proofs.Orders.{in_either}
 use Rattle.client_laws.proofs.Stands.{IfThere, WriterStands, writer_ids, mirror_ids, IsOut}
 use Rattle.client_laws.proofs.WriterMoves.{writer_later}

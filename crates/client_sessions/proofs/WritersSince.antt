@@ -1,33 +1,29 @@
 -- What an answer of a data server, or a timeout, makes of the layout: its writer since it came, and that it has ended where it is lost.
-use Rattle.std.proofs.Common.{◌≡◌, ℕ, Bool, true, false, List, [], ◌∷◌, ◌++◌, Option, Some, None, Ok, refl, sym, ap, subst, ◌∙◌, inl, inr, ◌⊎◌}
+use Rattle.std.proofs.Common.{◌≡◌, ℕ, false, List, [], ◌∷◌, ◌++◌, Option, Some, None, sym, ap, subst, ◌∙◌, inl, inr, ◌⊎◌}
 use Rattle.std.specs.List.{AllByRecursion}
 use Rattle.std.proofs.lemmas.List.{append-nil}
-use Rattle.rpc_record.specs.Replies.{RpcReply}
 use Rattle.nfs4_types.specs.declared.ids.SessionId.{SessionId}
 use Rattle.ds_calls.specs.GivenReplies.{reply_of_call}
 use Rattle.cluster_model.specs.declared.ids.MirrorId.{MirrorId}
-use Rattle.cluster_model.specs.declared.ids.NodeId.TheVariants.{Server, Client}
-use Rattle.cluster_model.specs.declared.entry.Entry.TheVariants.{TimedOut}
+use Rattle.cluster_model.specs.declared.ids.NodeId.TheVariants.{Server}
 use Rattle.mirror_writer.specs.declared.step.WriterStep.TheVariants as step
 use Rattle.mirror_writer.specs.Writers.{WriterValue, WriterAfter, after_reply, after_timeout}
-use Rattle.mirror_writer.specs.Outstanding.{OutCall}
 use Rattle.mds_file_calls.specs.declared.open.OpenFile.{OpenFile}
 use Rattle.mds_calls.specs.MdsCalls.{MdsCallValue, OnSlot}
 use Rattle.mds_calls.specs.MdsCalls as slot
 use Rattle.mds_calls.specs.MdsReplies.{MdsReplyValue}
 use Rattle.client_state.specs.declared.layout.Layout.{Layout}
-use Rattle.client_state.specs.declared.asked.Asked.{Asked}
 use Rattle.client_state.specs.ClientStates.{ClientValue}
 use Rattle.client_state.specs.ClientSends.{CallsServer, CallsMds}
-use Rattle.client_laws.specs.ClientHistory.{ClientInput, HistoryItem, Hears, Enters, Sends, Recorded, TimeoutOf, HasItem, InOrder}
+use Rattle.client_laws.specs.ClientHistory.{ClientInput, HistoryItem, Hears, Sends, Recorded, HasItem, InOrder}
 use Rattle.client_laws.proofs.Orders.{in_next}
-use Rattle.client_laws.proofs.Stands.{NumbersStand, WriterStands, writer_ids, IfThere, IsOut}
+use Rattle.client_laws.proofs.Stands.{NumbersStand, WriterStands, writer_ids, IsOut}
 use Rattle.client_laws.proofs.WriterMoves.{WriterMoves, also, reply_moves, timeout_moves}
-use Rattle.client_records.proofs.Cases.{IsDsAnswered, heard_server, heard_late, ComesTo, ByReply, ByTimeout}
+use Rattle.client_records.proofs.Cases.{ComesTo, ByReply, ByTimeout}
 use Rattle.client_records.proofs.EachRun.{Base}
 use Rattle.client_records.proofs.Numbers.{found_sent}
 use Rattle.client_sessions.specs.HeardReplies.{IsHeard, IsNoCompound}
-use Rattle.client_sessions.specs.LayoutEnds.{HasLayoutEnded, ByFence, WasFenced, IsAskSettled, HasNotLeft}
+use Rattle.client_sessions.specs.LayoutEnds.{HasLayoutEnded, ByFence, IsAskSettled, HasNotLeft}
 use Rattle.client_sessions.proofs.HeardLater.{all_more, in_behind, settled_later}
 use Rattle.client_sessions.proofs.WriterIds.{IsOutTo, out_to}
 use Rattle.client_sessions.proofs.Fences.{FencedBy, reply_fence, timeout_none}

@@ -21,7 +21,7 @@ use Rattle.world_reads.proofs.OwnEntries.{no_true}
 -- ---- the reply to a record
 
 -- it has the number of the call, and is read as its answer
-pub record IsAnswerTo (s : ServerState) (m : DsMessage) (reply : RpcReply) : Type 0 where
+pub record SaysAnswer (s : ServerState) (m : DsMessage) (reply : RpcReply) : Type 0 where
   pub number : reply.xid ≡ m.xid
   pub answer : reply_of_call m.call reply ≡ (ds_step s (caller_of_user m.user) m.call).reply
 
@@ -32,7 +32,7 @@ same_reply : (x y : RpcReply) → read_well x ≡ read_well y → x ≡ y
 same_reply x y is = cc
 
 pub answer_to : ((s : ServerState) (m : DsMessage) → IsProper s → HasRecord m → DoesTheCall s m) → (s : ServerState) (m : DsMessage) → IsProper s → HasRecord m → (bytes : List ℕ) (reply : RpcReply)
-    → (outcome_of s (record_of m)).reply ≡ Some bytes → reply_at bytes ≡ Ok reply → IsAnswerTo s m reply
+    → (outcome_of s (record_of m)).reply ≡ Some bytes → reply_at bytes ≡ Ok reply → SaysAnswer s m reply
 answer_to same s m proper has bytes reply is reads =
     let d : DoesTheCall s m = same s m proper has in
     let spelled : reply_bytes d.reply ≡ bytes = same_Some (reply_bytes d.reply) bytes (sym d.bytes ∙ is) in

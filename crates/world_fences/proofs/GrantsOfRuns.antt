@@ -1,5 +1,5 @@
 -- Each grant of a run of the cluster's machine is of a uid above 0, and the mirrors that are live then have numbers above the root's.
-use Rattle.std.proofs.Common.{◌≡◌, ◌<◌, ◌≤◌, ℕ, ◌+◌, Bool, true, ltb, ◌&&◌, not, List, [], ◌∷◌, ◌++◌, length, Option, Some, None, refl, sym, ap, subst, ◌∙◌, inl, inr, ◌⊎◌, arith}
+use Rattle.std.proofs.Common.{◌≡◌, ◌<◌, ◌≤◌, ℕ, ◌+◌, ltb, ◌&&◌, List, [], ◌∷◌, ◌++◌, Option, Some, None, refl, sym, ap, subst, ◌∙◌, inl, inr, ◌⊎◌, arith}
 use Rattle.std.specs.Prelude.{slice_get, ◌==◌}
 use Rattle.std.specs.List.{AllByRecursion}
 use Rattle.std.proofs.lemmas.Bool.{cond_both}
@@ -20,8 +20,8 @@ use Rattle.cluster_model.specs.Server.{ServerState, Caller, restart_of}
 use Rattle.cluster_model.specs.DsCalls.{DsCallValue, DsReplyValue, ds_plan, ds_step}
 use Rattle.cluster_model.specs.GuardLaws.{IsInOrder, CallLaws, RestartLaws}
 use Rattle.file_rule.specs.MdsFiles.{MdsFile, FileStep, a_uid}
-use Rattle.file_rule.specs.FilePhases.{FileInput, Answers, TimesOut, Sees, CallOut, call_out, is_outstanding, new_mds_file, are_spent, phase}
-use Rattle.cluster_laws.specs.Machine.{PacketValue, Call, Reply, Machine, MachineStep, Move, Deliver, Creates, Happens, CallsOut, SendsAgain, GivesUpWaiting, Hears, Uses, Learns, Takes, Strays, Tells, Restarts, no_move, numbered_at, with_file, held_by, file_id, fresh_of, can_draw, file_takes, caller_by, arrives_at, file_of, answers_at, comes_to, delivered, comes_by_itself, are_servers, may_create, created, is_new_number, goes_out, call_out_from, sent_again, may_use, may_number, puts_out, used, heard_at, heard, ctime_in, learns_tick, was_write_to, learns_from, learnt, noted, started_again, restarts_at, moved, journal_of}
+use Rattle.file_rule.specs.FilePhases.{FileInput, Answers, TimesOut, Sees, CallOut, call_out, is_outstanding, new_mds_file, phase}
+use Rattle.cluster_laws.specs.Machine.{PacketValue, Call, Reply, Machine, MachineStep, Move, Deliver, Creates, Happens, CallsOut, SendsAgain, GivesUpWaiting, Hears, Uses, Learns, Takes, Strays, Tells, Restarts, no_move, numbered_at, with_file, held_by, file_id, fresh_of, can_draw, file_takes, caller_by, arrives_at, file_of, answers_at, comes_to, delivered, comes_by_itself, may_create, created, goes_out, call_out_from, sent_again, may_use, may_number, puts_out, used, heard_at, heard, ctime_in, learns_tick, was_write_to, learnt, noted, started_again, restarts_at, moved, journal_of}
 use Rattle.cluster_laws.specs.FenceLaw.{live_in}
 use Rattle.cluster_laws.proofs.Invariant.{Drawn, IsMirrorOf, IsFile, live_of, net_of, Holds}
 use Rattle.cluster_laws.proofs.Moves.{next_number, move_ok}
@@ -32,10 +32,11 @@ use Rattle.sound_runs.proofs.Writers.{IsSilent}
 use Rattle.held_mirrors.proofs.GrantSteps.{GrantsFile, grants_or}
 use Rattle.held_mirrors.proofs.Holdings.{effect_grantless, taken_grantless, all_silent}
 
+-- the root has the number 1
 abbrev pub AreAboveRoot : List MirrorId → Type 0
 AreAboveRoot live = AllByRecursion (λ (id : MirrorId). 2 ≤ id.fileid) live
 
--- of an entry that is a grant
+-- a grant is of a uid above 0, and the live mirrors have numbers above the root's
 abbrev pub IsPlacedGrant : List Entry → Entry → Type 0
 IsPlacedGrant before e =
     (file : FileId) (cred : Cred) (holder : NodeId) → e ≡ entry.Granted file cred holder → (0 < cred.0) × ((live : List MirrorId) → live_in before file ≡ Some live → AreAboveRoot live)

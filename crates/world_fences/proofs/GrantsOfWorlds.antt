@@ -1,4 +1,4 @@
--- So is each grant of a world's journal, which tells what a run of the machine tells.
+-- Each grant of a world's journal is of a uid above 0, and the mirrors that are live then have numbers above the root's.
 use Rattle.std.proofs.Common.{◌≡◌, ◌<◌, ℕ, List, [], ◌∷◌, ◌++◌, Some, refl, sym, ap, subst, ◌∙◌}
 use Rattle.std.proofs.lemmas.List.Elements.{filter-append}
 use Rattle.cluster_model.specs.declared.piece.Piece.{Piece}
@@ -26,14 +26,15 @@ AreGrantsPlaced journal =
     (before behind : List Entry) (file : FileId) (cred : Cred) (holder : NodeId) → journal ≡ before ++ entry.Granted file cred holder ∷ behind
     → (0 < cred.0) × ((live : List MirrorId) → live_in before file ≡ Some live → AreAboveRoot live)
 
-pub record RunFacts : Type 0 where
+-- the laws of data servers, and of what a journal tells
+pub record LawsOfRuns : Type 0 where
   pub calls : (s : ServerState) (caller : Caller) (call : DsCallValue) → IsInOrder s → CallLaws s caller call (ds_step s caller call).server (ds_step s caller call).reply (ds_step s caller call).entries
   pub restarts : (s : ServerState) (pieces : List Piece) (new : ServerState) → restart_of s pieces ≡ Some new → IsInOrder s → RestartLaws s pieces new
   pub new : (number boot : ℕ) → IsInOrder (new_server number boot) × IsTold (new_server number boot) []
   pub same : (journal : List Entry) → SaysTheSame journal
   pub runs : (boots : List ℕ) (moves : List Move) → MakesTelling boots moves
 
-pub grants_placed : RunFacts → (boots : List ℕ) (w : ClusterState) → IsRunOf boots w → AreGrantsPlaced w.journal
+pub grants_placed : LawsOfRuns → (boots : List ℕ) (w : ClusterState) → IsRunOf boots w → AreGrantsPlaced w.journal
 grants_placed facts boots w run before behind file cred holder is = (here.0, λ live now. here.1 live ((facts.same before).live file ∙ now))
   where
     grant : Entry

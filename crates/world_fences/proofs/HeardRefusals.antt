@@ -5,7 +5,6 @@ use Rattle.std.specs.List.{AllByRecursion}
 use Rattle.std.proofs.lemmas.List.Concat.{flat_map-append}
 use Rattle.std.proofs.lemmas.Option.{none-some, same_Some}
 use Rattle.ff_xdr.specs.Form.{word}
-use Rattle.rpc_record.specs.Replies.{RpcReply}
 use Rattle.cluster_model.specs.declared.ids.NodeId.{NodeId}
 use Rattle.cluster_model.specs.declared.ids.NodeId.TheVariants.{Server, Client}
 use Rattle.cluster_model.specs.declared.ids.FileId.{FileId}
@@ -22,7 +21,7 @@ use Rattle.cluster_laws.specs.Periods.{ArePeriodsFenced}
 use Rattle.cluster_laws.specs.Agreement.{cause_in, causes_of}
 use Rattle.cluster_world.specs.ClusterWorlds.{ClusterState}
 use Rattle.ds_files.specs.Receive.{outcome_of}
-use Rattle.ds_calls.specs.DsCallLaws.{DsMessage, HasRecord, record_of}
+use Rattle.ds_calls.specs.DsCallLaws.{DsMessage, HasRecord}
 use Rattle.mds_file_calls.specs.declared.grant.LayoutGrant.{LayoutGrant}
 use Rattle.same_server.specs.SameServer.{DoesTheCall, caller_of_user}
 use Rattle.proper_servers.specs.ProperServers.{IsProper}
@@ -38,14 +37,14 @@ use Rattle.holder_parts.specs.CoveredRecords.{WasPosted}
 use Rattle.holder_parts.specs.HeldOwners.{BelongTo}
 use Rattle.world_layouts.specs.WorldLayouts.{journal_at, GrantsAreTold, WasBegunFor, HasPeriodEnded, HoldersOwnAtDeliveries}
 use Rattle.world_holders.proofs.LowerLaws.{HasCallLaws}
-use Rattle.world_holders.proofs.LifePlaces.{LifeSteps, has_middle, has_front, each_at, OrderStep, order_step, SeenStep, seen_step, journal_split, journal_on, LifeIs, life_of, life_journal}
+use Rattle.world_holders.proofs.LifePlaces.{LifeSteps, has_front, each_at, OrderStep, order_step, SeenStep, seen_step, journal_split, journal_on, LifeIs, life_of, life_journal}
 use Rattle.world_holders.proofs.PostedCalls.{calling, PostedCall, posted_call, send_fits}
 use Rattle.world_holders.proofs.AnsweredCalls.{posted_by, record_number, IsItsPacket, its_packet}
 use Rattle.world_holders.proofs.JournalGrants.{grant_to, IsOneGrant, one_grant}
 use Rattle.world_fences.proofs.GrantsOfRuns.{AreAboveRoot}
 use Rattle.world_fences.proofs.GrantsOfWorlds.{AreGrantsPlaced}
 use Rattle.world_fences.proofs.RefusedCalls.{not_refused}
-use Rattle.world_fences.proofs.AnsweredRecords.{IsAnswerTo, answer_to, answers_arrival}
+use Rattle.world_fences.proofs.AnsweredRecords.{SaysAnswer, answer_to, answers_arrival}
 
 -- ---- a part of a journal in which no period ended
 
@@ -226,7 +225,7 @@ module _ (w : ClusterState) (t : IsToldByNodes w) (laws : HasFenceLaws t) (n : �
 
     number : take 4 a.asked ≡ word f.xid
     number =
-        let r : IsAnswerTo a.server came_as f.says.reply =
+        let r : SaysAnswer a.server came_as f.says.reply =
         answer_to laws.same a.server came_as a.proper call_of_record.fits f.bytes f.says.reply (ap (λ (b : List ℕ). (outcome_of a.server b).reply) (sym call_of_record.is) ∙ a.reply) f.says.reply_is in
         ap (λ (b : List ℕ). take 4 b) call_of_record.is ∙ (record_number came_as ∙ ap word (sym r.number ∙ f.says.number))
 
@@ -304,7 +303,7 @@ module _ (w : ClusterState) (t : IsToldByNodes w) (laws : HasFenceLaws t) (n : �
       abbrev message : DsMessage
       message = record { xid = f.xid; machine = f.name; user = uid; call = f.call }
 
-      answered : IsAnswerTo a.server message f.says.reply
+      answered : SaysAnswer a.server message f.says.reply
       answered =
           answer_to laws.same a.server message a.proper (send_fits w t laws.calls n l i (CallsServer server f.xid f.name uid f.call) has_called).0 f.bytes f.says.reply
           (ap (λ (x : List ℕ). (outcome_of a.server x).reply) (sym p.is) ∙ a.reply) f.says.reply_is

@@ -1,7 +1,6 @@
 -- A data server does not refuse a WRITE or a COMMIT of a file's owner as one whose layout is no more (RFC 1813, sections 2.6, 3.3.7 and 3.3.21).
-use Rattle.std.proofs.Common.{◌≡◌, ◌≢◌, ◌<◌, ◌≤◌, ℕ, zero, suc, ◌+◌, ◌-◌, Bool, true, false, eqb, ltb, cond, List, [], ◌∷◌, length, Option, Some, None, refl, sym, ap, subst, ◌∙◌, inl, inr, ◌⊎◌, arith}
+use Rattle.std.proofs.Common.{◌≡◌, ◌≢◌, ◌<◌, ◌≤◌, ℕ, zero, suc, ◌+◌, ◌-◌, Bool, true, false, eqb, ltb, cond, List, [], ◌∷◌, length, Option, Some, None, refl, sym, ap, subst, ◌∙◌, inl, inr, arith}
 use Rattle.std.specs.Prelude.{slice_get, slice_set, ◌==◌, ◌&&◌, ◌||◌, not, nat_lt}
-use Rattle.std.specs.List.{AllByRecursion}
 use Rattle.std.proofs.lemmas.Bool.{cond_both, ne_eqb, eq-eqb, le-ltb}
 use Rattle.cluster_model.specs.declared.limits.TheConstants.{FILE_MODE}
 use Rattle.cluster_model.specs.declared.ids.MirrorId.{MirrorId}
@@ -10,11 +9,10 @@ use Rattle.cluster_model.specs.declared.entry.Entry.{Entry}
 use Rattle.cluster_model.specs.File.{StoredFile, Writes, Commits, taken}
 use Rattle.cluster_model.specs.Journal.{Copy, no_copy, content_of}
 use Rattle.cluster_model.specs.Ticks.{next_tick}
-use Rattle.cluster_model.specs.Server.{ServerState, Nothing, Root, named, file_at, mirror_of, Caller, may_write, allows, is_member, Refusal, Acces, Inval, NotSync as OutOfSync, Fbig, NoSpc, Jukebox, max_file, max_total, max_ticks, total_size, tick_refusal, room_refusal, write_refusal, commit_refusal, Effect, OnFile}
-use Rattle.cluster_model.specs.ServerLaws.{copy_of}
+use Rattle.cluster_model.specs.Server.{ServerState, Nothing, Root, named, file_at, mirror_of, Caller, may_write, allows, Refusal, Acces, Inval, NotSync as OutOfSync, Fbig, NoSpc, Jukebox, max_file, max_total, max_ticks, total_size, tick_refusal, room_refusal, write_refusal, commit_refusal, Effect, OnFile}
 use Rattle.cluster_model.specs.GuardLaws.{IsTold}
 use Rattle.cluster_laws.proofs.Lists.{all_at}
-use Rattle.cluster_model.specs.DsCalls.{DsCallValue, Create, SetAttr, Write, Commit, Read, DsReplyValue, Created, Set, Written, Committed, Bytes, NotSync, Failed, shown_by, refusal_reply, unless, write_at, commit_at, shown_after, ds_plan}
+use Rattle.cluster_model.specs.DsCalls.{DsCallValue, Create, SetAttr, Write, Commit, Read, DsReplyValue, Written, Committed, Failed, shown_by, refusal_reply, unless, write_at, commit_at, shown_after, ds_plan}
 use Rattle.same_server.specs.SameServer.{caller_of_user}
 use Rattle.proper_servers.specs.ProperServers.{IsProperFile, IsProper}
 use Rattle.client_sessions.specs.LayoutEnds.{IsFenceStatus, IsCallTo}
@@ -30,11 +28,11 @@ other_status status acces stale (inl is) = acces is
 other_status status acces stale (inr is) = stale is
 
 -- the refusals but the one of access
-abbrev IsOther : Refusal → Type 0
-IsOther Acces = ⊥
-IsOther refusal = Unit {0}
+abbrev IsNotAcces : Refusal → Type 0
+IsNotAcces Acces = ⊥
+IsNotAcces refusal = Unit {0}
 
-other_reply : (r : Refusal) (shown : Shown) → IsOther r → TellsNoLoss (refusal_reply r shown)
+other_reply : (r : Refusal) (shown : Shown) → IsNotAcces r → TellsNoLoss (refusal_reply r shown)
 other_reply OutOfSync shown other = tt
 other_reply Acces shown other = absurd other
 other_reply Inval shown other = other_status 22 (λ e. absurd (omega (arith, e))) (λ e. absurd (omega (arith, e)))
@@ -44,7 +42,7 @@ other_reply Jukebox shown other = other_status 10008 (λ e. absurd (omega (arith
 
 abbrev AreOther : Option Refusal → Type 0
 AreOther None = Unit {0}
-AreOther (Some r) = IsOther r
+AreOther (Some r) = IsNotAcces r
 
 unless_loses : (f : StoredFile) (r : Option Refusal) (reply : DsReplyValue) (does : Effect) → AreOther r → TellsNoLoss reply → TellsNoLoss (unless f r reply does).reply
 unless_loses f None reply does other tells = tells
