@@ -1,40 +1,18 @@
 -- By which answers of a data server a layout is lost.
-use Rattle.std.proofs.Common.{◌≡◌, ℕ, ◌+◌, Bool, true, false, List, [], ◌∷◌, ◌++◌, Option, Some, None, Ok, refl, sym, ap, subst, ◌∙◌, inl, inr, ◌⊎◌}
+use Rattle.std.proofs.Common.{◌≡◌, ℕ, ◌+◌, Bool, true, false, Option, Some, None, refl, ap, subst, inl, inr, ◌⊎◌}
 use Rattle.std.specs.Prelude.{slice_get, ◌==◌, ◌||◌, if◌then◌else◌}
 use Rattle.std.proofs.lemmas.Bool.{eqb-true}
-use Rattle.std.proofs.lemmas.List.{append-nil}
-use Rattle.ds_calls.specs.GivenReplies.{reply_of_call}
 use Rattle.cluster_model.specs.declared.ids.MirrorId.{MirrorId}
-use Rattle.cluster_model.specs.declared.ids.NodeId.TheVariants.{Server, Client}
 use Rattle.cluster_model.specs.declared.ds_call.Shown.{Shown}
-use Rattle.cluster_model.specs.declared.entry.Entry.TheVariants.{TimedOut}
-use Rattle.cluster_model.specs.DsCalls.{DsCallValue, DsReplyValue, Created, Set, Written, Committed, Bytes, NotSync, Failed}
+use Rattle.cluster_model.specs.DsCalls.{DsReplyValue, Created, Set, Written, Committed, Bytes, NotSync, Failed}
 use Rattle.mirror_writer.specs.declared.call.WriterCall.{WriterCall}
 use Rattle.mirror_writer.specs.declared.call.WriterCall.TheVariants.{NoCall, OutWrite, OutCommit}
 use Rattle.mirror_writer.specs.declared.step.WriterStep.{WriterStep}
 use Rattle.mirror_writer.specs.declared.step.WriterStep.TheVariants as step
 use Rattle.mirror_writer.specs.Writers.{WriterMirror, WriterValue, WriterAfter, with_writer_mirror, with_writer_call, with_commit, fails, is_fenced_by, refused_by, write_answered, after_commit, open_committed, commit_answered, call_answered, mirror_answered, answered_at, mirror_of_call, after_reply, timed_out_as, call_timed_out, mirror_timed_out, timed_out_at, after_timeout}
 use Rattle.cluster_model.specs.declared.phase.LeftCause.TheVariants.{Error, Timeouts}
-use Rattle.mds_file_calls.specs.declared.open.OpenFile.{OpenFile}
-use Rattle.mds_calls.specs.MdsCalls.{MdsCallValue, OnSlot}
 use Rattle.mds_calls.specs.MdsCalls as slot
-use Rattle.mds_calls.specs.MdsReplies.{MdsReplyValue}
-use Rattle.client_state.specs.declared.layout.Layout.{Layout}
-use Rattle.client_state.specs.declared.asked.Asked.{Asked}
-use Rattle.client_state.specs.declared.tie.Tie.{Tie}
-use Rattle.client_state.specs.ClientStates.{ClientValue}
-use Rattle.client_state.specs.ClientSends.{CallsServer}
-use Rattle.client_laws.specs.ClientHistory.{ClientInput, HistoryItem, Hears, Enters, Sends, Recorded, TimeoutOf, HasItem}
-use Rattle.client_laws.proofs.Orders.{in_next}
-use Rattle.client_laws.proofs.Stands.{NumbersStand, WriterStands, IfThere}
-use Rattle.client_laws.proofs.WriterMoves.{WriterMoves, reply_moves, timeout_moves}
-use Rattle.client_records.proofs.Cases.{IsDsAnswered, heard_server, heard_late, ComesTo, ByReply, ByTimeout}
-use Rattle.client_records.proofs.EachRun.{Base}
-use Rattle.client_records.proofs.Numbers.{found_sent}
-use Rattle.client_sessions.specs.HeardReplies.{IsHeard}
-use Rattle.client_sessions.specs.LayoutEnds.{IsFenceStatus, HasLayoutEnded, ByFence}
-use Rattle.client_sessions.proofs.HeardLater.{in_behind}
-use Rattle.client_sessions.proofs.LayoutsHeld.{any_server, LayoutOf, LayoutsOf, Layouts, its_layout}
+use Rattle.client_sessions.specs.LayoutEnds.{IsFenceStatus}
 
 -- ---- by which answer a layout is lost
 

@@ -1,24 +1,22 @@
 -- Replies that were heard, in a longer history.
-use Rattle.std.proofs.Common.{◌≡◌, ℕ, List, [], ◌∷◌, ◌++◌, Ok, refl, sym, ap, subst, ◌∙◌, inl, inr, ◌⊎◌}
+use Rattle.std.proofs.Common.{◌≡◌, ℕ, List, [], ◌∷◌, ◌++◌, refl, sym, ap, subst, ◌∙◌, inl, inr}
 use Rattle.std.specs.List.{AllByRecursion}
 use Rattle.std.proofs.lemmas.List.{append_assoc}
-use Rattle.rpc_record.specs.Replies.{RpcReply, reply_at}
 use Rattle.cluster_model.specs.declared.ids.NodeId.TheVariants.{Mds, Server}
 use Rattle.nfs4_types.specs.declared.ids.SessionId.{SessionId}
 use Rattle.cluster_model.specs.declared.ids.FileId.{FileId}
-use Rattle.cluster_model.specs.DsCalls.{DsCallValue}
 use Rattle.mds_file_calls.specs.declared.open.OpenFile.{OpenFile}
 use Rattle.mds_file_calls.specs.declared.grant.LayoutGrant.{LayoutGrant}
-use Rattle.mds_calls.specs.MdsCalls.{MdsCallValue, OnSlot, ask_of}
+use Rattle.mds_calls.specs.MdsCalls.{MdsCallValue, OnSlot}
 use Rattle.mds_calls.specs.MdsCalls as slot
-use Rattle.mds_calls.specs.MdsReplies.{MdsReplyValue, Granted, reply_of_ask}
+use Rattle.mds_calls.specs.MdsReplies.{MdsReplyValue, Granted}
 use Rattle.client_state.specs.ClientSends.{CallsServer, CallsMds}
-use Rattle.client_laws.specs.ClientHistory.{HistoryItem, Hears, Enters, Sends, Recorded, HasItem}
+use Rattle.client_laws.specs.ClientHistory.{HistoryItem, Hears, Sends, Recorded, HasItem}
 use Rattle.client_laws.specs.ClientRunLaws.{WasGranted}
-use Rattle.client_laws.proofs.Orders.{in_more, in_end, in_either}
+use Rattle.client_laws.proofs.Orders.{in_more}
 use Rattle.client_sessions.specs.HeardReplies.{IsHeard, IsNoCompound}
 use Rattle.client_sessions.specs.ClientSessions.{WasGivenId, IsNew, IsAgain, WasGivenSession, IsNextOnSlot, IsFirst, IsBehind}
-use Rattle.client_sessions.specs.LayoutEnds.{HasLayoutEnded, ByReturn, BySession, ByFence, IsAskSettled}
+use Rattle.client_sessions.specs.LayoutEnds.{HasLayoutEnded, WasFenced, ByReturn, BySession, ByFence, IsAskSettled}
 
 pub all_more : (P : HistoryItem → Type 0) (xs ys : List HistoryItem) → AllByRecursion P xs → AllByRecursion P ys → AllByRecursion P (xs ++ ys)
 all_more P [] ys first second = second
@@ -87,10 +85,28 @@ slot_later past more session sequence none (IsBehind xid name last call says beh
 
 -- ---- a layout
 
+abbrev pub fenced_later : (behind more : List HistoryItem) (grant : LayoutGrant) → WasFenced behind grant → WasFenced (behind ++ more) grant
+fenced_later behind more grant f = record {
+  place = f.place;
+  mirror = f.mirror;
+  there = f.there;
+  xid = f.xid;
+  name = f.name;
+  call = f.call;
+  to_mirror = f.to_mirror;
+  bytes = f.bytes;
+  now = f.now;
+  status = f.status;
+  shown = f.shown;
+  says = f.says;
+  fence = f.fence;
+  order = in_more (Sends (CallsServer f.mirror.id.server f.xid f.name grant.uid.0 f.call) ∷ Hears (Recorded (Server f.mirror.id.server) f.bytes f.now) ∷ []) behind more f.order;
+}
+
 pub ended_later : (behind more : List HistoryItem) (session : SessionId) (file : FileId) (grant : LayoutGrant) → HasLayoutEnded behind session file grant → HasLayoutEnded (behind ++ more) session file grant
 ended_later behind more session file grant (ByReturn xid name sequence failed says rest heard is) = ByReturn xid name sequence failed says (rest ++ more) (heard_later behind more xid name _ says rest heard) is
 ended_later behind more session file grant (BySession xid name sequence call says rest heard is) = BySession xid name sequence call says (rest ++ more) (heard_later behind more xid name _ says rest heard) is
-ended_later behind more session file grant (ByFence server xid name call bytes now status shown says fence order) = ByFence server xid name call bytes now status shown says fence (in_more (Sends (CallsServer server xid name grant.uid.0 call) ∷ Hears (Recorded (Server server) bytes now) ∷ []) behind more order)
+ended_later behind more session file grant (ByFence f) = ByFence (fenced_later behind more grant f)
 
 pub settled_later : (past more : List HistoryItem) (xid : ℕ) (name : List ℕ) (session : SessionId) (sequence : ℕ) (file : OpenFile) → IsAskSettled past xid name session sequence file → IsAskSettled (past ++ more) xid name session sequence file
 settled_later past more xid name session sequence file s = record {

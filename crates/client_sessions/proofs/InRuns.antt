@@ -1,21 +1,21 @@
 -- What a client asks for, gives back and enters in each of its runs.
-use Rattle.std.proofs.Common.{◌≡◌, ℕ, List, [], ◌∷◌, ◌++◌, refl}
+use Rattle.std.proofs.Common.{ℕ, List, [], ◌∷◌, ◌++◌, refl}
 use Rattle.cluster_model.specs.declared.entry.Entry.{Entry}
 use Rattle.cluster_model.specs.declared.entry.Entry.TheVariants as entry
 use Rattle.cluster_model.specs.declared.entry.Entry.TheVariants.{Sent, Rogue, Told}
 use Rattle.client_state.specs.ClientStates.{fresh_client}
+use Rattle.client_state.specs.ClientSends.{CallsServer, CallsMds, RepeatsToServer, RepeatsToMds, RepliesToMds}
 use Rattle.client_laws.specs.ClientHistory.{ClientInput, HistoryItem, Hears, Enters, Sends, client_history, Each}
 use Rattle.client_laws.specs.ClientRunLaws.{InEachRun}
 use Rattle.client_laws.proofs.Orders.{each_weaker}
-use Rattle.client_records.proofs.InputsKeep.{RunIs}
 use Rattle.client_records.proofs.EachRun.{any_inputs, in_each_run}
 use Rattle.client_sessions.specs.ClientSessions.{SaysWho, KeepsSlot, EachRunSaysWho}
-use Rattle.client_sessions.specs.LayoutEnds.{AsksForOne, ReturnsOwn, EntersUnder, EntersGranted}
+use Rattle.client_sessions.specs.LayoutEnds.{AsksForOne, ReturnsOwn, EntersUnder, EntersGranted, CallsGranted}
 use Rattle.client_sessions.specs.EnteredFiles.{EntersForFile}
 use Rattle.client_sessions.proofs.Slots.{Slots}
 use Rattle.client_sessions.proofs.SlotCases.{slot_cases}
 use Rattle.client_sessions.proofs.LayoutsHeld.{Layouts}
-use Rattle.client_sessions.proofs.LayoutSteps.{HeldEntry, EntersHeld, SaysHeld, Holds}
+use Rattle.client_sessions.proofs.LayoutSteps.{HeldEntry, SaysHeld, Holds}
 use Rattle.client_sessions.proofs.LayoutCases.{layout_cases}
 use Rattle.client_sessions.proofs.UntoldStands.{Untold}
 use Rattle.client_sessions.proofs.ToldOf.{ToldEntry, TellsHeld}
@@ -105,3 +105,17 @@ enters_granted number verifier first_xid inputs =
 
 pub enters_for_file : InEachRun EntersForFile
 enters_for_file number verifier first_xid inputs = each_weaker SaysHeld EntersForFile (λ past item so. so.3) [] (client_history (fresh_client number verifier first_xid) inputs) (held_in number verifier first_xid inputs)
+
+-- ---- whom it calls
+
+item_called : (past : List HistoryItem) (item : HistoryItem) → SaysHeld past item → CallsGranted past item
+item_called past (Enters e) so = tt
+item_called past (Hears input) so = tt
+item_called past (Sends (CallsServer server xid name uid call)) so = so.2
+item_called past (Sends (CallsMds xid name call)) so = tt
+item_called past (Sends (RepeatsToServer server xid name uid call)) so = tt
+item_called past (Sends (RepeatsToMds xid message)) so = tt
+item_called past (Sends (RepliesToMds reply)) so = tt
+
+pub calls_granted : InEachRun CallsGranted
+calls_granted number verifier first_xid inputs = each_weaker SaysHeld CallsGranted item_called [] (client_history (fresh_client number verifier first_xid) inputs) (held_in number verifier first_xid inputs)

@@ -1,5 +1,5 @@
 -- An answer of the metadata server, by a client that holds a layout or none.
-use Rattle.std.proofs.Common.{◌≡◌, ℕ, Bool, true, false, List, [], ◌∷◌, ◌++◌, Option, Some, None, refl, sym, ap, subst, ◌∙◌, inl, inr, ◌⊎◌, arith}
+use Rattle.std.proofs.Common.{◌≡◌, ℕ, false, List, [], ◌∷◌, ◌++◌, Option, Some, None, refl, sym, ap, subst, ◌∙◌, inl, inr, ◌⊎◌, arith}
 use Rattle.std.specs.Prelude.{slice_get, option_map}
 use Rattle.std.specs.List.{AllByRecursion}
 use Rattle.std.proofs.lemmas.Option.{none-some, same_Some, slice_get-map}
@@ -8,16 +8,14 @@ use Rattle.nfs4_types.specs.declared.ids.SessionId.{SessionId}
 use Rattle.nfs4_types.specs.declared.stateid.Stateid.{Stateid}
 use Rattle.cluster_model.specs.declared.ids.NodeId.TheVariants.{Mds}
 use Rattle.cluster_model.specs.declared.ids.Mirror.{Mirror}
-use Rattle.mirror_writer.specs.Writers.{WriterMirror, WriterValue, new_writer, new_mirror}
+use Rattle.mirror_writer.specs.Writers.{WriterValue, new_writer, new_mirror}
 use Rattle.mds_file_calls.specs.declared.open.OpenFile.{OpenFile}
 use Rattle.mds_file_calls.specs.declared.grant.LayoutGrant.{LayoutGrant}
-use Rattle.mds_calls.specs.declared.ask.MdsAsk.{MdsAsk}
 use Rattle.mds_calls.specs.declared.ask.MdsAsk.TheVariants as ask
-use Rattle.mds_calls.specs.declared.reply.SlotReport.{SlotReport}
-use Rattle.mds_calls.specs.declared.reply.SlotReport.TheVariants.{Taken, Uncached, Delayed, Unknown}
+use Rattle.mds_calls.specs.declared.reply.SlotReport.TheVariants.{Delayed}
 use Rattle.mds_calls.specs.MdsCalls.{MdsCallValue, ExchangeId, CreateSession, OnSlot, SlotCallValue, ask_on_slot, ask_of}
 use Rattle.mds_calls.specs.MdsCalls as slot
-use Rattle.mds_calls.specs.MdsReplies.{MdsAnswerValue, Granted}
+use Rattle.mds_calls.specs.MdsReplies.{Granted}
 use Rattle.client_state.specs.declared.layout.Layout.{Layout}
 use Rattle.client_state.specs.declared.asked.Asked.{Asked}
 use Rattle.client_state.specs.declared.tie.Tie.{Tie}
@@ -26,17 +24,17 @@ use Rattle.client_state.specs.ClientStates.{ClientValue}
 use Rattle.client_state.specs.ClientSends.{CallsMds}
 use Rattle.client_answers.specs.ClientAnswers.{new_layout}
 use Rattle.client_laws.specs.ClientHistory.{ClientInput, HistoryItem, Hears, Sends, Recorded, HasItem}
-use Rattle.client_laws.proofs.Stands.{WriterStands, MirrorStands, IfThere, IsOut}
+use Rattle.client_laws.proofs.Stands.{WriterStands, MirrorStands, writer_ids, IfThere, IsOut}
 use Rattle.client_laws.proofs.GrantFacts.{granted_kind}
 use Rattle.client_records.proofs.Cases.{IsAnswered, said, heard_mds}
 use Rattle.client_records.proofs.EachRun.{Base}
-use Rattle.client_sessions.specs.HeardReplies.{IsNoCompound}
 use Rattle.client_sessions.specs.LayoutEnds.{HasLayoutEnded, IsAskSettled, HasNotLeft}
 use Rattle.client_sessions.proofs.HeardLater.{all_more, heard_later, settled_later}
+use Rattle.client_sessions.proofs.WriterIds.{new_ids}
 use Rattle.client_sessions.proofs.CallsMade.{IsOnSession, IsBy}
 use Rattle.client_sessions.proofs.SlotStands.{AskedOut, IsSlotFile, IsFileOf, asked_heard}
 use Rattle.client_sessions.proofs.Settling.{out_settles, layout_settles}
-use Rattle.client_sessions.proofs.LayoutsHeld.{any_server, IsHere, LayoutOf, IsHeld, LayoutsOf, Layouts, KeepsLayout, KeepsSome, some_held, sent_before, its_layout, writer_behind}
+use Rattle.client_sessions.proofs.LayoutsHeld.{any_server, IsHere, LayoutOf, IsHeld, LayoutsOf, Layouts, KeepsSome, some_held, sent_before, its_layout, writer_behind}
 
 -- ---- a new layout
 
@@ -63,8 +61,8 @@ fresh_stands name cred mirrors place m there = by_mirror (slice_get mirrors plac
 -- with another tie, and another file, of which as much holds
 module _ (past : List HistoryItem) (held : ℕ) (name : List ℕ) (tie : Tie) (file : Option OpenFile) (asked : Option Asked) (stateid : Stateid) (writer : WriterValue) (o : LayoutOf past held name tie file asked stateid writer) (more : List HistoryItem) where
   pub layout_answered : (tie' : Tie) (file' : Option OpenFile) (stateid' : Stateid) (writer' : WriterValue) → ((session : SessionId) → IsHere tie session → IsHere tie' session) → ((f : OpenFile) → file ≡ Some f → file' ≡ Some f) → stateid' ≡ stateid → writer'.cred ≡ writer.cred
-      → WriterStands (o.behind ++ more) name any_server writer' → LayoutOf (past ++ more) held name tie' file' None stateid' writer'
-  layout_answered tie' file' stateid' writer' here there same cred stands = record {
+      → writer_ids writer' ≡ writer_ids writer → WriterStands (o.behind ++ more) name any_server writer' → LayoutOf (past ++ more) held name tie' file' None stateid' writer'
+  layout_answered tie' file' stateid' writer' here there same cred ids stands = record {
     session = o.session;
     sequence = o.sequence;
     other = o.other;
@@ -77,6 +75,7 @@ module _ (past : List HistoryItem) (held : ℕ) (name : List ℕ) (tie : Tie) (f
     is = o.is;
     stateid_is = same ∙ o.stateid_is;
     uid_is = cred ∙ o.uid_is;
+    ids_are = ids ∙ o.ids_are;
     file_is = there o.other o.file_is;
     on = here o.session o.on;
     stands = stands;
@@ -118,7 +117,7 @@ module _ (h : List HistoryItem) (c : ClientValue) (a : Asked) (bytes : List ℕ)
   held_still tie file (Some l) None at keeps holds = absurd keeps
   held_still tie file (Some l) (Some new) at keeps holds =
       let o : LayoutOf h i.held c.name c.tie c.file c.asked l.stateid l.writer = its_layout h c i l at in
-      layout_answered h i.held c.name c.tie c.file c.asked l.stateid l.writer o (item ∷ []) tie file new.stateid new.writer (holds l at).here (holds l at).there keeps.stateid keeps.cred
+      layout_answered h i.held c.name c.tie c.file c.asked l.stateid l.writer o (item ∷ []) tie file new.stateid new.writer (holds l at).here (holds l at).there keeps.stateid keeps.cred keeps.ids
       (keeps.stands (o.behind ++ item ∷ []) (writer_behind h i.held c.name c.tie c.file c.asked l.stateid l.writer o (item ∷ [])))
 
   -- the layout is held still
@@ -184,6 +183,7 @@ module _ (h : List HistoryItem) (c : ClientValue) (a : Asked) (bytes : List ℕ)
         is = is;
         stateid_is = refl;
         uid_is = refl;
+        ids_are = new_ids g.mirrors;
         file_is = its;
         on = here session (here_so c.tie session sequence by);
         stands = fresh_stands c.name g.uid.0 g.mirrors;

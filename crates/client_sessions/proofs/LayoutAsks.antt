@@ -42,7 +42,7 @@ itself name (Some l) = keeps_itself name l
 -- what goes out changes at most the stage
 pub asked_keeps : (name : List ℕ) (kind : MdsAsk) (layout : Option Layout) → KeepsSome name layout (layout_asked kind layout)
 asked_keeps name ask.LayoutReturn None = tt
-asked_keeps name ask.LayoutReturn (Some l) = record { stateid = refl; cred = refl; stands = λ h s. s }
+asked_keeps name ask.LayoutReturn (Some l) = record { stateid = refl; cred = refl; ids = refl; stands = λ h s. s }
 asked_keeps name ask.ExchangeId layout = itself name layout
 asked_keeps name ask.CreateSession layout = itself name layout
 asked_keeps name ask.ReclaimComplete layout = itself name layout
@@ -154,7 +154,7 @@ module _ (past : List HistoryItem) (c : ClientValue) (kind : MdsAsk) (call : Mds
   held_then (Some l) None at keeps = absurd keeps
   held_then (Some l) (Some new) at keeps =
       let o : LayoutOf past i.held c.name c.tie c.file c.asked l.stateid l.writer = its_layout past c i l at in
-      layout_later past i.held c.name c.tie c.file c.asked l.stateid l.writer o (item ∷ []) (Some its_asked) new.stateid new.writer keeps.stateid keeps.cred
+      layout_later past i.held c.name c.tie c.file c.asked l.stateid l.writer o (item ∷ []) (Some its_asked) new.stateid new.writer keeps.stateid keeps.cred keeps.ids
       (keeps.stands (o.behind ++ item ∷ []) (writer_behind past i.held c.name c.tie c.file c.asked l.stateid l.writer o (item ∷ [])))
       (record {
         out = asked_now o.behind c.name c.tie c.file c.next_xid kind call m.kind_is m.by (file_of c.file c.layout call m.its);

@@ -55,6 +55,7 @@ use Rattle.client_sessions.proofs.Slots as slots
 use Rattle.client_sessions.proofs.Slots.{Slots, made, out_of, kind_of, freed, by_answer, with_layout_of, there_layout}
 use Rattle.client_sessions.proofs.SlotCases.{slot_cases}
 use Rattle.client_sessions.proofs.Settling.{ended_session, ended_return}
+use Rattle.client_sessions.proofs.WriterIds.{taken_ids}
 use Rattle.client_sessions.proofs.WritersSince.{HasWriter, other_layout, came_layout, fenced_layout}
 use Rattle.client_sessions.proofs.LayoutAsks.{asks_one, returns_own, layouts_asked}
 use Rattle.client_sessions.proofs.LayoutAnswers.{KeepsHold, answered, ended, granted}
@@ -65,12 +66,12 @@ use Rattle.client_sessions.proofs.LayoutSteps.{EntersHeld, SaysHeld, Holds, tick
 failed_writer : (name : List ℕ) (l : Layout) (after : WriterAfter) (id : MirrorId) (cause : LeftCause) → HasWriter name l after.writer (ending (with_failed (with_writer l after.writer) id cause))
 failed_writer name l after id cause =
     let keeps : KeepsLayout name (with_failed (with_writer l after.writer) id cause) (ending (with_failed (with_writer l after.writer) id cause)) = ending_keeps name (with_failed (with_writer l after.writer) id cause) in
-    record { stateid = keeps.stateid; cred = keeps.cred; stands = keeps.stands }
+    record { stateid = keeps.stateid; cred = keeps.cred; ids = keeps.ids; stands = keeps.stands }
 
 lost_writer : (name : List ℕ) (l : Layout) (after : WriterAfter) (id : MirrorId) (cause : LeftCause) → HasWriter name l after.writer (record (ending (with_failed (with_writer l after.writer) id cause)) { untold = [] })
 lost_writer name l after id cause =
     let keeps : HasWriter name l after.writer (ending (with_failed (with_writer l after.writer) id cause)) = failed_writer name l after id cause in
-    record { stateid = keeps.stateid; cred = keeps.cred; stands = keeps.stands }
+    record { stateid = keeps.stateid; cred = keeps.cred; ids = keeps.ids; stands = keeps.stands }
 
 abbrev AnyItem : List HistoryItem → HistoryItem → Type 0
 AnyItem past item = Unit {0}
@@ -123,7 +124,7 @@ module _ (number verifier : ℕ) where
   takes_so past c file l at bytes untold there i =
       let o : LayoutOf past i.held c.name c.tie c.file c.asked l.stateid l.writer = its_layout past c i l there in
       other_layout past c l there i (Enters (Sent file.file (record { 0 = l.writer.cred }) at bytes) ∷ []) (tt, tt) (λ stays. (tt, tt)) (record l { writer = with_write l.writer at bytes; untold = untold }) refl refl
-      (writer_later o.behind c.name any_server (with_write l.writer at bytes) (write_taken o.behind c.name any_server l.writer o.stands at bytes) (Enters (Sent file.file (record { 0 = l.writer.cred }) at bytes) ∷ []) any_server (λ server is. is))
+      (taken_ids l.writer at bytes) (writer_later o.behind c.name any_server (with_write l.writer at bytes) (write_taken o.behind c.name any_server l.writer o.stands at bytes) (Enters (Sent file.file (record { 0 = l.writer.cred }) at bytes) ∷ []) any_server (λ server is. is))
 
   -- a call goes out
   calls_so : (past : List HistoryItem) (c : ClientValue) (l : Layout) (s : WriterSends) → c.layout ≡ Some l → next_sent l.writer c.next_xid ≡ Some s → Layouts past c
@@ -131,7 +132,7 @@ module _ (number verifier : ℕ) where
   calls_so past c l s there is i =
       let o : LayoutOf past i.held c.name c.tie c.file c.asked l.stateid l.writer = its_layout past c i l there in
       let moves = send_moves o.behind c.name any_server l.writer o.stands c.next_xid s is in
-      other_layout past c l there i (Sends (CallsServer s.id.server c.next_xid c.name l.writer.cred s.call) ∷ []) (tt, tt) (λ stays. (tt, tt)) (record l { writer = s.writer }) refl moves.cred moves.stands
+      other_layout past c l there i (Sends (CallsServer s.id.server c.next_xid c.name l.writer.cred s.call) ∷ []) (tt, tt) (λ stays. (tt, tt)) (record l { writer = s.writer }) refl moves.cred moves.ids moves.stands
 
   -- ---- answers
 
@@ -202,7 +203,7 @@ module _ (number verifier : ℕ) where
   untold_so : (past : List HistoryItem) (c : ClientValue) (l : Layout) (untold : List ℕ) → c.layout ≡ Some l → Holds number verifier past c → Slots number verifier past (record c { layout = Some (record l { untold = untold }) }) × Layouts past (record c { layout = Some (record l { untold = untold }) })
   untold_so past c l untold at i = (
     with_layout_of number verifier past c i.0 (Some (record l { untold = untold })) (there_layout number verifier past c i.0 l (record l { untold = untold }) at refl),
-    its_some past c l (record l { untold = untold }) at (record { stateid = refl; cred = refl; stands = λ h s. s }) i.1,
+    its_some past c l (record l { untold = untold }) at (record { stateid = refl; cred = refl; ids = refl; stands = λ h s. s }) i.1,
   )
 
   pub layout_cases : Cases Base (λ (input : ClientInput). Unit {0}) (Holds number verifier) SaysHeld
@@ -219,8 +220,8 @@ module _ (number verifier : ℕ) where
       ((k.takes past c file l at bytes rest taking i.0).1, takes_so past c file l at bytes (l.untold ++ length l.writer.taken ∷ []) taking.layout i.1),
     );
     ends = λ past c l at i. (k.ends past c l at i.0, its_some past c l (ending l) at (ending_keeps c.name l) i.1);
-    commits = λ past c l at i. (k.commits past c l at i.0, its_some past c l (with_writer l (commit_wanted l.writer)) at (record { stateid = refl; cred = refl; stands = λ h s. s }) i.1);
-    calls = λ past c l s at some is i. ((tt, tt, tt, tt), ((k.calls past c l s at some is i.0).1, calls_so past c l s at is i.1));
+    commits = λ past c l at i. (k.commits past c l at i.0, its_some past c l (with_writer l (commit_wanted l.writer)) at (record { stateid = refl; cred = refl; ids = refl; stands = λ h s. s }) i.1);
+    calls = λ past c l s at some is i. ((tt, tt, has_grant past c i.1 l at, tt), ((k.calls past c l s at some is i.0).1, calls_so past c l s at is i.1));
     asks = λ past c kind call none some due is i.
         (let m = made number verifier past c i.0 kind call due is in (
           (asks_one past c kind call none m.0 m.1 i.1, returns_own past c kind call none m.0 m.1 i.1, tt, tt),
@@ -265,7 +266,7 @@ module _ (number verifier : ℕ) where
     timed = λ past c xid i. ((tt, tt, tt, tt), ((k.timed past c xid i.0).1, later past c i.1 (Enters (TimedOut (AClient c.number) xid)) tt tt));
     moves = λ past c file l after comes quiet i. (
       k.moves past c file l after (its_slots past c file l after comes) quiet i.0,
-      came_layout (λ (input : ClientInput). Unit {0}) (Holds number verifier) its past c file l after comes i.1 (with_writer l after.writer) (record { stateid = refl; cred = refl; stands = λ h s. s }),
+      came_layout (λ (input : ClientInput). Unit {0}) (Holds number verifier) its past c file l after comes i.1 (with_writer l after.writer) (record { stateid = refl; cred = refl; ids = refl; stands = λ h s. s }),
     );
     covers = λ past c file l after comes quiet i.
         covers_held past file (with_writer l after.writer) (has_writer c l after)
@@ -297,7 +298,7 @@ module _ (number verifier : ℕ) where
         let next : Slots number verifier (past ++ rogue ∷ []) c × Layouts (past ++ rogue ∷ []) c = (slots.later number verifier past c i.0 rogue tt, later past c i.1 rogue tt tt) in (
           (tt, tt, has_grant past c i.1 l straying.layout, has_grant_for past c i.1 file l straying.file_is straying.layout),
           (
-            (tt, tt, tt, tt),
+            (tt, tt, has_grant (past ++ rogue ∷ []) c next.1 l straying.layout, tt),
             (
               slots.later number verifier (past ++ rogue ∷ []) c next.0 (Sends (CallsServer m.id.server c.next_xid c.name l.writer.cred (ds.Write m.id.fileid at false bytes))) tt,
               later (past ++ rogue ∷ []) c next.1 (Sends (CallsServer m.id.server c.next_xid c.name l.writer.cred (ds.Write m.id.fileid at false bytes))) tt tt,

@@ -65,9 +65,10 @@ HeldEntry past (Sent file uid at bytes) = HasGrant past uid.0 × AllByRecursion 
 HeldEntry past (Rogue file uid at bytes) = HasGrant past uid.0
 HeldEntry past entry = Unit {0}
 
--- a write is taken and strays under a layout that was granted, and none is taken once the client left the protocol
+-- a write is taken and strays, and a data server is called, under a layout that was granted, and none is taken once the client left the protocol
 abbrev pub EntersHeld : List HistoryItem → HistoryItem → Type 0
 EntersHeld past (Enters entry) = HeldEntry past entry
+EntersHeld past (Sends (CallsServer server xid name uid call)) = HasGrant past uid
 EntersHeld past item = Unit {0}
 
 abbrev pub SaysHeld : List HistoryItem → HistoryItem → Type 0
@@ -80,7 +81,7 @@ Holds number verifier past c = Slots number verifier past c × Layouts past c
 
 pub ticked_some : (name : List ℕ) (layout : Option Layout) → KeepsSome name layout (layout_at_tick layout)
 ticked_some name None = tt
-ticked_some name (Some l) = record { stateid = refl; cred = refl; stands = λ h s. s }
+ticked_some name (Some l) = record { stateid = refl; cred = refl; ids = refl; stands = λ h s. s }
 
 pub behind_some : (name : List ℕ) (kind : MdsAsk) (old new : Option Layout) → IsLayoutBehind kind old new → KeepsSome name old new
 behind_some name kind old new (inl same) = subst (KeepsSome name old) (sym same) (itself old)
@@ -92,7 +93,7 @@ behind_some name kind old new (inr (back, same)) = subst (KeepsSome name old) (s
   where
     put_off : (layout : Option Layout) → KeepsSome name layout (deferred layout)
     put_off None = tt
-    put_off (Some l) = record { stateid = refl; cred = refl; stands = λ h s. s }
+    put_off (Some l) = record { stateid = refl; cred = refl; ids = refl; stands = λ h s. s }
 
 -- ---- the tie
 
@@ -145,6 +146,7 @@ same_asked past held name tie file a late stateid writer o = record {
   is = o.is;
   stateid_is = o.stateid_is;
   uid_is = o.uid_is;
+  ids_are = o.ids_are;
   file_is = o.file_is;
   on = o.on;
   stands = o.stands;
@@ -196,6 +198,7 @@ called_back past c s slot is i = record { held = i.held; layout_of = of_layout c
       is = o.is;
       stateid_is = o.stateid_is;
       uid_is = o.uid_is;
+      ids_are = o.ids_are;
       file_is = o.file_is;
       on = subst (λ (t : Tie). IsHere t o.session) is o.on;
       stands = o.stands;

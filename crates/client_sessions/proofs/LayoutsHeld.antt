@@ -1,8 +1,8 @@
 -- How the layout that a client holds came, and what became of all that it asked for.
-use Rattle.std.proofs.Common.{◌≡◌, ℕ, Bool, true, false, List, [], ◌∷◌, ◌++◌, length, Option, Some, None, refl, sym, ap, subst, ◌∙◌, inl, inr, ◌⊎◌}
+use Rattle.std.proofs.Common.{◌≡◌, ℕ, Bool, true, false, List, [], ◌∷◌, ◌++◌, Option, Some, None, refl, sym, ap, subst, ◌∙◌, inl, inr, ◌⊎◌}
 use Rattle.std.specs.List.{AllByRecursion}
 use Rattle.std.proofs.lemmas.List.{append-nil}
-use Rattle.std.proofs.lemmas.Option.{none-some, same_Some}
+use Rattle.std.proofs.lemmas.Option.{same_Some}
 use Rattle.nfs4_types.specs.declared.ids.SessionId.{SessionId}
 use Rattle.nfs4_types.specs.declared.stateid.Stateid.{Stateid}
 use Rattle.cluster_model.specs.declared.ids.FileId.{FileId}
@@ -19,14 +19,13 @@ use Rattle.client_state.specs.declared.stage.LayoutStage.TheVariants.{Writing, E
 use Rattle.client_state.specs.declared.layout.Layout.{Layout}
 use Rattle.client_state.specs.declared.asked.Asked.{Asked}
 use Rattle.client_state.specs.declared.tie.Tie.{Tie}
-use Rattle.client_state.specs.declared.tie.Tie.TheVariants.{NoClient, HasClient, HasSession}
+use Rattle.client_state.specs.declared.tie.Tie.TheVariants.{HasSession}
 use Rattle.client_state.specs.ClientStates.{ClientValue}
 use Rattle.client_state.specs.ClientQueue.{ends_layout, ending}
-use Rattle.client_state.specs.ClientSends.{ClientSend, CallsMds}
+use Rattle.client_state.specs.ClientSends.{CallsMds}
 use Rattle.client_laws.specs.ClientHistory.{ClientInput, Requested, Recorded, TimeoutOf, Ticked, LeftProtocol, Strayed, HistoryItem, Hears, Sends, HasItem}
-use Rattle.client_laws.specs.ClientRunLaws.{WasGranted}
 use Rattle.client_laws.proofs.Orders.{in_either}
-use Rattle.client_laws.proofs.Stands.{IfThere, WriterStands, IsOut}
+use Rattle.client_laws.proofs.Stands.{IfThere, WriterStands, writer_ids, mirror_ids, IsOut}
 use Rattle.client_laws.proofs.WriterMoves.{writer_later}
 use Rattle.client_records.proofs.Cases.{IsStaying}
 use Rattle.client_sessions.specs.HeardReplies.{IsHeard, IsNoCompound}
@@ -74,6 +73,7 @@ pub record LayoutOf (past : List HistoryItem) (held : ℕ) (name : List ℕ) (ti
   pub is : says.answer ≡ Granted grant
   pub stateid_is : stateid ≡ grant.stateid
   pub uid_is : writer.cred ≡ grant.uid.0
+  pub ids_are : writer_ids writer ≡ mirror_ids grant.mirrors
   pub file_is : file ≡ Some other
   pub on : IsHere tie session
   pub stands : WriterStands behind name any_server writer
@@ -108,9 +108,9 @@ asked_since behind more name tie file id stateid (Some a) none s = record { out 
 
 module _ (past : List HistoryItem) (held : ℕ) (name : List ℕ) (tie : Tie) (file : Option OpenFile) (asked : Option Asked) (stateid : Stateid) (writer : WriterValue) (o : LayoutOf past held name tie file asked stateid writer) (more : List HistoryItem) where
   -- with another writer, and another compound
-  pub layout_later : (asked' : Option Asked) (stateid' : Stateid) (writer' : WriterValue) → stateid' ≡ stateid → writer'.cred ≡ writer.cred → WriterStands (o.behind ++ more) name any_server writer' → IfThere asked' (λ a. AskedSince (o.behind ++ more) name tie file o.other.file o.grant.stateid a.xid a.ask)
+  pub layout_later : (asked' : Option Asked) (stateid' : Stateid) (writer' : WriterValue) → stateid' ≡ stateid → writer'.cred ≡ writer.cred → writer_ids writer' ≡ writer_ids writer → WriterStands (o.behind ++ more) name any_server writer' → IfThere asked' (λ a. AskedSince (o.behind ++ more) name tie file o.other.file o.grant.stateid a.xid a.ask)
       → LayoutOf (past ++ more) held name tie file asked' stateid' writer'
-  layout_later asked' stateid' writer' same cred stands since = record {
+  layout_later asked' stateid' writer' same cred ids stands since = record {
     session = o.session;
     sequence = o.sequence;
     other = o.other;
@@ -123,6 +123,7 @@ module _ (past : List HistoryItem) (held : ℕ) (name : List ℕ) (tie : Tie) (f
     is = o.is;
     stateid_is = same ∙ o.stateid_is;
     uid_is = cred ∙ o.uid_is;
+    ids_are = ids ∙ o.ids_are;
     file_is = o.file_is;
     on = o.on;
     stands = stands;
@@ -169,19 +170,20 @@ same_held (Some l) new held keeps xid holding = subst (λ (o : Option Layout). I
 pub record KeepsLayout (name : List ℕ) (l new : Layout) : Type 0 where
   pub stateid : new.stateid ≡ l.stateid
   pub cred : new.writer.cred ≡ l.writer.cred
+  pub ids : writer_ids new.writer ≡ writer_ids l.writer
   pub stands : (h : List HistoryItem) → WriterStands h name any_server l.writer → WriterStands h name any_server new.writer
 
 pub keeps_itself : (name : List ℕ) (l : Layout) → KeepsLayout name l l
-keeps_itself name l = record { stateid = refl; cred = refl; stands = λ h s. s }
+keeps_itself name l = record { stateid = refl; cred = refl; ids = refl; stands = λ h s. s }
 
 pub ending_keeps : (name : List ℕ) (l : Layout) → KeepsLayout name l (ending l)
 ending_keeps name l = by_stage l.stage
   where
     by_stage : (stage : LayoutStage) → KeepsLayout name l (ends_layout l stage)
-    by_stage Writing = record { stateid = refl; cred = refl; stands = λ h s. s }
-    by_stage Ending = record { stateid = refl; cred = refl; stands = λ h s. s }
-    by_stage Deferred = record { stateid = refl; cred = refl; stands = λ h s. s }
-    by_stage Returning = record { stateid = refl; cred = refl; stands = λ h s. s }
+    by_stage Writing = record { stateid = refl; cred = refl; ids = refl; stands = λ h s. s }
+    by_stage Ending = record { stateid = refl; cred = refl; ids = refl; stands = λ h s. s }
+    by_stage Deferred = record { stateid = refl; cred = refl; ids = refl; stands = λ h s. s }
+    by_stage Returning = record { stateid = refl; cred = refl; ids = refl; stands = λ h s. s }
 
 -- of what there is
 abbrev pub KeepsSome : List ℕ → Option Layout → Option Layout → Type 0
@@ -201,7 +203,7 @@ some_later past more held name tie file asked None None none keeps o = tt
 some_later past more held name tie file asked None (Some new) none keeps o = absurd keeps
 some_later past more held name tie file asked (Some l) None none keeps o = absurd keeps
 some_later past more held name tie file asked (Some l) (Some new) none keeps o =
-    layout_later past held name tie file asked l.stateid l.writer o more asked new.stateid new.writer keeps.stateid keeps.cred
+    layout_later past held name tie file asked l.stateid l.writer o more asked new.stateid new.writer keeps.stateid keeps.cred keeps.ids
     (keeps.stands (o.behind ++ more) (writer_behind past held name tie file asked l.stateid l.writer o more)) (since_behind past held name tie file asked l.stateid l.writer o more none)
 
 module _ (past : List HistoryItem) (c : ClientValue) (i : Layouts past c) where

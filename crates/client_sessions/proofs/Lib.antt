@@ -4,6 +4,7 @@ pub mod CallsMade
 pub mod SlotStands
 pub mod Slots
 pub mod SlotCases
+pub mod WriterIds
 pub mod LayoutsHeld
 pub mod Settling
 pub mod Fences

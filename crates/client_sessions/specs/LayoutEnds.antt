@@ -154,6 +154,11 @@ abbrev pub EntersGranted : List HistoryItem → HistoryItem → Type 0
 EntersGranted past (Enters entry) = EntersUnder past entry
 EntersGranted past item = Unit {0}
 
+-- a call to a data server goes out under the uid of a layout that was granted
+abbrev pub CallsGranted : List HistoryItem → HistoryItem → Type 0
+CallsGranted past (Sends (CallsServer server xid name uid call)) = HasGrant past uid
+CallsGranted past item = Unit {0}
+
 -- ---- a write that strays
 
 -- it goes out at once, under its uid

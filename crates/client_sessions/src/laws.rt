@@ -2,7 +2,7 @@
 
 ghost use Rattle.client_laws.specs.ClientRunLaws.{InEachRun};
 ghost use Rattle.client_sessions.specs.ClientSessions.{KeepsSlot, EachRunSaysWho};
-ghost use Rattle.client_sessions.specs.LayoutEnds.{AsksForOne, ReturnsOwn, EntersGranted, EachRunStraysAtOnce, EachRunTakesBytes};
+ghost use Rattle.client_sessions.specs.LayoutEnds.{AsksForOne, ReturnsOwn, EntersGranted, CallsGranted, EachRunStraysAtOnce, EachRunTakesBytes};
 ghost use Rattle.client_sessions.specs.FittingCalls.{EachRunAsksFit};
 ghost use Rattle.client_sessions.specs.EnteredFiles.{EntersForFile};
 ghost use Rattle.client_sessions.specs.SessionRounds.{EachRunKeepsRounds};
@@ -19,6 +19,7 @@ ghost use Rattle.client_sessions.specs.SessionRounds.{EachRunKeepsRounds};
 /// - a write is taken and strays under a layout that was granted, and none is taken once the client left the protocol; it is
 ///   told where it was taken and is covered at each mirror of the layout, or at each that an accepted LAYOUTRETURN of it does
 ///   not report, and some mirror is not reported (RFC 8435, sections 2.2 and 5);
+/// - a call to a data server goes out under the uid of a layout that was granted;
 /// - a write that strays goes out at once, under its uid;
 /// - no write that is taken is empty, where users ask for no empty one.
 pub fn client_sessions()
@@ -27,6 +28,7 @@ pub fn client_sessions()
     ensures asks { InEachRun AsksForOne }
     ensures returns { InEachRun ReturnsOwn }
     ensures enters { InEachRun EntersGranted }
+    ensures calls { InEachRun CallsGranted }
     ensures strays { EachRunStraysAtOnce }
     ensures bytes { EachRunTakesBytes }
 {}

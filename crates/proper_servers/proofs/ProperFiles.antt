@@ -1,9 +1,10 @@
 -- Whatever is done to a proper file leaves it proper.
-use Rattle.std.proofs.Common.{◌≡◌, ℕ, zero, suc, ◌+◌, ◌^◌, ◌<◌, ◌≤◌, true, false, List, [], ◌∷◌, ◌++◌, length, take, drop, set, Option, Some, None, refl, subst, arith, leb-true, length-take}
+use Rattle.std.proofs.Common.{◌≡◌, ℕ, zero, suc, ◌+◌, ◌^◌, ◌<◌, ◌≤◌, true, false, List, [], ◌∷◌, ◌++◌, length, take, drop, set, Option, Some, None, refl, ap, subst, ◌∙◌, arith, leb-true, length-take}
 use Rattle.std.specs.Prelude.{slice_get, nat_le, unwrap_or}
 use Rattle.std.specs.List.{AllByRecursion}
 use Rattle.std.proofs.lemmas.Bool.{cond_both}
 use Rattle.std.proofs.lemmas.Option.{same_Some}
+use Rattle.cluster_model.specs.declared.limits.TheConstants.{FILE_MODE}
 use Rattle.cluster_model.specs.declared.piece.Piece.{Piece}
 use Rattle.cluster_model.specs.declared.tick.Tick.{Tick}
 use Rattle.cluster_model.specs.declared.tick.Times.{Times}
@@ -93,7 +94,7 @@ NumberFits (Some n) = n < 2 ^ 32
 pub record ChangesFit (c : Changes) : Type 0 where
   pub new_owner : NumberFits c.owner
   pub new_group : NumberFits c.group
-  pub new_mode : NumberFits c.mode
+  pub new_mode : c.mode ≡ None
   pub new_atime : NewTimeFits c.atime
   pub new_mtime : NewTimeFits c.mtime
 
@@ -115,7 +116,7 @@ set_times_proper times t c fits next i = record {
 
 -- ---- a file
 
-pub new_proper : (owner group mode : ℕ) (t : Tick) → owner < 2 ^ 32 → group < 2 ^ 32 → mode < 2 ^ 32 → IsProperTick t → IsProperFile (new_file owner group mode t)
+pub new_proper : (owner group mode : ℕ) (t : Tick) → owner < 2 ^ 32 → group < 2 ^ 32 → mode ≡ FILE_MODE → IsProperTick t → IsProperFile (new_file owner group mode t)
 new_proper owner group mode t owns groups modes next = record {
   content = record { stable = omega arith; pending = tt };
   owner = owns;
@@ -155,7 +156,7 @@ op_proper f clock (Sets c) next fits i = record {
   content = i.content;
   owner = set_number c.owner f.owner fits.new_owner i.owner;
   group = set_number c.group f.group fits.new_group i.group;
-  mode = set_number c.mode f.mode fits.new_mode i.mode;
+  mode = ap (λ (o : Option ℕ). unwrap_or o f.mode) fits.new_mode ∙ i.mode;
   times = set_times_proper f.times (next_tick clock) c fits next i.times;
   stable_times = set_times_proper f.times (next_tick clock) c fits next i.times;
 }

@@ -1,5 +1,5 @@
 -- Each reply of a proper server to a call of the cluster has a spelling.
-use Rattle.std.proofs.Common.{◌≡◌, ℕ, ◌+◌, ◌*◌, ◌^◌, ◌<◌, ◌≤◌, min, Bool, true, false, cond, eqb, List, length, drop, Option, Some, None, refl, arith, length-take}
+use Rattle.std.proofs.Common.{◌≡◌, ℕ, ◌+◌, ◌*◌, ◌^◌, ◌<◌, ◌≤◌, min, Bool, true, false, cond, eqb, List, length, drop, Option, Some, None, refl, sym, subst, arith, length-take}
 use Rattle.std.specs.Prelude.{slice_get, not, nat_lt, ◌==◌, ◌||◌}
 use Rattle.std.specs.Int.{w64, from_be_bytes}
 use Rattle.std.specs.Option.{option_map}
@@ -54,8 +54,9 @@ tick_fits t i = (i.boot, i.count)
 file_fits : (fileid : ℕ) (f : StoredFile) → fileid < 2 ^ 64 → IsProperFile f → AttributesFit (file_attributes fileid f)
 file_fits fileid f few i =
     let most = shown_within f.content i.content in
-    let size : length (shown f) < 2 ^ 64 = omega (arith, most) in (
-      (refl, (i.mode, (omega arith, (i.owner, i.group)))),
+    let size : length (shown f) < 2 ^ 64 = omega (arith, most) in
+    let mode_fits : f.mode < 2 ^ 32 = subst (λ (n : ℕ). n < 2 ^ 32) (sym i.mode) (omega arith) in (
+      (refl, (mode_fits, (omega arith, (i.owner, i.group)))),
       (
         (size, (size, ((omega arith, omega arith), (omega arith, few)))),
         (tick_fits f.times.atime i.times.atime, (tick_fits f.times.mtime i.times.mtime, tick_fits f.times.ctime i.times.ctime)),
@@ -140,7 +141,7 @@ module _ (s : ServerState) (i : IsProper s) (few : length s.files + 3 < 2 ^ 64) 
     commit_done_fits (Some r) = (refuses r, same_fits)
 
     set_done_fits : (owner : ℕ) (r : Option Refusal) → owner < 2 ^ 32 → ReplyFits (set_unless s index f (changes_of (owner_set None owner)) r).reply
-    set_done_fits owner None owns = after_fits (Sets (changes_of (owner_set None owner))) (record { new_owner = owns; new_group = owns; new_mode = tt; new_atime = tt; new_mtime = tt })
+    set_done_fits owner None owns = after_fits (Sets (changes_of (owner_set None owner))) (record { new_owner = owns; new_group = owns; new_mode = refl; new_atime = tt; new_mtime = tt })
     set_done_fits owner (Some r) owns = (refuses r, same_fits)
 
     read_done_fits : (offset count : ℕ) (r : Option Refusal) → ReplyFits (read_unless index f offset count r)
@@ -175,11 +176,11 @@ module _ (s : ServerState) (i : IsProper s) (few : length s.files + 3 < 2 ^ 64) 
   abbrev CaseFits : CreateCase → Type 0
   CaseFits (NotMade status) = Refuses status
   CaseFits (IsThere index) = Unit {0}
-  CaseFits (Makes a) = (owner_of a caller < 2 ^ 32) × (group_of a caller < 2 ^ 32) × (file_mode_of a < 2 ^ 32)
+  CaseFits (Makes a) = (owner_of a caller < 2 ^ 32) × (group_of a caller < 2 ^ 32) × (file_mode_of a ≡ FILE_MODE)
 
   module _ (owner : ℕ) (owns : owner < 2 ^ 32) where
     creation_fits : (r : Option Refusal) → CaseFits (creation_unless (owner_set (Some FILE_MODE) owner) r)
-    creation_fits None = (owns, owns, omega arith)
+    creation_fits None = (owns, owns, refl)
     creation_fits (Some r) = refuses r
 
     made_by_fits : (found : Option ℕ) → CaseFits (made_by s.clock (owner_set (Some FILE_MODE) owner) found)

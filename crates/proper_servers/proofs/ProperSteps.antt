@@ -4,6 +4,7 @@ use Rattle.std.specs.Prelude.{not, slice_get}
 use Rattle.std.specs.List.{AllByRecursion}
 use Rattle.std.proofs.lemmas.Bool.{cond_both, eqb-false, ltb-false}
 use Rattle.std.proofs.lemmas.List.{length-append, length-set}
+use Rattle.cluster_model.specs.declared.limits.TheConstants.{FILE_MODE}
 use Rattle.cluster_model.specs.declared.piece.Piece.{Piece}
 use Rattle.cluster_model.specs.Content.{pieces_of}
 use Rattle.cluster_model.specs.File.{StoredFile, new_file, file_after}
@@ -38,7 +39,7 @@ few_rebooted files boot count most few = omega (arith, most, few)
 abbrev EffectFits : Effect → Type 0
 EffectFits NoEffect = Unit {0}
 EffectFits (OnFile index op) = OpFits op
-EffectFits (NewFile name owner group mode) = (owner < 2 ^ 32) × (group < 2 ^ 32) × (mode < 2 ^ 32)
+EffectFits (NewFile name owner group mode) = (owner < 2 ^ 32) × (group < 2 ^ 32) × (mode ≡ FILE_MODE)
 
 effect_proper : (s : ServerState) (caller : Caller) (effect : Effect) → IsPermitted s caller effect → EffectFits effect → IsProper s → IsProper (server_after s effect)
 effect_proper s caller NoEffect may fits i = i
@@ -110,7 +111,7 @@ call_fits s caller (Create name owner) own =
     cond_both (not (eqb caller.uid 0)) _ (created_by s (mirror_name name) owner (index_of s.names (mirror_name name))) (λ (p : DsPlan). EffectFits p.effect) (λ e. tt) (λ e. created_fits s (mirror_name name) owner (index_of s.names (mirror_name name)) own)
 call_fits s caller (SetAttr fileid owner guard) own =
     at_fileid s.files (λ (n : Named). EffectFits (set_at s caller owner guard n).effect) tt tt
-    (λ index f there. done_fits f (set_refusal s f caller true (Some guard)) _ _ (λ e. record { new_owner = own; new_group = own; new_mode = tt; new_atime = tt; new_mtime = tt })) fileid
+    (λ index f there. done_fits f (set_refusal s f caller true (Some guard)) _ _ (λ e. record { new_owner = own; new_group = own; new_mode = refl; new_atime = tt; new_mtime = tt })) fileid
 call_fits s caller (Write fileid at synced bytes) own =
     at_fileid s.files (λ (n : Named). EffectFits (write_at s caller at synced bytes n).effect) tt tt
     (λ index f there. done_fits f (write_refusal s index f caller true at bytes) _ _ (write_ends s index f caller true at bytes)) fileid

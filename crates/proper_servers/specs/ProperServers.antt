@@ -2,6 +2,7 @@
 -- sections 2.5 and 3.3).
 use Rattle.std.specs.Prelude.{◌≡◌, ◌+◌, ◌*◌, ◌^◌, ◌<◌, ◌≤◌, Bool, true, false, length}
 use Rattle.std.specs.List.{AllByRecursion}
+use Rattle.cluster_model.specs.declared.limits.TheConstants.{FILE_MODE}
 use Rattle.cluster_model.specs.declared.tick.Tick.{Tick}
 use Rattle.cluster_model.specs.declared.tick.Times.{Times}
 use Rattle.cluster_model.specs.Content.{Content, Pending}
@@ -28,11 +29,12 @@ pub record IsProperContent (c : Content) : Type 0 where
   pub stable : length c.stable ≤ max_file
   pub pending : AllByRecursion EndsInLongestFile c.pending
 
+-- its owner may read and write it: the mode is 0640, with which the cluster makes it
 pub record IsProperFile (f : StoredFile) : Type 0 where
   pub content : IsProperContent f.content
   pub owner : f.owner < 2 ^ 32
   pub group : f.group < 2 ^ 32
-  pub mode : f.mode < 2 ^ 32
+  pub mode : f.mode ≡ FILE_MODE
   pub times : AreProperTimes f.times
   pub stable_times : AreProperTimes f.stable_times
 

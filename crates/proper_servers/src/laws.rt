@@ -10,8 +10,8 @@ ghost use Rattle.proper_servers.specs.ProperServers.{IsProper, is_of_bytes};
 
 use same_server::same_server;
 
-/// What every data server of a cluster meets: each of its numbers has room in its field, and each of its files has a name
-/// (`IsProper`), and there are no more files than ticks were given. A new server meets it, and each call and each restart keeps it, a call of a user whatever its numbers
+/// What every data server of a cluster meets: each of its numbers has room in its field, each of its files has a name and
+/// the mode 0640 (`IsProper`), and there are no more files than ticks were given. A new server meets it, and each call and each restart keeps it, a call of a user whatever its numbers
 /// are. So each reply of such a server to a call of the cluster has a spelling, and the call's record does what the call
 /// does (RFC 1813, section 3.3).
 pub fn proper_servers()

@@ -23,7 +23,7 @@ use Rattle.node_histories.specs.NodeHistories.{HasLife, IsToldByNodes}
 use Rattle.node_histories.proofs.WeaveLemmas.{items_join}
 use Rattle.holder_parts.specs.CoveredRecords.{WasPosted, IsAnsweredSo}
 use Rattle.world_layouts.specs.WorldLayouts.{journal_at}
-use Rattle.world_holders.proofs.LowerLaws.{HasLaws}
+use Rattle.world_holders.proofs.LowerLaws.{HasCallLaws}
 use Rattle.world_holders.proofs.CallNumbers.{HasCall, same_call}
 use Rattle.world_holders.proofs.LifePlaces.{LifeSteps, has_front, LifeIs, life_of, AreOfStory, of_story}
 use Rattle.world_holders.proofs.PostedCalls.{calling, PostedCall, posted_call, send_fits}
@@ -38,7 +38,7 @@ same_word : (a b : ℕ) → a < 2 ^ 32 → b < 2 ^ 32 → word a ≡ word b → 
 unfolding word
 same_word a b first second is = sym (from_be_bytes-to_be_bytes_4 a first) ∙ ap (λ (w : List ℕ). from_be_bytes w32 w) is ∙ from_be_bytes-to_be_bytes_4 b second
 
-record_number : (m : DsMessage) → take 4 (record_of m) ≡ word m.xid
+pub record_number : (m : DsMessage) → take 4 (record_of m) ≡ word m.xid
 record_number m = number_is (ds_rpc_call m.xid m.machine m.user m.call)
 
 abbrev bytes_of_item : HistoryItem → List ℕ
@@ -61,7 +61,7 @@ posted_by journal number from to bytes p = record { number = number; before = p.
 
 -- ---- all that was sent under the number
 
-module _ (w : ClusterState) (t : IsToldByNodes w) (laws : HasLaws t) where
+module _ (w : ClusterState) (t : IsToldByNodes w) (laws : HasCallLaws w) where
   -- a packet under the number of a call of a life is this life's, and of this call
   pub record IsItsPacket (n server : ℕ) (l : Life) (xid : ℕ) (name : List ℕ) (uid : ℕ) (call : DsCallValue) (journal : List Entry) (bytes : List ℕ) : Type 0 where
     pub is : bytes ≡ record_of (record { xid = xid; machine = name; user = uid; call = call })
@@ -76,7 +76,7 @@ module _ (w : ClusterState) (t : IsToldByNodes w) (laws : HasLaws t) where
 
   pub its_packet : (n server : ℕ) (l : Life) → HasLife t.stories n l → (xid : ℕ) (name : List ℕ) (uid : ℕ) (call : DsCallValue) → HasItem (items_in l.steps) (calling server xid name uid call) → (journal rest : List Entry) → w.journal ≡ journal ++ rest → (bytes : List ℕ)
       → WasPosted journal (Client n) (Server server) bytes → take 4 bytes ≡ word xid → IsItsPacket n server l xid name uid call journal bytes
-  its_packet n server l its xid name uid call has journal rest whole bytes p number = by_same (same_call laws.clients.numbered n o.story.newest o.story.older o.lives.lives q.life l o.first o.second sends mine xid its_call (has, refl))
+  its_packet n server l its xid name uid call has journal rest whole bytes p number = by_same (same_call laws.numbered n o.story.newest o.story.older o.lives.lives q.life l o.first o.second sends mine xid its_call (has, refl))
     where
       packet : Entry
       packet = Packet p.number (Client n) (Server server) bytes
@@ -93,8 +93,8 @@ module _ (w : ClusterState) (t : IsToldByNodes w) (laws : HasLaws t) where
       sends : ClientSend
       sends = CallsServer server q.xid q.name q.uid q.call
 
-      i : LifeIs w t laws.clients.numbered n l
-      i = life_of w t laws.clients.numbered n l its
+      i : LifeIs w t laws.numbered n l
+      i = life_of w t laws.numbered n l its
 
       o : AreOfStory w t n q.life l
       o = of_story w t n q.life l q.its its
@@ -132,7 +132,7 @@ module _ (w : ClusterState) (t : IsToldByNodes w) (laws : HasLaws t) where
   pub has_answered : (n server : ℕ) (l : Life) → HasLife t.stories n l → (xid : ℕ) (name : List ℕ) (uid : ℕ) (call : DsCallValue) → HasItem (items_in l.steps) (calling server xid name uid call) → (journal rest : List Entry) → w.journal ≡ journal ++ rest → (bytes : List ℕ)
       → WasPosted journal (Server server) (Client n) bytes → (says : DsReplyValue) → IsDsReply bytes xid call says → IsAnsweredSo journal n server (record { xid = xid; machine = name; user = uid; call = call }) says
   has_answered n server l its xid name uid call has journal rest whole bytes came says reply = record {
-    fits = (send_fits w t laws n l (life_of w t laws.clients.numbered n l its) (CallsServer server xid name uid call) has).0;
+    fits = (send_fits w t laws n l (life_of w t laws.numbered n l its) (CallsServer server xid name uid call) has).0;
     only = λ other posted number. (its_packet n server l its xid name uid call has journal rest whole other posted number).is;
     bytes = bytes;
     came = came;

@@ -21,7 +21,7 @@ use Rattle.node_histories.proofs.WeaveLemmas.{items_join}
 use Rattle.world_reads.proofs.Steps.{HasItemIn}
 use Rattle.holder_parts.specs.CoveredRecords.{WasPosted, IsCoveredIn}
 use Rattle.world_layouts.specs.WorldLayouts.{journal_at}
-use Rattle.world_holders.proofs.LowerLaws.{HasLaws}
+use Rattle.world_holders.proofs.LowerLaws.{HasLaws, call_laws}
 use Rattle.world_holders.proofs.CallNumbers.{none_before}
 use Rattle.world_holders.proofs.LifePlaces.{LifeSteps, has_middle, has_front, OrderStep, order_step, SeenStep, seen_step, journal_on, StandsBefore, stands_before, LifeIs, life_of, life_journal}
 use Rattle.world_holders.proofs.PostedCalls.{calling}
@@ -99,9 +99,9 @@ module _ (w : ClusterState) (t : IsToldByNodes w) (laws : HasLaws t) where
             (i.facts.is.history ∙ (ap (λ (s : LifeSteps). items_in s) at ∙ items_join front (Seen (Sends mine) p.0 ∷ (back ++ later))))
             (laws.clients.numbered n l.verifier l.first_xid l.inputs i.facts.first).0
 
-        q : IsItsPacket w t laws n server l xid name uid call (journal_at l front) bytes
+        q : IsItsPacket w t (call_laws w t laws) n server l xid name uid call (journal_at l front) bytes
         q =
-            its_packet w t laws n server l its xid name uid call (step_item front back step is mine item) (journal_at l front) (entries_in (step ∷ (back ++ later)) ++ i.facts.rest)
+            its_packet w t (call_laws w t laws) n server l its xid name uid call (step_item front back step is mine item) (journal_at l front) (entries_in (step ∷ (back ++ later)) ++ i.facts.rest)
             (life_journal w t laws.clients.numbered n l i front (step ∷ (back ++ later)) (whole front back step is)) bytes posted number
 
         r : StandsBefore q.earlier front (Sends q.send) q.packet
@@ -129,7 +129,7 @@ module _ (w : ClusterState) (t : IsToldByNodes w) (laws : HasLaws t) where
           split = past_is ∙ (ap (λ (x : List Entry). x ++ more) (journal_to front3 (o3.step ∷ o3.later) at3) ∙ append_assoc (journal_at l front3) (entries_in (o3.step ∷ o3.later)) more);
           write_shown = c.written.shown;
           written =
-              has_answered w t laws n id.server l its c.written.xid c.written.name uid wrote (step_item o1.earlier o1.later o1.step o1.split (CallsServer id.server c.written.xid c.written.name uid wrote) o1.is)
+              has_answered w t (call_laws w t laws) n id.server l its c.written.xid c.written.name uid wrote (step_item o1.earlier o1.later o1.step o1.split (CallsServer id.server c.written.xid c.written.name uid wrote) o1.is)
               (journal_at l front3) (entries_in (o3.step ∷ (o3.later ++ later)) ++ i.facts.rest) (life_journal w t laws.clients.numbered n l i front3 (o3.step ∷ (o3.later ++ later)) (whole front3 o3.later o3.step at3)) c.written.bytes written_came
               (Written c.written.shown c.verifier) c.written.says;
           commit = record { xid = c.xid; machine = c.name; user = uid; call = commits };
@@ -137,7 +137,7 @@ module _ (w : ClusterState) (t : IsToldByNodes w) (laws : HasLaws t) where
           new = λ other posted number. new_there front3 o3.later o3.step at3 id.server c.xid c.name uid commits o3.is other posted number;
           commit_shown = c.shown;
           committed =
-              has_answered w t laws n id.server l its c.xid c.name uid commits (step_item front3 o3.later o3.step at3 (CallsServer id.server c.xid c.name uid commits) o3.is)
+              has_answered w t (call_laws w t laws) n id.server l its c.xid c.name uid commits (step_item front3 o3.later o3.step at3 (CallsServer id.server c.xid c.name uid commits) o3.is)
               past behind journal c.bytes committed_came (Committed c.shown c.verifier) c.says;
         }
       where

@@ -28,6 +28,14 @@ pub record ClientLaws : Type 0 where
   pub strays : EachRunStraysAtOnce
   pub bytes : EachRunTakesBytes
 
+-- what calls of clients stand on: fewer than 2^32 clients and a journal of bytes, and that calls have a spelling, a number and a user
+pub record HasCallLaws (w : ClusterState) : Type 0 where
+  pub few : length w.machines.clients < 2 ^ 32
+  pub range : IsJournalInRange w.journal
+  pub spelled : EachRunIsSpelled
+  pub numbered : EachRunIsNumbered
+  pub users : (c : ClientValue) (input : ClientInput) → SendsAsUser input c
+
 -- Fewer than 2^32 clients, and a journal of bytes; the laws of its clients and of its metadata server, and what the journal says of periods; each
 -- layout is granted once and to one life, and what ends as returned was sent.
 pub record HasLaws {w : ClusterState} (told : IsToldByNodes w) : Type 0 where
@@ -45,3 +53,6 @@ pub record HasLaws {w : ClusterState} (told : IsToldByNodes w) : Type 0 where
   pub uids : UidsAreOwn told
   pub sent : ReturnsAreSent told
   pub ended : ReturnsHaveEnded told
+
+abbrev pub call_laws : (w : ClusterState) (told : IsToldByNodes w) → HasLaws told → HasCallLaws w
+call_laws w told laws = record { few = laws.few; range = laws.range; spelled = laws.clients.spelled; numbered = laws.clients.numbered; users = laws.clients.users }

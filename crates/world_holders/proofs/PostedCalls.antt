@@ -20,7 +20,7 @@ use Rattle.node_histories.specs.NodeHistories.{HasLife, IsToldByNodes}
 use Rattle.node_histories.proofs.WeaveLemmas.{items_join, IsSeenAt, seen_at}
 use Rattle.world_reads.proofs.LifeRecords.{life_spelled}
 use Rattle.world_layouts.specs.WorldLayouts.{journal_at}
-use Rattle.world_holders.proofs.LowerLaws.{HasLaws}
+use Rattle.world_holders.proofs.LowerLaws.{HasCallLaws}
 use Rattle.world_holders.proofs.LifePlaces.{LifeSteps, has_middle, each_at, LifeIs, life_of, ClientSent, client_sent}
 
 -- ---- each call is one that a user may make
@@ -90,15 +90,15 @@ same_server k m is = cc
 not_to_mds : {A : Type 0} (k : ℕ) → Server k ≡ Mds → A
 not_to_mds k is = absurd cc
 
-module _ (w : ClusterState) (t : IsToldByNodes w) (laws : HasLaws t) where
-  pub small_number : (n : ℕ) (l : Life) → LifeIs w t laws.clients.numbered n l → n < 2 ^ 32
+module _ (w : ClusterState) (t : IsToldByNodes w) (laws : HasCallLaws w) where
+  pub small_number : (n : ℕ) (l : Life) → LifeIs w t laws.numbered n l → n < 2 ^ 32
   small_number n l i = let within = i.lives.within in let few = laws.few in omega (arith, few, within)
 
   -- what a life sends has a spelling, and a call of it is one that a user may make
-  pub send_fits : (n : ℕ) (l : Life) → LifeIs w t laws.clients.numbered n l → (send : ClientSend) → HasItem (items_in l.steps) (Sends send) → HasSpelling send × IsUserSend send
+  pub send_fits : (n : ℕ) (l : Life) → LifeIs w t laws.numbered n l → (send : ClientSend) → HasItem (items_in l.steps) (Sends send) → HasSpelling send × IsUserSend send
   send_fits n l i send has = (
-    life_spelled laws.clients.spelled w.journal laws.range n (small_number n l i) l laws.clients.numbered i.facts send has,
-    users_send laws.clients.users (start_of n l) l.inputs send (subst (λ (h : List HistoryItem). HasItem h (Sends send)) (sym i.facts.is.history) has),
+    life_spelled laws.spelled w.journal laws.range n (small_number n l i) l laws.numbered i.facts send has,
+    users_send laws.users (start_of n l) l.inputs send (subst (λ (h : List HistoryItem). HasItem h (Sends send)) (sym i.facts.is.history) has),
   )
 
   pub posted_call : (past behind : List Entry) (number n server : ℕ) (bytes : List ℕ) → w.journal ≡ past ++ entry.Packet number (Client n) (Server server) bytes ∷ behind
@@ -111,8 +111,8 @@ module _ (w : ClusterState) (t : IsToldByNodes w) (laws : HasLaws t) where
       s : ClientSent t.stories past number n (Server server) bytes
       s = client_sent w t past behind number n (Server server) bytes is
 
-      i : LifeIs w t laws.clients.numbered n s.life
-      i = life_of w t laws.clients.numbered n s.life s.its
+      i : LifeIs w t laws.numbered n s.life
+      i = life_of w t laws.numbered n s.life s.its
 
       seen : IsSeenAt client_shown (Client n) s.life.begun s.stands.earlier (Sends s.send) packet s.stands.later
       seen = seen_at client_shown (Client n) s.life.begun s.stands.earlier (Sends s.send) packet s.stands.later (subst (λ (l : LifeSteps). AreWoven client_shown (Client n) s.life.begun l) s.stands.split i.facts.is.woven)
@@ -155,7 +155,7 @@ module _ (w : ClusterState) (t : IsToldByNodes w) (laws : HasLaws t) where
           let again : ClientSend = RepeatsToServer k xid name uid call in
           let both : HasSpelling (RepeatsToServer k xid name uid call) × IsUserSend (RepeatsToServer k xid name uid call) = fits (RepeatsToServer k xid name uid call) split in
           let numbers : Each (NumbersOn s.life.first_xid) [] (items_in s.life.steps) =
-          subst (λ (h : List HistoryItem). Each (NumbersOn s.life.first_xid) [] h) i.facts.is.history (laws.clients.numbered n s.life.verifier s.life.first_xid s.life.inputs i.facts.first).0 in
+          subst (λ (h : List HistoryItem). Each (NumbersOn s.life.first_xid) [] h) i.facts.is.history (laws.numbered n s.life.verifier s.life.first_xid s.life.inputs i.facts.first).0 in
           let was : HasItem (items_in s.stands.earlier) (calling k xid name uid call) =
           each_at (NumbersOn s.life.first_xid) [] (items_in s.stands.earlier) (items_in s.stands.later) (Sends (RepeatsToServer k xid name uid call))
           (subst (λ (h : List HistoryItem). Each (NumbersOn s.life.first_xid) [] h) (items (RepeatsToServer k xid name uid call) split) numbers) in

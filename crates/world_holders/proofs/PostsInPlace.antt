@@ -16,7 +16,7 @@ use Rattle.node_histories.specs.NodeHistories.{IsToldByNodes}
 use Rattle.node_histories.proofs.WeaveLemmas.{items_join}
 use Rattle.holder_parts.specs.HolderParts.{IsPostedCall}
 use Rattle.world_layouts.specs.WorldLayouts.{journal_at}
-use Rattle.world_holders.proofs.LowerLaws.{HasLaws}
+use Rattle.world_holders.proofs.LowerLaws.{HasLaws, call_laws}
 use Rattle.world_holders.proofs.LifePlaces.{LifeSteps, each_at, LifeIs, life_of, woven_front, EnteredIn, entered_in}
 use Rattle.world_holders.proofs.PostedCalls.{PostedCall, posted_call}
 use Rattle.world_holders.proofs.UserEntries.{sent_there, rogue_there}
@@ -59,7 +59,7 @@ module _ (w : ClusterState) (t : IsToldByNodes w) (laws : HasLaws t) where
   pub posts_so : (past behind : List Entry) (number n server : ℕ) (bytes : List ℕ) → w.journal ≡ past ++ Packet number (Client n) (Server server) bytes ∷ behind → IsPostedCall past bytes
   posts_so past behind number n server bytes is =
       let packet : Entry = Packet number (Client n) (Server server) bytes in
-      let p : PostedCall t n server past packet bytes = posted_call w t laws past behind number n server bytes is in
+      let p : PostedCall t n server past packet bytes = posted_call w t (call_laws w t laws) past behind number n server bytes is in
       let i : LifeIs w t laws.clients.numbered n p.life = life_of w t laws.clients.numbered n p.life p.its in
       let was : WritesApart (items_in p.earlier) (Sends p.send) = law_at WritesApart laws.clients.apart n p.life i p.earlier p.later (Sends p.send) packet p.split in
       record {

@@ -1,0 +1,5 @@
+pub mod GrantsOfRuns
+pub mod GrantsOfWorlds
+pub mod RefusedCalls
+pub mod AnsweredRecords
+pub mod HeardRefusals
