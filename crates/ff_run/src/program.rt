@@ -3,12 +3,14 @@
 ghost use Rattle.std.specs.Prelude.{◌≡◌, ◌++◌, map, OnOk};
 ghost use Rattle.std.specs.String.{string_bytes};
 ghost use Rattle.rpc_record.specs.Stream.{counted};
+ghost use Rattle.line_runs.specs.Runs.{Runs, read_faults, write_faults};
 ghost use Rattle.line_runs.specs.Writing.{WritesText};
 ghost use Rattle.command_words.specs.Commands.{IsInGrammar, command_value};
 ghost use Rattle.ff_node.specs.Serve.{beside};
 ghost use Rattle.ff_run.specs.declared.program.ProgramEnd.{ProgramEnd};
 ghost use Rattle.ff_run.specs.Node.{IsShortName, observed, task_command};
-ghost use Rattle.script_laws.specs.ScriptLaws.{EveryScriptObeys};
+ghost use Rattle.ff_replay.specs.Script.{script_budget, script_meaning};
+ghost use Rattle.script_laws.specs.ScriptLaws.{EveryScriptObeys, PlaysLawfully};
 ghost use Rattle.ff_run.specs.Run.{Performs, PerformsCommand, Reports, disk_faults_after, end_of_writing, failure_note, link_faults_after, note_of, sink_faults_after, source_faults_after, status_of, with_number};
 
 use crate::serving::{Task, serve};
@@ -17,7 +19,7 @@ use command_words::{Command, asked};
 use ff_node::NodeEnd;
 use ff_replay::replay;
 use ff_xdr::{NoMemory, Out};
-use journal_print::put_numbered;
+use journal_print::{Mode, put_numbered};
 use line_runs::{RunEnd, write_all};
 use node_link::{Clock, Link};
 use record_show::show;
@@ -171,6 +173,23 @@ fn run_task<S: Source, K: Sink, D: Disk, L: Link, C: Clock>(
     }
 }
 
+/// Replays the script of the source; the journal of its lines obeys all laws.
+fn replay_lawfully<S: Source, K: Sink>(
+    alloc: Global,
+    mode: Mode,
+    source: &mut S,
+    sink: &mut K,
+) -> RunEnd
+    ensures told { Runs script_budget (script_meaning mode) (S.left source.old) (K.held sink.old) result (S.left source.new) (K.held sink.new) }
+    ensures lawful { PlaysLawfully (S.left source.old) result }
+    ensures reads { S.faults source.new ≡ read_faults result (S.faults source.old) }
+    ensures writes { K.faults sink.new ≡ write_faults result (K.faults sink.old) }
+{
+    // (what the journals of scripts obey has no code: this brings its proof)
+    script_laws();
+    replay(alloc, mode, source, sink)
+}
+
 /// Does what a command asks for.
 fn perform<S: Source, K: Sink, D: Disk, L: Link, C: Clock>(
     alloc: Global,
@@ -189,7 +208,7 @@ fn perform<S: Source, K: Sink, D: Disk, L: Link, C: Clock>(
     ensures keeps { D.faults disk.new ≡ disk_faults_after result (D.faults disk.old) }
 {
     match command {
-        Command::Replay(mode) => ProgramEnd::Ended(replay(alloc, mode, source, sink)),
+        Command::Replay(mode) => ProgramEnd::Ended(replay_lawfully(alloc, mode, source, sink)),
         Command::Gen(number) => ProgramEnd::Ended(written(generate(alloc, number, sink))),
         Command::Show => ProgramEnd::Ended(show(alloc, source, sink)),
         Command::Ds => run_task(alloc, Task::Ds, source, sink, disk, link, clock),

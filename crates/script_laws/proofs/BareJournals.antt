@@ -1,18 +1,16 @@
 -- What one data server by itself enters.
-use Rattle.std.proofs.Common.{◌≡◌, ℕ, ◌+◌, Bool, true, false, cond, List, [], ◌∷◌, ◌++◌, Option, Some, None, Result, Ok, Err, refl, sym, ap, subst}
+use Rattle.std.proofs.Common.{◌≡◌, ℕ, ◌+◌, Bool, true, false, cond, List, [], ◌∷◌, Option, Some, None, refl, subst}
 use Rattle.cluster_model.specs.declared.piece.Piece.{Piece}
 use Rattle.cluster_model.specs.declared.ids.NodeId.{NodeId}
 use Rattle.cluster_model.specs.declared.ids.NodeId.TheVariants.{Server}
 use Rattle.cluster_model.specs.declared.ids.MirrorId.{MirrorId}
-use Rattle.cluster_model.specs.declared.entry.Entry.{Entry}
 use Rattle.cluster_model.specs.Event.{EventValue, Deliver, Restart}
 use Rattle.cluster_model.specs.File.{FileOp, Writes, Commits, Sets, Restarts}
 use Rattle.cluster_model.specs.Server.{ServerState, Effect, NoEffect, OnFile, NewFile, applied_entries, committed_entries, owner_entries, op_entries, entries_of, mirror_of, restart_of}
-use Rattle.ds_procedures.specs.Steps.{step_of}
 use Rattle.ds_files.specs.Receive.{Received, Silent, Refused, Asked, outcome_by, outcome_of, received}
 use Rattle.world_journal.specs.Journal.{is_within}
 use Rattle.world_journal.specs.SentPackets.{packets_of}
-use Rattle.ff_world.specs.World.{WorldState, WorldStep, Run, effect_of, restart_effect, sends_of, step_by_effect, step_within, world_step, with_step, run_of}
+use Rattle.ff_world.specs.World.{WorldState, WorldStep, Run, effect_of, restart_effect, sends_of, step_by_effect, world_step, with_step, run_of}
 use Rattle.script_laws.proofs.PlainJournals.{ArePlain, plain_both}
 
 applied_plain : (m : MirrorId) (uid at : ℕ) (bytes : List ℕ) → ArePlain (applied_entries m uid at bytes)

@@ -1,9 +1,9 @@
 -- What events enter in a world whose journal is that of a run is behind it the journal of a run, and so is the world that they leave.
-use Rattle.std.proofs.Common.{◌≡◌, ℕ, zero, suc, ◌+◌, Bool, true, false, List, [], ◌∷◌, ◌++◌, Option, Some, None, refl, sym, ap, subst, ◌∙◌}
+use Rattle.std.proofs.Common.{◌≡◌, ℕ, zero, suc, ◌+◌, true, List, [], ◌∷◌, ◌++◌, Option, Some, None, refl, sym, ap, subst, ◌∙◌}
 use Rattle.std.proofs.lemmas.List.{append_assoc, append-nil}
 use Rattle.cluster_model.specs.declared.entry.Entry.{Entry}
 use Rattle.cluster_model.specs.Event.{EventValue, DeliverPacket, Flow}
-use Rattle.world_journal.specs.Journal.{max_entries}
+use Rattle.world_journal.specs.Journal.{is_within, max_entries}
 use Rattle.packet_table.specs.Packets.{next_waiting}
 use Rattle.cluster_world.specs.ClusterWorlds.{ClusterState, packets, behind, cluster_step}
 use Rattle.cluster_world.specs.ClusterRuns.{ClusterRun, entries_added, with_step, flow_by, flow_for, event_then, cluster_run}
@@ -13,7 +13,7 @@ use Rattle.node_histories.specs.NodeHistories.{IsEventInRange}
 use Rattle.script_laws.proofs.EventRanges.{AreInRange}
 use Rattle.script_laws.specs.ScriptLaws.{end_by_step, end_by_flow, end_of_flow, end_by_event, cluster_end}
 
-module _ (IsRun : ClusterState → Type 0) (goes_on : (event : EventValue) (w : ClusterState) → IsEventInRange event → IsRun w → IsRun (behind event w)) where
+module _ (IsRun : ClusterState → Type 0) (goes_on : (event : EventValue) (w : ClusterState) → IsEventInRange event → is_within (behind event w).journal ≡ true → IsRun w → IsRun (behind event w)) where
   -- the world is a run, and has this journal
   pub record IsEnd (journal : List Entry) (end : ClusterState) : Type 0 where
     pub is : IsRun end
@@ -34,7 +34,7 @@ module _ (IsRun : ClusterState → Type 0) (goes_on : (event : EventValue) (w : 
   stepped w event fits (Some next) is run rest end all =
       let same : next ≡ behind event w = (let_in (behind event w) next is).0 in
       let more : Grows w next = subst (Grows w) (sym same) (grows event w) in
-      let last = all next (subst IsRun (sym same) (goes_on event w fits run)) in
+      let last = all next (subst IsRun (sym same) (goes_on event w fits (let_in (behind event w) next is).1 run)) in
       record {
         is = last.is;
         journal_is = last.journal_is ∙ (ap (λ (j : List Entry). j ++ (rest next).entries) (journaled w next more) ∙ append_assoc w.journal (entries_added w next) (rest next).entries);

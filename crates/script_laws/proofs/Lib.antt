@@ -6,3 +6,6 @@ pub mod ClusterJournals
 pub mod BareJournals
 pub mod Scripts
 pub mod OtherBeginnings
+pub mod DeliveriesFirst
+pub mod KeptParts
+pub mod LawfulPlays

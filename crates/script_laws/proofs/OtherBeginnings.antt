@@ -1,6 +1,6 @@
 -- No event of a cluster begins with the end of a write of the metadata server's own, so holders kept their part before an event where they do
 -- behind it.
-use Rattle.std.proofs.Common.{◌≡◌, ℕ, ◌+◌, ◌-◌, Bool, true, false, List, [], ◌∷◌, ◌++◌, length, Option, Some, None, refl, sym, ap, subst, ◌∙◌, inl, inr, ◌⊎◌}
+use Rattle.std.proofs.Common.{◌≡◌, ℕ, ◌+◌, ◌-◌, true, false, List, [], ◌∷◌, ◌++◌, length, Option, Some, None, refl, sym, ap, subst, ◌∙◌, inl, inr}
 use Rattle.std.specs.Prelude.{map}
 use Rattle.std.specs.List.{AllByRecursion, range_with_len}
 use Rattle.std.proofs.lemmas.List.{append_assoc, append-nil}
@@ -10,7 +10,6 @@ use Rattle.cluster_model.specs.declared.ids.NodeId.TheVariants.{Mds, Server, Cli
 use Rattle.cluster_model.specs.declared.ids.FileId.{FileId}
 use Rattle.cluster_model.specs.declared.ids.Mirror.{Mirror}
 use Rattle.cluster_model.specs.declared.piece.Piece.{Piece}
-use Rattle.cluster_model.specs.declared.phase.EndCause.TheVariants.{Own}
 use Rattle.cluster_model.specs.declared.entry.Entry.{Entry}
 use Rattle.cluster_model.specs.declared.entry.Entry.TheVariants as entry
 use Rattle.cluster_model.specs.Server.{ServerState, restart_of}
@@ -23,12 +22,12 @@ use Rattle.client_laws.specs.ClientHistory.{ClientInput, Requested, TimeoutOf, T
 use Rattle.mds_rule.specs.MdsStates.{ServedFile, served, numbered}
 use Rattle.cluster_world.specs.Sent.{bytes_at_place}
 use Rattle.mds_rule.specs.Events.{takes_tick}
-use Rattle.mds_laws.specs.MdsRuns.{MdsEvent, IsTimedOut, Ticks, RecallsFile, Resilvers, after_event}
+use Rattle.mds_laws.specs.MdsRuns.{MdsEvent, IsTimedOut, RecallsFile, Resilvers, after_event}
 use Rattle.world_journal.specs.SentPackets.{packets_of}
 use Rattle.packet_table.specs.declared.note.PacketNote.{PacketNote}
 use Rattle.packet_table.specs.Packets.{packet_numbered, number_between}
 use Rattle.cluster_machines.specs.Machines.{MachinesValue, Act, nth, client_at, client_acts, mds_acts, receives, times_out, leaves, goes_astray, starts_anew, started, restarts_at, restarts, audit_of, audits_of, audits}
-use Rattle.cluster_world.specs.ClusterWorlds.{ClusterState, entering, packets, acting, packet_comes, delivering, delivering_some, client_ticks, clients_tick, mds_ticks, ticking, asking, verifier_after, rebooting, behind}
+use Rattle.cluster_world.specs.ClusterWorlds.{ClusterState, entering, packets, acting, packet_comes, delivering_some, client_ticks, clients_tick, mds_ticks, ticking, asking, verifier_after, rebooting, behind}
 use Rattle.node_histories.specs.NodeHistories.{is_client_entry, IsToldByNodes}
 use Rattle.node_histories.proofs.ClientEntries.{input_enters}
 use Rattle.holder_parts.specs.HolderParts.{EndsOwnNext, KeepsPart, HoldersKeepParts}

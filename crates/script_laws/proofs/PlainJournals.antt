@@ -7,10 +7,10 @@ use Rattle.cluster_model.specs.declared.ids.Cred.{Cred}
 use Rattle.cluster_model.specs.declared.ids.MirrorId.{MirrorId}
 use Rattle.cluster_model.specs.declared.entry.Entry.{Entry}
 use Rattle.cluster_model.specs.declared.entry.Entry.TheVariants as entry
-use Rattle.cluster_laws.specs.FenceLaw.{ObeysFences}
-use Rattle.cluster_laws.specs.Periods.{IsInPlace, ArePeriodsFenced, DoOwnersStay}
+use Rattle.world_journal.specs.Journal.{IsJournalInRange}
+use Rattle.cluster_laws.specs.Periods.{IsInPlace}
 use Rattle.cluster_laws.specs.Agreement.{AgreesAlways}
-use Rattle.script_laws.specs.ScriptLaws.{ObeysLaws}
+use Rattle.script_laws.specs.ScriptLaws.{ObeysPeriods, ObeysLaws}
 
 abbrev pub is_plain : Entry → Bool
 is_plain (entry.Granted file cred holder) = false
@@ -56,11 +56,23 @@ plain_agrees journal all f = record {
   free = λ before between behind live is none periods. let wrong = no_free journal before (between ++ behind) f live all (is ∙ append_assoc before (entry.Free f live ∷ between) behind) in absurd cc;
 }
 
-pub plain_obeys : (journal : List Entry) → ArePlain journal → ObeysLaws journal
-plain_obeys journal all = record {
-  fences = λ before behind f old new live is. let wrong = no_fence journal before behind f old new live all is in absurd cc;
-  periods = λ before behind e is. plain_in_place before e (plain_there before e behind (subst ArePlain is all));
-  owners = λ before behind f old new live is. let wrong = no_fence journal before behind f old new live all is in absurd cc;
-  reads = λ range before behind file status bytes is. let wrong = no_read journal before behind file status bytes all is in absurd cc;
-  agreement = λ parts f. plain_agrees journal all f;
-}
+-- the laws of periods, and all of them where the journal is in range
+abbrev pub JournalObeys : List Entry → Type 0
+JournalObeys journal = ObeysPeriods journal × (IsJournalInRange journal → ObeysLaws journal)
+
+pub plain_obeys : (journal : List Entry) → ArePlain journal → JournalObeys journal
+plain_obeys journal all = (
+  periods,
+  λ range. record {
+    of_periods = periods;
+    reads = λ before behind file status bytes is. let wrong = no_read journal before behind file status bytes all is in absurd cc;
+    agreement = λ f. plain_agrees journal all f;
+  },
+)
+  where
+    periods : ObeysPeriods journal
+    periods = record {
+      fences = λ before behind f old new live is. let wrong = no_fence journal before behind f old new live all is in absurd cc;
+      periods = λ before behind e is. plain_in_place before e (plain_there before e behind (subst ArePlain is all));
+      owners = λ before behind f old new live is. let wrong = no_fence journal before behind f old new live all is in absurd cc;
+    }

@@ -1,22 +1,23 @@
 -- What holds of every script: of its journal, and of the data servers that it ends with (RFC 8435, section 2.2;
 -- RFC 8881, section 18.22).
-use Rattle.std.specs.Prelude.{◌≡◌, ℕ, zero, suc, ◌+◌, Bool, false, List, [], ◌∷◌, Option, Some, None}
+use Rattle.std.specs.Prelude.{⊤, ◌≡◌, ℕ, zero, suc, ◌+◌, false, List, [], ◌∷◌, Option, Some, None}
 use Rattle.cluster_model.specs.declared.ids.FileId.{FileId}
 use Rattle.cluster_model.specs.declared.entry.Entry.{Entry}
 use Rattle.cluster_model.specs.Event.{EventValue, DeliverPacket, Flow}
 use Rattle.cluster_laws.specs.FenceLaw.{ObeysFences}
 use Rattle.cluster_laws.specs.Periods.{ArePeriodsFenced, DoOwnersStay}
 use Rattle.cluster_laws.specs.Agreement.{AgreesAlways}
-use Rattle.holder_parts.specs.HolderParts.{HoldersKeepParts}
-use Rattle.world_journal.specs.Journal.{max_entries}
+use Rattle.line_runs.specs.declared.end.RunEnd.{RunEnd}
+use Rattle.line_runs.specs.declared.end.RunEnd.TheVariants as ends
+use Rattle.line_runs.specs.Lines.{script_lines}
+use Rattle.world_journal.specs.Journal.{IsJournalInRange, max_entries}
 use Rattle.packet_table.specs.Packets.{next_waiting}
 use Rattle.cluster_world.specs.ClusterWorlds.{ClusterState, packets, new_cluster, cluster_step}
 use Rattle.ff_replay.specs.declared.setup.Setup.{Setup}
 use Rattle.ff_replay.specs.declared.setup.Setup.TheVariants.{Bare, Cluster}
-use Rattle.ff_replay.specs.Script.{Script, script_of, run_from}
+use Rattle.ff_replay.specs.Script.{Script, script_of, run_from, script_budget}
 use Rattle.ff_laws.specs.ReadLaw.{ObeysReads}
 use Rattle.world_moves.specs.WorldMoves.{TellsTruth}
-use Rattle.world_journal.specs.Journal.{IsJournalInRange}
 
 -- what the lines of a script enter: up to the first that is outside the grammar, or the event that would pass a limit
 abbrev pub script_journal : List (List ℕ) → List Entry
@@ -60,26 +61,40 @@ script_end lines = end_of_script (script_of 1 None lines)
 
 -- ---- the laws
 
--- After a fence no write under the fenced uid changes a live mirror; each period is fenced before the next; owners stay; a READ through
--- the metadata server is answered with bytes that a mirror showed, or as failed where each mirror failed it or left; and whenever a file is
--- free all its live mirrors hold the bytes of one flat file, and nothing else.
-pub record ObeysLaws (journal : List Entry) : Type 0 where
+-- After a fence no write under the fenced uid changes a live mirror; each period is fenced before the next; owners stay.
+pub record ObeysPeriods (journal : List Entry) : Type 0 where
   pub fences : ObeysFences journal
   pub periods : ArePeriodsFenced journal
   pub owners : DoOwnersStay journal
-  -- where its records are of bytes, and the fileids of its mirrors have eight of them
-  pub reads : IsJournalInRange journal → ObeysReads journal
-  -- where those who hold a file keep their part (RFC 8435, sections 2.2 and 8)
-  pub agreement : HoldersKeepParts journal → (f : FileId) → AgreesAlways journal f
+
+-- And a READ through the metadata server is answered with bytes that a mirror showed, or as failed where each mirror failed it or left; and whenever a
+-- file is free all its live mirrors hold the bytes of one flat file, and nothing else.
+pub record ObeysLaws (journal : List Entry) : Type 0 where
+  pub of_periods : ObeysPeriods journal
+  pub reads : ObeysReads journal
+  pub agreement : (f : FileId) → AgreesAlways journal f
 
 -- the cluster has this journal, and what the journal says of each mirror's bytes, pending writes and owner is so at its data server
 pub record EndsTrue (journal : List Entry) (w : ClusterState) : Type 0 where
   pub journal_is : w.journal ≡ journal
   pub truth : TellsTruth w
 
+-- The laws of periods hold of each journal; all of them of one whose records are of bytes, and of whose mirrors the fileids have eight.
 pub record ScriptObeys (lines : List (List ℕ)) : Type 0 where
-  pub laws : ObeysLaws (script_journal lines)
+  pub periods : ObeysPeriods (script_journal lines)
+  pub laws : IsJournalInRange (script_journal lines) → ObeysLaws (script_journal lines)
   pub ends : (w : ClusterState) → script_end lines ≡ Some w → EndsTrue (script_journal lines) w
+
+-- the journal of the lines of a source obeys all laws, where lines ended the run of it: all were played, one is outside the grammar, or an event would pass a
+-- limit
+abbrev pub PlaysLawfully : Option (List ℕ) → RunEnd → Type 0
+PlaysLawfully None end = ⊤
+PlaysLawfully (Some bytes) ends.Done = ObeysLaws (script_journal (script_lines script_budget bytes))
+PlaysLawfully (Some bytes) (ends.BadLine n) = ObeysLaws (script_journal (script_lines script_budget bytes))
+PlaysLawfully (Some bytes) (ends.Limit count) = ObeysLaws (script_journal (script_lines script_budget bytes))
+PlaysLawfully (Some bytes) ends.ReadFault = ⊤
+PlaysLawfully (Some bytes) ends.WriteFault = ⊤
+PlaysLawfully (Some bytes) ends.NoMemory = ⊤
 
 abbrev pub EveryScriptObeys : Type 0
 EveryScriptObeys = (lines : List (List ℕ)) → ScriptObeys lines
