@@ -5,7 +5,6 @@ pub mod ClientCounts
 pub mod ClusterJournals
 pub mod BareJournals
 pub mod Scripts
-pub mod OtherBeginnings
 pub mod DeliveriesFirst
 pub mod KeptParts
 pub mod LawfulPlays

@@ -1,4 +1,4 @@
-use Rattle.std.proofs.Common.{ℕ, ◌-◌, ◌≤◌, length, replicate, arith}
+use Rattle.std.proofs.Common.{ℕ, ◌-◌, ◌≤◌, length, replicate, subst, arith}
 use Rattle.cluster_world.specs.ClusterWorlds.{ClusterState, behind}
 use Rattle.cluster_model.specs.Event.{EventValue}
 use Rattle.world_journal.specs.Journal.{IsJournalInRange}
@@ -8,14 +8,14 @@ use Rattle.world_moves.proofs.ServerMoves.{all_at, at_place}
 use Rattle.node_histories.specs.NodeHistories.{IsToldByNodes}
 use Rattle.node_histories.specs.NodeHistories as node
 use Rattle.holder_parts.specs.HolderParts.{HoldersKeepParts}
-use Rattle.bound_worlds.specs.BoundWorlds.{IsBoundRunOf, MayHappen, EventsBeginOtherwise}
+use Rattle.bound_worlds.specs.BoundWorlds.{IsBoundRunOf, BeginsOtherwise, MayHappen, EventsBeginOtherwise}
 use Rattle.world_layouts.specs.WorldLayouts.{HoldersOwnAtDeliveries}
 use Rattle.world_room.specs.WorldRoom.{IsWorldSmall}
-use Rattle.mds_laws.specs.MdsRuns.{Ticks}
+use Rattle.mds_rule.specs.MdsStates.{MdsValue}
+use Rattle.mds_laws.specs.MdsRuns.{MdsEvent, Ticks, after_event}
 use Rattle.script_laws.proofs.ClientCounts.{counts_still, new_count}
 use Rattle.script_laws.proofs.DeliveriesFirst.{own_at_first, own_behind}
 use Rattle.script_laws.proofs.KeptParts.{WorldLaws, keeps_parts, few_within, range_before}
-use Rattle.script_laws.proofs.OtherBeginnings.{mds_other}
 use Rattle.script_laws.proofs.Scripts.{scripts_obey}
 use Rattle.script_laws.proofs.laws.script_laws.Goals as goal
 
@@ -32,9 +32,14 @@ record IsWorld (servers : ℕ) (w : ClusterState) : Type 0 where
 proper_truth : (servers : ℕ) (w : ClusterState) → IsRunOf (replicate servers 1) w → TellsTruth w → node.TellsTruth w
 proper_truth servers w run truth n s at = let t = truth n s at in (t.0, t.1, all_at IsProper w.machines.servers (n - 1) s run.proper (at_place w.machines.servers n s at))
 
--- an event may happen where holders keep their part behind it
+-- an event may happen where holders keep their part behind it: no event of a metadata server begins with the end of a write of its own
 may_happen : EventsBeginOtherwise → (event : EventValue) (w : ClusterState) → IsToldByNodes w → HoldersKeepParts (behind event w).journal → MayHappen event w
-may_happen otherwise event w told parts = record { parts = parts; other = λ now. mds_other otherwise w told (record { now = now; input = Ticks }) }
+may_happen otherwise event w told parts = record {
+  parts = parts;
+  other = λ now.
+      let e : MdsEvent = record { now = now; input = Ticks } in
+      subst (λ (m : MdsValue). BeginsOtherwise (after_event e m).entries) told.mds_is.mds (otherwise told.mds.servers told.mds.mirrors told.mds.events e);
+}
 
 pub returns : goal.returns
 returns c =
