@@ -31,9 +31,9 @@ use Rattle.mds_moves.specs.MdsMoves.{MayComeTo}
 use Rattle.packet_table.specs.declared.note.PacketNote.{PacketNote}
 use Rattle.packet_table.specs.Packets.{packet_numbered, number_between}
 use Rattle.proper_servers.specs.ProperServers.{IsProper}
-use Rattle.cluster_machines.specs.Machines.{MachinesValue, does_nothing, nth, mds_did, mds_acts, client_did, client_at, client_acts, server_did, server_at, server_acts, receives, times_out, leaves, goes_astray, starts_anew, started, restarts_at, restarts, audit_of, audits_of}
-use Rattle.cluster_world.specs.Sent.{bytes_at_place}
-use Rattle.cluster_world.specs.ClusterWorlds.{ClusterState, entering, packets, acting, packet_comes, delivering, delivering_some, client_ticks, clients_tick, ticking, asking, behind}
+use Rattle.world_rule.specs.Machines.{MachinesValue, does_nothing, nth, mds_did, mds_acts, client_did, client_at, client_acts, server_did, server_at, server_acts, receives, times_out, leaves, goes_astray, starts_anew, started, restarts_at, restarts, audit_of, audits_of}
+use Rattle.world_rule.specs.Sent.{bytes_at_place}
+use Rattle.world_rule.specs.ClusterWorlds.{ClusterState, entering, packets, acting, packet_comes, delivering, delivering_some, client_ticks, clients_tick, ticking, asking, behind}
 use Rattle.world_journal.specs.SentPackets.{packets_of as posted}
 use Rattle.mds_forms.specs.Forms.{IsNoPacket}
 use Rattle.world_moves.specs.WorldMoves.{IsCarried, IsEntryCarried}

@@ -21,8 +21,8 @@ use Rattle.mds_moves.specs.MdsMoves.{NewIsMdsOf}
 use Rattle.mds_moves.specs.MdsBinds.{NewHasOwnWrites}
 use Rattle.mds_rule.specs.MdsStates.{new_mds}
 use Rattle.proper_servers.specs.ProperServers.{IsProper}
-use Rattle.cluster_machines.specs.Machines.{address_of}
-use Rattle.cluster_world.specs.ClusterWorlds.{ClusterState, new_cluster}
+use Rattle.world_rule.specs.Machines.{address_of}
+use Rattle.world_rule.specs.ClusterWorlds.{ClusterState, new_cluster}
 use Rattle.world_moves.proofs.Starts.{servers_are, length_there, length_boots, all_proper}
 use Rattle.holder_parts.specs.HeldOwners.{BelongTo, DoHoldersOwn}
 use Rattle.held_mirrors.specs.HeldMirrors.{EachHolderOwns}

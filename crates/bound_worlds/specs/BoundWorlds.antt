@@ -18,7 +18,7 @@ use Rattle.cluster_model.specs.Event.{EventValue}
 use Rattle.cluster_laws.specs.Agreement.{AgreesAlways}
 use Rattle.device_addr.specs.Universal.{AddressValue}
 use Rattle.mds_laws.specs.MdsRuns.{MdsEvent, Ticks, after_event, mds_run}
-use Rattle.cluster_world.specs.ClusterWorlds.{ClusterState, new_cluster, behind}
+use Rattle.world_rule.specs.ClusterWorlds.{ClusterState, new_cluster, behind}
 use Rattle.holder_parts.specs.HolderParts.{EndsOwnNext, HoldersKeepParts}
 use Rattle.holder_parts.specs.HeldOwners.{DoHoldersOwn}
 use Rattle.world_moves.specs.WorldMoves.{IsEntryCarried}

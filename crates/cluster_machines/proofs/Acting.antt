@@ -17,7 +17,7 @@ use Rattle.client_state.specs.ClientStates.{ClientValue}
 use Rattle.client_state.specs.ClientSends.{ClientStep, sends_none}
 use Rattle.client_state.specs.QueueSteps.{HasStepped}
 use Rattle.mirror_client.specs.ClientSteps.{ClientOfUser, StepsBy}
-use Rattle.cluster_machines.specs.Machines.{MachinesValue, mds_acts, nth, does_nothing, client_did, client_at, started, client_acts, server_at, server_acts, restarts, restarts_at, HasActed}
+use Rattle.world_rule.specs.Machines.{MachinesValue, mds_acts, nth, does_nothing, client_did, client_at, started, client_acts, server_at, server_acts, restarts, restarts_at, HasActed}
 use Rattle.cluster_machines.specs.Indexes.{index_at}
 use Rattle.cluster_machines.proofs.Numbered.{before, found, not_found, put_again}
 

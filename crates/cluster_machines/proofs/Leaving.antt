@@ -6,7 +6,7 @@ use Rattle.client_state.specs.ClientStates.{ClientValue, fresh_client}
 use Rattle.client_state.specs.ClientSends.{sends_none}
 use Rattle.client_state.specs.QueueSteps.{HasStepped}
 use Rattle.mirror_client.specs.ClientRule.{turned, strays}
-use Rattle.cluster_machines.specs.Machines.{leaves, goes_astray, starts_anew}
+use Rattle.world_rule.specs.Machines.{leaves, goes_astray, starts_anew}
 
 -- it stays as it is
 pub left_before : (n : ℕ) (c : ClientValue) → c.has_left ≡ true → leaves n c ≡ sends_none c

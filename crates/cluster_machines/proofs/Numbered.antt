@@ -6,7 +6,7 @@ use Rattle.std.proofs.lemmas.Bool.{ne_eqb, leb-true}
 use Rattle.std.proofs.lemmas.List.{map-append, set-get_or}
 use Rattle.std.proofs.lemmas.List.FromFn.{map-range_with_len_more}
 use Rattle.std.proofs.lemmas.Option.{slice_get_past, get_or_from_slice_get}
-use Rattle.cluster_machines.specs.Machines.{nth}
+use Rattle.world_rule.specs.Machines.{nth}
 use Rattle.cluster_machines.specs.Indexes.{index_at}
 
 -- one machine more, with the next number; as what is seen of it, and as it is

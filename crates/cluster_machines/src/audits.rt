@@ -2,7 +2,7 @@
 
 ghost use Rattle.std.specs.Prelude.{◌≡◌, ◌++◌, IfOk, OnOk, map, option_copied};
 ghost use Rattle.cluster_model.specs.declared.ids.Mirror.{Mirror};
-ghost use Rattle.cluster_machines.specs.Machines.{audit_of, audits, nth, shown_by, shown_or_none, HasActed};
+ghost use Rattle.world_rule.specs.Machines.{audit_of, audits, nth, shown_by, shown_or_none, HasActed};
 
 use crate::machines::Machines;
 use cluster_model::{Entry, FileId, MirrorId, Mirrors, Outbox};

@@ -6,7 +6,7 @@ ghost use Rattle.device_addr.specs.Universal.{address_value};
 ghost use Rattle.node_config.specs.declared.config.TheConstants.{MAX_SERVERS, MAX_NUMBER};
 ghost use Rattle.cluster_model.specs.Server.{new_server};
 ghost use Rattle.client_state.specs.ClientStates.{fresh_client};
-ghost use Rattle.cluster_machines.specs.Machines.{address_of};
+ghost use Rattle.world_rule.specs.Machines.{address_of};
 
 use device_addr::NetAddr;
 use ds_files::DataServer;

@@ -4,7 +4,7 @@ ghost use Rattle.std.specs.Prelude.{◌≡◌, ◌≤◌, IfOk, OnOk, option_cop
 ghost use Rattle.node_config.specs.declared.config.TheConstants.{MAX_SERVERS, MAX_MIRRORS, MAX_NUMBER};
 ghost use Rattle.mds_rule.specs.Events.{takes_tick, takes_recall, takes_resilver};
 ghost use Rattle.mirror_client.specs.ClientRule.{client_recorded, client_timed_out, client_ticked};
-ghost use Rattle.cluster_machines.specs.Machines.{new_machines, nth, mds_acts, client_acts, server_acts, receives, times_out, HasActed};
+ghost use Rattle.world_rule.specs.Machines.{new_machines, nth, mds_acts, client_acts, server_acts, receives, times_out, HasActed};
 
 use crate::first::{new_clients, new_config, new_servers};
 use crate::numbers::index_of;
@@ -30,7 +30,7 @@ pub struct Machines {
 impl Model for Machines {
     ghost use Rattle.std.specs.Prelude.{◌≤◌, map, length};
     ghost use Rattle.node_config.specs.declared.config.TheConstants.{MAX_NUMBER};
-    ghost use Rattle.cluster_machines.specs.Machines.{MachinesValue};
+    ghost use Rattle.world_rule.specs.Machines.{MachinesValue};
 
     ghost Value = { MachinesValue };
 

@@ -1,7 +1,7 @@
 //! Data servers that start again.
 
 ghost use Rattle.std.specs.Prelude.{◌≡◌, OnOk};
-ghost use Rattle.cluster_machines.specs.Machines.{restarts, HasActed};
+ghost use Rattle.world_rule.specs.Machines.{restarts, HasActed};
 
 use crate::machines::Machines;
 use crate::numbers::index_of;

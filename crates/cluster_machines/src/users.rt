@@ -3,7 +3,7 @@
 ghost use Rattle.std.specs.Prelude.{◌≡◌, ◌≤◌, OnOk, length};
 ghost use Rattle.cluster_model.specs.declared.limits.TheConstants.{PIECE_SIZE};
 ghost use Rattle.client_state.specs.declared.request.UserRequest.TheVariants.{Open, Write, Through, Commit, Read, Return};
-ghost use Rattle.cluster_machines.specs.Machines.{client_acts, is_asked, leaves, goes_astray, starts_anew, HasActed};
+ghost use Rattle.world_rule.specs.Machines.{client_acts, is_asked, leaves, goes_astray, starts_anew, HasActed};
 
 use crate::first::new_client;
 use crate::machines::Machines;

@@ -9,10 +9,10 @@ use Rattle.world_journal.specs.declared.fault.WorldFault.TheVariants.{Limit, NoM
 use Rattle.world_journal.specs.Journal.{is_within}
 use Rattle.world_journal.specs.SentPackets.{packets_of}
 use Rattle.packet_table.specs.Packets.{PacketsValue}
-use Rattle.cluster_machines.specs.Machines.{MachinesValue, Act, HasActed, nth, client_acts, starts_anew}
+use Rattle.world_rule.specs.Machines.{MachinesValue, Act, HasActed, nth, client_acts, starts_anew}
 use Rattle.cluster_world.specs.Drafts.{DraftValue, PassesLimit}
-use Rattle.cluster_world.specs.ClusterWorlds.{ClusterState, entering, acting, packets, rebooting, verifier_after, may_start, with_verifier}
-use Rattle.cluster_world.specs.Sent.{noting_all, packets_in}
+use Rattle.world_rule.specs.ClusterWorlds.{ClusterState, entering, acting, packets, rebooting, verifier_after, may_start, with_verifier}
+use Rattle.world_rule.specs.Sent.{noting_all, packets_in}
 use Rattle.cluster_world.specs.WorldSteps.{StageValue, IsNoted, StageBecomes, acted, drafted}
 use Rattle.cluster_world.proofs.Lengths.{length_part, past_limit}
 use Rattle.cluster_world.proofs.Noted.{noted_behind, held_in, with_other_held}

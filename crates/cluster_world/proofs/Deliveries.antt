@@ -8,10 +8,10 @@ use Rattle.world_journal.specs.declared.fault.WorldFault.{WorldFault}
 use Rattle.world_journal.specs.SentPackets.{packets_of}
 use Rattle.packet_table.specs.declared.note.PacketNote.{PacketNote}
 use Rattle.packet_table.specs.Packets.{packet_numbered}
-use Rattle.cluster_machines.specs.Machines.{MachinesValue, Act, HasActed, receives}
+use Rattle.world_rule.specs.Machines.{MachinesValue, Act, HasActed, receives}
 use Rattle.cluster_world.specs.Drafts.{DraftValue, PassesLimit, with_entry, with_act}
-use Rattle.cluster_world.specs.Sent.{bytes_at_place}
-use Rattle.cluster_world.specs.ClusterWorlds.{ClusterState, packets, packet_comes, delivering}
+use Rattle.world_rule.specs.Sent.{bytes_at_place}
+use Rattle.world_rule.specs.ClusterWorlds.{ClusterState, packets, packet_comes, delivering}
 use Rattle.cluster_world.specs.WorldSteps.{StageValue, StageBecomes, drafted}
 use Rattle.cluster_world.proofs.Lengths.{length_part}
 use Rattle.cluster_world.proofs.Comings.{past, fresh}

@@ -4,7 +4,7 @@ use Rattle.cluster_model.specs.declared.ids.NodeId.{NodeId}
 use Rattle.cluster_model.specs.declared.entry.Entry.{Entry}
 use Rattle.cluster_model.specs.declared.entry.Entry.TheVariants.{Packet, Delivered}
 use Rattle.packet_table.specs.Packets.{PacketsValue}
-use Rattle.cluster_world.specs.Sent.{noting, noting_all, packets_in}
+use Rattle.world_rule.specs.Sent.{noting, noting_all, packets_in}
 
 -- entries behind entries
 noted_append : (p : PacketsValue) (place : ℕ) (xs ys : List Entry) → noting_all p place (xs ++ ys) ≡ noting_all (noting_all p place xs) (place + length xs) ys

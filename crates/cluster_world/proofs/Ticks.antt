@@ -12,9 +12,9 @@ use Rattle.world_journal.specs.declared.fault.WorldFault.{WorldFault}
 use Rattle.world_journal.specs.declared.fault.WorldFault.TheVariants.{Limit, NoMemory}
 use Rattle.world_journal.specs.declared.journal.TheConstants.{MAX_ENTRIES}
 use Rattle.world_journal.specs.SentPackets.{packets_of}
-use Rattle.cluster_machines.specs.Machines.{MachinesValue, Act, HasActed, mds_acts, client_acts}
+use Rattle.world_rule.specs.Machines.{MachinesValue, Act, HasActed, mds_acts, client_acts}
 use Rattle.cluster_world.specs.Drafts.{DraftValue, PassesLimit, with_entry, with_act}
-use Rattle.cluster_world.specs.ClusterWorlds.{ClusterState, entering, acting, client_ticks, clients_tick, mds_ticks, ticking}
+use Rattle.world_rule.specs.ClusterWorlds.{ClusterState, entering, acting, client_ticks, clients_tick, mds_ticks, ticking}
 use Rattle.cluster_world.specs.WorldSteps.{StageValue, StageBecomes, drafted, drafted_with, Drafts, all_tick}
 use Rattle.cluster_world.proofs.Comings.{past, fresh}
 use Rattle.cluster_world.proofs.Lengths.{length_part, past_limit}

@@ -11,10 +11,10 @@ use Rattle.world_journal.specs.declared.journal.TheConstants.{MAX_ENTRIES}
 use Rattle.world_journal.specs.Journal.{is_within}
 use Rattle.world_journal.specs.SentPackets.{packets_of}
 use Rattle.packet_table.specs.Packets.{PacketsValue}
-use Rattle.cluster_machines.specs.Machines.{MachinesValue}
+use Rattle.world_rule.specs.Machines.{MachinesValue}
 use Rattle.cluster_world.specs.Drafts.{DraftValue}
-use Rattle.cluster_world.specs.Sent.{packets_in}
-use Rattle.cluster_world.specs.ClusterWorlds.{ClusterState, delivering, clients_tick, mds_ticks}
+use Rattle.world_rule.specs.Sent.{packets_in}
+use Rattle.world_rule.specs.ClusterWorlds.{ClusterState, delivering, clients_tick, mds_ticks}
 
 -- ---- what an event asks of who lets it happen: the ranges of a script
 

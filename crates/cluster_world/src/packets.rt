@@ -3,8 +3,8 @@
 ghost use Rattle.std.specs.Prelude.{◌≡◌};
 ghost use Rattle.cluster_model.specs.Event.{Hold, Pass};
 ghost use Rattle.packet_table.specs.Packets.{number_between};
-ghost use Rattle.cluster_world.specs.ClusterWorlds.{packets, delivering, delivering_some, behind};
-ghost use Rattle.cluster_world.specs.Sent.{bytes_at_place};
+ghost use Rattle.world_rule.specs.ClusterWorlds.{packets, delivering, delivering_some, behind};
+ghost use Rattle.world_rule.specs.Sent.{bytes_at_place};
 ghost use Rattle.cluster_world.specs.WorldSteps.{IsNoted, StageBecomes};
 
 use crate::stage::Stage;

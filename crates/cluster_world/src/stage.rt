@@ -2,8 +2,8 @@
 
 ghost use Rattle.std.specs.Prelude.{◌≡◌, ◌+◌, ◌*◌, ◌<◌, ◌≤◌, ◌^◌, IfOk, OnOk, [], ◌∷◌, length};
 ghost use Rattle.node_config.specs.declared.config.TheConstants.{MAX_SERVERS, MAX_MIRRORS, MAX_NUMBER};
-ghost use Rattle.cluster_world.specs.Sent.{noting, noting_all};
-ghost use Rattle.cluster_world.specs.ClusterWorlds.{new_cluster, entering};
+ghost use Rattle.world_rule.specs.Sent.{noting, noting_all};
+ghost use Rattle.world_rule.specs.ClusterWorlds.{new_cluster, entering};
 ghost use Rattle.cluster_world.specs.WorldSteps.{IsNoted, StageBecomes, drafted, acted};
 
 use crate::draft::Draft;

@@ -3,7 +3,7 @@
 ghost use Rattle.std.specs.Prelude.{◌≡◌, ◌≤◌, length};
 ghost use Rattle.std.specs.List.{range_with_len};
 ghost use Rattle.cluster_model.specs.Event.{Timeout, Recall, Resilver, Restart};
-ghost use Rattle.cluster_world.specs.ClusterWorlds.{client_ticks, clients_tick, mds_ticks, ticking, behind};
+ghost use Rattle.world_rule.specs.ClusterWorlds.{client_ticks, clients_tick, mds_ticks, ticking, behind};
 ghost use Rattle.cluster_world.specs.WorldSteps.{IsNoted, StageBecomes, Drafts, all_tick};
 
 use crate::draft::Draft;

@@ -3,8 +3,8 @@
 ghost use Rattle.std.specs.Prelude.{◌≡◌, ◌≤◌, IfOk, length, replicate};
 ghost use Rattle.cluster_model.specs.declared.limits.TheConstants.{PIECE_SIZE};
 ghost use Rattle.cluster_model.specs.Event.{Open, Write, Through, Fill, Commit, Read, Return, Rogue, Stray, Reboot, Audit};
-ghost use Rattle.cluster_machines.specs.Machines.{nth};
-ghost use Rattle.cluster_world.specs.ClusterWorlds.{behind, verifier_after, may_start, with_verifier};
+ghost use Rattle.world_rule.specs.Machines.{nth};
+ghost use Rattle.world_rule.specs.ClusterWorlds.{behind, verifier_after, may_start, with_verifier};
 ghost use Rattle.cluster_world.specs.WorldSteps.{IsNoted, StageBecomes};
 
 use crate::stage::Stage;

@@ -6,8 +6,8 @@ ghost use Rattle.world_journal.specs.Journal.{IsJournalInRange};
 ghost use Rattle.world_journal.specs.declared.fault.WorldFault.{WorldFault};
 ghost use Rattle.packet_table.specs.Packets.{next_waiting};
 ghost use Rattle.cluster_script.specs.ClusterLines.{cluster_event};
-ghost use Rattle.cluster_machines.specs.Machines.{nth};
-ghost use Rattle.cluster_world.specs.ClusterWorlds.{new_cluster, packets, behind};
+ghost use Rattle.world_rule.specs.Machines.{nth};
+ghost use Rattle.world_rule.specs.ClusterWorlds.{new_cluster, packets, behind};
 ghost use Rattle.cluster_world.specs.WorldSteps.{IsOfScript, IsNoted, StageBecomes, WorldBecomes, Flows};
 
 use crate::stage::Stage;

@@ -7,8 +7,8 @@ use Rattle.cluster_model.specs.Event.{DeliverPacket}
 use Rattle.world_journal.specs.Journal.{max_entries, is_within}
 use Rattle.packet_table.specs.declared.note.PacketNote.{PacketNote}
 use Rattle.packet_table.specs.Packets.{PacketsValue, packet_numbered, waits, next_waiting}
-use Rattle.cluster_world.specs.ClusterWorlds.{ClusterState, packets, packet_comes, delivering, within_limits, cluster_step}
-use Rattle.cluster_world.specs.ClusterRuns.{ClusterRun, entries_added, with_step, flow_by, flow_for, flow_then}
+use Rattle.world_rule.specs.ClusterWorlds.{ClusterState, packets, packet_comes, delivering, within_limits, cluster_step}
+use Rattle.world_rule.specs.ClusterRuns.{ClusterRun, entries_added, with_step, flow_by, flow_for, flow_then}
 use Rattle.ff_replay.proofs.WorldGrows.{comes_more}
 
 -- ---- the first that waits is there

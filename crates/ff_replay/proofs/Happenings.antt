@@ -7,8 +7,8 @@ use Rattle.packet_table.specs.Packets.{next_waiting}
 use Rattle.cluster_script.specs.declared.sizes.ClusterSizes.{ClusterSizes}
 use Rattle.ff_world.specs.World.{WorldState, WorldStep, effect_of, step_by_effect, world_step, Run, run_of}
 use Rattle.ff_world.specs.World as bare
-use Rattle.cluster_world.specs.ClusterWorlds.{ClusterState, packets, behind, within_limits}
-use Rattle.cluster_world.specs.ClusterRuns.{ClusterRun, entries_added, with_step, flow_by, flow_then, event_then, cluster_run}
+use Rattle.world_rule.specs.ClusterWorlds.{ClusterState, packets, behind, within_limits}
+use Rattle.world_rule.specs.ClusterRuns.{ClusterRun, entries_added, with_step, flow_by, flow_then, event_then, cluster_run}
 use Rattle.ff_replay.specs.Script.{ScriptWorld, BareWorld, ClusterWorld, setup_of_world, journal_in, bare_run, run_in, run_behind}
 use Rattle.ff_replay.specs.Player.{LinePlayed, Outside, Limited, Goes, bare_goes, cluster_goes, flows_by, flowed, is_flow, cluster_played, event_played}
 use Rattle.ff_replay.proofs.WorldGrows.{Grows, grows, journaled}

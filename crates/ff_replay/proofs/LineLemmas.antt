@@ -14,7 +14,7 @@ use Rattle.cluster_script.specs.declared.event.ClusterEvent.{ClusterEvent}
 use Rattle.cluster_script.specs.declared.sizes.ClusterSizes.{ClusterSizes}
 use Rattle.cluster_script.specs.ClusterLines as cluster
 use Rattle.cluster_script.specs.ClusterLines.{cluster_event}
-use Rattle.cluster_world.specs.ClusterWorlds.{ClusterState}
+use Rattle.world_rule.specs.ClusterWorlds.{ClusterState}
 use Rattle.cluster_world.specs.WorldSteps.{ClusterValue}
 use Rattle.journal_print.specs.declared.mode.Mode.{Mode}
 use Rattle.ff_replay.specs.declared.setup.Setup.{Setup}

@@ -9,7 +9,7 @@ use Rattle.cluster_script.specs.declared.sizes.ClusterSizes.{ClusterSizes}
 use Rattle.cluster_script.specs.ClusterLines as cluster
 use Rattle.ff_script.specs.Line.{event_at}
 use Rattle.ff_world.specs.World.{Run}
-use Rattle.cluster_world.specs.ClusterWorlds.{ClusterState}
+use Rattle.world_rule.specs.ClusterWorlds.{ClusterState}
 use Rattle.journal_print.specs.declared.mode.Mode.{Mode}
 use Rattle.ff_replay.specs.declared.setup.Setup.{Setup}
 use Rattle.ff_replay.specs.declared.setup.Setup.TheVariants.{Bare, Cluster}

@@ -3,7 +3,7 @@ use Rattle.std.proofs.Common.{◌≡◌, ℕ, ◌+◌, ◌-◌, ◌<◌, ◌≤�
 use Rattle.world_journal.specs.declared.fault.WorldFault.{WorldFault}
 use Rattle.world_journal.specs.Journal.{max_entries}
 use Rattle.packet_table.specs.Packets.{next_waiting}
-use Rattle.cluster_world.specs.ClusterWorlds.{ClusterState, packets, delivering}
+use Rattle.world_rule.specs.ClusterWorlds.{ClusterState, packets, delivering}
 use Rattle.cluster_world.specs.WorldSteps.{ClusterValue, Flows}
 use Rattle.ff_replay.proofs.Flows.{delivered_more, few_within}
 

@@ -13,7 +13,7 @@ use Rattle.cluster_script.specs.declared.sizes.ClusterSizes.{ClusterSizes}
 use Rattle.cluster_model.specs.Event.{EventValue, DeliverPacket}
 use Rattle.packet_table.specs.Packets.{next_waiting}
 use Rattle.ff_world.specs.World.{WorldStep, world_step}
-use Rattle.cluster_world.specs.ClusterWorlds.{ClusterState, packets, cluster_step}
+use Rattle.world_rule.specs.ClusterWorlds.{ClusterState, packets, cluster_step}
 use Rattle.world_journal.specs.declared.fault.WorldFault.{WorldFault}
 use Rattle.journal_print.specs.declared.mode.Mode.{Mode}
 use Rattle.ff_replay.specs.Script.{ScriptLine, SaysNothing, SetsUp, Happens, ScriptWorld, BareWorld, ClusterWorld, setup_of, journal_so_far, line_in, trace_of, closing_of, meaning_from, journal_behind, script_task}

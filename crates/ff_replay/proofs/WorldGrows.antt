@@ -7,8 +7,8 @@ use Rattle.cluster_model.specs.declared.entry.Entry.TheVariants as entry
 use Rattle.cluster_model.specs.Event.{EventValue, Deliver, DeliverPacket, DeliverBetween, Flow, Hold, Pass, Timeout, Tick, Open, Write, Through, Fill, Commit, Read, Return, Rogue, Stray, Reboot, Recall, Resilver, Audit, Restart}
 use Rattle.packet_table.specs.declared.note.PacketNote.{PacketNote}
 use Rattle.packet_table.specs.Packets.{packet_numbered, number_between}
-use Rattle.cluster_world.specs.ClusterWorlds.{ClusterState, entering, packets, packet_comes, delivering, delivering_some, client_ticks, clients_tick, mds_ticks, ticking, behind}
-use Rattle.cluster_world.specs.ClusterRuns.{entries_added}
+use Rattle.world_rule.specs.ClusterWorlds.{ClusterState, entering, packets, packet_comes, delivering, delivering_some, client_ticks, clients_tick, mds_ticks, ticking, behind}
+use Rattle.world_rule.specs.ClusterRuns.{entries_added}
 
 -- entries were added behind the others
 abbrev pub Grows : ClusterState → ClusterState → Type 0

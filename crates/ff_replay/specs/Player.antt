@@ -12,8 +12,8 @@ use Rattle.world_journal.specs.Journal.{max_entries}
 use Rattle.packet_table.specs.Packets.{next_waiting}
 use Rattle.ff_world.specs.World.{WorldStep, WorldValue, world_step}
 use Rattle.cluster_script.specs.declared.sizes.ClusterSizes.{ClusterSizes}
-use Rattle.cluster_world.specs.ClusterWorlds.{ClusterState, packets, cluster_step}
-use Rattle.cluster_world.specs.ClusterRuns.{entries_added}
+use Rattle.world_rule.specs.ClusterWorlds.{ClusterState, packets, cluster_step}
+use Rattle.world_rule.specs.ClusterRuns.{entries_added}
 use Rattle.cluster_world.specs.WorldSteps.{ClusterValue}
 use Rattle.journal_print.specs.declared.mode.Mode.{Mode}
 use Rattle.ff_replay.specs.declared.setup.Setup.{Setup}

@@ -16,8 +16,8 @@ use Rattle.ff_script.specs.Line as bare
 use Rattle.cluster_script.specs.declared.sizes.ClusterSizes.{ClusterSizes}
 use Rattle.cluster_script.specs.ClusterLines as cluster
 use Rattle.ff_world.specs.World.{WorldState, Run, preset_world, run_of}
-use Rattle.cluster_world.specs.ClusterWorlds.{ClusterState, new_cluster}
-use Rattle.cluster_world.specs.ClusterRuns.{ClusterRun, flow_then, cluster_run}
+use Rattle.world_rule.specs.ClusterWorlds.{ClusterState, new_cluster}
+use Rattle.world_rule.specs.ClusterRuns.{ClusterRun, flow_then, cluster_run}
 use Rattle.journal_print.specs.declared.mode.Mode.{Mode}
 use Rattle.journal_print.specs.declared.mode.Mode.TheVariants.{Full, Brief, Count}
 use Rattle.ff_replay.specs.declared.setup.Setup.{Setup}

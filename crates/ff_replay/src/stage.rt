@@ -6,7 +6,7 @@ ghost use Rattle.world_journal.specs.Journal.{IsJournalInRange, max_entries};
 ghost use Rattle.ff_script.specs.Line.{event_value};
 ghost use Rattle.cluster_script.specs.declared.sizes.ClusterSizes.{ClusterSizes};
 ghost use Rattle.cluster_script.specs.ClusterLines.{cluster_event};
-ghost use Rattle.cluster_world.specs.ClusterWorlds.{cluster_step};
+ghost use Rattle.world_rule.specs.ClusterWorlds.{cluster_step};
 ghost use Rattle.cluster_world.specs.WorldSteps.{IsOfScript};
 ghost use Rattle.ff_world.specs.World.{world_step};
 ghost use Rattle.ff_replay.specs.Script.{setup_of_world, entries_in, journal_in, world_of};

@@ -7,7 +7,7 @@ use Rattle.cluster_model.specs.declared.ids.Mirror.{Mirror}
 use Rattle.cluster_model.specs.declared.entry.Entry.{Entry}
 use Rattle.cluster_model.specs.declared.entry.Entry.TheVariants as entry
 use Rattle.mds_rule.specs.MdsStates.{ServedFile}
-use Rattle.cluster_machines.specs.Machines.{MachinesValue, audit_of, audits_of}
+use Rattle.world_rule.specs.Machines.{MachinesValue, audit_of, audits_of}
 use Rattle.node_histories.specs.NodeHistories.{is_client_entry, is_mds_entry, is_server_entry, is_world_entry}
 use Rattle.node_histories.proofs.MdsKinds.{IsMdsEntry, of_mds}
 use Rattle.node_histories.proofs.ServerEntries.{AreServerEntries}

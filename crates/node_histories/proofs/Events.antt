@@ -30,9 +30,9 @@ use Rattle.mds_histories.specs.MdsHistory.{Comes}
 use Rattle.packet_table.specs.declared.note.PacketNote.{PacketNote}
 use Rattle.packet_table.specs.Packets.{packet_numbered, number_between}
 use Rattle.world_journal.specs.SentPackets.{packets_of}
-use Rattle.cluster_machines.specs.Machines.{Act, does_nothing, nth, mds_acts, client_at, client_acts, server_at, receives, times_out, leaves, goes_astray, starts_anew, started, restarts_at, restarts, audits_of, audits}
-use Rattle.cluster_world.specs.Sent.{bytes_at_place}
-use Rattle.cluster_world.specs.ClusterWorlds.{ClusterState, entering, packets, acting, packet_comes, delivering, delivering_some, client_ticks, clients_tick, ticking, asking, verifier_after, may_start, with_verifier, rebooting, behind}
+use Rattle.world_rule.specs.Machines.{Act, does_nothing, nth, mds_acts, client_at, client_acts, server_at, receives, times_out, leaves, goes_astray, starts_anew, started, restarts_at, restarts, audits_of, audits}
+use Rattle.world_rule.specs.Sent.{bytes_at_place}
+use Rattle.world_rule.specs.ClusterWorlds.{ClusterState, entering, packets, acting, packet_comes, delivering, delivering_some, client_ticks, clients_tick, ticking, asking, verifier_after, may_start, with_verifier, rebooting, behind}
 use Rattle.node_histories.specs.Weaves.{IsUnseen, HasPacket}
 use Rattle.proper_servers.specs.ProperServers.{IsProper}
 use Rattle.node_histories.specs.ClientLives.{StraysIfLeft}

@@ -11,7 +11,7 @@ use Rattle.mds_laws.proofs.Lists.{Split, split_in, got_in}
 use Rattle.packet_table.specs.declared.note.PacketNote.{PacketNote}
 use Rattle.packet_table.specs.Packets.{PacketsValue, packet_numbered, came_at, after_coming}
 use Rattle.world_journal.specs.SentPackets.{packets_of}
-use Rattle.cluster_world.specs.Sent.{noting, noting_all, packets_in, bytes_of_packet, bytes_at_place}
+use Rattle.world_rule.specs.Sent.{noting, noting_all, packets_in, bytes_of_packet, bytes_at_place}
 use Rattle.node_histories.specs.Weaves.{HasPacket}
 use Rattle.node_histories.specs.NodeHistories.{PacketsAreNumbered}
 use Rattle.node_histories.proofs.Stories.{IsAt, at_number}

@@ -6,8 +6,8 @@ use Rattle.cluster_model.specs.declared.ids.NodeId.TheVariants.{Mds}
 use Rattle.cluster_model.specs.declared.entry.Entry.{Entry}
 use Rattle.cluster_model.specs.declared.entry.Entry.TheVariants.{Packet}
 use Rattle.client_state.specs.ClientStates.{fresh_client}
-use Rattle.cluster_machines.specs.Machines.{address_of}
-use Rattle.cluster_world.specs.ClusterWorlds.{new_cluster}
+use Rattle.world_rule.specs.Machines.{address_of}
+use Rattle.world_rule.specs.ClusterWorlds.{new_cluster}
 use Rattle.node_histories.specs.ClientLives.{Life}
 use Rattle.node_histories.specs.NodeHistories.{ClientStory, AreClientStories, LivesOfScript, MdsStory, Origin, IsToldByNodes}
 

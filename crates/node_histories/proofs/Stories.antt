@@ -7,7 +7,7 @@ use Rattle.std.proofs.lemmas.Option.{none-some, same_Some}
 use Rattle.cluster_model.specs.declared.entry.Entry.{Entry}
 use Rattle.client_state.specs.ClientStates.{ClientValue}
 use Rattle.client_laws.specs.ClientHistory.{HistoryItem}
-use Rattle.cluster_machines.specs.Machines.{nth}
+use Rattle.world_rule.specs.Machines.{nth}
 use Rattle.node_histories.specs.Weaves.{WeaveStep}
 use Rattle.node_histories.specs.ClientLives.{Life}
 use Rattle.node_histories.specs.NodeHistories.{ClientStory, IsClientStory, AreClientStories, LivesOfScript, HasLife}

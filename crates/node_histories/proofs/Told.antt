@@ -9,8 +9,8 @@ use Rattle.client_laws.specs.ClientHistory.{ClientInput, input_step, items_of}
 use Rattle.mds_rule.specs.MdsStates.{MdsValue}
 use Rattle.mds_laws.specs.MdsRuns.{MdsEvent, after_event}
 use Rattle.mds_histories.specs.MdsHistory as mds
-use Rattle.cluster_machines.specs.Machines.{nth}
-use Rattle.cluster_world.specs.ClusterWorlds.{ClusterState, verifier_after}
+use Rattle.world_rule.specs.Machines.{nth}
+use Rattle.world_rule.specs.ClusterWorlds.{ClusterState, verifier_after}
 use Rattle.node_histories.specs.Weaves.{entries_in}
 use Rattle.node_histories.specs.ClientLives.{StraysIfLeft}
 use Rattle.node_histories.specs.NodeHistories.{AreTogether, MdsStory, IsMdsStory, ClientStory, AreClientStories, IsClientStory, IsInputOfScript, is_world_entry, HasLife, EnteredByWorld, PacketsAreNumbered, IsToldByNodes}

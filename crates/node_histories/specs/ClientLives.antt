@@ -6,7 +6,7 @@ use Rattle.cluster_model.specs.declared.entry.Entry.TheVariants.{Rebooted}
 use Rattle.client_state.specs.ClientStates.{ClientValue, fresh_client}
 use Rattle.client_state.specs.ClientSends.{spelled_send}
 use Rattle.client_laws.specs.ClientHistory.{ClientInput, Requested, Recorded, TimeoutOf, Ticked, LeftProtocol, Strayed, HistoryItem, Hears, Enters, Sends, client_history, client_after, input_step}
-use Rattle.cluster_world.specs.ClusterWorlds.{verifier_after}
+use Rattle.world_rule.specs.ClusterWorlds.{verifier_after}
 use Rattle.node_histories.specs.Weaves.{ItemShown, IsUnseen, IsArrival, IsEntry, IsSending, WeaveStep, entries_in, items_in, AreWoven}
 
 abbrev pub input_shown : ClientInput → ItemShown

@@ -23,8 +23,8 @@ use Rattle.client_state.specs.ClientStates.{ClientValue}
 use Rattle.client_state.specs.ClientSends.{ClientSend}
 use Rattle.client_laws.specs.ClientHistory.{ClientInput, HistoryItem}
 use Rattle.client_laws.specs.ClientHistory as client
-use Rattle.cluster_machines.specs.Machines.{nth}
-use Rattle.cluster_world.specs.ClusterWorlds.{ClusterState, new_cluster, behind}
+use Rattle.world_rule.specs.Machines.{nth}
+use Rattle.world_rule.specs.ClusterWorlds.{ClusterState, new_cluster, behind}
 use Rattle.node_histories.specs.Weaves.{ItemShown, IsUnseen, IsArrival, IsEntry, IsSending, WeaveStep, Passes, Unseen, Seen, entries_in, items_in, AreWoven, HasPacket, StandsAt}
 use Rattle.node_histories.specs.ClientLives.{Life, client_of, journal_of, IsOneOf, AreLives}
 

@@ -15,8 +15,8 @@ use Rattle.client_state.specs.ClientSends.{ClientStep}
 use Rattle.mirror_client.specs.ClientRule.{client_requested, client_recorded, client_timed_out, client_ticked}
 use Rattle.packet_table.specs.declared.note.PacketNote.{PacketNote}
 use Rattle.packet_table.specs.Packets.{packet_numbered, number_between}
-use Rattle.cluster_machines.specs.Machines.{MachinesValue, Act, nth, client_at, server_at, started, restarts_at, receives, times_out, leaves, goes_astray, starts_anew}
-use Rattle.cluster_world.specs.ClusterWorlds.{ClusterState, packets, new_cluster, packet_comes, delivering_some, client_ticks, clients_tick, behind, verifier_after}
+use Rattle.world_rule.specs.Machines.{MachinesValue, Act, nth, client_at, server_at, started, restarts_at, receives, times_out, leaves, goes_astray, starts_anew}
+use Rattle.world_rule.specs.ClusterWorlds.{ClusterState, packets, new_cluster, packet_comes, delivering_some, client_ticks, clients_tick, behind, verifier_after}
 
 -- as many as these machines have
 abbrev CountsAs : MachinesValue → Act → Type 0

@@ -5,8 +5,8 @@ use Rattle.cluster_model.specs.declared.entry.Entry.{Entry}
 use Rattle.cluster_model.specs.Event.{EventValue, DeliverPacket, Flow}
 use Rattle.world_journal.specs.Journal.{is_within, max_entries}
 use Rattle.packet_table.specs.Packets.{next_waiting}
-use Rattle.cluster_world.specs.ClusterWorlds.{ClusterState, packets, behind, cluster_step}
-use Rattle.cluster_world.specs.ClusterRuns.{ClusterRun, entries_added, with_step, flow_by, flow_for, event_then, cluster_run}
+use Rattle.world_rule.specs.ClusterWorlds.{ClusterState, packets, behind, cluster_step}
+use Rattle.world_rule.specs.ClusterRuns.{ClusterRun, entries_added, with_step, flow_by, flow_for, event_then, cluster_run}
 use Rattle.ff_replay.proofs.WorldGrows.{Grows, grows, journaled}
 use Rattle.ff_replay.proofs.Flows.{let_in}
 use Rattle.node_histories.specs.NodeHistories.{IsEventInRange}

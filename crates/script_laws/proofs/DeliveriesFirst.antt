@@ -23,9 +23,9 @@ use Rattle.mds_laws.specs.MdsRuns.{MdsEvent, Hears, IsTimedOut, Ticks, RecallsFi
 use Rattle.packet_table.specs.declared.note.PacketNote.{PacketNote}
 use Rattle.packet_table.specs.Packets.{packet_numbered, number_between}
 use Rattle.world_journal.specs.SentPackets.{packets_of}
-use Rattle.cluster_machines.specs.Machines.{MachinesValue, Act, nth, client_at, client_acts, server_at, started, restarts_at, receives, times_out, leaves, goes_astray, starts_anew, audit_of, audits_of}
-use Rattle.cluster_world.specs.ClusterWorlds.{ClusterState, packets, entering, acting, packet_comes, delivering_some, client_ticks, clients_tick, behind, verifier_after}
-use Rattle.cluster_world.specs.Sent.{bytes_at_place}
+use Rattle.world_rule.specs.Machines.{MachinesValue, Act, nth, client_at, client_acts, server_at, started, restarts_at, receives, times_out, leaves, goes_astray, starts_anew, audit_of, audits_of}
+use Rattle.world_rule.specs.ClusterWorlds.{ClusterState, packets, entering, acting, packet_comes, delivering_some, client_ticks, clients_tick, behind, verifier_after}
+use Rattle.world_rule.specs.Sent.{bytes_at_place}
 use Rattle.node_histories.specs.NodeHistories.{is_client_entry, is_server_entry}
 use Rattle.node_histories.proofs.MdsKinds.{IsMdsEntry}
 use Rattle.node_histories.proofs.MdsEntries.{mds_kinds}
@@ -202,7 +202,7 @@ event_adds (Tick seconds) w =
     let ticked : ClusterState = clients_tick (range_with_len 1 (length w.machines.clients)) later in
     NoneAdded (adds_then w.journal later.journal (behind (Tick seconds) w).journal (one_more w.journal (entry.Tick seconds) tt)
     (adds_then later.journal ticked.journal (behind (Tick seconds) w).journal (ticks_add (range_with_len 1 (length w.machines.clients)) later)
-    (acts_add Mds (Rattle.cluster_machines.specs.Machines.mds_did ticked.machines (after_event (record { now = ticked.now; input = Ticks }) ticked.machines.mds)) ticked (mds_so ticked.machines (record { now = ticked.now; input = Ticks })))))
+    (acts_add Mds (Rattle.world_rule.specs.Machines.mds_did ticked.machines (after_event (record { now = ticked.now; input = Ticks }) ticked.machines.mds)) ticked (mds_so ticked.machines (record { now = ticked.now; input = Ticks })))))
 event_adds (Open client name) w = NoneAdded (asks_add client _ w)
 event_adds (Write client at bytes) w = NoneAdded (asks_add client _ w)
 event_adds (Through client at bytes) w = NoneAdded (asks_add client _ w)

@@ -7,7 +7,7 @@ use Rattle.cluster_model.specs.declared.entry.Entry.{Entry}
 use Rattle.cluster_model.specs.Event.{EventValue}
 use Rattle.holder_parts.specs.HolderParts.{HoldersKeepParts}
 use Rattle.world_journal.specs.Journal.{IsEntryInRange, IsJournalInRange, is_within, max_entries, max_hex}
-use Rattle.cluster_world.specs.ClusterWorlds.{ClusterState, behind}
+use Rattle.world_rule.specs.ClusterWorlds.{ClusterState, behind}
 use Rattle.ff_replay.proofs.WorldGrows.{grows}
 use Rattle.node_histories.specs.NodeHistories.{IsToldByNodes}
 use Rattle.world_moves.specs.WorldMoves.{IsRunOf}

@@ -2,8 +2,8 @@
 use Rattle.std.proofs.Common.{◌≡◌, ℕ, ◌≤◌, true, List, Option, Some, None, subst}
 use Rattle.cluster_model.specs.Event.{EventValue}
 use Rattle.cluster_script.specs.declared.sizes.ClusterSizes.{ClusterSizes}
-use Rattle.cluster_world.specs.ClusterWorlds.{ClusterState, new_cluster, behind}
-use Rattle.cluster_world.specs.ClusterRuns.{cluster_run}
+use Rattle.world_rule.specs.ClusterWorlds.{ClusterState, new_cluster, behind}
+use Rattle.world_rule.specs.ClusterRuns.{cluster_run}
 use Rattle.world_journal.specs.Journal.{is_within}
 use Rattle.ff_script.specs.declared.line.Setup.TheVariants as bare_setup
 use Rattle.ff_world.specs.World.{preset_world}

@@ -12,7 +12,7 @@ use Rattle.line_runs.specs.declared.end.RunEnd.TheVariants as ends
 use Rattle.line_runs.specs.Lines.{script_lines}
 use Rattle.world_journal.specs.Journal.{IsJournalInRange, max_entries}
 use Rattle.packet_table.specs.Packets.{next_waiting}
-use Rattle.cluster_world.specs.ClusterWorlds.{ClusterState, packets, new_cluster, cluster_step}
+use Rattle.world_rule.specs.ClusterWorlds.{ClusterState, packets, new_cluster, cluster_step}
 use Rattle.ff_replay.specs.declared.setup.Setup.{Setup}
 use Rattle.ff_replay.specs.declared.setup.Setup.TheVariants.{Bare, Cluster}
 use Rattle.ff_replay.specs.Script.{Script, script_of, run_from, script_budget}

@@ -9,7 +9,7 @@ use Rattle.cluster_model.specs.declared.entry.Entry.{Entry}
 use Rattle.cluster_model.specs.declared.entry.Entry.TheVariants as entry
 use Rattle.cluster_model.specs.Server.{ServerState}
 use Rattle.cluster_model.specs.DsCalls.{ds_step}
-use Rattle.cluster_world.specs.ClusterWorlds.{ClusterState}
+use Rattle.world_rule.specs.ClusterWorlds.{ClusterState}
 use Rattle.ds_files.specs.Receive.{outcome_of}
 use Rattle.ds_calls.specs.GivenReplies.{reply_of_call}
 use Rattle.ds_calls.specs.DsCallLaws.{DsMessage, HasRecord, record_of}

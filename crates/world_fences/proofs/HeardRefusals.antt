@@ -19,7 +19,7 @@ use Rattle.cluster_model.specs.DsCalls.{DsCallValue, Failed, ds_plan}
 use Rattle.cluster_laws.specs.FenceLaw.{live_in}
 use Rattle.cluster_laws.specs.Periods.{ArePeriodsFenced}
 use Rattle.cluster_laws.specs.Agreement.{cause_in, causes_of}
-use Rattle.cluster_world.specs.ClusterWorlds.{ClusterState}
+use Rattle.world_rule.specs.ClusterWorlds.{ClusterState}
 use Rattle.ds_files.specs.Receive.{outcome_of}
 use Rattle.ds_calls.specs.DsCallLaws.{DsMessage, HasRecord}
 use Rattle.mds_file_calls.specs.declared.grant.LayoutGrant.{LayoutGrant}

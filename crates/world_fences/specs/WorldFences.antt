@@ -1,6 +1,6 @@
 -- A data server refuses a call of a holder as one whose layout is no more only once its period has ended (RFC 8435, section 2.2).
 use Rattle.std.specs.Prelude.{ℕ, List}
-use Rattle.cluster_world.specs.ClusterWorlds.{ClusterState}
+use Rattle.world_rule.specs.ClusterWorlds.{ClusterState}
 use Rattle.node_histories.specs.NodeHistories.{IsToldByNodes}
 use Rattle.world_moves.specs.WorldMoves.{IsRunOf}
 use Rattle.world_layouts.specs.WorldLayouts.{IsWorldRoomy, RefusalsAreEnds, HoldersOwnAtDeliveries}

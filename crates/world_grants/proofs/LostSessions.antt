@@ -1,6 +1,6 @@
 -- Behind a request that was answered that its session is gone, no request on a session of its client takes effect.
 use Rattle.std.proofs.Common.{◌≡◌, ◌<◌, ◌≤◌, ℕ, ◌^◌, length, List, ◌∷◌, ◌++◌, sym, subst, ◌∙◌, arith}
-use Rattle.cluster_world.specs.ClusterWorlds.{ClusterState}
+use Rattle.world_rule.specs.ClusterWorlds.{ClusterState}
 use Rattle.nfs4_types.specs.declared.ids.SessionId.{SessionId}
 use Rattle.nfs4_types.specs.declared.status.Stat4.TheVariants as stat
 use Rattle.nfs4_session.specs.Clients.{client_in}

@@ -2,7 +2,7 @@
 use Rattle.std.proofs.Common.{◌≡◌, ◌<◌, ℕ, ◌+◌, ◌^◌, true, false, length, List, [], ◌∷◌, ◌++◌, refl, sym, ap, subst, ◌∙◌, inl, inr, ◌⊎◌, arith, length-append}
 use Rattle.std.specs.List.{AllByRecursion}
 use Rattle.cluster_model.specs.declared.ids.NodeId.TheVariants.{Mds, Client}
-use Rattle.cluster_world.specs.ClusterWorlds.{ClusterState}
+use Rattle.world_rule.specs.ClusterWorlds.{ClusterState}
 use Rattle.nfs4_types.specs.declared.ids.SessionId.{SessionId}
 use Rattle.nfs4_types.specs.declared.status.Stat4.TheVariants as stat
 use Rattle.table_slots.specs.TableSlots.{is_of_session}

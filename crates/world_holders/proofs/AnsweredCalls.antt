@@ -11,7 +11,7 @@ use Rattle.cluster_model.specs.declared.ids.NodeId.TheVariants.{Server, Client}
 use Rattle.cluster_model.specs.declared.entry.Entry.{Entry}
 use Rattle.cluster_model.specs.declared.entry.Entry.TheVariants.{Packet}
 use Rattle.cluster_model.specs.DsCalls.{DsCallValue, DsReplyValue}
-use Rattle.cluster_world.specs.ClusterWorlds.{ClusterState}
+use Rattle.world_rule.specs.ClusterWorlds.{ClusterState}
 use Rattle.ds_calls.specs.MadeCalls.{ds_rpc_call}
 use Rattle.ds_calls.specs.DsCallLaws.{DsMessage, record_of}
 use Rattle.client_state.specs.ClientSends.{ClientSend, CallsServer, spelled_send}

@@ -9,7 +9,7 @@ use Rattle.cluster_model.specs.declared.entry.Entry.{Entry}
 use Rattle.cluster_model.specs.declared.entry.Entry.TheVariants as entry
 use Rattle.cluster_model.specs.DsCalls.{DsCallValue, Write, Commit, Written, Committed}
 use Rattle.cluster_laws.specs.Holders.{the_write}
-use Rattle.cluster_world.specs.ClusterWorlds.{ClusterState}
+use Rattle.world_rule.specs.ClusterWorlds.{ClusterState}
 use Rattle.client_state.specs.ClientSends.{ClientSend, CallsServer}
 use Rattle.client_laws.specs.ClientHistory.{HistoryItem, Hears, Sends, Recorded, HasItem, Each}
 use Rattle.client_laws.specs.ClientRunLaws.{WasCovered}

@@ -10,7 +10,7 @@ use Rattle.cluster_model.specs.declared.entry.Entry.{Entry}
 use Rattle.cluster_model.specs.declared.entry.Entry.TheVariants.{Packet, Granted, Sent, Rogue, Told, Ended}
 use Rattle.cluster_model.specs.Phases.{ids_of}
 use Rattle.cluster_laws.specs.FenceLaw.{live_in}
-use Rattle.cluster_world.specs.ClusterWorlds.{ClusterState}
+use Rattle.world_rule.specs.ClusterWorlds.{ClusterState}
 use Rattle.nfs4_types.specs.declared.ids.SessionId.{SessionId}
 use Rattle.nfs4_types.specs.declared.stateid.Stateid.{Stateid}
 use Rattle.mds_file_calls.specs.declared.grant.LayoutGrant.{LayoutGrant}

@@ -26,7 +26,7 @@ use Rattle.client_records.proofs.Told.{any_tells, any_covers}
 use Rattle.client_records.proofs.EachRun.{Base, any_inputs, in_each_run}
 use Rattle.client_sessions.specs.LayoutEnds.{HasNotLeft}
 use Rattle.client_sessions.proofs.LayoutsHeld.{stays_item}
-use Rattle.cluster_world.specs.ClusterWorlds.{ClusterState}
+use Rattle.world_rule.specs.ClusterWorlds.{ClusterState}
 use Rattle.node_histories.specs.Weaves.{WeaveStep, Passes, Unseen, Seen, entries_in, items_in}
 use Rattle.node_histories.specs.ClientLives.{Life, start_of, HaveStraysLeft}
 use Rattle.node_histories.specs.NodeHistories.{IsEntryNext, AreTogether, HasLife, IsToldByNodes}

@@ -2,7 +2,7 @@
 use Rattle.std.specs.Prelude.{◌^◌, ◌<◌, length}
 use Rattle.cluster_laws.specs.FenceLaw.{ObeysFences}
 use Rattle.cluster_laws.specs.Periods.{ArePeriodsFenced}
-use Rattle.cluster_world.specs.ClusterWorlds.{ClusterState}
+use Rattle.world_rule.specs.ClusterWorlds.{ClusterState}
 use Rattle.client_state.specs.ClientStates.{ClientValue}
 use Rattle.client_laws.specs.ClientHistory.{ClientInput}
 use Rattle.client_laws.specs.ClientRunLaws.{InEachRun, ReturnsCommitted, KeepsSilent, WritesApart}

@@ -7,7 +7,7 @@ use Rattle.cluster_model.specs.declared.entry.Entry.{Entry}
 use Rattle.cluster_model.specs.declared.entry.Entry.TheVariants.{Ended}
 use Rattle.cluster_model.specs.Phases.{is_clean}
 use Rattle.cluster_laws.specs.Holders.{HasNotEndedClean}
-use Rattle.cluster_world.specs.ClusterWorlds.{ClusterState}
+use Rattle.world_rule.specs.ClusterWorlds.{ClusterState}
 use Rattle.client_laws.specs.ClientHistory.{HistoryItem, Enters, client_history}
 use Rattle.client_laws.specs.ClientRunLaws.{IsSilent}
 use Rattle.node_histories.specs.Weaves.{Seen, items_in}

@@ -5,7 +5,7 @@ use Rattle.cluster_model.specs.declared.ids.FileId.{FileId}
 use Rattle.cluster_model.specs.declared.phase.EndCause.TheVariants.{Own}
 use Rattle.cluster_model.specs.declared.entry.Entry.{Entry}
 use Rattle.cluster_model.specs.declared.entry.Entry.TheVariants.{Sent, Told, Ended}
-use Rattle.cluster_world.specs.ClusterWorlds.{ClusterState}
+use Rattle.world_rule.specs.ClusterWorlds.{ClusterState}
 use Rattle.mds_histories.specs.MdsHistory.{Enters}
 use Rattle.node_histories.specs.Weaves.{Seen, entries_in}
 use Rattle.node_histories.specs.NodeHistories.{IsToldByNodes}

@@ -14,7 +14,7 @@ use Rattle.cluster_model.specs.Laws.{AreDisjoint}
 use Rattle.cluster_model.specs.Phases.{is_clean}
 use Rattle.cluster_laws.specs.Agreement.{a_write, sent_of, rogue_of}
 use Rattle.cluster_laws.specs.FenceLaw.{live_in}
-use Rattle.cluster_world.specs.ClusterWorlds.{ClusterState}
+use Rattle.world_rule.specs.ClusterWorlds.{ClusterState}
 use Rattle.client_laws.specs.ClientHistory as client
 use Rattle.mds_rule.specs.MdsStates.{new_mds}
 use Rattle.mds_laws.specs.MdsRuns.{after_event, run_from, mds_run}

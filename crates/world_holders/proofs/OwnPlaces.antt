@@ -5,7 +5,7 @@ use Rattle.cluster_model.specs.declared.ids.NodeId.TheVariants.{Mds}
 use Rattle.cluster_model.specs.declared.ids.FileId.{FileId}
 use Rattle.cluster_model.specs.declared.entry.Entry.{Entry}
 use Rattle.cluster_model.specs.declared.entry.Entry.TheVariants.{Sent}
-use Rattle.cluster_world.specs.ClusterWorlds.{ClusterState}
+use Rattle.world_rule.specs.ClusterWorlds.{ClusterState}
 use Rattle.mds_rule.specs.MdsStates.{new_mds}
 use Rattle.mds_laws.specs.MdsRuns.{mds_run}
 use Rattle.mds_histories.specs.MdsHistory.{MdsItem, Comes, Enters, Sends}

@@ -7,7 +7,7 @@ use Rattle.cluster_model.specs.declared.phase.EndCause.{EndCause}
 use Rattle.cluster_model.specs.declared.phase.EndCause.TheVariants as ends_as
 use Rattle.cluster_model.specs.declared.entry.Entry.{Entry}
 use Rattle.cluster_model.specs.declared.entry.Entry.TheVariants as entry
-use Rattle.cluster_world.specs.ClusterWorlds.{ClusterState}
+use Rattle.world_rule.specs.ClusterWorlds.{ClusterState}
 use Rattle.node_histories.specs.NodeHistories.{IsToldByNodes}
 use Rattle.holder_parts.specs.HolderParts.{TakesInPlace, TellsInPlace, EndsOwnNext, EndsInPlace, PostsInPlace, KeepsPart, HoldersKeepParts}
 use Rattle.world_holders.proofs.LowerLaws.{HasLaws}

@@ -6,7 +6,7 @@ use Rattle.cluster_model.specs.declared.entry.Entry.TheVariants.{Packet, Sent, R
 use Rattle.cluster_model.specs.DsCalls.{DsCallValue, Create, SetAttr, Write, Commit, Read}
 use Rattle.cluster_laws.specs.Agreement.{sent_of, rogue_of}
 use Rattle.cluster_laws.specs.Holders.{IsIn, the_write, IsBoundCall}
-use Rattle.cluster_world.specs.ClusterWorlds.{ClusterState}
+use Rattle.world_rule.specs.ClusterWorlds.{ClusterState}
 use Rattle.client_state.specs.ClientSends.{ClientSend, CallsServer, RepeatsToServer}
 use Rattle.client_laws.specs.ClientHistory.{HistoryItem, Enters, Sends, HasItem, Each}
 use Rattle.client_laws.specs.ClientRunLaws.{InEachRun, WasEntered, WasSent, WasStray, WritesEntered, WritesApart}

@@ -13,7 +13,7 @@ use Rattle.cluster_model.specs.DsCalls.{Write}
 use Rattle.cluster_model.specs.Phases.{ids_of}
 use Rattle.cluster_laws.specs.Agreement.{sent_of}
 use Rattle.cluster_laws.specs.Holders.{the_write}
-use Rattle.cluster_world.specs.ClusterWorlds.{ClusterState}
+use Rattle.world_rule.specs.ClusterWorlds.{ClusterState}
 use Rattle.nfs4_types.specs.declared.stateid.Stateid.{Stateid}
 use Rattle.mds_file_calls.specs.declared.grant.LayoutGrant.{LayoutGrant}
 use Rattle.mds_file_calls.specs.declared.layout_return.FailedMirror.{FailedMirror}

@@ -9,7 +9,7 @@ use Rattle.cluster_model.specs.declared.entry.Entry.TheVariants.{Sent, Rogue}
 use Rattle.cluster_model.specs.Content.{Pending}
 use Rattle.cluster_model.specs.Laws.{AreDisjoint}
 use Rattle.cluster_laws.proofs.Lists.{all_more}
-use Rattle.cluster_world.specs.ClusterWorlds.{ClusterState}
+use Rattle.world_rule.specs.ClusterWorlds.{ClusterState}
 use Rattle.mirror_writer.specs.declared.call.TakenWrite.{TakenWrite}
 use Rattle.mirror_writer.specs.Writers.{touches}
 use Rattle.client_state.specs.declared.request.UserRequest.{UserRequest}

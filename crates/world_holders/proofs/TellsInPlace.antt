@@ -11,7 +11,7 @@ use Rattle.cluster_model.specs.Phases.{ids_of}
 use Rattle.cluster_laws.specs.Agreement.{sent_of}
 use Rattle.cluster_laws.specs.Holders.{IsIn, the_write, HasEndedClean}
 use Rattle.cluster_laws.proofs.Lists.{all_more}
-use Rattle.cluster_world.specs.ClusterWorlds.{ClusterState}
+use Rattle.world_rule.specs.ClusterWorlds.{ClusterState}
 use Rattle.mds_file_calls.specs.declared.grant.LayoutGrant.{LayoutGrant}
 use Rattle.client_laws.specs.ClientHistory.{HistoryItem, Enters, HasItem, Each, client_history}
 use Rattle.client_laws.specs.ClientRunLaws.{WasCovered, CoveredAtEach, CoveredByReturn, WasTakenUnder}

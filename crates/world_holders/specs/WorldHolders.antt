@@ -1,6 +1,6 @@
 -- That those who hold a file of a cluster's world keep their part, and what is asked of the world (RFC 8435, sections 2.2 and 8).
 use Rattle.std.specs.Prelude.{ℕ, ◌^◌, ◌<◌, List, length}
-use Rattle.cluster_world.specs.ClusterWorlds.{ClusterState}
+use Rattle.world_rule.specs.ClusterWorlds.{ClusterState}
 use Rattle.node_histories.specs.NodeHistories.{IsToldByNodes}
 use Rattle.world_moves.specs.WorldMoves.{IsRunOf}
 use Rattle.world_journal.specs.Journal.{IsJournalInRange}

@@ -1,6 +1,6 @@
 -- What holds of the layouts of each world, by the laws of lower crates.
 use Rattle.std.proofs.Common.{ℕ, List}
-use Rattle.cluster_world.specs.ClusterWorlds.{ClusterState}
+use Rattle.world_rule.specs.ClusterWorlds.{ClusterState}
 use Rattle.node_histories.specs.NodeHistories.{IsToldByNodes}
 use Rattle.world_moves.specs.WorldMoves.{IsRunOf}
 use Rattle.world_layouts.specs.WorldLayouts.{IsWorldRoomy}

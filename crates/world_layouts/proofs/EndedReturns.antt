@@ -22,7 +22,7 @@ use Rattle.cluster_model.specs.Phases.{ids_of}
 use Rattle.cluster_laws.specs.Agreement.{cause_in, causes_of}
 use Rattle.cluster_laws.specs.FenceLaw.{live_in}
 use Rattle.cluster_laws.specs.Holders.{HasEndedClean}
-use Rattle.cluster_world.specs.ClusterWorlds.{ClusterState}
+use Rattle.world_rule.specs.ClusterWorlds.{ClusterState}
 use Rattle.nfs4_types.specs.Stateids.{three_words}
 use Rattle.nfs4_session.specs.Clients.{client_in}
 use Rattle.mds_file_calls.specs.declared.grant.LayoutGrant.{LayoutGrant}

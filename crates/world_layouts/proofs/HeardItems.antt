@@ -4,7 +4,7 @@ use Rattle.rpc_record.specs.Replies.{RpcReply, reply_at}
 use Rattle.cluster_model.specs.declared.ids.NodeId.TheVariants.{Mds, Client}
 use Rattle.cluster_model.specs.declared.entry.Entry.{Entry}
 use Rattle.cluster_model.specs.declared.entry.Entry.TheVariants as entry
-use Rattle.cluster_world.specs.ClusterWorlds.{ClusterState}
+use Rattle.world_rule.specs.ClusterWorlds.{ClusterState}
 use Rattle.nfs4_types.specs.declared.ids.SessionId.{SessionId}
 use Rattle.mds_calls.specs.MdsCalls.{MdsCallValue, OnSlot, SlotCallValue, ask_of, ask_on_slot, takes_slot}
 use Rattle.mds_calls.specs.MdsReplies.{MdsReplyValue, reply_of_ask}

@@ -6,7 +6,7 @@ use Rattle.cluster_model.specs.declared.ids.NodeId.TheVariants.{Mds, Server, Cli
 use Rattle.cluster_model.specs.declared.entry.Entry.{Entry}
 use Rattle.cluster_model.specs.declared.entry.Entry.TheVariants as entry
 use Rattle.rpc_record.specs.Replies.{RpcReply, reply_bytes}
-use Rattle.cluster_world.specs.ClusterWorlds.{ClusterState}
+use Rattle.world_rule.specs.ClusterWorlds.{ClusterState}
 use Rattle.mds_calls.specs.MdsCalls.{MdsCallValue}
 use Rattle.mds_calls.specs.MdsCompounds.{mds_call_bytes}
 use Rattle.mds_calls.specs.MdsCallLaws.{HasCompoundRecord}

@@ -7,7 +7,7 @@ use Rattle.rpc_record.specs.Replies.{RpcReply}
 use Rattle.cluster_model.specs.declared.ids.NodeId.TheVariants.{Mds, Client}
 use Rattle.cluster_model.specs.declared.entry.Entry.{Entry}
 use Rattle.cluster_model.specs.declared.entry.Entry.TheVariants as entry
-use Rattle.cluster_world.specs.ClusterWorlds.{ClusterState}
+use Rattle.world_rule.specs.ClusterWorlds.{ClusterState}
 use Rattle.mds_calls.specs.MdsCalls.{MdsCallValue}
 use Rattle.mds_rule.specs.MdsStates.{MdsValue, new_mds}
 use Rattle.mds_laws.specs.MdsRuns.{MdsEvent, after_event}

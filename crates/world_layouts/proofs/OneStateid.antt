@@ -2,7 +2,7 @@
 use Rattle.std.proofs.Common.{◌≡◌, ◌<◌, ℕ, ◌^◌, length, List, [], ◌∷◌, ◌++◌, sym, ap, subst, ◌∙◌}
 use Rattle.nfs4_types.specs.Stateids.{three_words}
 use Rattle.nfs4_types.specs.declared.stateid.Stateid.{Stateid}
-use Rattle.cluster_world.specs.ClusterWorlds.{ClusterState}
+use Rattle.world_rule.specs.ClusterWorlds.{ClusterState}
 use Rattle.mds_file_calls.specs.declared.grant.LayoutGrant.{LayoutGrant}
 use Rattle.client_laws.specs.ClientHistory.{HistoryItem, client_history}
 use Rattle.client_laws.specs.ClientRunLaws.{WasGranted}

@@ -7,7 +7,7 @@ use Rattle.nfs4_compound.specs.Compounds.{CompoundValue}
 use Rattle.cluster_model.specs.declared.ids.NodeId.{NodeId}
 use Rattle.cluster_model.specs.declared.ids.NodeId.TheVariants.{Client}
 use Rattle.cluster_model.specs.declared.entry.Entry.{Entry}
-use Rattle.cluster_world.specs.ClusterWorlds.{ClusterState}
+use Rattle.world_rule.specs.ClusterWorlds.{ClusterState}
 use Rattle.nfs4_compound.specs.Args.{argop4}
 use Rattle.mds_receive.specs.MdsReceive.{IsCompound, incoming_of}
 use Rattle.mds_calls.specs.FittingCalls.{FitsAsked}

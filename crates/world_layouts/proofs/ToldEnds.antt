@@ -9,7 +9,7 @@ use Rattle.cluster_model.specs.declared.phase.EndCause.{EndCause}
 use Rattle.cluster_model.specs.declared.entry.Entry.{Entry}
 use Rattle.cluster_model.specs.declared.entry.Entry.TheVariants as entry
 use Rattle.cluster_laws.specs.Agreement.{cause_in, causes_of}
-use Rattle.cluster_world.specs.ClusterWorlds.{ClusterState}
+use Rattle.world_rule.specs.ClusterWorlds.{ClusterState}
 use Rattle.mds_rule.specs.Spelled.{spelled_send}
 use Rattle.mds_laws.specs.MdsRuns.{MdsEvent}
 use Rattle.mds_histories.specs.MdsHistory.{MdsItem, Comes, Enters, Sends}

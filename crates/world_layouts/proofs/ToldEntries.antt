@@ -8,7 +8,7 @@ use Rattle.cluster_model.specs.declared.ids.FileId.{FileId}
 use Rattle.cluster_model.specs.declared.entry.Entry.{Entry}
 use Rattle.cluster_model.specs.declared.entry.Entry.TheVariants as entry
 use Rattle.cluster_laws.specs.FenceLaw.{live_in}
-use Rattle.cluster_world.specs.ClusterWorlds.{ClusterState}
+use Rattle.world_rule.specs.ClusterWorlds.{ClusterState}
 use Rattle.mds_rule.specs.MdsStates.{MdsSend, MdsValue, new_mds}
 use Rattle.mds_laws.specs.MdsRuns.{MdsEvent, after_event, run_from, mds_run}
 use Rattle.mds_histories.specs.MdsHistory.{MdsItem, Comes, Enters, Sends, mds_history}

@@ -10,7 +10,7 @@ use Rattle.cluster_model.specs.declared.ids.MirrorId.{MirrorId}
 use Rattle.cluster_model.specs.declared.entry.Entry.{Entry}
 use Rattle.cluster_model.specs.declared.entry.Entry.TheVariants as entry
 use Rattle.cluster_model.specs.Phases.{ids_of}
-use Rattle.cluster_world.specs.ClusterWorlds.{ClusterState}
+use Rattle.world_rule.specs.ClusterWorlds.{ClusterState}
 use Rattle.same_layout.specs.SameLayout.{unseen}
 use Rattle.nfs4_session.specs.Clients.{client_in}
 use Rattle.nfs4_compound.specs.Args.{argop4}

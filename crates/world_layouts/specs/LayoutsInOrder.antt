@@ -1,6 +1,6 @@
 -- The layouts of a world (RFC 8881, sections 12.5.5, 18.43 and 18.44).
 use Rattle.std.specs.Prelude.{ℕ, List}
-use Rattle.cluster_world.specs.ClusterWorlds.{ClusterState}
+use Rattle.world_rule.specs.ClusterWorlds.{ClusterState}
 use Rattle.node_histories.specs.NodeHistories.{IsToldByNodes}
 use Rattle.world_moves.specs.WorldMoves.{IsRunOf}
 use Rattle.world_layouts.specs.WorldLayouts.{IsWorldRoomy, IsOneRequestEach, GrantsAreTold, UidsAreOwn, StateidsAreOnce, ReturnsAreSent, ReturnsHaveEnded}

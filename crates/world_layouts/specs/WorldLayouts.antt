@@ -24,7 +24,7 @@ use Rattle.client_state.specs.ClientSends.{CallsMds}
 use Rattle.client_laws.specs.ClientHistory.{HistoryItem, Sends, HasItem, client_history}
 use Rattle.client_laws.specs.ClientRunLaws.{WasGranted, AreGrantedOnce, CoveredByReturn}
 use Rattle.client_sessions.specs.LayoutEnds.{HasUnreported, WasFenced}
-use Rattle.cluster_world.specs.ClusterWorlds.{ClusterState}
+use Rattle.world_rule.specs.ClusterWorlds.{ClusterState}
 use Rattle.mds_laws.proofs.Lists.{In}
 use Rattle.node_histories.specs.Weaves.{WeaveStep, Seen, entries_in, items_in}
 use Rattle.node_histories.specs.ClientLives.{Life, start_of}

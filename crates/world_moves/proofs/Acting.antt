@@ -14,7 +14,7 @@ use Rattle.mds_rule.specs.MdsStates.{MdsSend}
 use Rattle.mds_laws.proofs.Lists.{In, AllOf}
 use Rattle.mds_moves.specs.MdsMoves.{IsMdsOf}
 use Rattle.proper_servers.specs.ProperServers.{IsProper}
-use Rattle.cluster_machines.specs.Machines.{MachinesValue, Act}
+use Rattle.world_rule.specs.Machines.{MachinesValue, Act}
 use Rattle.world_journal.specs.SentPackets.{packets_of}
 use Rattle.mds_forms.specs.Forms.{IsNoPacket, IsInForm}
 use Rattle.mds_forms.proofs.FormedSends.{all_join}

@@ -6,7 +6,7 @@ use Rattle.cluster_laws.specs.Machine.{Machine, Move, numbered_at}
 use Rattle.cluster_laws.specs.FenceLaw.{FenceLaw, ObeysFences}
 use Rattle.cluster_laws.specs.Periods.{ArePeriodsFenced, DoOwnersStay, EachPeriodIsFenced, OwnersStay, TellsTheTruth}
 use Rattle.cluster_laws.specs.Telling.{SaysTheSame, MakesTelling}
-use Rattle.cluster_world.specs.ClusterWorlds.{ClusterState}
+use Rattle.world_rule.specs.ClusterWorlds.{ClusterState}
 use Rattle.world_moves.specs.WorldMoves.{IsRunOf, TellsTruth}
 use Rattle.world_moves.proofs.RunLaws.{fences_of, periods_of, owners_of, truth_of}
 

@@ -7,7 +7,7 @@ use Rattle.cluster_model.specs.declared.entry.Entry.{Entry}
 use Rattle.cluster_model.specs.declared.entry.Entry.TheVariants.{Packet, Delivered}
 use Rattle.packet_table.specs.declared.note.PacketNote.{PacketNote}
 use Rattle.packet_table.specs.Packets.{PacketsValue, packet_numbered, came_at, after_coming}
-use Rattle.cluster_world.specs.Sent.{noting, noting_all, packets_in, bytes_of_packet, bytes_at_place}
+use Rattle.world_rule.specs.Sent.{noting, noting_all, packets_in, bytes_of_packet, bytes_at_place}
 use Rattle.world_moves.proofs.ServerMoves.{all_at, all_set, at_place}
 
 -- it is that of a packet of the journal

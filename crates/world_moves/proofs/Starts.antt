@@ -7,8 +7,8 @@ use Rattle.cluster_laws.specs.Machine.{new_machine}
 use Rattle.cluster_laws.specs.FenceLaw.{new_servers}
 use Rattle.mds_moves.specs.MdsMoves.{NewIsMdsOf}
 use Rattle.proper_servers.specs.ProperServers.{IsProper}
-use Rattle.cluster_machines.specs.Machines.{address_of}
-use Rattle.cluster_world.specs.ClusterWorlds.{new_cluster}
+use Rattle.world_rule.specs.Machines.{address_of}
+use Rattle.world_rule.specs.ClusterWorlds.{new_cluster}
 use Rattle.world_moves.specs.WorldMoves.{IsRunOf}
 
 abbrev pub at_boot_1 : ℕ → ServerState

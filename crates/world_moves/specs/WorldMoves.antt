@@ -18,8 +18,8 @@ use Rattle.mds_forms.specs.Forms.{IsInForm}
 use Rattle.mds_moves.specs.MdsMoves.{IsMdsOf, MayComeFrom}
 use Rattle.user_records.specs.UserRecords.{IsUserRecord}
 use Rattle.proper_servers.specs.ProperServers.{IsProper}
-use Rattle.cluster_machines.specs.Machines.{MachinesValue}
-use Rattle.cluster_world.specs.ClusterWorlds.{ClusterState}
+use Rattle.world_rule.specs.Machines.{MachinesValue}
+use Rattle.world_rule.specs.ClusterWorlds.{ClusterState}
 
 -- ---- what a packet is, by who sent it to whom
 

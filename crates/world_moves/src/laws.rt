@@ -4,7 +4,7 @@ ghost use Rattle.std.specs.Prelude.{ℕ, List, ◌≤◌, ◌<◌, ◌^◌, repl
 ghost use Rattle.cluster_model.specs.Event.{EventValue};
 ghost use Rattle.cluster_laws.specs.FenceLaw.{ObeysFences};
 ghost use Rattle.cluster_laws.specs.Periods.{ArePeriodsFenced, DoOwnersStay};
-ghost use Rattle.cluster_world.specs.ClusterWorlds.{ClusterState, new_cluster, behind};
+ghost use Rattle.world_rule.specs.ClusterWorlds.{ClusterState, new_cluster, behind};
 ghost use Rattle.world_moves.specs.WorldMoves.{IsRunOf, TellsTruth};
 
 use client_sends::client_sends;

@@ -14,8 +14,8 @@ use Rattle.cluster_model.specs.declared.entry.Entry.{Entry}
 use Rattle.cluster_model.specs.declared.entry.Entry.TheVariants as entry
 use Rattle.cluster_model.specs.Server.{ServerState}
 use Rattle.cluster_laws.specs.FenceLaw.{live_in}
-use Rattle.cluster_machines.specs.Machines.{nth}
-use Rattle.cluster_world.specs.ClusterWorlds.{ClusterState}
+use Rattle.world_rule.specs.Machines.{nth}
+use Rattle.world_rule.specs.ClusterWorlds.{ClusterState}
 use Rattle.device_addr.specs.Universal.{AddressValue}
 use Rattle.proper_servers.specs.ProperServers.{IsProper}
 use Rattle.same_server.specs.SameServer.{DoesTheCall}

@@ -10,7 +10,7 @@ use Rattle.cluster_model.specs.declared.ids.MirrorId.{MirrorId}
 use Rattle.cluster_model.specs.declared.entry.Entry.{Entry}
 use Rattle.cluster_model.specs.declared.entry.Entry.TheVariants as entry
 use Rattle.cluster_model.specs.DsCalls.{Read}
-use Rattle.cluster_world.specs.ClusterWorlds.{ClusterState}
+use Rattle.world_rule.specs.ClusterWorlds.{ClusterState}
 use Rattle.ds_calls.specs.DsCallLaws.{DsMessage, HasRecord, IsUnderstood, record_of}
 use Rattle.mds_rule.specs.FileOps.{read_length}
 use Rattle.mds_rule.specs.MdsStates.{MdsSend, CallsServer}

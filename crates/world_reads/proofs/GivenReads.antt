@@ -15,7 +15,7 @@ use Rattle.cluster_model.specs.Journal.{content_of}
 use Rattle.cluster_model.specs.Server.{ServerState}
 use Rattle.cluster_model.specs.GuardLaws.{IsTold}
 use Rattle.cluster_model.specs.DsCalls.{DsReplyValue, Read, Bytes, ds_step}
-use Rattle.cluster_world.specs.ClusterWorlds.{ClusterState}
+use Rattle.world_rule.specs.ClusterWorlds.{ClusterState}
 use Rattle.ds_files.specs.Receive.{Outcome, outcome_of}
 use Rattle.ds_calls.specs.MadeCalls.{ds_rpc_call}
 use Rattle.ds_calls.specs.GivenReplies.{reply_of_call}

@@ -6,7 +6,7 @@ use Rattle.cluster_model.specs.declared.ids.NodeId.TheVariants.{Mds, Server, Cli
 use Rattle.cluster_model.specs.declared.entry.Entry.{Entry}
 use Rattle.cluster_model.specs.declared.entry.Entry.TheVariants as entry
 use Rattle.cluster_laws.proofs.Lists.{all_split}
-use Rattle.cluster_world.specs.ClusterWorlds.{ClusterState}
+use Rattle.world_rule.specs.ClusterWorlds.{ClusterState}
 use Rattle.mds_rule.specs.MdsStates.{MdsSend}
 use Rattle.mds_rule.specs.Spelled.{spelled_send}
 use Rattle.mds_laws.specs.MdsRuns.{MdsEvent, Hears}

@@ -21,7 +21,7 @@ use Rattle.mds_histories.specs.MdsHistory.{MdsItem, sends_in, mds_history}
 use Rattle.mds_histories.proofs.Histories.{sends_of_run}
 use Rattle.node_histories.specs.Weaves.{items_in}
 use Rattle.node_histories.specs.NodeHistories.{MdsStory, IsToldByNodes}
-use Rattle.cluster_world.specs.ClusterWorlds.{ClusterState}
+use Rattle.world_rule.specs.ClusterWorlds.{ClusterState}
 use Rattle.world_moves.proofs.ReplyRecords.{reply_no_call}
 use Rattle.world_reads.proofs.RunForms.{IsAnswerForm, Formed, run_formed, AreOnce, run_once}
 

@@ -10,8 +10,8 @@ use Rattle.cluster_model.specs.declared.entry.Entry.{Entry}
 use Rattle.cluster_model.specs.declared.entry.Entry.TheVariants as entry
 use Rattle.cluster_laws.proofs.Lists.{all_split}
 use Rattle.cluster_laws.specs.Machine.{Machine}
-use Rattle.cluster_machines.specs.Machines.{nth}
-use Rattle.cluster_world.specs.ClusterWorlds.{ClusterState}
+use Rattle.world_rule.specs.Machines.{nth}
+use Rattle.world_rule.specs.ClusterWorlds.{ClusterState}
 use Rattle.nfs4_compound.specs.Args.{argop4}
 use Rattle.nfs4_compound.specs.Compounds.{CompoundValue}
 use Rattle.nfs4_compound.specs.Laws.{AreGivenWhole}

@@ -1,7 +1,7 @@
 //! The read law of a world of a cluster.
 
 ghost use Rattle.std.specs.Prelude.{ℕ, List, length, ◌<◌, ◌^◌};
-ghost use Rattle.cluster_world.specs.ClusterWorlds.{ClusterState};
+ghost use Rattle.world_rule.specs.ClusterWorlds.{ClusterState};
 ghost use Rattle.ff_laws.specs.ReadLaw.{ObeysReads};
 ghost use Rattle.node_histories.specs.NodeHistories.{IsToldByNodes};
 ghost use Rattle.world_moves.specs.WorldMoves.{IsRunOf};

@@ -1,6 +1,6 @@
 -- Which worlds of a cluster have room for numbers (RFC 8881, sections 2.10.6.1 and 18.35; RFC 1813, section 2.5).
 use Rattle.std.specs.Prelude.{ℕ, ◌^◌, ◌<◌, ◌≤◌, List, length}
-use Rattle.cluster_world.specs.ClusterWorlds.{ClusterState}
+use Rattle.world_rule.specs.ClusterWorlds.{ClusterState}
 use Rattle.node_histories.specs.NodeHistories.{IsToldByNodes}
 use Rattle.world_moves.specs.WorldMoves.{IsRunOf}
 use Rattle.world_journal.specs.Journal.{IsJournalInRange}

@@ -1,6 +1,6 @@
 use Rattle.std.proofs.Common.{◌∷◌, [], map, length, length-append, ap, ◌∙◌, arith}
 use Rattle.device_addr.specs.Universal.{address_value}
-use Rattle.cluster_machines.specs.Machines.{address_of}
+use Rattle.world_rule.specs.Machines.{address_of}
 use Rattle.cluster_machines.proofs.Numbered.{one_more}
 use Rattle.cluster_machines.proofs.first.addresses.Goals as goal
 

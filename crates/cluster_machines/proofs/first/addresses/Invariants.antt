@@ -1,7 +1,7 @@
 use Rattle.std.proofs.Common.{◌≡◌, length, map}
 use Rattle.std.specs.List.{range_with_len}
 use Rattle.device_addr.specs.Universal.{address_value}
-use Rattle.cluster_machines.specs.Machines.{address_of}
+use Rattle.world_rule.specs.Machines.{address_of}
 use Rattle.cluster_machines.proofs.first.addresses.Given as goal
 
 abbrev pub invariant-loop-index : goal.invariant-loop-index

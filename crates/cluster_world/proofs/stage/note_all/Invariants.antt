@@ -1,5 +1,5 @@
 use Rattle.std.proofs.Common.{◌≡◌, ◌+◌, drop}
-use Rattle.cluster_world.specs.Sent.{noting_all}
+use Rattle.world_rule.specs.Sent.{noting_all}
 use Rattle.cluster_world.proofs.stage.note_all.Given as goal
 
 abbrev pub invariant-loop-entry : goal.invariant-loop-entry

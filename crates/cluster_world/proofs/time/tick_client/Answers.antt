@@ -1,6 +1,6 @@
 use Rattle.cluster_model.specs.declared.ids.NodeId.TheVariants.{Client}
 use Rattle.mirror_client.specs.ClientRule.{client_ticked}
-use Rattle.cluster_machines.specs.Machines.{client_acts}
+use Rattle.world_rule.specs.Machines.{client_acts}
 use Rattle.cluster_world.proofs.Ticks.{drafts_part}
 use Rattle.cluster_world.proofs.time.tick_client.Goals as goal
 

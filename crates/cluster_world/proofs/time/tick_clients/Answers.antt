@@ -1,7 +1,7 @@
 use Rattle.std.proofs.Common.{◌<◌, Err, ap, subst, ◌∙◌, arith}
 use Rattle.std.specs.List.{range_with_len}
 use Rattle.std.proofs.lemmas.Result.{err_from_is_err_and}
-use Rattle.cluster_world.specs.ClusterWorlds.{clients_tick}
+use Rattle.world_rule.specs.ClusterWorlds.{clients_tick}
 use Rattle.cluster_world.specs.WorldSteps.{Drafts}
 use Rattle.cluster_world.proofs.Ticks.{leaves_next, leaves_past}
 use Rattle.cluster_world.proofs.time.tick_clients.Goals as goal

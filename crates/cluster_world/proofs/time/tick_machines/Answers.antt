@@ -1,7 +1,7 @@
 use Rattle.std.proofs.Common.{Err, length, ap, ◌∙◌}
 use Rattle.std.specs.List.{range_with_len}
 use Rattle.std.proofs.lemmas.Result.{err_from_is_err_and}
-use Rattle.cluster_world.specs.ClusterWorlds.{clients_tick, mds_ticks}
+use Rattle.world_rule.specs.ClusterWorlds.{clients_tick, mds_ticks}
 use Rattle.cluster_world.proofs.Ticks.{mds_grows, drafts_then, drafts_past}
 use Rattle.cluster_world.proofs.time.tick_machines.Goals as goal
 

@@ -1,6 +1,6 @@
 use Rattle.cluster_model.specs.declared.ids.NodeId.TheVariants.{Mds}
 use Rattle.mds_rule.specs.Events.{takes_tick}
-use Rattle.cluster_machines.specs.Machines.{mds_acts}
+use Rattle.world_rule.specs.Machines.{mds_acts}
 use Rattle.cluster_world.proofs.Ticks.{drafts_part}
 use Rattle.cluster_world.proofs.time.tick_mds.Goals as goal
 

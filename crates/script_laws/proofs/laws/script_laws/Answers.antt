@@ -1,5 +1,5 @@
 use Rattle.std.proofs.Common.{ℕ, ◌-◌, ◌≤◌, length, replicate, subst, arith}
-use Rattle.cluster_world.specs.ClusterWorlds.{ClusterState, behind}
+use Rattle.world_rule.specs.ClusterWorlds.{ClusterState, behind}
 use Rattle.cluster_model.specs.Event.{EventValue}
 use Rattle.world_journal.specs.Journal.{IsJournalInRange}
 use Rattle.proper_servers.specs.ProperServers.{IsProper}

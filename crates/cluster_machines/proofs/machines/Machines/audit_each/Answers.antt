@@ -1,6 +1,6 @@
 use Rattle.std.proofs.Common.{sym, ◌∙◌}
 use Rattle.cluster_model.specs.declared.ids.Mirror.{Mirror}
-use Rattle.cluster_machines.specs.Machines.{audit_of}
+use Rattle.world_rule.specs.Machines.{audit_of}
 use Rattle.cluster_machines.proofs.Auditing.{entered_next}
 use Rattle.cluster_machines.proofs.machines.Machines.audit_each.Goals as goal
 

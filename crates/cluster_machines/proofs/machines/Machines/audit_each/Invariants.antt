@@ -1,6 +1,6 @@
 use Rattle.std.proofs.Common.{◌≡◌, ◌++◌, map, take}
 use Rattle.cluster_model.specs.declared.ids.Mirror.{Mirror}
-use Rattle.cluster_machines.specs.Machines.{audit_of}
+use Rattle.world_rule.specs.Machines.{audit_of}
 use Rattle.cluster_machines.proofs.machines.Machines.audit_each.Given as goal
 
 abbrev pub invariant-loop-place : goal.invariant-loop-place

@@ -2,7 +2,7 @@ use Rattle.std.proofs.Common.{◌≡◌, refl, sym, ap, ◌∙◌}
 use Rattle.cluster_model.specs.declared.outbox.Outbox.{Outbox}
 use Rattle.mirror_client.specs.ClientSteps.{ClientOfUser}
 use Rattle.client_state.specs.ClientStates.{fresh_client}
-use Rattle.cluster_machines.specs.Machines.{starts_anew}
+use Rattle.world_rule.specs.Machines.{starts_anew}
 use Rattle.cluster_machines.proofs.Acting.{no_client, client_stays, client_stepped, read_again}
 use Rattle.cluster_machines.proofs.Leaving.{stays_away, has_started}
 use Rattle.cluster_machines.proofs.machines.Machines.reboot.Goals as goal

@@ -1,7 +1,7 @@
 use Rattle.std.proofs.Common.{◌≡◌, sym, ap, ◌∙◌}
 use Rattle.mirror_client.specs.ClientSteps.{ClientOfUser}
 use Rattle.mirror_client.specs.ClientRule.{strays}
-use Rattle.cluster_machines.specs.Machines.{goes_astray}
+use Rattle.world_rule.specs.Machines.{goes_astray}
 use Rattle.cluster_machines.proofs.Acting.{no_client, client_stays, client_acted_as, read_again}
 use Rattle.cluster_machines.proofs.Leaving.{stays_within, strays_left}
 use Rattle.cluster_machines.proofs.machines.Machines.stray.Goals as goal

@@ -2,7 +2,7 @@ use Rattle.std.proofs.Common.{◌≡◌, refl, sym, ap, ◌∙◌}
 use Rattle.cluster_model.specs.declared.outbox.Outbox.{Outbox}
 use Rattle.mirror_client.specs.ClientSteps.{ClientOfUser}
 use Rattle.mirror_client.specs.ClientRule.{turned}
-use Rattle.cluster_machines.specs.Machines.{leaves}
+use Rattle.world_rule.specs.Machines.{leaves}
 use Rattle.cluster_machines.proofs.Acting.{no_client, client_stays, client_stepped, read_again}
 use Rattle.cluster_machines.proofs.Leaving.{left_before, has_turned}
 use Rattle.cluster_machines.proofs.machines.Machines.turn.Goals as goal

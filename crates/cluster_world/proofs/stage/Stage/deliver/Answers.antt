@@ -1,9 +1,9 @@
 use Rattle.std.proofs.Common.{◌≡◌, Some, Err, refl, sym, ap, subst, ◌∙◌}
 use Rattle.std.proofs.lemmas.Result.{err_from_is_err_and}
 use Rattle.packet_table.specs.Packets.{packet_numbered}
-use Rattle.cluster_machines.specs.Machines.{HasActed, receives}
-use Rattle.cluster_world.specs.Sent.{bytes_at_place}
-use Rattle.cluster_world.specs.ClusterWorlds.{packets, delivering}
+use Rattle.world_rule.specs.Machines.{HasActed, receives}
+use Rattle.world_rule.specs.Sent.{bytes_at_place}
+use Rattle.world_rule.specs.ClusterWorlds.{packets, delivering}
 use Rattle.cluster_world.specs.WorldSteps.{StageValue, IsNoted, StageBecomes}
 use Rattle.cluster_world.proofs.Comings.{stage_of, comes, fresh}
 use Rattle.cluster_world.proofs.Deliveries.{coming, answer_past, delivered}

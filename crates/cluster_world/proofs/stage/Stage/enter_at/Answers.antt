@@ -1,6 +1,6 @@
 use Rattle.std.proofs.Common.{◌≡◌, length, Ok, refl, sym, subst}
 use Rattle.cluster_world.specs.WorldSteps.{StageValue, IsNoted, StageBecomes, drafted}
-use Rattle.cluster_world.specs.Sent.{noting_all}
+use Rattle.world_rule.specs.Sent.{noting_all}
 use Rattle.cluster_world.proofs.Comings.{stage_of, entered}
 use Rattle.cluster_world.proofs.stage.Stage.enter_at.Goals as goal
 

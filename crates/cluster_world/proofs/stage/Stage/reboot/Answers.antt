@@ -1,6 +1,6 @@
 use Rattle.std.proofs.Common.{◌≡◌, ap, subst, ◌∙◌}
-use Rattle.cluster_machines.specs.Machines.{nth}
-use Rattle.cluster_world.specs.ClusterWorlds.{ClusterState, rebooting, verifier_after}
+use Rattle.world_rule.specs.Machines.{nth}
+use Rattle.world_rule.specs.ClusterWorlds.{ClusterState, rebooting, verifier_after}
 use Rattle.cluster_world.specs.WorldSteps.{StageValue, StageBecomes}
 use Rattle.cluster_world.proofs.Comings.{stage_of, started}
 use Rattle.cluster_world.proofs.stage.Stage.reboot.Goals as goal

@@ -1,8 +1,8 @@
 use Rattle.cluster_model.specs.declared.ids.NodeId.TheVariants.{Mds}
 use Rattle.cluster_model.specs.Event.{Recall}
 use Rattle.mds_rule.specs.Events.{takes_recall}
-use Rattle.cluster_machines.specs.Machines.{mds_acts}
-use Rattle.cluster_world.specs.ClusterWorlds.{ClusterState, behind}
+use Rattle.world_rule.specs.Machines.{mds_acts}
+use Rattle.world_rule.specs.ClusterWorlds.{ClusterState, behind}
 use Rattle.cluster_world.specs.WorldSteps.{StageValue, StageBecomes}
 use Rattle.std.proofs.Common.{subst}
 use Rattle.cluster_world.proofs.Comings.{stage_of, acts}

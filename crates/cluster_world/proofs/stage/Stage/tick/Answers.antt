@@ -1,6 +1,6 @@
 use Rattle.std.proofs.Common.{◌≡◌, ◌+◌, ◌<◌, Err, refl, sym, ap, subst, ◌∙◌, arith}
 use Rattle.std.proofs.lemmas.Result.{err_from_is_err_and}
-use Rattle.cluster_world.specs.ClusterWorlds.{ticking}
+use Rattle.world_rule.specs.ClusterWorlds.{ticking}
 use Rattle.cluster_world.specs.WorldSteps.{StageValue, StageBecomes}
 use Rattle.cluster_world.proofs.Comings.{stage_of, comes, fresh}
 use Rattle.cluster_world.proofs.Ticks.{tick_past, ticks_past, ticked, early_still}

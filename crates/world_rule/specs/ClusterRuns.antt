@@ -4,7 +4,7 @@ use Rattle.cluster_model.specs.declared.entry.Entry.{Entry}
 use Rattle.cluster_model.specs.Event.{EventValue, DeliverPacket, Flow}
 use Rattle.world_journal.specs.Journal.{max_entries}
 use Rattle.packet_table.specs.Packets.{next_waiting}
-use Rattle.cluster_world.specs.ClusterWorlds.{ClusterState, packets, cluster_step}
+use Rattle.world_rule.specs.ClusterWorlds.{ClusterState, packets, cluster_step}
 
 -- the entries that events add, up to the first that would pass a limit, and whether one would
 pub record ClusterRun : Type 0 where

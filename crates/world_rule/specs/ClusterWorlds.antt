@@ -15,10 +15,10 @@ use Rattle.mds_rule.specs.MdsStates.{numbered}
 use Rattle.mds_rule.specs.Events.{takes_tick, takes_recall, takes_resilver}
 use Rattle.packet_table.specs.declared.note.PacketNote.{PacketNote}
 use Rattle.packet_table.specs.Packets.{PacketsValue, packet_numbered, number_between, after_hold, after_pass}
-use Rattle.cluster_machines.specs.Machines.{MachinesValue, Act, new_machines, nth, mds_acts, client_acts, receives, times_out, is_asked, leaves, goes_astray, starts_anew, restarts, audits}
+use Rattle.world_rule.specs.Machines.{MachinesValue, Act, new_machines, nth, mds_acts, client_acts, receives, times_out, is_asked, leaves, goes_astray, starts_anew, restarts, audits}
 use Rattle.world_journal.specs.Journal.{is_within}
 use Rattle.world_journal.specs.SentPackets.{packets_of}
-use Rattle.cluster_world.specs.Sent.{packets_in, bytes_at_place}
+use Rattle.world_rule.specs.Sent.{packets_in, bytes_at_place}
 
 -- how many clients there are is seen in the machines; a client's verifier tells each start of it from the next (RFC 8881, section 18.35)
 pub record ClusterState : Type 0 where

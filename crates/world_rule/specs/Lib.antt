@@ -1,0 +1,4 @@
+pub mod Machines
+pub mod Sent
+pub mod ClusterWorlds
+pub mod ClusterRuns
