@@ -203,7 +203,6 @@ runs = record {
   returns = λ m file s n cred errors at fresh es ss i. inputs m file s (Returns n cred (report_of errors s.file.layout.live)) at es ss i;
   confirms = λ m client node es ss i. i;
   destroys = λ m session es ss i. i;
-  finishes = λ m slot bytes es ss i. i;
   any = λ c. tt;
 }
 

@@ -181,7 +181,6 @@ module _ (u k n : ℕ) (wide : 5000 ≤ n) where
     returns = λ m file s client cred errors at fresh es ss i. inputs m file s (Returns client cred (report_of errors s.file.layout.live)) at es ss i;
     confirms = λ m client node es ss i. i;
     destroys = λ m session es ss i. i;
-    finishes = λ m slot bytes es ss i. i;
     any = λ c. tt;
   }
 
