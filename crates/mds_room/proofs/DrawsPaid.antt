@@ -1,7 +1,7 @@
 -- What a file draws is paid for by its entries: a step draws a uid only where it makes an entry, or a copy begins; and a copy begins only where
 -- the file was free, or an entry was made, since the one before. Names are drawn with a uid alone.
 use Rattle.std.proofs.Common.{◌≡◌, ◌≤◌, ℕ, zero, suc, ◌+◌, Bool, true, false, cond, List, [], ◌∷◌, ◌++◌, length, Option, Some, None, refl, ap, subst, arith, length-append}
-use Rattle.std.specs.Prelude.{◌==◌, ◌&&◌, not, nat_lt, slice_get, map, is_some, if◌then◌else◌}
+use Rattle.std.specs.Prelude.{◌==◌, ◌&&◌, nat_lt, slice_get, map, is_some, if◌then◌else◌}
 use Rattle.std.specs.List.{list_all}
 use Rattle.std.proofs.lemmas.Bool.{cond_both}
 use Rattle.cluster_model.specs.declared.limits.TheConstants.{MAX_TIMEOUTS}
@@ -26,14 +26,12 @@ use Rattle.cluster_model.specs.declared.fence_mirror.FenceStep.TheVariants.{Stra
 use Rattle.cluster_model.specs.declared.layout_state.LayoutState.{LayoutState}
 use Rattle.cluster_model.specs.declared.layout_state.LayoutPhase.{LayoutPhase}
 use Rattle.cluster_model.specs.declared.layout_state.LayoutPhase.TheVariants.{Making, Free, Held, Fencing, Settling, Copying}
-use Rattle.cluster_model.specs.declared.layout_state.FenceEnd.{FenceEnd}
-use Rattle.cluster_model.specs.declared.layout_state.FenceEnd.TheVariants.{Clean, Dirty, Copied}
 use Rattle.cluster_model.specs.declared.layout_state.CopyKind.{CopyKind}
 use Rattle.cluster_model.specs.declared.targets.SwappedIn.{SwappedIn}
 use Rattle.cluster_model.specs.DsCalls.{DsReplyValue, Created, Set, Written, Committed, Bytes, NotSync, Failed}
 use Rattle.cluster_model.specs.Fences.{waits, is_out, is_over, odd_status, FenceState, outstanding_at, on_reply, on_timeout, without, is_done}
 use Rattle.cluster_model.specs.Fences as fence
-use Rattle.cluster_model.specs.Phases.{is_last_live, with_phase, is_clean, unreported, PhaseStep, freed, made, granted, left_with, returned, revoked, end_entries, own_done, mirror_left, fence_entries, fence_done, fenced_to, after_fence, has_targets, settled_row, resilvered, left_entries, reported_cause}
+use Rattle.cluster_model.specs.Phases.{is_last_live, with_phase, is_clean, unreported, PhaseStep, freed, made, granted, left_with, returned, revoked, end_entries, own_done, mirror_left, fence_entries, fence_done, fenced_to, has_targets, settled_row, resilvered, left_entries, reported_cause}
 use Rattle.copy_rule.specs.declared.copy_target.CopyStep.{CopyStep}
 use Rattle.copy_rule.specs.declared.copy_target.CopyStep.TheVariants as copy_step
 use Rattle.copy_rule.specs.Copies.{CopyState, CopyCall, has_outcome, swaps_of}

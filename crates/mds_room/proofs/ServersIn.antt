@@ -40,7 +40,7 @@ use Rattle.copy_rule.specs.declared.copy_target.CopyTarget.{CopyTarget}
 use Rattle.copy_rule.specs.declared.copy_target.CopyStep.{CopyStep}
 use Rattle.copy_rule.specs.declared.copy_target.CopyStep.TheVariants as copy_step
 use Rattle.copy_rule.specs.declared.copy_target.Target.{Target}
-use Rattle.copy_rule.specs.Copies.{CopyState, CopyCall, CopyAfter, TargetStep, is_given_up, to_make, at_stage, thrown_away, goes_on_with, target_fails, seen_then, create_answered, write_answered, stage_for, to_write, with_target, with_read, with_piece, with_next, has_outcome, have_answered, swap_of, swaps_of, copy_then, stranger, source_fails, read_answered, read_late, is_long, by_read, step_at, step_from, target_of, target_answered, target_late, waiting_at, target_call_at, call_from}
+use Rattle.copy_rule.specs.Copies.{CopyState, CopyCall, CopyAfter, TargetStep, is_given_up, to_make, at_stage, goes_on_with, target_fails, seen_then, create_answered, write_answered, stage_for, to_write, with_target, with_read, with_piece, with_next, has_outcome, have_answered, swap_of, swaps_of, copy_then, stranger, source_fails, read_answered, read_late, is_long, by_read, step_at, step_from, target_of, target_answered, target_late, waiting_at, target_call_at, call_from}
 use Rattle.copy_rule.specs.Copies as copy
 use Rattle.file_rule.specs.declared.creation.Creation.{Creation}
 use Rattle.file_rule.specs.declared.fresh.Fresh.{Fresh}

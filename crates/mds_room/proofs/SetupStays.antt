@@ -80,6 +80,7 @@ module _ (servers : List AddressValue) (mirrors : ℕ) where
     returns = λ m file s n cred errors at fresh es ss i. behind m file s (phase file s.file (Returns n cred (report_of errors s.file.layout.live)) m.fresh) ss i;
     confirms = λ m client node es ss i. i;
     destroys = λ m session es ss i. i;
+    finishes = λ m pass bytes es ss i. i;
     any = λ c. tt;
   }
 

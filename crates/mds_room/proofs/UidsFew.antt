@@ -1,5 +1,5 @@
 -- In each run the uids that were drawn are no more than its entries and its files, and names are drawn with uids, four at most with each.
-use Rattle.std.proofs.Common.{◌≡◌, ◌≤◌, ◌<◌, ℕ, zero, suc, ◌+◌, ◌-◌, ◌*◌, Bool, true, false, List, [], ◌∷◌, ◌++◌, length, Option, Some, None, refl, sym, ap, subst, ◌∙◌, arith, append-nil, length-append}
+use Rattle.std.proofs.Common.{◌≡◌, ◌≤◌, ◌<◌, ℕ, zero, suc, ◌+◌, ◌-◌, ◌*◌, Bool, true, false, List, [], ◌∷◌, ◌++◌, length, Option, Some, None, refl, sym, ap, subst, arith, append-nil, length-append}
 use Rattle.std.specs.Prelude.{◌^◌, ◌&&◌, map, nat_lt, slice_get, slice_set}
 use Rattle.std.specs.List.{list_any, range_with_len}
 use Rattle.std.proofs.lemmas.Bool.{cond_both, lt-ltb}
@@ -13,7 +13,7 @@ use Rattle.device_addr.specs.Universal.{AddressValue}
 use Rattle.cluster_model.specs.declared.call_stage.CallStage.TheVariants.{Waits}
 use Rattle.file_rule.specs.declared.creation.Creation.{Creation}
 use Rattle.file_rule.specs.declared.fresh.Fresh.{Fresh}
-use Rattle.file_rule.specs.MdsFiles.{MdsFile, FileStep}
+use Rattle.file_rule.specs.MdsFiles.{FileStep}
 use Rattle.file_rule.specs.FilePhases.{FileInput, AsksLayout, Returns, OwnEnds, Answers as IsAnswer, TimesOut, Sees, creations_at, new_mds_file, end_of_uids, phase}
 use Rattle.cluster_laws.proofs.FewMirrors.{FileHasFew}
 use Rattle.cluster_laws.proofs.FewSteps.{StepIsFew, phase_few, OutFew, out_few}
@@ -26,7 +26,7 @@ use Rattle.mds_rule.specs.declared.waiter.Waiter.TheVariants.{ForFile, ForRead, 
 use Rattle.mds_rule.specs.ServedFiles.{has_fresh, is_period_end, file_behind, file_stepped, input_at, takes_input}
 use Rattle.mds_rule.specs.FileOps.{nth_server, servers_of, new_served, with_new_file, may_make}
 use Rattle.mds_rule.specs.LayoutOps.{with_holder}
-use Rattle.mds_laws.specs.MdsRuns.{MdsEvent, run_from, mds_run}
+use Rattle.mds_laws.specs.MdsRuns.{MdsEvent, mds_run}
 use Rattle.mds_laws.proofs.Lists.{AllOf, all_push, all_set}
 use Rattle.mds_laws.proofs.Keeping.{HeardAny}
 use Rattle.mds_laws.proofs.Numbers.{WereSent, sent_more, sent_with, sent_without}
@@ -218,6 +218,7 @@ runs = record {
   returns = λ m file s client cred errors at fresh es ss i. inputs m file s (Returns client cred (report_of errors s.file.layout.live)) at es ss i;
   confirms = λ m client node es ss i. i;
   destroys = λ m session es ss i. i;
+  finishes = λ m pass bytes es ss i. i;
   any = λ c. tt;
 }
 

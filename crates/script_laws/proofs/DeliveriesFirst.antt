@@ -18,12 +18,12 @@ use Rattle.client_state.specs.ClientStates.{ClientValue, fresh_client}
 use Rattle.client_state.specs.ClientSends.{ClientStep, sends_none}
 use Rattle.mirror_client.specs.ClientRule.{client_requested, client_recorded, client_timed_out, client_ticked, turned, strays}
 use Rattle.client_laws.specs.ClientHistory.{ClientInput, Requested, Recorded, TimeoutOf, Ticked, Strayed, input_step}
-use Rattle.mds_rule.specs.MdsStates.{ServedFile, served}
+use Rattle.mds_rule.specs.MdsStates.{ServedFile, served, numbered}
 use Rattle.mds_laws.specs.MdsRuns.{MdsEvent, Hears, IsTimedOut, Ticks, RecallsFile, Resilvers, after_event}
 use Rattle.packet_table.specs.declared.note.PacketNote.{PacketNote}
 use Rattle.packet_table.specs.Packets.{packet_numbered, number_between}
 use Rattle.world_journal.specs.SentPackets.{packets_of}
-use Rattle.world_rule.specs.Machines.{MachinesValue, Act, nth, client_at, client_acts, server_at, started, restarts_at, receives, times_out, leaves, goes_astray, starts_anew, audit_of, audits_of}
+use Rattle.world_rule.specs.Machines.{MachinesValue, Act, nth, client_at, client_acts, server_at, started, restarts_at, receives, times_out, leaves, goes_astray, starts_anew, audit_of, audits_of, mds_did, audits}
 use Rattle.world_rule.specs.ClusterWorlds.{ClusterState, packets, entering, acting, packet_comes, delivering_some, client_ticks, clients_tick, behind, verifier_after}
 use Rattle.world_rule.specs.Sent.{bytes_at_place}
 use Rattle.node_histories.specs.NodeHistories.{is_client_entry, is_server_entry}
@@ -202,7 +202,7 @@ event_adds (Tick seconds) w =
     let ticked : ClusterState = clients_tick (range_with_len 1 (length w.machines.clients)) later in
     NoneAdded (adds_then w.journal later.journal (behind (Tick seconds) w).journal (one_more w.journal (entry.Tick seconds) tt)
     (adds_then later.journal ticked.journal (behind (Tick seconds) w).journal (ticks_add (range_with_len 1 (length w.machines.clients)) later)
-    (acts_add Mds (Rattle.world_rule.specs.Machines.mds_did ticked.machines (after_event (record { now = ticked.now; input = Ticks }) ticked.machines.mds)) ticked (mds_so ticked.machines (record { now = ticked.now; input = Ticks })))))
+    (acts_add Mds (mds_did ticked.machines (after_event (record { now = ticked.now; input = Ticks }) ticked.machines.mds)) ticked (mds_so ticked.machines (record { now = ticked.now; input = Ticks })))))
 event_adds (Open client name) w = NoneAdded (asks_add client _ w)
 event_adds (Write client at bytes) w = NoneAdded (asks_add client _ w)
 event_adds (Through client at bytes) w = NoneAdded (asks_add client _ w)
@@ -216,9 +216,13 @@ event_adds (Stray client place at bytes) w =
 event_adds (Reboot client) w =
     let verifier : ℕ = verifier_after (nth w.verifiers client) in
     NoneAdded (acts_add (Client client) (client_acts client (starts_anew client verifier) w.machines) w (client_by w.machines client (starts_anew client verifier) (anew_so client verifier) (nth w.machines.clients client)))
-event_adds (Recall file) w = NoneAdded (acts_add Mds _ w (mds_so w.machines (record { now = w.now; input = RecallsFile _ })))
-event_adds (Resilver file) w = NoneAdded (acts_add Mds _ w (mds_so w.machines (record { now = w.now; input = Resilvers _ })))
-event_adds (Audit file) w = NoneAdded (acts_add Mds _ w (audits_so w.machines _ (served w.machines.mds _)))
+event_adds (Recall file) w =
+    let e : MdsEvent = record { now = w.now; input = RecallsFile (numbered file) } in
+    NoneAdded (acts_add Mds (mds_did w.machines (after_event e w.machines.mds)) w (mds_so w.machines e))
+event_adds (Resilver file) w =
+    let e : MdsEvent = record { now = w.now; input = Resilvers (numbered file) } in
+    NoneAdded (acts_add Mds (mds_did w.machines (after_event e w.machines.mds)) w (mds_so w.machines e))
+event_adds (Audit file) w = NoneAdded (acts_add Mds (audits (numbered file) w.machines) w (audits_so w.machines (numbered file) (served w.machines.mds (numbered file))))
 event_adds (Restart server pieces) w = NoneAdded (acts_add (Server server) (restarts_at w.machines server pieces (nth w.machines.servers server)) w (restart_so w.machines server pieces (nth w.machines.servers server)))
 
 -- ---- where a record came

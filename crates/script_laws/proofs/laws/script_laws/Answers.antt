@@ -13,6 +13,7 @@ use Rattle.world_layouts.specs.WorldLayouts.{HoldersOwnAtDeliveries}
 use Rattle.world_room.specs.WorldRoom.{IsWorldSmall}
 use Rattle.mds_rule.specs.MdsStates.{MdsValue}
 use Rattle.mds_laws.specs.MdsRuns.{MdsEvent, Ticks, after_event}
+use Rattle.script_laws.specs.ScriptLaws.{ObeysPeriods}
 use Rattle.script_laws.proofs.ClientCounts.{counts_still, new_count}
 use Rattle.script_laws.proofs.DeliveriesFirst.{own_at_first, own_behind}
 use Rattle.script_laws.proofs.KeptParts.{WorldLaws, keeps_parts, few_within, range_before}
@@ -81,7 +82,7 @@ returns c =
           (c.bound_worlds.ensures.goes_on (replicate servers 1) event w before.0 (may_happen c.bound_worlds.ensures.otherwise event w is.told parts), own);
     })
     (λ servers w is.
-    let periods = record {
+    let periods : ObeysPeriods w.journal = record {
       fences = c.world_moves.ensures.fences (replicate servers 1) w is.run;
       periods = c.world_moves.ensures.periods (replicate servers 1) w is.run;
       owners = c.world_moves.ensures.owners (replicate servers 1) w is.run;
