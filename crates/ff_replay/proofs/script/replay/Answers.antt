@@ -6,9 +6,9 @@ use Rattle.ff_replay.proofs.PlayLemmas.{ends_in_range}
 use Rattle.ff_replay.proofs.script.replay.Goals as goal
 
 pub returns-clause-told : goal.returns-clause-told
-returns-clause-told g c = rw c.new-player.ensures at c.run_lines.ensures.told
+returns-clause-told g c = rw c.new-player.ensures at c.run_lines-end.ensures.told
 
 pub returns-clause-range : goal.returns-clause-range
 returns-clause-range g c =
-    ends_in_range (g.S.Source.left c.args.source.now) c.run_lines.result (journal_so_far c.run_lines.new.task.stage)
-    (subst (λ (p : PlayerValue). HasBecome script_budget (journal_behind p.flows p.stage) (g.S.Source.left c.args.source.now) c.run_lines.result (journal_so_far c.run_lines.new.task.stage)) c.new-player.ensures c.run_lines.ensures.became) c.journal.ensures.range
+    ends_in_range (g.S.Source.left c.args.source.now) c.run_lines-end.result (journal_so_far c.run_lines-end.new.task.stage)
+    (subst (λ (p : PlayerValue). HasBecome script_budget (journal_behind p.flows p.stage) (g.S.Source.left c.args.source.now) c.run_lines-end.result (journal_so_far c.run_lines-end.new.task.stage)) c.new-player.ensures c.run_lines-end.ensures.became) c.journal.ensures.range
