@@ -14,6 +14,7 @@ use Rattle.cluster_model.specs.declared.entry.Entry.{Entry}
 use Rattle.cluster_model.specs.declared.entry.Entry.TheVariants as entry
 use Rattle.cluster_model.specs.Content.{Pending}
 use Rattle.cluster_model.specs.Server.{ServerState}
+use Rattle.cluster_model.specs.Members.{IsOneOf}
 use Rattle.cluster_laws.specs.Machine.{PacketValue, Machine, Move, new_machine, numbered_at, machine_after, journal_of}
 use Rattle.cluster_laws.specs.CallRanges.{AreServersInRange}
 use Rattle.cluster_laws.specs.FenceLaw.{live_in, new_servers}
@@ -29,7 +30,7 @@ use Rattle.machine_moves.proofs.Packets.{keeps_same, goes_keep}
 use Rattle.mds_rule.specs.MdsStates.{MdsSend, MdsValue, MdsStep}
 use Rattle.mds_rule.specs.Spelled.{spelled_send}
 use Rattle.mds_laws.specs.MdsRuns.{MdsEvent, after_event}
-use Rattle.mds_laws.proofs.Lists.{In, AllOf, in_more}
+use Rattle.mds_laws.proofs.Lists.{AllOf, in_more}
 use Rattle.mds_forms.specs.Forms.{IsNoPacket, IsInForm, StaysInForm, MdsStaysInForm}
 use Rattle.mds_moves.specs.MdsMoves.{IsMdsOf, MayComeTo}
 use Rattle.mds_moves.specs.MdsBinds.{IsReachedBy, EndsByReturn, EndsByOwn, IsCleanEnd, EndsInOrder, MdsHasOwnWrites, BoundGoesOnBy, MdsGoesOnBound}
@@ -197,11 +198,11 @@ module _ (laws : BoundLaws) (by : MdsLaws) (boots : List ℕ) (servers : List Se
       ap (λ (l : List Entry). journal ++ (l ++ rest)) split ∙ (ap (λ (l : List Entry). journal ++ l) (append_assoc a (entry.Ended f cred cause ∷ b) rest) ∙ sym (append_assoc journal a (entry.Ended f cred cause ∷ (b ++ rest)))) in
       clean_so a (part_of a (entry.Ended f cred cause ∷ b) (subst (AllByRecursion IsNoPacket) split form.entries)) f cred cause (parts (journal ++ a) (b ++ rest) (entry.Ended f cred cause) whole)
 
-  behind_all : {A : Type 0} (x : A) (old new : List A) → In x new → In x (old ++ new)
+  behind_all : {A : Type 0} (x : A) (old new : List A) → IsOneOf x new → IsOneOf x (old ++ new)
   behind_all x [] new inside = inside
   behind_all x (y ∷ old) new inside = inr (behind_all x old new inside)
 
-  were_sent : (n : Machine) (all sends : List MdsSend) → ((s : MdsSend) → In s sends → In s all) → AllByRecursion (λ (x : NodeId × List ℕ). IsCarried n all Mds x.0 x.1) (map spelled_send sends)
+  were_sent : (n : Machine) (all sends : List MdsSend) → ((s : MdsSend) → IsOneOf s sends → IsOneOf s all) → AllByRecursion (λ (x : NodeId × List ℕ). IsCarried n all Mds x.0 x.1) (map spelled_send sends)
   were_sent n all [] inside = tt
   were_sent n all (s ∷ sends) inside = (record { sent = s; inside = inside s (inl refl); is = refl }, were_sent n all sends (λ x its. inside x (inr its)))
 

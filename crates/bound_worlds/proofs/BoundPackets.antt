@@ -13,6 +13,7 @@ use Rattle.cluster_model.specs.declared.entry.Entry.{Entry}
 use Rattle.cluster_model.specs.declared.entry.Entry.TheVariants as entry
 use Rattle.cluster_model.specs.Server.{ServerState, Caller}
 use Rattle.cluster_model.specs.DsCalls.{DsCallValue, Create, SetAttr, Write, Commit, Read, DsReplyValue, ds_plan, ds_step}
+use Rattle.cluster_model.specs.Members.{IsOneOf}
 use Rattle.ds_files.specs.Receive.{Outcome, outcome_of}
 use Rattle.ds_files.specs.Records.{sent_to}
 use Rattle.ds_calls.specs.MadeCalls.{ds_rpc_call, ds_call_bytes}
@@ -28,7 +29,7 @@ use Rattle.mds_receive.specs.MdsReceive.{of_reply}
 use Rattle.mds_rule.specs.MdsStates.{MdsSend, MdsValue, CallsServer, CallsBack, Replies, Answers}
 use Rattle.mds_rule.specs.Spelled.{mds_name, spelled_send}
 use Rattle.mds_laws.specs.MdsRunLaws.{number_sent}
-use Rattle.mds_laws.proofs.Lists.{In, AllOf, all_in}
+use Rattle.mds_laws.proofs.Lists.{AllOf, all_in}
 use Rattle.mds_laws.proofs.Keeping.{is_read_call}
 use Rattle.mds_moves.specs.MdsMoves.{message_of, IsSpoken, IsSentIn, IsSendAnswered, MayComeFrom}
 use Rattle.mds_forms.specs.Forms.{IsNoPacket, IsInForm}
@@ -123,7 +124,7 @@ module _ (laws : BoundLaws) (by : RecordLaws) (boots : List ℕ) (servers : List
 
   -- ---- from the metadata server
 
-  spoken_so : (xid uid : ℕ) (call : DsCallValue) → In (CallsServer n xid uid call) i.sends → (h : HasCalled i.machine n xid uid call) → HasRecord (message_of xid uid call) → Serves Mds (outcome_of s (ds_call_bytes xid mds_name uid call))
+  spoken_so : (xid uid : ℕ) (call : DsCallValue) → IsOneOf (CallsServer n xid uid call) i.sends → (h : HasCalled i.machine n xid uid call) → HasRecord (message_of xid uid call) → Serves Mds (outcome_of s (ds_call_bytes xid mds_name uid call))
   spoken_so xid uid call inside h has =
       let o : Outcome = outcome_of s (ds_call_bytes xid mds_name uid call) in
       let d : DoesTheCall s (message_of xid uid call) = by.same s (message_of xid uid call) proper has in
@@ -150,7 +151,7 @@ module _ (laws : BoundLaws) (by : RecordLaws) (boots : List ℕ) (servers : List
       (serves_with laws boots servers mds journal i n (outcome_of s (ds_call_bytes xid mds_name uid call)) _ serves well none (sent + 1) Mds (reply_bytes d.reply) tt comes)
 
   -- what reads does nothing, and to its reply nothing is asked but its number
-  reader_so : (c : RpcCall) (send : MdsSend) → In send i.sends → number_sent send ≡ Some c.xid → c.xid < 2 ^ 32 → ((m : Machine) (says : DsCallValue → DsReplyValue) → IsSendAnswered m n says send) → IsReaderRecord (call_bytes c) → Serves Mds (outcome_of s (call_bytes c))
+  reader_so : (c : RpcCall) (send : MdsSend) → IsOneOf send i.sends → number_sent send ≡ Some c.xid → c.xid < 2 ^ 32 → ((m : Machine) (says : DsCallValue → DsReplyValue) → IsSendAnswered m n says send) → IsReaderRecord (call_bytes c) → Serves Mds (outcome_of s (call_bytes c))
   reader_so c send inside number small any reader =
       let l : LeavesAll s (outcome_of s (call_bytes c)) = by.readers s (call_bytes c) reader in
       let serves = stays_so i.machine (telling journal) n s (outcome_of s (call_bytes c)) at l.server l.entries in
@@ -160,14 +161,14 @@ module _ (laws : BoundLaws) (by : RecordLaws) (boots : List ℕ) (servers : List
   silent_so : (r : RpcReply) → Serves Mds (outcome_of s (reply_bytes r))
   silent_so r = subst (Serves Mds) (sym (reply_silent s r)) (replies_so (silence s) [] (stays_so i.machine (telling journal) n s (silence s) at refl refl) proper tt tt)
 
-  by_send : (bytes : List ℕ) (send : MdsSend) → In send i.sends → IsSentIn i.machine send → IsInForm send → spelled_send send ≡ (Server n, bytes) → Serves Mds (outcome_of s bytes)
+  by_send : (bytes : List ℕ) (send : MdsSend) → IsOneOf send i.sends → IsSentIn i.machine send → IsInForm send → spelled_send send ≡ (Server n, bytes) → Serves Mds (outcome_of s bytes)
   by_send bytes (CallsServer server xid uid call) inside stands form is =
       let node : Server server ≡ Server n = ap (λ (x : NodeId × List ℕ). x.0) is in
       let same : server ≡ n = cc (node) in
       subst (λ (b : List ℕ). Serves Mds (outcome_of s b)) (ap (λ (x : NodeId × List ℕ). x.1) is)
-      (spoken_or xid uid call (subst (λ (k : ℕ). In (CallsServer k xid uid call) i.sends) same inside) (subst (λ (k : ℕ). HasCalled i.machine k xid uid call) same stands.0) stands.1 form)
+      (spoken_or xid uid call (subst (λ (k : ℕ). IsOneOf (CallsServer k xid uid call) i.sends) same inside) (subst (λ (k : ℕ). HasCalled i.machine k xid uid call) same stands.0) stands.1 form)
     where
-      spoken_or : (xid uid : ℕ) (call : DsCallValue) → In (CallsServer n xid uid call) i.sends → HasCalled i.machine n xid uid call → IsSpoken (message_of xid uid call) → xid < 2 ^ 32
+      spoken_or : (xid uid : ℕ) (call : DsCallValue) → IsOneOf (CallsServer n xid uid call) i.sends → HasCalled i.machine n xid uid call → IsSpoken (message_of xid uid call) → xid < 2 ^ 32
           → Serves Mds (outcome_of s (ds_call_bytes xid mds_name uid call))
       spoken_or xid uid call inside h (inl has) small = spoken_so xid uid call inside h has
       spoken_or xid uid call inside h (inr (hasnt, reads)) small =

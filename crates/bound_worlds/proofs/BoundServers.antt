@@ -13,6 +13,7 @@ use Rattle.cluster_model.specs.declared.entry.Entry.TheVariants as entry
 use Rattle.cluster_model.specs.Content.{Pending}
 use Rattle.cluster_model.specs.Server.{ServerState, Caller}
 use Rattle.cluster_model.specs.DsCalls.{DsCallValue, Create, SetAttr, Write, Commit, Read, DsReplyValue, ds_plan, ds_step}
+use Rattle.cluster_model.specs.Members.{IsOneOf}
 use Rattle.ds_files.specs.Receive.{Outcome, outcome_of}
 use Rattle.ds_files.specs.Records.{sent_to}
 use Rattle.ds_calls.specs.MadeCalls.{ds_rpc_call, ds_call_bytes}
@@ -28,7 +29,7 @@ use Rattle.machine_moves.specs.MachineMoves.{KeepsPackets}
 use Rattle.machine_moves.proofs.Packets.{keeps_same, keeps_then, moves_keep}
 use Rattle.machine_moves.proofs.Going.{telling_append}
 use Rattle.mds_rule.specs.MdsStates.{MdsSend, MdsValue}
-use Rattle.mds_laws.proofs.Lists.{In, AllOf}
+use Rattle.mds_laws.proofs.Lists.{AllOf}
 use Rattle.mds_forms.specs.Forms.{IsNoPacket, IsInForm}
 use Rattle.mds_moves.specs.MdsMoves.{IsMdsOf}
 use Rattle.mds_moves.specs.MdsBinds.{MdsHasOwnWrites, OwnWritesStay}

@@ -5,6 +5,7 @@ use Rattle.std.specs.List.{AllByRecursion}
 use Rattle.std.proofs.lemmas.List.{append_assoc, append-nil}
 use Rattle.cluster_model.specs.declared.entry.Entry.{Entry}
 use Rattle.cluster_model.specs.Server.{ServerState}
+use Rattle.cluster_model.specs.Members.{IsOneOf}
 use Rattle.cluster_laws.specs.Machine.{PacketValue, Machine, Move, MachineStep, new_machine, moved, machine_after, journal_of}
 use Rattle.cluster_laws.specs.FenceLaw.{new_servers}
 use Rattle.cluster_laws.specs.Holders.{AreBound, AreBoundFrom}
@@ -13,7 +14,7 @@ use Rattle.machine_moves.specs.MachineMoves.{KeepsPackets}
 use Rattle.machine_moves.proofs.Going.{telling_append, after_append, journal_append}
 use Rattle.machine_moves.proofs.Bound.{bound_join}
 use Rattle.mds_rule.specs.MdsStates.{MdsSend, MdsValue}
-use Rattle.mds_laws.proofs.Lists.{In, AllOf}
+use Rattle.mds_laws.proofs.Lists.{AllOf}
 use Rattle.mds_forms.specs.Forms.{IsInForm}
 use Rattle.mds_forms.proofs.FormedSends.{all_join}
 use Rattle.mds_moves.specs.MdsMoves.{IsMdsOf}
@@ -41,7 +42,7 @@ module _ (boots : List ℕ) (servers : List ServerState) (mds : MdsValue) (journ
   abbrev begun : Machine
   begun = new_machine (new_servers 1 boots)
 
-  pub goes : (more : List Entry) (sends : List MdsSend) (n : Machine) (then : List ServerState) (m : MdsValue) → GoesFurther boots i.machine journal more sends n → ((s : MdsSend) → In s i.sends → In s sends) → KeepsPackets i.machine n
+  pub goes : (more : List Entry) (sends : List MdsSend) (n : Machine) (then : List ServerState) (m : MdsValue) → GoesFurther boots i.machine journal more sends n → ((s : MdsSend) → IsOneOf s i.sends → IsOneOf s sends) → KeepsPackets i.machine n
       → then ≡ n.servers → AllByRecursion IsProper then → IsMdsOf n m sends → MdsHasOwnWrites n.packets (telling (journal ++ more)) m sends → AllOf IsInForm sends → IsBoundRun boots then m (journal ++ more)
   goes more sends n then m g longer keeps servers_are proper mds_is own forms =
       let told : journal_of begun (i.moves ++ g.moves) ≡ telling (journal ++ more) =

@@ -11,6 +11,7 @@ use Rattle.cluster_model.specs.DsCalls as ds
 use Rattle.mds_file_calls.specs.declared.open.OpenFile.{OpenFile}
 use Rattle.client_state.specs.declared.tie.Tie.{Tie}
 use Rattle.cluster_model.specs.DsCalls.{DsCallValue}
+use Rattle.rpc_record.specs.CallNumbers.{IsBelow}
 use Rattle.mirror_writer.specs.Writers.{WriterMirror, WriterValue}
 use Rattle.mirror_writer.specs.Outstanding.{OutCall, out_at_mirror, out_at}
 use Rattle.client_state.specs.declared.layout.Layout.{Layout}
@@ -28,7 +29,7 @@ use Rattle.client_laws.proofs.Orders.{in_more, in_end}
 use Rattle.client_laws.proofs.Places.{Found, found, same_number}
 use Rattle.client_laws.proofs.WriterMoves.{out_sent}
 use Rattle.client_laws.proofs.Stands.{Stands, WriterStands, LayoutStands, IfThere, reported_of}
-use Rattle.client_records.specs.ClientRecords.{IsBelow, CallsAreBelow, IsNextNumber, WasAskedAs, NumbersOn, IsNumberedOn, EachRunIsNumbered}
+use Rattle.client_records.specs.ClientRecords.{CallsAreBelow, IsNextNumber, WasAskedAs, NumbersOn, IsNumberedOn, EachRunIsNumbered}
 use Rattle.client_records.proofs.Cases.{Adds, free, heard_mds, heard_late, Cases}
 use Rattle.client_records.proofs.Told.{any_tells, any_covers}
 use Rattle.client_records.proofs.EachRun.{Base, any_inputs, in_each_run}

@@ -3,6 +3,7 @@
 use Rattle.std.specs.Prelude.{◌≡◌, ℕ, ◌<◌, ◌≤◌, ◌^◌, ◌⊎◌, List, [], ◌∷◌, length, Option, Some, None}
 use Rattle.std.specs.List.{AllByRecursion}
 use Rattle.cluster_model.specs.declared.limits.TheConstants.{MAX_FILE, PIECE_SIZE}
+use Rattle.rpc_record.specs.CallNumbers.{IsBelow}
 use Rattle.ds_calls.specs.DsCallLaws.{HasRecord}
 use Rattle.mds_calls.specs.MdsCalls.{MdsCallValue}
 use Rattle.mds_calls.specs.MdsCallLaws.{HasCompoundRecord}
@@ -59,10 +60,6 @@ SendsSpelled past (Sends send) = HasSpelling send
 SendsSpelled past item = Unit {0}
 
 -- ---- each call has a number of its own
-
-abbrev pub IsBelow : ℕ → Option ℕ → Type 0
-IsBelow xid None = Unit {0}
-IsBelow xid (Some other) = other < xid
 
 -- the numbers of all calls that stand there are below this one
 abbrev pub CallsAreBelow : ℕ → List HistoryItem → Type 0

@@ -24,7 +24,7 @@ use Rattle.client_laws.specs.ClientHistory.{HistoryItem, Sends, HasItem}
 use Rattle.client_laws.specs.ClientRunLaws.{WasGranted}
 use Rattle.client_laws.proofs.Orders.{in_either}
 use Rattle.client_laws.proofs.Stands.{IfThere, IsOut}
-use Rattle.client_sessions.specs.LayoutEnds.{IsAskSettled, AsksSettled, AsksOnSlot, IsGrantOf, ReturnsAsGranted, ReturnsOnSlot, HasNotLeft}
+use Rattle.client_sessions.specs.LayoutEnds.{IsAskSettled, AsksSettled, AsksOnSlot, IsGrantOf, ReturnsAsGranted, ReturnsGrantOnSlot, HasNotLeft}
 use Rattle.client_sessions.proofs.HeardLater.{all_more, settled_later, granted_of}
 use Rattle.client_sessions.proofs.CallsMade.{IsOnSession, IsBy, IsReturnOf, IsSlotOf, IsCallOf, KindStands, IsMade}
 use Rattle.client_sessions.proofs.SlotStands.{file_of, asked_now}
@@ -125,7 +125,7 @@ module _ (past : List HistoryItem) (c : ClientValue) (kind : MdsAsk) (call : Mds
         },
       )
 
-  pub returns_own : ReturnsOnSlot past call
+  pub returns_own : ReturnsGrantOnSlot past call
   returns_own = by_call call m.by m.its
     where
       by_slot : (session : SessionId) (sequence : ℕ) (k : SlotCallValue) → IsOnSession c.tie session sequence → IsSlotOf c.file c.layout k → ReturnsAsGranted past k session
@@ -138,7 +138,7 @@ module _ (past : List HistoryItem) (c : ClientValue) (kind : MdsAsk) (call : Mds
       by_slot session sequence (slot.Read f at count) by its = tt
       by_slot session sequence slot.Renew by its = tt
 
-      by_call : (k : MdsCallValue) → IsBy c.tie k → IsCallOf c.file c.layout k → ReturnsOnSlot past k
+      by_call : (k : MdsCallValue) → IsBy c.tie k → IsCallOf c.file c.layout k → ReturnsGrantOnSlot past k
       by_call (ExchangeId verifier) by its = tt
       by_call (CreateSession clientid sequence) by its = tt
       by_call (OnSlot session sequence k) by its = by_slot session sequence k by its

@@ -13,13 +13,13 @@ use Rattle.client_state.specs.ClientSends.{ClientSend, CallsServer, CallsMds, Re
 use Rattle.client_laws.specs.ClientHistory.{HistoryItem, Hears, Enters, Sends, Recorded, HasItem, Each}
 use Rattle.client_sessions.specs.HeardReplies.{IsHeard, IsNoCompound}
 use Rattle.client_sessions.specs.ClientSessions.{WasGivenId, IsNew, IsAgain, WasGivenSession, IsNextOnSlot, IsFirst, IsBehind, MovesTo, KeepsSlot}
-use Rattle.client_sessions.specs.SessionRounds.{IsUsed, IsUnused, WasUsed, WasUnused, IsCallOfRound, IsOfRound, IsInRound, IsRound, KeepsRound, UsesFew}
+use Rattle.client_sessions.specs.SessionRounds.{IsUsed, IsUnused, WasUsed, WasUnused, IsCallOfRound, IsOfSession, IsInSession, IsRound, KeepsRound, UsesFew}
 use Rattle.client_sessions.proofs.HeardLater.{all_more, heard_later, session_later}
 
 -- ---- items of a round
 
 -- where no compound goes out
-quiet_item : (client sequence : ℕ) (session : SessionId) (item : HistoryItem) → IsNoCompound item → IsOfRound client sequence session item
+quiet_item : (client sequence : ℕ) (session : SessionId) (item : HistoryItem) → IsNoCompound item → IsOfSession client sequence session item
 quiet_item client sequence session (Hears input) none = tt
 quiet_item client sequence session (Enters entry) none = tt
 quiet_item client sequence session (Sends (CallsServer server xid name uid call)) none = tt
@@ -28,7 +28,7 @@ quiet_item client sequence session (Sends (RepeatsToServer server xid name uid c
 quiet_item client sequence session (Sends (RepeatsToMds xid message)) none = tt
 quiet_item client sequence session (Sends (RepliesToMds reply)) none = tt
 
-quiet_items : (client sequence : ℕ) (session : SessionId) (items : List HistoryItem) → AllByRecursion IsNoCompound items → AllByRecursion (IsOfRound client sequence session) items
+quiet_items : (client sequence : ℕ) (session : SessionId) (items : List HistoryItem) → AllByRecursion IsNoCompound items → AllByRecursion (IsOfSession client sequence session) items
 quiet_items client sequence session [] none = tt
 quiet_items client sequence session (x ∷ items) none = (quiet_item client sequence session x none.0, quiet_items client sequence session items none.1)
 
@@ -69,10 +69,10 @@ module _ (front : List HistoryItem) (xid : ℕ) (name : List ℕ) (call : MdsCal
   none_more : AllByRecursion IsNoCompound (until ++ hearing bytes now ∷ behind)
   none_more = all_more IsNoCompound until (hearing bytes now ∷ behind) before_quiet (tt, quiet)
 
-  only_on : (client sequence : ℕ) (session : SessionId) → IsCallOfRound client sequence session call → AllByRecursion (IsOfRound client sequence session) front
-      → AllByRecursion (IsOfRound client sequence session) (front ++ sending xid name call ∷ (until ++ hearing bytes now ∷ behind))
+  only_on : (client sequence : ℕ) (session : SessionId) → IsCallOfRound client sequence session call → AllByRecursion (IsOfSession client sequence session) front
+      → AllByRecursion (IsOfSession client sequence session) (front ++ sending xid name call ∷ (until ++ hearing bytes now ∷ behind))
   only_on client sequence session its only =
-      all_more (IsOfRound client sequence session) front (sending xid name call ∷ (until ++ hearing bytes now ∷ behind)) only (its, quiet_items client sequence session (until ++ hearing bytes now ∷ behind) none_more)
+      all_more (IsOfSession client sequence session) front (sending xid name call ∷ (until ++ hearing bytes now ∷ behind)) only (its, quiet_items client sequence session (until ++ hearing bytes now ∷ behind) none_more)
 
 -- ---- the next number
 
@@ -118,7 +118,7 @@ record IdRound (past : List HistoryItem) (client sequence : ℕ) : Type 0 where
   pub heard : IsHeard past xid name (ExchangeId verifier) says behind
   pub at : heard.before ≡ before
   pub is : says.answer ≡ Client client sequence
-  pub only : (session : SessionId) → AllByRecursion (IsOfRound client sequence session) rest
+  pub only : (session : SessionId) → AllByRecursion (IsOfSession client sequence session) rest
   pub none : (xid : ℕ) (name : List ℕ) (session : SessionId) (k : ℕ) (call : SlotCallValue) → HasItem rest (sending xid name (OnSlot session k call)) → ⊥
 
 -- an item that is a CREATE_SESSION is no request on a slot
@@ -206,7 +206,7 @@ module _ (h : List HistoryItem) (each : Each KeepsSlot [] h) (few : UsesFew h) w
       no_slot front none number other c n back quiet x own s k call (InBack has) = none_among back quiet x own (OnSlot s k call) has
 
   -- the first request on a session
-  first_round : (past rest : List HistoryItem) → h ≡ past ++ rest → (session : SessionId) (number : ℕ) (behind : List HistoryItem) → WasGivenSession past session behind → AllByRecursion IsNoCompound behind → number ≡ 1 → IsInRound past session number
+  first_round : (past rest : List HistoryItem) → h ≡ past ++ rest → (session : SessionId) (number : ℕ) (behind : List HistoryItem) → WasGivenSession past session behind → AllByRecursion IsNoCompound behind → number ≡ 1 → IsInSession past session number
   first_round past rest is session number behind g quiet one =
       let call : MdsCallValue = CreateSession g.clientid g.sequence in
       let tail : List HistoryItem = g.heard.until ++ hearing g.heard.bytes g.heard.now ∷ behind in
@@ -259,7 +259,7 @@ module _ (h : List HistoryItem) (each : Each KeepsSlot [] h) (few : UsesFew h) w
 
   next_round : (session : SessionId) (xid : ℕ) (name : List ℕ) (last number : ℕ) (call : SlotCallValue) (says : MdsReplyValue) (before until : List HistoryItem) (bytes : List ℕ) (now : ℕ) (behind : List HistoryItem)
       → AllByRecursion IsNoCompound until → AllByRecursion IsNoCompound behind → IsHeard (before ++ sending xid name (OnSlot session last call) ∷ (until ++ hearing bytes now ∷ behind)) xid name (OnSlot session last call) says behind
-      → Moves last number says → IsInRound before session last → IsInRound (before ++ sending xid name (OnSlot session last call) ∷ (until ++ hearing bytes now ∷ behind)) session number
+      → Moves last number says → IsInSession before session last → IsInSession (before ++ sending xid name (OnSlot session last call) ∷ (until ++ hearing bytes now ∷ behind)) session number
   next_round session xid name last number call says before until bytes now behind first second heard moves r =
       let tail : List HistoryItem = until ++ hearing bytes now ∷ behind in
       let more : List HistoryItem = sending xid name (OnSlot session last call) ∷ tail in
@@ -321,15 +321,15 @@ module _ (h : List HistoryItem) (each : Each KeepsSlot [] h) (few : UsesFew h) w
       upto_so moves x own k asked (InBack has) =
           absurd (none_among (until ++ hearing bytes now ∷ behind) (none_more [] xid name (OnSlot session last call) until bytes now behind first second) x own (OnSlot session k asked) has)
 
-  in_round : (fuel : ℕ) (past rest : List HistoryItem) → h ≡ past ++ rest → length past < fuel → (session : SessionId) (number : ℕ) → IsNextOnSlot past session number → IsInRound past session number
+  in_round : (fuel : ℕ) (past rest : List HistoryItem) → h ≡ past ++ rest → length past < fuel → (session : SessionId) (number : ℕ) → IsNextOnSlot past session number → IsInSession past session number
   in_round zero past rest is less session number next = absurd (omega (arith, less))
   in_round (suc fuel) past rest is less session number (IsFirst behind given quiet one) = first_round past rest is session number behind given quiet one
   in_round (suc fuel) past rest is less session number (IsBehind xid name last call says behind heard first second moves) =
       let place : SentAt past heard.before (sending xid name (OnSlot session last call)) = sent_at past rest is xid name (OnSlot session last call) says behind heard in
       let shorter = place.less in
-      let r : IsInRound heard.before session last =
+      let r : IsInSession heard.before session last =
       in_round fuel heard.before (sending xid name (OnSlot session last call) ∷ place.rest) place.is (omega (arith, less, shorter)) session last (at_place heard.before place.rest (sending xid name (OnSlot session last call)) place.is) in
-      subst (λ (l : List HistoryItem). IsInRound l session number) (sym heard.split)
+      subst (λ (l : List HistoryItem). IsInSession l session number) (sym heard.split)
       (next_round session xid name last number call says heard.before heard.until heard.bytes heard.now behind first second
       (subst (λ (l : List HistoryItem). IsHeard l xid name (OnSlot session last call) says behind) heard.split heard)
       (moves_so past rest is session xid name last number call says behind heard moves) r)

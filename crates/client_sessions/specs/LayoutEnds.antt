@@ -106,13 +106,13 @@ abbrev pub ReturnsAsGranted : List HistoryItem → SlotCallValue → SessionId �
 ReturnsAsGranted past (slot.LayoutReturn file stateid failed) session = (grant : LayoutGrant) × (grant.stateid ≡ stateid) × IsGrantOf past session file grant
 ReturnsAsGranted past call session = Unit {0}
 
-abbrev pub ReturnsOnSlot : List HistoryItem → MdsCallValue → Type 0
-ReturnsOnSlot past (OnSlot session sequence call) = ReturnsAsGranted past call session
-ReturnsOnSlot past call = Unit {0}
+abbrev pub ReturnsGrantOnSlot : List HistoryItem → MdsCallValue → Type 0
+ReturnsGrantOnSlot past (OnSlot session sequence call) = ReturnsAsGranted past call session
+ReturnsGrantOnSlot past call = Unit {0}
 
 -- a LAYOUTRETURN is of a layout of that file, on the session on which it was granted
 abbrev pub ReturnsOwn : List HistoryItem → HistoryItem → Type 0
-ReturnsOwn past (Sends (CallsMds xid name call)) = ReturnsOnSlot past call
+ReturnsOwn past (Sends (CallsMds xid name call)) = ReturnsGrantOnSlot past call
 ReturnsOwn past item = Unit {0}
 
 -- ---- what is entered under a layout

@@ -48,13 +48,13 @@ IsCallOfRound client sequence session (ExchangeId verifier) = ⊥
 IsCallOfRound client sequence session (CreateSession c s) = (c ≡ client) × (s ≡ sequence)
 IsCallOfRound client sequence session (OnSlot s number call) = s ≡ session
 
-abbrev pub IsOfRound : ℕ → ℕ → SessionId → HistoryItem → Type 0
-IsOfRound client sequence session (Sends (CallsMds xid name call)) = IsCallOfRound client sequence session call
-IsOfRound client sequence session item = Unit {0}
+abbrev pub IsOfSession : ℕ → ℕ → SessionId → HistoryItem → Type 0
+IsOfSession client sequence session (Sends (CallsMds xid name call)) = IsCallOfRound client sequence session call
+IsOfSession client sequence session item = Unit {0}
 
 -- Behind an EXCHANGE_ID, which was answered with an id, a CREATE_SESSION of that answer was answered with the session. The number is 1, or the next
 -- behind a used one; each request since has a smaller number, or this one and was unused.
-pub record IsInRound (past : List HistoryItem) (session : SessionId) (number : ℕ) : Type 0 where
+pub record IsInSession (past : List HistoryItem) (session : SessionId) (number : ℕ) : Type 0 where
   pub before : List HistoryItem
   pub xid : ℕ
   pub name : List ℕ
@@ -68,7 +68,7 @@ pub record IsInRound (past : List HistoryItem) (session : SessionId) (number : �
   pub id_heard : IsHeard given.heard.before xid name (ExchangeId verifier) id_says id_behind
   pub id_at : id_heard.before ≡ before
   pub id_is : id_says.answer ≡ Client given.clientid given.sequence
-  pub only : AllByRecursion (IsOfRound given.clientid given.sequence session) rest
+  pub only : AllByRecursion (IsOfSession given.clientid given.sequence session) rest
   pub last : (number ≡ 1) ⊎ ((last : ℕ) × (number ≡ last + 1) × WasUsed past session last)
   pub upto : (xid : ℕ) (name : List ℕ) (k : ℕ) (call : SlotCallValue) → HasItem rest (Sends (CallsMds xid name (OnSlot session k call)))
       → (k < number) ⊎ ((k ≡ number) × WasUnused past xid name session k call)
@@ -76,7 +76,7 @@ pub record IsInRound (past : List HistoryItem) (session : SessionId) (number : �
 abbrev pub IsRound : List HistoryItem → MdsCallValue → Type 0
 IsRound past (ExchangeId verifier) = Unit {0}
 IsRound past (CreateSession client sequence) = Unit {0}
-IsRound past (OnSlot session number call) = IsInRound past session number
+IsRound past (OnSlot session number call) = IsInSession past session number
 
 abbrev pub KeepsRound : List HistoryItem → HistoryItem → Type 0
 KeepsRound past (Sends (CallsMds xid name call)) = IsRound past call

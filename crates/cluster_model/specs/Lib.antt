@@ -15,3 +15,4 @@ pub mod Nodes
 pub mod Fences
 pub mod Phases
 pub mod GuardLaws
+pub mod Members

@@ -9,9 +9,10 @@ use Rattle.cluster_model.specs.declared.phase.LeftCause.{LeftCause}
 use Rattle.cluster_model.specs.declared.entry.Entry.{Entry}
 use Rattle.cluster_model.specs.declared.entry.Entry.TheVariants.{Free, Left, Swapped}
 use Rattle.cluster_model.specs.Journal.{is_mirror}
+use Rattle.cluster_model.specs.Members.{IsOneOf}
 use Rattle.cluster_laws.specs.FenceLaw.{is_file, swapped_in, first_free, changed_live, live_after, live_by, live_in}
 use Rattle.cluster_laws.proofs.Journals.{live_append}
-use Rattle.ff_laws.specs.ReadLaw.{IsNoSwapOf, EndsWithComing, HasNone, HasSwap, HasFree, IsOneOf}
+use Rattle.ff_laws.specs.ReadLaw.{IsNoSwapOf, EndsWithComing, HasNone, HasSwap, HasFree}
 
 -- ---- names
 

@@ -9,11 +9,12 @@ use Rattle.cluster_model.specs.declared.entry.Entry.{Entry}
 use Rattle.cluster_model.specs.declared.entry.Entry.TheVariants.{Packet, Delivered, ReadAnswer, Failed}
 use Rattle.cluster_model.specs.Content.{shown_of}
 use Rattle.cluster_model.specs.Journal.{content_of}
+use Rattle.cluster_model.specs.Members.{IsOneOf}
 use Rattle.cluster_laws.specs.FenceLaw.{live_in}
 use Rattle.cluster_laws.proofs.Lists.{all_split}
 use Rattle.ff_laws.specs.declared.read_call.ReadCall.{ReadCall}
 use Rattle.ff_laws.specs.ReadCalls.{client_read_of, server_read_of}
-use Rattle.ff_laws.specs.ReadLaw.{IsReplyOf, EndsWithComing, HasNotCome, HasCause, WasSentIn, IsReadLawful, ObeysReads, IsOneOf, HasFailed, HasNotRead, cut_of}
+use Rattle.ff_laws.specs.ReadLaw.{IsReplyOf, EndsWithComing, HasNotCome, HasCause, WasSentIn, IsReadLawful, ObeysReads, HasFailed, HasNotRead, cut_of}
 use Rattle.ff_laws.specs.WorkedReads.{the_file, on, the_read, asks, asks_server, of_server}
 use Rattle.ff_laws.specs.WorkedRecords.{client_record, server_record}
 use Rattle.ff_laws.proofs.Entries.{is_answer, is_delivery, is_to_server, is_swap, not_there, one_place, no_swaps}

@@ -14,6 +14,7 @@ use Rattle.cluster_model.specs.declared.entry.Entry.{Entry}
 use Rattle.cluster_model.specs.declared.entry.Entry.TheVariants.{Packet, Delivered, ReadAnswer, Failed, Free, Left, Swapped}
 use Rattle.cluster_model.specs.Content.{shown_of}
 use Rattle.cluster_model.specs.Journal.{content_of}
+use Rattle.cluster_model.specs.Members.{IsOneOf}
 use Rattle.cluster_laws.specs.FenceLaw.{live_in}
 use Rattle.ff_laws.specs.declared.read_call.ReadCall.{ReadCall}
 use Rattle.ff_laws.specs.ReadCalls.{client_read_of, server_read_of}
@@ -105,10 +106,6 @@ pub record StartsAt (before : List Entry) (file : FileId) (client : ℕ) (read :
 -- of bytes, those from an offset on, of which a READ gives at most 65,536
 abbrev pub cut_of : ℕ → ℕ → List ℕ → List ℕ
 cut_of offset count bytes = take (min count PIECE_SIZE) (drop offset bytes)
-
-abbrev pub IsOneOf : MirrorId → List MirrorId → Type 0
-IsOneOf m [] = ⊥
-IsOneOf m (k ∷ live) = (m ≡ k) ⊎ IsOneOf m live
 
 -- a mirror of these showed the bytes at a moment between the start and the answer
 pub record WasShown (start since : List Entry) (read : ReadCall) (live : List MirrorId) (bytes : List ℕ) : Type 0 where

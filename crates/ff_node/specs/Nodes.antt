@@ -43,6 +43,6 @@ text_over rule s [] = []
 text_over rule s (e ∷ events) = (rule.step s e).text ++ text_over rule (rule.step s e).state events
 
 -- before each of these events it had not ended
-abbrev pub IsGoing : {S : Type 0} → NodeRule S → S → List NodeEvent → Type 0
-IsGoing rule s [] = ⊤
-IsGoing rule s (e ∷ events) = (rule.outcome s ≡ None) × IsGoing rule (rule.step s e).state events
+abbrev pub HasNotEndedBefore : {S : Type 0} → NodeRule S → S → List NodeEvent → Type 0
+HasNotEndedBefore rule s [] = ⊤
+HasNotEndedBefore rule s (e ∷ events) = (rule.outcome s ≡ None) × HasNotEndedBefore rule (rule.step s e).state events

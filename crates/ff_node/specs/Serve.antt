@@ -19,7 +19,7 @@ use Rattle.line_runs.specs.Writing.{IsBeginningOf}
 use Rattle.store_disk.specs.Disks.{DiskLife}
 use Rattle.ff_node.specs.declared.end.NodeEnd.{NodeEnd}
 use Rattle.ff_node.specs.declared.end.NodeEnd.TheVariants as ends
-use Rattle.ff_node.specs.Nodes.{NodeEvent, NodeRule, SentRecords, state_after, sends_over, IsGoing, text_over}
+use Rattle.ff_node.specs.Nodes.{NodeEvent, NodeRule, SentRecords, state_after, sends_over, HasNotEndedBefore, text_over}
 
 -- ---- what is beside a node
 
@@ -72,7 +72,7 @@ pub record Served {S : Type 0} (rule : NodeRule S) (s : S) (b : Beside) (s' : S)
   pub came : TakesFront b.coming (map (λ (e : NodeEvent). e.arrival) taken) b'.coming
   pub moments : GivesMoments b.moments b.moment (map (λ (e : NodeEvent). e.moment) taken) b'.moments b'.moment
   pub live : AreOpen taken
-  pub going : IsGoing rule s taken
+  pub going : HasNotEndedBefore rule s taken
   pub state : s' ≡ state_after rule s taken
   pub sends : b'.sent ≡ behind b.sent (sends_over rule s taken)
   pub text : b'.held ≡ behind b.held (text_over rule s taken)

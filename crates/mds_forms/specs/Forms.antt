@@ -5,9 +5,10 @@ use Rattle.std.specs.List.{AllByRecursion}
 use Rattle.rpc_record.specs.Replies.{RpcReply, reply_bytes}
 use Rattle.cluster_model.specs.declared.entry.Entry.{Entry}
 use Rattle.cluster_model.specs.declared.entry.Entry.TheVariants.{Packet}
+use Rattle.cluster_model.specs.Members.{IsOneOf}
 use Rattle.mds_rule.specs.MdsStates.{MdsSend, CallsServer, CallsBack, Replies, Answers, AwaitedCall, MdsValue}
 use Rattle.mds_laws.specs.MdsRuns.{MdsEvent, after_event}
-use Rattle.mds_laws.proofs.Lists.{In, AllOf}
+use Rattle.mds_laws.proofs.Lists.{AllOf}
 
 -- packets are the world's: one for each record that is sent
 abbrev pub IsNoPacket : Entry → Type 0
@@ -34,5 +35,5 @@ pub record StaysInForm (es : List Entry) (ss : List MdsSend) : Type 0 where
 -- each event keeps it so, where what was sent so far is in form, and each call that is awaited was sent
 abbrev pub MdsStaysInForm : Type 0
 MdsStaysInForm =
-    (m : MdsValue) (ss : List MdsSend) (e : MdsEvent) → m.next_xid ≤ 4294967295 → ((call : AwaitedCall) → In call m.calls → In call.sent ss) → AllOf IsInForm ss
+    (m : MdsValue) (ss : List MdsSend) (e : MdsEvent) → m.next_xid ≤ 4294967295 → ((call : AwaitedCall) → IsOneOf call m.calls → IsOneOf call.sent ss) → AllOf IsInForm ss
     → StaysInForm (after_event e m).entries (ss ++ (after_event e m).sends)

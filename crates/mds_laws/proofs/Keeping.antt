@@ -10,6 +10,7 @@ use Rattle.cluster_model.specs.declared.entry.Entry.TheVariants as entry
 use Rattle.cluster_model.specs.DsCalls.{DsCallValue, Create, SetAttr, Write, Commit, Read, DsReplyValue}
 use Rattle.file_rule.specs.MdsFiles.{MdsFile}
 use Rattle.cluster_model.specs.declared.ds_call.Shown.{Shown}
+use Rattle.cluster_model.specs.Members.{IsOneOf}
 use Rattle.file_rule.specs.FilePhases.{FileInput, AsksLayout, OwnWrite, Recall as ToRecall, Returns, Revokes, OwnEnds, Resilver, Answers as IsAnswer, TimesOut, Ticks, Sees, phase, CallOut, call_out, is_outstanding}
 use Rattle.mirror_writer.specs.Writers.{WriterValue, WriterSends}
 use Rattle.mirror_writer.specs.Writers as writer
@@ -29,7 +30,7 @@ use Rattle.ds_calls.specs.GivenReplies.{reply_of_call}
 use Rattle.mds_receive.specs.MdsReceive.{IsReply, incoming_of}
 use Rattle.mds_laws.specs.MdsRuns.{MdsInput, Hears, IsTimedOut, Ticks as IsTick, RecallsFile, Resilvers}
 use Rattle.mds_laws.specs.MdsRunLaws.{IsUidOf}
-use Rattle.mds_laws.proofs.Lists.{In, in_more}
+use Rattle.mds_laws.proofs.Lists.{in_more}
 use Rattle.mds_laws.proofs.OwnWriters.{StaysWriter, IsNewWriter}
 
 -- an entry that says nothing of how a file stands
@@ -104,7 +105,7 @@ Keeps I m s = (es : List Entry) (ss : List MdsSend) → I m es ss → I s.mds (e
 
 -- where a send went out before
 abbrev pub KeepsBehind : (MdsValue → List Entry → List MdsSend → Type 0) → MdsSend → MdsValue → MdsStep → Type 0
-KeepsBehind I x m s = (es : List Entry) (ss : List MdsSend) → In x ss → I m es ss → I s.mds (es ++ s.entries) (ss ++ s.sends)
+KeepsBehind I x m s = (es : List Entry) (ss : List MdsSend) → IsOneOf x ss → I m es ss → I s.mds (es ++ s.entries) (ss ++ s.sends)
 
 abbrev pub KeepsOp : (MdsValue → List Entry → List MdsSend → Type 0) → MdsValue → OpStep → Type 0
 KeepsOp I m (Goes n entries c) = Enters I m n entries
@@ -185,14 +186,14 @@ pub record Cases (I : MdsValue → List Entry → List MdsSend → Type 0) (Hear
   pub skips : (m : MdsValue) → has_xids m ≡ true → Becomes I m (record m { next_xid = xid_after m.next_xid })
   -- a call is forgotten, or goes out again
   pub forgets : (m : MdsValue) (node : NodeId) (xid : ℕ) → Becomes I m (record m { calls = without_call node xid m.calls })
-  pub was : (m : MdsValue) (es : List Entry) (ss : List MdsSend) → I m es ss → (call : AwaitedCall) → In call m.calls → In call.sent ss
-  pub again : (m : MdsValue) (s : MdsSend) (es : List Entry) (ss : List MdsSend) → I m es ss → In s ss → I m es (ss ++ s ∷ [])
+  pub was : (m : MdsValue) (es : List Entry) (ss : List MdsSend) → I m es ss → (call : AwaitedCall) → IsOneOf call m.calls → IsOneOf call.sent ss
+  pub again : (m : MdsValue) (s : MdsSend) (es : List Entry) (ss : List MdsSend) → I m es ss → IsOneOf s ss → I m es (ss ++ s ∷ [])
 
 -- ---- what is known of the answers that come
 
 -- of one from a node, under a number, to whichever call it answers
 abbrev pub Hearing : (MdsValue → List Entry → List MdsSend → Type 0) → HeardOf → NodeId → ℕ → (DsCallValue → DsReplyValue) → Type 0
-Hearing I Heard node xid replies = (m : MdsValue) (es : List Entry) (ss : List MdsSend) → I m es ss → (call : AwaitedCall) → In call m.calls → is_call_to node xid call ≡ true → Heard call replies
+Hearing I Heard node xid replies = (m : MdsValue) (es : List Entry) (ss : List MdsSend) → I m es ss → (call : AwaitedCall) → IsOneOf call m.calls → is_call_to node xid call ≡ true → Heard call replies
 
 -- of one that an input brings
 abbrev pub HearsSo : (MdsValue → List Entry → List MdsSend → Type 0) → HeardOf → MdsInput → Type 0

@@ -5,68 +5,65 @@ use Rattle.std.specs.List.{find}
 use Rattle.std.proofs.lemmas.Bool.{cond_both}
 use Rattle.std.proofs.lemmas.List.{append_assoc, append-nil}
 use Rattle.std.proofs.lemmas.Option.{same_Some, none-some}
+use Rattle.cluster_model.specs.Members.{IsOneOf}
 use Rattle.mds_rule.specs.MdsStates.{AwaitedCall, with_call}
 
 -- ---- it stands in the list
 
-abbrev pub In : {A : Type 0} → A → List A → Type 0
-In x [] = ⊥
-In x (y ∷ ys) = (x ≡ y) ⊎ In x ys
-
-pub in_more : {A : Type 0} (x : A) (xs more : List A) → In x xs → In x (xs ++ more)
+pub in_more : {A : Type 0} (x : A) (xs more : List A) → IsOneOf x xs → IsOneOf x (xs ++ more)
 in_more x [] more inside = absurd inside
 in_more x (y ∷ ys) more (inl is) = inl is
 in_more x (y ∷ ys) more (inr inside) = inr (in_more x ys more inside)
 
-pub in_last : {A : Type 0} (x : A) (xs : List A) → In x (xs ++ x ∷ [])
+pub in_last : {A : Type 0} (x : A) (xs : List A) → IsOneOf x (xs ++ x ∷ [])
 in_last x [] = inl refl
 in_last x (y ∷ ys) = inr (in_last x ys)
 
 -- of the calls with one more: an old one, or the new one
-pub in_with_call : (x call : AwaitedCall) (calls : List AwaitedCall) → In x (with_call call calls) → In x calls ⊎ (x ≡ call)
+pub in_with_call : (x call : AwaitedCall) (calls : List AwaitedCall) → IsOneOf x (with_call call calls) → IsOneOf x calls ⊎ (x ≡ call)
 in_with_call x call [] (inl is) = inr is
 in_with_call x call [] (inr inside) = absurd inside
 in_with_call x call (c ∷ calls) inside =
-    cond_both (nat_lt call.xid c.xid) (call ∷ c ∷ calls) (if call.xid == c.xid then call ∷ calls else c ∷ with_call call calls) (λ (l : List AwaitedCall). In x l → In x (c ∷ calls) ⊎ (x ≡ call)) (λ is. before)
+    cond_both (nat_lt call.xid c.xid) (call ∷ c ∷ calls) (if call.xid == c.xid then call ∷ calls else c ∷ with_call call calls) (λ (l : List AwaitedCall). IsOneOf x l → IsOneOf x (c ∷ calls) ⊎ (x ≡ call)) (λ is. before)
     (λ off.
-    cond_both (call.xid == c.xid) (call ∷ calls) (c ∷ with_call call calls) (λ (l : List AwaitedCall). In x l → In x (c ∷ calls) ⊎ (x ≡ call)) (λ is. instead) (λ other. behind (in_with_call x call calls)))
+    cond_both (call.xid == c.xid) (call ∷ calls) (c ∷ with_call call calls) (λ (l : List AwaitedCall). IsOneOf x l → IsOneOf x (c ∷ calls) ⊎ (x ≡ call)) (λ is. instead) (λ other. behind (in_with_call x call calls)))
     inside
   where
-    before : In x (call ∷ c ∷ calls) → In x (c ∷ calls) ⊎ (x ≡ call)
+    before : IsOneOf x (call ∷ c ∷ calls) → IsOneOf x (c ∷ calls) ⊎ (x ≡ call)
     before (inl new) = inr new
     before (inr old) = inl old
 
-    instead : In x (call ∷ calls) → In x (c ∷ calls) ⊎ (x ≡ call)
+    instead : IsOneOf x (call ∷ calls) → IsOneOf x (c ∷ calls) ⊎ (x ≡ call)
     instead (inl new) = inr new
     instead (inr old) = inl (inr old)
 
-    further : In x calls ⊎ (x ≡ call) → In x (c ∷ calls) ⊎ (x ≡ call)
+    further : IsOneOf x calls ⊎ (x ≡ call) → IsOneOf x (c ∷ calls) ⊎ (x ≡ call)
     further (inl old) = inl (inr old)
     further (inr new) = inr new
 
-    behind : (In x (with_call call calls) → In x calls ⊎ (x ≡ call)) → In x (c ∷ with_call call calls) → In x (c ∷ calls) ⊎ (x ≡ call)
+    behind : (IsOneOf x (with_call call calls) → IsOneOf x calls ⊎ (x ≡ call)) → IsOneOf x (c ∷ with_call call calls) → IsOneOf x (c ∷ calls) ⊎ (x ≡ call)
     behind more (inl its) = inl (inl its)
     behind more (inr its) = further (more its)
 
-pub in_filtered : {A : Type 0} (test : A → Bool) (x : A) (xs : List A) → In x (filter test xs) → In x xs
+pub in_filtered : {A : Type 0} (test : A → Bool) (x : A) (xs : List A) → IsOneOf x (filter test xs) → IsOneOf x xs
 in_filtered test x [] inside = absurd inside
 in_filtered {A = A} test x (y ∷ ys) inside =
-    cond_both (test y) (y ∷ filter test ys) (filter test ys) (λ (l : List A). In x l → In x (y ∷ ys)) (λ is. kept (in_filtered test x ys)) (λ off. λ its. inr (in_filtered test x ys its)) inside
+    cond_both (test y) (y ∷ filter test ys) (filter test ys) (λ (l : List A). IsOneOf x l → IsOneOf x (y ∷ ys)) (λ is. kept (in_filtered test x ys)) (λ off. λ its. inr (in_filtered test x ys its)) inside
   where
-    kept : (In x (filter test ys) → In x ys) → In x (y ∷ filter test ys) → In x (y ∷ ys)
+    kept : (IsOneOf x (filter test ys) → IsOneOf x ys) → IsOneOf x (y ∷ filter test ys) → IsOneOf x (y ∷ ys)
     kept more (inl is) = inl is
     kept more (inr its) = inr (more its)
 
-pub got_in : {A : Type 0} (xs : List A) (place : ℕ) (x : A) → slice_get xs place ≡ Some x → In x xs
+pub got_in : {A : Type 0} (xs : List A) (place : ℕ) (x : A) → slice_get xs place ≡ Some x → IsOneOf x xs
 got_in [] place x is = absurd cc
 got_in (y ∷ ys) zero x is = inl (sym (same_Some y x is))
 got_in (y ∷ ys) (suc place) x is = inr (got_in ys place x is)
 
-pub found_in : {A : Type 0} (test : A → Bool) (xs : List A) (x : A) → find test xs ≡ Some x → In x xs
+pub found_in : {A : Type 0} (test : A → Bool) (xs : List A) (x : A) → find test xs ≡ Some x → IsOneOf x xs
 found_in test [] x is = absurd (none-some x is)
 found_in {A = A} test (y ∷ xs) x is = by_test (test y) is (found_in test xs x)
   where
-    by_test : (b : Bool) → cond b (Some y) (find test xs) ≡ Some x → (find test xs ≡ Some x → In x xs) → In x (y ∷ xs)
+    by_test : (b : Bool) → cond b (Some y) (find test xs) ≡ Some x → (find test xs ≡ Some x → IsOneOf x xs) → IsOneOf x (y ∷ xs)
     by_test true its more = inl (sym (same_Some y x its))
     by_test false its more = inr (more its)
 
@@ -83,7 +80,7 @@ pub record Split {A : Type 0} (x : A) (xs : List A) : Type 0 where
   pub behind : List A
   pub is : xs ≡ front ++ x ∷ behind
 
-pub split_in : {A : Type 0} (x : A) (xs : List A) → In x xs → Split x xs
+pub split_in : {A : Type 0} (x : A) (xs : List A) → IsOneOf x xs → Split x xs
 split_in x [] inside = absurd inside
 split_in x (y ∷ ys) (inl is) = record { front = []; behind = ys; is = ap (λ z. z ∷ ys) (sym is) }
 split_in x (y ∷ ys) (inr inside) = let s : Split x ys = split_in x ys inside in record { front = y ∷ s.front; behind = s.behind; is = ap (λ l. y ∷ l) s.is }
@@ -116,7 +113,7 @@ pub all_push : {A : Type 0} (P : A → Type 0) (xs : List A) (x : A) → AllOf P
 all_push P [] x all is = (is, tt)
 all_push P (y ∷ ys) x all is = (all.0, all_push P ys x all.1 is)
 
-pub all_in : {A : Type 0} (P : A → Type 0) (xs : List A) (x : A) → AllOf P xs → In x xs → P x
+pub all_in : {A : Type 0} (P : A → Type 0) (xs : List A) (x : A) → AllOf P xs → IsOneOf x xs → P x
 all_in P [] x all inside = absurd inside
 all_in P (y ∷ ys) x all (inl is) = subst P (sym is) all.0
 all_in P (y ∷ ys) x all (inr inside) = all_in P ys x all.1 inside

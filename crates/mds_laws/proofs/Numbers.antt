@@ -10,6 +10,8 @@ use Rattle.cluster_model.specs.declared.ids.NodeId.{NodeId}
 use Rattle.cluster_model.specs.declared.ids.NodeId.TheVariants.{Server}
 use Rattle.cluster_model.specs.declared.ids.FileId.{FileId}
 use Rattle.cluster_model.specs.declared.entry.Entry.{Entry}
+use Rattle.cluster_model.specs.Members.{IsOneOf}
+use Rattle.rpc_record.specs.CallNumbers.{IsBelow}
 use Rattle.file_rule.specs.FilePhases.{Answers as IsAnswer, TimesOut, Sees, phase}
 use Rattle.file_rule.specs.MdsFiles.{FileStep}
 use Rattle.mds_rows.specs.Draws.{drawn}
@@ -20,8 +22,8 @@ use Rattle.mds_rule.specs.declared.waiter.Waiter.TheVariants.{ForFile, ForRead, 
 use Rattle.mds_rule.specs.ServedFiles.{is_period_end, file_behind, file_stepped}
 use Rattle.mds_rule.specs.Goes.{xid_after}
 use Rattle.mds_laws.specs.MdsRuns.{MdsEvent}
-use Rattle.mds_laws.specs.MdsRunLaws.{number_sent, IsBelow, AreBelow, IsNewOrAgain, IsNew, IsAgain, NumbersAscend, FitsNumber, NumbersFit}
-use Rattle.mds_laws.proofs.Lists.{In, in_more, in_last, in_with_call, in_filtered, Split, split_in, EachOf, each_push, each_at, AllOf, all_push, all_in, all_split}
+use Rattle.mds_laws.specs.MdsRunLaws.{number_sent, AreBelow, IsNewOrAgain, IsNew, IsAgain, NumbersAscend, FitsNumber, NumbersFit}
+use Rattle.mds_laws.proofs.Lists.{in_more, in_last, in_with_call, in_filtered, Split, split_in, EachOf, each_push, each_at, AllOf, all_push, all_in, all_split}
 use Rattle.mds_laws.proofs.Keeping.{Cases, HeardAny}
 use Rattle.mds_laws.proofs.GoesWalk.{in_each_run}
 
@@ -29,7 +31,7 @@ use Rattle.mds_laws.proofs.GoesWalk.{in_each_run}
 
 -- each was sent before
 abbrev pub WereSent : List AwaitedCall → List MdsSend → Type 0
-WereSent calls ss = (call : AwaitedCall) → In call calls → In call.sent ss
+WereSent calls ss = (call : AwaitedCall) → IsOneOf call calls → IsOneOf call.sent ss
 
 pub sent_more : (calls : List AwaitedCall) (ss : List MdsSend) (s : MdsSend) → WereSent calls ss → WereSent calls (ss ++ s ∷ [])
 sent_more calls ss s were call inside = in_more call.sent ss (s ∷ []) (were call inside)
@@ -37,9 +39,9 @@ sent_more calls ss s were call inside = in_more call.sent ss (s ∷ []) (were ca
 pub sent_with : (calls : List AwaitedCall) (ss : List MdsSend) (call : AwaitedCall) → WereSent calls ss → WereSent (with_call call calls) (ss ++ call.sent ∷ [])
 sent_with calls ss call were other inside = by_place (in_with_call other call calls inside)
   where
-    by_place : In other calls ⊎ (other ≡ call) → In other.sent (ss ++ call.sent ∷ [])
+    by_place : IsOneOf other calls ⊎ (other ≡ call) → IsOneOf other.sent (ss ++ call.sent ∷ [])
     by_place (inl old) = in_more other.sent ss (call.sent ∷ []) (were other old)
-    by_place (inr new) = subst (λ (c : AwaitedCall). In c.sent (ss ++ call.sent ∷ [])) (sym new) (in_last call.sent ss)
+    by_place (inr new) = subst (λ (c : AwaitedCall). IsOneOf c.sent (ss ++ call.sent ∷ [])) (sym new) (in_last call.sent ss)
 
 pub sent_without : (node : NodeId) (xid : ℕ) (calls : List AwaitedCall) (ss : List MdsSend) → WereSent calls ss → WereSent (without_call node xid calls) ss
 sent_without node xid calls ss were call inside = were call (in_filtered (λ (c : AwaitedCall). not (is_call_to node xid c)) call calls inside)
@@ -61,7 +63,7 @@ pub below_push : (next : ℕ) (ss : List MdsSend) (s : MdsSend) → AreBelow nex
 below_push next [] s all is = (is, tt)
 below_push next (x ∷ ss) s all is = (all.0, below_push next ss s all.1 is)
 
-pub in_below : (next : ℕ) (ss : List MdsSend) (s : MdsSend) → AreBelow next ss → In s ss → IsBelow next (number_sent s)
+pub in_below : (next : ℕ) (ss : List MdsSend) (s : MdsSend) → AreBelow next ss → IsOneOf s ss → IsBelow next (number_sent s)
 in_below next [] s all inside = absurd inside
 in_below next (x ∷ ss) s all (inl is) = subst (λ (y : MdsSend). IsBelow next (number_sent y)) (sym is) all.0
 in_below next (x ∷ ss) s all (inr inside) = in_below next ss s all.1 inside
@@ -146,7 +148,7 @@ cases = record {
   again = λ m s es ss i inside. again m.next_xid m.calls ss s inside i;
 }
   where
-    again : (next : ℕ) (calls : List AwaitedCall) (ss : List MdsSend) (s : MdsSend) → In s ss → Numbered next calls ss → Numbered next calls (ss ++ s ∷ [])
+    again : (next : ℕ) (calls : List AwaitedCall) (ss : List MdsSend) (s : MdsSend) → IsOneOf s ss → Numbered next calls ss → Numbered next calls (ss ++ s ∷ [])
     again next calls ss s inside i =
         let split : Split s ss = split_in s ss inside in
         record {

@@ -20,6 +20,7 @@ use Rattle.cluster_model.specs.declared.layout_state.LayoutState.{LayoutState}
 use Rattle.cluster_model.specs.declared.layout_state.LayoutPhase.{LayoutPhase}
 use Rattle.cluster_model.specs.declared.layout_state.LayoutPhase.TheVariants.{Making, Free, Held, Fencing, Settling, Copying}
 use Rattle.cluster_model.specs.Phases.{with_phase, unreported, left_entries, end_entries}
+use Rattle.cluster_model.specs.Members.{IsOneOf}
 use Rattle.file_rule.specs.declared.fresh.Fresh.{Fresh}
 use Rattle.file_rule.specs.MdsFiles.{MdsFile, FileStep, nothing}
 use Rattle.file_rule.specs.FilePhases.{FileInput, OwnWrite, OwnEnds, Answers as IsAnswer, TimesOut, Sees, asked_in, are_spent, held_in, by_mds, own_row, new_mds_file, phase}
@@ -35,7 +36,7 @@ use Rattle.mds_rule.specs.LayoutOps.{with_holder}
 use Rattle.mds_rule.specs.Answers.{own_answer, failures_by_place, write_stepped}
 use Rattle.mds_laws.specs.MdsRuns.{MdsEvent, run_from}
 use Rattle.mds_laws.specs.OwnPeriods.{BeginsWithWrite, FollowsGrant, WasSentBefore, BeginsWithEnd, FollowsTold, RunsOwnPeriods}
-use Rattle.mds_laws.proofs.Lists.{In, in_more, in_last, Split, split_in, EachOf, each_join, each_at}
+use Rattle.mds_laws.proofs.Lists.{in_more, in_last, Split, split_in, EachOf, each_join, each_at}
 use Rattle.mds_laws.proofs.Keeping.{HeardAny, is_note}
 use Rattle.mds_laws.proofs.EachCases.{EachCase, CanBegin, is_own_input, end_input, without_write}
 use Rattle.mds_laws.proofs.OpsWalk.{place_served, served_again}
@@ -95,7 +96,7 @@ IsLastEntry other = Unit {0}
 
 abbrev StandsBehind : List Entry → Entry → Type 0
 StandsBehind past (entry.Sent f cred at bytes) = FollowsGrant f cred bytes past
-StandsBehind past (entry.Told f cred at bytes) = In (entry.Sent f cred at bytes) past
+StandsBehind past (entry.Told f cred at bytes) = IsOneOf (entry.Sent f cred at bytes) past
 StandsBehind past (entry.Ended f cred Own) = FollowsTold f cred past
 StandsBehind past (entry.Ended f cred Returned) = Unit {0}
 StandsBehind past (entry.Ended f cred AllReported) = Unit {0}
@@ -196,7 +197,7 @@ module _ (past : List Entry) (closed : IsClosed past) (file : FileId) (f : MdsFi
   abbrev gone : List Entry
   gone = left_entries file causes f.layout.live
 
-  end_placed : In (entry.Sent file f.layout.cred at bytes) past → (live : List Mirror) → AreEntriesPlaced past (end_entries file f.layout.cred (gone ++ told ∷ []) Own live)
+  end_placed : IsOneOf (entry.Sent file f.layout.cred at bytes) past → (live : List Mirror) → AreEntriesPlaced past (end_entries file f.layout.cred (gone ++ told ∷ []) Own live)
   end_placed sent [] = others_placed past (entry.Ended file f.layout.cred AllReported ∷ []) closed (refl, tt)
   end_placed sent (m ∷ live) =
       let first : AreEntriesPlaced past gone = others_placed past gone closed (left_none file causes f.layout.live) in
@@ -207,7 +208,7 @@ module _ (past : List Entry) (closed : IsClosed past) (file : FileId) (f : MdsFi
   none_placed : AreEntriesPlaced past []
   none_placed = record { each = tt; closed = subst IsClosed (sym (append-nil past)) closed }
 
-  by_phase : ((is_recalled : Bool) → f.layout.phase ≡ Held Mds is_recalled → In (entry.Sent file f.layout.cred at bytes) past) → (p : LayoutPhase) → f.layout.phase ≡ p
+  by_phase : ((is_recalled : Bool) → f.layout.phase ≡ Held Mds is_recalled → IsOneOf (entry.Sent file f.layout.cred at bytes) past) → (p : LayoutPhase) → f.layout.phase ≡ p
       → AreEntriesPlaced past (held_in f (by_mds f (own_row file f causes told fresh)) p).entries
   by_phase sent Making is = none_placed
   by_phase sent Free is = none_placed
@@ -218,14 +219,14 @@ module _ (past : List Entry) (closed : IsClosed past) (file : FileId) (f : MdsFi
   by_phase sent (Settling copies) is = none_placed
   by_phase sent (Copying copier copies) is = none_placed
 
-  ends_placed : ((is_recalled : Bool) → f.layout.phase ≡ Held Mds is_recalled → In (entry.Sent file f.layout.cred at bytes) past) → AreEntriesPlaced past (phase file f (OwnEnds causes at bytes) fresh).entries
+  ends_placed : ((is_recalled : Bool) → f.layout.phase ≡ Held Mds is_recalled → IsOneOf (entry.Sent file f.layout.cred at bytes) past) → AreEntriesPlaced past (phase file f (OwnEnds causes at bytes) fresh).entries
   ends_placed sent = by_phase sent f.layout.phase refl
 
 -- ---- all files: a write that waits was sent, where the metadata server holds the file
 
 abbrev WaitsSent : FileId → List Entry → MdsFile → Option WaitingWrite → Type 0
 WaitsSent file es f None = Unit {0}
-WaitsSent file es f (Some w) = (is_recalled : Bool) → f.layout.phase ≡ Held Mds is_recalled → In (entry.Sent file f.layout.cred w.at w.bytes) es
+WaitsSent file es f (Some w) = (is_recalled : Bool) → f.layout.phase ≡ Held Mds is_recalled → IsOneOf (entry.Sent file f.layout.cred w.at w.bytes) es
 
 abbrev AreSent : List ServedFile → List Entry → Type 0
 AreSent files es = (place : ℕ) (s : ServedFile) → slice_get files place ≡ Some s → WaitsSent (numbered (place + 1)) es s.file s.write
@@ -292,7 +293,7 @@ module _ (m : MdsValue) (file : FileId) (s : ServedFile) (at : served m file ≡
   back_sent es more g back None was = tt
   back_sent es more g back (Some w) was = λ r held.
       (let k = back r held in
-      in_more (entry.Sent file g.layout.cred w.at w.bytes) es more (subst (λ (c : Cred). In (entry.Sent file c w.at w.bytes) es) (sym k.cred) (was r (k.held ∙ held))))
+      in_more (entry.Sent file g.layout.cred w.at w.bytes) es more (subst (λ (c : Cred). IsOneOf (entry.Sent file c w.at w.bytes) es) (sym k.cred) (was r (k.held ∙ held))))
 
   other_case : (input : FileInput) → is_own_input input ≡ false → (es : List Entry) (ss : List MdsSend) → IsSo m es ss → IsSo (file_stepped m file s (phase file s.file input m.fresh)).mds (es ++ (phase file s.file input m.fresh).entries) ss
   other_case input other es ss i =
@@ -339,7 +340,7 @@ same_sent file es s t same write i =
 -- a file's call changes no layout
 layout_sent : (file : FileId) (es : List Entry) (f g : MdsFile) → g.layout ≡ f.layout → (o : Option WaitingWrite) → WaitsSent file es f o → WaitsSent file es g o
 layout_sent file es f g same None i = tt
-layout_sent file es f g same (Some w) i = λ r held. subst (λ (l : LayoutState). In (entry.Sent file l.cred w.at w.bytes) es) (sym same) (i r (ap (λ (l : LayoutState). l.phase) (sym same) ∙ held))
+layout_sent file es f g same (Some w) i = λ r held. subst (λ (l : LayoutState). IsOneOf (entry.Sent file l.cred w.at w.bytes) es) (sym same) (i r (ap (λ (l : LayoutState). l.phase) (sym same) ∙ held))
 
 begins : (m : MdsValue) (file : FileId) (s : ServedFile) (c : CompoundRun) (at : ℕ) (bytes : List ℕ) (there : served m file ≡ Some s) → CanBegin m s at bytes → (es : List Entry) (ss : List MdsSend) → IsSo m es ss
     → IsSo (with_served (file_stepped m file s (phase file s.file (OwnWrite at bytes) m.fresh)).mds file (with_write c at bytes (file_behind s (phase file s.file (OwnWrite at bytes) m.fresh)))) (es ++ (phase file s.file (OwnWrite at bytes) m.fresh).entries) ss
@@ -349,9 +350,9 @@ begins m file s c at bytes there can es ss i =
     let t : ServedFile = file_behind s made in
     let u : ServedFile = with_write c at bytes t in
     let x : MdsValue = with_served (record m { fresh = drawn m.fresh made }) file t in
-    let new : In (entry.Sent file made.file.layout.cred at bytes) (es ++ made.entries) =
-    subst (λ (y : FileStep). In (entry.Sent file y.file.layout.cred at bytes) (es ++ y.entries)) (sym so)
-    (subst (λ (l : List Entry). In (entry.Sent file s.file.layout.cred at bytes) l) (append_assoc es (entry.Granted file s.file.layout.cred Mds ∷ []) (entry.Sent file s.file.layout.cred at bytes ∷ []))
+    let new : IsOneOf (entry.Sent file made.file.layout.cred at bytes) (es ++ made.entries) =
+    subst (λ (y : FileStep). IsOneOf (entry.Sent file y.file.layout.cred at bytes) (es ++ y.entries)) (sym so)
+    (subst (λ (l : List Entry). IsOneOf (entry.Sent file s.file.layout.cred at bytes) l) (append_assoc es (entry.Granted file s.file.layout.cred Mds ∷ []) (entry.Sent file s.file.layout.cred at bytes ∷ []))
     (in_last (entry.Sent file s.file.layout.cred at bytes) (es ++ entry.Granted file s.file.layout.cred Mds ∷ []))) in
     let its : Stands (slice_set (slice_set m.files (file.0 - 1) t) (file.0 - 1) u) m.calls (es ++ made.entries) ss = record {
       sent = subst (λ (all : List ServedFile). AreSent all (es ++ made.entries)) (sym (set_twice m.files (file.0 - 1) t u)) (puts_so m file s there es made.entries u i.sent (λ r held. new));

@@ -4,10 +4,10 @@ use Rattle.std.specs.Prelude.{map, slice_get, slice_set}
 use Rattle.std.proofs.lemmas.Option.{same_Some}
 use Rattle.cluster_model.specs.declared.limits.TheConstants.{MAX_FILE, PIECE_SIZE}
 use Rattle.cluster_model.specs.DsCalls.{DsCallValue, Create, SetAttr, Write, Commit, Read}
+use Rattle.cluster_model.specs.Members.{IsOneOf}
 use Rattle.file_rule.specs.MdsFiles.{MdsFile}
 use Rattle.mds_io.specs.OwnWrites.{own_write}
 use Rattle.mirror_writer.specs.Writers.{WriterMirror, WriterValue}
-use Rattle.mds_laws.proofs.Lists.{In}
 
 abbrev pub fileids_of : WriterValue → List ℕ
 fileids_of w = map (λ (m : WriterMirror). m.id.fileid) w.mirrors
@@ -30,8 +30,8 @@ pub record IsNewWriter (file : MdsFile) (w : WriterValue) : Type 0 where
 abbrev pub IsCallOf : WriterValue → DsCallValue → Type 0
 IsCallOf w (Create name owner) = ⊥
 IsCallOf w (SetAttr fileid owner guard) = ⊥
-IsCallOf w (Write fileid at synced bytes) = In fileid (fileids_of w) × In (record { at = at; bytes = bytes }) w.taken
-IsCallOf w (Commit fileid) = In fileid (fileids_of w)
+IsCallOf w (Write fileid at synced bytes) = IsOneOf fileid (fileids_of w) × IsOneOf (record { at = at; bytes = bytes }) w.taken
+IsCallOf w (Commit fileid) = IsOneOf fileid (fileids_of w)
 IsCallOf w (Read fileid at count) = ⊥
 
 pub stays_itself : (w : WriterValue) → StaysWriter w w
@@ -44,7 +44,7 @@ put_same [] place m n there is = absurd cc
 put_same (y ∷ ys) zero m n there is = ap (λ (k : ℕ). k ∷ map (λ (x : WriterMirror). x.id.fileid) ys) (is ∙ ap (λ (x : WriterMirror). x.id.fileid) (sym (same_Some y m there)))
 put_same (y ∷ ys) (suc place) m n there is = ap (λ (l : List ℕ). y.id.fileid ∷ l) (put_same ys place m n there is)
 
-pub fileid_in : (mirrors : List WriterMirror) (place : ℕ) (m : WriterMirror) → slice_get mirrors place ≡ Some m → In m.id.fileid (map (λ (x : WriterMirror). x.id.fileid) mirrors)
+pub fileid_in : (mirrors : List WriterMirror) (place : ℕ) (m : WriterMirror) → slice_get mirrors place ≡ Some m → IsOneOf m.id.fileid (map (λ (x : WriterMirror). x.id.fileid) mirrors)
 fileid_in [] place m there = absurd cc
 fileid_in (y ∷ ys) zero m there = inl (ap (λ (x : WriterMirror). x.id.fileid) (sym (same_Some y m there)))
 fileid_in (y ∷ ys) (suc place) m there = inr (fileid_in ys place m there)

@@ -4,6 +4,7 @@ use Rattle.std.specs.List.{list_any}
 use Rattle.cluster_model.specs.declared.entry.Entry.{Entry}
 use Rattle.cluster_model.specs.declared.entry.Entry.TheVariants as entry
 use Rattle.cluster_model.specs.DsCalls.{DsCallValue, Create, SetAttr, Write, Commit, Read}
+use Rattle.rpc_record.specs.CallNumbers.{IsBelow}
 use Rattle.device_addr.specs.Universal.{AddressValue}
 use Rattle.mds_rule.specs.MdsStates.{MdsSend, CallsServer, CallsBack, Replies, Answers}
 use Rattle.mds_laws.specs.MdsRuns.{MdsEvent, mds_run}
@@ -15,11 +16,6 @@ number_sent (CallsServer server xid uid call) = Some xid
 number_sent (CallsBack xid back file stateid) = Some xid
 number_sent (Replies node reply) = None
 number_sent (Answers node bytes) = None
-
--- the number of a call is below this one
-abbrev pub IsBelow : ℕ → Option ℕ → Type 0
-IsBelow xid None = Unit {0}
-IsBelow xid (Some other) = other < xid
 
 abbrev pub AreBelow : ℕ → List MdsSend → Type 0
 AreBelow xid [] = Unit {0}

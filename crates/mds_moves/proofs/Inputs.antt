@@ -13,6 +13,7 @@ use Rattle.cluster_model.specs.declared.ds_call.Shown.{Shown}
 use Rattle.cluster_model.specs.declared.entry.Entry.{Entry}
 use Rattle.cluster_model.specs.DsCalls.{DsCallValue, Create, SetAttr, Write, Commit, Read, DsReplyValue}
 use Rattle.cluster_model.specs.Phases.{ids_of}
+use Rattle.cluster_model.specs.Members.{IsOneOf}
 use Rattle.ds_calls.specs.DsCallLaws.{HasRecord}
 use Rattle.file_rule.specs.declared.fresh.Fresh.{Fresh}
 use Rattle.file_rule.specs.MdsFiles.{MdsFile, FileStep}
@@ -29,7 +30,7 @@ use Rattle.mds_rule.specs.declared.waiter.Waiter.TheVariants.{ForFile, ForWrite}
 use Rattle.mds_rule.specs.ServedFiles.{is_period_end, has_fresh, file_behind, file_stepped}
 use Rattle.mds_rule.specs.Answers.{server_number, fileid_of, attributes_shown, own_answer}
 use Rattle.mds_laws.specs.MdsRunLaws.{number_sent}
-use Rattle.mds_laws.proofs.Lists.{In, all_set, all_got}
+use Rattle.mds_laws.proofs.Lists.{all_set, all_got}
 use Rattle.mds_laws.proofs.OpsWalk.{place_served}
 use Rattle.mds_laws.proofs.Keeping.{comes_by_itself}
 use Rattle.cluster_laws.specs.Holders.{IsBoundInput, IsBound}
@@ -85,7 +86,7 @@ pub record WasHeard (mc : Machine) (past : List MdsSend) (n : Machine) (call : A
   pub reply : DsReplyValue
   pub stands : HasServerAnswered n server own c reply
   pub same : says c ≡ reply
-  pub inside : In call.sent past
+  pub inside : IsOneOf call.sent past
 
 module _ (mc : Machine) (past : List MdsSend) (n : Machine) (es : List Entry) (goes : MachineGoesOn mc es n) (call : AwaitedCall) (server own uid : ℕ) (c : DsCallValue) (says : DsCallValue → DsReplyValue) (known : HeardBy mc past call says)
     (sent : call.sent ≡ CallsServer server own uid c) (to : call.node ≡ Server server) (spoken : HasRecord (message_of own uid c)) where

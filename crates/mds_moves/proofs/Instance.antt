@@ -12,6 +12,8 @@ use Rattle.cluster_model.specs.declared.entry.Entry.{Entry}
 use Rattle.cluster_model.specs.declared.entry.Entry.TheVariants as entry
 use Rattle.cluster_model.specs.DsCalls.{DsCallValue, DsReplyValue}
 use Rattle.cluster_model.specs.Nodes.{is_node}
+use Rattle.cluster_model.specs.Members.{IsOneOf}
+use Rattle.rpc_record.specs.CallNumbers.{IsBelow}
 use Rattle.ds_calls.specs.GivenReplies.{reply_of_call}
 use Rattle.file_rule.specs.FilePhases.{phase}
 use Rattle.file_rule.specs.MdsFiles.{MdsFile}
@@ -33,8 +35,8 @@ use Rattle.mds_receive.specs.MdsReceive.{PassedOver, IsReply, incoming_of}
 use Rattle.mds_rule.specs.MdsStates.{WaitingWrite, ServedFile, MdsSend, CallsServer, CallsBack, Replies, Answers, AwaitedCall, MdsValue, is_call_to, without_call}
 use Rattle.mds_rule.specs.declared.waiter.Waiter.TheVariants.{ForRead, ForRecall}
 use Rattle.mds_laws.specs.MdsRuns.{MdsEvent, MdsInput, Hears as Comes, IsTimedOut, Ticks, RecallsFile, Resilvers, after_event}
-use Rattle.mds_laws.specs.MdsRunLaws.{number_sent, IsBelow}
-use Rattle.mds_laws.proofs.Lists.{In, in_more, in_filtered, all_in, all_got}
+use Rattle.mds_laws.specs.MdsRunLaws.{number_sent}
+use Rattle.mds_laws.proofs.Lists.{in_more, in_filtered, all_in, all_got}
 use Rattle.mds_laws.proofs.Keeping.{Hearing, HearsSo, is_note}
 use Rattle.mds_laws.proofs.EachCases.{EachCase}
 use Rattle.mds_laws.proofs.OpsWalk.{place_served}
@@ -69,7 +71,7 @@ module _ (few : DrawFew) (fit : CallsFit) (tells : TellsAll) (stand : RunsStand)
   still_own n es ss s m own stood = own_on n.packets n.packets (λ place packet p. p) (journal ++ telling es) ss (ss ++ s ∷ []) (λ x inside. in_more x ss (s ∷ []) inside) m.files m.fresh (own stood)
 
   more : (m : MdsValue) (es : List Entry) (ss : List MdsSend) (i : IsSo m es ss) (s : MdsSend) → IsSentIn i.machine s
-      → ((b : MdsSend) (xid : ℕ) → In b ss → number_sent s ≡ Some xid → number_sent b ≡ Some xid → s ≡ b) → (not (m.next_xid == 0) ≡ true → IsBelow m.next_xid (number_sent s)) → IsSo m es (ss ++ s ∷ [])
+      → ((b : MdsSend) (xid : ℕ) → IsOneOf b ss → number_sent s ≡ Some xid → number_sent b ≡ Some xid → s ≡ b) → (not (m.next_xid == 0) ≡ true → IsBelow m.next_xid (number_sent s)) → IsSo m es (ss ++ s ∷ [])
   more m es ss i s stands once below = record {
     machine = i.machine;
     goes = i.goes;
@@ -173,7 +175,7 @@ module _ (few : DrawFew) (fit : CallsFit) (tells : TellsAll) (stand : RunsStand)
   server_hears : (k : ℕ) (bytes : List ℕ) → MayComeFrom mc past k bytes → (reply : RpcReply) → incoming_of bytes ≡ IsReply reply → Hearing IsSo (HeardBy mc past) (Server k) reply.xid (λ call. reply_of_call call reply)
   server_hears k bytes (inl passed) reply reads m es ss i call inside its = absurd (apart reply (sym passed ∙ reads))
   server_hears k bytes (inr may) reply reads m es ss i call inside its =
-      let awaited : In call.sent ss × IsAwaitedFor call = i.is.calls call inside in
+      let awaited : IsOneOf call.sent ss × IsAwaitedFor call = i.is.calls call inside in
       let given : IsReply may.reply ≡ IsReply reply = sym may.reads ∙ reads in
       let same : may.reply ≡ reply = cc (given) in
       let number : number_sent call.sent ≡ Some reply.xid = awaited.1.number ∙ ap Some (eqb-true call.xid reply.xid (and_parts (is_node call.node (Server k)) (call.xid == reply.xid) its).1) in
@@ -182,7 +184,7 @@ module _ (few : DrawFew) (fit : CallsFit) (tells : TellsAll) (stand : RunsStand)
       subst (λ (r : RpcReply). IsSendAnswered mc k (λ c. reply_of_call c r) call.sent) same (subst (IsSendAnswered mc k (λ c. reply_of_call c may.reply)) one may.answers) in
       record {
         awaited = awaited.1;
-        inside = λ j is. subst (λ (s : MdsSend). In s past) one may.inside;
+        inside = λ j is. subst (λ (s : MdsSend). IsOneOf s past) one may.inside;
         answered = λ j is. subst (λ (x : ℕ). IsSendAnswered mc x (λ c. reply_of_call c reply) call.sent) (sym (eqb-true j k (no_server call (Server k) reply.xid j its is))) answers;
       }
 

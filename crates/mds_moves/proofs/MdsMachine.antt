@@ -7,6 +7,8 @@ use Rattle.std.proofs.lemmas.List.{map-set}
 use Rattle.std.proofs.lemmas.Option.{same_Some, slice_get-map}
 use Rattle.cluster_model.specs.declared.ids.NodeId.TheVariants.{Mds}
 use Rattle.cluster_model.specs.declared.ids.FileId.{FileId}
+use Rattle.cluster_model.specs.Members.{IsOneOf}
+use Rattle.rpc_record.specs.CallNumbers.{IsBelow}
 use Rattle.device_addr.specs.Universal.{AddressValue}
 use Rattle.file_rule.specs.declared.fresh.Fresh.{Fresh}
 use Rattle.file_rule.specs.MdsFiles.{MdsFile}
@@ -15,8 +17,8 @@ use Rattle.machine_moves.specs.MachineMoves.{KeepsPackets}
 use Rattle.machine_moves.proofs.Packets.{still_called}
 use Rattle.mds_rule.specs.MdsStates.{ServedFile, MdsSend, CallsServer, CallsBack, Replies, Answers, AwaitedCall, MdsValue, with_call, served}
 use Rattle.mds_rule.specs.Goes.{xid_after}
-use Rattle.mds_laws.specs.MdsRunLaws.{number_sent, IsBelow}
-use Rattle.mds_laws.proofs.Lists.{In, in_more, in_last, in_with_call, AllOf, all_push}
+use Rattle.mds_laws.specs.MdsRunLaws.{number_sent}
+use Rattle.mds_laws.proofs.Lists.{in_more, in_last, in_with_call, AllOf, all_push}
 use Rattle.mds_laws.proofs.OpsWalk.{place_served}
 use Rattle.mds_laws.proofs.Numbers.{below_all, below_push, in_below, after_below, after_fits}
 use Rattle.mds_moves.specs.MdsMoves.{IsSentIn, IsAwaitedFor, IsSetUp, IsServedInRange, NumbersOnce, IsServerOf}
@@ -52,20 +54,20 @@ all_still : (mc n : Machine) → KeepsPackets mc n → (ss : List MdsSend) → A
 all_still mc n keeps [] all = tt
 all_still mc n keeps (s ∷ ss) all = (still_sent mc n keeps s all.0, all_still mc n keeps ss all.1)
 
-in_pushed : {A : Type 0} (x y : A) (xs : List A) → In x (xs ++ y ∷ []) → In x xs ⊎ (x ≡ y)
+in_pushed : {A : Type 0} (x y : A) (xs : List A) → IsOneOf x (xs ++ y ∷ []) → IsOneOf x xs ⊎ (x ≡ y)
 in_pushed x y [] (inl is) = inr is
 in_pushed x y [] (inr inside) = absurd inside
 in_pushed x y (z ∷ zs) (inl is) = inl (inl is)
 in_pushed x y (z ∷ zs) (inr inside) = further (in_pushed x y zs inside)
   where
-    further : In x zs ⊎ (x ≡ y) → In x (z ∷ zs) ⊎ (x ≡ y)
+    further : IsOneOf x zs ⊎ (x ≡ y) → IsOneOf x (z ∷ zs) ⊎ (x ≡ y)
     further (inl old) = inl (inr old)
     further (inr new) = inr new
 
-once_push : (ss : List MdsSend) (s : MdsSend) → NumbersOnce ss → ((b : MdsSend) (xid : ℕ) → In b ss → number_sent s ≡ Some xid → number_sent b ≡ Some xid → s ≡ b) → NumbersOnce (ss ++ s ∷ [])
+once_push : (ss : List MdsSend) (s : MdsSend) → NumbersOnce ss → ((b : MdsSend) (xid : ℕ) → IsOneOf b ss → number_sent s ≡ Some xid → number_sent b ≡ Some xid → s ≡ b) → NumbersOnce (ss ++ s ∷ [])
 once_push ss s once new a b xid a_in b_in a_is b_is = by_place (in_pushed a s ss a_in) (in_pushed b s ss b_in)
   where
-    by_place : In a ss ⊎ (a ≡ s) → In b ss ⊎ (b ≡ s) → a ≡ b
+    by_place : IsOneOf a ss ⊎ (a ≡ s) → IsOneOf b ss ⊎ (b ≡ s) → a ≡ b
     by_place (inl x) (inl y) = once a b xid x y a_is b_is
     by_place (inl x) (inr y) = sym (y ∙ new a xid x (ap number_sent (sym y) ∙ b_is) a_is)
     by_place (inr x) (inl y) = x ∙ new b xid y (ap number_sent (sym x) ∙ a_is) b_is
@@ -116,22 +118,22 @@ module _ (mc n : Machine) (kept : KeepsMachine mc n) (servers : List AddressValu
       risen : (xid_after next_xid ≡ 0) ⊎ (n.last_xid Mds < xid_after next_xid)
       risen = cond_both (next_xid == 4294967295) 0 (next_xid + 1) (λ (x : ℕ). (x ≡ 0) ⊎ (n.last_xid Mds < x)) (λ is. inl refl) (λ off. inr (omega (arith, last)))
 
-      apart : (b : MdsSend) (xid : ℕ) → In b ss → number_sent call.sent ≡ Some xid → number_sent b ≡ Some xid → ⊥
+      apart : (b : MdsSend) (xid : ℕ) → IsOneOf b ss → number_sent call.sent ≡ Some xid → number_sent b ≡ Some xid → ⊥
       apart b xid inside new old =
           let same : next_xid ≡ xid = same_Some next_xid xid (sym number ∙ new) in
           let less : xid < next_xid = subst (IsBelow next_xid) old (in_below next_xid ss b (i.below has) inside) in
           omega (arith, same, less)
 
-      by_place : (other : AwaitedCall) → In other awaited ⊎ (other ≡ call) → In other.sent (ss ++ call.sent ∷ []) × IsAwaitedFor other
+      by_place : (other : AwaitedCall) → IsOneOf other awaited ⊎ (other ≡ call) → IsOneOf other.sent (ss ++ call.sent ∷ []) × IsAwaitedFor other
       by_place other (inl old) = (in_more other.sent ss (call.sent ∷ []) (i.calls other old).0, (i.calls other old).1)
-      by_place other (inr new) = subst (λ (c : AwaitedCall). In c.sent (ss ++ call.sent ∷ []) × IsAwaitedFor c) (sym new) (in_last call.sent ss, its)
+      by_place other (inr new) = subst (λ (c : AwaitedCall). IsOneOf c.sent (ss ++ call.sent ∷ []) × IsAwaitedFor c) (sym new) (in_last call.sent ss, its)
 
 -- ---- what changes no machine
 
 module _ (mc : Machine) (servers : List AddressValue) (mirrors : ℕ) (all : List ServedFile) (next : Fresh) (awaited : List AwaitedCall) (next_xid : ℕ) (ss : List MdsSend)
     (i : IsServerOf mc servers mirrors all next awaited next_xid ss) where
   -- what has no number is sent, or what was sent before
-  pub sends_more : (s : MdsSend) → IsSentIn mc s → ((b : MdsSend) (xid : ℕ) → In b ss → number_sent s ≡ Some xid → number_sent b ≡ Some xid → s ≡ b)
+  pub sends_more : (s : MdsSend) → IsSentIn mc s → ((b : MdsSend) (xid : ℕ) → IsOneOf b ss → number_sent s ≡ Some xid → number_sent b ≡ Some xid → s ≡ b)
       → (not (next_xid == 0) ≡ true → IsBelow next_xid (number_sent s)) → IsServerOf mc servers mirrors all next awaited next_xid (ss ++ s ∷ [])
   sends_more s stands once below = record {
     files = i.files;
@@ -173,7 +175,7 @@ module _ (mc : Machine) (servers : List AddressValue) (mirrors : ℕ) (all : Lis
   }
 
   -- other calls are awaited, each of them one of these
-  pub awaits_fewer : (fewer : List AwaitedCall) → ((call : AwaitedCall) → In call fewer → In call awaited) → IsServerOf mc servers mirrors all next fewer next_xid ss
+  pub awaits_fewer : (fewer : List AwaitedCall) → ((call : AwaitedCall) → IsOneOf call fewer → IsOneOf call awaited) → IsServerOf mc servers mirrors all next fewer next_xid ss
   awaits_fewer fewer within = record {
     files = i.files;
     fresh = i.fresh;

@@ -13,6 +13,7 @@ use Rattle.cluster_model.specs.declared.entry.Entry.{Entry}
 use Rattle.cluster_model.specs.declared.layout_state.LayoutPhase.TheVariants.{Free, Held}
 use Rattle.cluster_model.specs.DsCalls.{DsCallValue, DsReplyValue}
 use Rattle.cluster_model.specs.Phases.{ids_of, unreported}
+use Rattle.cluster_model.specs.Members.{IsOneOf}
 use Rattle.file_rule.specs.declared.fresh.Fresh.{Fresh}
 use Rattle.file_rule.specs.MdsFiles.{Idle, MdsFile, FileStep}
 use Rattle.file_rule.specs.FilePhases.{OwnWrite, OwnEnds, are_spent, end_of_uids, phase}
@@ -38,7 +39,7 @@ use Rattle.mds_rule.specs.ServedFiles.{has_fresh, file_behind, file_stepped}
 use Rattle.mds_rule.specs.FileOps.{with_write}
 use Rattle.mds_rule.specs.Answers.{is_failure_of, with_failed, write_stepped, failures_by_place}
 use Rattle.mds_laws.specs.MdsRunLaws.{number_sent}
-use Rattle.mds_laws.proofs.Lists.{In, AllOf, all_in, all_set, all_got}
+use Rattle.mds_laws.proofs.Lists.{AllOf, all_in, all_set, all_got}
 use Rattle.mds_laws.proofs.OwnWriters.{StaysWriter}
 use Rattle.mds_laws.proofs.Keeping.{IsWriteOf}
 use Rattle.mds_laws.proofs.EachCases.{CanBegin, end_input, without_write}
@@ -230,8 +231,8 @@ module _ (few : DrawFew) (fit : CallsFit) (tells : TellsAll) (stand : RunsStand)
         let by : (call.node ≡ Server server) × IsCallFor (ForWrite file) (message_of own uid c) = subst (λ (w : Waiter). IsSentBy call.node w (CallsServer server own uid c)) caller (subst (IsSentBy call.node call.caller) sent known.awaited.node) in
         was_heard mc past i.machine es i.goes call server own uid c says known sent by.0 by.1.1
 
-    inside : In (CallsServer server own uid c) ss
-    inside = subst (λ (x : MdsSend). In x ss) sent (i.kept call.sent heard.inside)
+    inside : IsOneOf (CallsServer server own uid c) ss
+    inside = subst (λ (x : MdsSend). IsOneOf x ss) sent (i.kept call.sent heard.inside)
 
     once : AreCallsOnce i.machine
     once = calls_once tells mc journal reached Stood past i.machine es i.goes

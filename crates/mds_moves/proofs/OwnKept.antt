@@ -12,6 +12,7 @@ use Rattle.cluster_model.specs.declared.layout_state.LayoutPhase.{LayoutPhase}
 use Rattle.cluster_model.specs.declared.layout_state.LayoutPhase.TheVariants.{Held}
 use Rattle.cluster_model.specs.Content.{Pending}
 use Rattle.cluster_model.specs.Phases.{ids_of}
+use Rattle.cluster_model.specs.Members.{IsOneOf}
 use Rattle.file_rule.specs.declared.fresh.Fresh.{Fresh}
 use Rattle.file_rule.specs.MdsFiles.{Activity, Idle, MdsFile, FileStep}
 use Rattle.file_rule.specs.FilePhases.{FileInput, AsksLayout, OwnWrite, Recall, Returns, Revokes, OwnEnds, Resilver, Answers, TimesOut, Ticks, Sees, asked_in, held_in, by_client, recalled_row, returned_row, revoked_row, resilvered_in, answered_in, timed_out_in, ticked, phase, CallOut, call_out_of, call_out}
@@ -25,7 +26,7 @@ use Rattle.cluster_laws.specs.RunBounds.{DrawsFew}
 use Rattle.machine_moves.proofs.Going.{telling_append}
 use Rattle.mds_rows.specs.Draws.{drawn}
 use Rattle.mds_rule.specs.MdsStates.{WaitingWrite, ServedFile, MdsSend}
-use Rattle.mds_laws.proofs.Lists.{In, all_set}
+use Rattle.mds_laws.proofs.Lists.{all_set}
 use Rattle.mds_laws.proofs.EachCases.{is_own_input}
 use Rattle.mds_moves.specs.MdsBinds.{EndsInOrder, IsWrittenTo, OwnWriteStands, ServedStands, HasOwnWrites, NewHasOwnWrites, OwnWritesStay}
 use Rattle.mds_moves.proofs.NamesDrawn.{names_by_uid}
@@ -63,7 +64,7 @@ told_join journal es more = ap (λ (l : List Entry). journal ++ l) (telling_appe
 
 -- ---- as the machine goes on
 
-module _ (old new : List PacketValue) (keeps : PacketsKept old new) (journal more : List Entry) (ss ts : List MdsSend) (sent : (s : MdsSend) → In s ss → In s ts) where
+module _ (old new : List PacketValue) (keeps : PacketsKept old new) (journal more : List Entry) (ss ts : List MdsSend) (sent : (s : MdsSend) → IsOneOf s ss → IsOneOf s ts) where
   write_later : (f : MdsFile) (o : Option WaitingWrite) → OwnWriteStands old journal ss f o → OwnWriteStands new (journal ++ more) ts f o
   write_later f None i = tt
   write_later f (Some w) i = record {
@@ -152,7 +153,7 @@ write_kept packets journal ss file fresh f input other (Some w) i =
 
 -- ---- where nothing more is told
 
-module _ (old new : List PacketValue) (keeps : PacketsKept old new) (journal : List Entry) (ss ts : List MdsSend) (sent : (s : MdsSend) → In s ss → In s ts) where
+module _ (old new : List PacketValue) (keeps : PacketsKept old new) (journal : List Entry) (ss ts : List MdsSend) (sent : (s : MdsSend) → IsOneOf s ss → IsOneOf s ts) where
   pub served_on : (s : ServedFile) → ServedStands old journal ss s → ServedStands new journal ts s
   served_on s i = subst (λ (j : List Entry). ServedStands new j ts s) (append-nil journal) (served_later old new keeps journal [] ss ts sent s i)
 

@@ -4,6 +4,7 @@ use Rattle.cluster_model.specs.declared.limits.TheConstants.{FIRST_UID}
 use Rattle.cluster_model.specs.declared.ids.NodeId.TheVariants.{Server}
 use Rattle.cluster_model.specs.declared.entry.Entry.{Entry}
 use Rattle.cluster_model.specs.DsCalls.{DsCallValue, DsReplyValue}
+use Rattle.cluster_model.specs.Members.{IsOneOf}
 use Rattle.device_addr.specs.Universal.{AddressValue}
 use Rattle.file_rule.specs.declared.fresh.Fresh.{Fresh}
 use Rattle.file_rule.specs.MdsFiles.{MdsFile}
@@ -15,7 +16,6 @@ use Rattle.machine_moves.specs.MachineGoesOn.{MachineGoesOn}
 use Rattle.machine_moves.proofs.Going.{after_append, journal_append}
 use Rattle.machine_moves.proofs.Bound.{bound_further, goes_told}
 use Rattle.mds_rule.specs.MdsStates.{ServedFile, MdsSend, AwaitedCall, MdsValue}
-use Rattle.mds_laws.proofs.Lists.{In}
 use Rattle.mds_moves.specs.MdsMoves.{IsReached, NewIsMdsOf, StaysReached, IsAwaitedFor, IsServerOf, IsSendAnswered}
 use Rattle.mds_moves.specs.MdsBinds.{IsReachedBy, EndsInOrder, HasOwnWrites}
 use Rattle.mds_moves.proofs.FileStands.{FileStands, RunsStand, TellsAll}
@@ -26,7 +26,7 @@ pub record Stands (mc : Machine) (journal : List Entry) (Stood : Type 0) (past :
   pub machine : Machine
   pub goes : MachineGoesOn mc es machine
   pub is : IsServerOf machine servers mirrors all next awaited next_xid ss
-  pub kept : (s : MdsSend) → In s past → In s ss
+  pub kept : (s : MdsSend) → IsOneOf s past → IsOneOf s ss
   pub stays : machine.servers ≡ mc.servers
   pub binds : Stood → EndsInOrder mc.packets journal es → AreBoundFrom mc journal goes.moves
   pub own : Stood → HasOwnWrites machine.packets (journal ++ telling es) ss all next
@@ -35,7 +35,7 @@ pub record Stands (mc : Machine) (journal : List Entry) (Stood : Type 0) (past :
 pub record HeardBy (mc : Machine) (past : List MdsSend) (call : AwaitedCall) (says : DsCallValue → DsReplyValue) : Type 0 where
   pub awaited : IsAwaitedFor call
   pub answered : (k : ℕ) → call.node ≡ Server k → IsSendAnswered mc k says call.sent
-  pub inside : (k : ℕ) → call.node ≡ Server k → In call.sent past
+  pub inside : (k : ℕ) → call.node ≡ Server k → IsOneOf call.sent past
 
 -- of a server, from this machine on
 abbrev pub IsFrom : Machine → List Entry → Type 0 → List MdsSend → MdsValue → List Entry → List MdsSend → Type 0

@@ -11,6 +11,7 @@ use Rattle.cluster_model.specs.declared.phase.LeftCause.TheVariants.{Error, Time
 use Rattle.cluster_model.specs.declared.ds_call.Shown.{Shown}
 use Rattle.cluster_model.specs.DsCalls.{DsCallValue, Write, Commit, DsReplyValue, Created, Set, Written, Committed, Bytes, NotSync, Failed}
 use Rattle.cluster_model.specs.Fences.{odd_status}
+use Rattle.cluster_model.specs.Members.{IsOneOf}
 use Rattle.cluster_laws.specs.Machine.{PacketValue, Call, Reply}
 use Rattle.cluster_laws.specs.Holders.{IsPacketAt, IsCovered, the_write}
 use Rattle.cluster_laws.proofs.Lists.{at_place, found_at}
@@ -24,7 +25,7 @@ use Rattle.mirror_writer.specs.Writers.{WriterMirror, WriterValue, WriterAfter, 
 use Rattle.mds_io.specs.OwnWrites.{after_own_reply, told_by, step_by}
 use Rattle.mds_rule.specs.MdsStates.{MdsSend, CallsServer}
 use Rattle.mds_rule.specs.Answers.{is_failure_of}
-use Rattle.mds_laws.proofs.Lists.{In, AllOf, all_push, all_set, all_got}
+use Rattle.mds_laws.proofs.Lists.{AllOf, all_push, all_set, all_got}
 use Rattle.mds_moves.specs.MdsBinds.{IsWriteAnswered, AreCallsBehind, IsAnsweredBefore, IsAnswerKept, IsCallOut, IsWrittenTo}
 
 abbrev pub MirrorFailures : Type 0
@@ -97,7 +98,7 @@ module _ (old new : List PacketValue) (keeps : PacketsKept old new) where
   pub so_before : (uid : ℕ) (id : MirrorId) (at : ℕ) (bytes : List ℕ) (verifier xid : ℕ) → IsAnsweredBefore old uid id at bytes verifier xid → IsAnsweredBefore new uid id at bytes verifier xid
   so_before uid id at bytes verifier xid a = record { answer = answer_still uid id at bytes verifier a.answer; before = before_still a.answer.place xid _ a.answer.there a.before }
 
-  module _ (ss ts : List MdsSend) (sent : (s : MdsSend) → In s ss → In s ts) (uid at : ℕ) (bytes : List ℕ) where
+  module _ (ss ts : List MdsSend) (sent : (s : MdsSend) → IsOneOf s ss → IsOneOf s ts) (uid at : ℕ) (bytes : List ℕ) where
     out_still : (m : WriterMirror) (call : WriterCall) → IsCallOut old ss uid at bytes m call → IsCallOut new ts uid at bytes m call
     out_still m NoCall out = tt
     out_still m (OutWrite xid write timeouts) out = sent (CallsServer m.id.server xid uid (Write m.id.fileid at false bytes)) out
@@ -127,7 +128,7 @@ pub record IsGivenTo (packets : List PacketValue) (server xid uid : ℕ) (call :
 
 -- to whatever was sent under the number
 abbrev pub AnswersSent : List PacketValue → List MdsSend → ℕ → DsReplyValue → Type 0
-AnswersSent packets ss xid reply = (server uid : ℕ) (call : DsCallValue) → In (CallsServer server xid uid call) ss → IsGivenTo packets server xid uid call reply
+AnswersSent packets ss xid reply = (server uid : ℕ) (call : DsCallValue) → IsOneOf (CallsServer server xid uid call) ss → IsGivenTo packets server xid uid call reply
 
 -- the replies on which something of an own write rests: the others fail it
 abbrev pub RestsOn : List PacketValue → List MdsSend → ℕ → DsReplyValue → Type 0
@@ -248,7 +249,7 @@ module _ (packets : List PacketValue) (ss : List MdsSend) (uid at : ℕ) (bytes 
       refused_so status =
           cond_both ((status == ACCES) || (status == STALE)) (is_fenced_by w place m status) (fails w place m (Error status)) (λ (a : WriterAfter). WriterStandsAfter w fs a) (λ is. fenced_so status) (λ off. fails_so (Error status))
 
-      write_so : (xid write : ℕ) (reply : DsReplyValue) → In (CallsServer m.id.server xid uid (Write m.id.fileid at false bytes)) ss → RestsOn packets ss xid reply → WriterStandsAfter w fs (write_answered w place m write reply)
+      write_so : (xid write : ℕ) (reply : DsReplyValue) → IsOneOf (CallsServer m.id.server xid uid (Write m.id.fileid at false bytes)) ss → RestsOn packets ss xid reply → WriterStandsAfter w fs (write_answered w place m write reply)
       write_so xid write (Written shown verifier) sent answers =
           let given : IsGivenTo packets m.id.server xid uid (Write m.id.fileid at false bytes) (Written shown verifier) = answers m.id.server uid (Write m.id.fileid at false bytes) sent in
           let answer : IsWriteAnswered packets uid m.id at bytes verifier =
@@ -292,7 +293,7 @@ module _ (packets : List PacketValue) (ss : List MdsSend) (uid at : ℕ) (bytes 
       call_so : (xid : ℕ) (reply : DsReplyValue) → RestsOn packets ss xid reply → (call : WriterCall) → IsCallOut packets ss uid at bytes m call → is_call xid call ≡ true → WriterStandsAfter w fs (call_answered w place m reply call)
       call_so xid reply answers NoCall out its = same_so step.Stranger
       call_so xid reply answers (OutWrite x write timeouts) out its =
-          write_so xid write reply (subst (λ (k : ℕ). In (CallsServer m.id.server k uid (Write m.id.fileid at false bytes)) ss) (eqb-true x xid its) out) answers
+          write_so xid write reply (subst (λ (k : ℕ). IsOneOf (CallsServer m.id.server k uid (Write m.id.fileid at false bytes)) ss) (eqb-true x xid its) out) answers
       call_so xid reply answers (OutCommit x timeouts) out its = commit_so xid reply (subst (λ (k : ℕ). IsCallOut packets ss uid at bytes m (OutCommit k 0)) (eqb-true x xid its) out) answers
 
       late_so : (timeouts : ℕ) (again : WriterCall) → IsCallOut packets ss uid at bytes m again → WriterStandsAfter w fs (timed_out_as w place m timeouts again)

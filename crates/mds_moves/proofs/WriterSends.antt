@@ -9,13 +9,14 @@ use Rattle.cluster_laws.specs.Machine.{PacketValue}
 use Rattle.cluster_laws.specs.Holders.{IsPacketAt, IsIn, the_write, IsBoundCall}
 use Rattle.cluster_laws.specs.Agreement.{sent_of}
 use Rattle.cluster_model.specs.declared.entry.Entry.{Entry}
+use Rattle.cluster_model.specs.Members.{IsOneOf}
 use Rattle.mirror_writer.specs.declared.call.TakenWrite.{TakenWrite}
 use Rattle.mirror_writer.specs.declared.call.WriteAnswer.{WriteAnswer}
 use Rattle.mirror_writer.specs.declared.call.NextCall.{NextCall}
 use Rattle.mirror_writer.specs.declared.call.NextCall.TheVariants.{SendsWrite, SendsCommit}
 use Rattle.mirror_writer.specs.Writers.{WriterMirror, WriterValue, WriterSends, new_mirror, queued, next_place, next_at, write_of_taken, call_for, with_out, sends_as, sends_next, sends_to, sends_at, next_sent}
 use Rattle.mds_rule.specs.MdsStates.{MdsSend, CallsServer}
-use Rattle.mds_laws.proofs.Lists.{In, AllOf, all_set, all_got}
+use Rattle.mds_laws.proofs.Lists.{AllOf, all_set, all_got}
 use Rattle.mds_laws.proofs.OwnWriters.{IsCallOf}
 use Rattle.mds_moves.specs.MdsBinds.{AreCallsBehind, IsAnsweredBefore, IsAnswerKept, IsWrittenTo}
 use Rattle.mds_moves.proofs.WriterMirrors.{MirrorFailures, all_more, PacketsKept, answer_still, mirror_still, ids_in, ids_set}
@@ -28,18 +29,18 @@ one_taken taken x t (suc n) one at = absurd (none (ap (λ (l : List TakenWrite).
     none : slice_get (x ∷ []) (suc n) ≡ Some t → ⊥
     none is = cc
 
-in_one : (taken : List TakenWrite) (x t : TakenWrite) → taken ≡ x ∷ [] → In t taken → t ≡ x
-in_one taken x t one inside = by_place (subst (In t) one inside)
+in_one : (taken : List TakenWrite) (x t : TakenWrite) → taken ≡ x ∷ [] → IsOneOf t taken → t ≡ x
+in_one taken x t one inside = by_place (subst (IsOneOf t) one inside)
   where
-    by_place : In t (x ∷ []) → t ≡ x
+    by_place : IsOneOf t (x ∷ []) → t ≡ x
     by_place (inl is) = is
     by_place (inr other) = absurd other
 
-module _ (old new : List PacketValue) (keeps : PacketsKept old new) (ss ts : List MdsSend) (more : (s : MdsSend) → In s ss → In s ts) (uid at : ℕ) (bytes : List ℕ) (fs : MirrorFailures) (w : WriterValue)
+module _ (old new : List PacketValue) (keeps : PacketsKept old new) (ss ts : List MdsSend) (more : (s : MdsSend) → IsOneOf s ss → IsOneOf s ts) (uid at : ℕ) (bytes : List ℕ) (fs : MirrorFailures) (w : WriterValue)
     (taken : w.taken ≡ (record { at = at; bytes = bytes }) ∷ []) (all : AllOf (IsWrittenTo old ss uid at bytes fs) w.mirrors) (xid : ℕ) (behind : (place : ℕ) (packet : PacketValue) → IsPacketAt old place packet → AreCallsBehind new place xid) where
   abbrev SendsSo : Option WriterSends → Type 0
   SendsSo None = Unit {0}
-  SendsSo (Some c) = In (CallsServer c.id.server xid uid c.call) ts → AllOf (IsWrittenTo new ts uid at bytes fs) c.writer.mirrors × (ids_in c.writer.mirrors ≡ ids_in w.mirrors)
+  SendsSo (Some c) = IsOneOf (CallsServer c.id.server xid uid c.call) ts → AllOf (IsWrittenTo new ts uid at bytes fs) c.writer.mirrors × (ids_in c.writer.mirrors ≡ ids_in w.mirrors)
 
   still : AllOf (IsWrittenTo new ts uid at bytes fs) w.mirrors
   still = all_more (IsWrittenTo old ss uid at bytes fs) (IsWrittenTo new ts uid at bytes fs) (λ m i. mirror_still old new keeps ss ts more uid at bytes fs m i) w.mirrors all
@@ -60,7 +61,7 @@ module _ (old new : List PacketValue) (keeps : PacketsKept old new) (ss ts : Lis
         let same : t ≡ record { at = at; bytes = bytes } = one_taken w.taken (record { at = at; bytes = bytes }) t n taken got in
         λ sent.
         put (with_out xid (SendsWrite n) m) refl (record {
-          out = subst (λ (x : TakenWrite). In (CallsServer m.id.server xid uid (Write m.id.fileid x.at false x.bytes)) ts) same sent;
+          out = subst (λ (x : TakenWrite). IsOneOf (CallsServer m.id.server xid uid (Write m.id.fileid x.at false x.bytes)) ts) same sent;
           answered = now.answered;
           is_covered = now.is_covered;
           flag = now.flag;
@@ -96,7 +97,7 @@ module _ (old new : List PacketValue) (keeps : PacketsKept old new) (ss ts : Lis
   at_goes None = tt
   at_goes (Some place) = to_goes place (slice_get w.mirrors place) refl
 
-  pub call_so : (c : WriterSends) → next_sent w xid ≡ Some c → In (CallsServer c.id.server xid uid c.call) ts → AllOf (IsWrittenTo new ts uid at bytes fs) c.writer.mirrors × (ids_in c.writer.mirrors ≡ ids_in w.mirrors)
+  pub call_so : (c : WriterSends) → next_sent w xid ≡ Some c → IsOneOf (CallsServer c.id.server xid uid c.call) ts → AllOf (IsWrittenTo new ts uid at bytes fs) c.writer.mirrors × (ids_in c.writer.mirrors ≡ ids_in w.mirrors)
   call_so c is = subst SendsSo is (at_goes (next_place w))
 
 -- a WRITE of it is of the write that was taken

@@ -15,6 +15,7 @@ use Rattle.cluster_model.specs.declared.ds_call.Shown.{Shown}
 use Rattle.cluster_model.specs.declared.layout_state.LayoutPhase.TheVariants.{Held}
 use Rattle.cluster_model.specs.DsCalls.{DsCallValue, Write, Commit, Written}
 use Rattle.cluster_model.specs.Phases.{ids_of}
+use Rattle.cluster_model.specs.Members.{IsOneOf}
 use Rattle.file_rule.specs.declared.fresh.Fresh.{Fresh}
 use Rattle.file_rule.specs.MdsFiles.{Idle, MdsFile}
 use Rattle.cluster_laws.specs.Machine.{PacketValue, Call, Reply, Machine, Move, new_machine, machine_after, journal_of}
@@ -34,7 +35,7 @@ use Rattle.mirror_writer.specs.Writers.{WriterMirror}
 use Rattle.mds_rule.specs.MdsStates.{WaitingWrite, ServedFile, MdsSend, CallsServer, MdsValue, new_mds}
 use Rattle.mds_rule.specs.Answers.{is_failure_of}
 use Rattle.mds_laws.specs.MdsRuns.{MdsEvent, after_event}
-use Rattle.mds_laws.proofs.Lists.{In, AllOf}
+use Rattle.mds_laws.proofs.Lists.{AllOf}
 use Rattle.mds_moves.specs.MdsMoves.{IsMdsOf, MayComeTo}
 
 -- ---- the machine, with its journal
@@ -99,9 +100,9 @@ IsAnswerKept packets uid id at bytes a = IsWriteAnswered packets uid id at bytes
 -- its call that is out was sent; a COMMIT went out behind the answers that are kept
 abbrev pub IsCallOut : List PacketValue → List MdsSend → ℕ → ℕ → List ℕ → WriterMirror → WriterCall → Type 0
 IsCallOut packets ss uid at bytes m NoCall = Unit {0}
-IsCallOut packets ss uid at bytes m (OutWrite xid write timeouts) = In (CallsServer m.id.server xid uid (Write m.id.fileid at false bytes)) ss
+IsCallOut packets ss uid at bytes m (OutWrite xid write timeouts) = IsOneOf (CallsServer m.id.server xid uid (Write m.id.fileid at false bytes)) ss
 IsCallOut packets ss uid at bytes m (OutCommit xid timeouts) =
-    In (CallsServer m.id.server xid uid (Commit m.id.fileid)) ss × AllOf (λ (a : WriteAnswer). IsAnsweredBefore packets uid m.id at bytes a.verifier xid) m.answered
+    IsOneOf (CallsServer m.id.server xid uid (Commit m.id.fileid)) ss × AllOf (λ (a : WriteAnswer). IsAnsweredBefore packets uid m.id at bytes a.verifier xid) m.answered
 
 -- a mirror of it
 pub record IsWrittenTo (packets : List PacketValue) (ss : List MdsSend) (uid at : ℕ) (bytes : List ℕ) (failures : List (MirrorId × LeftCause)) (m : WriterMirror) : Type 0 where

@@ -7,6 +7,7 @@ use Rattle.cluster_model.specs.declared.ids.NodeId.TheVariants.{Mds, Server, Cli
 use Rattle.cluster_model.specs.declared.ds_call.Shown.{Shown}
 use Rattle.cluster_model.specs.declared.entry.Entry.{Entry}
 use Rattle.cluster_model.specs.DsCalls.{DsCallValue, Create, SetAttr, Write, Commit, Read, DsReplyValue}
+use Rattle.cluster_model.specs.Members.{IsOneOf}
 use Rattle.cluster_laws.specs.Machine.{Machine, Move, new_machine, machine_after, fresh_of, ctime_in}
 use Rattle.cluster_laws.specs.CallRanges.{AreServersInRange}
 use Rattle.cluster_laws.specs.FenceLaw.{new_servers}
@@ -25,7 +26,7 @@ use Rattle.mds_rule.specs.Spelled.{mds_name}
 use Rattle.mds_rule.specs.Answers.{attributes_shown, own_answer}
 use Rattle.mds_laws.specs.MdsRuns.{MdsInput, MdsEvent, Hears, IsTimedOut, Ticks, RecallsFile, Resilvers, after_event}
 use Rattle.mds_laws.specs.MdsRunLaws.{number_sent, AreBelow}
-use Rattle.mds_laws.proofs.Lists.{In, AllOf}
+use Rattle.mds_laws.proofs.Lists.{AllOf}
 use Rattle.mds_laws.proofs.Keeping.{is_read_call}
 
 -- ---- the server and the machine
@@ -113,7 +114,7 @@ IsServedInRange s = IsWaitingInRange s.write
 
 -- two that were sent under one number are the same
 abbrev pub NumbersOnce : List MdsSend → Type 0
-NumbersOnce ss = (a b : MdsSend) (xid : ℕ) → In a ss → In b ss → number_sent a ≡ Some xid → number_sent b ≡ Some xid → a ≡ b
+NumbersOnce ss = (a b : MdsSend) (xid : ℕ) → IsOneOf a ss → IsOneOf b ss → number_sent a ≡ Some xid → number_sent b ≡ Some xid → a ≡ b
 
 -- by the parts of the server that it is about
 pub record IsServerOf (mc : Machine) (servers : List AddressValue) (mirrors : ℕ) (all : List ServedFile) (next : Fresh) (awaited : List AwaitedCall) (next_xid : ℕ) (ss : List MdsSend) : Type 0 where
@@ -125,7 +126,7 @@ pub record IsServerOf (mc : Machine) (servers : List AddressValue) (mirrors : �
   pub below : not (next_xid == 0) ≡ true → AreBelow next_xid ss
   pub few : next_xid ≤ 4294967295
   pub once : NumbersOnce ss
-  pub calls : (call : AwaitedCall) → In call awaited → In call.sent ss × IsAwaitedFor call
+  pub calls : (call : AwaitedCall) → IsOneOf call awaited → IsOneOf call.sent ss × IsAwaitedFor call
   pub writes : AllOf IsServedInRange all
   pub sent : AllOf (IsSentIn mc) ss
 
@@ -172,7 +173,7 @@ pub record AnswersSend (mc : Machine) (ss : List MdsSend) (server : ℕ) (bytes 
   pub reply : RpcReply
   pub reads : incoming_of bytes ≡ IsReply reply
   pub sent : MdsSend
-  pub inside : In sent ss
+  pub inside : IsOneOf sent ss
   pub number : number_sent sent ≡ Some reply.xid
   pub answers : IsSendAnswered mc server (λ call. reply_of_call call reply) sent
 

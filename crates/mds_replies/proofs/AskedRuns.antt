@@ -6,6 +6,7 @@ use Rattle.rpc_record.specs.Replies.{RpcReply}
 use Rattle.compound_reply.specs.Replied.{success_reply}
 use Rattle.cluster_model.specs.declared.ids.NodeId.{NodeId}
 use Rattle.cluster_model.specs.declared.entry.Entry.{Entry}
+use Rattle.cluster_model.specs.Members.{IsOneOf}
 use Rattle.device_addr.specs.Universal.{AddressValue}
 use Rattle.nfs4_types.specs.declared.ids.SessionId.{SessionId}
 use Rattle.nfs4_types.specs.declared.status.Stat4.{Stat4}
@@ -27,7 +28,7 @@ use Rattle.mds_rule.specs.MdsStates.{CompoundRun, WaitingRead, WaitingWrite, Ser
 use Rattle.mds_rule.specs.OpSteps.{with_result, refused_as}
 use Rattle.mds_rule.specs.Compounds.{compound_bytes, kept_in_slot, sequenced}
 use Rattle.mds_laws.specs.MdsRuns.{MdsInput, MdsEvent, Hears, IsTimedOut, Ticks, RecallsFile, Resilvers, after_event}
-use Rattle.mds_laws.proofs.Lists.{In, AllOf}
+use Rattle.mds_laws.proofs.Lists.{AllOf}
 use Rattle.mds_laws.proofs.Keeping.{Keeps, IsNoRequest}
 use Rattle.mds_replies.specs.ClientCalls.{IsCallFrom, server_after, IsEventOf}
 use Rattle.mds_replies.specs.SlotReplies.{request_of}
@@ -157,7 +158,7 @@ module _ (servers : List AddressValue) (mirrors : ℕ) (past : List MdsEvent) (e
 
   record EventSo : Type 0 where
     next : FilesWait (past ++ e ∷ []) (server_after servers mirrors (past ++ e ∷ []))
-    replies : (node : NodeId) (reply : RpcReply) → In (Replies node reply) (after_event e (server_after servers mirrors past)).sends → Asked node reply
+    replies : (node : NodeId) (reply : RpcReply) → IsOneOf (Replies node reply) (after_event e (server_after servers mirrors past)).sends → Asked node reply
 
   ended_so : Keeps So (server_after servers mirrors past) (after_event e (server_after servers mirrors past)) → EventSo
   ended_so q =

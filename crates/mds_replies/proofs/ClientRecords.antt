@@ -1,26 +1,27 @@
 -- Whose each id of a client is, in every run: a record keeps its owner and its verifier, no two records have one id, and an id is not given
 -- again.
 use Rattle.std.proofs.Common.{◌≡◌, ◌≤◌, ℕ, ◌+◌, List, sym, ap, ◌∙◌, arith, subst}
+use Rattle.cluster_model.specs.Members.{IsOneOf}
 use Rattle.nfs4_session.specs.Clients.{ClientState, SessionsState, client_id}
 use Rattle.nfs4_session.specs.ExchangeIds.{new_client}
 use Rattle.nfs4_session.specs.TableLaw.{TableMove, table_after}
-use Rattle.mds_laws.proofs.Lists.{In, all_in}
+use Rattle.mds_laws.proofs.Lists.{all_in}
 use Rattle.mds_replies.proofs.TableKeys.{FitsWord, Came, Was, IsNew, verifier_of, owner_of, came_with, grows_with}
 
 pub record IsTable (s : SessionsState) : Type 0 where
   pub boot : s.boot ≡ 1
   pub few : s.ids ≤ 4294967295
-  pub ids : (c : ClientState) → In c s.clients → c.id ≤ client_id 1 s.ids
-  pub sequences : (c : ClientState) → In c s.clients → FitsWord c
-  pub pairs : (c d : ClientState) → In c s.clients → In d s.clients → c.id ≡ d.id → (c.owner ≡ d.owner) × (c.verifier ≡ d.verifier)
+  pub ids : (c : ClientState) → IsOneOf c s.clients → c.id ≤ client_id 1 s.ids
+  pub sequences : (c : ClientState) → IsOneOf c s.clients → FitsWord c
+  pub pairs : (c d : ClientState) → IsOneOf c s.clients → IsOneOf d s.clients → c.id ≡ d.id → (c.owner ≡ d.owner) × (c.verifier ≡ d.verifier)
 
 -- this id is of this owner and verifier
 pub record IsOwn (id : ℕ) (owner verifier : List ℕ) (s : SessionsState) : Type 0 where
   pub given : id ≤ client_id 1 s.ids
-  pub its : (c : ClientState) → In c s.clients → c.id ≡ id → (c.owner ≡ owner) × (c.verifier ≡ verifier)
+  pub its : (c : ClientState) → IsOneOf c s.clients → c.id ≡ id → (c.owner ≡ owner) × (c.verifier ≡ verifier)
 
 module _ (s : SessionsState) (move : TableMove) where
-  pub came : (d : ClientState) → In d (table_after s move).clients → Came s (table_after s move).ids (verifier_of move) (owner_of move) d
+  pub came : (d : ClientState) → IsOneOf d (table_after s move).clients → Came s (table_after s move).ids (verifier_of move) (owner_of move) d
   came d inside = all_in (Came s (table_after s move).ids (verifier_of move) (owner_of move)) (table_after s move).clients d (came_with s move) inside
 
   new_id : s.boot ≡ 1 → (d : ClientState) (now : ℕ) → d ≡ new_client s (verifier_of move) (owner_of move) now → d.id ≡ client_id 1 (s.ids + 1)
@@ -35,7 +36,7 @@ module _ (s : SessionsState) (move : TableMove) where
     sequence_within d (Was c inside key) = key.sequence (i.sequences c inside)
     sequence_within d (IsNew now is new) = subst FitsWord (sym is) (omega arith, tt)
 
-    not_new : (c d x : ClientState) (now : ℕ) → In x s.clients → c.id ≡ x.id → d ≡ new_client s (verifier_of move) (owner_of move) now → c.id ≡ d.id → ⊥
+    not_new : (c d x : ClientState) (now : ℕ) → IsOneOf x s.clients → c.id ≡ x.id → d ≡ new_client s (verifier_of move) (owner_of move) now → c.id ≡ d.id → ⊥
     not_new c d x now inside same is one =
         let old : x.id ≤ client_id 1 s.ids = i.ids x inside in
         let new : d.id ≡ client_id 1 (s.ids + 1) = new_id i.boot d now is in

@@ -19,6 +19,7 @@ use Rattle.cluster_model.specs.declared.layout_state.LayoutState.{LayoutState}
 use Rattle.cluster_model.specs.declared.layout_state.LayoutPhase.{LayoutPhase}
 use Rattle.cluster_model.specs.declared.layout_state.LayoutPhase.TheVariants.{Free, Held}
 use Rattle.cluster_model.specs.Phases.{holder_of}
+use Rattle.cluster_model.specs.Members.{IsOneOf}
 use Rattle.file_rule.specs.declared.fresh.Fresh.{Fresh}
 use Rattle.file_rule.specs.MdsFiles.{MdsFile, FileStep}
 use Rattle.file_rule.specs.FilePhases.{FileInput, AsksLayout, Returns, Answers as IsAnswer, OwnEnds, TimesOut, Sees, are_spent, new_mds_file, phase}
@@ -54,7 +55,7 @@ use Rattle.mds_rule.specs.LayoutOps.{with_holder}
 use Rattle.mds_rule.specs.Compounds.{operate, has_session, operates, compound_bytes, kept_in_slot, finishes, op_then, with_ops, runs, sequence_in, in_slot, sequenced, sequence_of, may_stand_alone, first_alone, first_by, first_operation, new_run}
 use Rattle.mds_laws.specs.MdsRuns.{MdsInput, MdsEvent, Hears, IsTimedOut, Ticks as IsTick, RecallsFile, Resilvers, by_input, after_event, run_from}
 use Rattle.mds_laws.specs.SlotUses.{first_request}
-use Rattle.mds_laws.proofs.Lists.{In, AllOf, all_push, all_set, all_got}
+use Rattle.mds_laws.proofs.Lists.{AllOf, all_push, all_set, all_got}
 use Rattle.mds_laws.proofs.Keeping.{HeardAny, Becomes, Keeps, KeepsOp, TakesInput, hears_any, then_keeps, same, becomes_keeps, enters_keeps, stays}
 use Rattle.mds_laws.proofs.OpsWalk.{place_served}
 use Rattle.mds_laws.proofs.Requested.{behind_request, behind_begin}
@@ -99,7 +100,7 @@ not_free p n x free held = not_so (sym (ap is_free free) ∙ ap is_free held)
 -- who is found among those that are confirmed
 record IsAmong (client : ℕ) (node : NodeId) (confirmed : List (ℕ × NodeId)) : Type 0 where
   pub p : ℕ × NodeId
-  pub inside : In p confirmed
+  pub inside : IsOneOf p confirmed
   pub id : client ≡ p.0
   pub from : p.1 ≡ node
 
@@ -131,7 +132,7 @@ module _ (Ok : ℕ → NodeId → Type 0) where
 
   pub record Mine (files : List ServedFile) (confirmed : List (ℕ × NodeId)) : Type 0 where
     pub waits : AllOf (λ (s : ServedFile). AllWait W s.reads s.write) files
-    pub from : (p : ℕ × NodeId) → In p confirmed → Ok p.0 p.1
+    pub from : (p : ℕ × NodeId) → IsOneOf p confirmed → Ok p.0 p.1
     pub held : AllOf HeldSo files
 
   abbrev pub IsSo : MdsValue → List Entry → List MdsSend → Type 0
@@ -223,13 +224,13 @@ module _ (Ok : ℕ → NodeId → Type 0) where
     i.0,
     record {
       waits = i.1.waits;
-      from = cond_both (is_some (lookup (nat_eq client) m.confirmed)) m.confirmed (m.confirmed ++ (client, node) ∷ []) (λ (l : List (ℕ × NodeId)). (p : ℕ × NodeId) → In p l → Ok p.0 p.1) (λ is. i.1.from)
+      from = cond_both (is_some (lookup (nat_eq client) m.confirmed)) m.confirmed (m.confirmed ++ (client, node) ∷ []) (λ (l : List (ℕ × NodeId)). (p : ℕ × NodeId) → IsOneOf p l → Ok p.0 p.1) (λ is. i.1.from)
           (λ off p inside. by_place p (in_pushed p (client, node) m.confirmed inside));
       held = i.1.held;
     },
   )
     where
-      by_place : (p : ℕ × NodeId) → In p m.confirmed ⊎ (p ≡ (client, node)) → Ok p.0 p.1
+      by_place : (p : ℕ × NodeId) → IsOneOf p m.confirmed ⊎ (p ≡ (client, node)) → Ok p.0 p.1
       by_place p (inl was) = i.1.from p was
       by_place p (inr is) = subst (λ (q : ℕ × NodeId). Ok q.0 q.1) (sym is) may
 

@@ -8,10 +8,11 @@ use Rattle.std.proofs.lemmas.Nat.{from_be_bytes-to_be_bytes_8}
 use Rattle.std.proofs.lemmas.List.{length-append}
 use Rattle.ff_xdr.specs.Form.{long}
 use Rattle.ff_xdr.proofs.CutShort.{length-long}
+use Rattle.cluster_model.specs.Members.{IsOneOf}
 use Rattle.nfs4_session.specs.declared.client.TheConstants.{MAX_SESSIONS}
 use Rattle.nfs4_session.specs.Clients.{ClientState, MadeSession, SessionsState, client_id, session_id, client_in, number_in, has_id}
 use Rattle.nfs4_session.specs.CreateSessions.{CreateSessionCase, IsDue, IsReplay, IsMisordered, HasNoRoom, IsStale, numbers_are_spent, case_by_next, case_by_last, case_by_client, create_session_case}
-use Rattle.mds_laws.proofs.Lists.{In, found_in, found_passes}
+use Rattle.mds_laws.proofs.Lists.{found_in, found_passes}
 use Rattle.mds_replies.proofs.TableKeys.{FitsMade}
 use Rattle.mds_replies.proofs.ClientRecords.{IsTable}
 
@@ -55,10 +56,10 @@ Says s client sequence HasNoRoom = Unit {0}
 Says s client sequence IsStale = Unit {0}
 
 module _ (s : SessionsState) (t : IsTable s) (client sequence : ℕ) where
-  known : (c : ClientState) → In c s.clients → c.id ≡ client → sequence < 4294967296 → IsKnown s client sequence
+  known : (c : ClientState) → IsOneOf c s.clients → c.id ≡ client → sequence < 4294967296 → IsKnown s client sequence
   known c inside is fits = record { within = subst (λ (n : ℕ). n ≤ client_id 1 s.ids) is (t.ids c inside); fits = fits }
 
-  next_says : (c : ClientState) → In c s.clients → c.id ≡ client → Says s client sequence (case_by_next s c sequence)
+  next_says : (c : ClientState) → IsOneOf c s.clients → c.id ≡ client → Says s client sequence (case_by_next s c sequence)
   next_says c inside is =
       cond_both (not (sequence == c.sequence)) IsMisordered (if nat_lt (length c.sessions) MAX_SESSIONS && not (numbers_are_spent s) then IsDue c else HasNoRoom) (Says s client sequence) (λ off. tt)
       (λ on.
@@ -69,7 +70,7 @@ module _ (s : SessionsState) (t : IsTable s) (client sequence : ℕ) where
       it_is true is = refl
       it_is false is = absurd cc
 
-  last_says : (c : ClientState) → In c s.clients → c.id ≡ client → (made : Option MadeSession) → c.made ≡ made → Says s client sequence (case_by_last s c sequence made)
+  last_says : (c : ClientState) → IsOneOf c s.clients → c.id ≡ client → (made : Option MadeSession) → c.made ≡ made → Says s client sequence (case_by_last s c sequence made)
   last_says c inside is None at = next_says c inside is
   last_says c inside is (Some made) at =
       cond_both (sequence == made.sequence) (IsReplay made.number) (case_by_next s c sequence) (Says s client sequence)

@@ -9,6 +9,7 @@ use Rattle.std.proofs.lemmas.Slice.Eq.{bytes_eq-Decides}
 use Rattle.ff_xdr.specs.Form.{Fits, long, spelling}
 use Rattle.rpc_record.specs.Replies.{RpcReply}
 use Rattle.cluster_model.specs.declared.ids.NodeId.{NodeId}
+use Rattle.cluster_model.specs.Members.{IsOneOf}
 use Rattle.nfs4_types.specs.declared.status.Stat4.TheVariants as stat
 use Rattle.nfs4_compound.specs.declared.stop.Stop.TheVariants as stop
 use Rattle.nfs4_compound.specs.Compounds.{compound4_res}
@@ -26,7 +27,7 @@ use Rattle.mds_rule.specs.SessionOps.{exchange_flags, exchange_result, with_exch
 use Rattle.mds_rule.specs.Compounds.{op_then, runs}
 use Rattle.mds_rule.specs.Goes.{calls_out}
 use Rattle.mds_laws.specs.MdsRuns.{MdsEvent, after_event}
-use Rattle.mds_laws.proofs.Lists.{In, found_in, found_passes}
+use Rattle.mds_laws.proofs.Lists.{found_in, found_passes}
 use Rattle.mds_replies.proofs.OutCalls.{AreCalled}
 use Rattle.mds_replies.proofs.ReplySent.{run_of_call, reply_is, read_as}
 use Rattle.mds_replies.proofs.ClientRecords.{IsTable}
@@ -34,7 +35,7 @@ use Rattle.mds_replies.proofs.ClientRecords.{IsTable}
 -- ---- the record that is given
 
 pub data IsGiven (s : SessionsState) (verifier owner : List ℕ) (now ids : ℕ) (g : ClientState) : Type 0 where
-  OfOld : (c : ClientState) → In c s.clients → c.owner ≡ owner → c.verifier ≡ verifier → g.id ≡ c.id → g.sequence ≡ c.sequence → IsGiven s verifier owner now ids g
+  OfOld : (c : ClientState) → IsOneOf c s.clients → c.owner ≡ owner → c.verifier ≡ verifier → g.id ≡ c.id → g.sequence ≡ c.sequence → IsGiven s verifier owner now ids g
   OfNew : g ≡ new_client s verifier owner now → ids ≡ s.ids + 1 → IsGiven s verifier owner now ids g
 
 module _ (s : SessionsState) (verifier owner : List ℕ) (now : ℕ) where
@@ -136,7 +137,7 @@ module _ (e : MdsEvent) (m : MdsValue) (node : NodeId) (xid : ℕ) (owner : List
       not_so : false ≡ true → ⊥
       not_so is = absurd cc
 
-  by_fault : (fault : Option IdFault) → exchange_fault m.sessions (exchange_case m.sessions.clients (long verifier) owner) ≡ fault → after_event e m ≡ and_then (stepped fault) (calls_out []) → (reply : RpcReply) → In (Replies node reply) (after_event e m).sends
+  by_fault : (fault : Option IdFault) → exchange_fault m.sessions (exchange_case m.sessions.clients (long verifier) owner) ≡ fault → after_event e m ≡ and_then (stepped fault) (calls_out []) → (reply : RpcReply) → IsOneOf (Replies node reply) (after_event e m).sends
       → (reply_of_ask ask.ExchangeId reply).answer ≡ Client client sequence → Gave e m owner verifier client sequence
   by_fault (Some fault) at is reply sent says =
       absurd (not_refused reply (reply_is e m (stepped (Some fault)) node node reply (success_reply xid (spelling compound4_res (10006, ([], refused_as 42 stat.ServerFault ∷ [])))) is refl called sent) says)
@@ -156,5 +157,5 @@ module _ (e : MdsEvent) (m : MdsValue) (node : NodeId) (xid : ℕ) (owner : List
             ∙ ap (λ (f : Option IdFault). (calls_out [] (record m { sessions = exchanged_unless m.sessions (after_exchange m.sessions (long verifier) owner e.now (exchange_case m.sessions.clients (long verifier) owner)) f })).mds) (sym at);
       }
 
-  pub gave : (reply : RpcReply) → In (Replies node reply) (after_event e m).sends → (reply_of_ask ask.ExchangeId reply).answer ≡ Client client sequence → Gave e m owner verifier client sequence
+  pub gave : (reply : RpcReply) → IsOneOf (Replies node reply) (after_event e m).sends → (reply_of_ask ask.ExchangeId reply).answer ≡ Client client sequence → Gave e m owner verifier client sequence
   gave = by_fault (exchange_fault m.sessions (exchange_case m.sessions.clients (long verifier) owner)) refl came

@@ -7,6 +7,7 @@ use Rattle.cluster_model.specs.declared.ids.NodeId.{NodeId}
 use Rattle.cluster_model.specs.declared.ids.NodeId.TheVariants.{Server}
 use Rattle.cluster_model.specs.declared.ids.FileId.{FileId}
 use Rattle.cluster_model.specs.declared.entry.Entry.{Entry}
+use Rattle.cluster_model.specs.Members.{IsOneOf}
 use Rattle.file_rule.specs.MdsFiles.{FileStep}
 use Rattle.file_rule.specs.FilePhases.{FileInput, AsksLayout, Returns, Answers as IsAnswer, TimesOut, Sees, phase, OwnEnds}
 use Rattle.mds_rows.specs.Draws.{drawn}
@@ -18,7 +19,7 @@ use Rattle.mds_rule.specs.MdsStates.{ServedFile, MdsSend, CallsServer, CallsBack
 use Rattle.mds_rule.specs.declared.waiter.Waiter.TheVariants.{ForFile, ForRead, ForWrite, ForRecall}
 use Rattle.mds_rule.specs.ServedFiles.{has_fresh, is_period_end, file_behind, file_stepped, input_at}
 use Rattle.mds_laws.specs.MdsRuns.{MdsInput, MdsEvent, Hears, IsTimedOut, Ticks, RecallsFile, Resilvers, after_event}
-use Rattle.mds_laws.proofs.Lists.{In, AllOf, all_push, all_in}
+use Rattle.mds_laws.proofs.Lists.{AllOf, all_push, all_in}
 use Rattle.mds_laws.proofs.Keeping.{HeardAny, Keeps, becomes_keeps, hears_any}
 use Rattle.mds_laws.proofs.Numbers.{WereSent, sent_more, sent_with, sent_without}
 use Rattle.mds_laws.proofs.Requested.{behind_begin}
@@ -112,7 +113,7 @@ module _ (P : MdsSend → Type 0) (called : (s : MdsSend) → IsCall s → P s) 
         becomes_keeps IsSo m (behind_begin e.now e.input m) (after_event e m) (begin_kept IsSo HeardAny AnyCompound cases (λ n request now es ss i. i) e.now e.input m)
         (input_walk IsSo HeardAny AnyCompound cases (waiting_walk IsSo HeardAny AnyCompound cases runs) e.now e.input m (hears_any IsSo e.input) (runs_at e.input refl m))
 
-    sent_so : (m : MdsValue) → AreCalled m.calls → (s : MdsSend) → In s (after_event e m).sends → P s
+    sent_so : (m : MdsValue) → AreCalled m.calls → (s : MdsSend) → IsOneOf s (after_event e m).sends → P s
     sent_so m are s inside =
         let old : List MdsSend = sent_with_calls m.calls in
         let k : Stands P (after_event e m).mds.calls (old ++ (after_event e m).sends) = keeps m [] old (record { all = calls_so P called m.calls are; were = λ call its. in_sent call m.calls its }) in

@@ -14,6 +14,7 @@ use Rattle.cluster_model.specs.declared.entry.Entry.{Entry}
 use Rattle.cluster_model.specs.declared.entry.Entry.TheVariants as entry
 use Rattle.file_rule.specs.FilePhases.{CallOut, call_out, Revokes, Resilver, Ticks}
 use Rattle.rpc_record.specs.Replies.{RpcReply}
+use Rattle.cluster_model.specs.Members.{IsOneOf}
 use Rattle.ds_calls.specs.GivenReplies.{reply_of_call}
 use Rattle.recall_calls.specs.RecallAnswers.{recall_status}
 use Rattle.mds_io.specs.Reads.{ReadSends}
@@ -46,7 +47,7 @@ use Rattle.mds_laws.proofs.Keeping.{Becomes, Keeps, KeepsBehind, HeardOf, HeardA
 use Rattle.mds_replies.proofs.FewBytes.{reply_few}
 use Rattle.mds_replies.proofs.HolderCases.{Cases, RunCases, GivesAnswers, WaitCases, OutCases, out_of}
 use Rattle.mds_replies.proofs.WaitingCompounds.{set_same}
-use Rattle.mds_laws.proofs.Lists.{In, found_in}
+use Rattle.mds_laws.proofs.Lists.{found_in}
 use Rattle.mds_replies.proofs.ServedWalk.{takes, asks, client_ends, recalls_become}
 use Rattle.mds_laws.proofs.OpsWalk.{old_write}
 use Rattle.mds_laws.proofs.WriterKept.{sends_of, read_of}
@@ -143,7 +144,7 @@ module _ (I : MdsValue → List Entry → List MdsSend → Type 0) (k : OutCases
   sends_again : (m : MdsValue) (s : MdsSend) → KeepsBehind I s m (record { mds = m; entries = []; sends = s ∷ [] })
   sends_again m s es ss was i = subst (λ (l : List Entry). I m l (ss ++ s ∷ [])) (sym (append-nil es)) (k.again m s es ss i was)
 
-  repeat_walk : (m : MdsValue) (o : Option AwaitedCall) → ((call : AwaitedCall) → o ≡ Some call → In call m.calls) → Keeps I m (repeats_call m o)
+  repeat_walk : (m : MdsValue) (o : Option AwaitedCall) → ((call : AwaitedCall) → o ≡ Some call → IsOneOf call m.calls) → Keeps I m (repeats_call m o)
   repeat_walk m None inside = same I m
   repeat_walk m (Some call) inside = λ es ss i. sends_again m call.sent es ss (k.was m es ss i call (inside call refl)) i
 
@@ -194,7 +195,7 @@ module _ (I : MdsValue → List Entry → List MdsSend → Type 0) (Heard : Hear
       again : MdsStep
       again = record { mds = m; entries = []; sends = call.sent ∷ [] }
 
-  late_walk : (now : ℕ) (m : MdsValue) (call : AwaitedCall) → In call m.calls → Keeps I m (times_out now m (Some call))
+  late_walk : (now : ℕ) (m : MdsValue) (call : AwaitedCall) → IsOneOf call m.calls → Keeps I m (times_out now m (Some call))
   late_walk now m call inside es ss i =
       let timed : MdsStep = timed_out_for now m call.xid call.caller in
       let again : MdsStep = and_then timed (goes_again call) in
@@ -202,7 +203,7 @@ module _ (I : MdsValue → List Entry → List MdsSend → Type 0) (Heard : Hear
       (behind_then I call.sent m again (calls_out []) (then_behind I call.sent m timed (goes_again call) (timeout_walk I Heard W k g now m call.xid call.caller) (λ n. again_walk call n)) (λ n. out_walk I (out_of I Heard W k) [] n))
       es ss (k.was m es ss i call inside) i
 
-  times_walk : (now : ℕ) (m : MdsValue) (o : Option AwaitedCall) → ((call : AwaitedCall) → o ≡ Some call → In call m.calls) → Keeps I m (times_out now m o)
+  times_walk : (now : ℕ) (m : MdsValue) (o : Option AwaitedCall) → ((call : AwaitedCall) → o ≡ Some call → IsOneOf call m.calls) → Keeps I m (times_out now m o)
   times_walk now m None inside = same I m
   times_walk now m (Some call) inside = late_walk now m call (inside call refl)
 

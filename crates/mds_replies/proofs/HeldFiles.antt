@@ -27,13 +27,14 @@ use Rattle.cluster_model.specs.declared.layout_state.LayoutPhase.TheVariants.{He
 use Rattle.cluster_model.specs.DsCalls.{DsReplyValue}
 use Rattle.cluster_model.specs.Fences.{is_out, FenceState, outstanding_at, on_reply, on_timeout, without, is_done}
 use Rattle.cluster_model.specs.Phases.{holder_of, left_with, is_last_live, is_clean, unreported, is_source, left_entries, reported_cause, end_entries, returned, revoked, phase_without, mirror_left, fenced_to, fence_done}
+use Rattle.cluster_model.specs.Members.{IsOneOf}
 use Rattle.file_rule.specs.declared.fresh.Fresh.{Fresh}
 use Rattle.file_rule.specs.MdsFiles.{Activity, Idle, Makes, Fences, Settles, Copies, MdsFile, FileStep, nothing, stays, a_uid, goes_fencing, goes_on, with_entries, fenced_on, fence_stepped, shown_by_set, seen_by, mirror_at, source_left, settling_timed_out, shown_by_commit, seen_at_source, settling_answered}
 use Rattle.file_rule.specs.FilePhases.{FileInput, AsksLayout, OwnWrite, Recall, Returns, Revokes, OwnEnds, Resilver, Answers, TimesOut, Ticks, Sees, asked_in, held_in, by_client, by_mds, recalled_row, returned_row, revoked_row, own_row, resilvered_in, kind_of, settles_by, answered_in, timed_out_in, phase}
-use Rattle.mds_laws.proofs.Lists.{In, in_last}
+use Rattle.mds_laws.proofs.Lists.{in_last}
 use Rattle.mds_replies.proofs.NowUids.{is_making, Agrees}
 
-pub in_behind : {A : Type 0} (x : A) (front xs : List A) → In x xs → In x (front ++ xs)
+pub in_behind : {A : Type 0} (x : A) (front xs : List A) → IsOneOf x xs → IsOneOf x (front ++ xs)
 in_behind x [] xs inside = inside
 in_behind x (y ∷ front) xs inside = inr (in_behind x front xs inside)
 
@@ -41,7 +42,7 @@ in_behind x (y ∷ front) xs inside = inr (in_behind x front xs inside)
 
 pub record HasEnd (file : FileId) (cred : Cred) (entries : List Entry) : Type 0 where
   pub cause : EndCause
-  pub there : In (entry.Ended file cred cause) entries
+  pub there : IsOneOf (entry.Ended file cred cause) entries
 
 -- held by this client, under this uid
 pub record IsHeld (n : ℕ) (cred : Cred) (s : LayoutState) : Type 0 where

@@ -16,6 +16,7 @@ use Rattle.cluster_model.specs.declared.layout_state.LayoutPhase.TheVariants.{Fr
 use Rattle.cluster_model.specs.declared.entry.Entry.{Entry}
 use Rattle.cluster_model.specs.DsCalls.{DsCallValue, DsReplyValue}
 use Rattle.cluster_model.specs.declared.ds_call.Shown.{Shown}
+use Rattle.cluster_model.specs.Members.{IsOneOf}
 use Rattle.file_rule.specs.FilePhases.{FileInput, AsksLayout, OwnWrite, Recall as ToRecall, Returns, Revokes, OwnEnds, Resilver, Answers as IsAnswer, TimesOut, Ticks, Sees, CallOut, call_out, is_outstanding, are_spent}
 use Rattle.mirror_writer.specs.Writers.{WriterSends}
 use Rattle.mirror_writer.specs.Writers as writer
@@ -38,7 +39,6 @@ use Rattle.mds_rule.specs.FileOps.{with_new_file, may_make}
 use Rattle.mds_rule.specs.Answers.{server_number, fileid_of, attributes_shown, own_answer, resumes, is_done_as, has_failed_as, failures_by_place}
 use Rattle.mds_rule.specs.Goes.{xid_after, calls_as, calls_server, has_xids}
 use Rattle.mds_laws.specs.MdsRunLaws.{IsUidOf}
-use Rattle.mds_laws.proofs.Lists.{In}
 use Rattle.mds_replies.proofs.LegibleResults.{IsLegible}
 use Rattle.mds_laws.proofs.Keeping.{is_note, is_write_call, is_read_call, IsWriteOf, Becomes, Enters, Keeps, IsNoRequest, moved, TakesInput, HeardOf}
 
@@ -60,16 +60,16 @@ comes_unasked (Sees id seen) = false
 
 -- each of them is so
 pub record AllWait (W : CompoundRun → Type 0) (reads : List WaitingRead) (write : Option WaitingWrite) : Type 0 where
-  pub reads_so : (r : WaitingRead) → In r reads → W r.compound
+  pub reads_so : (r : WaitingRead) → IsOneOf r reads → W r.compound
   pub write_so : (w : WaitingWrite) → write ≡ Some w → W w.compound
 
 -- of reads that are so, these are of the same compounds
 abbrev pub SameCompounds : List WaitingRead → List WaitingRead → Type 0
-SameCompounds old new = (r : WaitingRead) → In r new → (was : WaitingRead) × In was old × (r.compound ≡ was.compound)
+SameCompounds old new = (r : WaitingRead) → IsOneOf r new → (was : WaitingRead) × IsOneOf was old × (r.compound ≡ was.compound)
 
 -- no client is confirmed from another node
 abbrev pub NoneNew : List (ℕ × NodeId) → List (ℕ × NodeId) → Type 0
-NoneNew old new = (p : ℕ × NodeId) → In p new → In p old
+NoneNew old new = (p : ℕ × NodeId) → IsOneOf p new → IsOneOf p old
 
 -- any compound
 abbrev pub AnyCompound : CompoundRun → Type 0
@@ -178,8 +178,8 @@ pub record Cases (I : MdsValue → List Entry → List MdsSend → Type 0) (Hear
   pub skips : (m : MdsValue) → has_xids m ≡ true → Becomes I m (record m { next_xid = xid_after m.next_xid })
   -- a call is forgotten, or goes out again
   pub forgets : (m : MdsValue) (node : NodeId) (xid : ℕ) → Becomes I m (record m { calls = without_call node xid m.calls })
-  pub was : (m : MdsValue) (es : List Entry) (ss : List MdsSend) → I m es ss → (call : AwaitedCall) → In call m.calls → In call.sent ss
-  pub again : (m : MdsValue) (s : MdsSend) (es : List Entry) (ss : List MdsSend) → I m es ss → In s ss → I m es (ss ++ s ∷ [])
+  pub was : (m : MdsValue) (es : List Entry) (ss : List MdsSend) → I m es ss → (call : AwaitedCall) → IsOneOf call m.calls → IsOneOf call.sent ss
+  pub again : (m : MdsValue) (s : MdsSend) (es : List Entry) (ss : List MdsSend) → I m es ss → IsOneOf s ss → I m es (ss ++ s ∷ [])
 
 -- what is answered at once is answered by a reply
 abbrev pub GivesAnswers : (MdsValue → List Entry → List MdsSend → Type 0) → Type 0
@@ -215,8 +215,8 @@ pub record OutCases (I : MdsValue → List Entry → List MdsSend → Type 0) : 
   pub calls_back : (m : MdsValue) (node : NodeId) (back : BackCall) (file : FileId) (stateid : Stateid) → has_xids m ≡ true
       → Keeps I m (calls_as m node ForRecall (CallsBack m.next_xid back file stateid))
   pub skips : (m : MdsValue) → has_xids m ≡ true → Becomes I m (record m { next_xid = xid_after m.next_xid })
-  pub was : (m : MdsValue) (es : List Entry) (ss : List MdsSend) → I m es ss → (call : AwaitedCall) → In call m.calls → In call.sent ss
-  pub again : (m : MdsValue) (s : MdsSend) (es : List Entry) (ss : List MdsSend) → I m es ss → In s ss → I m es (ss ++ s ∷ [])
+  pub was : (m : MdsValue) (es : List Entry) (ss : List MdsSend) → I m es ss → (call : AwaitedCall) → IsOneOf call m.calls → IsOneOf call.sent ss
+  pub again : (m : MdsValue) (s : MdsSend) (es : List Entry) (ss : List MdsSend) → I m es ss → IsOneOf s ss → I m es (ss ++ s ∷ [])
 
 pub out_of : (I : MdsValue → List Entry → List MdsSend → Type 0) (Heard : HeardOf) (W : CompoundRun → Type 0) → Cases I Heard W → OutCases I
 out_of I Heard W k = record {

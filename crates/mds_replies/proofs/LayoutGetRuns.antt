@@ -13,6 +13,7 @@ use Rattle.cluster_model.specs.declared.phase.Phase.{Phase}
 use Rattle.cluster_model.specs.declared.entry.Entry.{Entry}
 use Rattle.cluster_model.specs.declared.entry.Entry.TheVariants as entry
 use Rattle.cluster_model.specs.declared.layout_state.LayoutState.{LayoutState}
+use Rattle.cluster_model.specs.Members.{IsOneOf}
 use Rattle.file_rule.specs.FilePhases.{AsksLayout}
 use Rattle.nfs4_types.specs.declared.stateid.Stateid.{Stateid}
 use Rattle.nfs4_types.specs.Stateids.{three_words}
@@ -40,7 +41,7 @@ use Rattle.mds_rule.specs.OpSteps.{OpStep, refuses, refused_as, refused_or}
 use Rattle.mds_rule.specs.FileOps.{file_or_none}
 use Rattle.mds_rule.specs.LayoutOps.{layout_found, size_for, with_holder, layout_of_file, granted_in, grants_to, is_granted, is_try_later, phase_behind, later_by}
 use Rattle.mds_rule.specs.Compounds.{operate, has_session, op_then, runs}
-use Rattle.mds_laws.proofs.Lists.{In, in_more}
+use Rattle.mds_laws.proofs.Lists.{in_more}
 use Rattle.mds_laws.proofs.OpsWalk.{served_again}
 use Rattle.mds_replies.specs.LayoutReplies.{HasPeriod}
 use Rattle.mds_replies.specs.AnsweredRequests.{IsGrantedNow}
@@ -253,7 +254,7 @@ module _ (now : ℕ) (m : MdsValue) (node : NodeId) (xid : ℕ) (pass : SlotPass
           whence = inl (
             n,
             in_more (entry.Granted file (record { 0 = t.file.layout.cred.0 }) (Client n)) x.entries []
-                (subst (λ (l : List Entry). In (entry.Granted file (record { 0 = t.file.layout.cred.0 }) (Client n)) l) (sym entries)
+                (subst (λ (l : List Entry). IsOneOf (entry.Granted file (record { 0 = t.file.layout.cred.0 }) (Client n)) l) (sym entries)
                 (inl (ap (λ (f : FileId). entry.Granted f (record { 0 = t.file.layout.cred.0 }) (Client n)) (sym one) ∙ ap (λ (s : ServedFile). entry.Granted F s.file.layout.cred (Client n)) a.is))),
           );
         }) (λ one. refl) its_root

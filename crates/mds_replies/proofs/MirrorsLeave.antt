@@ -21,12 +21,12 @@ use Rattle.cluster_model.specs.declared.layout_state.LayoutPhase.TheVariants.{He
 use Rattle.cluster_model.specs.DsCalls.{DsReplyValue}
 use Rattle.cluster_model.specs.Journal.{is_mirror}
 use Rattle.cluster_model.specs.Phases.{ids_of, is_clean, unreported, left_entries, reported_cause, left_with, returned, revoked}
+use Rattle.cluster_model.specs.Members.{IsOneOf}
 use Rattle.file_rule.specs.declared.fresh.Fresh.{Fresh}
 use Rattle.file_rule.specs.MdsFiles.{Activity, Idle, Makes, Fences, Settles, Copies, MdsFile, FileStep, nothing, a_uid, goes_fencing}
 use Rattle.file_rule.specs.FilePhases.{FileInput, AsksLayout, OwnWrite, Recall, Returns, Revokes, OwnEnds, Resilver, Answers, TimesOut, Ticks, Sees, asked_in, held_in, by_client, by_mds, recalled_row, returned_row, revoked_row, own_row, resilvered_in, kind_of, answered_in, timed_out_in, phase}
 use Rattle.layout_state.specs.Grants.{is_held}
 use Rattle.mds_rule.specs.Answers.{is_failure_of, failures_by_place}
-use Rattle.mds_laws.proofs.Lists.{In}
 use Rattle.cluster_laws.specs.FenceLaw.{live_by}
 use Rattle.cluster_laws.proofs.Lives.{own_file, ids_seen, itself}
 use Rattle.mds_replies.proofs.NowUids.{is_making}
@@ -34,7 +34,7 @@ use Rattle.mds_replies.proofs.MirrorsTold.{Fits, is_fencing}
 
 -- ---- lists
 
-same_filter : (p q : MirrorId → Bool) (ks : List MirrorId) → ((k : MirrorId) → In k ks → p k ≡ q k) → filter p ks ≡ filter q ks
+same_filter : (p q : MirrorId → Bool) (ks : List MirrorId) → ((k : MirrorId) → IsOneOf k ks → p k ≡ q k) → filter p ks ≡ filter q ks
 same_filter p q [] same = refl
 same_filter p q (k ∷ ks) same =
     ap (λ (b : Bool). cond b (k ∷ filter p ks) (filter p ks)) (same k (inl refl)) ∙ ap (λ (l : List MirrorId). cond (q k) (k ∷ l) l) (same_filter p q ks (λ x inside. same x (inr inside)))
@@ -121,12 +121,12 @@ module _ (g : MirrorId → Bool) where
       by_test true at = ap (λ (b : Bool). b && is_mirror k m.id) (ap g (sym (same_mirror k m.id at)) ∙ off)
       by_test false at = ap (λ (b : Bool). g m.id && b) at ∙ and_off (g m.id)
 
-  gone_on : (live : List Mirror) (k : MirrorId) → In k (ids_of live) → g k ≡ true → gone live k ≡ true
+  gone_on : (live : List Mirror) (k : MirrorId) → IsOneOf k (ids_of live) → g k ≡ true → gone live k ≡ true
   gone_on [] k inside on = absurd inside
   gone_on (m ∷ live) k (inl is) on = or_first (g m.id && is_mirror k m.id) (gone live k) (both_on (g m.id) (is_mirror k m.id) (ap g (sym is) ∙ on) (ap (λ (x : MirrorId). is_mirror k x) (sym is) ∙ itself k))
   gone_on (m ∷ live) k (inr inside) on = or_second (g m.id && is_mirror k m.id) (gone live k) (gone_on live k inside on)
 
-  gone_is : (live : List Mirror) (k : MirrorId) → In k (ids_of live) → gone live k ≡ g k
+  gone_is : (live : List Mirror) (k : MirrorId) → IsOneOf k (ids_of live) → gone live k ≡ g k
   gone_is live k inside = by_test (g k) refl
     where
       by_test : (b : Bool) → g k ≡ b → gone live k ≡ g k

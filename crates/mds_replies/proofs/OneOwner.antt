@@ -1,6 +1,7 @@
 -- An id of a client is given to one owner and verifier, in every run.
 use Rattle.std.proofs.Common.{◌≡◌, ◌≤◌, ℕ, ◌+◌, List, [], ◌∷◌, ◌++◌, refl, sym, ap, subst, ◌∙◌, arith}
 use Rattle.ff_xdr.specs.Form.{Value, long}
+use Rattle.cluster_model.specs.Members.{IsOneOf}
 use Rattle.device_addr.specs.Universal.{AddressValue}
 use Rattle.nfs4_compound.specs.Args.{argop4}
 use Rattle.nfs4_session.specs.Clients.{ClientState, SessionsState, client_id}
@@ -10,7 +11,6 @@ use Rattle.mds_calls.specs.MdsCalls.{ExchangeId}
 use Rattle.mds_rule.specs.MdsStates.{MdsValue, new_mds}
 use Rattle.mds_rule.specs.Goes.{calls_out}
 use Rattle.mds_laws.specs.MdsRuns.{MdsInput, MdsEvent, Hears, after_event, run_from}
-use Rattle.mds_laws.proofs.Lists.{In}
 use Rattle.mds_receive.specs.MdsReceive.{IncomingValue, IsCompound, incoming_of}
 use Rattle.mds_parts.specs.MdsResults.{in_arm}
 use Rattle.mds_replies.specs.ClientCalls.{server_after}
@@ -51,13 +51,13 @@ module _ (s : SessionsState) (t : IsTable s) (owner verifier : List ℕ) (now : 
   move = Exchanges verifier owner now
 
   -- behind the call
-  old_own : (c : ClientState) → In c s.clients → c.owner ≡ owner → c.verifier ≡ verifier → IsOwn c.id owner verifier s
+  old_own : (c : ClientState) → IsOneOf c s.clients → c.owner ≡ owner → c.verifier ≡ verifier → IsOwn c.id owner verifier s
   old_own c inside own its = record { given = t.ids c inside; its = λ d there same. let both = t.pairs d c there inside same in (both.0 ∙ own, both.1 ∙ its) }
 
   new_own : (id : ℕ) → id ≡ client_id 1 (s.ids + 1) → id ≤ client_id 1 (table_after s (Exchanges verifier owner now)).ids → IsOwn id owner verifier (table_after s (Exchanges verifier owner now))
   new_own id new given = record { given = given; its = λ d inside same. by_it d (came s (Exchanges verifier owner now) d inside) same }
     where
-      not_old : (d c : ClientState) → In c s.clients → d.id ≡ c.id → d.id ≡ id → ⊥
+      not_old : (d c : ClientState) → IsOneOf c s.clients → d.id ≡ c.id → d.id ≡ id → ⊥
       not_old d c inside old same = let within : c.id ≤ client_id 1 s.ids = t.ids c inside in omega (arith, within, old, same, new)
 
       by_it : (d : ClientState) → Came s (table_after s (Exchanges verifier owner now)).ids verifier owner d → d.id ≡ id → (d.owner ≡ owner) × (d.verifier ≡ verifier)

@@ -19,11 +19,12 @@ use Rattle.recall.specs.Recalls.{without_file}
 use Rattle.mds_rule.specs.MdsStates.{ServedFile, sends_none, served, with_served}
 use Rattle.mds_rule.specs.ServedFiles.{has_fresh, is_period_end, file_behind, file_stepped, input_at}
 use Rattle.mds_laws.specs.MdsRuns.{MdsEvent, mds_run}
-use Rattle.mds_laws.proofs.Lists.{In, in_with_call, in_filtered}
+use Rattle.mds_laws.proofs.Lists.{in_with_call, in_filtered}
 use Rattle.mds_laws.proofs.Numbers.{WereSent, sent_more, sent_with, sent_without}
 use Rattle.mds_laws.proofs.Keeping.{HeardAny}
 use Rattle.mds_replies.proofs.HolderCases.{Cases, RunCases, OutCases, AnyCompound}
 use Rattle.cluster_model.specs.declared.phase.EndCause.TheVariants.{ClientGone}
+use Rattle.cluster_model.specs.Members.{IsOneOf}
 use Rattle.mds_rule.specs.SessionOps.{gone_with}
 use Rattle.mds_replies.proofs.ServedWalk.{client_ends}
 use Rattle.mds_replies.proofs.PeriodKept.{sent_with_calls, in_sent}
@@ -36,12 +37,12 @@ IsCall (Replies node reply) = ⊥
 IsCall (Answers node bytes) = ⊥
 
 abbrev pub AreCalled : List AwaitedCall → Type 0
-AreCalled calls = (call : AwaitedCall) → In call calls → IsCall call.sent
+AreCalled calls = (call : AwaitedCall) → IsOneOf call calls → IsCall call.sent
 
 with_one : (call : AwaitedCall) (calls : List AwaitedCall) → IsCall call.sent → AreCalled calls → AreCalled (with_call call calls)
 with_one call calls is all x inside = by_place (in_with_call x call calls inside)
   where
-    by_place : In x calls ⊎ (x ≡ call) → IsCall x.sent
+    by_place : IsOneOf x calls ⊎ (x ≡ call) → IsCall x.sent
     by_place (inl old) = all x old
     by_place (inr new) = subst (λ (y : AwaitedCall). IsCall y.sent) (sym new) is
 
@@ -122,14 +123,14 @@ gone_called (Some client) m all =
 -- those before, and calls
 pub record GoesOut (old : List MdsSend) (calls : List AwaitedCall) (ss : List MdsSend) : Type 0 where
   pub called : AreCalled calls
-  pub were : (s : MdsSend) → In s ss → In s old ⊎ IsCall s
+  pub were : (s : MdsSend) → IsOneOf s ss → IsOneOf s old ⊎ IsCall s
   pub kept : WereSent calls ss
 
 module _ (old : List MdsSend) where
   abbrev pub IsOut : MdsValue → List Entry → List MdsSend → Type 0
   IsOut m es ss = GoesOut old m.calls ss
 
-  pushed : (ss : List MdsSend) (call : MdsSend) → IsCall call → ((s : MdsSend) → In s ss → In s old ⊎ IsCall s) → (s : MdsSend) → In s (ss ++ call ∷ []) → In s old ⊎ IsCall s
+  pushed : (ss : List MdsSend) (call : MdsSend) → IsCall call → ((s : MdsSend) → IsOneOf s ss → IsOneOf s old ⊎ IsCall s) → (s : MdsSend) → IsOneOf s (ss ++ call ∷ []) → IsOneOf s old ⊎ IsCall s
   pushed [] call is all s (inl same) = inr (subst IsCall (sym same) is)
   pushed [] call is all s (inr inside) = absurd inside
   pushed (x ∷ ss) call is all s (inl same) = all s (inl same)
@@ -138,11 +139,11 @@ module _ (old : List MdsSend) where
   goes_out : (calls : List AwaitedCall) (call : AwaitedCall) (ss : List MdsSend) → IsCall call.sent → GoesOut old calls ss → GoesOut old (with_call call calls) (ss ++ call.sent ∷ [])
   goes_out calls call ss is i = record { called = with_one call calls is i.called; were = pushed ss call.sent is i.were; kept = sent_with calls ss call i.kept }
 
-  out_again : (calls : List AwaitedCall) (ss : List MdsSend) (s : MdsSend) → In s ss → GoesOut old calls ss → GoesOut old calls (ss ++ s ∷ [])
+  out_again : (calls : List AwaitedCall) (ss : List MdsSend) (s : MdsSend) → IsOneOf s ss → GoesOut old calls ss → GoesOut old calls (ss ++ s ∷ [])
   out_again calls ss s inside i = record { called = i.called; were = behind_all ss i.were (i.were s inside); kept = sent_more calls ss s i.kept }
     where
-      behind_all : (xs : List MdsSend) → ((x : MdsSend) → In x xs → In x old ⊎ IsCall x) → In s old ⊎ IsCall s → (x : MdsSend) → In x (xs ++ s ∷ []) → In x old ⊎ IsCall x
-      behind_all [] all its x (inl same) = subst (λ (y : MdsSend). In y old ⊎ IsCall y) (sym same) its
+      behind_all : (xs : List MdsSend) → ((x : MdsSend) → IsOneOf x xs → IsOneOf x old ⊎ IsCall x) → IsOneOf s old ⊎ IsCall s → (x : MdsSend) → IsOneOf x (xs ++ s ∷ []) → IsOneOf x old ⊎ IsCall x
+      behind_all [] all its x (inl same) = subst (λ (y : MdsSend). IsOneOf y old ⊎ IsCall y) (sym same) its
       behind_all [] all its x (inr none) = absurd none
       behind_all (y ∷ xs) all its x (inl same) = all x (inl same)
       behind_all (y ∷ xs) all its x (inr more) = behind_all xs (λ z zs. all z (inr zs)) its x more

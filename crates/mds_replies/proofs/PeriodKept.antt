@@ -15,6 +15,7 @@ use Rattle.cluster_model.specs.declared.layout_state.LayoutState.{LayoutState}
 use Rattle.cluster_model.specs.declared.layout_state.LayoutPhase.{LayoutPhase}
 use Rattle.cluster_model.specs.declared.layout_state.LayoutPhase.TheVariants.{Free}
 use Rattle.cluster_model.specs.Phases.{holder_of}
+use Rattle.cluster_model.specs.Members.{IsOneOf}
 use Rattle.cluster_model.proofs.Elements.{slice_get-set_other, slice_get-set_same, slice_get-push}
 use Rattle.file_rule.specs.FilePhases.{Answers as IsAnswer, OwnEnds, TimesOut, Sees, FileInput, AsksLayout, Returns, new_mds_file, are_spent, phase}
 use Rattle.file_rule.specs.MdsFiles.{MdsFile, FileStep}
@@ -29,7 +30,7 @@ use Rattle.mds_rule.specs.ServedFiles.{has_fresh, is_period_end, kept_holder, fi
 use Rattle.mds_rule.specs.FileOps.{servers_of, new_served, with_new_file}
 use Rattle.mds_rule.specs.LayoutOps.{with_holder, is_granted}
 use Rattle.mds_laws.specs.MdsRuns.{MdsEvent, run_from}
-use Rattle.mds_laws.proofs.Lists.{In, in_more, AllOf, all_push, all_set, all_got}
+use Rattle.mds_laws.proofs.Lists.{in_more, AllOf, all_push, all_set, all_got}
 use Rattle.mds_laws.proofs.Keeping.{HeardAny, Enters}
 use Rattle.mds_laws.proofs.Numbers.{WereSent, sent_more, sent_with, sent_without}
 use Rattle.mds_replies.proofs.NowUids.{Agrees}
@@ -80,7 +81,7 @@ one_place a b first second same = by_numbers (is_some_number a first) (is_some_n
 abbrev pub sent_with_calls : List AwaitedCall → List MdsSend
 sent_with_calls calls = map (λ (call : AwaitedCall). call.sent) calls
 
-pub in_sent : (call : AwaitedCall) (calls : List AwaitedCall) → In call calls → In call.sent (map (λ (c : AwaitedCall). c.sent) calls)
+pub in_sent : (call : AwaitedCall) (calls : List AwaitedCall) → IsOneOf call calls → IsOneOf call.sent (map (λ (c : AwaitedCall). c.sent) calls)
 in_sent call [] inside = absurd inside
 in_sent call (c ∷ calls) (inl is) = inl (ap (λ (x : AwaitedCall). x.sent) is)
 in_sent call (c ∷ calls) (inr inside) = inr (in_sent call calls inside)

@@ -10,9 +10,10 @@ use Rattle.cluster_model.specs.declared.ids.FileId.{FileId}
 use Rattle.cluster_model.specs.declared.ids.Cred.{Cred}
 use Rattle.cluster_model.specs.declared.entry.Entry.{Entry}
 use Rattle.cluster_model.specs.declared.entry.Entry.TheVariants as entry
+use Rattle.cluster_model.specs.Members.{IsOneOf}
 use Rattle.mds_rule.specs.MdsStates.{ServedFile, MdsValue, new_mds}
 use Rattle.mds_laws.specs.MdsRuns.{MdsEvent, after_event, run_from, mds_run}
-use Rattle.mds_laws.proofs.Lists.{In, in_more}
+use Rattle.mds_laws.proofs.Lists.{in_more}
 use Rattle.mds_replies.specs.ClientCalls.{server_after}
 use Rattle.mds_replies.specs.LayoutReplies.{HasPeriod, EntersEnd, PeriodsGoOn, PeriodsEnd, PeriodsAreOwn}
 use Rattle.mds_replies.proofs.NowUids.{now_by, now_uid}
@@ -74,7 +75,7 @@ both_off : (a b : Bool) → (a || b) ≡ false → (a ≡ false) × (b ≡ false
 both_off true b is = absurd cc
 both_off false b is = (refl, is)
 
-none_in : (uid : ℕ) (es : List Entry) (e : Entry) → HasNone uid es → In e es → ends_uid uid e ≡ false
+none_in : (uid : ℕ) (es : List Entry) (e : Entry) → HasNone uid es → IsOneOf e es → ends_uid uid e ≡ false
 none_in uid [] e none inside = absurd inside
 none_in uid (x ∷ es) e none (inl is) = ap (ends_uid uid) is ∙ (both_off (ends_uid uid x) (list_any (ends_uid uid) es) none).0
 none_in uid (x ∷ es) e none (inr inside) = none_in uid es e (both_off (ends_uid uid x) (list_any (ends_uid uid) es) none).1 inside
@@ -96,7 +97,7 @@ periods_end servers mirrors before more file uid calls e other client p =
     not_ended uid (mds_run servers mirrors (before ++ more)).entries file (still_none servers mirrors (before ++ more) other client uid p)
     (record {
       cause = e.cause;
-      there = subst (λ (l : List Entry). In (entry.Ended file (record { 0 = uid }) e.cause) l) (sym (entries_behind (new_mds servers mirrors) before more))
+      there = subst (λ (l : List Entry). IsOneOf (entry.Ended file (record { 0 = uid }) e.cause) l) (sym (entries_behind (new_mds servers mirrors) before more))
           (in_more (entry.Ended file (record { 0 = uid }) e.cause) (mds_run servers mirrors before).entries (run_from (server_after servers mirrors before) more).entries e.there);
     })
 
@@ -121,6 +122,6 @@ periods_are_own servers mirrors before more file other client stranger uid calls
         absurd (not_ended uid (mds_run servers mirrors (before ++ more)).entries file (still_none servers mirrors (before ++ more) other stranger uid q)
         (record {
           cause = e.cause;
-          there = subst (λ (l : List Entry). In (entry.Ended file (record { 0 = uid }) e.cause) l) (sym (entries_behind (new_mds servers mirrors) before more))
+          there = subst (λ (l : List Entry). IsOneOf (entry.Ended file (record { 0 = uid }) e.cause) l) (sym (entries_behind (new_mds servers mirrors) before more))
               (in_behind (entry.Ended file (record { 0 = uid }) e.cause) (mds_run servers mirrors before).entries (run_from (server_after servers mirrors before) more).entries e.there);
         }))

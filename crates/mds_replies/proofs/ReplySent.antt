@@ -5,6 +5,7 @@ use Rattle.std.proofs.lemmas.Option.{same_Some}
 use Rattle.ff_xdr.specs.Form.{Value, Fits, spelling}
 use Rattle.rpc_record.specs.Replies.{RpcReply}
 use Rattle.cluster_model.specs.declared.ids.NodeId.{NodeId}
+use Rattle.cluster_model.specs.Members.{IsOneOf}
 use Rattle.nfs4_compound.specs.declared.stop.Stop.{Stop}
 use Rattle.nfs4_compound.specs.declared.stop.Stop.TheVariants as stop
 use Rattle.nfs4_compound.specs.Args.{argop4}
@@ -21,7 +22,7 @@ use Rattle.mds_rule.specs.Compounds.{first_operation, runs_compound}
 use Rattle.mds_rule.specs.Events.{takes_incoming}
 use Rattle.mds_rule.specs.Goes.{calls_out}
 use Rattle.mds_laws.specs.MdsRuns.{MdsInput, MdsEvent, by_input, after_event}
-use Rattle.mds_laws.proofs.Lists.{In, in_more}
+use Rattle.mds_laws.proofs.Lists.{in_more}
 use Rattle.mds_replies.specs.ClientCalls.{IsCallFrom}
 use Rattle.mds_replies.proofs.HeldFiles.{in_behind}
 use Rattle.mds_replies.proofs.PeriodKept.{sent_with_calls, in_sent}
@@ -55,18 +56,18 @@ event_is e m node xid name call came =
 -- ---- which replies are sent
 
 -- those that were awaited went out as calls
-pub of_calls : (calls : List AwaitedCall) (s : MdsSend) → AreCalled calls → In s (sent_with_calls calls) → IsCall s
+pub of_calls : (calls : List AwaitedCall) (s : MdsSend) → AreCalled calls → IsOneOf s (sent_with_calls calls) → IsCall s
 of_calls [] s all inside = absurd inside
 of_calls (c ∷ calls) s all (inl is) = subst IsCall (sym is) (all c (inl refl))
 of_calls (c ∷ calls) s all (inr inside) = of_calls calls s (λ call its. all call (inr its)) inside
 
-first_or_calls : (front old : List MdsSend) (s : MdsSend) → ((x : MdsSend) → In x front → IsCall x) → In s (front ++ old) → In s old ⊎ IsCall s
+first_or_calls : (front old : List MdsSend) (s : MdsSend) → ((x : MdsSend) → IsOneOf x front → IsCall x) → IsOneOf s (front ++ old) → IsOneOf s old ⊎ IsCall s
 first_or_calls [] old s all inside = inl inside
 first_or_calls (x ∷ front) old s all (inl is) = inr (all s (inl is))
 first_or_calls (x ∷ front) old s all (inr inside) = first_or_calls front old s (λ y its. all y (inr its)) inside
 
 -- behind a step, what goes out is what the step sent, and calls
-pub only_step : (s : MdsStep) (x : MdsSend) → AreCalled s.mds.calls → In x (s.sends ++ (calls_out [] s.mds).sends) → In x s.sends ⊎ IsCall x
+pub only_step : (s : MdsStep) (x : MdsSend) → AreCalled s.mds.calls → IsOneOf x (s.sends ++ (calls_out [] s.mds).sends) → IsOneOf x s.sends ⊎ IsCall x
 only_step s x called inside =
     let front : List MdsSend = sent_with_calls s.mds.calls in
     let start : GoesOut s.sends s.mds.calls (front ++ s.sends) = record {
@@ -75,7 +76,7 @@ only_step s x called inside =
       kept = λ call its. in_more call.sent front s.sends (in_sent call s.mds.calls its);
     } in
     let end : GoesOut s.sends (calls_out [] s.mds).mds.calls ((front ++ s.sends) ++ (calls_out [] s.mds).sends) = out_walk (IsOut s.sends) (outs s.sends) [] s.mds [] (front ++ s.sends) start in
-    end.were x (subst (λ (l : List MdsSend). In x l) (sym (append_assoc front s.sends (calls_out [] s.mds).sends)) (in_behind x front (s.sends ++ (calls_out [] s.mds).sends) inside))
+    end.were x (subst (λ (l : List MdsSend). IsOneOf x l) (sym (append_assoc front s.sends (calls_out [] s.mds).sends)) (in_behind x front (s.sends ++ (calls_out [] s.mds).sends) inside))
 
 abbrev reply_in : MdsSend → Option RpcReply
 reply_in (CallsServer server xid uid call) = None
@@ -83,16 +84,16 @@ reply_in (CallsBack xid back file stateid) = None
 reply_in (Replies node reply) = Some reply
 reply_in (Answers node bytes) = None
 
-one_reply : (node other : NodeId) (reply own : RpcReply) → In (Replies node reply) (Replies other own ∷ []) ⊎ ⊥ → reply ≡ own
+one_reply : (node other : NodeId) (reply own : RpcReply) → IsOneOf (Replies node reply) (Replies other own ∷ []) ⊎ ⊥ → reply ≡ own
 one_reply node other reply own (inl (inl is)) = same_Some reply own (ap reply_in is)
 one_reply node other reply own (inl (inr none)) = absurd none
 one_reply node other reply own (inr none) = absurd none
 
 -- a step that sends one reply, in the event of a call
 pub reply_is : (e : MdsEvent) (m : MdsValue) (s : MdsStep) (node other : NodeId) (reply own : RpcReply) → after_event e m ≡ and_then s (calls_out []) → s.sends ≡ Replies other own ∷ [] → AreCalled s.mds.calls
-    → In (Replies node reply) (after_event e m).sends → reply ≡ own
+    → IsOneOf (Replies node reply) (after_event e m).sends → reply ≡ own
 reply_is e m s node other reply own is sends called inside =
-    one_reply node other reply own (subst (λ (l : List MdsSend). In (Replies node reply) l ⊎ ⊥) sends (only_step s (Replies node reply) called (subst (λ (x : MdsStep). In (Replies node reply) x.sends) is inside)))
+    one_reply node other reply own (subst (λ (l : List MdsSend). IsOneOf (Replies node reply) l ⊎ ⊥) sends (only_step s (Replies node reply) called (subst (λ (x : MdsStep). IsOneOf (Replies node reply) x.sends) is inside)))
 
 -- ---- how it is read
 

@@ -19,6 +19,7 @@ use Rattle.cluster_model.specs.declared.entry.Entry.TheVariants as entry
 use Rattle.cluster_model.specs.declared.layout_state.LayoutPhase.{LayoutPhase}
 use Rattle.cluster_model.specs.declared.layout_state.LayoutPhase.TheVariants.{Held}
 use Rattle.cluster_model.specs.Phases.{holder_of, unreported, end_cause, end_entries, returned}
+use Rattle.cluster_model.specs.Members.{IsOneOf}
 use Rattle.file_rule.specs.MdsFiles.{MdsFile, FileStep, nothing, a_uid, goes_fencing}
 use Rattle.file_rule.specs.FilePhases.{Returns, held_in, by_client, returned_row, phase}
 use Rattle.layout_report.specs.Reports.{is_reported, report_of}
@@ -31,7 +32,7 @@ use Rattle.mds_rule.specs.MdsStates.{ServedFile, MdsValue, MdsStep, sends_none, 
 use Rattle.mds_rule.specs.ServedFiles.{has_fresh, file_stepped, input_at, takes_input}
 use Rattle.mds_rule.specs.LayoutOps.{errors_in, errors_of, client_number}
 use Rattle.mds_calls.specs.FittingCalls.{reports_server}
-use Rattle.mds_laws.proofs.Lists.{In, in_last}
+use Rattle.mds_laws.proofs.Lists.{in_last}
 
 abbrev pub errors_for : Stateid → List FailedMirror → List (Value ff_ioerr4)
 errors_for stateid failed = map (io_error_of stateid) failed
@@ -88,44 +89,44 @@ module _ (errors : List (Value ff_ioerr4)) where
   report_flags (a ∷ b ∷ c ∷ []) = (refl, (refl, (refl, tt)))
   report_flags (a ∷ b ∷ c ∷ d ∷ live) = (refl, (refl, (refl, (refl, tt))))
 
-  stays_in : (places : List Bool) (live : List Mirror) → AreFlags places live → (m : Mirror) → In m live → is_reported errors m.id.server ≡ false → In m (unreported places live)
+  stays_in : (places : List Bool) (live : List Mirror) → AreFlags places live → (m : Mirror) → IsOneOf m live → is_reported errors m.id.server ≡ false → IsOneOf m (unreported places live)
   stays_in places [] flags m inside off = absurd inside
   stays_in [] (x ∷ live) flags m inside off = inside
   stays_in (b ∷ places) (x ∷ live) flags m (inl is) off = by_flag b (flags.0 ∙ sym (ap (λ (y : Mirror). is_reported errors y.id.server) is) ∙ off)
     where
-      by_flag : (c : Bool) → c ≡ false → In m (cond c (unreported places live) (x ∷ unreported places live))
+      by_flag : (c : Bool) → c ≡ false → IsOneOf m (cond c (unreported places live) (x ∷ unreported places live))
       by_flag true never = absurd cc
       by_flag false never = inl is
   stays_in (b ∷ places) (x ∷ live) flags m (inr inside) off = by_flag b (stays_in places live flags.1 m inside off)
     where
-      by_flag : (c : Bool) → In m (unreported places live) → In m (cond c (unreported places live) (x ∷ unreported places live))
+      by_flag : (c : Bool) → IsOneOf m (unreported places live) → IsOneOf m (cond c (unreported places live) (x ∷ unreported places live))
       by_flag true its = its
       by_flag false its = inr its
 
   -- of no more mirrors than there are places those that stay are not reported
-  not_reported : (places : List Bool) (live : List Mirror) → AreFlags places live → length live ≤ length places → (m : Mirror) → In m (unreported places live) → is_reported errors m.id.server ≡ false
+  not_reported : (places : List Bool) (live : List Mirror) → AreFlags places live → length live ≤ length places → (m : Mirror) → IsOneOf m (unreported places live) → is_reported errors m.id.server ≡ false
   not_reported places [] flags few m inside = absurd inside
   not_reported [] (x ∷ live) flags few m inside = absurd (omega (arith, few))
   not_reported (b ∷ places) (x ∷ live) flags few m inside = by_flag b flags.0 inside (λ its. not_reported places live flags.1 (omega (arith, few)) m its)
     where
-      by_flag : (c : Bool) → c ≡ is_reported errors x.id.server → In m (cond c (unreported places live) (x ∷ unreported places live)) → (In m (unreported places live) → is_reported errors m.id.server ≡ false) → is_reported errors m.id.server ≡ false
+      by_flag : (c : Bool) → c ≡ is_reported errors x.id.server → IsOneOf m (cond c (unreported places live) (x ∷ unreported places live)) → (IsOneOf m (unreported places live) → is_reported errors m.id.server ≡ false) → is_reported errors m.id.server ≡ false
       by_flag true is its rest = rest its
       by_flag false is (inl one) rest = ap (λ (y : Mirror). is_reported errors y.id.server) one ∙ sym is
       by_flag false is (inr its) rest = rest its
 
-  pub unreported_has : (live : List Mirror) (m : Mirror) → In m live → is_reported errors m.id.server ≡ false → In m (unreported (report_of errors live) live)
+  pub unreported_has : (live : List Mirror) (m : Mirror) → IsOneOf m live → is_reported errors m.id.server ≡ false → IsOneOf m (unreported (report_of errors live) live)
   unreported_has live m inside off = stays_in (report_of errors live) live (report_flags live) m inside off
 
-  pub unreported_off : (live : List Mirror) → length live ≤ 4 → (m : Mirror) → In m (unreported (report_of errors live) live) → is_reported errors m.id.server ≡ false
+  pub unreported_off : (live : List Mirror) → length live ≤ 4 → (m : Mirror) → IsOneOf m (unreported (report_of errors live) live) → is_reported errors m.id.server ≡ false
   unreported_off live few m inside = not_reported (report_of errors live) live (report_flags live) few m inside
 
 -- ---- as what the period ends
 
-pub ends_as : (file : FileId) (cred : Cred) (left : List Entry) (live : List Mirror) → In (entry.Ended file cred (end_cause Returned live)) (end_entries file cred left Returned live)
+pub ends_as : (file : FileId) (cred : Cred) (left : List Entry) (live : List Mirror) → IsOneOf (entry.Ended file cred (end_cause Returned live)) (end_entries file cred left Returned live)
 ends_as file cred left [] = inl refl
 ends_as file cred left (m ∷ live) = in_last (entry.Ended file cred Returned) left
 
-pub ends_returned : (live : List Mirror) (m : Mirror) → In m live → end_cause Returned live ≡ Returned
+pub ends_returned : (live : List Mirror) (m : Mirror) → IsOneOf m live → end_cause Returned live ≡ Returned
 ends_returned [] m inside = absurd inside
 ends_returned (x ∷ live) m inside = refl
 

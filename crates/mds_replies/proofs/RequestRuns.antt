@@ -8,6 +8,7 @@ use Rattle.rpc_record.specs.Replies.{RpcReply}
 use Rattle.compound_reply.specs.Replied.{success_reply}
 use Rattle.cluster_model.specs.declared.ids.NodeId.{NodeId}
 use Rattle.cluster_model.specs.declared.entry.Entry.{Entry}
+use Rattle.cluster_model.specs.Members.{IsOneOf}
 use Rattle.device_addr.specs.Universal.{AddressValue}
 use Rattle.nfs4_types.specs.declared.ids.SessionId.{SessionId}
 use Rattle.nfs4_types.specs.declared.sequence.Sequence.{Sequence}
@@ -40,7 +41,7 @@ use Rattle.mds_rule.specs.Compounds.{compound_bytes, kept_in_slot, runs, sequenc
 use Rattle.mds_rule.specs.Goes.{calls_out}
 use Rattle.mds_laws.specs.MdsRuns.{MdsInput, MdsEvent, Hears, IsTimedOut, Ticks, RecallsFile, Resilvers, after_event}
 use Rattle.mds_laws.specs.SlotUses.{first_request}
-use Rattle.mds_laws.proofs.Lists.{In, AllOf}
+use Rattle.mds_laws.proofs.Lists.{AllOf}
 use Rattle.mds_laws.proofs.Keeping.{Keeps, IsNoRequest, joined}
 use Rattle.mds_replies.specs.ClientCalls.{IsCallFrom, server_after, IsEventOf}
 use Rattle.mds_replies.specs.SlotReplies.{request_of, TookEffect, EffectsAreNumbered}
@@ -174,7 +175,7 @@ module _ (tables : KeepsTable) (numbered : EffectsAreNumbered) (servers : List A
 
   record EventSo : Type 0 where
     pub next : RunSo servers mirrors (past ++ e ∷ []) (server_after servers mirrors (past ++ e ∷ []))
-    pub replies : (node : NodeId) (reply : RpcReply) → In (Replies node reply) (after_event e (server_after servers mirrors past)).sends → AnswersRequest servers mirrors (past ++ e ∷ []) node reply
+    pub replies : (node : NodeId) (reply : RpcReply) → IsOneOf (Replies node reply) (after_event e (server_after servers mirrors past)).sends → AnswersRequest servers mirrors (past ++ e ∷ []) node reply
 
   -- ---- the replies of an event, in one way or another
 
@@ -217,7 +218,7 @@ module _ (tables : KeepsTable) (numbered : EffectsAreNumbered) (servers : List A
     }
 
     ended_at : So (after_event e (server_after servers mirrors past)).mds ([] ++ (after_event e (server_after servers mirrors past)).entries) (sent_with_calls (server_after servers mirrors past).calls ++ (after_event e (server_after servers mirrors past)).sends)
-        → ((node : NodeId) (reply : RpcReply) → In (Replies node reply) (after_event e (server_after servers mirrors past)).sends → A (after_event e (server_after servers mirrors past)).mds.sessions node reply → AnswersRequest servers mirrors (past ++ e ∷ []) node reply)
+        → ((node : NodeId) (reply : RpcReply) → IsOneOf (Replies node reply) (after_event e (server_after servers mirrors past)).sends → A (after_event e (server_after servers mirrors past)).mds.sessions node reply → AnswersRequest servers mirrors (past ++ e ∷ []) node reply)
         → EventSo
     ended_at s answers = record {
       next = subst (λ (x : MdsValue). RunSo servers mirrors (past ++ e ∷ []) x) (sym (one_more servers mirrors past e)) (record { waits = s.waits; table = s.table.0 });
@@ -225,7 +226,7 @@ module _ (tables : KeepsTable) (numbered : EffectsAreNumbered) (servers : List A
     }
 
     ended_so : Keeps So (server_after servers mirrors past) (after_event e (server_after servers mirrors past))
-        → ((node : NodeId) (reply : RpcReply) → In (Replies node reply) (after_event e (server_after servers mirrors past)).sends → A (after_event e (server_after servers mirrors past)).mds.sessions node reply → AnswersRequest servers mirrors (past ++ e ∷ []) node reply)
+        → ((node : NodeId) (reply : RpcReply) → IsOneOf (Replies node reply) (after_event e (server_after servers mirrors past)).sends → A (after_event e (server_after servers mirrors past)).mds.sessions node reply → AnswersRequest servers mirrors (past ++ e ∷ []) node reply)
         → EventSo
     ended_so q answers = ended_at (q [] (sent_with_calls (server_after servers mirrors past).calls) start) answers
 
@@ -308,9 +309,9 @@ module _ (tables : KeepsTable) (numbered : EffectsAreNumbered) (servers : List A
 
     -- the reply of this event's compound
     own_answers : (T : SessionsState → RpcReply → Type 0) (call : MdsCallValue) → IsCallFrom e node xid name call
-        → ((other : NodeId) (reply : RpcReply) → In (Replies other reply) (after_event e (server_after servers mirrors past)).sends → IsFrom node xid other reply → T (after_event e (server_after servers mirrors past)).mds.sessions reply → (also : List ℕ) (session : SessionId) (number : ℕ)
+        → ((other : NodeId) (reply : RpcReply) → IsOneOf (Replies other reply) (after_event e (server_after servers mirrors past)).sends → IsFrom node xid other reply → T (after_event e (server_after servers mirrors past)).mds.sessions reply → (also : List ℕ) (session : SessionId) (number : ℕ)
         (c : SlotCallValue) → IsCallFrom e other reply.xid also (OnSlot session number c) → FitsRequest (OnSlot session number c) → StandsFor servers mirrors (past ++ e ∷ []) past session number c (reply_of_ask (ask_on_slot c) reply))
-        → (other : NodeId) (reply : RpcReply) → In (Replies other reply) (after_event e (server_after servers mirrors past)).sends → Own T (after_event e (server_after servers mirrors past)).mds.sessions other reply → AnswersRequest servers mirrors (past ++ e ∷ []) other reply
+        → (other : NodeId) (reply : RpcReply) → IsOneOf (Replies other reply) (after_event e (server_after servers mirrors past)).sends → Own T (after_event e (server_after servers mirrors past)).mds.sessions other reply → AnswersRequest servers mirrors (past ++ e ∷ []) other reply
     own_answers T call came stands other reply inside (inl a) = said_behind other reply a
     own_answers T call came stands other reply inside (inr from) =
         record { early = past; f = e; late = []; split = refl; name = name; call = call; came = moved_from call came other reply from.0; stands = stands other reply inside from.0 from.1 }
@@ -378,8 +379,8 @@ module _ (tables : KeepsTable) (numbered : EffectsAreNumbered) (servers : List A
             let bytes : List ℕ = spelling compound4_res (stat4_number status, ([], results)) in
             let is : step.mds.sessions ≡ after_finish (after_request bound (request_of session number call) e.now) (pass_of (request_of session number call)) bytes =
             ap (λ (x : MdsValue). x.sessions) ended.mds ∙ ap (λ (s : SessionsState). after_finish s (pass_of (request_of session number call)) bytes) ended.same.sessions in
-            let sent : In (Replies node (success_reply xid bytes)) (after_event e (server_after servers mirrors past)).sends =
-            subst (λ (s : MdsStep). In (Replies node (success_reply xid bytes)) s.sends) (sym after_so) (first_in (Replies node (success_reply xid bytes)) [] step.sends (calls_out [] step.mds).sends ended.sends) in
+            let sent : IsOneOf (Replies node (success_reply xid bytes)) (after_event e (server_after servers mirrors past)).sends =
+            subst (λ (s : MdsStep). IsOneOf (Replies node (success_reply xid bytes)) s.sends) (sym after_so) (first_in (Replies node (success_reply xid bytes)) [] step.sends (calls_out [] step.mds).sends ended.sends) in
             subst (λ (s : SessionsState). TableSo (SlotSo servers mirrors (past ++ e ∷ [])) s) (sym is)
             (done_so (SlotSo servers mirrors (past ++ e ∷ [])) bound session number 0 (is_kept_reply call) e.now bytes
             (kept_now servers mirrors (past ++ e ∷ []) (client_in session) (number_in session) number its bytes (
@@ -390,7 +391,7 @@ module _ (tables : KeepsTable) (numbered : EffectsAreNumbered) (servers : List A
             table)
 
         -- its own reply
-        effect_told : (other : NodeId) (reply : RpcReply) → In (Replies other reply) (after_event e (server_after servers mirrors past)).sends → Freed call (after_event e (server_after servers mirrors past)).mds.sessions reply → (also : List ℕ) (asked : SessionId) (n : ℕ)
+        effect_told : (other : NodeId) (reply : RpcReply) → IsOneOf (Replies other reply) (after_event e (server_after servers mirrors past)).sends → Freed call (after_event e (server_after servers mirrors past)).mds.sessions reply → (also : List ℕ) (asked : SessionId) (n : ℕ)
             (c : SlotCallValue) → IsCallFrom e other reply.xid also (OnSlot asked n c) → FitsRequest (OnSlot asked n c) → (reply_of_ask (ask_on_slot c) reply).slot ≡ Taken
         effect_told other reply inside free also asked n c comes fits2 = by_kind (is_layout_call call) refl
           where
@@ -400,7 +401,7 @@ module _ (tables : KeepsTable) (numbered : EffectsAreNumbered) (servers : List A
                 (effect_too servers mirrors past e session number (taken call came effect) other reply.xid also asked n c comes) fits2 reply inside c
             by_kind false off = free.1 off c
 
-        effect_stands : (other : NodeId) (reply : RpcReply) → In (Replies other reply) (after_event e (server_after servers mirrors past)).sends → Freed call (after_event e (server_after servers mirrors past)).mds.sessions reply → (also : List ℕ) (asked : SessionId) (n : ℕ)
+        effect_stands : (other : NodeId) (reply : RpcReply) → IsOneOf (Replies other reply) (after_event e (server_after servers mirrors past)).sends → Freed call (after_event e (server_after servers mirrors past)).mds.sessions reply → (also : List ℕ) (asked : SessionId) (n : ℕ)
             (c : SlotCallValue) → IsCallFrom e other reply.xid also (OnSlot asked n c) → FitsRequest (OnSlot asked n c) → StandsFor servers mirrors (past ++ e ∷ []) past asked n c (reply_of_ask (ask_on_slot c) reply)
         effect_stands other reply inside free also asked n c comes fits2 =
             stands_behind servers mirrors (FreeIn (after_event e (server_after servers mirrors past)).mds.sessions) (past ++ e ∷ []) free_behind past asked n c (reply_of_ask (ask_on_slot c) reply)

@@ -12,16 +12,17 @@ use Rattle.cluster_model.specs.declared.entry.Entry.TheVariants as entry
 use Rattle.cluster_model.specs.declared.layout_state.LayoutPhase.{LayoutPhase}
 use Rattle.cluster_model.specs.declared.layout_state.LayoutPhase.TheVariants.{Held}
 use Rattle.cluster_model.specs.Phases.{holder_of, unreported, left_entries, reported_cause, end_entries, returned}
+use Rattle.cluster_model.specs.Members.{IsOneOf}
 use Rattle.file_rule.specs.declared.fresh.Fresh.{Fresh}
 use Rattle.file_rule.specs.MdsFiles.{MdsFile, FileStep, nothing, a_uid, goes_fencing}
 use Rattle.file_rule.specs.FilePhases.{Returns, held_in, by_client, returned_row, phase}
 use Rattle.mds_rule.specs.MdsStates.{ServedFile, MdsValue, MdsStep, sends_none, served}
 use Rattle.mds_rule.specs.ServedFiles.{has_fresh, file_stepped, input_at, takes_input}
 use Rattle.mds_rule.specs.LayoutOps.{client_number}
-use Rattle.mds_laws.proofs.Lists.{In, in_last}
+use Rattle.mds_laws.proofs.Lists.{in_last}
 
 abbrev pub EndsSo : FileId → Cred → List Entry → Type 0
-EndsSo file cred entries = In (entry.Ended file cred Returned) entries ⊎ In (entry.Ended file cred AllReported) entries
+EndsSo file cred entries = IsOneOf (entry.Ended file cred Returned) entries ⊎ IsOneOf (entry.Ended file cred AllReported) entries
 
 end_so : (file : FileId) (cred : Cred) (left : List Entry) (live : List Mirror) → EndsSo file cred (end_entries file cred left Returned live)
 end_so file cred left [] = inr (inl refl)

@@ -22,6 +22,7 @@ use Rattle.mds_rows.specs.Draws.{drawn}
 use Rattle.recall.specs.Recalls.{without_file}
 use Rattle.file_rule.specs.MdsFiles.{FileStep, a_uid}
 use Rattle.ff_xdr.specs.Arms.{arm}
+use Rattle.cluster_model.specs.Members.{IsOneOf}
 use Rattle.layout_report.specs.Reports.{report_of}
 use Rattle.nfs4_types.specs.declared.ids.SessionId.{SessionId}
 use Rattle.nfs4_types.specs.declared.sequence.Sequence.{Sequence}
@@ -48,7 +49,7 @@ use Rattle.mds_rule.specs.LayoutOps.{no_stateid}
 use Rattle.mds_rule.specs.Compounds.{finishes, in_slot, sequenced, sequence_result}
 use Rattle.mds_rule.specs.Goes.{calls_out}
 use Rattle.mds_laws.specs.MdsRuns.{MdsInput, MdsEvent, Hears, IsTimedOut, Ticks, RecallsFile, Resilvers, after_event, run_from}
-use Rattle.mds_laws.proofs.Lists.{In, AllOf}
+use Rattle.mds_laws.proofs.Lists.{AllOf}
 use Rattle.mds_laws.proofs.Keeping.{HeardAny, Keeps}
 use Rattle.mds_laws.proofs.OpsWalk.{served_again}
 use Rattle.mds_replies.specs.ClientCalls.{IsCallFrom, server_after, IsEventOf}
@@ -179,7 +180,7 @@ run_left m (e ∷ events) fit w = run_left (after_event e m).mds events fit.1 (e
 
 -- ---- what is entered
 
-none_in : (es : List Entry) → AllOf IsNoReturn es → (file : FileId) (cred : Cred) → In (entry.Ended file cred Returned) es → ⊥
+none_in : (es : List Entry) → AllOf IsNoReturn es → (file : FileId) (cred : Cred) → IsOneOf (entry.Ended file cred Returned) es → ⊥
 none_in [] all file cred inside = absurd inside
 none_in (x ∷ es) all file cred (inl is) = subst IsNoReturn (sym is) all.0
 none_in (x ∷ es) all file cred (inr inside) = none_in es all.1 file cred inside
@@ -203,7 +204,7 @@ record IsEndOf (file : FileId) (cred : Cred) (other : FileId) (its : Cred) (live
   pub rest : List Mirror
   pub some : live ≡ first ∷ rest
 
-in_ends : (file : FileId) (cred : Cred) (other : FileId) (its : Cred) (left : List Entry) (live : List Mirror) → AllOf IsNoReturn left → In (entry.Ended file cred Returned) (end_entries other its left Returned live) → IsEndOf file cred other its live
+in_ends : (file : FileId) (cred : Cred) (other : FileId) (its : Cred) (left : List Entry) (live : List Mirror) → AllOf IsNoReturn left → IsOneOf (entry.Ended file cred Returned) (end_entries other its left Returned live) → IsEndOf file cred other its live
 in_ends file cred other its left [] none (inl is) = absurd (not_so (sym (ap cause_in is)))
   where
     not_so : true ≡ false → ⊥
@@ -211,19 +212,19 @@ in_ends file cred other its left [] none (inl is) = absurd (not_so (sym (ap caus
 in_ends file cred other its left [] none (inr inside) = absurd inside
 in_ends file cred other its left (x ∷ live) none inside = by_place (Rattle.mds_replies.proofs.Turns.in_pushed (entry.Ended file cred Returned) (entry.Ended other its Returned) left inside)
   where
-    by_place : In (entry.Ended file cred Returned) left ⊎ (entry.Ended file cred Returned ≡ entry.Ended other its Returned) → IsEndOf file cred other its (x ∷ live)
+    by_place : IsOneOf (entry.Ended file cred Returned) left ⊎ (entry.Ended file cred Returned ≡ entry.Ended other its Returned) → IsEndOf file cred other its (x ∷ live)
     by_place (inl was) = absurd (none_in left none file cred was)
     by_place (inr is) = record { one = ap (λ (e : Entry). (end_in e).0) is; same = ap (λ (e : Entry). (end_in e).1) is; first = x; rest = live; some = refl }
 
 live_left : (s : LayoutState) (next : Cred) (live : List Mirror) (first : Mirror) (rest : List Mirror) → live ≡ first ∷ rest → (left_with s next live).live ≡ live
 live_left s next live first rest is = subst (λ (l : List Mirror). (left_with s next l).live ≡ l) (sym is) refl
 
-unreported_from : (places : List Bool) (live : List Mirror) (m : Mirror) → In m (unreported places live) → In m live
+unreported_from : (places : List Bool) (live : List Mirror) (m : Mirror) → IsOneOf m (unreported places live) → IsOneOf m live
 unreported_from places [] m inside = absurd inside
 unreported_from [] (x ∷ live) m inside = inside
 unreported_from (b ∷ places) (x ∷ live) m inside = by_flag b inside (λ its. unreported_from places live m its)
   where
-    by_flag : (c : Bool) → In m (cond c (unreported places live) (x ∷ unreported places live)) → (In m (unreported places live) → In m live) → In m (x ∷ live)
+    by_flag : (c : Bool) → IsOneOf m (cond c (unreported places live) (x ∷ unreported places live)) → (IsOneOf m (unreported places live) → IsOneOf m live) → IsOneOf m (x ∷ live)
     by_flag true its rest = inr (rest its)
     by_flag false (inl is) rest = inl is
     by_flag false (inr its) rest = inr (rest its)
@@ -242,7 +243,7 @@ fit_parts (e ∷ before) more fit = let rest = fit_parts before more fit.1 in ((
 
 module _ (numbered : EffectsAreNumbered) (servers : List AddressValue) (mirrors : ℕ) (events before after : List MdsEvent) (e : MdsEvent) (fit : AreFitCalls events) (roomy : StaysRoomy servers mirrors events)
     (split : IsEventOf events before e after) (waits : WaitsLeft (server_after servers mirrors before)) (file : FileId) (cred : Cred)
-    (inside : In (entry.Ended file cred Returned) (after_event e (server_after servers mirrors before)).entries) where
+    (inside : IsOneOf (entry.Ended file cred Returned) (after_event e (server_after servers mirrors before)).entries) where
   -- in another event nothing ends so
   not_other : (b : Brings e) → AnyBrought IsNoReturn (λ x none. none) e (server_after servers mirrors before) b → ⊥
   not_other b any =
@@ -274,7 +275,7 @@ module _ (numbered : EffectsAreNumbered) (servers : List AddressValue) (mirrors 
           (starts AnyEntry (λ x none. tt) (server_after servers mirrors before) waits)).waits;
     }
 
-    not_out : In (entry.Ended file cred Returned) (calls_out [] step.mds).entries → ⊥
+    not_out : IsOneOf (entry.Ended file cred Returned) (calls_out [] step.mds).entries → ⊥
     not_out there =
         none_in (calls_out [] step.mds).entries
         (Rattle.mds_replies.proofs.GoesWalk.out_walk (So IsNoReturn (λ x none. none)) (Rattle.mds_replies.proofs.HolderCases.out_of (So IsNoReturn (λ x none. none)) HeardAny Left
@@ -311,28 +312,28 @@ module _ (numbered : EffectsAreNumbered) (servers : List AddressValue) (mirrors 
           left = λ s x at inside.
               let same : s.file.layout.live ≡ live =
               ap (λ (y : ServedFile). y.file.layout.live) (same_Some s k.its (sym at ∙ k.there)) ∙ ap (λ (l : LayoutState). l.live) k.layout_is ∙ live_left g.its.file.layout (a_uid m1.fresh.uid) live its.first its.rest its.some in
-              let among : In x live = subst (λ (l : List Mirror). In x l) same inside in
+              let among : IsOneOf x live = subst (λ (l : List Mirror). IsOneOf x l) same inside in
               sym (same_report numbered servers mirrors events before after e fit roomy split node xid name session number f stateid failed came effect fits.0 fits.1 g x
               (unreported_from (report_of (errors_for stateid failed) g.its.file.layout.live) g.its.file.layout.live x among))
               ∙ unreported_off (errors_for stateid failed) g.its.file.layout.live few x among;
         }))
 
-    by_end : ReturnEnds m1 node xid (pass_of (request_of session number call)) (sequence_result (request_of session number call)) f stateid failed step → In (entry.Ended file cred Returned) step.entries → IsReturned servers mirrors before e file cred
-    by_end (giving.IsRefused n results status ended some none entries) there = absurd (subst (λ (l : List Entry). In (entry.Ended file cred Returned) l) entries there)
+    by_end : ReturnEnds m1 node xid (pass_of (request_of session number call)) (sequence_result (request_of session number call)) f stateid failed step → IsOneOf (entry.Ended file cred Returned) step.entries → IsReturned servers mirrors before e file cred
+    by_end (giving.IsRefused n results status ended some none entries) there = absurd (subst (λ (l : List Entry). IsOneOf (entry.Ended file cred Returned) l) entries there)
     by_end (Accepts g ended entries) there =
         given_back g ended
         (in_ends file cred f g.its.file.layout.cred (left_entries f (map reported_cause (report_of (errors_for stateid failed) g.its.file.layout.live)) g.its.file.layout.live) (unreported (report_of (errors_for stateid failed) g.its.file.layout.live) g.its.file.layout.live)
         (as_all (left_entries f (map reported_cause (report_of (errors_for stateid failed) g.its.file.layout.live)) g.its.file.layout.live) (left_none f (map reported_cause (report_of (errors_for stateid failed) g.its.file.layout.live)) g.its.file.layout.live))
-        (subst (λ (l : List Entry). In (entry.Ended file cred Returned) l)
+        (subst (λ (l : List Entry). IsOneOf (entry.Ended file cred Returned) l)
         (entries ∙ append-nil (given_step m1 f g.its (errors_for stateid failed)).entries
         ∙ ap (λ (s : MdsStep). s.entries) (step_of numbered servers mirrors events before after e fit roomy split node xid name session number f stateid failed came effect fits.0 fits.1 g)) there))
 
     by_return : IsReturned servers mirrors before e file cred
     by_return =
         by_part (in_joined (entry.Ended file cred Returned) step.entries (calls_out [] step.mds).entries
-        (subst (λ (s : MdsStep). In (entry.Ended file cred Returned) s.entries) (after_is numbered servers mirrors events before after e fit roomy split node xid name session number call came effect fits.0) inside))
+        (subst (λ (s : MdsStep). IsOneOf (entry.Ended file cred Returned) s.entries) (after_is numbered servers mirrors events before after e fit roomy split node xid name session number call came effect fits.0) inside))
       where
-        by_part : In (entry.Ended file cred Returned) step.entries ⊎ In (entry.Ended file cred Returned) (calls_out [] step.mds).entries → IsReturned servers mirrors before e file cred
+        by_part : IsOneOf (entry.Ended file cred Returned) step.entries ⊎ IsOneOf (entry.Ended file cred Returned) (calls_out [] step.mds).entries → IsReturned servers mirrors before e file cred
         by_part (inl there) = by_end (return_of numbered servers mirrors events before after e fit roomy split node xid name session number f stateid failed came effect fits.0 fits.1) there
         by_part (inr there) = absurd (not_out there)
 

@@ -12,6 +12,7 @@ use Rattle.cluster_model.specs.declared.ids.Cred.{Cred}
 use Rattle.cluster_model.specs.declared.phase.EndCause.{EndCause}
 use Rattle.cluster_model.specs.declared.phase.EndCause.TheVariants.{ClientGone}
 use Rattle.cluster_model.specs.declared.entry.Entry.{Entry}
+use Rattle.cluster_model.specs.Members.{IsOneOf}
 use Rattle.file_rule.specs.FilePhases.{FileInput, Recall as ToRecall, Revokes, phase}
 use Rattle.layout_state.specs.Grants.{holder_to_recall}
 use Rattle.nfs4_types.specs.declared.ids.SessionId.{SessionId}
@@ -35,7 +36,6 @@ use Rattle.mds_rule.specs.MdsStates.{CompoundRun, ServedFile, MdsSend, MdsValue,
 use Rattle.mds_rule.specs.OpSteps.{OpStep, Goes, with_result, refuses, refused_or}
 use Rattle.mds_rule.specs.ServedFiles.{has_fresh, file_stepped, input_at, takes_input, with_new_recall, recall_by, recall_at, asks_back, held_from, one_by_one, ends_periods, forgotten, ends_client}
 use Rattle.mds_rule.specs.SessionOps.{with_exchange, runs_exchange, confirms, gone_with, goes_with, with_session, with_create, runs_create, on_session, runs_bind, runs_destroy_session, runs_destroy_client, reclaims}
-use Rattle.mds_laws.proofs.Lists.{In}
 use Rattle.mds_laws.proofs.Keeping.{moved, Becomes, KeepsOp, Silent, HeardOf, TakesInput, no_entries, stays, silent_then, silent_none, silent_same, becomes_silent}
 use Rattle.mds_replies.proofs.HolderCases.{NoneNew, Cases, comes_unasked}
 
@@ -44,7 +44,7 @@ still_confirmed : (client : ℕ) (confirmed : List (ℕ × NodeId)) → NoneNew 
 still_confirmed client [] p inside = absurd inside
 still_confirmed client (q ∷ confirmed) p inside = by_test (nat_eq client q.0) inside (still_confirmed client confirmed p)
   where
-    by_test : (b : Bool) → In p (cond b confirmed (q ∷ remove_entry (nat_eq client) confirmed)) → (In p (remove_entry (nat_eq client) confirmed) → In p confirmed) → In p (q ∷ confirmed)
+    by_test : (b : Bool) → IsOneOf p (cond b confirmed (q ∷ remove_entry (nat_eq client) confirmed)) → (IsOneOf p (remove_entry (nat_eq client) confirmed) → IsOneOf p confirmed) → IsOneOf p (q ∷ confirmed)
     by_test true its rest = inr its
     by_test false (inl is) rest = inl is
     by_test false (inr its) rest = inr (rest its)

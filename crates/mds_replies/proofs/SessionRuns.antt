@@ -21,7 +21,6 @@ use Rattle.mds_rule.specs.SessionOps.{create_result, with_create, confirms}
 use Rattle.mds_rule.specs.Compounds.{op_then, runs}
 use Rattle.mds_rule.specs.Goes.{calls_out}
 use Rattle.mds_laws.specs.MdsRuns.{MdsEvent, after_event}
-use Rattle.mds_laws.proofs.Lists.{In}
 use Rattle.mds_replies.specs.ClientCalls.{server_after}
 use Rattle.device_addr.specs.Universal.{AddressValue}
 use Rattle.mds_replies.specs.ClientIds.{GivesSession, SessionsAreOwn}
@@ -34,6 +33,7 @@ use Rattle.mds_replies.proofs.OneOwner.{table_of_run}
 use Rattle.mds_replies.proofs.CreateRuns.{session_client, session_length, IsKnown, Says, case_says, fits_long}
 use Rattle.std.specs.Option.{option_map}
 use Rattle.std.specs.List.{find}
+use Rattle.cluster_model.specs.Members.{IsOneOf}
 
 -- ---- what fits
 
@@ -77,7 +77,7 @@ pub data GaveSession (e : MdsEvent) (m : MdsValue) (node : NodeId) (client seque
   Replays : (number : ℕ) → create_session_case m.sessions client sequence ≡ IsReplay number → IsKnown m.sessions client sequence → session ≡ session_id client number → GaveSession e m node client sequence session
 
 module _ (e : MdsEvent) (m : MdsValue) (node : NodeId) (xid : ℕ) (name : List ℕ) (client sequence : ℕ) (session : SessionId) (t : IsTable m.sessions) (called : AreCalled m.calls) (reply : RpcReply)
-    (sent : In (Replies node reply) (after_event e m).sends) (says : (reply_of_ask ask.CreateSession reply).answer ≡ Session session) where
+    (sent : IsOneOf (Replies node reply) (after_event e m).sends) (says : (reply_of_ask ask.CreateSession reply).answer ≡ Session session) where
   -- a refusal names no session
   refused : (v : Value compound4_res) → Fits compound4_res v → is_session (compound_reply ask.CreateSession (Ok v)).answer ≡ false → reply ≡ success_reply xid (spelling compound4_res v) → ⊥
   refused v fits off is =

@@ -5,6 +5,7 @@ use Rattle.std.specs.Prelude.{◌==◌, nat_lt, if◌then◌else◌}
 use Rattle.std.specs.List.{find}
 use Rattle.std.proofs.lemmas.Bool.{cond_both, eq-eqb}
 use Rattle.cluster_model.specs.declared.ids.NodeId.{NodeId}
+use Rattle.cluster_model.specs.Members.{IsOneOf}
 use Rattle.nfs4_types.specs.declared.sequence.Sequence.{Sequence}
 use Rattle.nfs4_types.specs.declared.status.Stat4.{Stat4}
 use Rattle.nfs4_session.specs.declared.faults.IdFault.{IdFault}
@@ -19,7 +20,7 @@ use Rattle.nfs4_session.specs.Bindings.{last_session}
 use Rattle.nfs4_session.specs.Ends.{without_client, destroy_client_fault, has_ended}
 use Rattle.nfs4_session.specs.declared.exchange.TheConstants.{MAX_OWNERS}
 use Rattle.nfs4_session.specs.TableLaw.{TableMove, ExchangeId, CreateSession, BeginRequest, FinishRequest, Bind, CallBack, DestroySession, DestroyClient, Expire, table_after, exchanged_unless, called_back_by, destroyed_unless, expired_by}
-use Rattle.mds_laws.proofs.Lists.{In, AllOf, all_push}
+use Rattle.mds_laws.proofs.Lists.{AllOf, all_push}
 
 -- ---- one record behind a call
 
@@ -39,7 +40,7 @@ pub record SameKey (c d : ClientState) : Type 0 where
 
 -- it was there before, or it is new
 pub data Came (s : SessionsState) (ids : ℕ) (verifier owner : List ℕ) (d : ClientState) : Type 0 where
-  Was : (c : ClientState) → In c s.clients → SameKey c d → Came s ids verifier owner d
+  Was : (c : ClientState) → IsOneOf c s.clients → SameKey c d → Came s ids verifier owner d
   IsNew : (now : ℕ) → d ≡ new_client s verifier owner now → ids ≡ s.ids + 1 → Came s ids verifier owner d
 
 -- of whom a call makes a new record
@@ -51,7 +52,7 @@ abbrev pub owner_of : TableMove → List ℕ
 owner_of (ExchangeId verifier owner now) = owner
 owner_of move = []
 
-all_self : {A : Type 0} (P : A → Type 0) (xs : List A) → ((x : A) → In x xs → P x) → AllOf P xs
+all_self : {A : Type 0} (P : A → Type 0) (xs : List A) → ((x : A) → IsOneOf x xs → P x) → AllOf P xs
 all_self P [] each = tt
 all_self P (x ∷ xs) each = (each x (inl refl), all_self P xs (λ y inside. each y (inr inside)))
 
@@ -68,7 +69,7 @@ after_fits n less =
 module _ (s : SessionsState) (ids : ℕ) (verifier owner : List ℕ) where
   -- what is left of records that were there
   abbrev Old : ClientState → Type 0
-  Old d = (c : ClientState) × In c s.clients × SameKey c d
+  Old d = (c : ClientState) × IsOneOf c s.clients × SameKey c d
 
   old_self : AllOf Old s.clients
   old_self = all_self Old s.clients (λ c inside. (c, inside, record { id = refl; owner = refl; verifier = refl; sequence = λ less. less }))

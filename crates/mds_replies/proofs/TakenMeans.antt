@@ -15,6 +15,7 @@ use Rattle.cluster_model.specs.declared.entry.Entry.TheVariants as entry
 use Rattle.cluster_model.specs.declared.layout_state.LayoutState.{LayoutState}
 use Rattle.cluster_model.specs.Phases.{unreported, end_cause, left_entries, reported_cause}
 use Rattle.std.specs.Prelude.{map}
+use Rattle.cluster_model.specs.Members.{IsOneOf}
 use Rattle.device_addr.specs.Universal.{AddressValue}
 use Rattle.layout_report.specs.Reports.{is_reported, report_of}
 use Rattle.same_layout.specs.SameLayout.{unseen}
@@ -46,7 +47,7 @@ use Rattle.mds_rule.specs.LayoutOps.{layout_of_file, no_stateid}
 use Rattle.mds_rule.specs.Compounds.{runs, sequence_result}
 use Rattle.mds_rule.specs.Goes.{calls_out}
 use Rattle.mds_laws.specs.MdsRuns.{MdsEvent, MdsInput, Hears, IsTimedOut, Ticks, RecallsFile, Resilvers, after_event}
-use Rattle.mds_laws.proofs.Lists.{In, in_more}
+use Rattle.mds_laws.proofs.Lists.{in_more}
 use Rattle.mds_replies.specs.ClientCalls.{IsCallFrom, HearsCall, AreCalls, server_after, IsEventOf}
 use Rattle.mds_replies.specs.SlotReplies.{request_of, TookEffect, EffectsAreNumbered}
 use Rattle.mds_replies.specs.LayoutReplies.{HasPeriod}
@@ -88,8 +89,8 @@ pub split_behind : (events early late : List MdsEvent) (f : MdsEvent) → IsEven
 split_behind events early late f split = split ∙ sym (append_assoc early (f ∷ []) late)
 
 -- a list's only element, in front of others
-pub first_in : {A : Type 0} (x : A) (xs ys more : List A) → ys ≡ x ∷ [] → In x (ys ++ more)
-first_in x xs ys more is = subst (λ l. In x (l ++ more)) (sym is) (inl refl)
+pub first_in : {A : Type 0} (x : A) (xs ys more : List A) → ys ≡ x ∷ [] → IsOneOf x (ys ++ more)
+first_in x xs ys more is = subst (λ l. IsOneOf x (l ++ more)) (sym is) (inl refl)
 
 -- the layout that is read, by how the file stands
 abbrev read_as_of : FileId → LayoutState → ℕ → LayoutGrant
@@ -131,7 +132,7 @@ module _ (numbered : EffectsAreNumbered) (servers : List AddressValue) (mirrors 
 
     -- the reply is the compound's
     pub own_reply : (n : MdsValue) (results : List (Value resop4)) (status : Stat4) → HasEnded m1 n node xid (pass_of (request_of session number call)) results status step → (reply : RpcReply)
-        → In (Replies node reply) (after_event f (server_after servers mirrors early)).sends → reply ≡ success_reply xid (spelling compound4_res (stat4_number status, ([], results)))
+        → IsOneOf (Replies node reply) (after_event f (server_after servers mirrors early)).sends → reply ≡ success_reply xid (spelling compound4_res (stat4_number status, ([], results)))
     own_reply n results status ended reply sent =
         reply_is f (server_after servers mirrors early) step node node reply (success_reply xid (spelling compound4_res (stat4_number status, ([], results)))) after_is ended.sends
         (subst AreCalled (sym (ap (λ (x : MdsValue). x.calls) ended.mds ∙ ended.same.calls)) (are_called servers mirrors early)) sent
@@ -162,8 +163,8 @@ module _ (numbered : EffectsAreNumbered) (servers : List AddressValue) (mirrors 
           says = refl;
         }
 
-    entered_then : (x : Entry) → In x step.entries → In x (after_event f (server_after servers mirrors early)).entries
-    entered_then x inside = subst (λ (s : MdsStep). In x s.entries) (sym after_is) (in_more x step.entries (calls_out [] step.mds).entries inside)
+    entered_then : (x : Entry) → IsOneOf x step.entries → IsOneOf x (after_event f (server_after servers mirrors early)).entries
+    entered_then x inside = subst (λ (s : MdsStep). IsOneOf x s.entries) (sym after_is) (in_more x step.entries (calls_out [] step.mds).entries inside)
 
   -- ---- LAYOUTGET
 
@@ -221,7 +222,7 @@ module _ (numbered : EffectsAreNumbered) (servers : List AddressValue) (mirrors 
         subst (λ (r : RpcReply). KeepsAnswer (server_after servers mirrors (early ++ f ∷ [])) session (slot.LayoutGet file) (reply_of_ask ask.LayoutGet r).answer) (sym is)
         (keeps_then (slot.LayoutGet file) came effect its_id n results status ended short)
 
-    pub get_means : (reply : RpcReply) → In (Replies node reply) (after_event f (server_after servers mirrors early)).sends → MeansSo servers mirrors early f session (slot.LayoutGet file) (reply_of_ask ask.LayoutGet reply).answer
+    pub get_means : (reply : RpcReply) → IsOneOf (Replies node reply) (after_event f (server_after servers mirrors early)).sends → MeansSo servers mirrors early f session (slot.LayoutGet file) (reply_of_ask ask.LayoutGet reply).answer
     get_means reply sent = by_end get_of
       where
         by_end : GetEnds (taken_mds f.now (server_after servers mirrors early) node session number (slot.LayoutGet file)) node xid (pass_of (request_of session number (slot.LayoutGet file)))
@@ -272,10 +273,10 @@ module _ (numbered : EffectsAreNumbered) (servers : List AddressValue) (mirrors 
     step_of g = returned_is GivenMds file g.its g.held.node g.held.is_recalled (report_of (errors_for stateid failed) g.its.file.layout.live) g.there g.held.is now_room.fresh
 
     -- a mirror of the file is reported where the report names its server
-    pub same_report : (g : HasGiven GivenMds (client_in session) file stateid) (x : Mirror) → In x g.its.file.layout.live → is_reported (errors_for stateid failed) x.id.server ≡ reports_server failed x.id.server
+    pub same_report : (g : HasGiven GivenMds (client_in session) file stateid) (x : Mirror) → IsOneOf x g.its.file.layout.live → is_reported (errors_for stateid failed) x.id.server ≡ reports_server failed x.id.server
     same_report g x inside = reports_same stateid failed x.id.server fits.1.0 (of_all g.its.file.layout.live (now_room.live file g.its g.there) inside)
       where
-        of_all : (live : List Mirror) → AllByRecursion FitsMirrorId live → In x live → x.id.server < 2 ^ 64
+        of_all : (live : List Mirror) → AllByRecursion FitsMirrorId live → IsOneOf x live → x.id.server < 2 ^ 64
         of_all [] all its = absurd its
         of_all (y ∷ live) all (inl same) = subst (λ (z : Mirror). z.id.server < 2 ^ 64) (sym same) all.0.0
         of_all (y ∷ live) all (inr its) = of_all live all.1 its
@@ -290,12 +291,12 @@ module _ (numbered : EffectsAreNumbered) (servers : List AddressValue) (mirrors 
           had = record { file_is = g.its; there = g.there; holder = g.holder; node = g.held.node; is_recalled = g.held.is_recalled; phase = g.held.is; its_uid = refl };
           cause = end_cause AsReturned live;
           ended = entered_then call came effect its_id (entry.Ended file g.its.file.layout.cred (end_cause AsReturned live))
-              (subst (λ (l : List Entry). In (entry.Ended file g.its.file.layout.cred (end_cause AsReturned live)) l) (sym (entries ∙ append-nil (given_step GivenMds file g.its (errors_for stateid failed)).entries ∙ ap (λ (s : MdsStep). s.entries) (step_of g)))
+              (subst (λ (l : List Entry). IsOneOf (entry.Ended file g.its.file.layout.cred (end_cause AsReturned live)) l) (sym (entries ∙ append-nil (given_step GivenMds file g.its (errors_for stateid failed)).entries ∙ ap (λ (s : MdsStep). s.entries) (step_of g)))
               (ends_as file g.its.file.layout.cred (left_entries file (map reported_cause (report_of (errors_for stateid failed) g.its.file.layout.live)) g.its.file.layout.live) live));
           clean = λ x inside off. ends_returned live x (unreported_has (errors_for stateid failed) g.its.file.layout.live x inside (same_report g x inside ∙ off));
         }
 
-    pub return_means : (reply : RpcReply) → In (Replies node reply) (after_event f (server_after servers mirrors early)).sends → MeansSo servers mirrors early f session call (reply_of_ask ask.LayoutReturn reply).answer
+    pub return_means : (reply : RpcReply) → IsOneOf (Replies node reply) (after_event f (server_after servers mirrors early)).sends → MeansSo servers mirrors early f session call (reply_of_ask ask.LayoutReturn reply).answer
     return_means reply sent = by_end return_of
       where
         by_end : ReturnEnds GivenMds node xid (pass_of (request_of session number call)) (sequence_result (request_of session number call)) file stateid failed GivenStep
@@ -312,7 +313,7 @@ module _ (numbered : EffectsAreNumbered) (servers : List AddressValue) (mirrors 
 
   pub effect_means : (call : SlotCallValue) → IsCallFrom f node xid name (OnSlot session number call)
       → request_answer (after_binding (server_after servers mirrors early).sessions session node) (request_of session number call) ≡ TakesEffect → FitsRequest (OnSlot session number call)
-      → (reply : RpcReply) → In (Replies node reply) (after_event f (server_after servers mirrors early)).sends → MeansSo servers mirrors early f session call (reply_of_ask (ask_on_slot call) reply).answer
+      → (reply : RpcReply) → IsOneOf (Replies node reply) (after_event f (server_after servers mirrors early)).sends → MeansSo servers mirrors early f session call (reply_of_ask (ask_on_slot call) reply).answer
   effect_means (slot.LayoutGet file) came effect fits reply sent = get_means file came effect fits.0 fits.1 reply sent
   effect_means (slot.LayoutReturn file stateid failed) came effect fits reply sent = return_means file stateid failed came effect fits.0 fits.1 reply sent
   effect_means other came effect fits reply sent = tt

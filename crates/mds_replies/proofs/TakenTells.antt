@@ -4,6 +4,7 @@ use Rattle.ff_xdr.specs.Arms.{arm}
 use Rattle.ff_xdr.specs.Form.{Value}
 use Rattle.rpc_record.specs.Replies.{RpcReply}
 use Rattle.cluster_model.specs.declared.ids.NodeId.{NodeId}
+use Rattle.cluster_model.specs.Members.{IsOneOf}
 use Rattle.device_addr.specs.Universal.{AddressValue}
 use Rattle.nfs4_types.specs.declared.ids.SessionId.{SessionId}
 use Rattle.nfs4_types.specs.declared.status.Stat4.{Stat4}
@@ -23,7 +24,6 @@ use Rattle.mds_rule.specs.MdsStates.{Replies, MdsValue}
 use Rattle.mds_rule.specs.LayoutOps.{layout_of_file, no_stateid}
 use Rattle.mds_rule.specs.Compounds.{runs, sequence_result}
 use Rattle.mds_laws.specs.MdsRuns.{MdsEvent, after_event}
-use Rattle.mds_laws.proofs.Lists.{In}
 use Rattle.mds_replies.specs.ClientCalls.{IsCallFrom, server_after, IsEventOf}
 use Rattle.mds_replies.specs.SlotReplies.{request_of, EffectsAreNumbered}
 use Rattle.mds_replies.specs.AnsweredRequests.{AreFitCalls, StaysRoomy}
@@ -42,14 +42,14 @@ module _ (numbered : EffectsAreNumbered) (servers : List AddressValue) (mirrors 
       (effect : request_answer (after_binding (server_after servers mirrors early).sessions session node) (request_of session number call) ≡ TakesEffect) (its_id : length session.0 ≡ 16) (n : MdsValue) (results : List (Value resop4)) (status : Stat4)
       → HasEnded (taken_mds f.now (server_after servers mirrors early) node session number call) n node xid (pass_of (request_of session number call)) results status
       (runs f.now (slot_ops name call) (taken_mds f.now (server_after servers mirrors early) node session number call) (taken_compound node xid name session number call))
-      → (reply : RpcReply) → In (Replies node reply) (after_event f (server_after servers mirrors early)).sends → (c : SlotCallValue) → (reply_of_ask (ask_on_slot c) reply).slot ≡ Taken
+      → (reply : RpcReply) → IsOneOf (Replies node reply) (after_event f (server_after servers mirrors early)).sends → (c : SlotCallValue) → (reply_of_ask (ask_on_slot c) reply).slot ≡ Taken
   ended_tells call came effect its_id n results status ended reply sent c =
       ap (λ (r : RpcReply). (reply_of_ask (ask_on_slot c) r).slot) (own_reply numbered servers mirrors events early late f fit roomy split node xid name session number call came effect its_id n results status ended reply sent)
       ∙ tells_fitting (stat4_number status) results ended.fits ended.taken c xid
 
   pub layout_tells : (call : SlotCallValue) → is_layout_call call ≡ true → IsCallFrom f node xid name (OnSlot session number call)
       → request_answer (after_binding (server_after servers mirrors early).sessions session node) (request_of session number call) ≡ TakesEffect → FitsRequest (OnSlot session number call)
-      → (reply : RpcReply) → In (Replies node reply) (after_event f (server_after servers mirrors early)).sends → (c : SlotCallValue) → (reply_of_ask (ask_on_slot c) reply).slot ≡ Taken
+      → (reply : RpcReply) → IsOneOf (Replies node reply) (after_event f (server_after servers mirrors early)).sends → (c : SlotCallValue) → (reply_of_ask (ask_on_slot c) reply).slot ≡ Taken
   layout_tells (slot.LayoutGet file) on came effect fits reply sent c =
       by_end (get_of numbered servers mirrors events early late f fit roomy split node xid name session number file came effect fits.0 fits.1)
     where

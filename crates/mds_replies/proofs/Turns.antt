@@ -16,6 +16,7 @@ use Rattle.cluster_model.specs.declared.ids.Cred.{Cred}
 use Rattle.cluster_model.specs.declared.ids.Mirror.{Mirror}
 use Rattle.cluster_model.specs.declared.entry.Entry.{Entry}
 use Rattle.cluster_model.specs.declared.entry.Entry.TheVariants as entry
+use Rattle.cluster_model.specs.Members.{IsOneOf}
 use Rattle.file_rule.specs.MdsFiles.{FileStep}
 use Rattle.file_rule.specs.FilePhases.{FileInput, AsksLayout, OwnWrite, Recall as ToRecall, Returns, Revokes, OwnEnds, Resilver, Answers as IsAnswer, TimesOut, Ticks, Sees, phase}
 use Rattle.mds_rows.specs.Draws.{drawn}
@@ -46,7 +47,7 @@ use Rattle.mds_rule.specs.Compounds.{operate, has_session, operates, compound_by
 use Rattle.mds_rule.specs.Goes.{calls_out}
 use Rattle.mds_laws.specs.MdsRuns.{MdsInput, MdsEvent, Hears, IsTimedOut, Ticks as IsTick, RecallsFile, Resilvers, by_input, after_event}
 use Rattle.mds_laws.specs.SlotUses.{request_in}
-use Rattle.mds_laws.proofs.Lists.{In, AllOf, all_push, all_set, all_got}
+use Rattle.mds_laws.proofs.Lists.{AllOf, all_push, all_set, all_got}
 use Rattle.mds_laws.proofs.Keeping.{moved, HeardAny, Becomes, Keeps, KeepsOp, TakesInput, IsNoRequest, is_note, hears_any, then_keeps, same, becomes_keeps, enters_keeps, stays}
 use Rattle.mds_laws.proofs.Numbers.{WereSent, sent_more, sent_with, sent_without}
 use Rattle.mds_laws.proofs.OpsWalk.{place_served}
@@ -62,13 +63,13 @@ use Rattle.mds_replies.proofs.SameRuns.{Like, like_then, StepsLike, operate_like
 
 -- ---- lists
 
-pub in_pushed : {A : Type 0} (y x : A) (xs : List A) → In y (xs ++ x ∷ []) → In y xs ⊎ (y ≡ x)
+pub in_pushed : {A : Type 0} (y x : A) (xs : List A) → IsOneOf y (xs ++ x ∷ []) → IsOneOf y xs ⊎ (y ≡ x)
 in_pushed y x [] (inl is) = inr is
 in_pushed y x [] (inr inside) = absurd inside
 in_pushed y x (z ∷ xs) (inl is) = inl (inl is)
 in_pushed y x (z ∷ xs) (inr inside) = further (in_pushed y x xs inside)
   where
-    further : In y xs ⊎ (y ≡ x) → In y (z ∷ xs) ⊎ (y ≡ x)
+    further : IsOneOf y xs ⊎ (y ≡ x) → IsOneOf y (z ∷ xs) ⊎ (y ≡ x)
     further (inl old) = inl (inr old)
     further (inr new) = inr new
 
@@ -78,7 +79,7 @@ all_joined P (x ∷ xs) ys all more = (all.0, all_joined P xs ys all.1 more)
 
 -- ---- reads that begin again
 
-begins_wait : (W : CompoundRun → Type 0) (live : List Mirror) (reads : List WaitingRead) → ((r : WaitingRead) → In r reads → W r.compound) → (r : WaitingRead) → In r (map (begins_again live) reads) → W r.compound
+begins_wait : (W : CompoundRun → Type 0) (live : List Mirror) (reads : List WaitingRead) → ((r : WaitingRead) → IsOneOf r reads → W r.compound) → (r : WaitingRead) → IsOneOf r (map (begins_again live) reads) → W r.compound
 begins_wait W live [] all r inside = absurd inside
 begins_wait W live (x ∷ reads) all r (inl same) = subst (λ (y : WaitingRead). W y.compound) (sym same) (all x (inl refl))
 begins_wait W live (x ∷ reads) all r (inr inside) = begins_wait W live reads (λ y its. all y (inr its)) r inside
@@ -149,7 +150,7 @@ pub record Stands (W : CompoundRun → Type 0) (Q : SessionsState → Type 0) (A
   pub waits : AllOf (λ (s : ServedFile). AllWait W s.reads s.write) files
   pub table : Q sessions
   pub entries : AllOf E es
-  pub replies : (node : NodeId) (reply : RpcReply) → In (Replies node reply) ss → A sessions node reply
+  pub replies : (node : NodeId) (reply : RpcReply) → IsOneOf (Replies node reply) ss → A sessions node reply
   pub were : WereSent calls ss
 
 module _ (W : CompoundRun → Type 0) (left : (c : CompoundRun) → W c → (c.ops ≡ []) × (c.stop ≡ stop.End None)) (Q : SessionsState → Type 0) (keeps : (s : SessionsState) (move : TableMove) → IsNoTurn move → Q s → Q (table_after s move))
@@ -176,7 +177,7 @@ module _ (W : CompoundRun → Type 0) (left : (c : CompoundRun) → W c → (c.o
 
   -- ---- files
 
-  set : (m : MdsValue) (file : FileId) (t : ServedFile) (calls : List AwaitedCall) (es : List Entry) (ss ts : List MdsSend) → AllWait W t.reads t.write → ((node : NodeId) (reply : RpcReply) → In (Replies node reply) ts → A m.sessions node reply)
+  set : (m : MdsValue) (file : FileId) (t : ServedFile) (calls : List AwaitedCall) (es : List Entry) (ss ts : List MdsSend) → AllWait W t.reads t.write → ((node : NodeId) (reply : RpcReply) → IsOneOf (Replies node reply) ts → A m.sessions node reply)
       → WereSent calls ts → IsSo m es ss → Stands W Q A E (slice_set m.files (file.0 - 1) t) m.sessions calls es ts
   set m file t calls es ss ts its replies were i = record {
     waits = all_set (λ (x : ServedFile). AllWait W x.reads x.write) m.files (file.0 - 1) t i.waits its;
@@ -226,11 +227,11 @@ module _ (W : CompoundRun → Type 0) (left : (c : CompoundRun) → W c → (c.o
   is_no_reply : MdsSend → Type 0
   is_no_reply s = (node : NodeId) (reply : RpcReply) → Replies node reply ≡ s → ⊥
 
-  pushed : (t : SessionsState) (ss : List MdsSend) (s : MdsSend) → ((node : NodeId) (reply : RpcReply) → Replies node reply ≡ s → A t node reply) → ((node : NodeId) (reply : RpcReply) → In (Replies node reply) ss → A t node reply)
-      → (node : NodeId) (reply : RpcReply) → In (Replies node reply) (ss ++ s ∷ []) → A t node reply
+  pushed : (t : SessionsState) (ss : List MdsSend) (s : MdsSend) → ((node : NodeId) (reply : RpcReply) → Replies node reply ≡ s → A t node reply) → ((node : NodeId) (reply : RpcReply) → IsOneOf (Replies node reply) ss → A t node reply)
+      → (node : NodeId) (reply : RpcReply) → IsOneOf (Replies node reply) (ss ++ s ∷ []) → A t node reply
   pushed t ss s new old node reply inside = by_place (in_pushed (Replies node reply) s ss inside)
     where
-      by_place : In (Replies node reply) ss ⊎ (Replies node reply ≡ s) → A t node reply
+      by_place : IsOneOf (Replies node reply) ss ⊎ (Replies node reply ≡ s) → A t node reply
       by_place (inl was) = old node reply was
       by_place (inr is) = new node reply is
 
@@ -293,7 +294,7 @@ module _ (W : CompoundRun → Type 0) (left : (c : CompoundRun) → W c → (c.o
     skips = λ m has es ss i. i;
     forgets = λ m node xid es ss i. record { waits = i.waits; table = i.table; entries = i.entries; replies = i.replies; were = sent_without node xid m.calls ss i.were };
     was = λ m es ss i. i.were;
-    again = λ m s es ss i inside. sends m es ss s (λ node reply is. i.replies node reply (subst (λ (x : MdsSend). In x ss) (sym is) inside)) i;
+    again = λ m s es ss i inside. sends m es ss s (λ node reply is. i.replies node reply (subst (λ (x : MdsSend). IsOneOf x ss) (sym is) inside)) i;
   }
 
   destroys : (m : MdsValue) (session : SessionId) → Becomes IsSo m (moved m (DestroySession session))

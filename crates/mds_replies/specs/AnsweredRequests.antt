@@ -11,6 +11,7 @@ use Rattle.cluster_model.specs.declared.phase.EndCause.{EndCause}
 use Rattle.cluster_model.specs.declared.phase.EndCause.TheVariants as ends_as
 use Rattle.cluster_model.specs.declared.entry.Entry.{Entry}
 use Rattle.cluster_model.specs.declared.entry.Entry.TheVariants as entry
+use Rattle.cluster_model.specs.Members.{IsOneOf}
 use Rattle.nfs4_types.specs.declared.ids.SessionId.{SessionId}
 use Rattle.nfs4_types.specs.declared.stateid.Stateid.{Stateid}
 use Rattle.nfs4_types.specs.declared.status.Stat4.{Stat4}
@@ -35,7 +36,6 @@ use Rattle.nfs4_compound.specs.Compounds.{CompoundValue}
 use Rattle.mds_rule.specs.MdsStates.{ServedFile, Replies, MdsValue, served}
 use Rattle.mds_rule.specs.ServedFiles.{has_fresh}
 use Rattle.mds_laws.specs.MdsRuns.{MdsInput, Hears, MdsEvent, after_event}
-use Rattle.mds_laws.proofs.Lists.{In}
 use Rattle.mds_replies.specs.ClientCalls.{IsCallIn, IsCallFrom, server_after, IsEventOf}
 use Rattle.nfs4_session.specs.Slots.{SlotState, Cached, Refuses, is_in_progress}
 use Rattle.nfs4_session.specs.Requests.{request_answer}
@@ -99,7 +99,7 @@ layout_read file s = record { stateid = layout_stateid_of file.0 s.file.layout.c
 
 -- the event enters that the file was granted to a client under this uid
 abbrev pub IsGrantedNow : List Entry → FileId → ℕ → Type 0
-IsGrantedNow entries file uid = (n : ℕ) × In (entry.Granted file (record { 0 = uid }) (node_of.Client n)) entries
+IsGrantedNow entries file uid = (n : ℕ) × IsOneOf (entry.Granted file (record { 0 = uid }) (node_of.Client n)) entries
 
 -- Behind the event the client has the file's layout, which is what was granted (RFC 8881, section 18.43); and it was granted in this event, or
 -- the client had it before.
@@ -117,8 +117,8 @@ pub record ReturnsSo (servers : List AddressValue) (mirrors : ℕ) (early : List
   pub names : stateid.other ≡ three_words file.0 uid 0
   pub had : HasPeriod (server_after servers mirrors early) file client uid
   pub cause : EndCause
-  pub ended : In (entry.Ended file (record { 0 = uid }) cause) (after_event f (server_after servers mirrors early)).entries
-  pub clean : (m : Mirror) → In m had.file_is.file.layout.live → reports_server failed m.id.server ≡ false → cause ≡ ends_as.Returned
+  pub ended : IsOneOf (entry.Ended file (record { 0 = uid }) cause) (after_event f (server_after servers mirrors early)).entries
+  pub clean : (m : Mirror) → IsOneOf m had.file_is.file.layout.live → reports_server failed m.id.server ≡ false → cause ≡ ends_as.Returned
 
 -- the stateid names no layout that the client has of the file
 abbrev pub NamesNone : MdsValue → ℕ → FileId → Stateid → Type 0
@@ -220,5 +220,5 @@ pub record AnswersRequest (servers : List AddressValue) (mirrors : ℕ) (events 
 abbrev pub EachReplyStands : Type 0
 EachReplyStands =
     (servers : List AddressValue) (mirrors : ℕ) (events before after : List MdsEvent) (e : MdsEvent) → AreFitCalls events → StaysRoomy servers mirrors events → IsEventOf events before e after
-    → (node : NodeId) (reply : RpcReply) → In (Replies node reply) (after_event e (server_after servers mirrors before)).sends
+    → (node : NodeId) (reply : RpcReply) → IsOneOf (Replies node reply) (after_event e (server_after servers mirrors before)).sends
     → AnswersRequest servers mirrors (before ++ e ∷ []) node reply

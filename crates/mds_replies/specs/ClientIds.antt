@@ -4,6 +4,7 @@ use Rattle.std.specs.Prelude.{◌≡◌, ℕ, List}
 use Rattle.ff_xdr.specs.Form.{long}
 use Rattle.rpc_record.specs.Replies.{RpcReply}
 use Rattle.cluster_model.specs.declared.ids.NodeId.{NodeId}
+use Rattle.cluster_model.specs.Members.{IsOneOf}
 use Rattle.nfs4_types.specs.declared.ids.SessionId.{SessionId}
 use Rattle.nfs4_session.specs.Clients.{client_in}
 use Rattle.mds_calls.specs.declared.ask.MdsAsk.TheVariants as ask
@@ -12,7 +13,6 @@ use Rattle.mds_calls.specs.MdsReplies.{Client, Session, reply_of_ask}
 use Rattle.device_addr.specs.Universal.{AddressValue}
 use Rattle.mds_rule.specs.MdsStates.{Replies}
 use Rattle.mds_laws.specs.MdsRuns.{MdsEvent, after_event}
-use Rattle.mds_laws.proofs.Lists.{In}
 use Rattle.mds_replies.specs.ClientCalls.{IsCallFrom, AreCalls, server_after, IsEventOf}
 
 -- an EXCHANGE_ID of this owner and verifier was answered in this event with this id
@@ -21,7 +21,7 @@ pub record GivesId (servers : List AddressValue) (mirrors : ℕ) (before : List 
   pub xid : ℕ
   pub came : IsCallFrom e node xid owner (ExchangeId verifier)
   pub reply : RpcReply
-  pub sent : In (Replies node reply) (after_event e (server_after servers mirrors before)).sends
+  pub sent : IsOneOf (Replies node reply) (after_event e (server_after servers mirrors before)).sends
   pub sequence : ℕ
   pub says : (reply_of_ask ask.ExchangeId reply).answer ≡ Client client sequence
 
@@ -41,7 +41,7 @@ pub record GivesSession (servers : List AddressValue) (mirrors : ℕ) (before : 
   pub sequence : ℕ
   pub came : IsCallFrom e node xid name (CreateSession client sequence)
   pub reply : RpcReply
-  pub sent : In (Replies node reply) (after_event e (server_after servers mirrors before)).sends
+  pub sent : IsOneOf (Replies node reply) (after_event e (server_after servers mirrors before)).sends
   pub says : (reply_of_ask ask.CreateSession reply).answer ≡ Session session
 
 -- a session is of the client that asked for it

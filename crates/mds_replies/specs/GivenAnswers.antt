@@ -3,13 +3,13 @@
 use Rattle.std.specs.Prelude.{◌≡◌, ℕ, false, List, [], ◌∷◌, ◌++◌}
 use Rattle.rpc_record.specs.Replies.{RpcReply}
 use Rattle.cluster_model.specs.declared.ids.NodeId.{NodeId}
+use Rattle.cluster_model.specs.Members.{IsOneOf}
 use Rattle.compound_reply.specs.Replied.{success_reply}
 use Rattle.device_addr.specs.Universal.{AddressValue}
 use Rattle.mds_calls.specs.MdsCalls.{MdsCallValue, ask_of, takes_slot}
 use Rattle.mds_receive.specs.MdsReceive.{IsAnswered, incoming_of}
 use Rattle.mds_rule.specs.MdsStates.{Replies, Answers}
 use Rattle.mds_laws.specs.MdsRuns.{MdsEvent, Hears, after_event}
-use Rattle.mds_laws.proofs.Lists.{In}
 use Rattle.mds_replies.specs.ClientCalls.{IsCallFrom, server_after, IsEventOf}
 use Rattle.mds_replies.specs.AnsweredRequests.{AreFitCalls}
 
@@ -18,7 +18,7 @@ use Rattle.mds_replies.specs.AnsweredRequests.{AreFitCalls}
 -- the reply to a compound is one of success, with the compound's results
 abbrev pub EachReplyIsWhole : Type 0
 EachReplyIsWhole =
-    (servers : List AddressValue) (mirrors : ℕ) (before : List MdsEvent) (e : MdsEvent) (node : NodeId) (reply : RpcReply) → In (Replies node reply) (after_event e (server_after servers mirrors before)).sends
+    (servers : List AddressValue) (mirrors : ℕ) (before : List MdsEvent) (e : MdsEvent) (node : NodeId) (reply : RpcReply) → IsOneOf (Replies node reply) (after_event e (server_after servers mirrors before)).sends
     → reply ≡ success_reply reply.xid reply.results
 
 -- what is answered at once came in this event, and is no compound
@@ -29,7 +29,7 @@ pub record IsAnsweredNow (e : MdsEvent) (node : NodeId) (bytes : List ℕ) : Typ
 
 abbrev pub EachAnswerIsNow : Type 0
 EachAnswerIsNow =
-    (servers : List AddressValue) (mirrors : ℕ) (before : List MdsEvent) (e : MdsEvent) (node : NodeId) (bytes : List ℕ) → In (Answers node bytes) (after_event e (server_after servers mirrors before)).sends → IsAnsweredNow e node bytes
+    (servers : List AddressValue) (mirrors : ℕ) (before : List MdsEvent) (e : MdsEvent) (node : NodeId) (bytes : List ℕ) → IsOneOf (Answers node bytes) (after_event e (server_after servers mirrors before)).sends → IsAnsweredNow e node bytes
 
 -- ---- where clients of this cluster call
 
@@ -47,4 +47,4 @@ pub record AnswersAsked (servers : List AddressValue) (mirrors : ℕ) (before : 
 abbrev pub EachReplyIsAsked : Type 0
 EachReplyIsAsked =
     (servers : List AddressValue) (mirrors : ℕ) (events before after : List MdsEvent) (e : MdsEvent) → AreFitCalls events → IsEventOf events before e after
-    → (node : NodeId) (reply : RpcReply) → In (Replies node reply) (after_event e (server_after servers mirrors before)).sends → AnswersAsked servers mirrors before e node reply
+    → (node : NodeId) (reply : RpcReply) → IsOneOf (Replies node reply) (after_event e (server_after servers mirrors before)).sends → AnswersAsked servers mirrors before e node reply

@@ -7,10 +7,10 @@ use Rattle.cluster_model.specs.declared.layout_state.LayoutPhase.TheVariants.{He
 use Rattle.cluster_model.specs.declared.phase.EndCause.{EndCause}
 use Rattle.cluster_model.specs.declared.entry.Entry.{Entry}
 use Rattle.cluster_model.specs.declared.entry.Entry.TheVariants.{Ended}
+use Rattle.cluster_model.specs.Members.{IsOneOf}
 use Rattle.device_addr.specs.Universal.{AddressValue}
 use Rattle.mds_rule.specs.MdsStates.{ServedFile, MdsValue, served, new_mds}
 use Rattle.mds_laws.specs.MdsRuns.{MdsEvent, run_from}
-use Rattle.mds_laws.proofs.Lists.{In}
 use Rattle.mds_replies.specs.ClientCalls.{AreCalls, server_after}
 
 -- ---- a period
@@ -28,7 +28,7 @@ pub record HasPeriod (m : MdsValue) (file : FileId) (client uid : ℕ) : Type 0 
 -- the event enters that a period ended
 pub record EntersEnd (entries : List Entry) (file : FileId) (uid : ℕ) : Type 0 where
   pub cause : EndCause
-  pub there : In (Ended file (record { 0 = uid }) cause) entries
+  pub there : IsOneOf (Ended file (record { 0 = uid }) cause) entries
 
 -- ---- periods go on until they are entered as ended, and who has one is known
 

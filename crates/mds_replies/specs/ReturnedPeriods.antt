@@ -7,6 +7,7 @@ use Rattle.cluster_model.specs.declared.ids.Cred.{Cred}
 use Rattle.cluster_model.specs.declared.ids.Mirror.{Mirror}
 use Rattle.cluster_model.specs.declared.phase.EndCause.TheVariants.{Returned}
 use Rattle.cluster_model.specs.declared.entry.Entry.TheVariants as entry
+use Rattle.cluster_model.specs.Members.{IsOneOf}
 use Rattle.nfs4_types.specs.declared.ids.SessionId.{SessionId}
 use Rattle.nfs4_types.specs.declared.stateid.Stateid.{Stateid}
 use Rattle.nfs4_types.specs.Stateids.{three_words}
@@ -21,7 +22,6 @@ use Rattle.mds_calls.specs.MdsCalls.{OnSlot}
 use Rattle.mds_calls.specs.MdsCalls as slot
 use Rattle.mds_rule.specs.MdsStates.{ServedFile, served}
 use Rattle.mds_laws.specs.MdsRuns.{MdsEvent, after_event}
-use Rattle.mds_laws.proofs.Lists.{In}
 use Rattle.mds_replies.specs.ClientCalls.{IsCallFrom, server_after, IsEventOf}
 use Rattle.mds_replies.specs.SlotReplies.{request_of}
 use Rattle.mds_replies.specs.LayoutReplies.{HasPeriod}
@@ -41,11 +41,11 @@ pub record IsReturned (servers : List AddressValue) (mirrors : ℕ) (before : Li
   pub effect : request_answer (after_binding (server_after servers mirrors before).sessions session node) (request_of session number (slot.LayoutReturn file stateid failed)) ≡ TakesEffect
   pub names : stateid.other ≡ three_words file.0 cred.0 0
   pub had : HasPeriod (server_after servers mirrors before) file (client_in session) cred.0
-  pub left : (s : ServedFile) (m : Mirror) → served (server_after servers mirrors (before ++ e ∷ [])) file ≡ Some s → In m s.file.layout.live → reports_server failed m.id.server ≡ false
+  pub left : (s : ServedFile) (m : Mirror) → served (server_after servers mirrors (before ++ e ∷ [])) file ≡ Some s → IsOneOf m s.file.layout.live → reports_server failed m.id.server ≡ false
 
 -- no period ends as returned in another way
 abbrev pub ReturnsCome : Type 0
 ReturnsCome =
     (servers : List AddressValue) (mirrors : ℕ) (events before after : List MdsEvent) (e : MdsEvent) → AreFitCalls events → StaysRoomy servers mirrors events → IsEventOf events before e after
-    → (file : FileId) (cred : Cred) → In (entry.Ended file cred Returned) (after_event e (server_after servers mirrors before)).entries
+    → (file : FileId) (cred : Cred) → IsOneOf (entry.Ended file cred Returned) (after_event e (server_after servers mirrors before)).entries
     → IsReturned servers mirrors before e file cred

@@ -9,6 +9,7 @@ use Rattle.compound_reply.specs.Replied.{success_reply}
 use Rattle.cluster_model.specs.declared.ids.NodeId.{NodeId}
 use Rattle.cluster_model.specs.declared.ids.FileId.{FileId}
 use Rattle.cluster_model.specs.declared.entry.Entry.{Entry}
+use Rattle.cluster_model.specs.Members.{IsOneOf}
 use Rattle.device_addr.specs.Universal.{AddressValue}
 use Rattle.nfs4_types.specs.declared.ids.SessionId.{SessionId}
 use Rattle.nfs4_types.specs.declared.status.Stat4.{Stat4}
@@ -45,7 +46,7 @@ use Rattle.mds_rule.specs.MdsStates.{CompoundRun, ServedFile, MdsSend, Replies, 
 use Rattle.mds_rule.specs.OpSteps.{OpStep, Goes, Ends, Waits, with_result, refuses, refused_as, stopped}
 use Rattle.mds_rule.specs.Compounds.{operate, has_session, operates, compound_bytes, kept_in_slot, sequence_result, finishes, op_then, with_ops, runs, sequenced}
 use Rattle.mds_laws.specs.MdsRuns.{MdsInput, MdsEvent, Hears, IsTimedOut, Ticks, RecallsFile, Resilvers, after_event}
-use Rattle.mds_laws.proofs.Lists.{In, AllOf}
+use Rattle.mds_laws.proofs.Lists.{AllOf}
 use Rattle.mds_laws.proofs.Keeping.{HeardAny, Keeps, KeepsOp, same, enters_keeps, stays}
 use Rattle.mds_replies.specs.ClientCalls.{IsCallFrom, server_after, IsEventOf}
 use Rattle.mds_replies.specs.SlotReplies.{request_of, EffectsAreNumbered}
@@ -210,7 +211,7 @@ module _ (numbered : EffectsAreNumbered) (servers : List AddressValue) (mirrors 
 
   record EventSo : Type 0 where
     next : RunSo (server_after servers mirrors (past ++ e ∷ []))
-    replies : (node : NodeId) (reply : RpcReply) → In (Replies node reply) (after_event e (server_after servers mirrors past)).sends → IsAgreed Alone node reply
+    replies : (node : NodeId) (reply : RpcReply) → IsOneOf (Replies node reply) (after_event e (server_after servers mirrors past)).sends → IsAgreed Alone node reply
 
   ended : Keeps (IsSo Alone) (server_after servers mirrors past) (after_event e (server_after servers mirrors past)) → EventSo
   ended q =

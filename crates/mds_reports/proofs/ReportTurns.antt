@@ -12,6 +12,7 @@ use Rattle.cluster_model.specs.declared.ids.NodeId.TheVariants.{Server}
 use Rattle.cluster_model.specs.declared.ids.FileId.{FileId}
 use Rattle.cluster_model.specs.declared.ids.Cred.{Cred}
 use Rattle.cluster_model.specs.declared.entry.Entry.{Entry}
+use Rattle.cluster_model.specs.Members.{IsOneOf}
 use Rattle.file_rule.specs.MdsFiles.{FileStep}
 use Rattle.file_rule.specs.FilePhases.{FileInput, AsksLayout, Returns, OwnEnds, Answers as IsAnswer, TimesOut, Sees, phase, new_mds_file}
 use Rattle.mds_rows.specs.Draws.{drawn}
@@ -40,7 +41,7 @@ use Rattle.mds_rule.specs.Compounds.{compound_bytes, kept_in_slot, sequence_resu
 use Rattle.mds_rule.specs.Goes.{calls_out}
 use Rattle.mds_laws.specs.MdsRuns.{MdsInput, MdsEvent, Hears, IsTimedOut, Ticks as IsTick, RecallsFile, Resilvers, by_input, after_event}
 use Rattle.mds_laws.specs.SlotUses.{request_in}
-use Rattle.mds_laws.proofs.Lists.{In, AllOf, all_push, all_set, all_got}
+use Rattle.mds_laws.proofs.Lists.{AllOf, all_push, all_set, all_got}
 use Rattle.mds_laws.proofs.Keeping.{HeardAny, Becomes, Keeps, TakesInput, hears_any, then_keeps, becomes_keeps, enters_keeps, stays}
 use Rattle.mds_laws.proofs.Numbers.{WereSent, sent_more, sent_with, sent_without}
 use Rattle.mds_laws.proofs.OpsWalk.{place_served}
@@ -85,7 +86,7 @@ IsAgreed Own node reply = AgreesRead reply ⊎ Own node reply.xid
 pub record Stands (Own : NodeId → ℕ → Type 0) (files : List ServedFile) (sessions : SessionsState) (calls : List AwaitedCall) (ss : List MdsSend) : Type 0 where
   pub waits : AllOf (λ (s : ServedFile). AllWait W s.reads s.write) files
   pub table : TableSo SlotAgrees sessions
-  pub replies : (node : NodeId) (reply : RpcReply) → In (Replies node reply) ss → IsAgreed Own node reply
+  pub replies : (node : NodeId) (reply : RpcReply) → IsOneOf (Replies node reply) ss → IsAgreed Own node reply
   pub were : WereSent calls ss
 
 module _ (Own : NodeId → ℕ → Type 0) where
@@ -95,7 +96,7 @@ module _ (Own : NodeId → ℕ → Type 0) where
   wait_at : (m : MdsValue) (file : FileId) (s : ServedFile) → served m file ≡ Some s → AllOf (λ (x : ServedFile). AllWait W x.reads x.write) m.files → AllWait W s.reads s.write
   wait_at m file s at all = all_got (λ (x : ServedFile). AllWait W x.reads x.write) m.files (file.0 - 1) s all (place_served m file s at).1
 
-  set : (m : MdsValue) (file : FileId) (t : ServedFile) (calls : List AwaitedCall) (es : List Entry) (ss ts : List MdsSend) → AllWait W t.reads t.write → ((node : NodeId) (reply : RpcReply) → In (Replies node reply) ts → IsAgreed Own node reply)
+  set : (m : MdsValue) (file : FileId) (t : ServedFile) (calls : List AwaitedCall) (es : List Entry) (ss ts : List MdsSend) → AllWait W t.reads t.write → ((node : NodeId) (reply : RpcReply) → IsOneOf (Replies node reply) ts → IsAgreed Own node reply)
       → WereSent calls ts → IsSo m es ss → Stands Own (slice_set m.files (file.0 - 1) t) m.sessions calls ts
   set m file t calls es ss ts its replies were i = record { waits = all_set (λ (x : ServedFile). AllWait W x.reads x.write) m.files (file.0 - 1) t i.waits its; table = i.table; replies = replies; were = were }
 
@@ -127,11 +128,11 @@ module _ (Own : NodeId → ℕ → Type 0) where
     were = i.were;
   }
 
-  pushed : (ss : List MdsSend) (s : MdsSend) → ((node : NodeId) (reply : RpcReply) → Replies node reply ≡ s → IsAgreed Own node reply) → ((node : NodeId) (reply : RpcReply) → In (Replies node reply) ss → IsAgreed Own node reply)
-      → (node : NodeId) (reply : RpcReply) → In (Replies node reply) (ss ++ s ∷ []) → IsAgreed Own node reply
+  pushed : (ss : List MdsSend) (s : MdsSend) → ((node : NodeId) (reply : RpcReply) → Replies node reply ≡ s → IsAgreed Own node reply) → ((node : NodeId) (reply : RpcReply) → IsOneOf (Replies node reply) ss → IsAgreed Own node reply)
+      → (node : NodeId) (reply : RpcReply) → IsOneOf (Replies node reply) (ss ++ s ∷ []) → IsAgreed Own node reply
   pushed ss s new old node reply inside = by_place (in_pushed (Replies node reply) s ss inside)
     where
-      by_place : In (Replies node reply) ss ⊎ (Replies node reply ≡ s) → IsAgreed Own node reply
+      by_place : IsOneOf (Replies node reply) ss ⊎ (Replies node reply ≡ s) → IsAgreed Own node reply
       by_place (inl was) = old node reply was
       by_place (inr is) = new node reply is
 
@@ -187,7 +188,7 @@ module _ (Own : NodeId → ℕ → Type 0) where
     skips = λ m has es ss i. i;
     forgets = λ m node xid es ss i. record { waits = i.waits; table = i.table; replies = i.replies; were = sent_without node xid m.calls ss i.were };
     was = λ m es ss i. i.were;
-    again = λ m s es ss i inside. sends m es ss s (λ node reply is. i.replies node reply (subst (λ (x : MdsSend). In x ss) (sym is) inside)) i;
+    again = λ m s es ss i inside. sends m es ss s (λ node reply is. i.replies node reply (subst (λ (x : MdsSend). IsOneOf x ss) (sym is) inside)) i;
   }
 
   pub returned : (m : MdsValue) (file : FileId) (s : ServedFile) (n : ℕ) (cred : Cred) (errors : List (Value ff_ioerr4)) → TakesInput IsSo m file s (Returns n cred (report_of errors s.file.layout.live))

@@ -3,6 +3,7 @@
 use Rattle.std.specs.Prelude.{◌≡◌, ℕ, ◌⊎◌, false, List}
 use Rattle.cluster_model.specs.declared.ids.NodeId.{NodeId}
 use Rattle.rpc_record.specs.Replies.{RpcReply}
+use Rattle.cluster_model.specs.Members.{IsOneOf}
 use Rattle.device_addr.specs.Universal.{AddressValue}
 use Rattle.mds_calls.specs.declared.reply.SlotReport.{SlotReport}
 use Rattle.mds_calls.specs.declared.reply.SlotReport.TheVariants.{Taken, Uncached, Delayed, Unknown}
@@ -10,7 +11,6 @@ use Rattle.mds_calls.specs.MdsCalls.{MdsCallValue, SlotCallValue, ask_of, ask_on
 use Rattle.mds_calls.specs.MdsReplies.{MdsAnswerValue, Refused, reply_of_ask}
 use Rattle.mds_rule.specs.MdsStates.{Replies}
 use Rattle.mds_laws.specs.MdsRuns.{MdsEvent, after_event}
-use Rattle.mds_laws.proofs.Lists.{In}
 use Rattle.mds_replies.specs.ClientCalls.{IsCallFrom, server_after, IsEventOf}
 use Rattle.mds_replies.specs.AnsweredRequests.{AreFitCalls, StaysRoomy}
 
@@ -36,4 +36,4 @@ pub record CameAlone (e : MdsEvent) (node : NodeId) (xid : ℕ) : Type 0 where
 abbrev pub ReportsAgree : Type 0
 ReportsAgree =
     (servers : List AddressValue) (mirrors : ℕ) (events before after : List MdsEvent) (e : MdsEvent) → AreFitCalls events → StaysRoomy servers mirrors events → IsEventOf events before e after
-    → (node : NodeId) (reply : RpcReply) → In (Replies node reply) (after_event e (server_after servers mirrors before)).sends → AgreesRead reply ⊎ CameAlone e node reply.xid
+    → (node : NodeId) (reply : RpcReply) → IsOneOf (Replies node reply) (after_event e (server_after servers mirrors before)).sends → AgreesRead reply ⊎ CameAlone e node reply.xid

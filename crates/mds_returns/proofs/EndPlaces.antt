@@ -9,10 +9,10 @@ use Rattle.cluster_model.specs.declared.phase.EndCause.TheVariants.{Returned, Al
 use Rattle.cluster_model.specs.declared.entry.Entry.{Entry}
 use Rattle.cluster_model.specs.declared.entry.Entry.TheVariants as entry
 use Rattle.cluster_model.specs.Phases.{end_entries}
+use Rattle.cluster_model.specs.Members.{IsOneOf}
 use Rattle.mds_rule.specs.MdsStates.{MdsSend, CallsServer, CallsBack, AwaitedCall, MdsValue, with_call}
 use Rattle.mds_rule.specs.declared.waiter.Waiter.TheVariants.{ForFile, ForRead, ForWrite, ForRecall}
 use Rattle.mds_rule.specs.Goes.{calls_out}
-use Rattle.mds_laws.proofs.Lists.{In}
 use Rattle.mds_laws.proofs.Numbers.{WereSent, sent_more, sent_with}
 use Rattle.mds_replies.proofs.HolderCases.{OutCases}
 use Rattle.mds_replies.proofs.GoesWalk.{out_walk}
@@ -39,7 +39,7 @@ not_empty (e ∷ front) b back is = not_so (ap has_some is)
     not_so : false ≡ true → ⊥
     not_so e = absurd cc
 
-pub in_middle : (b : Entry) (front back : List Entry) → In b (front ++ b ∷ back)
+pub in_middle : (b : Entry) (front back : List Entry) → IsOneOf b (front ++ b ∷ back)
 in_middle b [] back = inl refl
 in_middle b (e ∷ front) back = inr (in_middle b front back)
 

@@ -13,6 +13,7 @@ use Rattle.cluster_model.specs.declared.entry.Entry.{Entry}
 use Rattle.cluster_model.specs.declared.entry.Entry.TheVariants as entry
 use Rattle.cluster_model.specs.declared.layout_state.LayoutPhase.{LayoutPhase}
 use Rattle.cluster_model.specs.Phases.{ids_of, unreported, left_entries, reported_cause}
+use Rattle.cluster_model.specs.Members.{IsOneOf}
 use Rattle.device_addr.specs.Universal.{AddressValue}
 use Rattle.layout_report.specs.Reports.{report_of}
 use Rattle.nfs4_types.specs.declared.ids.SessionId.{SessionId}
@@ -34,7 +35,6 @@ use Rattle.cluster_laws.specs.FenceLaw.{live_in}
 use Rattle.cluster_laws.proofs.Invariant.{live_of}
 use Rattle.cluster_laws.proofs.Journals.{live_append}
 use Rattle.mds_laws.specs.MdsRuns.{MdsEvent, after_event, mds_run}
-use Rattle.mds_laws.proofs.Lists.{In}
 use Rattle.mds_replies.specs.ClientCalls.{IsCallFrom, server_after, IsEventOf}
 use Rattle.mds_replies.specs.SlotReplies.{request_of, TookEffect, EffectsAreNumbered}
 use Rattle.mds_replies.specs.LayoutReplies.{HasPeriod}
@@ -86,20 +86,20 @@ fit_parts (e ∷ before) more fit = fit_parts before more fit.1
 
 record IsOfMirror (id : MirrorId) (live : List Mirror) : Type 0 where
   pub its : Mirror
-  pub there : In its live
+  pub there : IsOneOf its live
   pub same : id ≡ its.id
 
-mirror_of : (id : MirrorId) (live : List Mirror) → In id (ids_of live) → IsOfMirror id live
+mirror_of : (id : MirrorId) (live : List Mirror) → IsOneOf id (ids_of live) → IsOfMirror id live
 mirror_of id [] inside = absurd inside
 mirror_of id (m ∷ live) (inl is) = record { its = m; there = inl refl; same = is }
 mirror_of id (m ∷ live) (inr inside) = let x = mirror_of id live inside in record { its = x.its; there = inr x.there; same = x.same }
 
-unreported_from : (places : List Bool) (live : List Mirror) (m : Mirror) → In m (unreported places live) → In m live
+unreported_from : (places : List Bool) (live : List Mirror) (m : Mirror) → IsOneOf m (unreported places live) → IsOneOf m live
 unreported_from places [] m inside = absurd inside
 unreported_from [] (x ∷ live) m inside = inside
 unreported_from (b ∷ places) (x ∷ live) m inside = by_flag b inside (λ its. unreported_from places live m its)
   where
-    by_flag : (c : Bool) → In m (cond c (unreported places live) (x ∷ unreported places live)) → (In m (unreported places live) → In m live) → In m (x ∷ live)
+    by_flag : (c : Bool) → IsOneOf m (cond c (unreported places live) (x ∷ unreported places live)) → (IsOneOf m (unreported places live) → IsOneOf m live) → IsOneOf m (x ∷ live)
     by_flag true its rest = inr (rest its)
     by_flag false (inl is) rest = inl is
     by_flag false (inr its) rest = inr (rest its)
@@ -114,8 +114,8 @@ module _ (servers : List AddressValue) (mirrors : ℕ) (before : List MdsEvent) 
   pub record EndsSo (front : List Entry) (file : FileId) (uid : ℕ) : Type 0 where
     pub had : HasPeriod (server_after servers mirrors before) file (client_in session) uid
     pub names : stateid.other ≡ three_words file.0 uid 0
-    pub live : (ids : List MirrorId) → live_in ((mds_run servers mirrors before).entries ++ front) file ≡ Some ids → (id : MirrorId) → In id ids → In id (ids_of had.file_is.file.layout.live)
-    pub kept : (ids : List MirrorId) → live_in ((mds_run servers mirrors before).entries ++ front) file ≡ Some ids → (id : MirrorId) → In id ids → reports_server failed id.server ≡ false
+    pub live : (ids : List MirrorId) → live_in ((mds_run servers mirrors before).entries ++ front) file ≡ Some ids → (id : MirrorId) → IsOneOf id ids → IsOneOf id (ids_of had.file_is.file.layout.live)
+    pub kept : (ids : List MirrorId) → live_in ((mds_run servers mirrors before).entries ++ front) file ≡ Some ids → (id : MirrorId) → IsOneOf id ids → reports_server failed id.server ≡ false
 
 module _ (numbered : EffectsAreNumbered) (servers : List AddressValue) (mirrors : ℕ) (events before after : List MdsEvent) (e : MdsEvent) (fit : AreFitCalls events) (roomy : StaysRoomy servers mirrors events)
     (split : IsEventOf events before e after) (file : FileId) (uid : ℕ) (front back : List Entry) (entered : (after_event e (server_after servers mirrors before)).entries ≡ front ++ entry.Ended file (record { 0 = uid }) Returned ∷ back) where
@@ -153,14 +153,14 @@ module _ (numbered : EffectsAreNumbered) (servers : List AddressValue) (mirrors 
       kept = λ ids is id inside.
           by_mirror id
           (mirror_of id (unreported (places g.its) g.its.file.layout.live)
-          (subst (λ (l : List Bool). In id (ids_of (unreported l g.its.file.layout.live))) (places_again (places g.its)) (left_so ids is id inside).stays));
+          (subst (λ (l : List Bool). IsOneOf id (ids_of (unreported l g.its.file.layout.live))) (places_again (places g.its)) (left_so ids is id inside).stays));
     }
       where
         past_within : Within (live_in (mds_run servers mirrors before).entries f) (Some (ids_of g.its.file.layout.live))
         past_within =
             subst (λ (p : LayoutPhase). Within (live_in (mds_run servers mirrors before).entries f) (live_of p (ids_of g.its.file.layout.live))) g.held.is (run_within servers mirrors before f g.its g.there)
 
-        left_so : (ids : List MirrorId) → live_in ((mds_run servers mirrors before).entries ++ left g.its) f ≡ Some ids → (id : MirrorId) → In id ids → IsLeft (map reported_cause (places g.its)) g.its.file.layout.live id
+        left_so : (ids : List MirrorId) → live_in ((mds_run servers mirrors before).entries ++ left g.its) f ≡ Some ids → (id : MirrorId) → IsOneOf id ids → IsLeft (map reported_cause (places g.its)) g.its.file.layout.live id
         left_so ids is id inside =
             behind_left f (map reported_cause (places g.its)) g.its.file.layout.live (live_in (mds_run servers mirrors before).entries f) past_within ids
             (sym (live_append f None (mds_run servers mirrors before).entries (left g.its)) ∙ is) id inside
@@ -244,5 +244,5 @@ pub returns_at_ends : EffectsAreNumbered → ReturnsCome → ReturnsComeAtEnds
 returns_at_ends numbered come servers mirrors events before after e fit roomy split file uid front back entered =
     by_brought numbered servers mirrors events before after e fit roomy split file uid front back entered
     (come servers mirrors events before after e fit roomy split file (record { 0 = uid })
-    (subst (λ (l : List Entry). In (entry.Ended file (record { 0 = uid }) Returned) l) (sym entered) (in_middle (entry.Ended file (record { 0 = uid }) Returned) front back)))
+    (subst (λ (l : List Entry). IsOneOf (entry.Ended file (record { 0 = uid }) Returned) l) (sym entered) (in_middle (entry.Ended file (record { 0 = uid }) Returned) front back)))
     (brings e (fit_parts before (e ∷ after) (subst AreFitCalls split fit)).0)

@@ -20,6 +20,7 @@ use Rattle.cluster_model.specs.declared.layout_state.LayoutPhase.{LayoutPhase}
 use Rattle.cluster_model.specs.declared.layout_state.LayoutPhase.TheVariants.{Making, Free, Held, Fencing, Settling, Copying}
 use Rattle.cluster_model.specs.Journal.{is_mirror}
 use Rattle.cluster_model.specs.Phases.{ids_of, unreported, left_entries, reported_cause, left_with, end_entries, returned}
+use Rattle.cluster_model.specs.Members.{IsOneOf}
 use Rattle.file_rule.specs.declared.fresh.Fresh.{Fresh}
 use Rattle.file_rule.specs.MdsFiles.{MdsFile, FileStep, nothing, a_uid, goes_fencing}
 use Rattle.file_rule.specs.FilePhases.{FileInput, AsksLayout, OwnWrite, Recall, Returns, Revokes, OwnEnds, Resilver, Answers, TimesOut, Ticks, Sees, held_in, by_client, by_mds, returned_row, own_row, phase}
@@ -28,7 +29,7 @@ use Rattle.cluster_laws.proofs.Invariant.{live_of}
 use Rattle.cluster_laws.proofs.Journals.{live_append}
 use Rattle.cluster_laws.proofs.Lists.{all_append}
 use Rattle.cluster_laws.proofs.Lives.{own_file, itself}
-use Rattle.mds_laws.proofs.Lists.{In, in_more, in_last, in_filtered}
+use Rattle.mds_laws.proofs.Lists.{in_more, in_last, in_filtered}
 use Rattle.mds_replies.proofs.Turns.{in_pushed}
 use Rattle.mds_replies.proofs.MirrorsTold.{IsOf, told, Fits, Tells, phase_tells}
 
@@ -39,46 +40,46 @@ abbrev pub Within : Option (List MirrorId) → Option (List MirrorId) → Type 0
 Within None None = Unit {0}
 Within None (Some ks) = ⊥
 Within (Some ids) None = ⊥
-Within (Some ids) (Some ks) = (id : MirrorId) → In id ids → In id ks
+Within (Some ids) (Some ks) = (id : MirrorId) → IsOneOf id ids → IsOneOf id ks
 
-passes : (p : MirrorId → Bool) (ids : List MirrorId) (id : MirrorId) → In id (filter p ids) → p id ≡ true
+passes : (p : MirrorId → Bool) (ids : List MirrorId) (id : MirrorId) → IsOneOf id (filter p ids) → p id ≡ true
 passes p [] id inside = absurd inside
 passes p (k ∷ ids) id inside = by_test (p k) refl inside (passes p ids id)
   where
-    by_test : (b : Bool) → p k ≡ b → In id (cond b (k ∷ filter p ids) (filter p ids)) → (In id (filter p ids) → p id ≡ true) → p id ≡ true
+    by_test : (b : Bool) → p k ≡ b → IsOneOf id (cond b (k ∷ filter p ids) (filter p ids)) → (IsOneOf id (filter p ids) → p id ≡ true) → p id ≡ true
     by_test true at (inl is) rest = ap p is ∙ at
     by_test true at (inr its) rest = rest its
     by_test false at its rest = rest its
 
-in_filter : (p : MirrorId → Bool) (ks : List MirrorId) (id : MirrorId) → In id ks → p id ≡ true → In id (filter p ks)
+in_filter : (p : MirrorId → Bool) (ks : List MirrorId) (id : MirrorId) → IsOneOf id ks → p id ≡ true → IsOneOf id (filter p ks)
 in_filter p [] id inside on = absurd inside
 in_filter p (k ∷ ks) id (inl is) on = by_test (p k) (sym (ap p is) ∙ on)
   where
-    by_test : (b : Bool) → b ≡ true → In id (cond b (k ∷ filter p ks) (filter p ks))
+    by_test : (b : Bool) → b ≡ true → IsOneOf id (cond b (k ∷ filter p ks) (filter p ks))
     by_test true at = inl is
     by_test false at = absurd cc
 in_filter p (k ∷ ks) id (inr its) on = by_test (p k) (in_filter p ks id its on)
   where
-    by_test : (b : Bool) → In id (filter p ks) → In id (cond b (k ∷ filter p ks) (filter p ks))
+    by_test : (b : Bool) → IsOneOf id (filter p ks) → IsOneOf id (cond b (k ∷ filter p ks) (filter p ks))
     by_test true there = inr there
     by_test false there = there
 
-in_map : (f : MirrorId → MirrorId) (x : MirrorId) (ks : List MirrorId) → In x ks → In (f x) (map f ks)
+in_map : (f : MirrorId → MirrorId) (x : MirrorId) (ks : List MirrorId) → IsOneOf x ks → IsOneOf (f x) (map f ks)
 in_map f x [] inside = absurd inside
 in_map f x (k ∷ ks) (inl is) = inl (ap f is)
 in_map f x (k ∷ ks) (inr its) = inr (in_map f x ks its)
 
-map_within : (f : MirrorId → MirrorId) (ids ks : List MirrorId) → ((id : MirrorId) → In id ids → In id ks) → (id : MirrorId) → In id (map f ids) → In id (map f ks)
+map_within : (f : MirrorId → MirrorId) (ids ks : List MirrorId) → ((id : MirrorId) → IsOneOf id ids → IsOneOf id ks) → (id : MirrorId) → IsOneOf id (map f ids) → IsOneOf id (map f ks)
 map_within f [] ks all id inside = absurd inside
-map_within f (x ∷ ids) ks all id (inl is) = subst (λ (y : MirrorId). In y (map f ks)) (sym is) (in_map f x ks (all x (inl refl)))
+map_within f (x ∷ ids) ks all id (inl is) = subst (λ (y : MirrorId). IsOneOf y (map f ks)) (sym is) (in_map f x ks (all x (inl refl)))
 map_within f (x ∷ ids) ks all id (inr its) = map_within f ids ks (λ y inside. all y (inr inside)) id its
 
-swap_within : (old : Option MirrorId) (new : MirrorId) (ids ks : List MirrorId) → ((id : MirrorId) → In id ids → In id ks) → (id : MirrorId) → In id (swapped_in old new ids) → In id (swapped_in old new ks)
+swap_within : (old : Option MirrorId) (new : MirrorId) (ids ks : List MirrorId) → ((id : MirrorId) → IsOneOf id ids → IsOneOf id ks) → (id : MirrorId) → IsOneOf id (swapped_in old new ids) → IsOneOf id (swapped_in old new ks)
 swap_within None new ids ks all id inside = by_place (in_pushed id new ids inside)
   where
-    by_place : In id ids ⊎ (id ≡ new) → In id (ks ++ new ∷ [])
+    by_place : IsOneOf id ids ⊎ (id ≡ new) → IsOneOf id (ks ++ new ∷ [])
     by_place (inl was) = in_more id ks (new ∷ []) (all id was)
-    by_place (inr is) = subst (λ (x : MirrorId). In x (ks ++ new ∷ [])) (sym is) (in_last new ks)
+    by_place (inr is) = subst (λ (x : MirrorId). IsOneOf x (ks ++ new ∷ [])) (sym is) (in_last new ks)
 swap_within (Some old) new ids ks all id inside = map_within (λ (m : MirrorId). if is_mirror m old then new else m) ids ks all id inside
 
 free_within : (mirrors : List MirrorId) (a b : Option (List MirrorId)) → Within a b → Within (first_free mirrors a) (first_free mirrors b)
@@ -87,14 +88,14 @@ free_within mirrors None (Some ks) w = absurd w
 free_within mirrors (Some ids) None w = absurd w
 free_within mirrors (Some ids) (Some ks) w = w
 
-changed_within : (change : List MirrorId → List MirrorId) → ((ids ks : List MirrorId) → ((id : MirrorId) → In id ids → In id ks) → (id : MirrorId) → In id (change ids) → In id (change ks)) → (a b : Option (List MirrorId))
+changed_within : (change : List MirrorId → List MirrorId) → ((ids ks : List MirrorId) → ((id : MirrorId) → IsOneOf id ids → IsOneOf id ks) → (id : MirrorId) → IsOneOf id (change ids) → IsOneOf id (change ks)) → (a b : Option (List MirrorId))
     → Within a b → Within (changed_live change a) (changed_live change b)
 changed_within change keeps None None w = tt
 changed_within change keeps None (Some ks) w = absurd w
 changed_within change keeps (Some ids) None w = absurd w
 changed_within change keeps (Some ids) (Some ks) w = keeps ids ks w
 
-filter_within : (p : MirrorId → Bool) (ids ks : List MirrorId) → ((id : MirrorId) → In id ids → In id ks) → (id : MirrorId) → In id (filter p ids) → In id (filter p ks)
+filter_within : (p : MirrorId → Bool) (ids ks : List MirrorId) → ((id : MirrorId) → IsOneOf id ids → IsOneOf id ks) → (id : MirrorId) → IsOneOf id (filter p ids) → IsOneOf id (filter p ks)
 filter_within p ids ks all id inside = in_filter p ks id (all id (in_filtered p id ids inside)) (passes p ids id inside)
 
 by_file : (b : Bool) (x y a c : Option (List MirrorId)) → Within x y → Within a c → Within (cond b x a) (cond b y c)
@@ -131,7 +132,7 @@ left_is file (Some cause ∷ causes) (m ∷ live) was =
     ap (λ (b : Bool). live_by file (cond b (Some (filter (λ (k : MirrorId). not (is_mirror k m.id)) was)) (Some was)) (left_entries file causes live)) (own_file file)
     ∙ left_is file causes live (filter (λ (k : MirrorId). not (is_mirror k m.id)) was)
 
-left_was : (causes : List (Option LeftCause)) (live : List Mirror) (was : List MirrorId) (id : MirrorId) → In id (left_of causes live was) → In id was
+left_was : (causes : List (Option LeftCause)) (live : List Mirror) (was : List MirrorId) (id : MirrorId) → IsOneOf id (left_of causes live was) → IsOneOf id was
 left_was causes [] was id inside = inside
 left_was [] (m ∷ live) was id inside = inside
 left_was (None ∷ causes) (m ∷ live) was id inside = left_was causes live was id inside
@@ -139,7 +140,7 @@ left_was (Some cause ∷ causes) (m ∷ live) was id inside =
     in_filtered (λ (k : MirrorId). not (is_mirror k m.id)) id was (left_was causes live (filter (λ (k : MirrorId). not (is_mirror k m.id)) was) id inside)
 
 -- one that is left, and is of the file, did not leave it
-left_stays : (causes : List (Option LeftCause)) (live : List Mirror) (was : List MirrorId) (id : MirrorId) → In id (left_of causes live was) → In id (ids_of live) → In id (ids_of (unreported (map is_some causes) live))
+left_stays : (causes : List (Option LeftCause)) (live : List Mirror) (was : List MirrorId) (id : MirrorId) → IsOneOf id (left_of causes live was) → IsOneOf id (ids_of live) → IsOneOf id (ids_of (unreported (map is_some causes) live))
 left_stays causes [] was id inside its = absurd its
 left_stays [] (m ∷ live) was id inside its = its
 left_stays (None ∷ causes) (m ∷ live) was id inside (inl is) = inl is
@@ -153,19 +154,19 @@ left_stays (Some cause ∷ causes) (m ∷ live) was id inside (inl is) =
 left_stays (Some cause ∷ causes) (m ∷ live) was id inside (inr its) = left_stays causes live (filter (λ (k : MirrorId). not (is_mirror k m.id)) was) id inside its
 
 pub record IsLeft (causes : List (Option LeftCause)) (live : List Mirror) (id : MirrorId) : Type 0 where
-  pub was : In id (ids_of live)
-  pub stays : In id (ids_of (unreported (map is_some causes) live))
+  pub was : IsOneOf id (ids_of live)
+  pub stays : IsOneOf id (ids_of (unreported (map is_some causes) live))
 
 -- a mirror that is live behind the entries of those that leave
 pub behind_left : (file : FileId) (causes : List (Option LeftCause)) (live : List Mirror) (w : Option (List MirrorId)) → Within w (Some (ids_of live)) → (ids : List MirrorId) → live_by file w (left_entries file causes live) ≡ Some ids → (id : MirrorId)
-    → In id ids → IsLeft causes live id
+    → IsOneOf id ids → IsLeft causes live id
 behind_left file causes live None w ids is id inside = absurd w
 behind_left file causes live (Some was) w ids is id inside =
-    let there : In id (left_of causes live was) = subst (λ (l : List MirrorId). In id l) (same_Some ids (left_of causes live was) (sym is ∙ left_is file causes live was)) inside in
-    let its : In id (ids_of live) = w id (left_was causes live was id there) in
+    let there : IsOneOf id (left_of causes live was) = subst (λ (l : List MirrorId). IsOneOf id l) (same_Some ids (left_of causes live was) (sym is ∙ left_is file causes live was)) inside in
+    let its : IsOneOf id (ids_of live) = w id (left_was causes live was id there) in
     record { was = its; stays = left_stays causes live was id there its }
 
-leave_within : (file : FileId) (causes : List (Option LeftCause)) (live : List Mirror) (was : List MirrorId) → ((id : MirrorId) → In id was → In id (ids_of live))
+leave_within : (file : FileId) (causes : List (Option LeftCause)) (live : List Mirror) (was : List MirrorId) → ((id : MirrorId) → IsOneOf id was → IsOneOf id (ids_of live))
     → Within (live_by file (Some was) (left_entries file causes live)) (Some (ids_of (unreported (map is_some causes) live)))
 leave_within file causes live was all =
     subst (λ (w : Option (List MirrorId)). Within w (Some (ids_of (unreported (map is_some causes) live)))) (sym (left_is file causes live was))
@@ -205,7 +206,7 @@ module _ (file : FileId) (fresh : Fresh) where
   still f i = record { live = λ was w. w; own = tt; fits = i }
 
   end_live : (s : LayoutState) (left : List Entry) (cause : EndCause) (behind : List Mirror) → told s ≡ Some (ids_of s.live)
-      → ((was : List MirrorId) → ((id : MirrorId) → In id was → In id (ids_of s.live)) → Within (live_by file (Some was) left) (Some (ids_of behind)))
+      → ((was : List MirrorId) → ((id : MirrorId) → IsOneOf id was → IsOneOf id (ids_of s.live)) → Within (live_by file (Some was) left) (Some (ids_of behind)))
       → (was : Option (List MirrorId)) → Within was (told s) → Within (live_by file was (left ++ entry.Ended file s.cred cause ∷ [])) (Some (ids_of behind))
   end_live s left cause behind held leave was w = by_list was (subst (λ (l : Option (List MirrorId)). Within was l) held w)
     where
@@ -214,7 +215,7 @@ module _ (file : FileId) (fresh : Fresh) where
       by_list (Some ids) all = subst (λ (l : Option (List MirrorId)). Within l (Some (ids_of behind))) (sym (live_append file (Some ids) left (entry.Ended file s.cred cause ∷ []))) (leave ids all)
 
   end_within : (s : LayoutState) (next : Cred) (left : List Entry) (cause : EndCause) (behind : List Mirror) (uid : ℕ) → told s ≡ Some (ids_of s.live)
-      → ((was : List MirrorId) → ((id : MirrorId) → In id was → In id (ids_of s.live)) → Within (live_by file (Some was) left) (Some (ids_of behind))) → AllByRecursion (IsOf file) left
+      → ((was : List MirrorId) → ((id : MirrorId) → IsOneOf id was → IsOneOf id (ids_of s.live)) → Within (live_by file (Some was) left) (Some (ids_of behind))) → AllByRecursion (IsOf file) left
       → StaysWithin file s (goes_fencing (record { file = left_with s next behind; entries = end_entries file s.cred left cause behind }) uid)
   end_within s next left cause [] uid held leave own = record { live = λ was w. subst (λ (l : Option (List MirrorId)). Within was l) held w; own = (tt, tt); fits = refl }
   end_within s next left cause (m ∷ behind) uid held leave own = record {

@@ -8,6 +8,7 @@ use Rattle.cluster_model.specs.declared.phase.EndCause.TheVariants.{Returned}
 use Rattle.cluster_model.specs.declared.entry.Entry.{Entry}
 use Rattle.cluster_model.specs.declared.entry.Entry.TheVariants as entry
 use Rattle.cluster_model.specs.Phases.{ids_of}
+use Rattle.cluster_model.specs.Members.{IsOneOf}
 use Rattle.cluster_laws.specs.FenceLaw.{live_in}
 use Rattle.nfs4_types.specs.declared.ids.SessionId.{SessionId}
 use Rattle.nfs4_types.specs.declared.stateid.Stateid.{Stateid}
@@ -19,7 +20,6 @@ use Rattle.mds_calls.specs.FittingCalls.{reports_server, FitsRequest}
 use Rattle.mds_calls.specs.MdsCalls.{OnSlot}
 use Rattle.mds_calls.specs.MdsCalls as slot
 use Rattle.mds_laws.specs.MdsRuns.{MdsEvent, after_event, mds_run}
-use Rattle.mds_laws.proofs.Lists.{In}
 use Rattle.mds_replies.specs.ClientCalls.{IsCallFrom, server_after, IsEventOf}
 use Rattle.mds_replies.specs.LayoutReplies.{HasPeriod}
 use Rattle.mds_replies.specs.AnsweredRequests.{AreFitCalls, StaysRoomy}
@@ -39,9 +39,9 @@ pub record ReturnsAtEnd (servers : List AddressValue) (mirrors : ℕ) (before : 
   pub had : HasPeriod (server_after servers mirrors before) file (client_in session) uid
   pub names : (owner : List ℕ) (own : FileId) (its : Stateid) (reports : List FailedMirror) → IsCallFrom e node xid owner (OnSlot session number (slot.LayoutReturn own its reports)) → FitsRequest (OnSlot session number (slot.LayoutReturn own its reports))
       → its.other ≡ three_words file.0 uid 0
-  pub live : (ids : List MirrorId) → live_in ((mds_run servers mirrors before).entries ++ front) file ≡ Some ids → (id : MirrorId) → In id ids → In id (ids_of had.file_is.file.layout.live)
+  pub live : (ids : List MirrorId) → live_in ((mds_run servers mirrors before).entries ++ front) file ≡ Some ids → (id : MirrorId) → IsOneOf id ids → IsOneOf id (ids_of had.file_is.file.layout.live)
   pub kept : (owner : List ℕ) (own : FileId) (its : Stateid) (reports : List FailedMirror) → IsCallFrom e node xid owner (OnSlot session number (slot.LayoutReturn own its reports)) → FitsRequest (OnSlot session number (slot.LayoutReturn own its reports))
-      → (ids : List MirrorId) → live_in ((mds_run servers mirrors before).entries ++ front) file ≡ Some ids → (id : MirrorId) → In id ids → reports_server reports id.server ≡ false
+      → (ids : List MirrorId) → live_in ((mds_run servers mirrors before).entries ++ front) file ≡ Some ids → (id : MirrorId) → IsOneOf id ids → reports_server reports id.server ≡ false
 
 abbrev pub ReturnsComeAtEnds : Type 0
 ReturnsComeAtEnds =

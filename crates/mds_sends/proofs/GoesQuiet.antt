@@ -8,7 +8,7 @@ use Rattle.cluster_model.specs.declared.outbox.Outbox.{Outbox}
 use Rattle.mds_rule.specs.MdsStates.{ServedFile, MdsValue, MdsStep, sends_none, and_then, served, numbered}
 use Rattle.mds_rule.specs.Goes.{each, has_xids, own_next, own_call, own_two, own_calls, read_call_in, read_count, read_calls, place_calls, recall_call, repeats, file_calls}
 use Rattle.compound_run.specs.CompoundRuns.{HasMadeStep}
-use Rattle.served_files.specs.Quiet.{IsQuiet, AreQuiet}
+use Rattle.served_files.specs.Quiet.{IsFileQuiet, AreQuiet}
 use Rattle.mds_sends.specs.Visits.{NoRecalls, AreSilent}
 use Rattle.mds_sends.proofs.GoesEach.{each_turn}
 use Rattle.mds_sends.proofs.GoesOwn.{either_none, steps_none, own_is}
@@ -25,15 +25,15 @@ each_silent step (n ∷ list) m none = then_none (step n m) (λ k. each step lis
 -- ---- one file, which is quiet, if it is there
 
 module _ (m : MdsValue) (file : FileId) where
-  own_by : (place : ℕ) (o : Option ServedFile) → served m file ≡ o → ((s : ServedFile) → o ≡ Some s → IsQuiet s) → own_call file place m ≡ sends_none m
+  own_by : (place : ℕ) (o : Option ServedFile) → served m file ≡ o → ((s : ServedFile) → o ≡ Some s → IsFileQuiet s) → own_call file place m ≡ sends_none m
   own_by place None is quiet = ap (λ (o : Option ServedFile). cond (has_xids m) (own_next m file place o) (sends_none m)) is ∙ either_none (has_xids m) (sends_none m)
   own_by place (Some s) is quiet = own_is m file place s None is ((quiet s refl).own file m.next_xid) ∙ either_none (has_xids m) (sends_none m)
 
-  read_by : (place n : ℕ) (o : Option ServedFile) → served m file ≡ o → ((s : ServedFile) → o ≡ Some s → IsQuiet s) → read_call_in file place n m (served m file) ≡ sends_none m
+  read_by : (place n : ℕ) (o : Option ServedFile) → served m file ≡ o → ((s : ServedFile) → o ≡ Some s → IsFileQuiet s) → read_call_in file place n m (served m file) ≡ sends_none m
   read_by place n None is quiet = ap (read_call_in file place n m) is
   read_by place n (Some s) is quiet = read_is m file place n s is ∙ none_at m file s n place (slice_get s.reads n) ((quiet s refl).reads n m.next_xid)
 
-  module _ (quiet : (s : ServedFile) → served m file ≡ Some s → IsQuiet s) where
+  module _ (quiet : (s : ServedFile) → served m file ≡ Some s → IsFileQuiet s) where
     own_none : (place : ℕ) → own_calls file place m ≡ sends_none m
     own_none place =
         let one = own_by place (served m file) refl quiet in
@@ -46,7 +46,7 @@ module _ (m : MdsValue) (file : FileId) where
     places_none : each (place_calls file) (0 ∷ 1 ∷ 2 ∷ 3 ∷ 4 ∷ []) m ≡ sends_none m
     places_none = each_silent (place_calls file) (0 ∷ 1 ∷ 2 ∷ 3 ∷ 4 ∷ []) m (λ place. then_none (own_calls file place m) (read_calls file place) m (own_none place) (reads_none place))
 
-file_none : (m : MdsValue) (n : ℕ) → recall_call (numbered n) m ≡ sends_none m → ((s : ServedFile) → served m (numbered n) ≡ Some s → IsQuiet s) → file_calls [] n m ≡ sends_none m
+file_none : (m : MdsValue) (n : ℕ) → recall_call (numbered n) m ≡ sends_none m → ((s : ServedFile) → served m (numbered n) ≡ Some s → IsFileQuiet s) → file_calls [] n m ≡ sends_none m
 file_none m n recall quiet =
     then_none (and_then (recall_call (numbered n) m) (repeats (slice_get [] (n - 1)))) (each (place_calls (numbered n)) (0 ∷ 1 ∷ 2 ∷ 3 ∷ 4 ∷ [])) m
     (then_none (recall_call (numbered n) m) (repeats (slice_get [] (n - 1))) m recall refl)

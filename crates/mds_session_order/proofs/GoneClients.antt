@@ -7,6 +7,7 @@ use Rattle.std.proofs.lemmas.Option.{same_Some, none-some}
 use Rattle.ff_xdr.specs.Form.{long}
 use Rattle.device_addr.specs.Universal.{AddressValue}
 use Rattle.cluster_model.specs.declared.ids.NodeId.{NodeId}
+use Rattle.cluster_model.specs.Members.{IsOneOf}
 use Rattle.nfs4_types.specs.declared.ids.SessionId.{SessionId}
 use Rattle.nfs4_types.specs.declared.status.Stat4.TheVariants as stat
 use Rattle.nfs4_session.specs.Slots.{SlotState, SlotReply, NoRequest, InProgress, Cached, Uncached, SlotAnswer, TakesEffect, Refuses, sequence_after, answer_again, is_in_progress, slot_answer}
@@ -19,7 +20,7 @@ use Rattle.mds_session_calls.specs.SessionOps as asked
 use Rattle.mds_calls.specs.MdsCalls.{SlotCallValue}
 use Rattle.mds_rule.specs.MdsStates.{MdsValue, new_mds}
 use Rattle.mds_laws.specs.MdsRuns.{MdsEvent, after_event}
-use Rattle.mds_laws.proofs.Lists.{In, found_in, found_passes}
+use Rattle.mds_laws.proofs.Lists.{found_in, found_passes}
 use Rattle.mds_replies.specs.ClientCalls.{HearsCall, AreCalls, server_after, IsEventOf}
 use Rattle.mds_replies.specs.ClientIds.{GivesSession}
 use Rattle.mds_replies.specs.SlotReplies.{request_of}
@@ -39,12 +40,12 @@ use Rattle.mds_session_order.proofs.NewSessions.{due_number, replay_number}
 
 -- the session that was made last is among a record's sessions
 abbrev MadeStand : SessionsState → Type 0
-MadeStand s = (c : ClientState) → In c s.clients → (made : MadeSession) → c.made ≡ Some made → HasSession made.number c.sessions
+MadeStand s = (c : ClientState) → IsOneOf c s.clients → (made : MadeSession) → c.made ≡ Some made → HasSession made.number c.sessions
 
 -- the record that has this id has this session
 pub record HasGiven (id number : ℕ) (s : SessionsState) : Type 0 where
   pub given : id ≤ client_id 1 s.ids
-  pub has : (c : ClientState) → In c s.clients → c.id ≡ id → HasSession number c.sessions
+  pub has : (c : ClientState) → IsOneOf c s.clients → c.id ≡ id → HasSession number c.sessions
 
 abbrev Whole : SessionsState → Type 0
 Whole s = Facts s × MadeStand s
@@ -101,10 +102,10 @@ module _ (s : SessionsState) (f : Facts s) (client : ℕ) where
   made_has sequence node now c at due =
       subst (λ (case : CreateSessionCase). HasGiven client (s.numbers + 1) (after_creating s asked.callback_program node now case)) at behind
     where
-      left : In c (remove_first (is_before_restart c) s.clients)
+      left : IsOneOf c (remove_first (is_before_restart c) s.clients)
       left = by_place (stays_or_passes (is_before_restart c) c s.clients due.inside)
         where
-          by_place : In c (remove_first (is_before_restart c) s.clients) ⊎ (is_before_restart c c ≡ true) → In c (remove_first (is_before_restart c) s.clients)
+          by_place : IsOneOf c (remove_first (is_before_restart c) s.clients) ⊎ (is_before_restart c c ≡ true) → IsOneOf c (remove_first (is_before_restart c) s.clients)
           by_place (inl stays) = stays
           by_place (inr passes) = absurd (own_restart c passes)
 
@@ -116,7 +117,7 @@ module _ (s : SessionsState) (f : Facts s) (client : ℕ) where
           let t : SessionsState = table_after s (Creates client sequence asked.callback_program node now) in
           let facts : Facts t = facts_keep s (Creates client sequence asked.callback_program node now) f in
           let x : ClientState = with_new_session (created_session s asked.callback_program node) now hit.y in
-          let inside : In x t.clients = subst (λ (case : CreateSessionCase). In x (after_creating s asked.callback_program node now case).clients) (sym at) hit.inside in
+          let inside : IsOneOf x t.clients = subst (λ (case : CreateSessionCase). IsOneOf x (after_creating s asked.callback_program node now case).clients) (sym at) hit.inside in
           let its : x.id ≡ client = eqb-true hit.y.id c.id hit.passes ∙ due.id in
           record {
             given = subst (λ (n : ℕ). n ≤ client_id 1 t.ids) its (facts.table.ids x inside);
@@ -154,14 +155,14 @@ module _ (session : SessionId) (number : ℕ) (call : SlotCallValue) (s : Sessio
       absurd (by_session c (h.has c (found_in (has_id (client_in session)) s.clients c at) (eqb-true c.id (client_in session) (found_passes (has_id (client_in session)) s.clients c at)))
       (find (has_number (number_in session)) c.sessions) refl is)
 
-  none_found : request_answer s (request_of session number call) ≡ Refuses stat.BadSession → (c : ClientState) → In c s.clients → c.id ≡ client_in session → ⊥
+  none_found : request_answer s (request_of session number call) ≡ Refuses stat.BadSession → (c : ClientState) → IsOneOf c s.clients → c.id ≡ client_in session → ⊥
   none_found is c inside its = is_found (has_id (client_in session)) c s.clients inside (eq-eqb c.id (client_in session) its) (by_client (find (has_id (client_in session)) s.clients) refl is)
 
 -- ---- an id that no record has
 
 pub record IsGone (id : ℕ) (s : SessionsState) : Type 0 where
   pub given : id ≤ client_id 1 s.ids
-  pub none : (c : ClientState) → In c s.clients → c.id ≡ id → ⊥
+  pub none : (c : ClientState) → IsOneOf c s.clients → c.id ≡ id → ⊥
 
 abbrev pub Gone : ℕ → SessionsState → Type 0
 Gone id s = Facts s × IsGone id s

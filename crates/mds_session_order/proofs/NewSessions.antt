@@ -6,6 +6,7 @@ use Rattle.std.proofs.lemmas.Option.{same_Some, none-some}
 use Rattle.ff_xdr.specs.Form.{long}
 use Rattle.device_addr.specs.Universal.{AddressValue}
 use Rattle.cluster_model.specs.declared.ids.NodeId.{NodeId}
+use Rattle.cluster_model.specs.Members.{IsOneOf}
 use Rattle.nfs4_types.specs.declared.ids.SessionId.{SessionId}
 use Rattle.nfs4_session.specs.Clients.{ClientState, MadeSession, SessionsState, client_id, session_id, client_in, number_in}
 use Rattle.nfs4_session.specs.ExchangeIds.{new_client}
@@ -16,7 +17,6 @@ use Rattle.mds_session_calls.specs.SessionOps as asked
 use Rattle.mds_rule.specs.MdsStates.{MdsValue, new_mds}
 use Rattle.mds_rule.specs.Goes.{calls_out}
 use Rattle.mds_laws.specs.MdsRuns.{MdsEvent, after_event, run_from}
-use Rattle.mds_laws.proofs.Lists.{In}
 use Rattle.mds_replies.specs.ClientCalls.{AreCalls, server_after, IsEventOf}
 use Rattle.mds_replies.specs.ClientIds.{GivesId, GivesSession}
 use Rattle.mds_replies.proofs.Periods.{run_behind}
@@ -89,7 +89,7 @@ module _ (keeps : KeepsTable) (servers : List AddressValue) (mirrors : ℕ) wher
 record IsSince (id sequence numbers : ℕ) (s : SessionsState) : Type 0 where
   few : numbers ≤ s.numbers
   given : id ≤ client_id 1 s.ids
-  later : (c : ClientState) → In c s.clients → c.id ≡ id → (made : MadeSession) → c.made ≡ Some made → made.sequence ≡ sequence → numbers < made.number
+  later : (c : ClientState) → IsOneOf c s.clients → c.id ≡ id → (made : MadeSession) → c.made ≡ Some made → made.sequence ≡ sequence → numbers < made.number
 
 made_later : (s : SessionsState) (numbers : ℕ) (c : ClientState) (made : MadeSession) (x : Option MadeSession) → numbers ≤ s.numbers → x ≡ Some (record { sequence = c.sequence; number = s.numbers + 1 }) → x ≡ Some made → numbers < made.number
 made_later s numbers c made x few first is =
@@ -114,7 +114,7 @@ module _ (id sequence numbers : ℕ) where
     abbrev Behind : SessionsState
     Behind = table_after s (Exchanges verifier owner now)
 
-    old_since : (c : ClientState) → In c s.clients → c.id ≡ id → c.sequence ≡ sequence → IsSince id sequence numbers (table_after s (Exchanges verifier owner now))
+    old_since : (c : ClientState) → IsOneOf c s.clients → c.id ≡ id → c.sequence ≡ sequence → IsSince id sequence numbers (table_after s (Exchanges verifier owner now))
     old_since c inside is at = record {
       few = given_keeps numbers s (Exchanges verifier owner now) few;
       given = id_stays s (Exchanges verifier owner now) f id (subst (λ (n : ℕ). n ≤ client_id 1 s.ids) is (f.table.ids c inside));
@@ -136,7 +136,7 @@ module _ (id sequence numbers : ℕ) where
       later = λ d there same made its number. by_it d (came s (Exchanges verifier owner now) d there) same made its number;
     }
       where
-        not_old : (c : ClientState) → In c s.clients → c.id ≡ id → ⊥
+        not_old : (c : ClientState) → IsOneOf c s.clients → c.id ≡ id → ⊥
         not_old c inside same = let within : c.id ≤ client_id 1 s.ids = f.table.ids c inside in omega (arith, within, same, is)
 
         by_it : (d : ClientState) → Came (DestroysNone (Exchanges verifier owner now)) s (table_after s (Exchanges verifier owner now)).ids (table_after s (Exchanges verifier owner now)).numbers d → d.id ≡ id

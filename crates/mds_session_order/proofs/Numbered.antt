@@ -4,29 +4,30 @@ use Rattle.std.specs.Prelude.{slice_index_or}
 use Rattle.std.specs.List.{AllPairs, find}
 use Rattle.std.proofs.lemmas.Bool.{cond_both}
 use Rattle.std.proofs.lemmas.Option.{none-some}
+use Rattle.cluster_model.specs.Members.{IsOneOf}
 use Rattle.nfs4_session.specs.Clients.{change_first, remove_first}
-use Rattle.mds_laws.proofs.Lists.{In, in_more, in_last}
+use Rattle.mds_laws.proofs.Lists.{in_more, in_last}
 
 -- an element of the list has this number
 pub record HasKey {X : Type 0} (key : X → ℕ) (n : ℕ) (xs : List X) : Type 0 where
   pub x : X
-  pub inside : In x xs
+  pub inside : IsOneOf x xs
   pub is : key x ≡ n
 
 module _ {X : Type 0} (key : X → ℕ) where
   key_behind : (n : ℕ) (y : X) (ys : List X) → HasKey key n ys → HasKey key n (y ∷ ys)
   key_behind n y ys h = record { x = h.x; inside = inr h.inside; is = h.is }
 
-  pub key_change : (test : X → Bool) (g : X → X) → ((x : X) → key (g x) ≡ key x) → (x : X) (xs : List X) → In x xs → HasKey key (key x) (change_first test g xs)
+  pub key_change : (test : X → Bool) (g : X → X) → ((x : X) → key (g x) ≡ key x) → (x : X) (xs : List X) → IsOneOf x xs → HasKey key (key x) (change_first test g xs)
   key_change test g same x [] inside = absurd inside
   key_change test g same x (y ∷ ys) inside =
       cond_both (test y) (g y ∷ ys) (y ∷ change_first test g ys) (λ (l : List X). HasKey key (key x) l) (λ passes. hit inside) (λ off. miss inside (key_change test g same x ys))
     where
-      hit : (x ≡ y) ⊎ In x ys → HasKey key (key x) (g y ∷ ys)
+      hit : (x ≡ y) ⊎ IsOneOf x ys → HasKey key (key x) (g y ∷ ys)
       hit (inl one) = record { x = g y; inside = inl refl; is = same y ∙ ap key (sym one) }
       hit (inr more) = record { x = x; inside = inr more; is = refl }
 
-      miss : (x ≡ y) ⊎ In x ys → (In x ys → HasKey key (key x) (change_first test g ys)) → HasKey key (key x) (y ∷ change_first test g ys)
+      miss : (x ≡ y) ⊎ IsOneOf x ys → (IsOneOf x ys → HasKey key (key x) (change_first test g ys)) → HasKey key (key x) (y ∷ change_first test g ys)
       miss (inl one) rest = record { x = y; inside = inl refl; is = ap key (sym one) }
       miss (inr more) rest = key_behind (key x) y (change_first test g ys) (rest more)
 
@@ -40,55 +41,55 @@ module _ {X : Type 0} (key : X → ℕ) where
   has_last x xs = record { x = x; inside = in_last x xs; is = refl }
 
 -- what is taken out passes the test
-pub stays_or_passes : {X : Type 0} (test : X → Bool) (x : X) (xs : List X) → In x xs → In x (remove_first test xs) ⊎ (test x ≡ true)
+pub stays_or_passes : {X : Type 0} (test : X → Bool) (x : X) (xs : List X) → IsOneOf x xs → IsOneOf x (remove_first test xs) ⊎ (test x ≡ true)
 stays_or_passes test x [] inside = absurd inside
 stays_or_passes {X = X} test x (y ∷ ys) inside =
-    cond_both (test y) ys (y ∷ remove_first test ys) (λ (l : List X). In x l ⊎ (test x ≡ true)) (λ passes. hit inside passes) (λ off. miss inside (stays_or_passes test x ys))
+    cond_both (test y) ys (y ∷ remove_first test ys) (λ (l : List X). IsOneOf x l ⊎ (test x ≡ true)) (λ passes. hit inside passes) (λ off. miss inside (stays_or_passes test x ys))
   where
-    hit : (x ≡ y) ⊎ In x ys → test y ≡ true → In x ys ⊎ (test x ≡ true)
+    hit : (x ≡ y) ⊎ IsOneOf x ys → test y ≡ true → IsOneOf x ys ⊎ (test x ≡ true)
     hit (inl one) passes = inr (ap test one ∙ passes)
     hit (inr more) passes = inl more
 
-    further : In x (remove_first test ys) ⊎ (test x ≡ true) → In x (y ∷ remove_first test ys) ⊎ (test x ≡ true)
+    further : IsOneOf x (remove_first test ys) ⊎ (test x ≡ true) → IsOneOf x (y ∷ remove_first test ys) ⊎ (test x ≡ true)
     further (inl stays) = inl (inr stays)
     further (inr passes) = inr passes
 
-    miss : (x ≡ y) ⊎ In x ys → (In x ys → In x (remove_first test ys) ⊎ (test x ≡ true)) → In x (y ∷ remove_first test ys) ⊎ (test x ≡ true)
+    miss : (x ≡ y) ⊎ IsOneOf x ys → (IsOneOf x ys → IsOneOf x (remove_first test ys) ⊎ (test x ≡ true)) → IsOneOf x (y ∷ remove_first test ys) ⊎ (test x ≡ true)
     miss (inl one) rest = inl (inl one)
     miss (inr more) rest = further (rest more)
 
 -- one that passes the test is changed
 pub record Hits {X : Type 0} (test : X → Bool) (g : X → X) (xs : List X) : Type 0 where
   pub y : X
-  pub inside : In (g y) (change_first test g xs)
+  pub inside : IsOneOf (g y) (change_first test g xs)
   pub passes : test y ≡ true
 
-pub change_hits : {X : Type 0} (test : X → Bool) (g : X → X) (x : X) (xs : List X) → In x xs → test x ≡ true → Hits test g xs
+pub change_hits : {X : Type 0} (test : X → Bool) (g : X → X) (x : X) (xs : List X) → IsOneOf x xs → test x ≡ true → Hits test g xs
 change_hits test g x [] inside is = absurd inside
 change_hits {X = X} test g x (y ∷ ys) inside is = by_test (test y) refl (change_hits test g x ys) inside
   where
-    miss : test y ≡ false → (In x ys → test x ≡ true → Hits test g ys) → (x ≡ y) ⊎ In x ys → Hits test g (y ∷ ys)
+    miss : test y ≡ false → (IsOneOf x ys → test x ≡ true → Hits test g ys) → (x ≡ y) ⊎ IsOneOf x ys → Hits test g (y ∷ ys)
     miss off rest (inl one) = absurd (not_so (sym is ∙ ap test one ∙ off))
       where
         not_so : true ≡ false → ⊥
         not_so e = absurd cc
     miss off rest (inr more) =
         let h : Hits test g ys = rest more is in
-        record { y = h.y; inside = subst (λ (b : Bool). In (g h.y) (cond b (g y ∷ ys) (y ∷ change_first test g ys))) (sym off) (inr h.inside); passes = h.passes }
+        record { y = h.y; inside = subst (λ (b : Bool). IsOneOf (g h.y) (cond b (g y ∷ ys) (y ∷ change_first test g ys))) (sym off) (inr h.inside); passes = h.passes }
 
-    by_test : (b : Bool) → test y ≡ b → (In x ys → test x ≡ true → Hits test g ys) → (x ≡ y) ⊎ In x ys → Hits test g (y ∷ ys)
-    by_test true at rest its = record { y = y; inside = subst (λ (b : Bool). In (g y) (cond b (g y ∷ ys) (y ∷ change_first test g ys))) (sym at) (inl refl); passes = at }
+    by_test : (b : Bool) → test y ≡ b → (IsOneOf x ys → test x ≡ true → Hits test g ys) → (x ≡ y) ⊎ IsOneOf x ys → Hits test g (y ∷ ys)
+    by_test true at rest its = record { y = y; inside = subst (λ (b : Bool). IsOneOf (g y) (cond b (g y ∷ ys) (y ∷ change_first test g ys))) (sym at) (inl refl); passes = at }
     by_test false at rest its = miss at rest its
 
 -- what passes a test is found
-pub is_found : {X : Type 0} (test : X → Bool) (x : X) (xs : List X) → In x xs → test x ≡ true → find test xs ≡ None → ⊥
+pub is_found : {X : Type 0} (test : X → Bool) (x : X) (xs : List X) → IsOneOf x xs → test x ≡ true → find test xs ≡ None → ⊥
 is_found test x [] inside is none = absurd inside
 is_found {X = X} test x (y ∷ ys) inside is none = by_test (test y) refl none inside (is_found test x ys)
   where
     not_so : true ≡ false → ⊥
     not_so e = absurd cc
 
-    by_test : (b : Bool) → test y ≡ b → cond b (Some y) (find test ys) ≡ None → (x ≡ y) ⊎ In x ys → (In x ys → test x ≡ true → find test ys ≡ None → ⊥) → ⊥
+    by_test : (b : Bool) → test y ≡ b → cond b (Some y) (find test ys) ≡ None → (x ≡ y) ⊎ IsOneOf x ys → (IsOneOf x ys → test x ≡ true → find test ys ≡ None → ⊥) → ⊥
     by_test true at none its rest = none-some y (sym none)
     by_test false at none (inl one) rest = not_so (sym is ∙ ap test one ∙ at)
     by_test false at none (inr more) rest = rest more is none
@@ -116,12 +117,12 @@ record IsAt {X : Type 0} (x : X) (xs : List X) : Type 0 where
   within : k < length xs
   is : (d : X) → slice_index_or xs k d ≡ x
 
-place_of : {X : Type 0} (x : X) (xs : List X) → In x xs → IsAt x xs
+place_of : {X : Type 0} (x : X) (xs : List X) → IsOneOf x xs → IsAt x xs
 place_of x [] inside = absurd inside
 place_of x (y ∷ ys) (inl one) = record { k = 0; within = omega arith; is = λ d. sym one }
 place_of x (y ∷ ys) (inr more) = let p : IsAt x ys = place_of x ys more in record { k = suc p.k; within = let w = p.within in omega (arith, w); is = p.is }
 
-pub only_one : {X : Type 0} (key : X → ℕ) (xs : List X) → AllPairs (λ a b. ¬ (key a ≡ key b)) xs → (x y : X) → In x xs → In y xs → key x ≡ key y → x ≡ y
+pub only_one : {X : Type 0} (key : X → ℕ) (xs : List X) → AllPairs (λ a b. ¬ (key a ≡ key b)) xs → (x y : X) → IsOneOf x xs → IsOneOf y xs → key x ≡ key y → x ≡ y
 only_one {X = X} key xs pairs x y inside there same =
     by_order (place_of x xs inside) (place_of y xs there)
   where

@@ -4,6 +4,7 @@ use Rattle.std.specs.Prelude.{◌==◌, ◌&&◌, ◌^◌, not, nat_lt, fold, if
 use Rattle.std.specs.List.{find}
 use Rattle.std.proofs.lemmas.Bool.{cond_both, eqb-true, eq-eqb, and_parts}
 use Rattle.std.proofs.lemmas.Option.{same_Some, none-some}
+use Rattle.cluster_model.specs.Members.{IsOneOf}
 use Rattle.device_addr.specs.Universal.{AddressValue}
 use Rattle.nfs4_session.specs.declared.client.TheConstants.{MAX_SESSIONS}
 use Rattle.nfs4_session.specs.Slots.{SlotAnswer, TakesEffect, Repeats, Refuses, sequence_after}
@@ -20,7 +21,7 @@ use Rattle.nfs4_session.specs.TableLaw.{TableMove, ExchangeId, CreateSession, Be
 use Rattle.nfs4_session.specs.TableLaw.{IsTable as StandsApart}
 use Rattle.mds_rule.specs.MdsStates.{MdsValue, new_mds}
 use Rattle.mds_laws.specs.MdsRuns.{MdsEvent, run_from}
-use Rattle.mds_laws.proofs.Lists.{In, all_in, found_in, found_passes}
+use Rattle.mds_laws.proofs.Lists.{all_in, found_in, found_passes}
 use Rattle.mds_replies.specs.ClientCalls.{server_after}
 use Rattle.mds_replies.proofs.TableKeys.{grows_with}
 use Rattle.mds_replies.proofs.TableRuns.{run_keeps}
@@ -32,14 +33,14 @@ use Rattle.mds_session_order.proofs.TableSteps.{DestroysNone, Stays, Makes, Came
 
 -- the record is there, and numbers of sessions are left
 pub record DueSo (s : SessionsState) (client : ℕ) (c : ClientState) : Type 0 where
-  pub inside : In c s.clients
+  pub inside : IsOneOf c s.clients
   pub id : c.id ≡ client
   pub spare : s.numbers ≡ 18446744073709551615 → ⊥
 
 -- the record is there, and the call of this number made the session
 pub record ReplaySo (s : SessionsState) (client sequence number : ℕ) : Type 0 where
   pub c : ClientState
-  pub inside : In c s.clients
+  pub inside : IsOneOf c s.clients
   pub id : c.id ≡ client
   pub made : MadeSession
   pub is : c.made ≡ Some made
@@ -58,7 +59,7 @@ not_true true is same = absurd cc
 not_true false is same = absurd cc
 
 module _ (s : SessionsState) (client sequence : ℕ) where
-  next_so : (c : ClientState) → In c s.clients → c.id ≡ client → CaseSo s client sequence (case_by_next s c sequence)
+  next_so : (c : ClientState) → IsOneOf c s.clients → c.id ≡ client → CaseSo s client sequence (case_by_next s c sequence)
   next_so c inside is =
       cond_both (not (sequence == c.sequence)) IsMisordered (if nat_lt (length c.sessions) MAX_SESSIONS && not (numbers_are_spent s) then IsDue c else HasNoRoom) (CaseSo s client sequence) (λ off. tt)
       (λ on.
@@ -69,7 +70,7 @@ module _ (s : SessionsState) (client sequence : ℕ) where
         spare = λ last. not_true (numbers_are_spent s) (and_parts (nat_lt (length c.sessions) MAX_SESSIONS) (not (numbers_are_spent s)) room).1 (eq-eqb s.numbers 18446744073709551615 last);
       }) (λ full. tt))
 
-  last_so : (c : ClientState) → In c s.clients → c.id ≡ client → (made : Option MadeSession) → c.made ≡ made → CaseSo s client sequence (case_by_last s c sequence made)
+  last_so : (c : ClientState) → IsOneOf c s.clients → c.id ≡ client → (made : Option MadeSession) → c.made ≡ made → CaseSo s client sequence (case_by_last s c sequence made)
   last_so c inside is None at = next_so c inside is
   last_so c inside is (Some made) at =
       cond_both (sequence == made.sequence) (IsReplay made.number) (case_by_next s c sequence) (CaseSo s client sequence)
@@ -157,15 +158,15 @@ pub record Facts (s : SessionsState) : Type 0 where
   pub table : IsTable s
   pub apart : StaysApart s
   pub fit : s.numbers ≤ 18446744073709551615
-  pub made : (c : ClientState) → In c s.clients → (made : MadeSession) → c.made ≡ Some made → MadeSo s c made
+  pub made : (c : ClientState) → IsOneOf c s.clients → (made : MadeSession) → c.made ≡ Some made → MadeSo s c made
 
 -- records of one id are one
-pub one_record : (s : SessionsState) → Facts s → (c d : ClientState) → In c s.clients → In d s.clients → c.id ≡ d.id → c ≡ d
+pub one_record : (s : SessionsState) → Facts s → (c d : ClientState) → IsOneOf c s.clients → IsOneOf d s.clients → c.id ≡ d.id → c ≡ d
 one_record s f c d inside there same =
     let stands : StandsApart s = subst StandsApart f.apart.is (f.apart.always []) in
     only_one (λ (x : ClientState). x.id) s.clients stands.ids c d inside there same
 
-pub came : (s : SessionsState) (move : TableMove) (d : ClientState) → In d (table_after s move).clients → Came (DestroysNone move) s (table_after s move).ids (table_after s move).numbers d
+pub came : (s : SessionsState) (move : TableMove) (d : ClientState) → IsOneOf d (table_after s move).clients → Came (DestroysNone move) s (table_after s move).ids (table_after s move).numbers d
 came s move d inside = all_in (Came (DestroysNone move) s (table_after s move).ids (table_after s move).numbers) (table_after s move).clients d (came_with s move) inside
 
 after_other : (n : ℕ) → n ≡ sequence_after n → ⊥

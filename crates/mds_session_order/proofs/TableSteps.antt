@@ -4,6 +4,7 @@ use Rattle.std.specs.Prelude.{◌==◌, if◌then◌else◌}
 use Rattle.std.specs.List.{find}
 use Rattle.std.proofs.lemmas.Bool.{cond_both, eqb-true}
 use Rattle.cluster_model.specs.declared.ids.NodeId.{NodeId}
+use Rattle.cluster_model.specs.Members.{IsOneOf}
 use Rattle.nfs4_types.specs.declared.sequence.Sequence.{Sequence}
 use Rattle.nfs4_types.specs.declared.status.Stat4.{Stat4}
 use Rattle.nfs4_session.specs.declared.faults.IdFault.{IdFault}
@@ -16,7 +17,7 @@ use Rattle.nfs4_session.specs.Beginning.{table_begun}
 use Rattle.nfs4_session.specs.Bindings.{bound_to, bound_last, client_bound, last_session, called_back, client_called_back}
 use Rattle.nfs4_session.specs.Ends.{without_client, destroy_client_fault, has_ended}
 use Rattle.nfs4_session.specs.TableLaw.{TableMove, ExchangeId, CreateSession, BeginRequest, FinishRequest, Bind, CallBack, DestroySession, DestroyClient, Expire, table_after, exchanged_unless, called_back_by, destroyed_unless, expired_by}
-use Rattle.mds_laws.proofs.Lists.{In, AllOf, all_push, found_passes}
+use Rattle.mds_laws.proofs.Lists.{AllOf, all_push, found_passes}
 use Rattle.mds_session_order.proofs.Numbered.{HasKey, has_change, has_more, has_last, stays_or_passes}
 
 -- ---- one record behind a call
@@ -56,11 +57,11 @@ pub record Makes (s : SessionsState) (c d : ClientState) : Type 0 where
   pub stand : (number : ℕ) → HasSession number c.sessions → HasSession number d.sessions
 
 pub data Came (E : Type 0) (s : SessionsState) (ids numbers : ℕ) (d : ClientState) : Type 0 where
-  Stood : (c : ClientState) → In c s.clients → Stays E c d → Came E s ids numbers d
-  Made : (c : ClientState) → In c s.clients → Makes s c d → numbers ≡ s.numbers + 1 → Came E s ids numbers d
+  Stood : (c : ClientState) → IsOneOf c s.clients → Stays E c d → Came E s ids numbers d
+  Made : (c : ClientState) → IsOneOf c s.clients → Makes s c d → numbers ≡ s.numbers + 1 → Came E s ids numbers d
   IsNew : d.id ≡ client_id s.boot (s.ids + 1) → d.made ≡ None → ids ≡ s.ids + 1 → Came E s ids numbers d
 
-all_self : {A : Type 0} (P : A → Type 0) (xs : List A) → ((x : A) → In x xs → P x) → AllOf P xs
+all_self : {A : Type 0} (P : A → Type 0) (xs : List A) → ((x : A) → IsOneOf x xs → P x) → AllOf P xs
 all_self P [] each = tt
 all_self P (x ∷ xs) each = (each x (inl refl), all_self P xs (λ y inside. each y (inr inside)))
 
@@ -70,7 +71,7 @@ bound_stand : (number : ℕ) (node : NodeId) (xs : List SessionState) (o : Optio
 bound_stand number node xs None at k h = h
 bound_stand number node xs (Some y) at k h = by_place (stays_or_passes (has_number number) h.x xs h.inside)
   where
-    by_place : In h.x (remove_first (has_number number) xs) ⊎ (has_number number h.x ≡ true) → HasSession k (remove_first (has_number number) xs ++ bound_to node y ∷ [])
+    by_place : IsOneOf h.x (remove_first (has_number number) xs) ⊎ (has_number number h.x ≡ true) → HasSession k (remove_first (has_number number) xs ++ bound_to node y ∷ [])
     by_place (inl stays) = has_more number_of k (remove_first (has_number number) xs) (bound_to node y ∷ []) (record { x = h.x; inside = stays; is = h.is })
     by_place (inr passes) =
         let same : y.number ≡ k = eqb-true y.number number (found_passes (has_number number) xs y at) ∙ sym (eqb-true h.x.number number passes) ∙ h.is in
@@ -79,7 +80,7 @@ bound_stand number node xs (Some y) at k h = by_place (stays_or_passes (has_numb
 module _ (E : Type 0) (s : SessionsState) (ids numbers : ℕ) where
   -- what is left of records that were there
   abbrev Old : ClientState → Type 0
-  Old d = (c : ClientState) × In c s.clients × Stays E c d
+  Old d = (c : ClientState) × IsOneOf c s.clients × Stays E c d
 
   stays_self : (c : ClientState) → Stays E c c
   stays_self c = record { id = refl; sequence = refl; made = refl; stand = λ e number h. h }
@@ -143,7 +144,7 @@ module _ (E : Type 0) (s : SessionsState) (ids numbers : ℕ) where
 
   -- of records that were there, the first that passes makes a session
   abbrev Was : ClientState → Type 0
-  Was d = In d s.clients
+  Was d = IsOneOf d s.clients
 
   was_stay : (cs : List ClientState) → AllOf Was cs → AllOf Comes cs
   was_stay [] all = tt

@@ -14,6 +14,7 @@ use Rattle.cluster_model.specs.declared.ids.NodeId.TheVariants.{Server}
 use Rattle.cluster_model.specs.declared.ids.FileId.{FileId}
 use Rattle.cluster_model.specs.declared.ids.Cred.{Cred}
 use Rattle.cluster_model.specs.declared.entry.Entry.{Entry}
+use Rattle.cluster_model.specs.Members.{IsOneOf}
 use Rattle.device_addr.specs.Universal.{AddressValue}
 use Rattle.file_rule.specs.MdsFiles.{FileStep}
 use Rattle.file_rule.specs.FilePhases.{FileInput, AsksLayout, Returns, Answers as IsAnswer, OwnEnds, TimesOut, Sees, new_mds_file, phase}
@@ -52,7 +53,7 @@ use Rattle.mds_rule.specs.Compounds.{operate, has_session, operates, compound_by
 use Rattle.mds_rule.specs.Goes.{calls_out}
 use Rattle.mds_laws.specs.MdsRuns.{MdsInput, MdsEvent, Hears, IsTimedOut, Ticks as IsTick, RecallsFile, Resilvers, by_input, after_event, run_from}
 use Rattle.mds_laws.specs.SlotUses.{first_request}
-use Rattle.mds_laws.proofs.Lists.{In, AllOf, all_push, all_set, all_got}
+use Rattle.mds_laws.proofs.Lists.{AllOf, all_push, all_set, all_got}
 use Rattle.mds_laws.proofs.Keeping.{HeardAny, Becomes, Keeps, KeepsOp, TakesInput, hears_any, then_keeps, same, becomes_keeps, enters_keeps, stays}
 use Rattle.mds_laws.proofs.Numbers.{WereSent, sent_more, sent_with, sent_without}
 use Rattle.mds_laws.proofs.OpsWalk.{place_served}

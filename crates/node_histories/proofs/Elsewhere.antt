@@ -7,6 +7,7 @@ use Rattle.std.proofs.lemmas.Option.{none-some, same_Some}
 use Rattle.cluster_model.specs.declared.ids.NodeId.{NodeId}
 use Rattle.cluster_model.specs.declared.ids.NodeId.TheVariants.{Mds, Server, Client}
 use Rattle.cluster_model.specs.declared.ids.FileId.{FileId}
+use Rattle.cluster_model.specs.Members.{IsOneOf}
 use Rattle.nfs4_types.specs.declared.ids.SessionId.{SessionId}
 use Rattle.nfs4_session.specs.declared.begin.SlotPass.{SlotPass}
 use Rattle.nfs4_session.specs.Clients.{SessionState, ClientState, SessionsState, has_id, has_number, client_in, number_in, change_first, remove_first, with_sessions, with_clients, renewed_at, change_session}
@@ -18,7 +19,7 @@ use Rattle.nfs4_session.specs.Requests.{change_slot, after_request, after_finish
 use Rattle.nfs4_types.specs.declared.sequence.Sequence.{Sequence}
 use Rattle.mds_rule.specs.MdsStates.{WaitingRead, WaitingWrite, ServedFile, MdsSend, AwaitedCall, MdsValue, MdsStep, sends_none, and_then, with_call, with_served, served}
 use Rattle.mds_rule.specs.Spelled.{spelled_send}
-use Rattle.mds_laws.proofs.Lists.{In, in_with_call, in_filtered, found_in, AllOf, all_push, all_in, all_set, all_got}
+use Rattle.mds_laws.proofs.Lists.{in_with_call, in_filtered, found_in, AllOf, all_push, all_in, all_set, all_got}
 use Rattle.mds_laws.proofs.OpsWalk.{place_served}
 
 -- ---- nodes
@@ -72,7 +73,7 @@ pub all_join : {A : Type 0} (P : A → Type 0) (a b : List A) → AllOf P a → 
 all_join P [] b first second = second
 all_join P (x ∷ a) b first second = (first.0, all_join P a b first.1 second)
 
-pub all_by : {A : Type 0} (P : A → Type 0) (xs : List A) → ((x : A) → In x xs → P x) → AllOf P xs
+pub all_by : {A : Type 0} (P : A → Type 0) (xs : List A) → ((x : A) → IsOneOf x xs → P x) → AllOf P xs
 all_by P [] each = tt
 all_by P (x ∷ xs) each = (each x (inl refl), all_by P xs (λ y inside. each y (inr inside)))
 
@@ -170,7 +171,7 @@ served_else m file s e is = all_got FileElse m.files _ s e.files_else (place_ser
 pub with_call_else : (call : AwaitedCall) (calls : List AwaitedCall) → CallElse call → AllOf CallElse calls → AllOf CallElse (with_call call calls)
 with_call_else call calls its all = all_by CallElse (with_call call calls) (λ x inside. by_side x (in_with_call x call calls inside))
   where
-    by_side : (x : AwaitedCall) → In x calls ⊎ (x ≡ call) → CallElse x
+    by_side : (x : AwaitedCall) → IsOneOf x calls ⊎ (x ≡ call) → CallElse x
     by_side x (inl old) = all_in CallElse calls x all old
     by_side x (inr new) = subst CallElse (sym new) its
 

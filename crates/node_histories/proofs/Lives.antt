@@ -5,12 +5,13 @@ use Rattle.std.proofs.lemmas.List.{append_assoc, append-nil}
 use Rattle.cluster_model.specs.declared.ids.NodeId.TheVariants.{Client}
 use Rattle.cluster_model.specs.declared.entry.Entry.{Entry}
 use Rattle.cluster_model.specs.declared.entry.Entry.TheVariants.{Rebooted}
+use Rattle.cluster_model.specs.Members.{IsOneOf}
 use Rattle.client_state.specs.ClientStates.{ClientValue, fresh_client}
 use Rattle.client_state.specs.ClientSends.{ClientSend, spelled_send}
 use Rattle.client_laws.specs.ClientHistory.{ClientInput, HistoryItem, Enters, Sends, input_step, items_of, client_history, client_after}
 use Rattle.world_rule.specs.ClusterWorlds.{verifier_after}
 use Rattle.node_histories.specs.Weaves.{WeaveStep, entries_in, items_in, AreWoven}
-use Rattle.node_histories.specs.ClientLives.{client_shown, Life, start_of, IsLife, IsOneOf, AreLives, StraysIfLeft, HaveStraysLeft}
+use Rattle.node_histories.specs.ClientLives.{client_shown, Life, start_of, IsLife, AreLives, StraysIfLeft, HaveStraysLeft}
 use Rattle.node_histories.specs.NodeHistories.{is_client_entry, ClientStory, IsClientStory, IsInputOfScript, LivesOfScript}
 use Rattle.node_histories.proofs.WeaveLemmas.{entries_join, items_join, woven_join, passing, passed_entries, passed_items, passed_woven}
 use Rattle.node_histories.proofs.Parts.{Shower, Part, all_joined}

@@ -6,6 +6,7 @@ use Rattle.cluster_model.specs.declared.ids.NodeId.TheVariants.{Server}
 use Rattle.cluster_model.specs.declared.ids.FileId.{FileId}
 use Rattle.cluster_model.specs.declared.entry.Entry.{Entry}
 use Rattle.cluster_model.specs.declared.entry.Entry.TheVariants as entry
+use Rattle.cluster_model.specs.Members.{IsOneOf}
 use Rattle.file_rule.specs.FilePhases.{FileInput, Answers as IsAnswer, TimesOut, Sees, phase}
 use Rattle.mds_rows.specs.Draws.{drawn}
 use Rattle.recall.specs.Recalls.{without_file}
@@ -14,7 +15,6 @@ use Rattle.mds_rule.specs.MdsStates.{ServedFile, MdsSend, CallsServer, CallsBack
 use Rattle.mds_rule.specs.declared.waiter.Waiter.TheVariants.{ForFile, ForRead, ForWrite, ForRecall}
 use Rattle.mds_rule.specs.ServedFiles.{is_period_end, file_behind, file_stepped}
 use Rattle.mds_laws.specs.MdsRuns.{MdsEvent, after_event}
-use Rattle.mds_laws.proofs.Lists.{In}
 use Rattle.mds_laws.proofs.Keeping.{Cases, HeardAny, hears_any, is_note}
 use Rattle.mds_laws.proofs.Numbers.{WereSent, sent_more, sent_with, sent_without}
 use Rattle.mds_laws.proofs.GoesWalk.{event_walk}
@@ -81,7 +81,7 @@ abbrev its_sends : List AwaitedCall → List MdsSend
 its_sends [] = []
 its_sends (call ∷ calls) = call.sent ∷ its_sends calls
 
-were_all : (calls : List AwaitedCall) (call : AwaitedCall) → In call calls → In call.sent (its_sends calls)
+were_all : (calls : List AwaitedCall) (call : AwaitedCall) → IsOneOf call calls → IsOneOf call.sent (its_sends calls)
 were_all [] call inside = absurd inside
 were_all (c ∷ calls) call (inl is) = inl cc
 were_all (c ∷ calls) call (inr inside) = inr (were_all calls call inside)

@@ -8,7 +8,7 @@ use Rattle.mds_rule.specs.Spelled.{spelled_send}
 use Rattle.mds_histories.specs.MdsHistory.{MdsItem, Enters, Sends}
 use Rattle.client_laws.specs.ClientHistory.{HistoryItem}
 use Rattle.client_laws.specs.ClientHistory as client
-use Rattle.node_histories.specs.Weaves.{WeaveStep, entries_in, StandsAt}
+use Rattle.node_histories.specs.Weaves.{WeaveStep, entries_in, StandsInWeave}
 use Rattle.node_histories.specs.ClientLives.{Life}
 use Rattle.node_histories.specs.NodeHistories.{mds_shown, MdsStory, ClientStory, is_mds_entry, HasLife, Origin, EnteredByClient, EnteredByMds, EnteredByServer, EnteredByWorld, SentByClient, SentByMds, SentByServer}
 use Rattle.node_histories.proofs.WeaveLemmas.{stands_later}
@@ -23,9 +23,9 @@ pub record MdsLater (old new : MdsStory) : Type 0 where
   pub steps : new.steps ≡ old.steps ++ more
 
 stands_grown : {I : Type 0} (begun : List Entry) (steps more : List (WeaveStep I)) (new_begun : List Entry) (new : List (WeaveStep I)) (past : List Entry) (item : I) (e : Entry) → new_begun ≡ begun → new ≡ steps ++ more
-    → StandsAt begun steps past item e → StandsAt new_begun new past item e
+    → StandsInWeave begun steps past item e → StandsInWeave new_begun new past item e
 stands_grown {I = I} begun steps more new_begun new past item e same is s =
-    subst (λ (l : List (WeaveStep I)). StandsAt new_begun l past item e) (sym is) (subst (λ (j : List Entry). StandsAt j (steps ++ more) past item e) (sym same) (stands_later begun steps more past item e s))
+    subst (λ (l : List (WeaveStep I)). StandsInWeave new_begun l past item e) (sym is) (subst (λ (j : List Entry). StandsInWeave j (steps ++ more) past item e) (sym same) (stands_later begun steps more past item e s))
 
 pub origin_later : (stories new : List ClientStory) (mds later : MdsStory) (past : List Entry) (e : Entry) → AreLater stories new → MdsLater mds later → Origin stories mds past e → Origin new later past e
 origin_later stories new mds later past e are goes (EnteredByClient n l has kind stands) =
@@ -78,8 +78,8 @@ pub client_origins : (n : ℕ) (stories : List ClientStory) (mds : MdsStory) (jo
     → HasLife stories n l → l.steps ≡ steps ++ p.steps → l.begun ++ entries_in steps ≡ journal → HaveOrigins stories mds journal more
 client_origins n stories mds journal items more p l steps has grown told past behind e is = by_owner (is_found (client_shower n) journal items more p past behind e is)
   where
-    stands : (item : HistoryItem) → StandsAt [] p.steps past item e → StandsAt l.begun l.steps (journal ++ past) item e
-    stands item s = subst (λ (x : List (WeaveStep HistoryItem)). StandsAt l.begun x (journal ++ past) item e) (sym grown) (stands_behind l.begun journal steps p.steps past item e told s)
+    stands : (item : HistoryItem) → StandsInWeave [] p.steps past item e → StandsInWeave l.begun l.steps (journal ++ past) item e
+    stands item s = subst (λ (x : List (WeaveStep HistoryItem)). StandsInWeave l.begun x (journal ++ past) item e) (sym grown) (stands_behind l.begun journal steps p.steps past item e told s)
 
     by_owner : IsFound (client_shower n) p.steps past e → Origin stories mds (journal ++ past) e
     by_owner (OfWorld world) = EnteredByWorld world
@@ -103,8 +103,8 @@ pub mds_origins : (stories : List ClientStory) (mds : MdsStory) (journal : List 
     → mds.steps ≡ steps ++ p.steps → entries_in steps ≡ journal → HaveOrigins stories mds journal more
 mds_origins stories mds journal items more p steps grown told past behind e is = by_owner (is_found mds_shower journal items more p past behind e is)
   where
-    stands : (item : MdsItem) → StandsAt [] p.steps past item e → StandsAt [] mds.steps (journal ++ past) item e
-    stands item s = subst (λ (x : List (WeaveStep MdsItem)). StandsAt [] x (journal ++ past) item e) (sym grown) (stands_behind [] journal steps p.steps past item e told s)
+    stands : (item : MdsItem) → StandsInWeave [] p.steps past item e → StandsInWeave [] mds.steps (journal ++ past) item e
+    stands item s = subst (λ (x : List (WeaveStep MdsItem)). StandsInWeave [] x (journal ++ past) item e) (sym grown) (stands_behind [] journal steps p.steps past item e told s)
 
     by_owner : IsFound mds_shower p.steps past e → Origin stories mds (journal ++ past) e
     by_owner (OfWorld world) = EnteredByWorld world

@@ -7,7 +7,7 @@ use Rattle.cluster_model.specs.declared.ids.NodeId.{NodeId}
 use Rattle.cluster_model.specs.declared.entry.Entry.{Entry}
 use Rattle.cluster_model.specs.declared.entry.Entry.TheVariants.{Packet, Delivered}
 use Rattle.world_journal.specs.SentPackets.{packets_of}
-use Rattle.node_histories.specs.Weaves.{ItemShown, IsUnseen, IsArrival, IsEntry, IsSending, WeaveStep, Passes, Unseen, Seen, entries_in, items_in, HasPacket, IsShownAs, AreWoven, StandsAt}
+use Rattle.node_histories.specs.Weaves.{ItemShown, IsUnseen, IsArrival, IsEntry, IsSending, WeaveStep, Passes, Unseen, Seen, entries_in, items_in, HasPacket, IsShownAs, AreWoven, StandsInWeave}
 use Rattle.node_histories.specs.NodeHistories.{is_world_entry}
 use Rattle.node_histories.proofs.WeaveLemmas.{entries_join, items_join, woven_join, IsPlaced, OfItem, OfOthers, is_placed}
 
@@ -113,8 +113,8 @@ module _ {I S : Type 0} (w : Shower I S) where
   -- an entry of a part
   pub data IsFound (steps : List (WeaveStep I)) (past : List Entry) (e : Entry) : Type 0 where
     OfWorld : is_world_entry e ≡ true → IsFound steps past e
-    ByEntering : w.Kind e → StandsAt [] steps past (w.enter e) e → IsFound steps past e
-    BySending : (number : ℕ) (to : NodeId) (bytes : List ℕ) (s : S) → e ≡ Packet number w.node to bytes → StandsAt [] steps past (w.send s) e → IsFound steps past e
+    ByEntering : w.Kind e → StandsInWeave [] steps past (w.enter e) e → IsFound steps past e
+    BySending : (number : ℕ) (to : NodeId) (bytes : List ℕ) (s : S) → e ≡ Packet number w.node to bytes → StandsInWeave [] steps past (w.send s) e → IsFound steps past e
 
   pub is_found : (journal : List Entry) (items : List I) (more : List Entry) (p : Part w journal items more) (past behind : List Entry) (e : Entry) → more ≡ past ++ e ∷ behind → IsFound p.steps past e
   is_found journal items more p past behind e is = by_place (is_placed p.steps past behind e (p.entries_are ∙ is))
@@ -133,8 +133,8 @@ module _ {I S : Type 0} (w : Shower I S) where
           OfWorld (all_there (StepIsOwn w) earlier later (Passes e) (subst (λ (l : List (WeaveStep I)). AllByRecursion (StepIsOwn w) l) split p.own))
 
 -- it stands behind the steps before
-pub stands_behind : {I : Type 0} (begun journal : List Entry) (steps more : List (WeaveStep I)) (past : List Entry) (item : I) (e : Entry) → begun ++ entries_in steps ≡ journal → StandsAt [] more past item e
-    → StandsAt begun (steps ++ more) (journal ++ past) item e
+pub stands_behind : {I : Type 0} (begun journal : List Entry) (steps more : List (WeaveStep I)) (past : List Entry) (item : I) (e : Entry) → begun ++ entries_in steps ≡ journal → StandsInWeave [] more past item e
+    → StandsInWeave begun (steps ++ more) (journal ++ past) item e
 stands_behind {I = I} begun journal steps more past item e told s = record {
   earlier = steps ++ s.earlier;
   later = s.later;

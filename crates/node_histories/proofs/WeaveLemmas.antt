@@ -3,7 +3,7 @@ use Rattle.std.proofs.Common.{◌≡◌, List, [], ◌∷◌, ◌++◌, refl, sy
 use Rattle.std.proofs.lemmas.List.{append_assoc, append-nil}
 use Rattle.cluster_model.specs.declared.ids.NodeId.{NodeId}
 use Rattle.cluster_model.specs.declared.entry.Entry.{Entry}
-use Rattle.node_histories.specs.Weaves.{ItemShown, WeaveStep, Passes, Unseen, Seen, entries_in, items_in, IsShownAs, AreWoven, StandsAt}
+use Rattle.node_histories.specs.Weaves.{ItemShown, WeaveStep, Passes, Unseen, Seen, entries_in, items_in, IsShownAs, AreWoven, StandsInWeave}
 
 -- ---- steps behind steps
 
@@ -81,7 +81,7 @@ is_placed {I = I} (Seen item x ∷ steps) (p ∷ past) behind e is =
     subst (λ (y : Entry). IsPlaced I (Seen item x ∷ steps) (y ∷ past) e) same (placed_behind (Seen item x) steps past e (is_placed steps past behind e rest))
 
 -- an item stands in more steps as it does
-pub stands_later : {I : Type 0} (begun : List Entry) (steps more : List (WeaveStep I)) (past : List Entry) (item : I) (e : Entry) → StandsAt begun steps past item e → StandsAt begun (steps ++ more) past item e
+pub stands_later : {I : Type 0} (begun : List Entry) (steps more : List (WeaveStep I)) (past : List Entry) (item : I) (e : Entry) → StandsInWeave begun steps past item e → StandsInWeave begun (steps ++ more) past item e
 stands_later {I = I} begun steps more past item e s = record {
   earlier = s.earlier;
   later = s.later ++ more;

@@ -3,6 +3,7 @@ use Rattle.std.specs.Prelude.{◌≡◌, ℕ, true, false, List, [], ◌∷◌, 
 use Rattle.cluster_model.specs.declared.ids.NodeId.TheVariants.{Client}
 use Rattle.cluster_model.specs.declared.entry.Entry.{Entry}
 use Rattle.cluster_model.specs.declared.entry.Entry.TheVariants.{Rebooted}
+use Rattle.cluster_model.specs.Members.{IsOneOf}
 use Rattle.client_state.specs.ClientStates.{ClientValue, fresh_client}
 use Rattle.client_state.specs.ClientSends.{spelled_send}
 use Rattle.client_laws.specs.ClientHistory.{ClientInput, Requested, Recorded, TimeoutOf, Ticked, LeftProtocol, Strayed, HistoryItem, Hears, Enters, Sends, client_history, client_after, input_step}
@@ -71,10 +72,6 @@ pub record IsFirst (l : Life) : Type 0 where
   pub verifier : l.verifier ≡ 1
   pub first_xid : l.first_xid ≡ 1
   pub begins : l.begun ≡ []
-
-abbrev pub IsOneOf : Life → List Life → Type 0
-IsOneOf l [] = ⊥
-IsOneOf l (old ∷ older) = (l ≡ old) ⊎ IsOneOf l older
 
 -- the newest first
 abbrev pub AreLives : ℕ → Life → List Life → Type 0

@@ -10,6 +10,7 @@ use Rattle.cluster_model.specs.declared.entry.Entry.{Entry}
 use Rattle.cluster_model.specs.declared.entry.Entry.TheVariants as entry
 use Rattle.cluster_model.specs.Server.{ServerState}
 use Rattle.cluster_model.specs.GuardLaws.{IsTold}
+use Rattle.cluster_model.specs.Members.{IsOneOf}
 use Rattle.ds_files.specs.Receive.{outcome_of}
 use Rattle.proper_servers.specs.ProperServers.{IsProper}
 use Rattle.device_addr.specs.Universal.{AddressValue}
@@ -25,8 +26,8 @@ use Rattle.client_laws.specs.ClientHistory.{ClientInput, HistoryItem}
 use Rattle.client_laws.specs.ClientHistory as client
 use Rattle.world_rule.specs.Machines.{nth}
 use Rattle.world_rule.specs.ClusterWorlds.{ClusterState, new_cluster, behind}
-use Rattle.node_histories.specs.Weaves.{ItemShown, IsUnseen, IsArrival, IsEntry, IsSending, WeaveStep, Passes, Unseen, Seen, entries_in, items_in, AreWoven, HasPacket, StandsAt}
-use Rattle.node_histories.specs.ClientLives.{Life, client_of, journal_of, IsOneOf, AreLives}
+use Rattle.node_histories.specs.Weaves.{ItemShown, IsUnseen, IsArrival, IsEntry, IsSending, WeaveStep, Passes, Unseen, Seen, entries_in, items_in, AreWoven, HasPacket, StandsInWeave}
+use Rattle.node_histories.specs.ClientLives.{Life, client_of, journal_of, AreLives}
 
 -- ---- the metadata server
 
@@ -155,13 +156,13 @@ pub record HasLife (stories : List ClientStory) (n : ℕ) (l : Life) : Type 0 wh
   pub life : (l ≡ story.newest) ⊎ IsOneOf l story.older
 
 pub data Origin (stories : List ClientStory) (mds : MdsStory) (past : List Entry) (e : Entry) : Type 0 where
-  EnteredByClient : (n : ℕ) (l : Life) → HasLife stories n l → is_client_entry e ≡ true → StandsAt l.begun l.steps past (client.Enters e) e → Origin stories mds past e
-  EnteredByMds : is_mds_entry e ≡ true → StandsAt [] mds.steps past (Enters e) e → Origin stories mds past e
+  EnteredByClient : (n : ℕ) (l : Life) → HasLife stories n l → is_client_entry e ≡ true → StandsInWeave l.begun l.steps past (client.Enters e) e → Origin stories mds past e
+  EnteredByMds : is_mds_entry e ≡ true → StandsInWeave [] mds.steps past (Enters e) e → Origin stories mds past e
   EnteredByServer : is_server_entry e ≡ true → Origin stories mds past e
   EnteredByWorld : is_world_entry e ≡ true → Origin stories mds past e
   SentByClient : (n number : ℕ) (to : NodeId) (bytes : List ℕ) (l : Life) (send : ClientSend) → e ≡ entry.Packet number (Client n) to bytes → HasLife stories n l
-      → StandsAt l.begun l.steps past (client.Sends send) e → Origin stories mds past e
-  SentByMds : (number : ℕ) (to : NodeId) (bytes : List ℕ) (send : MdsSend) → e ≡ entry.Packet number Mds to bytes → StandsAt [] mds.steps past (Sends send) e → Origin stories mds past e
+      → StandsInWeave l.begun l.steps past (client.Sends send) e → Origin stories mds past e
+  SentByMds : (number : ℕ) (to : NodeId) (bytes : List ℕ) (send : MdsSend) → e ≡ entry.Packet number Mds to bytes → StandsInWeave [] mds.steps past (Sends send) e → Origin stories mds past e
   SentByServer : (n number : ℕ) (to : NodeId) (bytes : List ℕ) → e ≡ entry.Packet number (Server n) to bytes → AnswersArrival past n to bytes → Origin stories mds past e
 
 -- ---- what users ask, in the ranges of a script

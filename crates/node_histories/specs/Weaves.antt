@@ -58,7 +58,7 @@ AreWoven shown node journal (Unseen item ∷ steps) = (shown item ≡ IsUnseen) 
 AreWoven shown node journal (Seen item entry ∷ steps) = IsShownAs node journal (shown item) entry × AreWoven shown node (journal ++ entry ∷ []) steps
 
 -- an item stands in a weave as an entry, behind this journal
-pub record StandsAt {I : Type 0} (begun : List Entry) (steps : List (WeaveStep I)) (past : List Entry) (item : I) (entry : Entry) : Type 0 where
+pub record StandsInWeave {I : Type 0} (begun : List Entry) (steps : List (WeaveStep I)) (past : List Entry) (item : I) (entry : Entry) : Type 0 where
   pub earlier : List (WeaveStep I)
   pub later : List (WeaveStep I)
   pub split : steps ≡ earlier ++ Seen item entry ∷ later

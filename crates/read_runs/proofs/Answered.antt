@@ -11,21 +11,21 @@ use Rattle.cluster_laws.specs.FenceLaw.{live_by, live_in}
 use Rattle.cluster_laws.proofs.Journals.{live_append}
 use Rattle.mds_histories.specs.MdsHistory.{MdsItem, Comes, Enters, Sends, entries_in}
 use Rattle.mds_histories.proofs.Histories.{entries_joined, entries_entered}
-use Rattle.read_runs.specs.ReadRuns.{IsNoSwapOf, IsAnswered}
+use Rattle.read_runs.specs.ReadRuns.{EntersNoSwapOf, IsReadAnswered}
 use Rattle.read_runs.proofs.LiveTold.{is_still, still_live}
 use Rattle.read_runs.proofs.WaitingReads.{NoSwapsOf}
 
 -- ---- answers
 
 abbrev pub IsRight : List MdsItem → MdsItem → List MdsItem → Type 0
-IsRight past (Enters (entry.ReadAnswer file status bytes)) behind = IsAnswered past file status bytes behind
+IsRight past (Enters (entry.ReadAnswer file status bytes)) behind = IsReadAnswered past file status bytes behind
 IsRight past item behind = Unit {0}
 
 abbrev pub AreRight : List MdsItem → List MdsItem → Type 0
 AreRight past [] = Unit {0}
 AreRight past (x ∷ items) = IsRight past x items × AreRight (past ++ x ∷ []) items
 
-answered_more : (past : List MdsItem) (file : FileId) (status : ℕ) (bytes : List ℕ) (behind more : List MdsItem) → IsAnswered past file status bytes behind → IsAnswered past file status bytes (behind ++ more)
+answered_more : (past : List MdsItem) (file : FileId) (status : ℕ) (bytes : List ℕ) (behind more : List MdsItem) → IsReadAnswered past file status bytes behind → IsReadAnswered past file status bytes (behind ++ more)
 answered_more past file status bytes behind more a = record {
   node = a.node;
   asked = a.asked;
@@ -84,11 +84,11 @@ pub right_stills : (past items : List MdsItem) → AreStillItems items → AreRi
 right_stills past [] all = tt
 right_stills past (x ∷ items) all = (right_item past x items all.0, right_stills (past ++ x ∷ []) items all.1)
 
-no_swap_entry : (file : FileId) (e : Entry) → is_still e ≡ true → IsNoSwapOf file (Enters e)
+no_swap_entry : (file : FileId) (e : Entry) → is_still e ≡ true → EntersNoSwapOf file (Enters e)
 no_swap_entry file (entry.Swapped other old new) is = absurd cc
 no_swap_entry file e is = tt
 
-no_swap_item : (file : FileId) (x : MdsItem) → IsStillItem x → IsNoSwapOf file x
+no_swap_item : (file : FileId) (x : MdsItem) → IsStillItem x → EntersNoSwapOf file x
 no_swap_item file (Comes event) is = tt
 no_swap_item file (Enters e) is = no_swap_entry file e is
 no_swap_item file (Sends send) is = tt

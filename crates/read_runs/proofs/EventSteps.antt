@@ -11,6 +11,7 @@ use Rattle.cluster_model.specs.declared.ids.FileId.{FileId}
 use Rattle.cluster_model.specs.declared.ids.Cred.{Cred}
 use Rattle.cluster_model.specs.declared.phase.EndCause.TheVariants.{Lease, Recalled}
 use Rattle.cluster_model.specs.declared.entry.Entry.TheVariants as entry
+use Rattle.cluster_model.specs.Members.{IsOneOf}
 use Rattle.device_addr.specs.Universal.{AddressValue}
 use Rattle.file_rule.specs.FilePhases.{Revokes, Resilver, Ticks}
 use Rattle.ds_calls.specs.GivenReplies.{reply_of_call}
@@ -27,7 +28,7 @@ use Rattle.mds_rule.specs.Answers.{is_awaited, takes_answer, timed_out_for}
 use Rattle.mds_rule.specs.Goes.{each, calls_out}
 use Rattle.mds_rule.specs.Events.{takes_incoming, is_outstanding_to, is_kept_by, goes_again, times_out, takes_timeout, lease_ends, leases_end, recall_expires, recalls_expire, kept_calls, files_tick, takes_tick}
 use Rattle.mds_laws.specs.MdsRuns.{MdsInput, MdsEvent, Hears, IsTimedOut, Ticks as IsTick, RecallsFile, Resilvers, by_input, after_event, run_from}
-use Rattle.mds_laws.proofs.Lists.{In, in_more, found_in}
+use Rattle.mds_laws.proofs.Lists.{in_more, found_in}
 use Rattle.mds_histories.specs.MdsHistory.{MdsItem, Comes, Enters, Sends, items_of, mds_history, sends_in}
 use Rattle.mds_histories.proofs.Histories.{sends_joined}
 use Rattle.read_runs.specs.ReadRuns.{HearsInForm, AreInForm, ReadsInForm, EachReadIsAnswered}
@@ -70,7 +71,7 @@ incoming_step past now m node bytes form i (IsCompound xid v) is =
 
 -- ---- a timeout
 
-again_sends : (call : AwaitedCall) (m : MdsValue) (h : List MdsItem) → In call.sent (sends_in h) → Holds m h → Holds (goes_again call m).mds (h ++ map Sends (goes_again call m).sends)
+again_sends : (call : AwaitedCall) (m : MdsValue) (h : List MdsItem) → IsOneOf call.sent (sends_in h) → Holds m h → Holds (goes_again call m).mds (h ++ map Sends (goes_again call m).sends)
 again_sends call m h inside i =
     cond_both (not (is_awaited m call)) (sends_none forgotten) (if is_kept_by m call.xid call.caller then sends_none m else again) (λ (s : MdsStep). Holds s.mds (h ++ map Sends s.sends))
     (λ none. subst (λ (l : List MdsItem). Holds forgotten l) (sym (append-nil h)) (holds_forget m.mirrors m.files m.calls m.next_xid h i call.node call.xid))
@@ -95,10 +96,10 @@ again_enters call m =
     again : MdsStep
     again = record { mds = m; entries = []; sends = call.sent ∷ [] }
 
-sent_on : (h more : List MdsItem) (s : MdsSend) → In s (sends_in h) → In s (sends_in (h ++ more))
-sent_on h more s inside = subst (λ (ss : List MdsSend). In s ss) (sym (sends_joined h more)) (in_more s (sends_in h) (sends_in more) inside)
+sent_on : (h more : List MdsItem) (s : MdsSend) → IsOneOf s (sends_in h) → IsOneOf s (sends_in (h ++ more))
+sent_on h more s inside = subst (λ (ss : List MdsSend). IsOneOf s ss) (sym (sends_joined h more)) (in_more s (sends_in h) (sends_in more) inside)
 
-late_step : (now : ℕ) (m : MdsValue) (call : AwaitedCall) → In call m.calls → Keeps m (times_out now m (Some call))
+late_step : (now : ℕ) (m : MdsValue) (call : AwaitedCall) → IsOneOf call m.calls → Keeps m (times_out now m (Some call))
 late_step now m call inside h i =
     let timed : MdsStep = timed_out_for now m call.xid call.caller in
     let noted : List MdsItem = Enters (entry.TimedOut Mds call.xid) ∷ [] in
@@ -111,7 +112,7 @@ late_step now m call inside h i =
     (λ n. out_step [] n))
     i
 
-times_step : (now : ℕ) (m : MdsValue) (o : Option AwaitedCall) → ((call : AwaitedCall) → o ≡ Some call → In call m.calls) → Keeps m (times_out now m o)
+times_step : (now : ℕ) (m : MdsValue) (o : Option AwaitedCall) → ((call : AwaitedCall) → o ≡ Some call → IsOneOf call m.calls) → Keeps m (times_out now m o)
 times_step now m None inside = same m
 times_step now m (Some call) inside = late_step now m call (inside call refl)
 

@@ -28,7 +28,7 @@ use Rattle.mds_rule.specs.ServedFiles.{is_swap, begins_again, file_behind}
 use Rattle.mds_rule.specs.FileOps.{servers_of, nth_server, new_served}
 use Rattle.mds_histories.specs.MdsHistory.{MdsItem, Enters, entries_in, sends_in}
 use Rattle.mds_histories.proofs.Histories.{sends_joined, sends_entered}
-use Rattle.read_runs.specs.ReadRuns.{IsNoSwapOf}
+use Rattle.read_runs.specs.ReadRuns.{EntersNoSwapOf}
 use Rattle.read_runs.proofs.LiveTold.{IsOf, live_in_layout, SwapsLast, HasNone, HasLast, Says, made_live, LeaveSo}
 use Rattle.read_runs.proofs.LiveRows.{phase_says}
 use Rattle.read_runs.proofs.WaitingReads.{NoSwapsOf, waits_more, waits_again}
@@ -54,7 +54,7 @@ others_live : (file other : FileId) → other.0 ≢ file.0 → (entries : List E
 others_live file other apart [] all was = refl
 others_live file other apart (e ∷ entries) all was = ap (λ w. live_by other w entries) (of_other file other apart e all.0 was) ∙ others_live file other apart entries all.1 was
 
-swap_of_other : (file other : FileId) → other.0 ≢ file.0 → (e : Entry) → IsOf file e → IsNoSwapOf other (Enters e)
+swap_of_other : (file other : FileId) → other.0 ≢ file.0 → (e : Entry) → IsOf file e → EntersNoSwapOf other (Enters e)
 swap_of_other file other apart (entry.Swapped f old new) its = λ same. apart (ap (λ (x : FileId). x.0) (sym same ∙ its))
 swap_of_other file other apart e its = tt
 
@@ -62,7 +62,7 @@ others_swaps : (file other : FileId) → other.0 ≢ file.0 → (entries : List 
 others_swaps file other apart [] all = tt
 others_swaps file other apart (e ∷ entries) all = (swap_of_other file other apart e all.0, others_swaps file other apart entries all.1)
 
-no_swap_of : (file : FileId) (e : Entry) → is_swap e ≡ false → IsNoSwapOf file (Enters e)
+no_swap_of : (file : FileId) (e : Entry) → is_swap e ≡ false → EntersNoSwapOf file (Enters e)
 no_swap_of file (entry.Swapped f old new) none = absurd cc
 no_swap_of file e none = tt
 

@@ -12,6 +12,7 @@ use Rattle.cluster_model.specs.declared.call_stage.CallStage.TheVariants.{Out}
 use Rattle.cluster_model.specs.declared.layout_state.LayoutState.{LayoutState}
 use Rattle.cluster_model.specs.DsCalls.{DsCallValue, Read}
 use Rattle.cluster_model.specs.Fences.{waits, FenceCall, next_call}
+use Rattle.cluster_model.specs.Members.{IsOneOf}
 use Rattle.cluster_laws.proofs.FewMirrors.{FileHasFew}
 use Rattle.cluster_laws.proofs.FewSteps.{OutFew, out_few}
 use Rattle.cluster_laws.proofs.Lists.{all_at, all_set}
@@ -34,7 +35,7 @@ use Rattle.mds_rule.specs.MdsStates.{WaitingRead, WaitingWrite, ServedFile, MdsS
 use Rattle.mds_rule.specs.declared.waiter.Waiter.{Waiter}
 use Rattle.mds_rule.specs.declared.waiter.Waiter.TheVariants.{ForFile, ForRead, ForWrite, ForRecall}
 use Rattle.mds_rule.specs.Goes.{xid_after, calls_server, OwnCall, own_of_file, own_of_write, own_by, place_of, own_call_at, own_next, has_xids, own_call, own_two, own_calls, read_goes, read_call, read_call_in, each, read_count, read_calls, stateid_seqid, calls_back, recall_goes, recall_call, repeats_call, repeats, place_calls, file_calls, calls_out}
-use Rattle.mds_laws.proofs.Lists.{In, found_in}
+use Rattle.mds_laws.proofs.Lists.{found_in}
 use Rattle.mds_histories.specs.MdsHistory.{MdsItem, Sends, sends_in}
 use Rattle.read_runs.proofs.LiveTold.{live_in_layout, FitsPhase}
 use Rattle.read_runs.proofs.WaitingReads.{IsWaitingFor, waits_out}
@@ -247,7 +248,7 @@ recall_step file m = cond_both (has_xids m) (recall_goes m file (next_sent m.rec
 
 -- ---- what goes out again
 
-repeat_step : (m : MdsValue) (o : Option AwaitedCall) → ((call : AwaitedCall) → o ≡ Some call → In call m.calls) → Mute m (repeats_call m o)
+repeat_step : (m : MdsValue) (o : Option AwaitedCall) → ((call : AwaitedCall) → o ≡ Some call → IsOneOf call m.calls) → Mute m (repeats_call m o)
 repeat_step m None inside = mute_same m
 repeat_step m (Some call) inside = record { sends = λ h i. holds_again m.mirrors m.files m.calls m.next_xid h i call.sent (i.numbered.were call (inside call refl)); none = refl }
 

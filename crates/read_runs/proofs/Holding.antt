@@ -9,6 +9,7 @@ use Rattle.std.proofs.lemmas.Option.{same_Some, none-some}
 use Rattle.ff_xdr.specs.Form.{Value, arm_of}
 use Rattle.cluster_model.specs.declared.ids.NodeId.{NodeId}
 use Rattle.cluster_model.specs.declared.ids.FileId.{FileId}
+use Rattle.cluster_model.specs.Members.{IsOneOf}
 use Rattle.nfs4_compound.specs.Args.{argop4}
 use Rattle.cluster_laws.specs.FenceLaw.{live_in}
 use Rattle.cluster_laws.proofs.FewMirrors.{FileHasFew}
@@ -16,7 +17,6 @@ use Rattle.cluster_laws.proofs.Lists.{all_more, put_same, put_other}
 use Rattle.mds_rule.specs.MdsStates.{WaitingRead, WaitingWrite, ServedFile, MdsSend, AwaitedCall, MdsValue, with_call, without_call, served_in, with_file}
 use Rattle.mds_rule.specs.Goes.{xid_after}
 use Rattle.mds_laws.specs.MdsRunLaws.{number_sent}
-use Rattle.mds_laws.proofs.Lists.{In}
 use Rattle.mds_histories.specs.MdsHistory.{MdsItem, Sends, entries_in, sends_in}
 use Rattle.mds_histories.proofs.Histories.{sends_joined}
 use Rattle.read_runs.proofs.LiveTold.{live_in_layout, FitsPhase}
@@ -100,7 +100,7 @@ module _ (mirrors : ℕ) (files : List ServedFile) (calls : List AwaitedCall) (n
   pub holds_replied : (s : MdsSend) → number_sent s ≡ None → HoldsOf mirrors files calls next (h ++ Sends s ∷ [])
   holds_replied s none = pushed_send s calls next (numbers_none next calls (sends_in h) s none i.numbered)
 
-  pub holds_again : (s : MdsSend) → In s (sends_in h) → HoldsOf mirrors files calls next (h ++ Sends s ∷ [])
+  pub holds_again : (s : MdsSend) → IsOneOf s (sends_in h) → HoldsOf mirrors files calls next (h ++ Sends s ∷ [])
   holds_again s inside = pushed_send s calls next (numbers_again next calls (sends_in h) s inside i.numbered)
 
   pub holds_called : (call : AwaitedCall) → not (next == 0) ≡ true → number_sent call.sent ≡ Some next → IsCallSo call → HoldsOf mirrors files (with_call call calls) (xid_after next) (h ++ Sends call.sent ∷ [])

@@ -12,13 +12,13 @@ use Rattle.cluster_model.specs.declared.ids.MirrorId.{MirrorId}
 use Rattle.cluster_model.specs.declared.phase.LeftCause.{LeftCause}
 use Rattle.cluster_model.specs.Journal.{is_mirror}
 use Rattle.cluster_model.specs.Phases.{ids_of, unreported, left_entries, reported_cause}
+use Rattle.cluster_model.specs.Members.{IsOneOf}
 use Rattle.cluster_laws.specs.FenceLaw.{live_by, changed_live}
 use Rattle.cluster_laws.proofs.KnownNow.{id_by}
 use Rattle.cluster_laws.proofs.Lives.{itself, own_file}
 use Rattle.ff_layout.specs.IoError.{ff_ioerr4}
 use Rattle.layout_report.specs.Reports.{is_reported, reported_mirror, report_of}
 use Rattle.mds_rule.specs.Answers.{cause_there, failures_by_place, is_failure_of}
-use Rattle.mds_laws.proofs.Lists.{In}
 
 -- ---- lists of ids
 
@@ -31,7 +31,7 @@ filter_twice p q (k ∷ ks) = by_test (q k) (filter_twice p q ks)
     by_test true rest = ap (λ (l : List MirrorId). cond (p k) (k ∷ l) l) rest
     by_test false rest = rest
 
-filter_same : (p q : MirrorId → Bool) (ks : List MirrorId) → ((k : MirrorId) → In k ks → p k ≡ q k) → filter p ks ≡ filter q ks
+filter_same : (p q : MirrorId → Bool) (ks : List MirrorId) → ((k : MirrorId) → IsOneOf k ks → p k ≡ q k) → filter p ks ≡ filter q ks
 filter_same p q [] same = refl
 filter_same p q (k ∷ ks) same =
     ap (λ (b : Bool). cond b (k ∷ filter p ks) (filter p ks)) (same k (inl refl))
@@ -87,7 +87,7 @@ module _ (gone : MirrorId → Option LeftCause) where
           ∙ rest (filter (λ x. not (is_mirror x m.id)) ks) ∙ ap Some (filter_twice (λ k. not (goes_among live k)) (λ x. not (is_mirror x m.id)) ks)
           ∙ ap Some (filter_same (λ k. not (is_mirror k m.id) && not (goes_among live k)) (λ k. not (is_mirror k m.id || goes_among live k)) ks (λ k inside. sym (neither (is_mirror k m.id) (goes_among live k))))
 
-  goes_up : (live : List Mirror) (k : MirrorId) → In k (ids_of live) → is_some (gone k) ≡ true → goes_among live k ≡ true
+  goes_up : (live : List Mirror) (k : MirrorId) → IsOneOf k (ids_of live) → is_some (gone k) ≡ true → goes_among live k ≡ true
   goes_up [] k inside is = absurd inside
   goes_up (m ∷ live) k (inl same) is =
       ap (λ (b : Bool). (b && is_mirror k m.id) || goes_among live k) (ap (λ (x : MirrorId). is_some (gone x)) (sym same) ∙ is)

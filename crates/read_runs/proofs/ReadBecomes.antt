@@ -18,6 +18,7 @@ use Rattle.cluster_model.specs.declared.entry.Entry.TheVariants as entry
 use Rattle.cluster_model.specs.DsCalls.{Read, DsReplyValue, Created, Set, Written, Committed, Bytes, NotSync, Failed}
 use Rattle.cluster_model.specs.Fences.{is_out, odd_status}
 use Rattle.cluster_model.specs.Phases.{ids_of}
+use Rattle.cluster_model.specs.Members.{IsOneOf}
 use Rattle.ds_calls.specs.GivenReplies.{reply_of_call}
 use Rattle.mds_receive.specs.MdsReceive.{IsReply, incoming_of}
 use Rattle.mds_io.specs.declared.read_end.Failure.{Failure}
@@ -25,7 +26,6 @@ use Rattle.mds_io.specs.declared.read_end.ReadEnd.TheVariants as end
 use Rattle.mds_io.specs.Reads.{ReadState, ReadAfter, at_stage, in_turn, with_failure, goes_on, failed_with, fails, answered, after_reply, late, after_timeout}
 use Rattle.mds_rule.specs.MdsStates.{CompoundRun}
 use Rattle.mds_laws.specs.MdsRuns.{Hears}
-use Rattle.mds_laws.proofs.Lists.{In}
 use Rattle.mds_histories.specs.MdsHistory.{MdsItem, Comes, Enters}
 use Rattle.read_runs.specs.ReadRuns.{WasAsked, WasGiven}
 use Rattle.read_runs.proofs.WaitingReads.{asked_more, IsOut, IsInStage, IsWaitingFor, waits_more, waits_in, waits_failed}
@@ -64,7 +64,7 @@ mirror_fails h file c r xid cause w o =
 -- ---- an answer
 
 -- a mirror of the live list
-in_live : (live : List Mirror) (place : ℕ) (m : Mirror) → slice_get live place ≡ Some m → In m.id (ids_of live)
+in_live : (live : List Mirror) (place : ℕ) (m : Mirror) → slice_get live place ≡ Some m → IsOneOf m.id (ids_of live)
 in_live [] place m is = absurd (none-some m is)
 in_live (x ∷ live) zero m is = inl (ap (λ (y : Mirror). y.id) (sym (same_Some x m is)))
 in_live (x ∷ live) (suc place) m is = inr (in_live live place m is)

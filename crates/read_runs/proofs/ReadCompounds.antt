@@ -34,7 +34,7 @@ use Rattle.mds_rule.specs.FileOps.{current_file, file_or_none, phase_or_free, pu
 use Rattle.mds_rule.specs.Compounds.{has_session, operate, operates, finishes, op_then, with_ops, runs, sequence_in, in_slot, sequenced, first_operation, new_run, runs_compound}
 use Rattle.mds_laws.specs.MdsRuns.{Hears}
 use Rattle.mds_histories.specs.MdsHistory.{MdsItem, Comes}
-use Rattle.read_runs.specs.ReadRuns.{Reads}
+use Rattle.read_runs.specs.ReadRuns.{ReadsFile}
 use Rattle.read_runs.proofs.HandleFiles.{same_handle}
 use Rattle.read_runs.proofs.LiveTold.{made_live}
 use Rattle.read_runs.proofs.WaitingReads.{waits_first}
@@ -69,12 +69,12 @@ was_so false is = absurd cc
 -- ---- the READ
 
 module _ (past : List MdsItem) (now : ℕ) (m : MdsValue) (c : CompoundRun) (bytes : List ℕ) (v : CompoundValue) (file : FileId) (stateid : Value stateid4) (at count : ℕ)
-    (compound : incoming_of bytes ≡ IsCompound c.xid v) (reads : Reads v file at count) (ends : c.stop ≡ stop.End None) where
+    (compound : incoming_of bytes ≡ IsCompound c.xid v) (reads : ReadsFile v file at count) (ends : c.stop ≡ stop.End None) where
   abbrev Kept : OpStep → Type 0
   Kept s = KeepsAt (past ++ Comes (record { now = now; input = Hears c.node bytes }) ∷ []) m (op_then s (λ n d. runs now [] n d))
 
   -- it waits
-  begins : (f : FileId) (s : ServedFile) → served m f ≡ Some s → Reads v f at count → is_made (phase_of s.file.layout.phase) ≡ true
+  begins : (f : FileId) (s : ServedFile) → served m f ≡ Some s → ReadsFile v f at count → is_made (phase_of s.file.layout.phase) ≡ true
       → Holds m (past ++ Comes (record { now = now; input = Hears c.node bytes }) ∷ []) → Holds (with_served m f (with_read (with_ops c []) at (read_length count) s)) (past ++ Comes (record { now = now; input = Hears c.node bytes }) ∷ [])
   begins f s is its made i =
       let h : List MdsItem = past ++ Comes (record { now = now; input = Hears c.node bytes }) ∷ [] in
@@ -91,7 +91,7 @@ module _ (past : List MdsItem) (now : ℕ) (m : MdsValue) (c : CompoundRun) (byt
         write = so.write;
       })
 
-  read_there : (f : FileId) (o : Option ServedFile) → served m f ≡ o → Reads v f at count → is_made (phase_or_free o) ≡ true → Kept (reads_at m (with_ops c []) f at (read_length count) o)
+  read_there : (f : FileId) (o : Option ServedFile) → served m f ≡ o → ReadsFile v f at count → is_made (phase_or_free o) ≡ true → Kept (reads_at m (with_ops c []) f at (read_length count) o)
   read_there f None is its made = refuse_step m (with_ops c []) 25 stat.Stale (λ n d. runs now [] n d) (past ++ Comes (record { now = now; input = Hears c.node bytes }) ∷ [])
   read_there f (Some s) is its made =
       λ i. subst (λ (l : List MdsItem). Holds (with_served m f (with_read (with_ops c []) at (read_length count) s)) l) (sym (append-nil (past ++ Comes (record { now = now; input = Hears c.node bytes }) ∷ []))) (begins f s is its made i)
@@ -100,7 +100,7 @@ module _ (past : List MdsItem) (now : ℕ) (m : MdsValue) (c : CompoundRun) (byt
   made_now : refusal (read_order c.current (read_ask m (with_ops c []) (stateid, (at, count)))) ≡ None → is_made (phase_or_free (served m (current_file (with_ops c [])))) ≡ true
   made_now none = was_so (is_made (phase_or_free (served m (current_file (with_ops c []))))) (none_met (read_order c.current (read_ask m (with_ops c []) (stateid, (at, count)))) none).1.1.1.1.0
 
-  at_file : (f : FileId) → current_file (with_ops c []) ≡ f → Reads v f at count → refusal (read_order c.current (read_ask m (with_ops c []) (stateid, (at, count)))) ≡ None → Kept (reads_file m (with_ops c []) (stateid, (at, count)))
+  at_file : (f : FileId) → current_file (with_ops c []) ≡ f → ReadsFile v f at count → refusal (read_order c.current (read_ask m (with_ops c []) (stateid, (at, count)))) ≡ None → Kept (reads_file m (with_ops c []) (stateid, (at, count)))
   at_file f is its none =
       subst (λ (x : FileId). Kept (reads_at m (with_ops c []) x at (read_length count) (served m x))) (sym is)
       (read_there f (served m f) refl its (subst (λ (x : FileId). is_made (phase_or_free (served m x)) ≡ true) is (made_now none)))
@@ -128,7 +128,7 @@ module _ (past : List MdsItem) (now : ℕ) (m : MdsValue) (c : CompoundRun) (byt
 -- ---- the whole
 
 module _ (past : List MdsItem) (now : ℕ) (c : CompoundRun) (bytes : List ℕ) (v : CompoundValue) (file : FileId) (at count : ℕ)
-    (compound : incoming_of bytes ≡ IsCompound c.xid v) (reads : Reads v file at count) (ends : c.stop ≡ stop.End None) where
+    (compound : incoming_of bytes ≡ IsCompound c.xid v) (reads : ReadsFile v file at count) (ends : c.stop ≡ stop.End None) where
   abbrev the_read : Value argop4
   the_read = arm 25 argop4 (reads.stateid, (at, count))
 
@@ -151,7 +151,7 @@ module _ (past : List MdsItem) (now : ℕ) (c : CompoundRun) (bytes : List ℕ) 
       (λ off. refuse_step m (with_ops c (the_read ∷ [])) 22 stat.BadSession (λ n d. runs now (the_read ∷ []) n d) (past ++ Comes (record { now = now; input = Hears c.node bytes }) ∷ []))
 
 module _ (past : List MdsItem) (now : ℕ) (m : MdsValue) (node : NodeId) (xid : ℕ) (bytes : List ℕ) (v : CompoundValue) (file : FileId) (at count : ℕ)
-    (compound : incoming_of bytes ≡ IsCompound xid v) (reads : Reads v file at count) where
+    (compound : incoming_of bytes ≡ IsCompound xid v) (reads : ReadsFile v file at count) where
   by_answer : (n : MdsValue) (s : Sequence) (a : SlotAnswer) → KeepsAt (past ++ Comes (record { now = now; input = Hears node bytes }) ∷ []) n
       (sequenced now n (new_run node xid v) (arm 22 argop4 (file_handle_of file.0) ∷ arm 25 argop4 (reads.stateid, (at, count)) ∷ []) s a)
   by_answer n s TakesEffect = put_step past now (in_slot (new_run node xid v) s) bytes v file at count compound reads reads.stop (record n { sessions = after_request n.sessions s now })

@@ -29,7 +29,7 @@ use Rattle.mds_rule.specs.FileOps.{read_length}
 use Rattle.mds_rule.specs.Answers.{resumes, is_done_as, failed_entry, failed_entries, read_result, without_read, read_resumes, read_ends, read_after}
 use Rattle.mds_histories.specs.MdsHistory.{MdsItem, Enters, Sends, sends_in}
 use Rattle.mds_histories.proofs.Histories.{sends_joined}
-use Rattle.read_runs.specs.ReadRuns.{HasReadCause, WasGiven, IsAnswered}
+use Rattle.read_runs.specs.ReadRuns.{HasReadCause, WasGiven, IsReadAnswered}
 use Rattle.read_runs.proofs.WaitingReads.{IsWaitingFor, each_failed}
 use Rattle.read_runs.proofs.ReadBecomes.{BecomesSo, GoesOn, Fails, Gives}
 use Rattle.read_runs.proofs.Answered.{live_told}
@@ -45,7 +45,7 @@ cause_at start since r at count live status bytes first second cause =
     subst (λ (a : ℕ). HasReadCause start since a count live status bytes) first (subst (λ (n : ℕ). HasReadCause start since r.at n live status bytes) second cause)
 
 answer_of : (h : List MdsItem) (file : FileId) (c : CompoundRun) (r : ReadState) (status : ℕ) (bytes text : List ℕ) (w : IsWaitingFor h file c r) → HasReadCause w.start w.since r.at r.count (ids_of r.live) status bytes
-    → IsAnswered h file status bytes (Sends (Replies c.node (success_reply c.xid text)) ∷ [])
+    → IsReadAnswered h file status bytes (Sends (Replies c.node (success_reply c.xid text)) ∷ [])
 answer_of h file c r status bytes text w cause = record {
   node = c.node;
   asked = w.bytes;
@@ -69,7 +69,7 @@ answer_of h file c r status bytes text w cause = record {
 }
 
 holds_answered : (mirrors : ℕ) (files : List ServedFile) (calls : List AwaitedCall) (next : ℕ) (h : List MdsItem) (file : FileId) (c : CompoundRun) (status : ℕ) (bytes text : List ℕ) → HoldsOf mirrors files calls next h
-    → IsAnswered h file status bytes (Sends (Replies c.node (success_reply c.xid text)) ∷ [])
+    → IsReadAnswered h file status bytes (Sends (Replies c.node (success_reply c.xid text)) ∷ [])
     → HoldsOf mirrors files calls next (h ++ Enters (entry.ReadAnswer file status bytes) ∷ Sends (Replies c.node (success_reply c.xid text)) ∷ [])
 holds_answered mirrors files calls next h file c status bytes text i a =
     let reply = Replies c.node (success_reply c.xid text) in

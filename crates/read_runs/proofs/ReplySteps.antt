@@ -10,6 +10,7 @@ use Rattle.cluster_model.specs.declared.ids.NodeId.TheVariants.{Mds, Server, Cli
 use Rattle.cluster_model.specs.declared.ids.FileId.{FileId}
 use Rattle.cluster_model.specs.DsCalls.{DsCallValue, Read, DsReplyValue}
 use Rattle.cluster_model.specs.Nodes.{is_node}
+use Rattle.cluster_model.specs.Members.{IsOneOf}
 use Rattle.cluster_laws.proofs.Lists.{all_at}
 use Rattle.ds_calls.specs.GivenReplies.{reply_of_call}
 use Rattle.file_rule.specs.FilePhases.{Answers}
@@ -24,7 +25,7 @@ use Rattle.mds_rule.specs.declared.waiter.Waiter.TheVariants.{ForFile, ForRead, 
 use Rattle.mds_rule.specs.ServedFiles.{takes_input}
 use Rattle.mds_rule.specs.Answers.{is_awaited, fileid_of, attributes_shown, own_answer, sees_size, recall_end, server_answered, answered_as, answers_found, takes_answer}
 use Rattle.mds_laws.specs.MdsRuns.{Hears}
-use Rattle.mds_laws.proofs.Lists.{In, found_in, found_passes}
+use Rattle.mds_laws.proofs.Lists.{found_in, found_passes}
 use Rattle.mds_histories.specs.MdsHistory.{MdsItem, Comes, Sends, sends_in}
 use Rattle.mds_histories.proofs.Histories.{sends_joined}
 use Rattle.read_runs.proofs.WaitingReads.{IsOut, IsWaitingFor}
@@ -60,14 +61,14 @@ call_or other (CallsBack xid back file stateid) = other
 call_or other (Replies node reply) = other
 call_or other (mds.Answers node bytes) = other
 
-in_behind : (s : MdsSend) (xs ys : List MdsSend) → In s ys → In s (xs ++ ys)
+in_behind : (s : MdsSend) (xs ys : List MdsSend) → IsOneOf s ys → IsOneOf s (xs ++ ys)
 in_behind s [] ys inside = inside
 in_behind s (x ∷ xs) ys inside = inr (in_behind s xs ys inside)
 
 -- what was asked stands among what was sent
-asked_in : (h start since before behind : List MdsItem) (s : MdsSend) → h ≡ start ++ since → since ≡ before ++ Sends s ∷ behind → In s (sends_in h)
+asked_in : (h start since before behind : List MdsItem) (s : MdsSend) → h ≡ start ++ since → since ≡ before ++ Sends s ∷ behind → IsOneOf s (sends_in h)
 asked_in h start since before behind s split is =
-    subst (λ (ss : List MdsSend). In s ss)
+    subst (λ (ss : List MdsSend). IsOneOf s ss)
     (ap (λ l. sends_in start ++ l) (sym (sends_joined before (Sends s ∷ behind)) ∙ ap sends_in (sym is)) ∙ sym (sends_joined start since) ∙ ap sends_in (sym split))
     (in_behind s (sends_in start) (sends_in before ++ s ∷ sends_in behind) (in_behind s (sends_in before) (s ∷ sends_in behind) (inl refl)))
 
@@ -81,7 +82,7 @@ module _ (past : List MdsItem) (now : ℕ) (node : NodeId) (answer : List ℕ) (
   it_came m i = holds_still m.mirrors m.files m.calls m.next_xid past i (Comes (record { now = now; input = Hears node answer }) ∷ []) (tt, tt) refl
 
   -- to a call that is awaited: who waits is as it was before the call was forgotten
-  module _ (m : MdsValue) (i : Holds m past) (call : AwaitedCall) (inside : In call m.calls) (its : is_call_to node reply.xid call ≡ true) (server own uid : ℕ) (c : DsCallValue) (sent : call.sent ≡ CallsServer server own uid c) where
+  module _ (m : MdsValue) (i : Holds m past) (call : AwaitedCall) (inside : IsOneOf call m.calls) (its : is_call_to node reply.xid call ≡ true) (server own uid : ℕ) (c : DsCallValue) (sent : call.sent ≡ CallsServer server own uid c) where
     says_it : (file : FileId) (x : MdsValue) (s : ServedFile) (place : ℕ) (r : WaitingRead) (w : IsWaitingFor past file r.compound r.read) (o : IsOut w.start w.since r.read reply.xid)
         → SaysIt past file r.compound r.read now node answer reply (reply_of_call c reply) o.mirror
     says_it file x s place r w o =
@@ -115,7 +116,7 @@ module _ (past : List MdsItem) (now : ℕ) (node : NodeId) (answer : List ℕ) (
         (it_came x (sees n file server c given past j))
     server_step n j ForRecall = same n (past ++ Comes (record { now = now; input = Hears node answer }) ∷ []) (it_came n j)
 
-  answered_step : (m : MdsValue) (i : Holds m past) (call : AwaitedCall) → In call m.calls → is_call_to node reply.xid call ≡ true → (n : MdsValue) → Holds n past → (status : ℕ) (sent : MdsSend) → call.sent ≡ sent
+  answered_step : (m : MdsValue) (i : Holds m past) (call : AwaitedCall) → IsOneOf call m.calls → is_call_to node reply.xid call ≡ true → (n : MdsValue) → Holds n past → (status : ℕ) (sent : MdsSend) → call.sent ≡ sent
       → StepHolds (answered_as now n reply.xid (λ c. reply_of_call c reply) status call.caller sent)
   answered_step m i call inside its n j status (CallsServer server own uid c) sent = server_step m i call inside its server own uid c sent n j call.caller
   answered_step m i call inside its n j status (CallsBack own back file stateid) sent =

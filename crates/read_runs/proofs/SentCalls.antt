@@ -4,10 +4,12 @@ use Rattle.std.specs.Prelude.{not, ◌==◌}
 use Rattle.std.proofs.lemmas.Option.{none-some}
 use Rattle.cluster_model.specs.declared.ids.NodeId.{NodeId}
 use Rattle.cluster_model.specs.declared.ids.NodeId.TheVariants.{Server}
+use Rattle.cluster_model.specs.Members.{IsOneOf}
+use Rattle.rpc_record.specs.CallNumbers.{IsBelow}
 use Rattle.mds_rule.specs.MdsStates.{MdsSend, CallsServer, CallsBack, Replies, Answers, AwaitedCall, with_call, is_call_to, without_call}
 use Rattle.mds_rule.specs.Goes.{xid_after}
-use Rattle.mds_laws.specs.MdsRunLaws.{number_sent, IsBelow, AreBelow}
-use Rattle.mds_laws.proofs.Lists.{In, in_with_call, in_filtered}
+use Rattle.mds_laws.specs.MdsRunLaws.{number_sent, AreBelow}
+use Rattle.mds_laws.proofs.Lists.{in_with_call, in_filtered}
 use Rattle.mds_laws.proofs.Numbers.{WereSent, sent_more, sent_with, sent_without, below_all, below_push, in_below, after_below}
 
 -- a call of a data server went out to that node
@@ -23,47 +25,47 @@ pub record IsCallSo (call : AwaitedCall) : Type 0 where
 
 -- two under one number are the same
 abbrev pub SentOnce : List MdsSend → Type 0
-SentOnce ss = (a b : MdsSend) (xid : ℕ) → In a ss → In b ss → number_sent a ≡ Some xid → number_sent b ≡ Some xid → a ≡ b
+SentOnce ss = (a b : MdsSend) (xid : ℕ) → IsOneOf a ss → IsOneOf b ss → number_sent a ≡ Some xid → number_sent b ≡ Some xid → a ≡ b
 
 pub record HaveNumbers (next : ℕ) (calls : List AwaitedCall) (ss : List MdsSend) : Type 0 where
   pub below : not (next == 0) ≡ true → AreBelow next ss
   pub once : SentOnce ss
   pub were : WereSent calls ss
-  pub are : (call : AwaitedCall) → In call calls → IsCallSo call
+  pub are : (call : AwaitedCall) → IsOneOf call calls → IsCallSo call
 
-in_pushed : (x s : MdsSend) (ss : List MdsSend) → In x (ss ++ s ∷ []) → In x ss ⊎ (x ≡ s)
+in_pushed : (x s : MdsSend) (ss : List MdsSend) → IsOneOf x (ss ++ s ∷ []) → IsOneOf x ss ⊎ (x ≡ s)
 in_pushed x s [] (inl is) = inr is
 in_pushed x s [] (inr inside) = absurd inside
 in_pushed x s (y ∷ ss) (inl is) = inl (inl is)
 in_pushed x s (y ∷ ss) (inr inside) = further (in_pushed x s ss inside)
   where
-    further : In x ss ⊎ (x ≡ s) → In x (y ∷ ss) ⊎ (x ≡ s)
+    further : IsOneOf x ss ⊎ (x ≡ s) → IsOneOf x (y ∷ ss) ⊎ (x ≡ s)
     further (inl old) = inl (inr old)
     further (inr new) = inr new
 
 -- the number that is next was not used
-pub not_used : (next : ℕ) (ss : List MdsSend) → AreBelow next ss → (s : MdsSend) → In s ss → number_sent s ≡ Some next → ⊥
+pub not_used : (next : ℕ) (ss : List MdsSend) → AreBelow next ss → (s : MdsSend) → IsOneOf s ss → number_sent s ≡ Some next → ⊥
 not_used next ss below s inside is = none_below (subst (IsBelow next) is (in_below next ss s below inside))
   where
     none_below : IsBelow next (Some next) → ⊥
     none_below less = omega (arith, less)
 
 -- one more under a number that no other has
-once_new : (ss : List MdsSend) (s : MdsSend) → SentOnce ss → ((x : MdsSend) (xid : ℕ) → In x ss → number_sent x ≡ Some xid → number_sent s ≡ Some xid → ⊥) → SentOnce (ss ++ s ∷ [])
+once_new : (ss : List MdsSend) (s : MdsSend) → SentOnce ss → ((x : MdsSend) (xid : ℕ) → IsOneOf x ss → number_sent x ≡ Some xid → number_sent s ≡ Some xid → ⊥) → SentOnce (ss ++ s ∷ [])
 once_new ss s once new a b xid first second as_a as_b = by_places (in_pushed a s ss first) (in_pushed b s ss second)
   where
-    by_places : In a ss ⊎ (a ≡ s) → In b ss ⊎ (b ≡ s) → a ≡ b
+    by_places : IsOneOf a ss ⊎ (a ≡ s) → IsOneOf b ss ⊎ (b ≡ s) → a ≡ b
     by_places (inl x) (inl y) = once a b xid x y as_a as_b
     by_places (inl x) (inr y) = absurd (new a xid x as_a (ap number_sent (sym y) ∙ as_b))
     by_places (inr x) (inl y) = absurd (new b xid y as_b (ap number_sent (sym x) ∙ as_a))
     by_places (inr x) (inr y) = x ∙ sym y
 
-once_again : (ss : List MdsSend) (s : MdsSend) → SentOnce ss → In s ss → SentOnce (ss ++ s ∷ [])
+once_again : (ss : List MdsSend) (s : MdsSend) → SentOnce ss → IsOneOf s ss → SentOnce (ss ++ s ∷ [])
 once_again ss s once inside a b xid first second as_a as_b = once a b xid (old a (in_pushed a s ss first)) (old b (in_pushed b s ss second)) as_a as_b
   where
-    old : (x : MdsSend) → In x ss ⊎ (x ≡ s) → In x ss
+    old : (x : MdsSend) → IsOneOf x ss ⊎ (x ≡ s) → IsOneOf x ss
     old x (inl its) = its
-    old x (inr is) = subst (λ (y : MdsSend). In y ss) (sym is) inside
+    old x (inr is) = subst (λ (y : MdsSend). IsOneOf y ss) (sym is) inside
 
 -- ---- what goes out
 
@@ -75,7 +77,7 @@ numbers_none next calls ss s none n = record {
   are = n.are;
 }
 
-pub numbers_again : (next : ℕ) (calls : List AwaitedCall) (ss : List MdsSend) (s : MdsSend) → In s ss → HaveNumbers next calls ss → HaveNumbers next calls (ss ++ s ∷ [])
+pub numbers_again : (next : ℕ) (calls : List AwaitedCall) (ss : List MdsSend) (s : MdsSend) → IsOneOf s ss → HaveNumbers next calls ss → HaveNumbers next calls (ss ++ s ∷ [])
 numbers_again next calls ss s inside n = record {
   below = λ has. below_push next ss s (n.below has) (in_below next ss s (n.below has) inside);
   once = once_again ss s n.once inside;
@@ -92,7 +94,7 @@ numbers_new next calls ss call has number so n = record {
   are = λ x inside. by_place x (in_with_call x call calls inside);
 }
   where
-    by_place : (x : AwaitedCall) → In x calls ⊎ (x ≡ call) → IsCallSo x
+    by_place : (x : AwaitedCall) → IsOneOf x calls ⊎ (x ≡ call) → IsCallSo x
     by_place x (inl old) = n.are x old
     by_place x (inr is) = subst IsCallSo (sym is) so
 

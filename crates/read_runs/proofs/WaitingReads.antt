@@ -14,6 +14,7 @@ use Rattle.cluster_model.specs.declared.entry.Entry.{Entry}
 use Rattle.cluster_model.specs.declared.entry.Entry.TheVariants.{Swapped, Failed}
 use Rattle.cluster_model.specs.DsCalls.{Read}
 use Rattle.cluster_model.specs.Phases.{ids_of}
+use Rattle.cluster_model.specs.Members.{IsOneOf}
 use Rattle.cluster_laws.specs.FenceLaw.{live_in}
 use Rattle.cluster_laws.proofs.Lists.{all_append}
 use Rattle.mds_io.specs.declared.read_end.Failure.{Failure}
@@ -25,10 +26,10 @@ use Rattle.mds_rule.specs.MdsStates.{CompoundRun, MdsSend, CallsServer}
 use Rattle.mds_rule.specs.FileOps.{read_length}
 use Rattle.mds_laws.specs.MdsRuns.{Hears}
 use Rattle.mds_laws.specs.MdsRunLaws.{number_sent}
-use Rattle.mds_laws.proofs.Lists.{In, in_more}
+use Rattle.mds_laws.proofs.Lists.{in_more}
 use Rattle.mds_histories.specs.MdsHistory.{MdsItem, Comes, Enters, Sends, entries_in, sends_in}
 use Rattle.mds_histories.proofs.Histories.{sends_joined}
-use Rattle.read_runs.specs.ReadRuns.{Reads, IsNoSwapOf, HasNone, HasSwap, StartsAt, WasAsked, HasFailedRead}
+use Rattle.read_runs.specs.ReadRuns.{ReadsFile, EntersNoSwapOf, HasNone, HasSwap, StartsAt, WasAsked, HasFailedRead}
 
 -- ---- what was asked and what failed, in a longer history
 
@@ -69,7 +70,7 @@ have_next start since at count (x ∷ live) (g ∷ failures) f m h turn one = (h
 
 -- where none is left, each has failed
 pub each_failed : (start since : List MdsItem) (at count : ℕ) (live : List Mirror) (failures : List Failure) → HaveFailed start since at count live failures → slice_get live (length failures) ≡ None
-    → (id : MirrorId) → In id (ids_of live) → HasFailedRead start since at count id
+    → (id : MirrorId) → IsOneOf id (ids_of live) → HasFailedRead start since at count id
 each_failed start since at count [] failures h turn id inside = absurd inside
 each_failed start since at count (m ∷ live) [] h turn id inside = absurd (none-some m (sym turn))
 each_failed start since at count (m ∷ live) (f ∷ failures) h turn id (inl is) = subst (λ (k : MirrorId). HasFailedRead start since at count k) (sym is) h.0
@@ -109,7 +110,7 @@ pub record IsWaitingFor (h : List MdsItem) (file : FileId) (c : CompoundRun) (r 
   pub compound : incoming_of bytes ≡ IsCompound c.xid v
   pub at : ℕ
   pub count : ℕ
-  pub reads : Reads v file at count
+  pub reads : ReadsFile v file at count
   pub at_is : r.at ≡ at
   pub count_is : r.count ≡ read_length count
   pub start : List MdsItem
@@ -123,7 +124,7 @@ pub record IsWaitingFor (h : List MdsItem) (file : FileId) (c : CompoundRun) (r 
   pub stage : IsInStage start since r r.stage
 
 abbrev pub NoSwapsOf : FileId → List MdsItem → Type 0
-NoSwapsOf file items = AllByRecursion (IsNoSwapOf file) items
+NoSwapsOf file items = AllByRecursion (EntersNoSwapOf file) items
 
 pub starts_more : (h : List MdsItem) (node : NodeId) (bytes : List ℕ) (file : FileId) (start since more : List MdsItem) → NoSwapsOf file more → StartsAt h node bytes file start since → StartsAt (h ++ more) node bytes file start (since ++ more)
 starts_more h node bytes file start since more none s = record {
@@ -133,7 +134,7 @@ starts_more h node bytes file start since more none s = record {
   split = ap (λ l. l ++ more) s.split ∙ append_assoc start since more;
   start_is = s.start_is;
   last = s.last;
-  no_more = all_append (IsNoSwapOf file) since more s.no_more none;
+  no_more = all_append (EntersNoSwapOf file) since more s.no_more none;
 }
 
 -- it is known in a longer history in which the file has no swap
@@ -159,7 +160,7 @@ waits_more h file c r more none w = record {
 
 -- ---- it begins
 
-pub waits_first : (past : List MdsItem) (now : ℕ) (file : FileId) (c : CompoundRun) (bytes : List ℕ) (v : CompoundValue) (at count : ℕ) (live : List Mirror) → incoming_of bytes ≡ IsCompound c.xid v → Reads v file at count
+pub waits_first : (past : List MdsItem) (now : ℕ) (file : FileId) (c : CompoundRun) (bytes : List ℕ) (v : CompoundValue) (at count : ℕ) (live : List Mirror) → incoming_of bytes ≡ IsCompound c.xid v → ReadsFile v file at count
     → c.ops ≡ [] → c.stop ≡ stop.End None → live_in (entries_in (past ++ Comes (record { now = now; input = Hears c.node bytes }) ∷ [])) file ≡ Some (ids_of live)
     → IsWaitingFor (past ++ Comes (record { now = now; input = Hears c.node bytes }) ∷ []) file c (new_read live at (read_length count))
 waits_first past now file c bytes v at count live compound reads ops stop told =
@@ -247,7 +248,7 @@ waits_in h file c r stage w so = record {
   stage = so;
 }
 
-pub waits_out : (h : List MdsItem) (file : FileId) (c : CompoundRun) (r : ReadState) (m : Mirror) (xid : ℕ) → IsWaitingFor h file c r → in_turn r ≡ Some m → ((s : MdsSend) → In s (sends_in h) → number_sent s ≡ Some xid → ⊥)
+pub waits_out : (h : List MdsItem) (file : FileId) (c : CompoundRun) (r : ReadState) (m : Mirror) (xid : ℕ) → IsWaitingFor h file c r → in_turn r ≡ Some m → ((s : MdsSend) → IsOneOf s (sends_in h) → number_sent s ≡ Some xid → ⊥)
     → IsWaitingFor (h ++ Sends (CallsServer m.id.server xid 0 (Read m.id.fileid r.at r.count)) ∷ []) file c (at_stage r (Out xid 0))
 unfolding waits_more
 waits_out h file c r m xid w turn new =
@@ -257,11 +258,11 @@ waits_out h file c r m xid w turn new =
       mirror = m;
       turn = turn;
       behind = [];
-      asked = record { before = w.since; split = refl; new = λ s inside. new s (subst (λ (l : List MdsItem). In s (sends_in l)) (sym w.starts.split) (in_front s w.start w.since inside)) };
+      asked = record { before = w.since; split = refl; new = λ s inside. new s (subst (λ (l : List MdsItem). IsOneOf s (sends_in l)) (sym w.starts.split) (in_front s w.start w.since inside)) };
     })
   where
-    in_front : (s : MdsSend) (xs ys : List MdsItem) → In s (sends_in xs) → In s (sends_in (xs ++ ys))
-    in_front s xs ys inside = subst (λ (l : List MdsSend). In s l) (sym (sends_joined xs ys)) (in_more s (sends_in xs) (sends_in ys) inside)
+    in_front : (s : MdsSend) (xs ys : List MdsItem) → IsOneOf s (sends_in xs) → IsOneOf s (sends_in (xs ++ ys))
+    in_front s xs ys inside = subst (λ (l : List MdsSend). IsOneOf s l) (sym (sends_joined xs ys)) (in_more s (sends_in xs) (sends_in ys) inside)
 
 pub waits_failed : (h : List MdsItem) (file : FileId) (c : CompoundRun) (r : ReadState) (f : Failure) (w : IsWaitingFor h file c r) (o : IsOut w.start w.since r f.xid) → f.id ≡ o.mirror.id
     → IsWaitingFor (h ++ Enters (Failed f.id f.xid) ∷ []) file c (with_failure r f)

@@ -12,6 +12,7 @@ use Rattle.cluster_model.specs.declared.ids.MirrorId.{MirrorId}
 use Rattle.cluster_model.specs.declared.ds_call.Shown.{Shown}
 use Rattle.cluster_model.specs.declared.entry.Entry.TheVariants.{ReadAnswer, Failed, Swapped}
 use Rattle.cluster_model.specs.DsCalls.{Read, Bytes}
+use Rattle.cluster_model.specs.Members.{IsOneOf}
 use Rattle.cluster_laws.specs.FenceLaw.{live_in}
 use Rattle.device_addr.specs.Universal.{AddressValue}
 use Rattle.ds_calls.specs.GivenReplies.{reply_of_call}
@@ -27,13 +28,12 @@ use Rattle.mds_rule.specs.MdsStates.{MdsSend, CallsServer, Replies, new_mds}
 use Rattle.mds_rule.specs.FileOps.{read_length}
 use Rattle.mds_laws.specs.MdsRuns.{MdsInput, MdsEvent, Hears}
 use Rattle.mds_laws.specs.MdsRunLaws.{number_sent}
-use Rattle.mds_laws.proofs.Lists.{In}
 use Rattle.mds_histories.specs.MdsHistory.{MdsItem, Comes, Enters, Sends, mds_history, entries_in, sends_in}
 
 -- ---- the compound that reads
 
 -- SEQUENCE, PUTFH of a file, and a READ of so many bytes from an offset on, with nothing behind them
-pub record Reads (v : CompoundValue) (file : FileId) (at count : ℕ) : Type 0 where
+pub record ReadsFile (v : CompoundValue) (file : FileId) (at count : ℕ) : Type 0 where
   pub sequence : Value sequence4_args
   pub stateid : Value stateid4
   pub ops : v.ops.values ≡ arm 53 argop4 sequence ∷ arm 22 argop4 (file_handle_of file.0) ∷ arm 25 argop4 (stateid, (at, count)) ∷ []
@@ -45,7 +45,7 @@ HasNoRead v = AllByRecursion (λ op. (arm_of argop4 op == 25) ≡ false) v.ops.v
 
 -- it reads in that form, or does not read
 abbrev pub ReadsInForm : CompoundValue → Type 0
-ReadsInForm v = HasNoRead v ⊎ ((file : FileId) × (at : ℕ) × (count : ℕ) × Reads v file at count)
+ReadsInForm v = HasNoRead v ⊎ ((file : FileId) × (at : ℕ) × (count : ℕ) × ReadsFile v file at count)
 
 abbrev pub HearsInForm : MdsInput → Type 0
 HearsInForm (Hears from bytes) = (xid : ℕ) (v : CompoundValue) → incoming_of bytes ≡ IsCompound xid v → ReadsInForm v
@@ -56,9 +56,9 @@ AreInForm events = AllByRecursion (λ (e : MdsEvent). HearsInForm e.input) event
 
 -- ---- the start
 
-abbrev pub IsNoSwapOf : FileId → MdsItem → Type 0
-IsNoSwapOf file (Enters (Swapped other old new)) = other ≡ file → ⊥
-IsNoSwapOf file item = Unit {0}
+abbrev pub EntersNoSwapOf : FileId → MdsItem → Type 0
+EntersNoSwapOf file (Enters (Swapped other old new)) = other ≡ file → ⊥
+EntersNoSwapOf file item = Unit {0}
 
 -- these end with a swap of the file, or there are none
 pub data EndsWithSwap (file : FileId) (items : List MdsItem) : Type 0 where
@@ -74,7 +74,7 @@ pub record StartsAt (past : List MdsItem) (node : NodeId) (bytes : List ℕ) (fi
   pub split : past ≡ start ++ since
   pub start_is : start ≡ before ++ Comes (record { now = now; input = Hears node bytes }) ∷ swaps
   pub last : EndsWithSwap file swaps
-  pub no_more : AllByRecursion (IsNoSwapOf file) since
+  pub no_more : AllByRecursion (EntersNoSwapOf file) since
 
 -- ---- what it rests on
 
@@ -82,10 +82,7 @@ pub record StartsAt (past : List MdsItem) (node : NodeId) (bytes : List ℕ) (fi
 pub record WasAsked (start since : List MdsItem) (mirror : MirrorId) (at count xid : ℕ) (behind : List MdsItem) : Type 0 where
   pub before : List MdsItem
   pub split : since ≡ before ++ Sends (CallsServer mirror.server xid 0 (Read mirror.fileid at count)) ∷ behind
-  pub new : (s : MdsSend) → In s (sends_in start) → number_sent s ≡ Some xid → ⊥
-
-abbrev pub IsOneOf : MirrorId → List MirrorId → Type 0
-IsOneOf m live = In m live
+  pub new : (s : MdsSend) → IsOneOf s (sends_in start) → number_sent s ≡ Some xid → ⊥
 
 -- a mirror of these was asked, and its reply that came then has the bytes
 pub record WasGiven (start since : List MdsItem) (at count : ℕ) (live : List MirrorId) (bytes : List ℕ) : Type 0 where
@@ -123,7 +120,7 @@ HasReadCause start since at count live status bytes =
 -- ---- an answer
 
 -- the answer is entered behind these items, and these follow
-pub record IsAnswered (past : List MdsItem) (file : FileId) (status : ℕ) (bytes : List ℕ) (behind : List MdsItem) : Type 0 where
+pub record IsReadAnswered (past : List MdsItem) (file : FileId) (status : ℕ) (bytes : List ℕ) (behind : List MdsItem) : Type 0 where
   pub node : NodeId
   pub asked : List ℕ
   pub xid : ℕ
@@ -131,7 +128,7 @@ pub record IsAnswered (past : List MdsItem) (file : FileId) (status : ℕ) (byte
   pub compound : incoming_of asked ≡ IsCompound xid v
   pub at : ℕ
   pub count : ℕ
-  pub reads : Reads v file at count
+  pub reads : ReadsFile v file at count
   pub start : List MdsItem
   pub since : List MdsItem
   pub starts : StartsAt past node asked file start since
@@ -150,4 +147,4 @@ abbrev pub EachReadIsAnswered : Type 0
 EachReadIsAnswered =
     (servers : List AddressValue) (mirrors : ℕ) (events : List MdsEvent) → mirrors ≤ 4 → AreInForm events
     → (past behind : List MdsItem) (file : FileId) (status : ℕ) (bytes : List ℕ) → mds_history (new_mds servers mirrors) events ≡ past ++ Enters (ReadAnswer file status bytes) ∷ behind
-    → IsAnswered past file status bytes behind
+    → IsReadAnswered past file status bytes behind

@@ -95,14 +95,14 @@ abbrev pub excused_peer : PeerState → PeerState
 excused_peer e = record e { connection = excused e.connection }
 
 -- the bytes ahead were read as records, as far as that goes without memory being wanted
-abbrev pub Settles : ConnectionState → ConnectionState → Type 0
-Settles old new = (r : Result (Unit {0}) RecordFault) × (r ≢ Err fault.NoMemory) × ((fed : List ℕ) → old.front ≡ front_of fed → Advances fed old r new)
+abbrev pub ReadsAhead : ConnectionState → ConnectionState → Type 0
+ReadsAhead old new = (r : Result (Unit {0}) RecordFault) × (r ≢ Err fault.NoMemory) × ((fed : List ℕ) → old.front ≡ front_of fed → Advances fed old r new)
 
 -- What filling from its own stream did at this time: bytes came and were read; the peer has ended its side; nothing can be read now; or
 -- the stream is of no use. Where memory was wanted, bytes may have come that are still ahead.
 abbrev pub FillsPeer : ℕ → PeerState → Result (Unit {0}) Halt → PeerState → Type 0
 FillsPeer now old (Ok x) new =
-    (n : ℕ) × (mid : ConnectionState) × Fills old.connection old.coming (Ok n) mid new.coming × Settles mid new.connection
+    (n : ℕ) × (mid : ConnectionState) × Fills old.connection old.coming (Ok n) mid new.coming × ReadsAhead mid new.connection
     × (new ≡ record old { connection = new.connection; heard = now; coming = new.coming })
 FillsPeer now old (Err halt.Ended) new =
     Fills old.connection old.coming (Err halt.Ended) new.connection new.coming
@@ -115,7 +115,7 @@ FillsPeer now old (Err halt.NoMemory) new =
 -- What handing out did: the record that is whole, and the bytes behind it were read; where memory was wanted it is lost.
 abbrev pub HandsPeer : PeerState → Result (Option (List ℕ)) NoMemory → PeerState → Type 0
 HandsPeer old (Ok (Some message)) new =
-    (mid : ConnectionState) × Hands old.connection (Some message) mid × Settles mid new.connection × (new ≡ record old { connection = new.connection })
+    (mid : ConnectionState) × Hands old.connection (Some message) mid × ReadsAhead mid new.connection × (new ≡ record old { connection = new.connection })
 HandsPeer old (Ok None) new = (is_whole old.connection.front ≡ false) × (new ≡ old)
 HandsPeer old (Err e) new = (message : List ℕ) × Hands old.connection (Some message) new.connection × (new ≡ record old { connection = new.connection })
 

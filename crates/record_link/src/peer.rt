@@ -2,7 +2,7 @@
 
 ghost use Rattle.std.specs.Prelude.{◌≡◌, ◌+◌, ◌≤◌, nat_le, ℕ, length, OnOk, OnErr};
 ghost use Rattle.rpc_record.specs.Frames.{is_whole, max_record};
-ghost use Rattle.record_link.specs.Peers.{is_ready, wants_bytes, is_to_read, is_to_retry, is_to_write, has_stalled, is_stuck, is_finished, is_to_close, is_spare, new_peer, resumed, excused_peer, Settles, FillsPeer, HandsPeer, PutsPeer, stall_after, DrainsPeer, WritesIf, ReadsIf, VisitsPeer};
+ghost use Rattle.record_link.specs.Peers.{is_ready, wants_bytes, is_to_read, is_to_retry, is_to_write, has_stalled, is_stuck, is_finished, is_to_close, is_spare, new_peer, resumed, excused_peer, ReadsAhead, FillsPeer, HandsPeer, PutsPeer, stall_after, DrainsPeer, WritesIf, ReadsIf, VisitsPeer};
 
 use crate::connection::Connection;
 use crate::stream::{Halt, Stream};
@@ -284,7 +284,7 @@ impl<S: Stream> Peer<S> {
 
 /// Reads the bytes ahead as records, as far as that goes.
 fn settle(connection: &mut Connection) -> Result<(), NoMemory>
-    ensures ok { OnOk result (Settles connection.old connection.new) }
+    ensures ok { OnOk result (ReadsAhead connection.old connection.new) }
     ensures err { OnErr result (connection.new ≡ connection.old) }
 {
     match connection.advance() {

@@ -11,7 +11,7 @@ use Rattle.record_link.specs.declared.stream.Halt.{Halt}
 use Rattle.record_link.specs.declared.stream.Halt.TheVariants as halt
 use Rattle.record_link.specs.Stream.{Comes, gone_more}
 use Rattle.record_link.specs.Connection.{ConnectionState, HasCome, is_refused, Advances}
-use Rattle.record_link.specs.Peers.{PeerState, new_peer, resumed, excused_peer, is_to_write, is_to_read, after_drain, Settles, FillsPeer, HandsPeer, PutsPeer, DrainsPeer, WritesIf, ReadsIf, VisitsPeer}
+use Rattle.record_link.specs.Peers.{PeerState, new_peer, resumed, excused_peer, is_to_write, is_to_read, after_drain, ReadsAhead, FillsPeer, HandsPeer, PutsPeer, DrainsPeer, WritesIf, ReadsIf, VisitsPeer}
 use Rattle.record_link.proofs.ConnectionLemmas.{not_refused, read_on, handed_on}
 use Rattle.record_link.proofs.OutgoingLemmas.{gone_nil, gone_gone}
 use Rattle.record_server.specs.History.{Account, new_account, with_message, with_sent, StandsAs}
@@ -84,7 +84,7 @@ settled_by came messages mid new fed is (Err fault.TooManyFragments) some adv co
 }
 settled_by came messages mid new fed is (Err fault.NoMemory) some adv come = absurd (some refl)
 
-settled : (came : List ℕ) (messages : List (List ℕ)) (mid new : ConnectionState) → Settles mid new → HasFront mid → Came came messages mid → Settled came messages mid new
+settled : (came : List ℕ) (messages : List (List ℕ)) (mid new : ConnectionState) → ReadsAhead mid new → HasFront mid → Came came messages mid → Settled came messages mid new
 settled came messages mid new settles front come = settled_by came messages mid new front.0 front.1 settles.0 settles.1 (settles.2 front.0 front.1) come
 
 -- only its times have changed, and whether the peer has ended

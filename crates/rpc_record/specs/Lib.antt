@@ -6,3 +6,4 @@ pub mod Laws
 pub mod Frames
 pub mod FramesView
 pub mod FrameLaws
+pub mod CallNumbers

@@ -16,7 +16,7 @@ use Rattle.served_files.specs.declared.writing.EndedWrite.{EndedWrite}
 use Rattle.served_files.specs.declared.sending.SentByFile.{SentByFile}
 use Rattle.served_files.specs.Waiting.{StepsRead, StepsWrite}
 use Rattle.served_files.specs.Sending.{SendsOwn, SendsFileRead}
-use Rattle.served_files.specs.Quiet.{IsQuiet, is_due, AreQuietBut}
+use Rattle.served_files.specs.Quiet.{IsFileQuiet, is_due, AreQuietBut}
 use Rattle.served_files.specs.FileSteps.{at_place, changed_at, changed_in, TakesStep, TakesAt, TakesIn, StepsReadOf, StepsReadIn, StepsWriteOf, StepsWriteIn, SendsOwnOf, SendsOwnIn, SendsReadOf, SendsReadIn}
 use Rattle.served_files.proofs.NameLists.{map-push}
 use Rattle.served_files.proofs.QuietLemmas.{StayDue, still_quiet, quiet_set, quiet_stays, quiet_push}
@@ -72,7 +72,7 @@ module _ (now files : List ServedFile) (file : FileId) (place : ℕ) (x : Served
     quiet_set new files place y is (still_quiet old new files stay quiet),
   )
 
-  pub stands_quiet : (names : List (List ℕ)) (due : List ℕ) → y.name ≡ x.name → (IsQuiet x → IsQuiet y) → AreKept names due files → AreKept names due (set files place y)
+  pub stands_quiet : (names : List (List ℕ)) (due : List ℕ) → y.name ≡ x.name → (IsFileQuiet x → IsFileQuiet y) → AreKept names due files → AreKept names due (set files place y)
   stands_quiet names due same goes (are, few, quiet) = (
     are ∙ sym (names_set files place x y at.there same),
     subst (λ (n : ℕ). n ≤ 4096) (sym (length-set files place y)) few,

@@ -15,7 +15,7 @@ use Rattle.mds_rule.specs.MdsStates.{WaitingWrite, ServedFile, numbered}
 use Rattle.mds_rule.specs.LayoutOps.{with_holder}
 use Rattle.mds_rule.specs.Goes.{own_of_file, own_of_write, own_by}
 use Rattle.served_files.specs.Sending.{OwnWaits, ReadWaits, read_sent}
-use Rattle.served_files.specs.Quiet.{IsQuiet, is_due, AreQuietBut}
+use Rattle.served_files.specs.Quiet.{IsFileQuiet, is_due, AreQuietBut}
 
 -- ---- a file whose layout is handed to a client
 
@@ -27,7 +27,7 @@ own_held : (client : ℕ) (again : Bool) (s : ServedFile) (file : FileId) (xid :
 own_held client again s file xid None is = still_none (own_of_file file s) (own_of_file file (with_holder client again s)) (call_out s.file xid) is
 own_held client again s file xid (Some w) is = still_none (own_of_write file s w) (own_of_write file (with_holder client again s) w) (writer.next_sent w.writer xid) is
 
-pub quiet_held : (client : ℕ) (again : Bool) (s : ServedFile) → IsQuiet s → IsQuiet (with_holder client again s)
+pub quiet_held : (client : ℕ) (again : Bool) (s : ServedFile) → IsFileQuiet s → IsFileQuiet (with_holder client again s)
 quiet_held client again s quiet = record { own = λ file xid. own_held client again s file xid s.write (quiet.own file xid); reads = quiet.reads }
 
 -- ---- the places that are due
@@ -47,20 +47,20 @@ pub quiet_set : (due : List ℕ) (files : List ServedFile) (i : ℕ) (y : Served
 quiet_set due files i y is quiet = λ place s there not. quiet place s (sym (slice_get-set_other files i place y (λ same. due_twice due place i same not is)) ∙ there) not
 
 -- a file changes, and is as quiet as it was
-pub quiet_stays : (due : List ℕ) (files : List ServedFile) (i : ℕ) (x y : ServedFile) → slice_get files i ≡ Some x → (IsQuiet x → IsQuiet y) → AreQuietBut due files → AreQuietBut due (set files i y)
+pub quiet_stays : (due : List ℕ) (files : List ServedFile) (i : ℕ) (x y : ServedFile) → slice_get files i ≡ Some x → (IsFileQuiet x → IsFileQuiet y) → AreQuietBut due files → AreQuietBut due (set files i y)
 quiet_stays due files i x y here goes quiet = λ place s there not. by_place place s there not (cases_eq place i)
   where
-    by_place : (place : ℕ) (s : ServedFile) → slice_get (set files i y) place ≡ Some s → is_due due place ≡ false → (place ≡ i) ⊎ (place ≢ i) → IsQuiet s
+    by_place : (place : ℕ) (s : ServedFile) → slice_get (set files i y) place ≡ Some s → is_due due place ≡ false → (place ≡ i) ⊎ (place ≢ i) → IsFileQuiet s
     by_place place s there not (inl same) =
         let is : y ≡ s = same_Some y s (sym (slice_get-set_same files i x y here) ∙ ap (slice_get (set files i y)) (sym same) ∙ there) in
-        subst IsQuiet is (goes (quiet i x here (ap (is_due due) (sym same) ∙ not)))
+        subst IsFileQuiet is (goes (quiet i x here (ap (is_due due) (sym same) ∙ not)))
     by_place place s there not (inr other) = quiet place s (sym (slice_get-set_other files i place y other) ∙ there) not
 
 -- a file comes whose place is due
 pub quiet_push : (due : List ℕ) (files : List ServedFile) (y : ServedFile) → is_due due (length files) ≡ true → AreQuietBut due files → AreQuietBut due (files ++ y ∷ [])
 quiet_push due files y is quiet = λ place s there not. by_place place s not (pushed files y place s there)
   where
-    by_place : (place : ℕ) (s : ServedFile) → is_due due place ≡ false → Pushed files y place s → IsQuiet s
+    by_place : (place : ℕ) (s : ServedFile) → is_due due place ≡ false → Pushed files y place s → IsFileQuiet s
     by_place place s not (Old there) = quiet place s there not
     by_place place s not (New at same) = absurd (due_twice due place (length files) at not is)
 
@@ -68,12 +68,12 @@ other_place : (i place : ℕ) → place ≢ i → is_at (nat_cmp i) place ≡ fa
 other_place i place differs = grind (arith, nat_tests, differs)
 
 -- a quiet file is due no more
-pub quiet_settled : (old new : List ℕ) (files : List ServedFile) (i : ℕ) (x : ServedFile) → slice_get files i ≡ Some x → IsQuiet x → ((place : ℕ) → is_at (nat_cmp i) place ≡ false → is_due new place ≡ is_due old place)
+pub quiet_settled : (old new : List ℕ) (files : List ServedFile) (i : ℕ) (x : ServedFile) → slice_get files i ≡ Some x → IsFileQuiet x → ((place : ℕ) → is_at (nat_cmp i) place ≡ false → is_due new place ≡ is_due old place)
     → AreQuietBut old files → AreQuietBut new files
 quiet_settled old new files i x here quiet others all = λ place s there not. by_place place s there not (cases_eq place i)
   where
-    by_place : (place : ℕ) (s : ServedFile) → slice_get files place ≡ Some s → is_due new place ≡ false → (place ≡ i) ⊎ (place ≢ i) → IsQuiet s
-    by_place place s there not (inl same) = subst IsQuiet (same_Some x s (sym here ∙ ap (slice_get files) (sym same) ∙ there)) quiet
+    by_place : (place : ℕ) (s : ServedFile) → slice_get files place ≡ Some s → is_due new place ≡ false → (place ≡ i) ⊎ (place ≢ i) → IsFileQuiet s
+    by_place place s there not (inl same) = subst IsFileQuiet (same_Some x s (sym here ∙ ap (slice_get files) (sym same) ∙ there)) quiet
     by_place place s there not (inr other) = all place s there (sym (others place (other_place i place other)) ∙ not)
 
 -- ---- whether a file is quiet, by what waits in it
@@ -82,7 +82,7 @@ pub own_rests : (s : ServedFile) (o : Option ℕ) → is_some o ≡ false → ((
 own_rests s None none waits = waits
 own_rests s (Some server) none waits = absurd (cc)
 
-pub own_waits : (s : ServedFile) (o : Option ℕ) → is_some o ≡ true → ((file : FileId) (xid : ℕ) → OwnWaits s file xid o) → IsQuiet s → ⊥
+pub own_waits : (s : ServedFile) (o : Option ℕ) → is_some o ≡ true → ((file : FileId) (xid : ℕ) → OwnWaits s file xid o) → IsFileQuiet s → ⊥
 own_waits s None some waits quiet = absurd (cc)
 own_waits s (Some server) some waits quiet = let call = waits (numbered 0) 0 in none-some call.0 (sym (quiet.own (numbered 0) 0) ∙ call.1)
 
@@ -90,7 +90,7 @@ pub read_rests : (s : ServedFile) (n : ℕ) (o : Option ℕ) → is_some o ≡ f
 read_rests s n None none waits = waits
 read_rests s n (Some server) none waits = absurd (cc)
 
-pub read_waits : (s : ServedFile) (n : ℕ) (o : Option ℕ) → is_some o ≡ true → ((xid : ℕ) → ReadWaits s n xid o) → IsQuiet s → ⊥
+pub read_waits : (s : ServedFile) (n : ℕ) (o : Option ℕ) → is_some o ≡ true → ((xid : ℕ) → ReadWaits s n xid o) → IsFileQuiet s → ⊥
 read_waits s n None some waits quiet = absurd (cc)
 read_waits s n (Some server) some waits quiet = let sent = waits 0 in none-some sent.0 (sym (quiet.reads n 0) ∙ sent.1)
 

@@ -8,13 +8,13 @@ use Rattle.mds_rule.specs.MdsStates.{ServedFile, served_in}
 use Rattle.served_files.specs.Sending.{OwnWaits, ReadWaits}
 
 -- neither an own call of it waits to go out nor one of its READs, whatever number the call would have
-pub record IsQuiet (s : ServedFile) : Type 0 where
+pub record IsFileQuiet (s : ServedFile) : Type 0 where
   pub own : (file : FileId) (xid : ℕ) → OwnWaits s file xid None
   pub reads : (n xid : ℕ) → ReadWaits s n xid None
 
 -- each file with a number from the first on and below the second is quiet
 abbrev pub AreQuiet : List ServedFile → ℕ → ℕ → Type 0
-AreQuiet files from end = (file : FileId) (s : ServedFile) → from ≤ file.0 → file.0 < end → served_in files file ≡ Some s → IsQuiet s
+AreQuiet files from end = (file : FileId) (s : ServedFile) → from ≤ file.0 → file.0 < end → served_in files file ≡ Some s → IsFileQuiet s
 
 -- the next file from a number on that may have a call to send: all before it are quiet, and where there is none, all behind
 abbrev pub NextDue : List ServedFile → ℕ → Option FileId → Type 0
@@ -28,7 +28,7 @@ is_due due place = list_any (is_at (nat_cmp place)) due
 
 -- each file whose place is not due is quiet
 abbrev pub AreQuietBut : List ℕ → List ServedFile → Type 0
-AreQuietBut due files = (place : ℕ) (s : ServedFile) → slice_get files place ≡ Some s → is_due due place ≡ false → IsQuiet s
+AreQuietBut due files = (place : ℕ) (s : ServedFile) → slice_get files place ≡ Some s → is_due due place ≡ false → IsFileQuiet s
 
 -- the first place from one on that is due
 pub record IsFirstDue (due : List ℕ) (from place : ℕ) : Type 0 where

@@ -9,7 +9,7 @@ ghost use Rattle.mds_io.specs.Reads as read;
 ghost use Rattle.mirror_writer.specs.Writers as writer;
 ghost use Rattle.mds_rule.specs.Goes.{place_or_last, place_of};
 ghost use Rattle.served_files.specs.Sending.{OwnWaits, SendsOwn, ReadWaits, SendsFileRead, SentOfWrite, SentOfFile, SentOfRead};
-ghost use Rattle.served_files.specs.Quiet.{IsQuiet};
+ghost use Rattle.served_files.specs.Quiet.{IsFileQuiet};
 
 use crate::file::ServedFile;
 use crate::reading::WaitingRead;
@@ -85,8 +85,8 @@ impl ServedFile {
 
     /// Neither an own call of it waits to go out nor one of its READs. It costs by the READs.
     pub fn is_quiet(&self) -> bool
-        ensures quiet { OnTrue result (IsQuiet self.now) }
-        ensures waits { OnFalse result (¬ IsQuiet self.now) }
+        ensures quiet { OnTrue result (IsFileQuiet self.now) }
+        ensures waits { OnFalse result (¬ IsFileQuiet self.now) }
     {
         if self.waiting_server().is_some() {
             return false;

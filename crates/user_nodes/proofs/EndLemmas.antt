@@ -8,7 +8,7 @@ use Rattle.cluster_model.specs.declared.answer.UserAnswer.TheVariants.{Opened, W
 use Rattle.cluster_model.specs.declared.answer.FailCause.{FailCause}
 use Rattle.client_state.specs.ClientSends.{ClientStep}
 use Rattle.ff_node.specs.declared.end.NodeEnd.TheVariants as ends
-use Rattle.ff_node.specs.Nodes.{NodeEvent, IsGoing, state_after, text_over}
+use Rattle.ff_node.specs.Nodes.{NodeEvent, HasNotEndedBefore, state_after, text_over}
 use Rattle.ff_node.specs.Serve.{Beside, NodeServes}
 use Rattle.user_nodes.specs.declared.put.Progress.{Progress}
 use Rattle.user_nodes.specs.Users.{client_does, says_opened, says_committed, says_returned, first_failure, first_of_two, done_or_failed}
@@ -174,7 +174,7 @@ abbrev Ends : List UserAnswer → Type 0
 Ends answers = (first_failure answers ≡ None) × (list_any says_end answers ≡ true)
 
 -- it came to an end in a step, which is the last
-ends_in : (answers : List UserAnswer) (next : GetValue) (events : List NodeEvent) (r : Result (Unit {0}) FailCause) (x : Unit {0}) → get_outcome answers ≡ Some r → next.outcome ≡ Some r → IsGoing get_rule next events
+ends_in : (answers : List UserAnswer) (next : GetValue) (events : List NodeEvent) (r : Result (Unit {0}) FailCause) (x : Unit {0}) → get_outcome answers ≡ Some r → next.outcome ≡ Some r → HasNotEndedBefore get_rule next events
     → (state_after get_rule next events).outcome ≡ Some (Ok x) → Ends (answers ++ answers_over next events)
 ends_in answers next [] r x came is going done =
     subst (λ l. Ends l) (sym (append-nil answers)) (done_by (first_failure answers) (list_any says_end answers) x (came ∙ sym is ∙ done))
@@ -192,7 +192,7 @@ by_outcome : (events : List NodeEvent) (answers : List UserAnswer) (next : GetVa
 by_outcome events answers next None is came later now = ends_later answers (answers_over next events) is (later came)
 by_outcome events answers next (Some r) is came later now = now r is came
 
-get_ends : (g : GetValue) (events : List NodeEvent) (x : Unit {0}) → g.outcome ≡ None → IsGoing get_rule g events → (state_after get_rule g events).outcome ≡ Some (Ok x) → Ends (answers_over g events)
+get_ends : (g : GetValue) (events : List NodeEvent) (x : Unit {0}) → g.outcome ≡ None → HasNotEndedBefore get_rule g events → (state_after get_rule g events).outcome ≡ Some (Ok x) → Ends (answers_over g events)
 get_ends g [] x none going done = absurd (cc (none, done))
 get_ends g (e ∷ events) x none going done =
     let answers = (client_does e g.client).client.answers in

@@ -3,6 +3,7 @@ use Rattle.std.proofs.Common.{◌≡◌, ◌<◌, ℕ, ◌^◌, length, List, []
 use Rattle.cluster_model.specs.declared.ids.FileId.{FileId}
 use Rattle.cluster_model.specs.declared.entry.Entry.{Entry}
 use Rattle.cluster_model.specs.declared.entry.Entry.TheVariants.{Ended}
+use Rattle.cluster_model.specs.Members.{IsOneOf}
 use Rattle.world_rule.specs.ClusterWorlds.{ClusterState}
 use Rattle.nfs4_types.specs.declared.ids.SessionId.{SessionId}
 use Rattle.nfs4_types.specs.declared.stateid.Stateid.{Stateid}
@@ -13,7 +14,7 @@ use Rattle.mds_calls.specs.MdsCalls as slot
 use Rattle.mds_calls.specs.MdsReplies.{MdsAnswerValue, Returned, Refused}
 use Rattle.mds_rule.specs.MdsStates.{MdsValue, new_mds}
 use Rattle.mds_laws.specs.MdsRuns.{MdsEvent, after_event, run_from}
-use Rattle.mds_laws.proofs.Lists.{In, in_more}
+use Rattle.mds_laws.proofs.Lists.{in_more}
 use Rattle.mds_replies.specs.ClientCalls.{HearsCall, AreCalls, server_after, IsEventOf}
 use Rattle.mds_replies.specs.LayoutReplies.{HasPeriod, EntersEnd}
 use Rattle.mds_replies.specs.AnsweredRequests.{StaysRoomy, MeansSo, ReturnsSo, NamesNone, bad_stateid}
@@ -54,12 +55,12 @@ module _ (laws : OnceLaws) (boots : List ℕ) (w : ClusterState) (run : IsRunOf 
         let few_uid : so.uid < 2 ^ 32 = subst (λ (x : ℕ). x < 2 ^ 32) so.had.its_uid ((roomy.room early (f ∷ late) at).creds file so.had.file_is so.had.there) in
         let same : so.uid ≡ uid = one_uid file.0 file.0 so.uid uid few_uid small (sym so.names ∙ names) in
         let new : MdsValue = new_mds t.mds.servers t.mds.mirrors in
-        let now : In (Ended file (record { 0 = uid }) so.cause) (after_event f (server_after t.mds.servers t.mds.mirrors early)).entries =
-        subst (λ (x : ℕ). In (Ended file (record { 0 = x }) so.cause) (after_event f (server_after t.mds.servers t.mds.mirrors early)).entries) same so.ended in
+        let now : IsOneOf (Ended file (record { 0 = uid }) so.cause) (after_event f (server_after t.mds.servers t.mds.mirrors early)).entries =
+        subst (λ (x : ℕ). IsOneOf (Ended file (record { 0 = x }) so.cause) (after_event f (server_after t.mds.servers t.mds.mirrors early)).entries) same so.ended in
         record {
           cause = so.cause;
           there =
-              subst (λ (l : List Entry). In (Ended file (record { 0 = uid }) so.cause) l) (sym (entries_behind new early (f ∷ [])))
+              subst (λ (l : List Entry). IsOneOf (Ended file (record { 0 = uid }) so.cause) l) (sym (entries_behind new early (f ∷ [])))
               (in_behind (Ended file (record { 0 = uid }) so.cause) (run_from new early).entries (run_from (run_from new early).mds (f ∷ [])).entries
               (in_more (Ended file (record { 0 = uid }) so.cause) (after_event f (server_after t.mds.servers t.mds.mirrors early)).entries [] now));
         }
@@ -76,8 +77,8 @@ module _ (laws : OnceLaws) (boots : List ℕ) (w : ClusterState) (run : IsRunOf 
             record {
               cause = end.cause;
               there =
-                  subst (λ (l : List MdsEvent). In (Ended file (record { 0 = uid }) end.cause) (run_from new l).entries) (sym since.is)
-                  (subst (λ (l : List Entry). In (Ended file (record { 0 = uid }) end.cause) l) (sym (entries_behind new moment since.more))
+                  subst (λ (l : List MdsEvent). IsOneOf (Ended file (record { 0 = uid }) end.cause) (run_from new l).entries) (sym since.is)
+                  (subst (λ (l : List Entry). IsOneOf (Ended file (record { 0 = uid }) end.cause) l) (sym (entries_behind new moment since.more))
                   (in_behind (Ended file (record { 0 = uid }) end.cause) (run_from new moment).entries (run_from (run_from new moment).mds since.more).entries end.there));
             }
 

@@ -13,7 +13,7 @@ use Rattle.mds_replies.specs.SlotReplies.{TookEffect}
 use Rattle.mds_replies.specs.AnsweredRequests.{StaysRoomy, IsRefusedWith}
 use Rattle.client_laws.specs.ClientHistory.{HistoryItem}
 use Rattle.client_sessions.specs.HeardReplies.{IsHeard}
-use Rattle.client_sessions.specs.SessionRounds.{IsInRound}
+use Rattle.client_sessions.specs.SessionRounds.{IsInSession}
 use Rattle.node_histories.specs.Weaves.{items_in}
 use Rattle.node_histories.specs.ClientLives.{Life}
 use Rattle.node_histories.specs.NodeHistories.{HasLife, IsToldByNodes}
@@ -59,7 +59,7 @@ module _ (laws : OnceLaws) (boots : List ℕ) (w : ClusterState) (run : IsRunOf 
 
   given_before : GivenBefore
   given_before =
-      let r : IsInRound told.before session number = asked_round laws.sessions boots w run t few range roomy starts n l its upto tail is session number xid name c says behind told in
+      let r : IsInSession told.before session number = asked_round laws.sessions boots w run t few range roomy starts n l its upto tail is session number xid name c says behind told in
       let g = r.given in
       let q : List HistoryItem = asked_behind laws.sessions boots w run t few range roomy starts n l its upto tail is session number xid name c says behind told in
       let at : items_in l.steps ≡ told.before ++ compound xid name (OnSlot session number c) ∷ q = asked_at laws.sessions boots w run t few range roomy starts n l its upto tail is session number xid name c says behind told in

@@ -1,14 +1,16 @@
 -- Each call of a client, to a data server or to the metadata server, has a number of its own over all lives of it (RFC 5531, section 9).
 use Rattle.std.proofs.Common.{◌≡◌, ◌<◌, ◌≤◌, ℕ, List, [], ◌∷◌, ◌++◌, Some, sym, ap, subst, ◌∙◌, inl, inr, ◌⊎◌, arith, append-nil, append_assoc}
 use Rattle.std.proofs.lemmas.Option.{same_Some, none-some}
+use Rattle.cluster_model.specs.Members.{IsOneOf}
+use Rattle.rpc_record.specs.CallNumbers.{IsBelow}
 use Rattle.client_state.specs.ClientStates.{fresh_client}
 use Rattle.client_state.specs.ClientSends.{ClientSend, CallsServer, CallsMds, RepeatsToServer, RepeatsToMds, RepliesToMds}
 use Rattle.client_calls.specs.ClientLaws.{new_number}
 use Rattle.client_laws.specs.ClientHistory.{ClientInput, HistoryItem, Hears, Enters, Sends, HasItem, Each, client_history, client_after}
 use Rattle.client_laws.proofs.Orders.{in_more, in_end}
-use Rattle.client_records.specs.ClientRecords.{IsBelow, CallsAreBelow, IsNextNumber, NumbersSend, NumbersOn, IsNumberedOn, EachRunIsNumbered}
+use Rattle.client_records.specs.ClientRecords.{CallsAreBelow, IsNextNumber, NumbersSend, NumbersOn, IsNumberedOn, EachRunIsNumbered}
 use Rattle.node_histories.specs.Weaves.{items_in}
-use Rattle.node_histories.specs.ClientLives.{Life, start_of, client_of, IsOneOf, AreLives}
+use Rattle.node_histories.specs.ClientLives.{Life, start_of, client_of, AreLives}
 use Rattle.world_reads.proofs.Lives.{first_fits}
 use Rattle.world_holders.proofs.MuteClients.{CallsNone, StaysMute, stays_mute}
 

@@ -22,7 +22,7 @@ use Rattle.mds_histories.specs.MdsHistory as of_mds
 use Rattle.client_laws.specs.ClientHistory.{HistoryItem, Enters, Sends, HasItem, client_history}
 use Rattle.client_laws.specs.ClientRunLaws.{WasGranted, AreGrantedOnce, IsSilent, WasReturned}
 use Rattle.client_laws.proofs.Later.{granted_later}
-use Rattle.node_histories.specs.Weaves.{Seen, items_in, StandsAt}
+use Rattle.node_histories.specs.Weaves.{Seen, items_in, StandsInWeave}
 use Rattle.node_histories.specs.ClientLives.{Life, start_of}
 use Rattle.node_histories.specs.NodeHistories.{HasLife, is_client_entry, is_mds_entry, is_server_entry, is_world_entry, Origin, EnteredByClient, EnteredByMds, EnteredByServer, EnteredByWorld, SentByClient, SentByMds, SentByServer, IsToldByNodes}
 use Rattle.node_histories.proofs.WeaveLemmas.{items_join}
@@ -47,7 +47,7 @@ pub record ClientEntry {w : ClusterState} (t : IsToldByNodes w) (past : List Ent
 
 pub data IsWhose {w : ClusterState} (t : IsToldByNodes w) (past : List Entry) (e : Entry) : Type 0 where
   OfClient : ClientEntry t past e → IsWhose t past e
-  OfMds : StandsAt [] t.mds.steps past (of_mds.Enters e) e → IsWhose t past e
+  OfMds : StandsInWeave [] t.mds.steps past (of_mds.Enters e) e → IsWhose t past e
 
 two_kinds : {A : Type 0} → false ≡ true → A
 two_kinds is = absurd cc
@@ -79,7 +79,7 @@ module _ (w : ClusterState) (t : IsToldByNodes w) where
   whose_rogue past behind f cred at bytes is = clients_only past (Rogue f cred at bytes) refl refl refl (λ number from to sent same. absurd cc) (t.origins past behind (Rogue f cred at bytes) is)
 
   ends_by_mds : (past : List Entry) (e : Entry) → is_client_entry e ≡ false → is_server_entry e ≡ false → is_world_entry e ≡ false → ((number : ℕ) (from to : NodeId) (bytes : List ℕ) → e ≡ Packet number from to bytes → ⊥) → Origin t.stories t.mds past e
-      → StandsAt [] t.mds.steps past (of_mds.Enters e) e
+      → StandsInWeave [] t.mds.steps past (of_mds.Enters e) e
   ends_by_mds past e client server world packet (EnteredByClient n l its kind stands) = two_kinds (sym client ∙ kind)
   ends_by_mds past e client server world packet (EnteredByMds kind stands) = stands
   ends_by_mds past e client server world packet (EnteredByServer kind) = two_kinds (sym server ∙ kind)
@@ -88,7 +88,7 @@ module _ (w : ClusterState) (t : IsToldByNodes w) where
   ends_by_mds past e client server world packet (SentByMds number to bytes send same stands) = absurd (packet number Mds to bytes same)
   ends_by_mds past e client server world packet (SentByServer n number to bytes same answers) = absurd (packet number (Server n) to bytes same)
 
-  pub ended_by_mds : (past behind : List Entry) (f : FileId) (cred : Cred) (cause : EndCause) → w.journal ≡ past ++ Ended f cred cause ∷ behind → StandsAt [] t.mds.steps past (of_mds.Enters (Ended f cred cause)) (Ended f cred cause)
+  pub ended_by_mds : (past behind : List Entry) (f : FileId) (cred : Cred) (cause : EndCause) → w.journal ≡ past ++ Ended f cred cause ∷ behind → StandsInWeave [] t.mds.steps past (of_mds.Enters (Ended f cred cause)) (Ended f cred cause)
   ended_by_mds past behind f cred cause is = ends_by_mds past (Ended f cred cause) refl refl refl (λ number from to sent same. absurd cc) (t.origins past behind (Ended f cred cause) is)
 
   pub whose_told : (past behind : List Entry) (f : FileId) (cred : Cred) (at : ℕ) (bytes : List ℕ) → w.journal ≡ past ++ Told f cred at bytes ∷ behind → IsWhose t past (Told f cred at bytes)

@@ -6,13 +6,14 @@ use Rattle.cluster_model.specs.declared.ids.NodeId.{NodeId}
 use Rattle.cluster_model.specs.declared.ids.NodeId.TheVariants.{Mds, Server, Client}
 use Rattle.cluster_model.specs.declared.entry.Entry.{Entry}
 use Rattle.cluster_model.specs.declared.entry.Entry.TheVariants as entry
+use Rattle.cluster_model.specs.Members.{IsOneOf}
 use Rattle.world_rule.specs.ClusterWorlds.{ClusterState}
 use Rattle.client_state.specs.ClientSends.{ClientSend}
 use Rattle.client_laws.specs.ClientHistory.{HistoryItem, Hears, Enters, Sends, Recorded, InOrder, HasItem, Each, client_history}
 use Rattle.client_laws.specs.ClientHistory as client
 use Rattle.client_records.specs.ClientRecords.{EachRunIsNumbered}
-use Rattle.node_histories.specs.Weaves.{IsUnseen, WeaveStep, Passes, Unseen, Seen, entries_in, items_in, IsShownAs, AreWoven, StandsAt}
-use Rattle.node_histories.specs.ClientLives.{client_shown, Life, journal_of, IsOneOf}
+use Rattle.node_histories.specs.Weaves.{IsUnseen, WeaveStep, Passes, Unseen, Seen, entries_in, items_in, IsShownAs, AreWoven, StandsInWeave}
+use Rattle.node_histories.specs.ClientLives.{client_shown, Life, journal_of}
 use Rattle.node_histories.specs.NodeHistories.{ClientStory, HasLife, is_client_entry, is_mds_entry, is_server_entry, is_world_entry, Origin, EnteredByClient, EnteredByMds, EnteredByServer, EnteredByWorld, SentByClient, SentByMds, SentByServer, IsToldByNodes}
 use Rattle.node_histories.proofs.WeaveLemmas.{entries_join, IsSeenAt, seen_at}
 use Rattle.world_reads.proofs.Steps.{HasItemIn, Splits, Longer, Shorter, splits}
@@ -217,7 +218,7 @@ pub record ClientSent (stories : List ClientStory) (past : List Entry) (number n
   pub life : Life
   pub its : HasLife stories n life
   pub send : ClientSend
-  pub stands : StandsAt life.begun life.steps past (client.Sends send) (entry.Packet number (Client n) to bytes)
+  pub stands : StandsInWeave life.begun life.steps past (client.Sends send) (entry.Packet number (Client n) to bytes)
 
 module _ (w : ClusterState) (t : IsToldByNodes w) where
   by_origin : (past : List Entry) (number n : ℕ) (to : NodeId) (bytes : List ℕ) (e : Entry) → e ≡ entry.Packet number (Client n) to bytes → Origin t.stories t.mds past e → ClientSent t.stories past number n to bytes
@@ -227,7 +228,7 @@ module _ (w : ClusterState) (t : IsToldByNodes w) where
   by_origin past number n to bytes e is (EnteredByWorld kind) = no_true (subst (λ (x : Entry). is_world_entry x ≡ true) is kind)
   by_origin past number n to bytes e is (SentByClient m other at sent l send same life stands) =
       let node : m ≡ n = who other m at sent (sym is ∙ same) in
-      record { life = l; its = subst (λ (x : ℕ). HasLife t.stories x l) node life; send = send; stands = subst (λ (x : Entry). StandsAt l.begun l.steps past (client.Sends send) x) is stands }
+      record { life = l; its = subst (λ (x : ℕ). HasLife t.stories x l) node life; send = send; stands = subst (λ (x : Entry). StandsInWeave l.begun l.steps past (client.Sends send) x) is stands }
     where
       who : (other m : ℕ) (at : NodeId) (sent : List ℕ) → entry.Packet number (Client n) to bytes ≡ entry.Packet other (Client m) at sent → m ≡ n
       who other m at sent two = cc

@@ -11,7 +11,7 @@ use Rattle.mds_laws.specs.MdsRuns.{mds_run}
 use Rattle.mds_histories.specs.MdsHistory.{MdsItem, Comes, Enters, Sends}
 use Rattle.mds_histories.specs.MdsHistory as of_mds
 use Rattle.mds_histories.proofs.Histories.{entries_joined, entries_of_run}
-use Rattle.node_histories.specs.Weaves.{IsUnseen, WeaveStep, Passes, Unseen, Seen, entries_in, items_in, AreWoven, StandsAt}
+use Rattle.node_histories.specs.Weaves.{IsUnseen, WeaveStep, Passes, Unseen, Seen, entries_in, items_in, AreWoven, StandsInWeave}
 use Rattle.node_histories.specs.NodeHistories.{mds_shown, IsToldByNodes}
 use Rattle.node_histories.proofs.WeaveLemmas.{entries_join, items_join}
 use Rattle.world_holders.proofs.LowerLaws.{HasLaws}
@@ -92,7 +92,7 @@ own_front begun (Seen x e ∷ a) b so = (so.0, own_front (begun ++ e ∷ []) a b
 module _ (w : ClusterState) (t : IsToldByNodes w) (laws : HasLaws t) where
   -- an entry of the metadata server at its place
   abbrev pub IsOwnAt : List Entry → Entry → Type 0
-  IsOwnAt past e = StandsAt [] t.mds.steps past (Enters e) e
+  IsOwnAt past e = StandsInWeave [] t.mds.steps past (Enters e) e
 
   pub run_is : (mds_run t.mds.servers t.mds.mirrors t.mds.events).entries ≡ run_to t.mds.steps
   run_is = sym (entries_of_run (new_mds t.mds.servers t.mds.mirrors) t.mds.events) ∙ ap of_mds.entries_in t.mds_is.history

@@ -11,6 +11,7 @@ use Rattle.cluster_model.specs.declared.entry.Entry.{Entry}
 use Rattle.cluster_model.specs.declared.entry.Entry.TheVariants.{Sent, Rogue, Ended}
 use Rattle.cluster_model.specs.DsCalls.{Write}
 use Rattle.cluster_model.specs.Phases.{ids_of}
+use Rattle.cluster_model.specs.Members.{IsOneOf}
 use Rattle.cluster_laws.specs.Agreement.{sent_of}
 use Rattle.cluster_laws.specs.Holders.{the_write}
 use Rattle.world_rule.specs.ClusterWorlds.{ClusterState}
@@ -20,7 +21,6 @@ use Rattle.mds_file_calls.specs.declared.layout_return.FailedMirror.{FailedMirro
 use Rattle.mds_calls.specs.FittingCalls.{reports_server}
 use Rattle.mds_calls.specs.MdsCalls.{OnSlot}
 use Rattle.mds_calls.specs.MdsCalls as slot
-use Rattle.mds_laws.proofs.Lists.{In}
 use Rattle.client_state.specs.ClientSends.{ClientSend, CallsServer, CallsMds, spelled_send}
 use Rattle.client_laws.specs.ClientHistory.{HistoryItem, Hears, LeftProtocol, Enters, Sends, HasItem, Each, client_history}
 use Rattle.client_laws.specs.ClientRunLaws.{WasGranted, AreGrantedOnce, IsSilent, KeepsSilent, WasCovered, CoveredUnreported, MayReturn, ReturnsCommitted}
@@ -104,12 +104,12 @@ record HasPlace (mirrors : List Mirror) (id : MirrorId) : Type 0 where
   there : slice_get mirrors place ≡ Some mirror
   is : mirror.id ≡ id
 
-place_of : (mirrors : List Mirror) (id : MirrorId) → In id (ids_of mirrors) → HasPlace mirrors id
+place_of : (mirrors : List Mirror) (id : MirrorId) → IsOneOf id (ids_of mirrors) → HasPlace mirrors id
 place_of [] id inside = absurd inside
 place_of (m ∷ mirrors) id (inl is) = record { place = zero; mirror = m; there = refl; is = sym is }
 place_of (m ∷ mirrors) id (inr inside) = let p : HasPlace mirrors id = place_of mirrors id inside in record { place = suc p.place; mirror = p.mirror; there = p.there; is = p.is }
 
-each_in : (P : MirrorId → Type 0) (ids : List MirrorId) → ((id : MirrorId) → In id ids → P id) → AllByRecursion P ids
+each_in : (P : MirrorId → Type 0) (ids : List MirrorId) → ((id : MirrorId) → IsOneOf id ids → P id) → AllByRecursion P ids
 each_in P [] each = tt
 each_in P (id ∷ ids) each = (each id (inl refl), each_in P ids (λ k inside. each k (inr inside)))
 
@@ -198,7 +198,7 @@ module _ (w : ClusterState) (t : IsToldByNodes w) (laws : HasLaws t) where
 
     -- ---- all is covered
 
-    covered_at : (id : MirrorId) → In id (ids_of r.grant.mirrors) → reports_server r.failed id.server ≡ false → (a b : List Entry) (g : FileId) (at : ℕ) (bytes : List ℕ) → past ≡ a ++ Sent g (record { 0 = uid }) at bytes ∷ b → ClientEntry t a (Sent g (record { 0 = uid }) at bytes)
+    covered_at : (id : MirrorId) → IsOneOf id (ids_of r.grant.mirrors) → reports_server r.failed id.server ≡ false → (a b : List Entry) (g : FileId) (at : ℕ) (bytes : List ℕ) → past ≡ a ++ Sent g (record { 0 = uid }) at bytes ∷ b → ClientEntry t a (Sent g (record { 0 = uid }) at bytes)
         → IsCoveredIn past uid id (the_write at bytes)
     covered_at id inside kept a b g at bytes split k = by_side (side_of a b (journal_at r.life r.earlier) r.since (Sent g (record { 0 = uid }) at bytes) r.posted (sym split ∙ r.before))
       where
@@ -232,7 +232,7 @@ module _ (w : ClusterState) (t : IsToldByNodes w) (laws : HasLaws t) where
         by_covers : CoversAt (items_in r.earlier) uid r.failed at bytes → IsCoveredIn past uid id (the_write at bytes)
         by_covers c =
             let one : c.grant ≡ r.grant = (once c.grant r.grant c.granted r.granted (c.its_uid ∙ sym r.its_uid)).0 in
-            let p : HasPlace c.grant.mirrors id = place_of c.grant.mirrors id (subst (λ (x : LayoutGrant). In id (ids_of x.mirrors)) (sym one) inside) in
+            let p : HasPlace c.grant.mirrors id = place_of c.grant.mirrors id (subst (λ (x : LayoutGrant). IsOneOf id (ids_of x.mirrors)) (sym one) inside) in
             let was : WasCovered (items_in r.earlier) p.mirror.id c.grant.uid.0 at bytes [] = c.covered p.place p.mirror p.there (subst (λ (x : MirrorId). reports_server r.failed x.server ≡ false) (sym p.is) kept) in
             covered_in w t laws r.n r.life r.its r.earlier (Seen returns r.posted ∷ r.later) r.split past (r.posted ∷ r.since) (Ended f (record { 0 = uid }) Returned ∷ behind) r.before is id uid at bytes []
             (subst (λ (u : ℕ). WasCovered (items_in r.earlier) id u at bytes []) c.its_uid (subst (λ (x : MirrorId). WasCovered (items_in r.earlier) x c.grant.uid.0 at bytes []) p.is was))
@@ -249,7 +249,7 @@ module _ (w : ClusterState) (t : IsToldByNodes w) (laws : HasLaws t) where
             (covers_so (items_in r.earlier) (items_in k.earlier) (items_in s.middle) g uid at bytes r.stateid r.failed
             (ap (λ (l : LifeSteps). items_in l) s.is ∙ items_join k.earlier (Seen (Enters (Sent g (record { 0 = uid }) at bytes)) (Sent g (record { 0 = uid }) at bytes) ∷ s.middle)) may once by_stateid h)
 
-    by_whose : (id : MirrorId) → In id (ids_of r.grant.mirrors) → reports_server r.failed id.server ≡ false → (a b : List Entry) (g : FileId) (at : ℕ) (bytes : List ℕ) → past ≡ a ++ Sent g (record { 0 = uid }) at bytes ∷ b → IsWhose t a (Sent g (record { 0 = uid }) at bytes)
+    by_whose : (id : MirrorId) → IsOneOf id (ids_of r.grant.mirrors) → reports_server r.failed id.server ≡ false → (a b : List Entry) (g : FileId) (at : ℕ) (bytes : List ℕ) → past ≡ a ++ Sent g (record { 0 = uid }) at bytes ∷ b → IsWhose t a (Sent g (record { 0 = uid }) at bytes)
         → IsCoveredIn past uid id (the_write at bytes)
     by_whose id inside kept a b g at bytes split (OfClient k) = covered_at id inside kept a b g at bytes split k
     by_whose id inside kept a b g at bytes split (OfMds s) =

@@ -19,6 +19,7 @@ use Rattle.cluster_model.specs.declared.phase.EndCause.TheVariants.{Returned as 
 use Rattle.cluster_model.specs.declared.entry.Entry.{Entry}
 use Rattle.cluster_model.specs.declared.entry.Entry.TheVariants as entry
 use Rattle.cluster_model.specs.Phases.{ids_of}
+use Rattle.cluster_model.specs.Members.{IsOneOf}
 use Rattle.cluster_laws.specs.Agreement.{cause_in, causes_of}
 use Rattle.cluster_laws.specs.FenceLaw.{live_in}
 use Rattle.cluster_laws.specs.Holders.{HasEndedClean}
@@ -34,7 +35,7 @@ use Rattle.mds_calls.specs.MdsReplies.{MdsAnswerValue, MdsReplyValue, Returned, 
 use Rattle.mds_rule.specs.MdsStates.{MdsValue, new_mds}
 use Rattle.mds_laws.specs.MdsRuns.{MdsEvent, after_event, run_from, mds_run}
 use Rattle.mds_laws.specs.MdsRunLaws.{grants_uid, GrantsUidsOnce}
-use Rattle.mds_laws.proofs.Lists.{In, Split, split_in}
+use Rattle.mds_laws.proofs.Lists.{Split, split_in}
 use Rattle.mds_replies.specs.ClientCalls.{server_after}
 use Rattle.mds_replies.specs.LayoutReplies.{HasPeriod}
 use Rattle.mds_replies.proofs.Periods.{entries_behind}
@@ -118,7 +119,7 @@ one_grant uid all a b c d file other node stranger first here there = by_place (
 
 pub record HasMirror (live : List Mirror) (id : MirrorId) : Type 0 where
   pub mirror : Mirror
-  pub inside : In mirror live
+  pub inside : IsOneOf mirror live
   pub is : mirror.id ≡ id
 
 mirror_of : (live : List Mirror) (place : ℕ) (id : MirrorId) → slice_get (ids_of live) place ≡ Some id → HasMirror live id
@@ -250,9 +251,9 @@ module _ (laws : ReturnLaws) (boots : List ℕ) (w : ClusterState) (run : IsRunO
       mirror_of so.had.file_is.file.layout.live unreported.place unreported.mirror.id
       (ap (λ (ids : List MirrorId). slice_get ids unreported.place) (live ∙ shown) ∙ id_at grant.mirrors unreported.place unreported.mirror unreported.there) in
       let cause : so.cause ≡ IsReturned = so.clean kept.mirror kept.inside (ap (λ (i : MirrorId). reports_server returned.failed i.server) kept.is ∙ unreported.kept) in
-      let ended : In (entry.Ended returned.file (record { 0 = grant.uid.0 }) IsReturned) (after_event k.f (server_after t.mds.servers t.mds.mirrors k.early)).entries =
-      subst (λ (c : EndCause). In (entry.Ended returned.file (record { 0 = grant.uid.0 }) c) (after_event k.f (server_after t.mds.servers t.mds.mirrors k.early)).entries) cause
-      (subst (λ (x : ℕ). In (entry.Ended returned.file (record { 0 = x }) so.cause) (after_event k.f (server_after t.mds.servers t.mds.mirrors k.early)).entries) uid so.ended) in
+      let ended : IsOneOf (entry.Ended returned.file (record { 0 = grant.uid.0 }) IsReturned) (after_event k.f (server_after t.mds.servers t.mds.mirrors k.early)).entries =
+      subst (λ (c : EndCause). IsOneOf (entry.Ended returned.file (record { 0 = grant.uid.0 }) c) (after_event k.f (server_after t.mds.servers t.mds.mirrors k.early)).entries) cause
+      (subst (λ (x : ℕ). IsOneOf (entry.Ended returned.file (record { 0 = x }) so.cause) (after_event k.f (server_after t.mds.servers t.mds.mirrors k.early)).entries) uid so.ended) in
       let x : Entry = entry.Ended returned.file (record { 0 = grant.uid.0 }) IsReturned in
       let s : Split x (after_event k.f (server_after t.mds.servers t.mds.mirrors k.early)).entries = split_in x (after_event k.f (server_after t.mds.servers t.mds.mirrors k.early)).entries ended in
       let new : MdsValue = new_mds t.mds.servers t.mds.mirrors in

@@ -1,11 +1,12 @@
 -- Two compounds of a client under one number are of one life of it.
 use Rattle.std.proofs.Common.{◌≡◌, ◌<◌, ℕ, List, [], ◌∷◌, ◌++◌, sym, subst, ◌∙◌, inl, inr, ◌⊎◌, arith}
+use Rattle.cluster_model.specs.Members.{IsOneOf}
 use Rattle.mds_calls.specs.MdsCalls.{MdsCallValue}
 use Rattle.client_state.specs.ClientStates.{fresh_client}
 use Rattle.client_laws.specs.ClientHistory.{ClientInput, HistoryItem, HasItem, Each, client_history, client_after}
 use Rattle.client_records.specs.ClientRecords.{NumbersOn, IsNumberedOn, EachRunIsNumbered}
 use Rattle.node_histories.specs.Weaves.{items_in}
-use Rattle.node_histories.specs.ClientLives.{Life, start_of, client_of, IsOneOf, AreLives}
+use Rattle.node_histories.specs.ClientLives.{Life, start_of, client_of, AreLives}
 use Rattle.world_reads.proofs.SilentClients.{AsksNone, StaysSilent, stays_silent}
 use Rattle.world_reads.proofs.Lives.{first_fits}
 use Rattle.world_reads.proofs.LifeRecords.{compound, from_first, below_next}

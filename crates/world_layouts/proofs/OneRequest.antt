@@ -26,7 +26,7 @@ use Rattle.mds_replies.specs.SlotOrder.{SlotsStayFree, OrderIsByCount, CountsToo
 use Rattle.mds_session_order.specs.SessionOrder.{SessionsAreNew}
 use Rattle.client_laws.specs.ClientHistory.{HistoryItem, HasItem, Each}
 use Rattle.client_sessions.specs.HeardReplies.{IsHeard}
-use Rattle.client_sessions.specs.SessionRounds.{IsUsed, WasUsed, WasUnused, IsOfRound, IsInRound, KeepsRound, UsesFew, EachRunKeepsRounds}
+use Rattle.client_sessions.specs.SessionRounds.{IsUsed, WasUsed, WasUnused, IsOfSession, IsInSession, KeepsRound, UsesFew, EachRunKeepsRounds}
 use Rattle.node_histories.specs.Weaves.{items_in}
 use Rattle.node_histories.specs.ClientLives.{Life}
 use Rattle.node_histories.specs.NodeHistories.{HasLife, IsToldByNodes}
@@ -81,9 +81,9 @@ is_in (y ∷ a) s b x (inr there) = further (is_in a s b x there)
 not_exchange : (xid number verifier : ℕ) (name other : List ℕ) (session : SessionId) (k : ℕ) (call : SlotCallValue) → compound xid name (OnSlot session k call) ≡ compound number other (ExchangeId verifier) → ⊥
 not_exchange xid number verifier name other session k call is = absurd cc
 
-of_round : (client sequence : ℕ) (session : SessionId) (items : List HistoryItem) → AllByRecursion (IsOfRound client sequence session) items → (x : HistoryItem) → HasItem items x → IsOfRound client sequence session x
+of_round : (client sequence : ℕ) (session : SessionId) (items : List HistoryItem) → AllByRecursion (IsOfSession client sequence session) items → (x : HistoryItem) → HasItem items x → IsOfSession client sequence session x
 of_round client sequence session [] all x has = absurd has
-of_round client sequence session (y ∷ items) all x (inl here) = subst (IsOfRound client sequence session) (sym here.0) all.0
+of_round client sequence session (y ∷ items) all x (inl here) = subst (IsOfSession client sequence session) (sym here.0) all.0
 of_round client sequence session (y ∷ items) all x (inr there) = of_round client sequence session items all.1 x there
 
 -- two items at one place are one
@@ -190,7 +190,7 @@ module _ (laws : SessionLaws) (boots : List ℕ) (w : ClusterState) (run : IsRun
     each_round =
         subst (λ (h : List HistoryItem). Each KeepsRound [] h) i.facts.is.history (laws.rounds n l.verifier l.first_xid l.inputs (subst UsesFew (sym i.facts.is.history) uses_few))
 
-    pub round_at : (a b : List HistoryItem) (xid : ℕ) (name : List ℕ) (session : SessionId) (number : ℕ) (c : SlotCallValue) → items_in l.steps ≡ a ++ compound xid name (OnSlot session number c) ∷ b → IsInRound a session number
+    pub round_at : (a b : List HistoryItem) (xid : ℕ) (name : List ℕ) (session : SessionId) (number : ℕ) (c : SlotCallValue) → items_in l.steps ≡ a ++ compound xid name (OnSlot session number c) ∷ b → IsInSession a session number
     round_at a b xid name session number c is = each_at KeepsRound [] a b (compound xid name (OnSlot session number c)) (subst (λ (h : List HistoryItem). Each KeepsRound [] h) is each_round)
 
     -- ---- what comes behind a reply
@@ -255,7 +255,7 @@ module _ (laws : SessionLaws) (boots : List ℕ) (w : ClusterState) (run : IsRun
     behind_event a b c d x y first second less = begins_with a x b c (y ∷ d) (sym first ∙ second) less
 
     -- a request on a session before the EXCHANGE_ID of a round is on another session
-    other_session : (a b : List HistoryItem) (xid : ℕ) (name : List ℕ) (session : SessionId) (number : ℕ) (c : SlotCallValue) → items_in l.steps ≡ a ++ compound xid name (OnSlot session number c) ∷ b → (r : IsInRound a session number)
+    other_session : (a b : List HistoryItem) (xid : ℕ) (name : List ℕ) (session : SessionId) (number : ℕ) (c : SlotCallValue) → items_in l.steps ≡ a ++ compound xid name (OnSlot session number c) ∷ b → (r : IsInSession a session number)
         → (own : ℕ) (other : List ℕ) (asked : SessionId) (k : ℕ) (d : SlotCallValue) → HasItem r.before (compound own other (OnSlot asked k d)) → is_of_session session asked ≡ true → ⊥
     other_session a b xid name session number c is r own other asked k d has same =
         let s : SplitAt r.before (compound own other (OnSlot asked k d)) = split_at r.before (compound own other (OnSlot asked k d)) has in
@@ -264,7 +264,7 @@ module _ (laws : SessionLaws) (boots : List ℕ) (w : ClusterState) (run : IsRun
         let at_exchange : items_in l.steps ≡ r.before ++ exchange ∷ (r.rest ++ tail) = is ∙ (ap (λ (x : List HistoryItem). x ++ tail) r.split ∙ append_assoc r.before (exchange ∷ r.rest) tail) in
         let at_old : items_in l.steps ≡ s.before ++ compound own other (OnSlot asked k d) ∷ (s.behind ++ exchange ∷ (r.rest ++ tail)) =
         at_exchange ∙ (ap (λ (x : List HistoryItem). x ++ exchange ∷ (r.rest ++ tail)) s.is ∙ append_assoc s.before (compound own other (OnSlot asked k d) ∷ s.behind) (exchange ∷ (r.rest ++ tail))) in
-        let q : IsInRound s.before asked k = round_at s.before (s.behind ++ exchange ∷ (r.rest ++ tail)) own other asked k d at_old in
+        let q : IsInSession s.before asked k = round_at s.before (s.behind ++ exchange ∷ (r.rest ++ tail)) own other asked k d at_old in
         let old = q.given in
         let new = r.given in
         -- the answers
@@ -317,7 +317,7 @@ module _ (laws : SessionLaws) (boots : List ℕ) (w : ClusterState) (run : IsRun
     item_there b a xid name call is = subst (λ (h : List HistoryItem). HasItem h (compound xid name call)) (sym is) (has_middle a b (compound xid name call))
 
     -- in its round nothing was asked for behind the number that is next
-    pub none_asked : (a b : List HistoryItem) (xid : ℕ) (name : List ℕ) (session : SessionId) (number : ℕ) (c : SlotCallValue) → items_in l.steps ≡ a ++ compound xid name (OnSlot session number c) ∷ b → IsInRound a session number
+    pub none_asked : (a b : List HistoryItem) (xid : ℕ) (name : List ℕ) (session : SessionId) (number : ℕ) (c : SlotCallValue) → items_in l.steps ≡ a ++ compound xid name (OnSlot session number c) ∷ b → IsInSession a session number
         → (own : ℕ) (other : List ℕ) (asked : SessionId) (d : SlotCallValue) → HasItem a (compound own other (OnSlot asked (number + 1) d)) → is_of_session session asked ≡ true → ⊥
     none_asked a b xid name session number c is r own other asked d inside its_session =
         by_place (is_in r.before (compound r.xid r.name (ExchangeId r.verifier)) r.rest (compound own other (OnSlot asked (number + 1) d)) (subst (λ (x : List HistoryItem). HasItem x (compound own other (OnSlot asked (number + 1) d))) r.split inside))
@@ -334,7 +334,7 @@ module _ (laws : SessionLaws) (boots : List ℕ) (w : ClusterState) (run : IsRun
             too_far (number + 1) _ refl (r.upto own other (number + 1) d (subst (λ (x : SessionId). HasItem r.rest (compound own other (OnSlot x (number + 1) d))) on has))
 
     -- at a request of this number nothing behind it took effect by an event in which a reply was sent that was heard by then
-    none_behind : (a b : List HistoryItem) (xid : ℕ) (name : List ℕ) (session : SessionId) (number : ℕ) (c : SlotCallValue) → items_in l.steps ≡ a ++ compound xid name (OnSlot session number c) ∷ b → IsInRound a session number
+    none_behind : (a b : List HistoryItem) (xid : ℕ) (name : List ℕ) (session : SessionId) (number : ℕ) (c : SlotCallValue) → items_in l.steps ≡ a ++ compound xid name (OnSlot session number c) ∷ b → IsInSession a session number
         → (other : List ℕ) (call : MdsCallValue) (says : MdsReplyValue) (behind : List HistoryItem) (h : Heard n l a other call says behind) → (early late : List MdsEvent) → t.mds.events ≡ early ++ late → length early ≤ length h.was.answered.before
         → TookEffectAmong t.mds.servers t.mds.mirrors early session (number + 1) → ⊥
     none_behind a b xid name session number c is r other call says behind h early late whole less taken =
@@ -362,7 +362,7 @@ module _ (laws : SessionLaws) (boots : List ℕ) (w : ClusterState) (run : IsRun
       asked_at =
           is ∙ (ap (λ (x : List HistoryItem). x ++ tail) told.split ∙ append_assoc told.before (compound own other (OnSlot session number d) ∷ (told.until ++ hearing_from Mds told.bytes told.now ∷ behind)) tail)
 
-      pub asked_round : IsInRound told.before session number
+      pub asked_round : IsInSession told.before session number
       asked_round = round_at told.before asked_behind own other session number d asked_at
 
       pub under : HeardUnder laws.ids.replies boots w run t few range roomy n l past own other (OnSlot session number d) says behind
@@ -448,7 +448,7 @@ module _ (laws : SessionLaws) (boots : List ℕ) (w : ClusterState) (run : IsRun
       unknown_so is_unknown = subst (λ (r : SlotReport). StandsByReport t.mds.servers t.mds.mirrors (under.heard.was.answered.before ++ under.heard.was.answered.e ∷ []) early session number d says.answer r) is_unknown stands
 
     -- a request of this number that was told unknown, and not that its session is gone, was in order
-    module _ (a b : List HistoryItem) (xid : ℕ) (name : List ℕ) (session : SessionId) (number : ℕ) (c : SlotCallValue) (is : items_in l.steps ≡ a ++ compound xid name (OnSlot session number c) ∷ b) (r : IsInRound a session number)
+    module _ (a b : List HistoryItem) (xid : ℕ) (name : List ℕ) (session : SessionId) (number : ℕ) (c : SlotCallValue) (is : items_in l.steps ≡ a ++ compound xid name (OnSlot session number c) ∷ b) (r : IsInSession a session number)
         (own : ℕ) (other : List ℕ) (d : SlotCallValue) (u : WasUnused a own other session number d) where
       abbrev tail : List HistoryItem
       tail = compound xid name (OnSlot session number c) ∷ b
@@ -479,15 +479,15 @@ module _ (laws : SessionLaws) (boots : List ℕ) (w : ClusterState) (run : IsRun
     before_other : (a b p q : List HistoryItem) (xid own : ℕ) (name other : List ℕ) (session asked : SessionId) (number : ℕ) (c d : SlotCallValue) → items_in l.steps ≡ a ++ compound xid name (OnSlot session number c) ∷ b
         → items_in l.steps ≡ p ++ compound own other (OnSlot asked number d) ∷ q → length p < length a → is_of_session session asked ≡ true → ⊥
     before_other a b p q xid own name other session asked number c d is at less same =
-        let r : IsInRound a session number = round_at a b xid name session number c is in
+        let r : IsInSession a session number = round_at a b xid name session number c is in
         let inside : HasItem a (compound own other (OnSlot asked number d)) = in_front p (compound own other (OnSlot asked number d)) a (before_it p q a b (compound own other (OnSlot asked number d)) (compound xid name (OnSlot session number c)) (sym at ∙ is) less) in
         by_place r (is_in r.before (compound r.xid r.name (ExchangeId r.verifier)) r.rest (compound own other (OnSlot asked number d)) (subst (λ (x : List HistoryItem). HasItem x (compound own other (OnSlot asked number d))) r.split inside))
       where
-        by_upto : (r : IsInRound a session number) → (number < number) ⊎ ((number ≡ number) × WasUnused a own other session number d) → ⊥
+        by_upto : (r : IsInSession a session number) → (number < number) ⊎ ((number ≡ number) × WasUnused a own other session number d) → ⊥
         by_upto r (inl wrong) = absurd (omega (arith, wrong))
         by_upto r (inr unused) = not_unused a b xid name session number c is r own other d unused.1
 
-        by_place : (r : IsInRound a session number) → IsIn r.before (compound r.xid r.name (ExchangeId r.verifier)) r.rest (compound own other (OnSlot asked number d)) → ⊥
+        by_place : (r : IsInSession a session number) → IsIn r.before (compound r.xid r.name (ExchangeId r.verifier)) r.rest (compound own other (OnSlot asked number d)) → ⊥
         by_place r (Front has) = other_session a b xid name session number c is r own other asked number d has same
         by_place r (This one) = not_exchange own r.xid r.verifier other r.name asked number d one
         by_place r (Back has) =

@@ -8,6 +8,7 @@ use Rattle.std.proofs.lemmas.Fmt.{decimal_injective}
 use Rattle.std.proofs.lemmas.Nat.{from_be_bytes-to_be_bytes_8}
 use Rattle.ff_xdr.specs.Form.{long}
 use Rattle.cluster_model.specs.declared.ids.NodeId.TheVariants.{Mds, Client}
+use Rattle.cluster_model.specs.Members.{IsOneOf}
 use Rattle.world_rule.specs.ClusterWorlds.{ClusterState}
 use Rattle.nfs4_types.specs.declared.ids.SessionId.{SessionId}
 use Rattle.nfs4_session.specs.Clients.{client_in}
@@ -23,7 +24,7 @@ use Rattle.client_laws.specs.ClientRunLaws.{InEachRun}
 use Rattle.client_sessions.specs.HeardReplies.{IsHeard}
 use Rattle.client_sessions.specs.ClientSessions.{SaysWho, WasGivenId, IsNew, IsAgain, WasGivenSession, IsNextOnSlot, IsFirst, IsBehind, KeepsSlot, EachRunSaysWho}
 use Rattle.node_histories.specs.Weaves.{items_in}
-use Rattle.node_histories.specs.ClientLives.{Life, IsOneOf, AreLives}
+use Rattle.node_histories.specs.ClientLives.{Life, AreLives}
 use Rattle.node_histories.specs.NodeHistories.{HasLife, IsToldByNodes}
 use Rattle.world_moves.specs.WorldMoves.{IsRunOf}
 use Rattle.world_journal.specs.Journal.{IsJournalInRange}

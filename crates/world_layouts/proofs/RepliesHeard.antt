@@ -11,12 +11,12 @@ use Rattle.cluster_model.specs.declared.ids.NodeId.{NodeId}
 use Rattle.cluster_model.specs.declared.ids.NodeId.TheVariants.{Mds, Server, Client}
 use Rattle.cluster_model.specs.declared.entry.Entry.{Entry}
 use Rattle.cluster_model.specs.declared.entry.Entry.TheVariants as entry
+use Rattle.cluster_model.specs.Members.{IsOneOf}
 use Rattle.world_rule.specs.ClusterWorlds.{ClusterState}
 use Rattle.compound_reply.specs.Replied.{success_reply}
 use Rattle.mds_rule.specs.MdsStates.{MdsSend, CallsServer, CallsBack, Replies, Answers, new_mds}
 use Rattle.mds_rule.specs.Spelled.{spelled_send}
 use Rattle.mds_laws.specs.MdsRuns.{MdsEvent, Hears, after_event}
-use Rattle.mds_laws.proofs.Lists.{In}
 use Rattle.mds_histories.specs.MdsHistory.{MdsItem, Comes, Enters, Sends, mds_history}
 use Rattle.mds_replies.specs.ClientCalls.{server_after, IsEventOf}
 use Rattle.node_histories.specs.Weaves.{WeaveStep, Seen, entries_in, items_in}
@@ -34,7 +34,7 @@ use Rattle.world_layouts.proofs.MdsMoments.{IsSentBy, sent_by}
 use Rattle.mds_replies.specs.AnsweredRequests.{StaysRoomy, AnswersRequest, EachReplyStands}
 use Rattle.world_layouts.proofs.HeardCalls.{CompoundLaws, CameFrom, Arrival, came_at, caller_of, are_fit_calls, none_answered}
 
-in_middle : {A : Type 0} (front back : List A) (x : A) → In x (front ++ x ∷ back)
+in_middle : {A : Type 0} (front back : List A) (x : A) → IsOneOf x (front ++ x ∷ back)
 in_middle [] back x = inl refl
 in_middle (y ∷ front) back x = inr (in_middle front back x)
 
@@ -45,7 +45,7 @@ pub record SentTo {w : ClusterState} (t : IsToldByNodes w) (past : List Entry) (
   pub after : List MdsEvent
   pub split : IsEventOf t.mds.events before e after
   pub send : MdsSend
-  pub sent : In send (after_event e (server_after t.mds.servers t.mds.mirrors before)).sends
+  pub sent : IsOneOf send (after_event e (server_after t.mds.servers t.mds.mirrors before)).sends
   pub spelled : spelled_send send ≡ (Client n, bytes)
   pub earlier : Steps
   pub later : Steps
@@ -67,7 +67,7 @@ sent_to w t past behind number n bytes is =
       after = s.after;
       split = s.split;
       send = r.send;
-      sent = subst (λ (l : List MdsSend). In r.send l) (sym s.sends) (in_middle s.front s.back r.send);
+      sent = subst (λ (l : List MdsSend). IsOneOf r.send l) (sym s.sends) (in_middle s.front s.back r.send);
       spelled = r.spelled;
       earlier = r.earlier;
       later = step ∷ r.later;
@@ -97,7 +97,7 @@ call_is_no_reply c r same =
 -- the reply that was sent, by the bytes that were heard
 pub record SentReply (sends : List MdsSend) (n : ℕ) (bytes : List ℕ) : Type 0 where
   pub reply : RpcReply
-  pub sent : In (Replies (Client n) reply) sends
+  pub sent : IsOneOf (Replies (Client n) reply) sends
   pub is : bytes ≡ reply_bytes reply
 
 abbrev fine : RpcReply → Result RpcReply XdrError
@@ -118,7 +118,7 @@ pub record AnswersCall {w : ClusterState} (t : IsToldByNodes w) (past : List Ent
   pub e : MdsEvent
   pub after : List MdsEvent
   pub split : IsEventOf t.mds.events before e after
-  pub sent : In (Replies (Client n) reply) (after_event e (server_after t.mds.servers t.mds.mirrors before)).sends
+  pub sent : IsOneOf (Replies (Client n) reply) (after_event e (server_after t.mds.servers t.mds.mirrors before)).sends
   pub earlier : Steps
   pub later : Steps
   pub steps : t.mds.steps ≡ earlier ++ later
@@ -140,7 +140,7 @@ pub record ReplyLaws : Type 0 where
 
 module _ (laws : ReplyLaws) (boots : List ℕ) (w : ClusterState) (run : IsRunOf boots w) (t : IsToldByNodes w) (few : length w.machines.clients < 2 ^ 32) (range : IsJournalInRange w.journal) (roomy : StaysRoomy t.mds.servers t.mds.mirrors t.mds.events) where
   reply_of_send : (before after : List MdsEvent) (e : MdsEvent) → IsEventOf t.mds.events before e after → (n : ℕ) (bytes : List ℕ) → AreBytes bytes → (reply : RpcReply) → reply_at bytes ≡ Ok reply → (send : MdsSend)
-      → In send (after_event e (server_after t.mds.servers t.mds.mirrors before)).sends → spelled_send send ≡ (Client n, bytes) → SentReply (after_event e (server_after t.mds.servers t.mds.mirrors before)).sends n bytes
+      → IsOneOf send (after_event e (server_after t.mds.servers t.mds.mirrors before)).sends → spelled_send send ≡ (Client n, bytes) → SentReply (after_event e (server_after t.mds.servers t.mds.mirrors before)).sends n bytes
   reply_of_send before after e split n bytes are reply is (CallsServer server xid uid call) inside spelled = absurd (two_nodes (ap (λ (p : NodeId × List ℕ). p.0) spelled))
     where
       two_nodes : Server server ≡ Client n → ⊥
@@ -150,7 +150,7 @@ module _ (laws : ReplyLaws) (boots : List ℕ) (w : ClusterState) (run : IsRunOf
   reply_of_send before after e split n bytes are reply is (Replies node r) inside spelled =
       record {
         reply = r;
-        sent = subst (λ (x : NodeId). In (Replies x r) (after_event e (server_after t.mds.servers t.mds.mirrors before)).sends) (ap (λ (p : NodeId × List ℕ). p.0) spelled) inside;
+        sent = subst (λ (x : NodeId). IsOneOf (Replies x r) (after_event e (server_after t.mds.servers t.mds.mirrors before)).sends) (ap (λ (p : NodeId × List ℕ). p.0) spelled) inside;
         is = sym (ap (λ (p : NodeId × List ℕ). p.1) spelled);
       }
   reply_of_send before after e split n bytes are reply is (Answers node b) inside spelled =

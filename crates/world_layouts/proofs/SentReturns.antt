@@ -12,6 +12,7 @@ use Rattle.cluster_model.specs.declared.phase.EndCause.TheVariants.{Returned}
 use Rattle.cluster_model.specs.declared.entry.Entry.{Entry}
 use Rattle.cluster_model.specs.declared.entry.Entry.TheVariants as entry
 use Rattle.cluster_model.specs.Phases.{ids_of}
+use Rattle.cluster_model.specs.Members.{IsOneOf}
 use Rattle.cluster_laws.specs.FenceLaw.{live_in}
 use Rattle.world_rule.specs.ClusterWorlds.{ClusterState}
 use Rattle.nfs4_types.specs.declared.stateid.Stateid.{Stateid}
@@ -28,7 +29,6 @@ use Rattle.mds_calls.specs.MdsCalls as slot
 use Rattle.mds_calls.specs.MdsCompounds.{mds_ops, slot_ops}
 use Rattle.mds_rule.specs.MdsStates.{MdsValue, new_mds}
 use Rattle.mds_laws.specs.MdsRuns.{MdsEvent, after_event, run_from, mds_run}
-use Rattle.mds_laws.proofs.Lists.{In}
 use Rattle.mds_histories.specs.MdsHistory.{MdsItem, Comes, Enters, mds_history}
 use Rattle.mds_histories.specs.MdsHistory as of_mds
 use Rattle.mds_histories.proofs.Histories.{entries_joined, entries_entered, entries_of_run}
@@ -38,7 +38,7 @@ use Rattle.client_state.specs.ClientSends.{CallsMds, spelled_send}
 use Rattle.client_laws.specs.ClientHistory.{HistoryItem, HasItem, Each}
 use Rattle.client_laws.specs.ClientRunLaws.{InEachRun, WasGranted}
 use Rattle.client_sessions.specs.LayoutEnds.{ReturnsAsGranted, ReturnsOwn}
-use Rattle.node_histories.specs.Weaves.{IsUnseen, IsSending, WeaveStep, Passes, Unseen, Seen, entries_in, items_in, AreWoven, StandsAt}
+use Rattle.node_histories.specs.Weaves.{IsUnseen, IsSending, WeaveStep, Passes, Unseen, Seen, entries_in, items_in, AreWoven, StandsInWeave}
 use Rattle.node_histories.specs.ClientLives.{client_shown, Life}
 use Rattle.node_histories.specs.NodeHistories.{HasLife, is_client_entry, is_server_entry, is_world_entry, Origin, EnteredByClient, EnteredByMds, EnteredByServer, EnteredByWorld, SentByClient, SentByMds, SentByServer, IsToldByNodes}
 use Rattle.node_histories.proofs.WeaveLemmas.{entries_join, items_join}
@@ -124,9 +124,9 @@ pub record SentLaws : Type 0 where
 module _ (laws : SentLaws) (boots : List ℕ) (w : ClusterState) (run : IsRunOf boots w) (t : IsToldByNodes w) (few : length w.machines.clients < 2 ^ 32) (range : IsJournalInRange w.journal) (roomy : StaysRoomy t.mds.servers t.mds.mirrors t.mds.events)
     (starts : StartsAreFew t) (one : IsOneRequestEach t) (most : t.mds.mirrors ≤ 4) where
   ended_stands : (past : List Entry) (file : FileId) (uid : ℕ) (e : Entry) → e ≡ entry.Ended file (record { 0 = uid }) Returned → Origin t.stories t.mds past e
-      → StandsAt [] t.mds.steps past (Enters (entry.Ended file (record { 0 = uid }) Returned)) (entry.Ended file (record { 0 = uid }) Returned)
+      → StandsInWeave [] t.mds.steps past (Enters (entry.Ended file (record { 0 = uid }) Returned)) (entry.Ended file (record { 0 = uid }) Returned)
   ended_stands past file uid e same (EnteredByClient n l life kind stands) = no_true (subst (λ (x : Entry). is_client_entry x ≡ true) same kind)
-  ended_stands past file uid e same (EnteredByMds kind stands) = subst (λ (x : Entry). StandsAt [] t.mds.steps past (Enters x) x) same stands
+  ended_stands past file uid e same (EnteredByMds kind stands) = subst (λ (x : Entry). StandsInWeave [] t.mds.steps past (Enters x) x) same stands
   ended_stands past file uid e same (EnteredByServer kind) = no_true (subst (λ (x : Entry). is_server_entry x ≡ true) same kind)
   ended_stands past file uid e same (EnteredByWorld kind) = no_true (subst (λ (x : Entry). is_world_entry x ≡ true) same kind)
   ended_stands past file uid e same (SentByClient n number to bytes l send packet life stands) = absurd (no_packet file uid number (Client n) to bytes (sym same ∙ packet))
@@ -161,7 +161,7 @@ module _ (laws : SentLaws) (boots : List ℕ) (w : ClusterState) (run : IsRunOf 
   end_at : (past behind : List Entry) (file : FileId) (uid : ℕ) → w.journal ≡ past ++ entry.Ended file (record { 0 = uid }) Returned ∷ behind → EndAt past file uid
   end_at past behind file uid is =
       let x : Entry = entry.Ended file (record { 0 = uid }) Returned in
-      let s : StandsAt [] t.mds.steps past (Enters x) x = ended_stands past file uid x refl (t.origins past behind x is) in
+      let s : StandsInWeave [] t.mds.steps past (Enters x) x = ended_stands past file uid x refl (t.origins past behind x is) in
       let step : WeaveStep MdsItem = Seen (Enters x) x in
       let history : mds_history (new_mds t.mds.servers t.mds.mirrors) t.mds.events ≡ items_in s.earlier ++ Enters x ∷ items_in s.later =
       t.mds_is.history ∙ (ap (λ (k : Steps). items_in k) s.split ∙ items_join s.earlier (step ∷ s.later)) in
@@ -378,7 +378,7 @@ module _ (laws : SentLaws) (boots : List ℕ) (w : ClusterState) (run : IsRunOf 
     its_stateid = p.gives.1;
     its_uid = b.its_uid;
     live = λ ids there id inside. (
-      subst (λ (l : List MirrorId). In id l) b.mirrors (r.live ids (sym (live_at_end past file uid k) ∙ there) id inside),
+      subst (λ (l : List MirrorId). IsOneOf id l) b.mirrors (r.live ids (sym (live_at_end past file uid k) ∙ there) id inside),
       r.kept c.name c.file c.stateid c.failed c.called c.fits ids (sym (live_at_end past file uid k) ∙ there) id inside,
     );
   }

@@ -14,7 +14,7 @@ use Rattle.mds_rule.specs.Spelled.{spelled_send}
 use Rattle.mds_laws.specs.MdsRuns.{MdsEvent}
 use Rattle.mds_histories.specs.MdsHistory.{MdsItem, Comes, Enters, Sends}
 use Rattle.mds_histories.specs.MdsHistory as of_mds
-use Rattle.node_histories.specs.Weaves.{IsEntry, IsUnseen, WeaveStep, Passes, Unseen, Seen, entries_in, items_in, IsSendingOf, StandsAt}
+use Rattle.node_histories.specs.Weaves.{IsEntry, IsUnseen, WeaveStep, Passes, Unseen, Seen, entries_in, items_in, IsSendingOf, StandsInWeave}
 use Rattle.node_histories.specs.NodeHistories.{is_client_entry, is_server_entry, is_world_entry, Origin, EnteredByClient, EnteredByMds, EnteredByServer, EnteredByWorld, SentByClient, SentByMds, SentByServer, IsToldByNodes}
 use Rattle.world_reads.proofs.Steps.{all_by_places, SamePlace, same_place}
 use Rattle.world_reads.proofs.OwnEntries.{no_true, IsSaid, IsToldStep, journal_at}
@@ -39,7 +39,7 @@ module _ (w : ClusterState) (t : IsToldByNodes w) where
       by_origin : (e : Entry) → e ≡ entry.Ended file cred cause → Origin t.stories t.mds (entries_in a) e → ⊥
       by_origin e same (EnteredByClient n l life kind stands) = no_true (subst (λ (x : Entry). is_client_entry x ≡ true) same kind)
       by_origin e same (EnteredByMds kind stands) =
-          let s : StandsAt [] t.mds.steps (entries_in a) (Enters (entry.Ended file cred cause)) (entry.Ended file cred cause) = subst (λ (x : Entry). StandsAt [] t.mds.steps (entries_in a) (Enters x) x) same stands in
+          let s : StandsInWeave [] t.mds.steps (entries_in a) (Enters (entry.Ended file cred cause)) (entry.Ended file cred cause) = subst (λ (x : Entry). StandsInWeave [] t.mds.steps (entries_in a) (Enters x) x) same stands in
           let p : SamePlace a b s.earlier s.later (Passes (entry.Ended file cred cause)) (Seen (Enters (entry.Ended file cred cause)) (entry.Ended file cred cause)) =
           same_place a b s.earlier s.later (Passes (entry.Ended file cred cause)) (Seen (Enters (entry.Ended file cred cause)) (entry.Ended file cred cause)) (sym is ∙ s.split) s.place tt tt in
           passes_not (Enters (entry.Ended file cred cause)) p.step

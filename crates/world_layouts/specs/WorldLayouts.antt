@@ -10,6 +10,7 @@ use Rattle.cluster_model.specs.declared.phase.EndCause.TheVariants.{Returned}
 use Rattle.cluster_model.specs.declared.entry.Entry.{Entry}
 use Rattle.cluster_model.specs.declared.entry.Entry.TheVariants.{Delivered, Granted, Ended}
 use Rattle.cluster_model.specs.Phases.{ids_of}
+use Rattle.cluster_model.specs.Members.{IsOneOf}
 use Rattle.cluster_laws.specs.FenceLaw.{live_in}
 use Rattle.cluster_laws.specs.Agreement.{causes_of}
 use Rattle.cluster_laws.specs.Holders.{HasEndedClean}
@@ -25,7 +26,6 @@ use Rattle.client_laws.specs.ClientHistory.{HistoryItem, Sends, HasItem, client_
 use Rattle.client_laws.specs.ClientRunLaws.{WasGranted, AreGrantedOnce, CoveredByReturn}
 use Rattle.client_sessions.specs.LayoutEnds.{HasUnreported, WasFenced}
 use Rattle.world_rule.specs.ClusterWorlds.{ClusterState}
-use Rattle.mds_laws.proofs.Lists.{In}
 use Rattle.node_histories.specs.Weaves.{WeaveStep, Seen, entries_in, items_in}
 use Rattle.node_histories.specs.ClientLives.{Life, start_of}
 use Rattle.node_histories.specs.NodeHistories.{HasLife, IsToldByNodes}
@@ -93,7 +93,7 @@ pub record WasReturnedBy {w : ClusterState} (told : IsToldByNodes w) (past : Lis
   pub granted : WasGranted (items_in earlier) grant
   pub its_stateid : grant.stateid ≡ stateid
   pub its_uid : grant.uid.0 ≡ uid
-  pub live : (ids : List MirrorId) → live_in past file ≡ Some ids → (id : MirrorId) → In id ids → In id (ids_of grant.mirrors) × (reports_server failed id.server ≡ false)
+  pub live : (ids : List MirrorId) → live_in past file ≡ Some ids → (id : MirrorId) → IsOneOf id ids → IsOneOf id (ids_of grant.mirrors) × (reports_server failed id.server ≡ false)
 
 abbrev pub ReturnsAreSent : {w : ClusterState} → IsToldByNodes w → Type 0
 ReturnsAreSent {w} told =

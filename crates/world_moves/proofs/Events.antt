@@ -12,6 +12,7 @@ use Rattle.cluster_model.specs.declared.entry.Entry.{Entry}
 use Rattle.cluster_model.specs.declared.entry.Entry.TheVariants as entry
 use Rattle.cluster_model.specs.Event.{EventValue, Deliver, DeliverPacket, DeliverBetween, Flow, Hold, Pass, Timeout, Tick, Open, Write, Through, Fill, Commit, Read, Return, Rogue, Stray, Reboot, Recall, Resilver, Audit, Restart}
 use Rattle.cluster_model.specs.Server.{ServerState, max_boot, max_ticks, restart_of}
+use Rattle.cluster_model.specs.Members.{IsOneOf}
 use Rattle.ds_files.specs.Receive.{outcome_of}
 use Rattle.cluster_laws.specs.Machine.{Machine, numbered_at}
 use Rattle.cluster_laws.specs.CallRanges.{IsServerInRange, AreServersInRange}
@@ -28,7 +29,7 @@ use Rattle.client_sends.specs.SendsOfUsers.{IsUserSend, is_user_entry, SendsAsUs
 use Rattle.mds_rule.specs.MdsStates.{ServedFile, MdsSend, MdsStep, served, numbered}
 use Rattle.mds_rule.specs.Spelled.{spelled_send}
 use Rattle.mds_laws.specs.MdsRuns.{MdsEvent, Hears, IsTimedOut, Ticks, RecallsFile, Resilvers, after_event}
-use Rattle.mds_laws.proofs.Lists.{In, in_more, all_in}
+use Rattle.mds_laws.proofs.Lists.{in_more, all_in}
 use Rattle.mds_moves.specs.MdsMoves.{IsReached, IsSentIn, MayComeTo, GoesOnBy, MdsGoesOn}
 use Rattle.packet_table.specs.declared.note.PacketNote.{PacketNote}
 use Rattle.packet_table.specs.Packets.{packet_numbered, number_between}
@@ -53,11 +54,11 @@ still_there [] more k x is = absurd cc
 still_there (y ∷ xs) more zero x is = is
 still_there (y ∷ xs) more (suc k) x is = still_there xs more k x is
 
-behind_all : {A : Type 0} (x : A) (old new : List A) → In x new → In x (old ++ new)
+behind_all : {A : Type 0} (x : A) (old new : List A) → IsOneOf x new → IsOneOf x (old ++ new)
 behind_all x [] new inside = inside
 behind_all x (y ∷ old) new inside = inr (behind_all x old new inside)
 
-were_sent : (n : Machine) (all sends : List MdsSend) → ((s : MdsSend) → In s sends → In s all) → AllByRecursion (λ (x : NodeId × List ℕ). IsCarried n all Mds x.0 x.1) (map spelled_send sends)
+were_sent : (n : Machine) (all sends : List MdsSend) → ((s : MdsSend) → IsOneOf s sends → IsOneOf s all) → AllByRecursion (λ (x : NodeId × List ℕ). IsCarried n all Mds x.0 x.1) (map spelled_send sends)
 were_sent n all [] inside = tt
 were_sent n all (s ∷ sends) inside = (record { sent = s; inside = inside s (inl refl); is = refl }, were_sent n all sends (λ x its. inside x (inr its)))
 

@@ -6,11 +6,12 @@ use Rattle.cluster_model.specs.declared.ids.NodeId.TheVariants.{Mds, Server, Cli
 use Rattle.cluster_model.specs.declared.entry.Entry.{Entry}
 use Rattle.cluster_model.specs.declared.entry.Entry.TheVariants.{Packet}
 use Rattle.cluster_model.specs.DsCalls.{DsCallValue, DsReplyValue}
+use Rattle.cluster_model.specs.Members.{IsOneOf}
 use Rattle.cluster_laws.specs.Machine.{Machine, fresh_of}
 use Rattle.machine_moves.specs.MachineMoves.{KeepsPackets}
 use Rattle.machine_moves.proofs.Packets.{still_called, still_answered}
 use Rattle.mds_rule.specs.MdsStates.{MdsSend, CallsServer, CallsBack, Replies, Answers, MdsValue}
-use Rattle.mds_laws.proofs.Lists.{In, AllOf}
+use Rattle.mds_laws.proofs.Lists.{AllOf}
 use Rattle.mds_moves.specs.MdsMoves.{IsSentIn, IsMdsOf, WasAnswered, IsSendAnswered, MayComeFrom}
 use Rattle.world_moves.specs.WorldMoves.{IsFromServer, IsCarried, IsEntryCarried}
 use Rattle.world_moves.proofs.ServerMoves.{IsLike}
@@ -54,7 +55,7 @@ still_answers mc n keeps server says (CallsBack xid back file stateid) is = tt
 still_answers mc n keeps server says (Replies node reply) is = tt
 still_answers mc n keeps server says (Answers node bytes) is = tt
 
-module _ (mc n : Machine) (keeps : KeepsPackets mc n) (ss all : List MdsSend) (longer : (s : MdsSend) → In s ss → In s all) where
+module _ (mc n : Machine) (keeps : KeepsPackets mc n) (ss all : List MdsSend) (longer : (s : MdsSend) → IsOneOf s ss → IsOneOf s all) where
   pub still_comes : (server : ℕ) (bytes : List ℕ) → MayComeFrom mc ss server bytes → MayComeFrom n all server bytes
   still_comes server bytes (inl passed) = inl passed
   still_comes server bytes (inr a) = inr (record { reply = a.reply; reads = a.reads; sent = a.sent; inside = longer a.sent a.inside; number = a.number; answers = still_answers mc n keeps server _ a.sent a.answers })

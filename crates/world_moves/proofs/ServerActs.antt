@@ -15,6 +15,7 @@ use Rattle.cluster_model.specs.declared.entry.Entry.{Entry}
 use Rattle.cluster_model.specs.File.{Writes, Commits, Sets, Restarts}
 use Rattle.cluster_model.specs.Server.{ServerState, Caller, Effect, NoEffect, OnFile, NewFile, applied_entries, committed_entries, owner_entries, entries_of, mirror_of}
 use Rattle.cluster_model.specs.DsCalls.{DsCallValue, Create, SetAttr, Write, Commit, Read, DsReplyValue, ds_plan, ds_step}
+use Rattle.cluster_model.specs.Members.{IsOneOf}
 use Rattle.ds_files.specs.Receive.{Outcome, outcome_of}
 use Rattle.ds_files.specs.Records.{sent_to}
 use Rattle.cluster_laws.specs.Machine.{Machine, Reply, numbered_at, caller_by, may_use}
@@ -33,7 +34,6 @@ use Rattle.mds_receive.specs.MdsReceive.{of_reply}
 use Rattle.mds_rule.specs.MdsStates.{MdsSend, CallsServer, CallsBack, Replies, Answers}
 use Rattle.mds_rule.specs.Spelled.{mds_name, spelled_send}
 use Rattle.mds_laws.specs.MdsRunLaws.{number_sent}
-use Rattle.mds_laws.proofs.Lists.{In}
 use Rattle.mds_laws.proofs.Keeping.{is_read_call}
 use Rattle.mds_moves.specs.MdsMoves.{message_of, IsSpoken, IsSentIn, IsSendAnswered, MayComeFrom}
 use Rattle.mds_forms.specs.Forms.{IsNoPacket, IsInForm}
@@ -138,7 +138,7 @@ recall_user xid back file stateid = (
 )
 
 -- what is replied under the number of a send is passed over, or read as its reply
-module _ (mc : Machine) (ss : List MdsSend) (n : ℕ) (sent : MdsSend) (inside : In sent ss) (xid : ℕ) (number : number_sent sent ≡ Some xid) (small : xid < 2 ^ 32)
+module _ (mc : Machine) (ss : List MdsSend) (n : ℕ) (sent : MdsSend) (inside : IsOneOf sent ss) (xid : ℕ) (number : number_sent sent ≡ Some xid) (small : xid < 2 ^ 32)
     (any : (says : DsCallValue → DsReplyValue) → IsSendAnswered mc n says sent) where
   comes_read : (bytes : List ℕ) → ReadsUnder bytes xid → MayComeFrom mc ss n bytes
   comes_read bytes (Passes is) = inl is
@@ -153,7 +153,7 @@ module _ (mc : Machine) (ss : List MdsSend) (n : ℕ) (sent : MdsSend) (inside :
 
 module _ (laws : ServerLaws) (mc : Machine) (ss : List MdsSend) (n : ℕ) (s : ServerState) (at : numbered_at mc.servers n ≡ Some s) (i : IsProper s) where
   -- a record of a user's, to whose reply nothing is asked but its number
-  serves_user : (c : RpcCall) (sent : MdsSend) → In sent ss → number_sent sent ≡ Some c.xid → c.xid < 2 ^ 32 → ((m : Machine) (says : DsCallValue → DsReplyValue) → IsSendAnswered m n says sent)
+  serves_user : (c : RpcCall) (sent : MdsSend) → IsOneOf sent ss → number_sent sent ≡ Some c.xid → c.xid < 2 ^ 32 → ((m : Machine) (says : DsCallValue → DsReplyValue) → IsSendAnswered m n says sent)
       → IsUserRecord (call_bytes c) → Serves mc ss n Mds (outcome_of s (call_bytes c))
   serves_user c sent inside number small any user =
       let o : Outcome = outcome_of s (call_bytes c) in
@@ -167,7 +167,7 @@ module _ (laws : ServerLaws) (mc : Machine) (ss : List MdsSend) (n : ℕ) (s : S
       }
 
   -- a call whose numbers fit
-  serves_call : (xid uid : ℕ) (call : DsCallValue) → In (CallsServer n xid uid call) ss → HasCalled mc n xid uid call → HasRecord (message_of xid uid call) → Serves mc ss n Mds (outcome_of s (ds_call_bytes xid mds_name uid call))
+  serves_call : (xid uid : ℕ) (call : DsCallValue) → IsOneOf (CallsServer n xid uid call) ss → HasCalled mc n xid uid call → HasRecord (message_of xid uid call) → Serves mc ss n Mds (outcome_of s (ds_call_bytes xid mds_name uid call))
   serves_call xid uid call inside h has =
       let d : DoesTheCall s (message_of xid uid call) = laws.same s (message_of xid uid call) i has in
       let g : GoesAt mc n (ds_step s (caller_by uid uid) call).server (ds_step s (caller_by uid uid) call).entries = delivers mc h.place Mds n xid uid uid call s h.there at in
@@ -198,7 +198,7 @@ module _ (laws : ServerLaws) (mc : Machine) (ss : List MdsSend) (n : ℕ) (s : S
         sends = subst (λ (r : Option (List ℕ)). AllByRecursion (λ (x : NodeId × List ℕ). IsCarried g.machine ss (Server n) x.0 x.1) (sent_to Mds r)) (sym d.bytes) (comes, tt);
       }
 
-  serves_spoken : (xid uid : ℕ) (call : DsCallValue) → In (CallsServer n xid uid call) ss → HasCalled mc n xid uid call → IsSpoken (message_of xid uid call) → xid < 2 ^ 32 → Serves mc ss n Mds (outcome_of s (ds_call_bytes xid mds_name uid call))
+  serves_spoken : (xid uid : ℕ) (call : DsCallValue) → IsOneOf (CallsServer n xid uid call) ss → HasCalled mc n xid uid call → IsSpoken (message_of xid uid call) → xid < 2 ^ 32 → Serves mc ss n Mds (outcome_of s (ds_call_bytes xid mds_name uid call))
   serves_spoken xid uid call inside h (inl has) small = serves_call xid uid call inside h has
   serves_spoken xid uid call inside h (inr (hasnt, reads)) small =
       serves_user (ds_rpc_call xid mds_name uid call) (CallsServer n xid uid call) inside refl small (λ m says. λ has same. absurd (hasnt has))
@@ -211,7 +211,7 @@ abbrev Sent : Type 0
 Sent = NodeId × List ℕ
 
 -- what the metadata server sent
-pub serves_mds : ServerLaws → (mc : Machine) (ss : List MdsSend) (n : ℕ) (s : ServerState) → numbered_at mc.servers n ≡ Some s → IsProper s → (bytes : List ℕ) (sent : MdsSend) → In sent ss → IsSentIn mc sent → IsInForm sent
+pub serves_mds : ServerLaws → (mc : Machine) (ss : List MdsSend) (n : ℕ) (s : ServerState) → numbered_at mc.servers n ≡ Some s → IsProper s → (bytes : List ℕ) (sent : MdsSend) → IsOneOf sent ss → IsSentIn mc sent → IsInForm sent
     → spelled_send sent ≡ (Server n, bytes) → Serves mc ss n Mds (outcome_of s bytes)
 serves_mds laws mc ss n s at i bytes (CallsServer server xid uid call) inside stands form is =
     let node : Server server ≡ Server n = ap (λ (x : Sent). x.0) is in

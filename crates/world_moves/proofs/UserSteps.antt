@@ -12,6 +12,7 @@ use Rattle.cluster_model.specs.declared.entry.Entry.{Entry}
 use Rattle.cluster_model.specs.declared.entry.Entry.TheVariants as entry
 use Rattle.cluster_model.specs.Event.{EventValue, Deliver, DeliverPacket, DeliverBetween, Flow, Hold, Pass, Timeout, Tick, Open, Write, Through, Fill, Commit, Read, Return, Rogue, Stray, Reboot, Recall, Resilver, Audit, Restart}
 use Rattle.cluster_model.specs.Server.{ServerState, max_boot, max_ticks, restart_of}
+use Rattle.cluster_model.specs.Members.{IsOneOf}
 use Rattle.ds_files.specs.Receive.{outcome_of}
 use Rattle.cluster_laws.specs.Machine.{Machine, numbered_at}
 use Rattle.cluster_laws.specs.CallRanges.{IsServerInRange, AreServersInRange}
@@ -28,7 +29,7 @@ use Rattle.client_sends.specs.SendsOfUsers.{IsUserSend, is_user_entry, SendsAsUs
 use Rattle.mds_rule.specs.MdsStates.{ServedFile, MdsSend, MdsStep, served, numbered}
 use Rattle.mds_rule.specs.Spelled.{spelled_send}
 use Rattle.mds_laws.specs.MdsRuns.{MdsEvent, Hears, IsTimedOut, Ticks, RecallsFile, Resilvers, after_event}
-use Rattle.mds_laws.proofs.Lists.{In, in_more, all_in}
+use Rattle.mds_laws.proofs.Lists.{in_more, all_in}
 use Rattle.mds_moves.specs.MdsMoves.{IsReached, IsSentIn, MayComeTo, GoesOnBy, MdsGoesOn}
 use Rattle.packet_table.specs.declared.note.PacketNote.{PacketNote}
 use Rattle.packet_table.specs.Packets.{packet_numbered, number_between}

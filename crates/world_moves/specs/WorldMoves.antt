@@ -8,12 +8,13 @@ use Rattle.cluster_model.specs.declared.entry.Entry.{Entry}
 use Rattle.cluster_model.specs.declared.entry.Entry.TheVariants.{Packet}
 use Rattle.cluster_model.specs.Server.{ServerState}
 use Rattle.cluster_model.specs.GuardLaws.{IsTold}
+use Rattle.cluster_model.specs.Members.{IsOneOf}
 use Rattle.cluster_laws.specs.Machine.{Machine, Move, new_machine, numbered_at, machine_after, journal_of}
 use Rattle.cluster_laws.specs.FenceLaw.{new_servers}
 use Rattle.cluster_laws.specs.Telling.{telling}
 use Rattle.mds_rule.specs.MdsStates.{MdsSend}
 use Rattle.mds_rule.specs.Spelled.{spelled_send}
-use Rattle.mds_laws.proofs.Lists.{In, AllOf}
+use Rattle.mds_laws.proofs.Lists.{AllOf}
 use Rattle.mds_forms.specs.Forms.{IsInForm}
 use Rattle.mds_moves.specs.MdsMoves.{IsMdsOf, MayComeFrom}
 use Rattle.user_records.specs.UserRecords.{IsUserRecord}
@@ -26,7 +27,7 @@ use Rattle.world_rule.specs.ClusterWorlds.{ClusterState}
 -- the metadata server sent it
 pub record WasSent (ss : List MdsSend) (to : NodeId) (bytes : List ℕ) : Type 0 where
   pub sent : MdsSend
-  pub inside : In sent ss
+  pub inside : IsOneOf sent ss
   pub is : spelled_send sent ≡ (to, bytes)
 
 -- a data server replies to the metadata server and to clients, and not to its like
@@ -53,7 +54,7 @@ IsEntryCarried mc ss e = Unit {0}
 -- ---- a world, and a run
 
 -- a journal tells what a run of the machine tells, which has its servers, its metadata server and its packets
-pub record IsRun (boots : List ℕ) (machines : MachinesValue) (journal : List Entry) : Type 0 where
+pub record IsMachineRun (boots : List ℕ) (machines : MachinesValue) (journal : List Entry) : Type 0 where
   pub moves : List Move
   pub machine : Machine
   pub reached : machine_after (new_machine (new_servers 1 boots)) moves ≡ machine
@@ -66,7 +67,7 @@ pub record IsRun (boots : List ℕ) (machines : MachinesValue) (journal : List E
   pub packets : AllByRecursion (IsEntryCarried machine sends) journal
 
 abbrev pub IsRunOf : List ℕ → ClusterState → Type 0
-IsRunOf boots w = IsRun boots w.machines w.journal
+IsRunOf boots w = IsMachineRun boots w.machines w.journal
 
 -- what the journal says of the bytes, the pending writes and the owner of each mirror is so at its server
 abbrev pub TellsTruth : ClusterState → Type 0

@@ -37,7 +37,7 @@ use Rattle.client_state.specs.ClientSends.{spelled_send}
 use Rattle.client_laws.specs.ClientHistory.{HistoryItem, HasItem}
 use Rattle.client_laws.specs.ClientHistory as client
 use Rattle.client_records.specs.ClientRecords.{EachRunIsSpelled, EachRunIsNumbered}
-use Rattle.node_histories.specs.Weaves.{WeaveStep, Seen, entries_in, items_in, StandsAt}
+use Rattle.node_histories.specs.Weaves.{WeaveStep, Seen, entries_in, items_in, StandsInWeave}
 use Rattle.node_histories.specs.NodeHistories.{ClientStory, is_client_entry, is_server_entry, is_world_entry, Origin, EnteredByClient, EnteredByMds, EnteredByServer, EnteredByWorld, SentByClient, SentByMds, SentByServer, IsToldByNodes}
 use Rattle.node_histories.proofs.WeaveLemmas.{entries_join, items_join}
 use Rattle.world_moves.specs.WorldMoves.{IsRunOf}
@@ -120,9 +120,9 @@ module _ (laws : ReadLaws) (boots : List ℕ) (w : ClusterState) (run : IsRunOf 
   -- ---- an answer
 
   answer_stands : (before : List Entry) (file : FileId) (status : ℕ) (bytes : List ℕ) (e : Entry) → e ≡ entry.ReadAnswer file status bytes → Origin t.stories t.mds before e
-      → StandsAt [] t.mds.steps before (Enters (entry.ReadAnswer file status bytes)) (entry.ReadAnswer file status bytes)
+      → StandsInWeave [] t.mds.steps before (Enters (entry.ReadAnswer file status bytes)) (entry.ReadAnswer file status bytes)
   answer_stands before file status bytes e is (EnteredByClient n l life kind stands) = no_true (subst (λ (x : Entry). is_client_entry x ≡ true) is kind)
-  answer_stands before file status bytes e is (EnteredByMds kind stands) = subst (λ (x : Entry). StandsAt [] t.mds.steps before (Enters x) x) is stands
+  answer_stands before file status bytes e is (EnteredByMds kind stands) = subst (λ (x : Entry). StandsInWeave [] t.mds.steps before (Enters x) x) is stands
   answer_stands before file status bytes e is (EnteredByServer kind) = no_true (subst (λ (x : Entry). is_server_entry x ≡ true) is kind)
   answer_stands before file status bytes e is (EnteredByWorld kind) = no_true (subst (λ (x : Entry). is_world_entry x ≡ true) is kind)
   answer_stands before file status bytes e is (SentByClient n number to sent l send same life stands) = absurd (two_kinds number (Client n) to sent (sym is ∙ same))
@@ -140,7 +140,7 @@ module _ (laws : ReadLaws) (boots : List ℕ) (w : ClusterState) (run : IsRunOf 
 
   -- a READ that the history answers is served in the journal
   served : (earlier later : Steps) (file : FileId) (status : ℕ) (bytes : List ℕ) → t.mds.steps ≡ earlier ++ Seen (Enters (entry.ReadAnswer file status bytes)) (entry.ReadAnswer file status bytes) ∷ later
-      → runs.IsAnswered (items_in earlier) file status bytes (items_in later) → IsReadServed (entries_in earlier) file status bytes (entries_in later)
+      → runs.IsReadAnswered (items_in earlier) file status bytes (items_in later) → IsReadServed (entries_in earlier) file status bytes (entries_in later)
   served earlier later file status bytes whole a =
       let e : Entry = entry.ReadAnswer file status bytes in
       let rest : Steps = Seen (Enters e) e ∷ later in
@@ -189,7 +189,7 @@ module _ (laws : ReadLaws) (boots : List ℕ) (w : ClusterState) (run : IsRunOf 
           there = subst (λ (x : NodeId). law.IsNumbered (entries_in came.earlier) came.number x Mds a.asked) k.node_is (record { before = came.packet.before; behind = came.packet.behind; split = came.packet.split });
           reads = reads;
         };
-        no_more = no_swaps file p.second told_second (subst (λ (l : List MdsItem). AllByRecursion (runs.IsNoSwapOf file) l) (sym p.second_items) a.starts.no_more);
+        no_more = no_swaps file p.second told_second (subst (λ (l : List MdsItem). AllByRecursion (runs.EntersNoSwapOf file) l) (sym p.second_items) a.starts.no_more);
         live = a.live;
         live_then = live_then;
         cause = cause_told w t range facts laws.calls p.first p.second rest parts a.at a.count in_range.offset file a.live live_then laws.same read refl refl status bytes cause;
@@ -198,9 +198,9 @@ module _ (laws : ReadLaws) (boots : List ℕ) (w : ClusterState) (run : IsRunOf 
   pub reads_obey : law.ObeysReads w.journal
   reads_obey before behind file status bytes is =
       let e : Entry = entry.ReadAnswer file status bytes in
-      let s : StandsAt [] t.mds.steps before (Enters e) e = answer_stands before file status bytes e refl (t.origins before behind e is) in
+      let s : StandsInWeave [] t.mds.steps before (Enters e) e = answer_stands before file status bytes e refl (t.origins before behind e is) in
       let items : items_in t.mds.steps ≡ items_in s.earlier ++ Enters e ∷ items_in s.later = ap (λ (l : Steps). items_in l) s.split ∙ items_join s.earlier (Seen (Enters e) e ∷ s.later) in
-      let a : runs.IsAnswered (items_in s.earlier) file status bytes (items_in s.later) =
+      let a : runs.IsReadAnswered (items_in s.earlier) file status bytes (items_in s.later) =
       laws.answered t.mds.servers t.mds.mirrors t.mds.events few_mirrors in_form (items_in s.earlier) (items_in s.later) file status bytes (t.mds_is.history ∙ items) in
       let both : before ++ e ∷ behind ≡ before ++ e ∷ entries_in s.later = sym is ∙ (journal_at w t s.earlier (Seen (Enters e) e ∷ s.later) s.split ∙ ap (λ (l : List Entry). l ++ e ∷ entries_in s.later) (sym s.place)) in
       let rest : behind ≡ entries_in s.later = same_tail e behind (entries_in s.later) (same_front before (e ∷ behind) (e ∷ entries_in s.later) both) in

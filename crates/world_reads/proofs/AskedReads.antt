@@ -10,13 +10,14 @@ use Rattle.cluster_model.specs.declared.ids.MirrorId.{MirrorId}
 use Rattle.cluster_model.specs.declared.entry.Entry.{Entry}
 use Rattle.cluster_model.specs.declared.entry.Entry.TheVariants as entry
 use Rattle.cluster_model.specs.DsCalls.{Read}
+use Rattle.cluster_model.specs.Members.{IsOneOf}
 use Rattle.world_rule.specs.ClusterWorlds.{ClusterState}
 use Rattle.ds_calls.specs.DsCallLaws.{DsMessage, HasRecord, IsUnderstood, record_of}
 use Rattle.mds_rule.specs.FileOps.{read_length}
 use Rattle.mds_rule.specs.MdsStates.{MdsSend, CallsServer}
 use Rattle.mds_rule.specs.Spelled.{mds_name, spelled_send}
 use Rattle.mds_laws.specs.MdsRunLaws.{number_sent, FitsNumber}
-use Rattle.mds_laws.proofs.Lists.{In, in_more}
+use Rattle.mds_laws.proofs.Lists.{in_more}
 use Rattle.mds_histories.specs.MdsHistory.{MdsItem, Sends, sends_in}
 use Rattle.mds_histories.proofs.Histories.{sends_joined}
 use Rattle.node_histories.specs.Weaves.{WeaveStep, Seen, entries_in, items_in}
@@ -58,18 +59,18 @@ read_has_record mirror at count xid fileid offset fits =
 
 -- ---- a send of a part
 
-pub part_sends : (part rest whole : Steps) → whole ≡ part ++ rest → (s : MdsSend) → In s (sends_in (items_in part)) → In s (sends_in (items_in whole))
+pub part_sends : (part rest whole : Steps) → whole ≡ part ++ rest → (s : MdsSend) → IsOneOf s (sends_in (items_in part)) → IsOneOf s (sends_in (items_in whole))
 part_sends part rest whole is s inside =
     let joined : sends_in (items_in whole) ≡ sends_in (items_in part) ++ sends_in (items_in rest) =
     ap (λ (l : Steps). sends_in (items_in l)) is ∙ (ap (λ (l : List MdsItem). sends_in l) (items_join part rest) ∙ sends_joined (items_in part) (items_in rest)) in
-    subst (λ (l : List MdsSend). In s l) (sym joined) (in_more s (sends_in (items_in part)) (sends_in (items_in rest)) inside)
+    subst (λ (l : List MdsSend). IsOneOf s l) (sym joined) (in_more s (sends_in (items_in part)) (sends_in (items_in rest)) inside)
 
 -- ---- in the journal
 
 -- a send of this number stands in a part
 pub record HasNumber (part : Steps) (xid : ℕ) : Type 0 where
   pub send : MdsSend
-  pub inside : In send (sends_in (items_in part))
+  pub inside : IsOneOf send (sends_in (items_in part))
   pub number : number_sent send ≡ Some xid
 
 module _ (w : ClusterState) (t : IsToldByNodes w) (facts : StoryFacts t.mds) (understood : (m : DsMessage) → IsUnderstood m) where
@@ -79,8 +80,8 @@ module _ (w : ClusterState) (t : IsToldByNodes w) (facts : StoryFacts t.mds) (un
       let r : SentIn w t part sent.before sent.number (Server k) bytes = sent_in w t part rest whole sent.before sent.behind sent.number (Server k) bytes sent.split in
       let items : items_in part ≡ items_in r.earlier ++ Sends r.send ∷ items_in r.later =
       ap (λ (l : Steps). items_in l) r.split ∙ items_join r.earlier (Seen (Sends r.send) (entry.Packet sent.number Mds (Server k) bytes) ∷ r.later) in
-      let inside : In r.send (sends_in (items_in part)) = in_sends (items_in part) (items_in r.earlier) (items_in r.later) r.send items in
-      let among : In r.send (sends_in (items_in t.mds.steps)) = part_sends part rest t.mds.steps whole r.send inside in
+      let inside : IsOneOf r.send (sends_in (items_in part)) = in_sends (items_in part) (items_in r.earlier) (items_in r.later) r.send items in
+      let among : IsOneOf r.send (sends_in (items_in t.mds.steps)) = part_sends part rest t.mds.steps whole r.send inside in
       let number : number_sent r.send ≡ Some call.call.xid = sent_number r.send bytes (ap (λ (p : NodeId × List ℕ). p.1) r.spelled) (facts.form r.send among) (facts.fits r.send among) call.call call.reads in
       record { send = r.send; inside = inside; number = number ∙ ap (λ (n : ℕ). Some n) call.number }
 

@@ -17,7 +17,7 @@ use Rattle.nfs4_types.specs.declared.ids.SessionId.{SessionId}
 use Rattle.mds_calls.specs.MdsCalls.{MdsCallValue, ExchangeId, CreateSession, OnSlot, SlotCallValue, ReclaimComplete, Open, LayoutGet, DeviceInfo, Write, Read, LayoutReturn, Renew}
 use Rattle.mds_calls.specs.MdsCompounds.{mds_ops}
 use Rattle.mds_calls.specs.MdsCallLaws.{MdsMessage, HasCompoundRecord, IsCompoundUnderstood, compound_record_of, compound_message_call}
-use Rattle.read_runs.specs.ReadRuns.{Reads, HasNoRead, ReadsInForm}
+use Rattle.read_runs.specs.ReadRuns.{ReadsFile, HasNoRead, ReadsInForm}
 
 -- no operation of these is a READ
 abbrev NoReads : List (Value argop4) → Type 0

@@ -14,7 +14,7 @@ use Rattle.mds_receive.specs.MdsReceive.{IsCompound, incoming_of}
 use Rattle.mds_receive.specs.MdsReceiveLaws.{compound_with}
 use Rattle.mds_calls.specs.MdsCompounds.{mds_ops}
 use Rattle.mds_calls.specs.MdsCallLaws.{MdsMessage, HasCompoundRecord, IsReadAsCompound, compound_record_of, compound_message_call}
-use Rattle.read_runs.specs.ReadRuns.{Reads, ReadsInForm}
+use Rattle.read_runs.specs.ReadRuns.{ReadsFile, ReadsInForm}
 use Rattle.world_reads.proofs.ReadRecords.{HasCompoundCall, compound_call}
 use Rattle.world_reads.proofs.WholeArguments.{compound_whole}
 use Rattle.world_reads.proofs.ClientCompounds.{ops_in_form}
@@ -58,7 +58,7 @@ pub record IsReadInRange (at count : ℕ) : Type 0 where
 ops_fit : (m : MdsMessage) → HasCompoundRecord m → AllByRecursion (λ (op : Value argop4). Fits argop4 op) (mds_ops m.owner m.call)
 ops_fit m has = has.ops_fit.1.1.1
 
-pub read_in_range : (m : MdsMessage) → HasCompoundRecord m → (v : CompoundValue) → compound_with [] (mds_ops m.owner m.call) ≡ v → (file : FileId) (at count : ℕ) → Reads v file at count → IsReadInRange at count
+pub read_in_range : (m : MdsMessage) → HasCompoundRecord m → (v : CompoundValue) → compound_with [] (mds_ops m.owner m.call) ≡ v → (file : FileId) (at count : ℕ) → ReadsFile v file at count → IsReadInRange at count
 read_in_range m has v same file at count reads =
     let fit : AllByRecursion (λ (op : Value argop4). Fits argop4 op) v.ops.values = subst (λ (x : CompoundValue). AllByRecursion (λ (op : Value argop4). Fits argop4 op) x.ops.values) same (ops_fit m has) in
     let all = subst (λ (l : List (Value argop4)). AllByRecursion (λ (op : Value argop4). Fits argop4 op) l) reads.ops fit in

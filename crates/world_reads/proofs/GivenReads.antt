@@ -15,6 +15,7 @@ use Rattle.cluster_model.specs.Journal.{content_of}
 use Rattle.cluster_model.specs.Server.{ServerState}
 use Rattle.cluster_model.specs.GuardLaws.{IsTold}
 use Rattle.cluster_model.specs.DsCalls.{DsReplyValue, Read, Bytes, ds_step}
+use Rattle.cluster_model.specs.Members.{IsOneOf}
 use Rattle.world_rule.specs.ClusterWorlds.{ClusterState}
 use Rattle.ds_files.specs.Receive.{Outcome, outcome_of}
 use Rattle.ds_calls.specs.MadeCalls.{ds_rpc_call}
@@ -28,9 +29,8 @@ use Rattle.mds_rule.specs.FileOps.{read_length}
 use Rattle.mds_rule.specs.MdsStates.{MdsSend, CallsServer, CallsBack, Replies, Answers}
 use Rattle.mds_rule.specs.Spelled.{mds_name, spelled_send}
 use Rattle.mds_laws.specs.MdsRunLaws.{number_sent, FitsNumber}
-use Rattle.mds_laws.proofs.Lists.{In}
 use Rattle.mds_histories.specs.MdsHistory.{MdsItem, Comes, Sends, sends_in}
-use Rattle.node_histories.specs.Weaves.{WeaveStep, Seen, entries_in, items_in, HasPacket, IsSendingOf, StandsAt}
+use Rattle.node_histories.specs.Weaves.{WeaveStep, Seen, entries_in, items_in, HasPacket, IsSendingOf, StandsInWeave}
 use Rattle.node_histories.specs.NodeHistories.{AnswersArrival, is_client_entry, is_mds_entry, is_server_entry, is_world_entry, Origin, EnteredByClient, EnteredByMds, EnteredByServer, EnteredByWorld, SentByClient, SentByMds, SentByServer, IsToldByNodes}
 use Rattle.node_histories.proofs.WeaveLemmas.{entries_join, items_join}
 use Rattle.world_moves.proofs.ReplyRecords.{incoming_reply, reply_silent, silence, ReadsUnder, Passes, Reads, reads_under, RepliesUnder, NoReply, HasReply, replies_under}
@@ -151,7 +151,7 @@ module _ (same : (s : ServerState) (m : DsMessage) → IsProper s → HasRecord 
       split : part ≡ earlier ++ Seen (Sends send) (entry.Packet number Mds (Server k) asked) ∷ later
       inside : (z : List Entry) × (before ≡ entries_in earlier ++ z)
       spelled : spelled_send send ≡ (Server k, asked)
-      among : In send (sends_in (items_in t.mds.steps))
+      among : IsOneOf send (sends_in (items_in t.mds.steps))
       its_xid : number_sent send ≡ Some reply.xid
 
     asked_in : (part rest : Steps) → t.mds.steps ≡ part ++ rest → (front behind : List Entry) (number k : ℕ) (answer : List ℕ) (reply : RpcReply) → entries_in part ≡ front ++ behind → HasPacket front number (Server k) Mds answer
@@ -169,7 +169,7 @@ module _ (same : (s : ServerState) (m : DsMessage) → IsProper s → HasRecord 
         let there : entries_in part ≡ a.came.before ++ request ∷ (a.came.behind ++ more) = began ∙ (ap (λ (l : List Entry). l ++ more) a.came.split ∙ append_assoc a.came.before (request ∷ a.came.behind) more) in
         let s : SentIn w t part a.came.before a.number (Server k) a.asked = sent_in w t part rest whole a.came.before (a.came.behind ++ more) a.number (Server k) a.asked there in
         let items : items_in part ≡ items_in s.earlier ++ Sends s.send ∷ items_in s.later = ap (λ (l : Steps). items_in l) s.split ∙ items_join s.earlier (Seen (Sends s.send) request ∷ s.later) in
-        let inside : In s.send (sends_in (items_in t.mds.steps)) = part_sends part rest t.mds.steps whole s.send (in_sends (items_in part) (items_in s.earlier) (items_in s.later) s.send items) in
+        let inside : IsOneOf s.send (sends_in (items_in t.mds.steps)) = part_sends part rest t.mds.steps whole s.send (in_sends (items_in part) (items_in s.earlier) (items_in s.later) s.send items) in
         record {
           before = a.before;
           more = more;
@@ -206,13 +206,13 @@ module _ (same : (s : ServerState) (m : DsMessage) → IsProper s → HasRecord 
 
     module _ (a b rest : Steps) (whole : t.mds.steps ≡ (a ++ b) ++ rest) (at count : ℕ) (live : List MirrorId) (bytes : List ℕ) (g : runs.WasGiven (items_in a) (items_in b) at (read_length count) live bytes)
         (has : HasRecord (asks_mirror g.mirror at (read_length count) g.xid)) where
-      asks_among : In (sends_read g.mirror at (read_length count) g.xid) (sends_in (items_in t.mds.steps))
+      asks_among : IsOneOf (sends_read g.mirror at (read_length count) g.xid) (sends_in (items_in t.mds.steps))
       asks_among =
           let items : items_in (a ++ b) ≡ (items_in a ++ g.asked.before) ++ Sends (sends_read g.mirror at (read_length count) g.xid) ∷ g.behind =
           items_join a b ∙ (ap (λ (l : List MdsItem). items_in a ++ l) g.asked.split ∙ sym (append_assoc (items_in a) g.asked.before (Sends (sends_read g.mirror at (read_length count) g.xid) ∷ g.behind))) in
           part_sends (a ++ b) rest t.mds.steps whole (sends_read g.mirror at (read_length count) g.xid) (in_sends (items_in (a ++ b)) (items_in a ++ g.asked.before) g.behind (sends_read g.mirror at (read_length count) g.xid) items)
 
-      shown_by_asked : AskedIn (a ++ b) g.mirror.server g.answer g.reply → law.IsOneOf g.mirror live → (read : ReadCall) → at ≡ read.offset → count ≡ read.count → law.WasShown (entries_in a) (entries_in b) read live bytes
+      shown_by_asked : AskedIn (a ++ b) g.mirror.server g.answer g.reply → IsOneOf g.mirror live → (read : ReadCall) → at ≡ read.offset → count ≡ read.count → law.WasShown (entries_in a) (entries_in b) read live bytes
       shown_by_asked q one read offset few =
           let number : number_sent q.send ≡ Some g.xid = q.its_xid ∙ ap (λ (n : ℕ). Some n) g.number in
           let same_send : q.send ≡ sends_read g.mirror at (read_length count) g.xid = facts.once q.send (sends_read g.mirror at (read_length count) g.xid) g.xid q.among asks_among number refl in
@@ -243,7 +243,7 @@ module _ (same : (s : ServerState) (m : DsMessage) → IsProper s → HasRecord 
                 (subst (λ (n : ℕ). law.cut_of at n (shown_of (content_of (entries_in a ++ (entries_in later.0 ++ q.inside.0)) g.mirror).content) ≡ bytes) few there);
           }
 
-      pub shown_told : AllByRecursion IsToldStep (a ++ b) → law.IsOneOf g.mirror live → (read : ReadCall) → at ≡ read.offset → count ≡ read.count → law.WasShown (entries_in a) (entries_in b) read live bytes
+      pub shown_told : AllByRecursion IsToldStep (a ++ b) → IsOneOf g.mirror live → (read : ReadCall) → at ≡ read.offset → count ≡ read.count → law.WasShown (entries_in a) (entries_in b) read live bytes
       shown_told told one read offset few =
           let asked_then : List MdsItem = g.asked.before ++ Sends (sends_read g.mirror at (read_length count) g.xid) ∷ g.until in
           let coming : MdsItem = Comes (hearing g.now (Server g.mirror.server) g.answer) in

@@ -5,6 +5,7 @@ use Rattle.cluster_model.specs.declared.ids.NodeId.TheVariants.{Mds, Server, Cli
 use Rattle.cluster_model.specs.declared.entry.Entry.{Entry}
 use Rattle.cluster_model.specs.declared.entry.Entry.TheVariants as entry
 use Rattle.rpc_record.specs.Replies.{RpcReply, reply_bytes}
+use Rattle.cluster_model.specs.Members.{IsOneOf}
 use Rattle.mds_calls.specs.MdsCalls.{MdsCallValue}
 use Rattle.mds_calls.specs.MdsCompounds.{mds_call_bytes}
 use Rattle.mds_calls.specs.MdsCallLaws.{HasCompoundRecord}
@@ -13,8 +14,8 @@ use Rattle.client_state.specs.ClientSends.{ClientSend, CallsServer, CallsMds, Re
 use Rattle.client_laws.specs.ClientHistory.{ClientInput, HistoryItem, Sends, HasItem, Each, client_history, client_after}
 use Rattle.client_laws.proofs.Orders.{in_more}
 use Rattle.client_records.specs.ClientRecords.{NumbersOn, WasAskedAs, IsNumberedOn, EachRunIsSpelled, EachRunIsNumbered}
-use Rattle.node_histories.specs.Weaves.{WeaveStep, Seen, items_in, AreWoven, StandsAt}
-use Rattle.node_histories.specs.ClientLives.{client_shown, Life, start_of, client_of, IsOneOf, AreLives}
+use Rattle.node_histories.specs.Weaves.{WeaveStep, Seen, items_in, AreWoven, StandsInWeave}
+use Rattle.node_histories.specs.ClientLives.{client_shown, Life, start_of, client_of, AreLives}
 use Rattle.node_histories.proofs.WeaveLemmas.{items_join, IsSeenAt, seen_at}
 use Rattle.world_journal.specs.Journal.{IsJournalInRange}
 use Rattle.world_reads.proofs.SilentClients.{AsksNone, StaysSilent, stays_silent}
@@ -68,7 +69,7 @@ module _ (spelled : EachRunIsSpelled) (numbered : EachRunIsNumbered) (journal : 
       asks_so k inside bytes xid was.name was.call
       (subst (λ (l : List HistoryItem). HasItem l (compound xid was.name was.call)) (sym items) (in_more (compound xid was.name was.call ∷ []) (items_in earlier) (again ∷ items_in later) was.sent)) (is ∙ was.same)
 
-  pub client_record : (k : Life) → Lives k → (past : List Entry) (number : ℕ) (bytes : List ℕ) (send : ClientSend) → StandsAt k.begun k.steps past (Sends send) (entry.Packet number (Client n) Mds bytes) → ClientRecord Lives bytes
+  pub client_record : (k : Life) → Lives k → (past : List Entry) (number : ℕ) (bytes : List ℕ) (send : ClientSend) → StandsInWeave k.begun k.steps past (Sends send) (entry.Packet number (Client n) Mds bytes) → ClientRecord Lives bytes
   client_record k inside past number bytes send s =
       let f = facts k inside in
       let packet : Entry = entry.Packet number (Client n) Mds bytes in

@@ -6,6 +6,7 @@ use Rattle.cluster_model.specs.declared.ids.NodeId.{NodeId}
 use Rattle.cluster_model.specs.declared.ids.NodeId.TheVariants.{Client}
 use Rattle.cluster_model.specs.declared.entry.Entry.{Entry}
 use Rattle.cluster_model.specs.declared.entry.Entry.TheVariants as entry
+use Rattle.rpc_record.specs.CallNumbers.{IsBelow}
 use Rattle.cluster_laws.proofs.Lists.{all_split}
 use Rattle.mds_calls.specs.MdsCalls.{MdsCallValue}
 use Rattle.client_state.specs.declared.request.UserRequest.TheVariants.{Open, Write, Through, Commit, Read, Return}
@@ -14,7 +15,7 @@ use Rattle.client_state.specs.ClientSends.{ClientSend, CallsMds}
 use Rattle.client_calls.specs.ClientLaws.{new_number}
 use Rattle.client_laws.specs.ClientHistory.{ClientInput, Requested, Recorded, TimeoutOf, Ticked, LeftProtocol, Strayed, input_step, HistoryItem, Hears, Enters, Sends, entered, sent, HasItem, Each, client_history}
 use Rattle.client_laws.proofs.Orders.{in_more, in_end}
-use Rattle.client_records.specs.ClientRecords.{AreBytes, IsInputInRange, HasSpelling, SendsSpelled, IsBelow, CallsAreBelow, IsNextNumber, NumbersOn, EachRunIsSpelled, EachRunIsNumbered}
+use Rattle.client_records.specs.ClientRecords.{AreBytes, IsInputInRange, HasSpelling, SendsSpelled, CallsAreBelow, IsNextNumber, NumbersOn, EachRunIsSpelled, EachRunIsNumbered}
 use Rattle.node_histories.specs.Weaves.{IsUnseen, WeaveStep, Passes, Unseen, Seen, entries_in, items_in, HasPacket, IsShownAs, AreWoven}
 use Rattle.node_histories.specs.ClientLives.{client_shown, Life, start_of}
 use Rattle.node_histories.specs.NodeHistories.{IsInputOfScript}

@@ -8,9 +8,9 @@ use Rattle.cluster_model.specs.declared.ids.MirrorId.{MirrorId}
 use Rattle.cluster_model.specs.declared.entry.Entry.{Entry}
 use Rattle.cluster_model.specs.declared.entry.Entry.TheVariants as entry
 use Rattle.cluster_model.specs.Journal.{is_mirror}
+use Rattle.cluster_model.specs.Members.{IsOneOf}
 use Rattle.cluster_laws.specs.FenceLaw.{is_file, swapped_in, first_free, changed_live, live_after, live_by, live_in}
 use Rattle.cluster_laws.proofs.Lists.{all_append}
-use Rattle.mds_laws.proofs.Lists.{In}
 use Rattle.world_journal.specs.Journal.{IsEntryInRange, IsJournalInRange}
 
 abbrev Fits : MirrorId → Type 0
@@ -51,10 +51,10 @@ by_fit : (f : FileId) (x : Option (List MirrorId)) (entries : List Entry) → Al
 by_fit f x [] range i = i
 by_fit f x (e ∷ entries) range i = by_fit f (live_after f x e) entries range.1 (after_fit f x e range.0 i)
 
-all_of : (m : MirrorId) (live : List MirrorId) → AllByRecursion Fits live → In m live → m.fileid < 2 ^ 64
+all_of : (m : MirrorId) (live : List MirrorId) → AllByRecursion Fits live → IsOneOf m live → m.fileid < 2 ^ 64
 all_of m [] all inside = absurd inside
 all_of m (k ∷ live) all (inl same) = subst Fits (sym same) all.0
 all_of m (k ∷ live) all (inr inside) = all_of m live all.1 inside
 
-pub live_fits : (f : FileId) (entries : List Entry) → IsJournalInRange entries → (live : List MirrorId) → live_in entries f ≡ Some live → (m : MirrorId) → In m live → m.fileid < 2 ^ 64
+pub live_fits : (f : FileId) (entries : List Entry) → IsJournalInRange entries → (live : List MirrorId) → live_in entries f ≡ Some live → (m : MirrorId) → IsOneOf m live → m.fileid < 2 ^ 64
 live_fits f entries range live is m inside = all_of m live (subst AreFit is (by_fit f None entries range tt)) inside

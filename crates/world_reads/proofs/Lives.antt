@@ -7,6 +7,7 @@ use Rattle.cluster_model.specs.declared.ids.NodeId.{NodeId}
 use Rattle.cluster_model.specs.declared.ids.NodeId.TheVariants.{Client}
 use Rattle.cluster_model.specs.declared.entry.Entry.{Entry}
 use Rattle.cluster_model.specs.declared.entry.Entry.TheVariants as entry
+use Rattle.cluster_model.specs.Members.{IsOneOf}
 use Rattle.cluster_laws.proofs.Lists.{all_split}
 use Rattle.world_rule.specs.Machines.{nth}
 use Rattle.client_state.specs.declared.request.UserRequest.{UserRequest}
@@ -16,7 +17,7 @@ use Rattle.client_state.specs.ClientSends.{ClientSend}
 use Rattle.client_laws.specs.ClientHistory.{ClientInput, Requested, Recorded, TimeoutOf, Ticked, LeftProtocol, Strayed, input_step, HistoryItem, Hears, Enters, Sends, entered, sent, HasItem, Each, client_history}
 use Rattle.client_records.specs.ClientRecords.{AreBytes, IsRequestInRange, IsInputInRange, HasSpelling, SendsSpelled, IsNumberedOn, EachRunIsSpelled, EachRunIsNumbered}
 use Rattle.node_histories.specs.Weaves.{IsUnseen, IsArrival, WeaveStep, Passes, Unseen, Seen, entries_in, items_in, HasPacket, IsShownAs, AreWoven}
-use Rattle.node_histories.specs.ClientLives.{client_shown, Life, start_of, client_of, journal_of, IsLife, Restarts, IsFirst, IsOneOf, AreLives}
+use Rattle.node_histories.specs.ClientLives.{client_shown, Life, start_of, client_of, journal_of, IsLife, Restarts, IsFirst, AreLives}
 use Rattle.node_histories.specs.NodeHistories.{ClientStory, IsClientStory, AreClientStories, IsRequestOfScript, IsInputOfScript, LivesOfScript, HasLife}
 use Rattle.node_histories.proofs.Stories.{AreOfScript, at_number, count_from_1}
 use Rattle.world_journal.specs.Journal.{IsEntryInRange}

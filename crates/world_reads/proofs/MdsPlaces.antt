@@ -5,14 +5,14 @@ use Rattle.cluster_model.specs.declared.ids.NodeId.{NodeId}
 use Rattle.cluster_model.specs.declared.ids.NodeId.TheVariants.{Mds, Server, Client}
 use Rattle.cluster_model.specs.declared.entry.Entry.{Entry}
 use Rattle.cluster_model.specs.declared.entry.Entry.TheVariants as entry
+use Rattle.cluster_model.specs.Members.{IsOneOf}
 use Rattle.cluster_laws.proofs.Lists.{all_split}
 use Rattle.world_rule.specs.ClusterWorlds.{ClusterState}
 use Rattle.mds_rule.specs.MdsStates.{MdsSend}
 use Rattle.mds_rule.specs.Spelled.{spelled_send}
 use Rattle.mds_laws.specs.MdsRuns.{MdsEvent, Hears}
-use Rattle.mds_laws.proofs.Lists.{In}
 use Rattle.mds_histories.specs.MdsHistory.{MdsItem, Comes, Enters, Sends, sends_in}
-use Rattle.node_histories.specs.Weaves.{ItemShown, IsUnseen, IsArrival, IsEntry, IsSending, WeaveStep, Passes, Unseen, Seen, entries_in, items_in, HasPacket, IsSendingOf, IsShownAs, AreWoven, StandsAt}
+use Rattle.node_histories.specs.Weaves.{ItemShown, IsUnseen, IsArrival, IsEntry, IsSending, WeaveStep, Passes, Unseen, Seen, entries_in, items_in, HasPacket, IsSendingOf, IsShownAs, AreWoven, StandsInWeave}
 use Rattle.node_histories.specs.NodeHistories.{mds_shown, is_client_entry, is_mds_entry, is_server_entry, is_world_entry, Origin, EnteredByClient, EnteredByMds, EnteredByServer, EnteredByWorld, SentByClient, SentByMds, SentByServer, IsToldByNodes}
 use Rattle.node_histories.proofs.WeaveLemmas.{IsPlaced, OfItem, OfOthers, is_placed, IsSeenAt, seen_at, items_join}
 use Rattle.world_reads.proofs.Steps.{HasItemIn, ItemStep, item_step, HasEntry, SamePlace, same_place}
@@ -157,7 +157,7 @@ module _ (w : ClusterState) (t : IsToldByNodes w) where
 
   record HasSend (past : List Entry) (number : ℕ) (to : NodeId) (bytes : List ℕ) : Type 0 where
     send : MdsSend
-    stands : StandsAt [] t.mds.steps past (Sends send) (entry.Packet number Mds to bytes)
+    stands : StandsInWeave [] t.mds.steps past (Sends send) (entry.Packet number Mds to bytes)
 
   send_of : (past : List Entry) (number : ℕ) (to : NodeId) (bytes : List ℕ) (e : Entry) → e ≡ entry.Packet number Mds to bytes → Origin t.stories t.mds past e → HasSend past number to bytes
   send_of past number to bytes e is (EnteredByClient n l life kind stands) = no_true (subst (λ (x : Entry). is_client_entry x ≡ true) is kind)
@@ -165,7 +165,7 @@ module _ (w : ClusterState) (t : IsToldByNodes w) where
   send_of past number to bytes e is (EnteredByServer kind) = no_true (subst (λ (x : Entry). is_server_entry x ≡ true) is kind)
   send_of past number to bytes e is (EnteredByWorld kind) = no_true (subst (λ (x : Entry). is_world_entry x ≡ true) is kind)
   send_of past number to bytes e is (SentByClient n other at sent l send same life stands) = no_true (subst (λ (x : Entry). is_own x ≡ true) (sym is ∙ same) refl)
-  send_of past number to bytes e is (SentByMds other at sent send same stands) = record { send = send; stands = subst (λ (x : Entry). StandsAt [] t.mds.steps past (Sends send) x) is stands }
+  send_of past number to bytes e is (SentByMds other at sent send same stands) = record { send = send; stands = subst (λ (x : Entry). StandsInWeave [] t.mds.steps past (Sends send) x) is stands }
   send_of past number to bytes e is (SentByServer n other at sent same answers) = no_true (subst (λ (x : Entry). is_own x ≡ true) (sym is ∙ same) refl)
 
   sent_behind : (part rest : Steps) → t.mds.steps ≡ part ++ rest → (past : List Entry) (number : ℕ) (to : NodeId) (bytes : List ℕ) (h : HasSend past number to bytes) (earlier later : Steps) (s : WeaveStep MdsItem)
@@ -201,10 +201,10 @@ module _ (w : ClusterState) (t : IsToldByNodes w) where
       by_place (OfOthers earlier later split place) = step_is earlier later (Passes packet) split place tt
 
 -- a send that stands in a part is one of its sends
-pub in_sends : (items : List MdsItem) (before behind : List MdsItem) (send : MdsSend) → items ≡ before ++ Sends send ∷ behind → In send (sends_in items)
-in_sends items before behind send is = subst (λ (l : List MdsItem). In send (sends_in l)) (sym is) (there before)
+pub in_sends : (items : List MdsItem) (before behind : List MdsItem) (send : MdsSend) → items ≡ before ++ Sends send ∷ behind → IsOneOf send (sends_in items)
+in_sends items before behind send is = subst (λ (l : List MdsItem). IsOneOf send (sends_in l)) (sym is) (there before)
   where
-    there : (l : List MdsItem) → In send (sends_in (l ++ Sends send ∷ behind))
+    there : (l : List MdsItem) → IsOneOf send (sends_in (l ++ Sends send ∷ behind))
     there [] = inl refl
     there (Comes event ∷ l) = there l
     there (Enters e ∷ l) = there l

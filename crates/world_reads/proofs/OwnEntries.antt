@@ -13,7 +13,7 @@ use Rattle.mds_rule.specs.Spelled.{spelled_send}
 use Rattle.mds_laws.specs.MdsRuns.{MdsInput, MdsEvent, Hears, IsTimedOut, Ticks, RecallsFile, Resilvers}
 use Rattle.mds_histories.specs.MdsHistory.{MdsItem, Comes, Enters, Sends}
 use Rattle.mds_histories.specs.MdsHistory as of_mds
-use Rattle.node_histories.specs.Weaves.{ItemShown, IsUnseen, IsEntry, WeaveStep, Passes, Unseen, Seen, entries_in, items_in, IsSendingOf, IsShownAs, AreWoven, StandsAt}
+use Rattle.node_histories.specs.Weaves.{ItemShown, IsUnseen, IsEntry, WeaveStep, Passes, Unseen, Seen, entries_in, items_in, IsSendingOf, IsShownAs, AreWoven, StandsInWeave}
 use Rattle.node_histories.specs.NodeHistories.{input_shown, mds_shown, is_client_entry, is_server_entry, is_world_entry, Origin, EnteredByClient, EnteredByMds, EnteredByServer, EnteredByWorld, SentByClient, SentByMds, SentByServer, IsToldByNodes}
 use Rattle.node_histories.proofs.WeaveLemmas.{entries_join, IsSeenAt, seen_at}
 use Rattle.read_runs.specs.ReadRuns as runs
@@ -107,7 +107,7 @@ module _ (w : ClusterState) (t : IsToldByNodes w) where
       passes_not : (item : MdsItem) → Passes e ≡ Seen item e → ⊥
       passes_not item same = absurd cc
 
-      seen_there : (item : MdsItem) → StandsAt [] t.mds.steps (entries_in a) item e → ⊥
+      seen_there : (item : MdsItem) → StandsInWeave [] t.mds.steps (entries_in a) item e → ⊥
       seen_there item s =
           let same : SamePlace a b s.earlier s.later (Passes e) (Seen item e) = same_place a b s.earlier s.later (Passes e) (Seen item e) (sym is ∙ s.split) s.place tt tt in
           passes_not item same.step
@@ -180,11 +180,11 @@ sending_swap : (f : FileId) (to : NodeId) (bytes : List ℕ) (e : Entry) → IsS
 sending_swap f to bytes (entry.Packet number from at sent) is = tt
 sending_swap f to bytes e is = absurd is
 
-entered_swap : (f : FileId) (e : Entry) → runs.IsNoSwapOf f (Enters e) → law.IsNoSwapOf f e
+entered_swap : (f : FileId) (e : Entry) → runs.EntersNoSwapOf f (Enters e) → law.IsNoSwapOf f e
 entered_swap f (entry.Swapped other old new) none = none
 entered_swap f e none = tt
 
-pub no_swaps : (f : FileId) (steps : List (WeaveStep MdsItem)) → AllByRecursion IsToldStep steps → AllByRecursion (runs.IsNoSwapOf f) (items_in steps) → AllByRecursion (law.IsNoSwapOf f) (entries_in steps)
+pub no_swaps : (f : FileId) (steps : List (WeaveStep MdsItem)) → AllByRecursion IsToldStep steps → AllByRecursion (runs.EntersNoSwapOf f) (items_in steps) → AllByRecursion (law.IsNoSwapOf f) (entries_in steps)
 no_swaps f [] told none = tt
 no_swaps f (Passes e ∷ steps) told none = (other_swap f e told.0, no_swaps f steps told.1 none)
 no_swaps f (Unseen item ∷ steps) told none = no_swaps f steps told.1 none.1

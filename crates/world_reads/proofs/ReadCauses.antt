@@ -16,12 +16,12 @@ use Rattle.cluster_laws.specs.FenceLaw.{live_in}
 use Rattle.world_rule.specs.ClusterWorlds.{ClusterState}
 use Rattle.compound_reply.specs.Replied.{success_reply}
 use Rattle.cluster_model.specs.Server.{ServerState}
+use Rattle.cluster_model.specs.Members.{IsOneOf}
 use Rattle.proper_servers.specs.ProperServers.{IsProper}
 use Rattle.same_server.specs.SameServer.{DoesTheCall}
 use Rattle.ds_calls.specs.DsCallLaws.{DsMessage, HasRecord, IsUnderstood}
 use Rattle.mds_rule.specs.FileOps.{read_length}
 use Rattle.mds_rule.specs.MdsStates.{MdsSend, Replies}
-use Rattle.mds_laws.proofs.Lists.{In}
 use Rattle.mds_histories.specs.MdsHistory.{MdsItem, Enters, Sends, sends_in}
 use Rattle.nfs4_types.specs.Handles.{file_handle_of}
 use Rattle.node_histories.specs.Weaves.{WeaveStep, Seen, entries_in, items_in}
@@ -75,23 +75,13 @@ handle_some file =
 
 -- ---- what failed
 
-one_of : (m : MirrorId) (live : List MirrorId) → In m live → law.IsOneOf m live
-one_of m [] inside = inside
-one_of m (k ∷ live) (inl same) = inl same
-one_of m (k ∷ live) (inr inside) = inr (one_of m live inside)
-
-of_one : (m : MirrorId) (live : List MirrorId) → law.IsOneOf m live → In m live
-of_one m [] inside = inside
-of_one m (k ∷ live) (inl same) = inl same
-of_one m (k ∷ live) (inr inside) = inr (of_one m live inside)
-
 module _ (w : ClusterState) (t : IsToldByNodes w) (range : IsJournalInRange w.journal) (facts : StoryFacts t.mds) (understood : (m : DsMessage) → IsUnderstood m) where
   module _ (a b rest : Steps) (whole : t.mds.steps ≡ (a ++ b) ++ rest) (at count : ℕ) (offset : at < 2 ^ 64) (file : FileId) (live : List MirrorId) (then_live : live_in (entries_in a) file ≡ Some live) where
     told_part : AllByRecursion IsToldStep (a ++ b)
     told_part = all_first IsToldStep (a ++ b) rest (subst (λ (l : Steps). AllByRecursion IsToldStep l) whole (all_told w t))
 
     -- a READ of a live mirror has a record
-    read_speaks : (m : MirrorId) → In m live → (xid : ℕ) (behind : List MdsItem) (since : List MdsItem) → (earlier later : List MdsItem) → items_in b ≡ earlier ++ (since ++ later) → runs.WasAsked (items_in a) since m at (read_length count) xid behind
+    read_speaks : (m : MirrorId) → IsOneOf m live → (xid : ℕ) (behind : List MdsItem) (since : List MdsItem) → (earlier later : List MdsItem) → items_in b ≡ earlier ++ (since ++ later) → runs.WasAsked (items_in a) since m at (read_length count) xid behind
         → HasRecord (asks_mirror m at (read_length count) xid)
     read_speaks m inside xid behind since earlier later is asked =
         let asks : MdsSend = sends_read m at (read_length count) xid in
@@ -99,7 +89,7 @@ module _ (w : ClusterState) (t : IsToldByNodes w) (range : IsJournalInRange w.jo
         is ∙ (ap (λ (l : List MdsItem). earlier ++ (l ++ later)) asked.split ∙ (ap (λ (l : List MdsItem). earlier ++ l) (append_assoc asked.before (Sends asks ∷ behind) later) ∙ sym (append_assoc earlier asked.before (Sends asks ∷ (behind ++ later))))) in
         let items : items_in (a ++ b) ≡ (items_in a ++ (earlier ++ asked.before)) ++ Sends asks ∷ (behind ++ later) =
         items_join a b ∙ (ap (λ (l : List MdsItem). items_in a ++ l) in_since ∙ sym (append_assoc (items_in a) (earlier ++ asked.before) (Sends asks ∷ (behind ++ later)))) in
-        let among : In asks (sends_in (items_in t.mds.steps)) = part_sends (a ++ b) rest t.mds.steps whole asks (in_sends (items_in (a ++ b)) (items_in a ++ (earlier ++ asked.before)) (behind ++ later) asks items) in
+        let among : IsOneOf asks (sends_in (items_in t.mds.steps)) = part_sends (a ++ b) rest t.mds.steps whole asks (in_sends (items_in (a ++ b)) (items_in a ++ (earlier ++ asked.before)) (behind ++ later) asks items) in
         let fits : m.fileid < 2 ^ 64 = live_fits file (entries_in a) live_range live then_live m inside in
         read_has_record m at count xid fits offset (facts.fits asks among)
       where
@@ -107,7 +97,7 @@ module _ (w : ClusterState) (t : IsToldByNodes w) (range : IsJournalInRange w.jo
         live_range = all_first IsEntryInRange (entries_in a) (entries_in (b ++ rest)) (subst IsJournalInRange (journal_at w t a (b ++ rest) (whole ∙ append_assoc a b rest)) range)
 
     -- a mirror that failed
-    failed_told : (read : ReadCall) → at ≡ read.offset → (m : MirrorId) → In m live → runs.HasFailedRead (items_in a) (items_in b) at (read_length count) m → law.HasFailed (entries_in a) (entries_in b) file read m
+    failed_told : (read : ReadCall) → at ≡ read.offset → (m : MirrorId) → IsOneOf m live → runs.HasFailedRead (items_in a) (items_in b) at (read_length count) m → law.HasFailed (entries_in a) (entries_in b) file read m
     failed_told read same m inside f =
         let e : Entry = entry.Failed m f.xid in
         let s : EnteredAt b f.before e f.behind = entered_at b f.before e f.behind (all_second IsToldStep a b told_part) f.split in
@@ -125,5 +115,5 @@ module _ (w : ClusterState) (t : IsToldByNodes w) (range : IsJournalInRange w.jo
       cause_told read offset_is count_is status bytes (inl done) =
           let g : runs.WasGiven (items_in a) (items_in b) at (read_length count) live bytes = done.1 in
           let has : HasRecord (asks_mirror g.mirror at (read_length count) g.xid) = read_speaks g.mirror g.live_then g.xid g.behind (items_in b) [] [] (sym (append-nil (items_in b))) g.asked in
-          inl (done.0, shown_told same w t facts a b rest whole at count live bytes g has told_part (one_of g.mirror live g.live_then) read offset_is count_is)
-      cause_told read offset_is count_is status bytes (inr failed) = inr (failed.0, λ m one. failed_told read offset_is m (of_one m live one) (failed.1 m (of_one m live one)))
+          inl (done.0, shown_told same w t facts a b rest whole at count live bytes g has told_part g.live_then read offset_is count_is)
+      cause_told read offset_is count_is status bytes (inr failed) = inr (failed.0, λ m one. failed_told read offset_is m one (failed.1 m one))

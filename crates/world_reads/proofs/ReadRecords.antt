@@ -19,7 +19,7 @@ use Rattle.nfs4_compound.specs.Args.{argop4}
 use Rattle.nfs4_compound.specs.Operations.{rest_of_stop}
 use Rattle.nfs4_compound.specs.Compounds.{CompoundValue, compound_at}
 use Rattle.mds_receive.specs.MdsReceive.{IncomingValue, IsCompound, walked, counted, with_head, asked, dispatched, of_reply, with_call, incoming_of}
-use Rattle.read_runs.specs.ReadRuns.{Reads}
+use Rattle.read_runs.specs.ReadRuns.{ReadsFile}
 use Rattle.ff_laws.specs.declared.read_call.ReadCall.{ReadCall}
 use Rattle.ff_laws.specs.ReadCalls.{is_of_nfs, handle_number, read_by, in_ops, nfs4_read, nfs4_read_of, with_nfs4_call, client_read_of}
 
@@ -109,7 +109,7 @@ three : (xid : ℕ) (sequence : Value sequence4_args) (handle : List ℕ) (state
     → in_ops xid (arm 53 argop4 sequence ∷ arm 22 argop4 handle ∷ arm 25 argop4 (stateid, (at, count)) ∷ []) (stop.End None) ≡ read_by xid (handle_number handle) at count
 three xid sequence handle stateid at count = refl
 
-pub compound_reads : (bytes : List ℕ) (xid : ℕ) (v : CompoundValue) (file : FileId) (at count : ℕ) → incoming_of bytes ≡ IsCompound xid v → Reads v file at count
+pub compound_reads : (bytes : List ℕ) (xid : ℕ) (v : CompoundValue) (file : FileId) (at count : ℕ) → incoming_of bytes ≡ IsCompound xid v → ReadsFile v file at count
     → client_read_of bytes ≡ read_by xid (handle_number (file_handle_of file.0)) at count
 compound_reads bytes xid v file at count is reads =
     let c = compound_call bytes xid v is in

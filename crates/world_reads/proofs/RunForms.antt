@@ -6,6 +6,8 @@ use Rattle.std.proofs.lemmas.Bool.{cond_both}
 use Rattle.cluster_model.specs.declared.ids.NodeId.TheVariants.{Server}
 use Rattle.cluster_model.specs.declared.ids.FileId.{FileId}
 use Rattle.cluster_model.specs.declared.entry.Entry.{Entry}
+use Rattle.cluster_model.specs.Members.{IsOneOf}
+use Rattle.rpc_record.specs.CallNumbers.{IsBelow}
 use Rattle.device_addr.specs.Universal.{AddressValue}
 use Rattle.file_rule.specs.FilePhases.{Answers as IsAnswer, TimesOut, Sees, phase}
 use Rattle.file_rule.specs.MdsFiles.{FileStep}
@@ -16,8 +18,8 @@ use Rattle.mds_rule.specs.MdsStates.{ServedFile, MdsSend, CallsServer, CallsBack
 use Rattle.mds_rule.specs.declared.waiter.Waiter.TheVariants.{ForFile, ForRead, ForWrite, ForRecall}
 use Rattle.mds_rule.specs.ServedFiles.{is_period_end, file_behind, file_stepped}
 use Rattle.mds_laws.specs.MdsRuns.{MdsEvent, mds_run}
-use Rattle.mds_laws.specs.MdsRunLaws.{number_sent, IsBelow, AreBelow, IsNewOrAgain, IsNew, IsAgain, NumbersAscend}
-use Rattle.mds_laws.proofs.Lists.{In, AllOf, all_push, all_in}
+use Rattle.mds_laws.specs.MdsRunLaws.{number_sent, AreBelow, IsNewOrAgain, IsNew, IsAgain, NumbersAscend}
+use Rattle.mds_laws.proofs.Lists.{AllOf, all_push, all_in}
 use Rattle.mds_laws.proofs.Keeping.{Cases, HeardAny}
 use Rattle.mds_laws.proofs.Numbers.{WereSent, sent_more, sent_with, sent_without}
 use Rattle.mds_laws.proofs.GoesWalk.{in_each_run}
@@ -85,38 +87,38 @@ module _ (mirrors : ℕ) where
 -- ---- two calls under one number are one
 
 abbrev pub AreOnce : List MdsSend → Type 0
-AreOnce ss = (a b : MdsSend) (xid : ℕ) → In a ss → In b ss → number_sent a ≡ Some xid → number_sent b ≡ Some xid → a ≡ b
+AreOnce ss = (a b : MdsSend) (xid : ℕ) → IsOneOf a ss → IsOneOf b ss → number_sent a ≡ Some xid → number_sent b ≡ Some xid → a ≡ b
 
-not_below : (xid : ℕ) (ss : List MdsSend) (a : MdsSend) → AreBelow xid ss → In a ss → number_sent a ≡ Some xid → ⊥
+not_below : (xid : ℕ) (ss : List MdsSend) (a : MdsSend) → AreBelow xid ss → IsOneOf a ss → number_sent a ≡ Some xid → ⊥
 not_below xid [] a below inside is = absurd inside
 not_below xid (s ∷ ss) a below (inl same) is =
     let less : IsBelow xid (Some xid) = subst (IsBelow xid) (ap number_sent (sym same) ∙ is) below.0 in
     absurd (omega (arith, less))
 not_below xid (s ∷ ss) a below (inr inside) is = not_below xid ss a below.1 inside is
 
-in_either : (a : MdsSend) (p : List MdsSend) (s : MdsSend) → In a (p ++ s ∷ []) → In a p ⊎ (a ≡ s)
+in_either : (a : MdsSend) (p : List MdsSend) (s : MdsSend) → IsOneOf a (p ++ s ∷ []) → IsOneOf a p ⊎ (a ≡ s)
 in_either a [] s (inl same) = inr same
 in_either a [] s (inr none) = absurd none
 in_either a (x ∷ p) s (inl same) = inl (inl same)
 in_either a (x ∷ p) s (inr inside) = further (in_either a p s inside)
   where
-    further : In a p ⊎ (a ≡ s) → In a (x ∷ p) ⊎ (a ≡ s)
+    further : IsOneOf a p ⊎ (a ≡ s) → IsOneOf a (x ∷ p) ⊎ (a ≡ s)
     further (inl old) = inl (inr old)
     further (inr new) = inr new
 
-in_middle : (front behind : List MdsSend) (s : MdsSend) → In s (front ++ s ∷ behind)
+in_middle : (front behind : List MdsSend) (s : MdsSend) → IsOneOf s (front ++ s ∷ behind)
 in_middle [] behind s = inl refl
 in_middle (x ∷ front) behind s = inr (in_middle front behind s)
 
 -- the last and one before it
-last_once : (p : List MdsSend) (s a : MdsSend) (xid : ℕ) → AreOnce p → IsNewOrAgain p s xid → In a p → number_sent a ≡ Some xid → number_sent s ≡ Some xid → a ≡ s
+last_once : (p : List MdsSend) (s a : MdsSend) (xid : ℕ) → AreOnce p → IsNewOrAgain p s xid → IsOneOf a p → number_sent a ≡ Some xid → number_sent s ≡ Some xid → a ≡ s
 last_once p s a xid once (IsNew below) inside first second = absurd (not_below xid p a below inside first)
-last_once p s a xid once (IsAgain front behind is) inside first second = once a s xid inside (subst (λ (l : List MdsSend). In s l) (sym is) (in_middle front behind s)) first second
+last_once p s a xid once (IsAgain front behind is) inside first second = once a s xid inside (subst (λ (l : List MdsSend). IsOneOf s l) (sym is) (in_middle front behind s)) first second
 
 one_more : (p : List MdsSend) (s : MdsSend) → ((xid : ℕ) → number_sent s ≡ Some xid → IsNewOrAgain p s xid) → AreOnce p → AreOnce (p ++ s ∷ [])
 one_more p s new once a b xid first second na nb = by_places (in_either a p s first) (in_either b p s second)
   where
-    by_places : In a p ⊎ (a ≡ s) → In b p ⊎ (b ≡ s) → a ≡ b
+    by_places : IsOneOf a p ⊎ (a ≡ s) → IsOneOf b p ⊎ (b ≡ s) → a ≡ b
     by_places (inl x) (inl y) = once a b xid x y na nb
     by_places (inl x) (inr y) = let nb' : number_sent s ≡ Some xid = ap number_sent (sym y) ∙ nb in last_once p s a xid once (new xid nb') x na nb' ∙ sym y
     by_places (inr x) (inl y) = let na' : number_sent s ≡ Some xid = ap number_sent (sym x) ∙ na in x ∙ sym (last_once p s b xid once (new xid na') y nb na')

@@ -10,13 +10,14 @@ use Rattle.rpc_record.specs.Calls.{RpcCall, call_body, call_bytes, call_at, word
 use Rattle.rpc_record.specs.Replies.{RpcReply, reply_bytes}
 use Rattle.rpc_record.proofs.CallLaws.{Kind, Cut, Other, Headless, Stranger, Ours, kind_of}
 use Rattle.cluster_model.specs.declared.ids.NodeId.{NodeId}
+use Rattle.cluster_model.specs.Members.{IsOneOf}
 use Rattle.ds_calls.specs.MadeCalls.{ds_rpc_call}
 use Rattle.recall_calls.specs.RecallCalls.{recall_rpc_call}
 use Rattle.mds_rule.specs.MdsStates.{MdsSend, CallsServer, CallsBack, Replies, Answers, new_mds}
 use Rattle.mds_rule.specs.Spelled.{mds_name, spelled_send}
 use Rattle.mds_laws.specs.MdsRuns.{mds_run}
 use Rattle.mds_laws.specs.MdsRunLaws.{number_sent, FitsNumber, NumbersAscend, NumbersFit}
-use Rattle.mds_laws.proofs.Lists.{In, Split, split_in, AllOf, all_in}
+use Rattle.mds_laws.proofs.Lists.{Split, split_in, AllOf, all_in}
 use Rattle.mds_histories.specs.MdsHistory.{MdsItem, sends_in, mds_history}
 use Rattle.mds_histories.proofs.Histories.{sends_of_run}
 use Rattle.node_histories.specs.Weaves.{items_in}
@@ -81,8 +82,8 @@ sent_number (Answers node record_bytes) bytes same form fits c is = absurd (repl
 pub record StoryFacts (s : MdsStory) : Type 0 where
   pub mirrors : (mds_run s.servers s.mirrors s.events).mds.mirrors ≡ s.mirrors
   pub once : AreOnce (sends_in (items_in s.steps))
-  pub form : (send : MdsSend) → In send (sends_in (items_in s.steps)) → IsAnswerForm send
-  pub fits : (send : MdsSend) → In send (sends_in (items_in s.steps)) → FitsNumber (number_sent send)
+  pub form : (send : MdsSend) → IsOneOf send (sends_in (items_in s.steps)) → IsAnswerForm send
+  pub fits : (send : MdsSend) → IsOneOf send (sends_in (items_in s.steps)) → FitsNumber (number_sent send)
 
 pub story_facts : (w : ClusterState) (t : IsToldByNodes w) → NumbersAscend t.mds.servers t.mds.mirrors t.mds.events → NumbersFit t.mds.servers t.mds.mirrors t.mds.events → StoryFacts t.mds
 story_facts w t ascend fit =

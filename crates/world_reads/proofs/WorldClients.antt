@@ -8,6 +8,7 @@ use Rattle.cluster_model.specs.declared.ids.NodeId.{NodeId}
 use Rattle.cluster_model.specs.declared.ids.NodeId.TheVariants.{Mds, Server, Client}
 use Rattle.cluster_model.specs.declared.entry.Entry.{Entry}
 use Rattle.cluster_model.specs.declared.entry.Entry.TheVariants as entry
+use Rattle.cluster_model.specs.Members.{IsOneOf}
 use Rattle.cluster_laws.proofs.Lists.{all_split}
 use Rattle.cluster_laws.specs.Machine.{Machine}
 use Rattle.world_rule.specs.Machines.{nth}
@@ -27,8 +28,8 @@ use Rattle.client_state.specs.ClientSends.{ClientSend}
 use Rattle.client_laws.specs.ClientHistory.{HasItem}
 use Rattle.client_laws.specs.ClientHistory as client
 use Rattle.client_records.specs.ClientRecords.{EachRunIsSpelled, EachRunIsNumbered}
-use Rattle.node_histories.specs.Weaves.{IsUnseen, IsArrival, WeaveStep, Passes, Unseen, Seen, entries_in, items_in, HasPacket, IsShownAs, AreWoven, StandsAt}
-use Rattle.node_histories.specs.ClientLives.{Life, journal_of, IsOneOf}
+use Rattle.node_histories.specs.Weaves.{IsUnseen, IsArrival, WeaveStep, Passes, Unseen, Seen, entries_in, items_in, HasPacket, IsShownAs, AreWoven, StandsInWeave}
+use Rattle.node_histories.specs.ClientLives.{Life, journal_of}
 use Rattle.node_histories.specs.NodeHistories.{ClientStory, HasLife, input_shown, mds_shown, is_client_entry, is_mds_entry, is_server_entry, is_world_entry, Origin, EnteredByClient, EnteredByMds, EnteredByServer, EnteredByWorld, SentByClient, SentByMds, SentByServer, IsToldByNodes}
 use Rattle.node_histories.proofs.WeaveLemmas.{IsSeenAt, seen_at}
 use Rattle.world_moves.specs.WorldMoves.{IsRunOf, IsEntryCarried}
@@ -95,7 +96,7 @@ module _ (w : ClusterState) (t : IsToldByNodes w) (few : length w.machines.clien
       life_facts numbered n w.journal story.newest story.older l.lives l.asked [] (sym l.told ∙ sym (append-nil (journal_of story.newest))) k inside
 
   record_so : (n : ℕ) (story : ClientStory) → nth t.stories n ≡ Some story → (k : Life) → IsLifeIn story k → (past : List Entry) (number : ℕ) (bytes : List ℕ) (send : ClientSend)
-      → StandsAt k.begun k.steps past (client.Sends send) (entry.Packet number (Client n) Mds bytes) → HasClientRecord t.stories n bytes
+      → StandsInWeave k.begun k.steps past (client.Sends send) (entry.Packet number (Client n) Mds bytes) → HasClientRecord t.stories n bytes
   record_so n story there k inside past number bytes send stands =
       let l : LivesOf t.stories w.machines.clients w.journal n story = of_client n story there in
       let within = l.within in
@@ -109,7 +110,7 @@ module _ (w : ClusterState) (t : IsToldByNodes w) (few : length w.machines.clien
   by_origin past number n bytes e is (SentByClient m other to sent l send same life stands) =
       let node : m ≡ n = who other m to sent (sym is ∙ same) in
       let its : HasLife t.stories n l = subst (λ (x : ℕ). HasLife t.stories x l) node life in
-      record_so n its.story its.there l its.life past number bytes send (subst (λ (x : Entry). StandsAt l.begun l.steps past (client.Sends send) x) is stands)
+      record_so n its.story its.there l its.life past number bytes send (subst (λ (x : Entry). StandsInWeave l.begun l.steps past (client.Sends send) x) is stands)
     where
       who : (other m : ℕ) (to : NodeId) (sent : List ℕ) → entry.Packet number (Client n) Mds bytes ≡ entry.Packet other (Client m) to sent → m ≡ n
       who other m to sent two = cc

@@ -6,7 +6,8 @@ use Rattle.cluster_model.specs.declared.entry.Entry.TheVariants.{Delivered, Time
 use Rattle.cluster_model.specs.declared.ids.NodeId.TheVariants.{Mds}
 use Rattle.cluster_model.specs.Content.{shown_of}
 use Rattle.cluster_model.specs.Journal.{Copy, content_of}
-use Rattle.ff_laws.specs.ReadLaw.{HasNone, HasSwap, IsOneOf, HasFailed, IsCallOf, cut_of}
+use Rattle.cluster_model.specs.Members.{IsOneOf}
+use Rattle.ff_laws.specs.ReadLaw.{HasNone, HasSwap, HasFailed, IsCallOf, cut_of}
 use Rattle.ff_laws.specs.WorkedReads.{the_file, on, the_read, asks, answers, fails, asks_server, server_fails, takes, three_mirrors, tries_three, tries_all, waits_for_swap, tries_new, tries_second, tries_one, changed_mirror, asked_mirror, repeats_one, one_mirror}
 use Rattle.ff_laws.specs.WorkedRecords.{server_record, nfs_reply, answer_words, failure_words}
 use Rattle.ff_laws.proofs.Records.{server_reads, is_call_10, is_answer, is_failure}

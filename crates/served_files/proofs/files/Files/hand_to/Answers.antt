@@ -1,7 +1,7 @@
 use Rattle.std.proofs.Common.{sym, ap, subst}
 use Rattle.mds_rule.specs.LayoutOps.{with_holder}
 use Rattle.mds_rule.specs.MdsStates.{ServedFile}
-use Rattle.served_files.specs.Quiet.{IsQuiet}
+use Rattle.served_files.specs.Quiet.{IsFileQuiet}
 use Rattle.served_files.proofs.FileLists.{is_at, stands_quiet, changed}
 use Rattle.served_files.proofs.QuietLemmas.{quiet_held}
 use Rattle.served_files.proofs.files.Files.hand_to.Goals as goal
@@ -16,7 +16,7 @@ invariant_of-self c =
     let y = c.hand_to.new.self in
     let at = is_at now files file place x c.self.view_is c.in-Some.ensures.exact c.in-Some.ensures.within.0 c.in-Some.ensures.within.1 c.index_mut.ensures.value in
     stands_quiet now files file place x at y c.self.inside.names c.self.inside.due.keys (ap (λ (s : ServedFile). s.name) c.hand_to.ensures)
-    (λ quiet. subst IsQuiet (sym c.hand_to.ensures) (quiet_held c.args.client c.args.again x quiet)) c.self.invariant
+    (λ quiet. subst IsFileQuiet (sym c.hand_to.ensures) (quiet_held c.args.client c.args.again x quiet)) c.self.invariant
 
 pub returns : goal.returns
 returns c =
