@@ -180,6 +180,10 @@ pub journal_first : (stage next : Option ScriptWorld) (flows : Bool) (line : Lis
 journal_first stage next flows line lines entries is =
     let split = line_on 1 stage line lines (Goes next flows entries) is in joined stage next flows 2 entries lines (run_from false stage 1 (line ∷ lines)) split.1 split.2
 
+-- a line that is played adds its entries to the journal
+pub line_grows : (stage next : Option ScriptWorld) (flows : Bool) (line : List ℕ) (entries : List Entry) → played stage line ≡ Goes next flows entries → journal_so_far next ≡ journal_so_far stage ++ entries
+line_grows stage next flows line entries is = (line_on 1 stage line [] (Goes next flows entries) is).2
+
 none_behind : (stage : Option ScriptWorld) (run : Run) → run.entries ≡ [] → journal_so_far stage ++ run.entries ≡ journal_so_far stage
 none_behind stage run none = ap (λ (es : List Entry). journal_so_far stage ++ es) none ∙ append-nil (journal_so_far stage)
 
@@ -275,3 +279,20 @@ text_within mode number sizes w lines Outside is = absurd (flow_not_outside size
 text_within mode number sizes w lines Limited is = ([], (limited_within mode number sizes w lines is).text ∙ sym (append-nil _ ∙ no_trace mode))
 text_within mode number sizes w lines (Goes next flows entries) is =
     (trace_of mode (run_from flows next number lines).entries, ap (λ (c : RunEffect). c.text) (goes_within mode number sizes w next flows entries lines is))
+
+-- ---- a step of a flow adds its entries to the journal
+
+flow_grows_in : (sizes : ClusterSizes) (w : ClusterState) (next : Option ScriptWorld) (flows : Bool) (entries : List Entry) → flowed sizes w ≡ Goes next flows entries → journal_so_far next ≡ w.journal ++ entries
+flow_grows_in sizes w None flows entries is = absurd (flow_now sizes w 1 [] (Goes None flows entries) is)
+flow_grows_in sizes w (Some next) flows entries is = (flow_now sizes w 1 [] (Goes (Some next) flows entries) is).2
+
+no_flow : (stage next : Option ScriptWorld) (flows : Bool) (entries : List Entry) → Goes stage false [] ≡ Goes next flows entries → journal_so_far next ≡ journal_so_far stage ++ entries
+no_flow stage next flows entries is =
+    let same : stage ≡ next = cc is in
+    let none : [] ≡ entries = cc is in
+    ap journal_so_far (sym same) ∙ sym (append-nil (journal_so_far stage)) ∙ ap (λ (es : List Entry). journal_so_far stage ++ es) none
+
+pub flow_grows : (stage next : Option ScriptWorld) (flows : Bool) (entries : List Entry) → flowing stage ≡ Goes next flows entries → journal_so_far next ≡ journal_so_far stage ++ entries
+flow_grows None next flows entries is = no_flow None next flows entries is
+flow_grows (Some (BareWorld w)) next flows entries is = no_flow (Some (BareWorld w)) next flows entries is
+flow_grows (Some (ClusterWorld sizes w)) next flows entries is = flow_grows_in sizes w next flows entries is

@@ -8,6 +8,9 @@ use Rattle.line_runs.specs.declared.end.LineStep.{LineStep}
 use Rattle.line_runs.specs.declared.end.LineStep.TheVariants as step
 use Rattle.line_runs.specs.Writing.{IsBeginningOf}
 use Rattle.line_runs.specs.Runs.{after_text}
+use Rattle.line_runs.specs.Leads.{LeadsOn, GotPart, task_closing}
+use Rattle.cluster_model.specs.declared.entry.Entry.{Entry}
+use Rattle.world_journal.specs.Journal.{IsJournalInRange}
 use Rattle.line_runs.specs.Tasks.{Goes as TaskGoes, BeginsLine, StepsFrom, Rests, ahead_of, on_line}
 use Rattle.cluster_script.specs.declared.sizes.ClusterSizes.{ClusterSizes}
 use Rattle.cluster_model.specs.Event.{EventValue, DeliverPacket}
@@ -17,8 +20,9 @@ use Rattle.world_rule.specs.ClusterWorlds.{ClusterState, packets, cluster_step}
 use Rattle.world_journal.specs.declared.fault.WorldFault.{WorldFault}
 use Rattle.journal_print.specs.declared.mode.Mode.{Mode}
 use Rattle.ff_replay.specs.Script.{ScriptLine, SaysNothing, SetsUp, Happens, ScriptWorld, BareWorld, ClusterWorld, setup_of, journal_so_far, line_in, trace_of, closing_of, meaning_from, journal_behind, script_task}
-use Rattle.ff_replay.specs.Player.{LinePlayed, Outside, Limited, Goes, bare_goes, cluster_goes, flows_by, is_flow, cluster_played, played_by, played, flowed, flowing, PlayerValue, PlayerState, with_trace, GoesFrom, PlayerPlays, is_unfinished, IsOfCluster, IsWithinFlow, IsBetween}
-use Rattle.ff_replay.proofs.ScriptLemmas.{goes_first, outside_first, limited_first, text_first, goes_within, limited_within, flow_not_outside, text_within, journal_first, journal_outside, journal_limited, journal_within, journal_stops}
+use Rattle.ff_replay.specs.Player.{LinePlayed, Outside, Limited, Goes, bare_goes, cluster_goes, flows_by, is_flow, cluster_played, played_by, played, flowed, flowing, PlayerValue, PlayerState, with_trace, GoesFrom, PlayerPlays, is_unfinished, IsOfCluster, IsWithinFlow, IsBetween, IsReached, ByLine, ByFlow, IsJournalReached, LeadsPlayer, PrintsJournal, HasPrinted}
+use Rattle.ff_replay.proofs.PlayLemmas.{trace_append}
+use Rattle.ff_replay.proofs.ScriptLemmas.{line_grows, flow_grows, goes_first, outside_first, limited_first, text_first, goes_within, limited_within, flow_not_outside, text_within, journal_first, journal_outside, journal_limited, journal_within, journal_stops}
 
 begins_first : (part text more all : List ℕ) → IsBeginningOf part text → all ≡ text ++ more → IsBeginningOf part all
 begins_first part text more all begins is = record {
@@ -181,20 +185,94 @@ in_flowing None = tt
 in_flowing (Some (BareWorld w)) = tt
 in_flowing (Some (ClusterWorld sizes w)) = in_flow sizes w
 
-rests_by : (mode : Mode) (before : PlayerState) (new : PlayerValue) (text' : List ℕ) (does : LinePlayed) (r : Result LineStep NoMemory) → FlowsInCluster does → PlayerPlays mode before does r (with_trace new text') → IfOk r (λ done. new.flows ≡ is_unfinished done)
-    → Rests r (IsBetween new) (IsWithinFlow new)
-rests_by mode before new text' does (Ok step.Done) cluster goes is = (ap (λ (p : PlayerState). p.spent) goes.now, is)
-rests_by mode before new text' does (Ok step.More) cluster goes is =
+-- what is done leads to a world that is reached, whose journal goes on with the entries
+abbrev pub LeadsFrom : Option ScriptWorld → LinePlayed → Type 0
+LeadsFrom before does = (next : Option ScriptWorld) (flows : Bool) (entries : List Entry) → does ≡ Goes next flows entries → IsReached next × (journal_so_far next ≡ journal_so_far before ++ entries)
+
+line_leads : (before : Option ScriptWorld) (line : List ℕ) → IsReached before → LeadsFrom before (played before line)
+line_leads before line reached next flows entries is = (ByLine before next line flows entries reached is, line_grows before next flows line entries is)
+
+flow_leads : (before : Option ScriptWorld) → IsReached before → LeadsFrom before (flowing before)
+flow_leads before reached next flows entries is = (ByFlow before next flows entries reached is, flow_grows before next flows entries is)
+
+rests_by : (mode : Mode) (before : PlayerState) (new : PlayerValue) (text' : List ℕ) (does : LinePlayed) (r : Result LineStep NoMemory) → FlowsInCluster does → LeadsFrom before.stage does → PlayerPlays mode before does r (with_trace new text')
+    → IfOk r (λ done. new.flows ≡ is_unfinished done) → Rests r (IsBetween new) (IsWithinFlow new)
+rests_by mode before new text' does (Ok step.Done) cluster leads goes is =
+    let stage : new.stage ≡ goes.next = ap (λ (p : PlayerState). p.stage) goes.now in
+    (ap (λ (p : PlayerState). p.spent) goes.now, is, subst IsReached (sym stage) (leads goes.next false goes.entries goes.is).0)
+rests_by mode before new text' does (Ok step.More) cluster leads goes is =
     let there : IsOfCluster goes.next = subst FlowsInCluster goes.is cluster in
-    (ap (λ (p : PlayerState). p.spent) goes.now, is, subst IsOfCluster (sym (ap (λ (p : PlayerState). p.stage) goes.now)) there)
-rests_by mode before new text' does (Ok step.Outside) cluster refuses is = tt
-rests_by mode before new text' does (Ok (step.Limited count)) cluster limited is = tt
-rests_by mode before new text' does (Err e) cluster begun is = tt
+    let stage : new.stage ≡ goes.next = ap (λ (p : PlayerState). p.stage) goes.now in
+    (ap (λ (p : PlayerState). p.spent) goes.now, is, subst IsOfCluster (sym stage) there, subst IsReached (sym stage) (leads goes.next true goes.entries goes.is).0)
+rests_by mode before new text' does (Ok step.Outside) cluster leads refuses is = tt
+rests_by mode before new text' does (Ok (step.Limited count)) cluster leads limited is = tt
+rests_by mode before new text' does (Err e) cluster leads begun is = tt
 
-pub rests_line : (old new : PlayerValue) (text text' line : List ℕ) (r : Result LineStep NoMemory) → PlayerPlays old.mode (with_trace old text) (played old.stage line) r (with_trace new text') → IfOk r (λ done. new.flows ≡ is_unfinished done)
+pub rests_line : (old new : PlayerValue) (text text' line : List ℕ) (r : Result LineStep NoMemory) → IsReached old.stage → PlayerPlays old.mode (with_trace old text) (played old.stage line) r (with_trace new text') → IfOk r (λ done. new.flows ≡ is_unfinished done)
     → Rests r (IsBetween new) (IsWithinFlow new)
-rests_line old new text text' line r plays is = rests_by old.mode (with_trace old text) new text' (played old.stage line) r (in_line old.stage line) plays is
+rests_line old new text text' line r reached plays is = rests_by old.mode (with_trace old text) new text' (played old.stage line) r (in_line old.stage line) (line_leads old.stage line reached) plays is
 
-pub rests_flow : (old new : PlayerValue) (text text' : List ℕ) (r : Result LineStep NoMemory) → PlayerPlays old.mode (with_trace old text) (flowing old.stage) r (with_trace new text') → IfOk r (λ done. new.flows ≡ is_unfinished done)
+pub rests_flow : (old new : PlayerValue) (text text' : List ℕ) (r : Result LineStep NoMemory) → IsReached old.stage → PlayerPlays old.mode (with_trace old text) (flowing old.stage) r (with_trace new text') → IfOk r (λ done. new.flows ≡ is_unfinished done)
     → Rests r (IsBetween new) (IsWithinFlow new)
-rests_flow old new text text' r plays is = rests_by old.mode (with_trace old text) new text' (flowing old.stage) r (in_flowing old.stage) plays is
+rests_flow old new text text' r reached plays is = rests_by old.mode (with_trace old text) new text' (flowing old.stage) r (in_flowing old.stage) (flow_leads old.stage reached) plays is
+
+-- ---- where a step leads a player
+
+-- the journal that lines lead to goes on with the entries, and their text is behind what was printed
+goes_leads : (start old new : PlayerValue) (text text' front : List ℕ) (does : LinePlayed) (flows : Bool) → LeadsFrom old.stage does → new.mode ≡ old.mode → IsJournalInRange (journal_so_far new.stage) → GoesFrom old.mode (with_trace old text) does flows (with_trace new text')
+    → LeadsPlayer start old (front ++ text) → LeadsPlayer start new (front ++ text')
+goes_leads start old new text text' front does flows leads mode range goes led =
+    let stage : new.stage ≡ goes.next = ap (λ (p : PlayerState). p.stage) goes.now in
+    let there = leads goes.next flows goes.entries goes.is in
+    let journal : journal_so_far new.stage ≡ journal_so_far old.stage ++ goes.entries = ap journal_so_far stage ∙ there.1 in record {
+      mode = mode ∙ led.mode;
+      text_is = ap (λ (t : List ℕ). front ++ t) (ap (λ (p : PlayerState). p.trace) goes.now) ∙ sym (append_assoc front text (trace_of old.mode goes.entries))
+          ∙ ap (λ (t : List ℕ). t ++ trace_of old.mode goes.entries) led.text_is ∙ ap (λ (m : Mode). trace_of start.mode (journal_so_far old.stage) ++ trace_of m goes.entries) led.mode
+          ∙ sym (trace_append start.mode (journal_so_far old.stage) goes.entries) ∙ ap (trace_of start.mode) (sym journal);
+      range = range;
+      reached = record { stage = goes.next; reached = there.0; is = ap journal_so_far stage };
+    }
+
+-- it stays where it is
+stays_leads : (start old new : PlayerValue) (text text' front : List ℕ) → new.mode ≡ old.mode → text' ≡ text → journal_so_far new.stage ≡ journal_so_far old.stage → IsJournalInRange (journal_so_far new.stage) → LeadsPlayer start old (front ++ text) → LeadsPlayer start new (front ++ text')
+stays_leads start old new text text' front mode text_is journal range led = record {
+  mode = mode ∙ led.mode;
+  text_is = ap (λ (t : List ℕ). front ++ t) text_is ∙ led.text_is ∙ ap (trace_of start.mode) (sym journal);
+  range = range;
+  reached = subst IsJournalReached (sym journal) led.reached;
+}
+
+leads_by : (start old new : PlayerValue) (text text' : List ℕ) (does : LinePlayed) (r : Result LineStep NoMemory) → LeadsFrom old.stage does → new.mode ≡ old.mode → IsJournalInRange (journal_so_far new.stage) → PlayerPlays old.mode (with_trace old text) does r (with_trace new text')
+    → LeadsOn (LeadsPlayer start) old text r new text'
+leads_by start old new text text' does (Ok step.Done) leads mode range goes front done is led = goes_leads start old new text text' front does false leads mode range goes led
+leads_by start old new text text' does (Ok step.More) leads mode range goes front done is led = goes_leads start old new text text' front does true leads mode range goes led
+leads_by start old new text text' does (Ok step.Outside) leads mode range refuses front done is led =
+    stays_leads start old new text text' front mode (ap (λ (p : PlayerState). p.trace) refuses.1) (ap (λ (p : PlayerState). journal_so_far p.stage) refuses.1) range led
+leads_by start old new text text' does (Ok (step.Limited count)) leads mode range limited front done is led = stays_leads start old new text text' front mode limited.trace limited.journal range led
+leads_by start old new text text' does (Err e) leads mode range begun front done is led = absurd (cc)
+
+pub leads_line : (start old new : PlayerValue) (text text' line : List ℕ) (r : Result LineStep NoMemory) → IsReached old.stage → new.mode ≡ old.mode → IsJournalInRange (journal_so_far new.stage)
+    → PlayerPlays old.mode (with_trace old text) (played old.stage line) r (with_trace new text') → LeadsOn (LeadsPlayer start) old text r new text'
+leads_line start old new text text' line r reached mode range plays = leads_by start old new text text' (played old.stage line) r (line_leads old.stage line reached) mode range plays
+
+pub leads_flow : (start old new : PlayerValue) (text text' : List ℕ) (r : Result LineStep NoMemory) → IsReached old.stage → new.mode ≡ old.mode → IsJournalInRange (journal_so_far new.stage)
+    → PlayerPlays old.mode (with_trace old text) (flowing old.stage) r (with_trace new text') → LeadsOn (LeadsPlayer start) old text r new text'
+leads_flow start old new text text' r reached mode range plays = leads_by start old new text text' (flowing old.stage) r (flow_leads old.stage reached) mode range plays
+
+-- ---- what was printed
+
+-- a run that a new player began
+pub prints_journal : (start : PlayerValue) (base : List ℕ) (held : Option (List ℕ)) → GotPart (LeadsPlayer start) (task_closing (λ (p : PlayerValue). script_task p.mode p.flows p.stage)) base held → PrintsJournal start.mode base held
+prints_journal start base held got = record {
+  journal = journal_so_far got.task.stage;
+  range = got.led.range;
+  reached = got.led.reached;
+  part = got.part;
+  begins = subst (λ (t : List ℕ). IsBeginningOf got.part t)
+      ((λ i. got.led.text_is i ++ closing_of got.task.mode (journal_so_far got.task.stage)) ∙ ap (λ (m : Mode). trace_of start.mode (journal_so_far got.task.stage) ++ closing_of m (journal_so_far got.task.stage)) got.led.mode) got.begins;
+  got = got.got;
+}
+
+pub has_printed : (mode : Mode) (held held' : Option (List ℕ)) → ((base : List ℕ) → held ≡ Some base → PrintsJournal mode base held') → HasPrinted mode held held'
+has_printed mode None held' prints = tt
+has_printed mode (Some base) held' prints = prints base refl

@@ -8,7 +8,7 @@ use Rattle.line_runs.specs.declared.end.LineStep.TheVariants as step
 use Rattle.line_runs.specs.Writing.{IsBeginningOf}
 use Rattle.node_config.specs.declared.config.TheConstants.{MAX_SERVERS, MAX_MIRRORS, MAX_NUMBER}
 use Rattle.world_journal.specs.declared.fault.WorldFault.{WorldFault}
-use Rattle.world_journal.specs.Journal.{max_entries}
+use Rattle.world_journal.specs.Journal.{max_entries, IsJournalInRange}
 use Rattle.packet_table.specs.Packets.{next_waiting}
 use Rattle.ff_world.specs.World.{WorldStep, WorldValue, world_step}
 use Rattle.cluster_script.specs.declared.sizes.ClusterSizes.{ClusterSizes}
@@ -20,7 +20,7 @@ use Rattle.ff_replay.specs.declared.setup.Setup.{Setup}
 use Rattle.ff_replay.specs.declared.setup.Setup.TheVariants.{Bare, Cluster}
 use Rattle.ff_replay.specs.declared.stage.Stage.{Stage}
 use Rattle.ff_replay.specs.declared.stage.Stage.TheVariants as stage
-use Rattle.ff_replay.specs.Script.{ScriptLine, SaysNothing, SetsUp, Happens, ScriptWorld, BareWorld, ClusterWorld, world_of, setup_of, count_of, journal_so_far, line_in, trace_of}
+use Rattle.ff_replay.specs.Script.{ScriptLine, SaysNothing, SetsUp, Happens, ScriptWorld, BareWorld, ClusterWorld, world_of, setup_of, count_of, journal_so_far, line_in, trace_of, closing_of}
 
 -- an empty line, or one that begins with `#` (35)
 abbrev pub is_comment : List ℕ → Bool
@@ -114,9 +114,44 @@ abbrev pub player_of : Mode → Option Stage → Bool → PlayerValue
 player_of mode None flows = record { mode = mode; stage = None; spent = None; flows = flows }
 player_of mode (Some s) flows = record { mode = mode; stage = Some (stage_world s); spent = stage_spent s; flows = flows }
 
+-- ---- where lines lead
+
+-- what lines, and the deliveries of their flows, make of no world
+pub data IsReached : Option ScriptWorld → Type 0 where
+  AtStart : IsReached None
+  ByLine : (before next : Option ScriptWorld) (line : List ℕ) (flows : Bool) (entries : List Entry) → IsReached before → played before line ≡ Goes next flows entries → IsReached next
+  ByFlow : (before next : Option ScriptWorld) (flows : Bool) (entries : List Entry) → IsReached before → flowing before ≡ Goes next flows entries → IsReached next
+
+-- a world with this journal is reached
+pub record IsJournalReached (journal : List Entry) : Type 0 where
+  pub stage : Option ScriptWorld
+  pub reached : IsReached stage
+  pub is : journal ≡ journal_so_far stage
+
+-- A player that began as the first may have become the second, and printed this text: that of its journal, which is in range.
+pub record LeadsPlayer (start now : PlayerValue) (text : List ℕ) : Type 0 where
+  pub mode : now.mode ≡ start.mode
+  pub text_is : text ≡ trace_of start.mode (journal_so_far now.stage)
+  pub range : IsJournalInRange (journal_so_far now.stage)
+  pub reached : IsJournalReached (journal_so_far now.stage)
+
+-- What was printed of a sink's bytes is a beginning of the whole text of a journal that is in range, and which lines lead to.
+pub record PrintsJournal (mode : Mode) (base : List ℕ) (held : Option (List ℕ)) : Type 0 where
+  pub journal : List Entry
+  pub range : IsJournalInRange journal
+  pub reached : IsJournalReached journal
+  pub part : List ℕ
+  pub begins : IsBeginningOf part (trace_of mode journal ++ closing_of mode journal)
+  pub got : held ≡ Some (base ++ part)
+
+-- the same of a sink that may not tell its bytes
+abbrev pub HasPrinted : Mode → Option (List ℕ) → Option (List ℕ) → Type 0
+HasPrinted mode None held = ⊤
+HasPrinted mode (Some base) held = PrintsJournal mode base held
+
 -- between two lines, and within a line: a flow of a cluster is under way
 abbrev pub IsBetween : PlayerValue → Type 0
-IsBetween p = (p.spent ≡ None) × (p.flows ≡ false)
+IsBetween p = (p.spent ≡ None) × (p.flows ≡ false) × IsReached p.stage
 
 abbrev pub IsOfCluster : Option ScriptWorld → Type 0
 IsOfCluster None = ⊥
@@ -124,7 +159,7 @@ IsOfCluster (Some (BareWorld w)) = ⊥
 IsOfCluster (Some (ClusterWorld sizes w)) = ⊤
 
 abbrev pub IsWithinFlow : PlayerValue → Type 0
-IsWithinFlow p = (p.spent ≡ None) × (p.flows ≡ true) × IsOfCluster p.stage
+IsWithinFlow p = (p.spent ≡ None) × (p.flows ≡ true) × IsOfCluster p.stage × IsReached p.stage
 
 -- how many entries fit yet behind those of the journal
 abbrev pub room_of : Option ScriptWorld → ℕ

@@ -57,6 +57,13 @@ impl Player {
         }
     }
 
+    /// Says that the journal is in range, by the types of its entries; does nothing.
+    fn is_in_range(&self)
+        ensures { IsJournalInRange (journal_so_far self.now.stage) }
+    {
+        self.journal();
+    }
+
     /// Plays a line before the setup.
     fn set_up(&mut self, line: &[u8]) -> Result<LineStep, NoMemory>
         ensures does { self.old.spent ≡ None → self.old.stage ≡ None → (trace : List ℕ) → PlayerPlays self.old.mode (with_trace self.old trace) (played None line.now) result (with_trace self.new trace) }
@@ -114,7 +121,7 @@ impl LineTask for Player {
     ghost use Rattle.std.specs.Prelude.{List};
     ghost use Rattle.cluster_model.specs.declared.entry.Entry.{Entry};
     ghost use Rattle.ff_replay.specs.Script.{script_budget, script_task};
-    ghost use Rattle.ff_replay.specs.Player.{IsBetween, IsWithinFlow, room_of};
+    ghost use Rattle.ff_replay.specs.Player.{IsBetween, IsWithinFlow, LeadsPlayer, room_of};
     ghost use Rattle.ff_replay.specs.Ending.{at_end_of};
 
     ghost BUDGET = { script_budget };
@@ -126,6 +133,8 @@ impl LineTask for Player {
     ghost fresh = { λ player. IsBetween player };
 
     ghost midway = { λ player. IsWithinFlow player };
+
+    ghost leads = { λ start now text. LeadsPlayer start now text };
 
     ghost steps = { λ player. room_of player.stage };
 
@@ -139,11 +148,15 @@ impl LineTask for Player {
     }
 
     fn play(&mut self, line: &[u8], text: &mut Out) -> Result<LineStep, NoMemory> {
-        self.play_line(line, text)
+        let done = self.play_line(line, text);
+        self.is_in_range();
+        done
     }
 
     fn go_on(&mut self, text: &mut Out) -> Result<LineStep, NoMemory> {
-        self.flow_on(text)
+        let done = self.flow_on(text);
+        self.is_in_range();
+        done
     }
 
     fn close(&mut self, text: &mut Out) -> Result<(), NoMemory> {

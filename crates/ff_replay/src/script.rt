@@ -3,6 +3,7 @@
 ghost use Rattle.std.specs.Prelude.{◌≡◌};
 ghost use Rattle.line_runs.specs.Runs.{Runs, read_faults, write_faults};
 ghost use Rattle.ff_replay.specs.Script.{EndsInRange, script_budget, script_meaning};
+ghost use Rattle.ff_replay.specs.Player.{HasPrinted};
 
 use crate::player::Player;
 use journal_print::Mode;
@@ -17,6 +18,7 @@ use std::alloc::Global;
 pub fn replay<S: Source, K: Sink>(alloc: Global, mode: Mode, source: &mut S, sink: &mut K) -> RunEnd
     ensures told { Runs script_budget (script_meaning mode) (S.left source.old) (K.held sink.old) result (S.left source.new) (K.held sink.new) }
     ensures range { EndsInRange (S.left source.old) result }
+    ensures printed { HasPrinted mode (K.held sink.old) (K.held sink.new) }
     ensures reads { S.faults source.new ≡ read_faults result (S.faults source.old) }
     ensures writes { K.faults sink.new ≡ write_faults result (K.faults sink.old) }
 {

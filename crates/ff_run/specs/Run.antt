@@ -14,7 +14,7 @@ use Rattle.ff_node.specs.Serve.{disk_faults, link_faults, sink_faults}
 use Rattle.user_nodes.specs.Puts.{source_faults}
 use Rattle.script_gen.specs.Generated.{generated}
 use Rattle.ff_replay.specs.Script.{script_budget, script_meaning}
-use Rattle.script_laws.specs.ScriptLaws.{PlaysLawfully}
+use Rattle.script_laws.specs.ScriptLaws.{PlaysLawfully, PrintsLawfully}
 use Rattle.record_show.specs.Show.{show_budget, show_meaning}
 use Rattle.command_words.specs.Commands.{CommandValue, Replay, Gen, Show, AsksForCommand}
 use Rattle.ff_run.specs.declared.program.ProgramEnd.{ProgramEnd}
@@ -31,11 +31,12 @@ end_of_writing (Ok x) = Done
 end_of_writing (Err failed.Fault) = WriteFault
 end_of_writing (Err failed.NoMemory) = NoMemory
 
--- What a command did that ended so, before any node ran: the lines of the source were run, and the journal of a script obeys all laws; a script
--- was generated; or no node ran.
+-- What a command did that ended so, before any node ran: the lines of the source were run, whose journal obeys all laws where lines ended
+-- the run, and what was printed begins the text of a journal that obeys them; a script was generated; or no node ran.
 abbrev pub RunsCommand : CommandValue → RunEnd → Observed → Observed → Type 0
 RunsCommand (Replay mode) end old new =
-    Runs script_budget (script_meaning mode) old.unread old.around.held end new.unread new.around.held × PlaysLawfully old.unread end × KeepsNodes old new
+    Runs script_budget (script_meaning mode) old.unread old.around.held end new.unread new.around.held × PlaysLawfully old.unread end
+    × PrintsLawfully mode old.around.held new.around.held × KeepsNodes old new
 RunsCommand Show end old new = Runs show_budget show_meaning old.unread old.around.held end new.unread new.around.held × KeepsNodes old new
 RunsCommand (Gen number) end old new =
     ((writing : Result (Unit {0}) Failed) × (end ≡ end_of_writing writing) × WritesText old.around.held (generated number) writing new.around.held)

@@ -10,7 +10,7 @@ ghost use Rattle.ff_node.specs.Serve.{beside};
 ghost use Rattle.ff_run.specs.declared.program.ProgramEnd.{ProgramEnd};
 ghost use Rattle.ff_run.specs.Node.{IsShortName, observed, task_command};
 ghost use Rattle.ff_replay.specs.Script.{script_budget, script_meaning};
-ghost use Rattle.script_laws.specs.ScriptLaws.{EveryScriptObeys, PlaysLawfully};
+ghost use Rattle.script_laws.specs.ScriptLaws.{LawsOfScripts, PlaysLawfully, PrintsLawfully};
 ghost use Rattle.ff_run.specs.Run.{Performs, PerformsCommand, Reports, disk_faults_after, end_of_writing, failure_note, link_faults_after, note_of, sink_faults_after, source_faults_after, status_of, with_number};
 
 use crate::serving::{Task, serve};
@@ -173,7 +173,8 @@ fn run_task<S: Source, K: Sink, D: Disk, L: Link, C: Clock>(
     }
 }
 
-/// Replays the script of the source; the journal of its lines obeys all laws.
+/// Replays the script of the source. The journal of its lines obeys all laws; and whatever ended the run, what was
+/// printed is a beginning of the text of a journal that does.
 fn replay_lawfully<S: Source, K: Sink>(
     alloc: Global,
     mode: Mode,
@@ -182,6 +183,7 @@ fn replay_lawfully<S: Source, K: Sink>(
 ) -> RunEnd
     ensures told { Runs script_budget (script_meaning mode) (S.left source.old) (K.held sink.old) result (S.left source.new) (K.held sink.new) }
     ensures lawful { PlaysLawfully (S.left source.old) result }
+    ensures prints { PrintsLawfully mode (K.held sink.old) (K.held sink.new) }
     ensures reads { S.faults source.new ≡ read_faults result (S.faults source.old) }
     ensures writes { K.faults sink.new ≡ write_faults result (K.faults sink.old) }
 {
@@ -265,7 +267,7 @@ pub fn run<S: Source, K: Sink, E: Sink, D: Disk, L: Link, C: Clock>(
         × (D.faults disk.new ≡ disk_faults_after end (D.faults disk.old))
         × (L.faults link.new ≡ link_faults_after end (L.faults link.old))
         × Reports end result (E.held notes.old) (E.held notes.new) (E.faults notes.old) (E.faults notes.new) }
-    ensures laws { EveryScriptObeys }
+    ensures laws { LawsOfScripts }
 {
     // (what the journals of scripts obey has no code: this brings its proof)
     script_laws();

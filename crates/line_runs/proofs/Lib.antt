@@ -3,3 +3,4 @@ pub mod OweLemmas
 pub mod StepLemmas
 pub mod RunLemmas
 pub mod EndLemmas
+pub mod LeadLemmas

@@ -3,3 +3,4 @@ pub mod Writing
 pub mod Runs
 pub mod Tasks
 pub mod Playback
+pub mod Leads

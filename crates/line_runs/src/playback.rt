@@ -1,18 +1,21 @@
 //! A run over the lines of a source to its end.
 
-ghost use Rattle.std.specs.Prelude.{◌≡◌, ◌+◌, ◌<◌, ◌≤◌, ◌↔◌, [], None, Some, Ok, Err, OnOk, OnErr, IfOk, IfSome, IsTrue, length};
+ghost use Rattle.std.specs.Prelude.{◌≡◌, ◌+◌, ◌-◌, ◌<◌, ◌≤◌, ◌↔◌, ℕ, List, [], None, Some, Ok, Err, OnOk, OnErr, IfOk, IfSome, IsTrue, length};
 ghost use Rattle.rpc_record.specs.Stream.{counted};
 ghost use Rattle.line_runs.specs.declared.end.RunEnd.TheVariants as ends;
 ghost use Rattle.line_runs.specs.Lines.{HoldsNoLine, IsWithinBudget, ReadsLine};
 ghost use Rattle.line_runs.specs.Writing.{WritesText};
 ghost use Rattle.line_runs.specs.Runs.{Runs, HasBecome, read_faults, write_faults};
+ghost use Rattle.line_runs.specs.Tasks.{BeginsLine, StepsFrom, Rests, ahead_of, on_line};
+ghost use Rattle.line_runs.specs.Leads.{LeadsOn, Stands, GotPart, RunStands, AllStand, task_closing};
+ghost use Rattle.line_runs.specs.declared.end.LineStep.TheVariants as step;
 ghost use Rattle.line_runs.specs.Playback.{start, with_text, full, stand, at_line, StepFaults, LinesFaults, HasWrittenAll, PlaybackSteps, PlaysAll, Finishes, ClosesRun, Relieves, LinePlays, LastPlays, IsOfLine, to_do};
 
 use crate::end::{LineStep, RunEnd};
 use crate::lines::{Ended, LineBuffer};
 use crate::task::LineTask;
 use crate::writing::write_all;
-use ff_xdr::Out;
+use ff_xdr::{NoMemory, Out};
 use rpc_record::{Failed, Sink, Source};
 use std::alloc::{AllocError, Global};
 use std::marker::Model;
@@ -87,6 +90,52 @@ impl Playback {
         Ok(())
     }
 
+    /// Begins a line, which took so many bytes of the source. Where memory is wanted no text is added.
+    fn begin<T: LineTask>(
+        &mut self,
+        task: &mut T,
+        line: &[u8],
+        taken: usize,
+    ) -> Result<LineStep, NoMemory>
+        requires some { 0 < taken }
+        requires within { taken ≤ self.old.room }
+        ensures does { T.fresh task.old → BeginsLine (self.old.begun + 1) (on_line line.now (ahead_of (self.old.begun + 1) (T.value task.old))) self.old.text result (T.value task.new) self.new.text }
+        ensures rests { T.fresh task.old → Rests result (T.fresh task.new) (T.midway task.new) }
+        ensures led { T.fresh task.old → (start : T) → LeadsOn (T.leads start) task.old self.old.text result task.new self.new.text }
+        ensures kept { T.fresh task.old → OnErr result (self.new.text ≡ self.old.text) }
+        ensures rest { self.new ≡ record { text = self.new.text; held = self.old.held; room = self.old.room - taken; begun = self.old.begun + 1 } }
+    {
+        self.room -= taken;
+        self.begun += 1;
+        let before = self.text.len();
+        match task.play(line, &mut self.text) {
+            Ok(step) => Ok(step),
+            Err(e) => {
+                self.text.truncate(before);
+                Err(e)
+            }
+        }
+    }
+
+    /// Goes on within a line. Where memory is wanted no text is added.
+    fn go_on<T: LineTask>(&mut self, task: &mut T) -> Result<LineStep, NoMemory>
+        ensures does { T.midway task.old → (number : ℕ) → StepsFrom number (ahead_of number (T.value task.old)) self.old.text result (T.value task.new) self.new.text }
+        ensures rests { T.midway task.old → Rests result (T.fresh task.new) (T.midway task.new) }
+        ensures led { T.midway task.old → (start : T) → LeadsOn (T.leads start) task.old self.old.text result task.new self.new.text }
+        ensures kept { T.midway task.old → OnErr result (self.new.text ≡ self.old.text) }
+        ensures rest { self.new ≡ with_text self.new.text self.old }
+        ensures falls { result ≡ Ok step.More → T.steps task.new < T.steps task.old }
+    {
+        let before = self.text.len();
+        match task.go_on(&mut self.text) {
+            Ok(step) => Ok(step),
+            Err(e) => {
+                self.text.truncate(before);
+                Err(e)
+            }
+        }
+    }
+
     /// Plays a line to its end, which took so many bytes of the source. Between its steps the text is
     /// written where it is long. `None` is that the line was played; an end is a line outside the
     /// grammar, one that would pass a limit, or want of memory. An error is one of the sink.
@@ -100,19 +149,18 @@ impl Playback {
         requires some { 0 < taken }
         requires within { taken ≤ self.old.room }
         ensures told { T.fresh task.old → LinePlays (K.held sink.old) (at_line taken line.now (stand (T.value task.old) self.old)) result (K.held sink.new) (T.value task.new) (stand (T.value task.new) self.new) }
+        ensures stands { T.fresh task.old → (start : T) (base : List ℕ) → Stands (T.leads start) base (K.held sink.old) task.old self.old.text → RunStands (T.leads start) (task_closing T.value) base result (K.held sink.new) task.new self.new.text }
         ensures rests { T.fresh task.old → result ≡ Ok None → T.fresh task.new }
         ensures ends { IfOk result (λ end. IfSome end (λ e. IsOfLine e)) }
         ensures room { self.new.room < self.old.room }
         ensures writes { K.faults sink.new ≡ counted result (K.faults sink.old) }
     {
-        self.room -= taken;
-        self.begun += 1;
-        let mut step = task.play(line, &mut self.text);
+        let mut step = self.begin(task, line, taken);
         loop {
             match step {
                 Ok(LineStep::More) => {
                     self.relieve(sink)?;
-                    step = task.go_on(&mut self.text);
+                    step = self.go_on(task);
                 }
                 Ok(LineStep::Done) => {
                     self.relieve(sink)?;
@@ -135,6 +183,7 @@ impl Playback {
     ) -> Result<Option<RunEnd>, Failed>
         requires within { length line.now ≤ self.old.room }
         ensures told { T.fresh task.old → LastPlays (K.held sink.old) line.now (T.value task.old) (stand (T.value task.old) self.old) result (K.held sink.new) (T.value task.new) (stand (T.value task.new) self.new) }
+        ensures stands { T.fresh task.old → (start : T) (base : List ℕ) → Stands (T.leads start) base (K.held sink.old) task.old self.old.text → RunStands (T.leads start) (task_closing T.value) base result (K.held sink.new) task.new self.new.text }
         ensures rests { T.fresh task.old → result ≡ Ok (Some ends.Done) → T.fresh task.new }
         ensures ends { IfOk result (λ end. IfSome end (λ e. IsOfLine e)) }
         ensures some { result ≡ Ok None → ⊥ }
@@ -173,6 +222,7 @@ impl Playback {
         line: &mut Vec<u8>,
     ) -> Result<Option<RunEnd>, Failed>
         ensures told { T.fresh task.old → PlaybackSteps (S.left source.old) (K.held sink.old) (stand (T.value task.old) self.old) result (S.left source.new) (K.held sink.new) (T.value task.new) (stand (T.value task.new) self.new) }
+        ensures stands { T.fresh task.old → (start : T) (base : List ℕ) → Stands (T.leads start) base (K.held sink.old) task.old self.old.text → RunStands (T.leads start) (task_closing T.value) base result (K.held sink.new) task.new self.new.text }
         ensures goes_on { T.fresh task.old → result ≡ Ok None → T.fresh task.new }
         ensures shrinks { OnOk result (result ≡ Ok None → to_do self.new < to_do self.old) }
         ensures written { IfOk result (λ end. IfSome end (λ e. HasWrittenAll e self.new.text)) }
@@ -201,6 +251,7 @@ impl Playback {
         sink: &mut K,
     ) -> Result<RunEnd, Failed>
         ensures told { T.fresh task.old → PlaysAll (S.left source.old) (K.held sink.old) (stand (T.value task.old) self.old) result (S.left source.new) (K.held sink.new) (T.value task.new) self.new.text }
+        ensures stands { T.fresh task.old → (start : T) (base : List ℕ) → Stands (T.leads start) base (K.held sink.old) task.old self.old.text → AllStand (T.leads start) (task_closing T.value) base result (K.held sink.new) task.new self.new.text }
         ensures written { IfOk result (λ end. HasWrittenAll end self.new.text) }
         ensures reads { LinesFaults result (S.faults source.old) (S.faults source.new) }
         ensures writes { K.faults sink.new ≡ counted result (K.faults sink.old) }
@@ -236,6 +287,7 @@ impl Playback {
         sink: &mut K,
     ) -> Result<RunEnd, Failed>
         ensures told { T.fresh task.old → Finishes (S.left source.old) (K.held sink.old) (stand (T.value task.old) self.old) result (S.left source.new) (K.held sink.new) (T.value task.new).state [] }
+        ensures stands { T.fresh task.old → (start : T) (base : List ℕ) → Stands (T.leads start) base (K.held sink.old) task.old self.old.text → GotPart (T.leads start) (task_closing T.value) base (K.held sink.new) }
         ensures reads { LinesFaults result (S.faults source.old) (S.faults source.new) }
         ensures writes { K.faults sink.new ≡ counted result (K.faults sink.old) }
     {
@@ -261,6 +313,7 @@ pub fn run_lines<T: LineTask, S: Source, K: Sink>(
 ) -> RunEnd
     requires { T.fresh task.old }
     ensures told { Runs T.BUDGET ((T.value task.old).meaning 1) (S.left source.old) (K.held sink.old) result (S.left source.new) (K.held sink.new) }
+    ensures got { (base : List ℕ) → K.held sink.old ≡ Some base → T.leads task.old task.old [] → GotPart (T.leads task.old) (task_closing T.value) base (K.held sink.new) }
     ensures became { HasBecome T.BUDGET (T.value task.old).after (S.left source.old) result (T.value task.new).state }
     ensures reads { S.faults source.new ≡ read_faults result (S.faults source.old) }
     ensures writes { K.faults sink.new ≡ write_faults result (K.faults sink.old) }

@@ -1,8 +1,9 @@
 //! What is done with the lines of a source.
 
-ghost use Rattle.std.specs.Prelude.{◌≡◌, ◌≢◌, ℕ, ◌+◌, ◌<◌, Ok};
+ghost use Rattle.std.specs.Prelude.{◌≡◌, ◌≢◌, ℕ, ◌+◌, ◌<◌, List, Ok};
 ghost use Rattle.line_runs.specs.Writing.{PrintsText};
 ghost use Rattle.line_runs.specs.Tasks.{TaskValue, IsAtEnd, BeginsLine, StepsFrom, Rests, ahead_of, on_line};
+ghost use Rattle.line_runs.specs.Leads.{LeadsOn};
 ghost use Rattle.line_runs.specs.declared.end.LineStep.TheVariants as step;
 
 use crate::end::LineStep;
@@ -25,6 +26,10 @@ pub trait LineTask {
     /// The task stands within a line, and may go on.
     ghost midway: { Self → Type 0 };
 
+    /// From the first task a run may lead to the second, with this text added on the way: whatever a task
+    /// keeps to of its state and the text so far.
+    ghost leads: { Self → Self → List ℕ → Type 0 };
+
     /// How many steps the line has yet, at most.
     ghost steps: { Self → ℕ };
 
@@ -40,12 +45,14 @@ pub trait LineTask {
     /// grammar it is only to be closed.
     fn play(&mut self, line: &[u8], text: &mut Out) -> Result<LineStep, NoMemory>
         ensures does { fresh self.old → (number : ℕ) → BeginsLine number (on_line line.now (ahead_of number (value self.old))) text.old result (value self.new) text.new }
-        ensures rests { fresh self.old → Rests result (fresh self.new) (midway self.new) };
+        ensures rests { fresh self.old → Rests result (fresh self.new) (midway self.new) }
+        ensures led { fresh self.old → (start : Self) → LeadsOn (leads start) self.old text.old result self.new text.new };
 
     /// Goes on within a line, and appends the text that the step adds, as `play` does.
     fn go_on(&mut self, text: &mut Out) -> Result<LineStep, NoMemory>
         ensures does { midway self.old → (number : ℕ) → StepsFrom number (ahead_of number (value self.old)) text.old result (value self.new) text.new }
         ensures rests { midway self.old → Rests result (fresh self.new) (midway self.new) }
+        ensures led { midway self.old → (start : Self) → LeadsOn (leads start) self.old text.old result self.new text.new }
         ensures falls { result ≡ Ok step.More → steps self.new < steps self.old };
 
     /// Appends the text that is added where the lines end, or a beginning of it at an error. The task

@@ -269,6 +269,8 @@ impl LineTask for Shower {
 
     ghost midway = { λ shower. ⊥ };
 
+    ghost leads = { λ start now text. ⊤ };
+
     ghost steps = { λ shower. 0 };
 
     const BUDGET: usize = 67_108_864;

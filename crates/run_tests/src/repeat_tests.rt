@@ -41,6 +41,8 @@ impl LineTask for Repeat {
 
     ghost midway = { λ task. ⊤ };
 
+    ghost leads = { λ start now text. ⊤ };
+
     ghost steps = { λ task. task.left };
 
     const BUDGET: usize = 16;

@@ -68,3 +68,13 @@ run_plain [] w = tt
 run_plain (event ∷ events) w =
     step_plain (world_step w event)
     (λ step is. within_step (is_within (step_by_effect w (effect_of w event)).world.journal) (step_by_effect w (effect_of w event)) step is (event_plain w event)) (λ next. run_of next events) (run_plain events)
+
+-- an event leaves a plain journal
+made_plain : (b : Bool) (made step : WorldStep) → cond b (Some made) None ≡ Some step → ArePlain made.world.journal → ArePlain step.world.journal
+made_plain true made step is plain = let same : made ≡ step = cc is in subst (λ (s : WorldStep). ArePlain s.world.journal) same plain
+made_plain false made step is plain = absurd cc
+
+pub step_plain_journal : (w : WorldState) (event : EventValue) (step : WorldStep) → world_step w event ≡ Some step → ArePlain w.journal → ArePlain step.world.journal
+step_plain_journal w event step is plain =
+    let made : WorldStep = step_by_effect w (effect_of w event) in
+    made_plain (is_within made.world.journal) made step is (plain_both w.journal made.entries plain (event_plain w event))

@@ -272,7 +272,7 @@ bare_ranged text = first_ranged (bare.deliver_at text) (bare.restart_at text) (d
 -- ---- a line of a script
 
 -- an event that it says is in range
-abbrev InRange : Option ScriptLine → Type 0
+abbrev pub InRange : Option ScriptLine → Type 0
 InRange o = (e : EventValue) → o ≡ Some (Happens e) → IsEventInRange e
 
 happens_so : (o : Option EventValue) → Ranged o → InRange (option_map Happens o)
@@ -290,7 +290,7 @@ words_so None text = chosen_so (setup_in text)
 words_so (Some Bare) text = happens_so (bare.event_at text) (bare_ranged text)
 words_so (Some (Cluster sizes)) text = happens_so (event_at sizes text) (words_ranged sizes (words_of text))
 
-line_so : (setup : Option Setup) (line : List ℕ) → InRange (line_in setup line)
+pub line_so : (setup : Option Setup) (line : List ℕ) → InRange (line_in setup line)
 line_so setup [] = λ e is. absurd cc
 line_so setup (c ∷ rest) = cond_both (c == 35) (Some SaysNothing) (words_in setup (c ∷ rest)) InRange (λ mark. λ e is. absurd cc) (λ other. words_so setup (c ∷ rest))
 

@@ -111,7 +111,7 @@ words_set (Some (Cluster sizes)) text chosen is = by_event (cluster.event_at siz
     by_event None so = absurd cc
     by_event (Some e) so = absurd cc
 
-line_sets : (setup : Option Setup) (line : List ℕ) (chosen : Setup) → line_in setup line ≡ Some (SetsUp chosen) → IsSetup (Some chosen)
+pub line_sets : (setup : Option Setup) (line : List ℕ) (chosen : Setup) → line_in setup line ≡ Some (SetsUp chosen) → IsSetup (Some chosen)
 line_sets setup [] chosen is = absurd cc
 line_sets setup (c ∷ rest) chosen is = by_mark (c == 35) is
   where

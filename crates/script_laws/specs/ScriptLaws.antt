@@ -1,6 +1,6 @@
 -- What holds of every script: of its journal, and of the data servers that it ends with (RFC 8435, section 2.2;
 -- RFC 8881, section 18.22).
-use Rattle.std.specs.Prelude.{⊤, ◌≡◌, ℕ, zero, suc, ◌+◌, false, List, [], ◌∷◌, Option, Some, None}
+use Rattle.std.specs.Prelude.{⊤, ◌≡◌, ℕ, zero, suc, ◌+◌, false, List, [], ◌∷◌, ◌++◌, Option, Some, None}
 use Rattle.cluster_model.specs.declared.ids.FileId.{FileId}
 use Rattle.cluster_model.specs.declared.entry.Entry.{Entry}
 use Rattle.cluster_model.specs.Event.{EventValue, DeliverPacket, Flow}
@@ -10,12 +10,15 @@ use Rattle.cluster_laws.specs.Agreement.{AgreesAlways}
 use Rattle.line_runs.specs.declared.end.RunEnd.{RunEnd}
 use Rattle.line_runs.specs.declared.end.RunEnd.TheVariants as ends
 use Rattle.line_runs.specs.Lines.{script_lines}
+use Rattle.line_runs.specs.Writing.{IsBeginningOf}
+use Rattle.journal_print.specs.declared.mode.Mode.{Mode}
 use Rattle.world_journal.specs.Journal.{IsJournalInRange, max_entries}
 use Rattle.packet_table.specs.Packets.{next_waiting}
 use Rattle.world_rule.specs.ClusterWorlds.{ClusterState, packets, new_cluster, cluster_step}
 use Rattle.ff_replay.specs.declared.setup.Setup.{Setup}
 use Rattle.ff_replay.specs.declared.setup.Setup.TheVariants.{Bare, Cluster}
-use Rattle.ff_replay.specs.Script.{Script, script_of, run_from, script_budget}
+use Rattle.ff_replay.specs.Script.{Script, script_of, run_from, script_budget, trace_of, closing_of}
+use Rattle.ff_replay.specs.Player.{IsJournalReached}
 use Rattle.ff_laws.specs.ReadLaw.{ObeysReads}
 use Rattle.world_moves.specs.WorldMoves.{TellsTruth}
 
@@ -85,6 +88,19 @@ pub record ScriptObeys (lines : List (List ℕ)) : Type 0 where
   pub laws : IsJournalInRange (script_journal lines) → ObeysLaws (script_journal lines)
   pub ends : (w : ClusterState) → script_end lines ≡ Some w → EndsTrue (script_journal lines) w
 
+abbrev pub EveryScriptObeys : Type 0
+EveryScriptObeys = (lines : List (List ℕ)) → ScriptObeys lines
+
+-- The journal of every world that lines lead to, and the deliveries of their flows, obeys all laws where it is in range.
+abbrev pub EveryReachedObeys : Type 0
+EveryReachedObeys = (journal : List Entry) → IsJournalReached journal → IsJournalInRange journal → ObeysLaws journal
+
+pub record LawsOfScripts : Type 0 where
+  pub scripts : EveryScriptObeys
+  pub reached : EveryReachedObeys
+
+-- ---- in the program
+
 -- the journal of the lines of a source obeys all laws, where lines ended the run of it: all were played, one is outside the grammar, or an event would pass a
 -- limit
 abbrev pub PlaysLawfully : Option (List ℕ) → RunEnd → Type 0
@@ -96,5 +112,16 @@ PlaysLawfully (Some bytes) ends.ReadFault = ⊤
 PlaysLawfully (Some bytes) ends.WriteFault = ⊤
 PlaysLawfully (Some bytes) ends.NoMemory = ⊤
 
-abbrev pub EveryScriptObeys : Type 0
-EveryScriptObeys = (lines : List (List ℕ)) → ScriptObeys lines
+-- What was printed behind a sink's bytes is a beginning of the whole text of a journal that lines lead to, which obeys all laws.
+pub record PrintsLawful (mode : Mode) (base : List ℕ) (held : Option (List ℕ)) : Type 0 where
+  pub journal : List Entry
+  pub reached : IsJournalReached journal
+  pub obeys : ObeysLaws journal
+  pub part : List ℕ
+  pub begins : IsBeginningOf part (trace_of mode journal ++ closing_of mode journal)
+  pub got : held ≡ Some (base ++ part)
+
+-- the same of a sink that may not tell its bytes, however the run ended
+abbrev pub PrintsLawfully : Mode → Option (List ℕ) → Option (List ℕ) → Type 0
+PrintsLawfully mode None held = ⊤
+PrintsLawfully mode (Some base) held = PrintsLawful mode base held

@@ -1,6 +1,6 @@
 //! What holds of every script.
 
-ghost use Rattle.script_laws.specs.ScriptLaws.{EveryScriptObeys};
+ghost use Rattle.script_laws.specs.ScriptLaws.{LawsOfScripts};
 
 use bound_worlds::bound_worlds;
 use node_histories::node_histories;
@@ -19,9 +19,10 @@ use world_room::world_room;
 /// through the metadata server is answered with bytes that a mirror showed since it began, or as failed where each mirror
 /// that was live then failed it or left (RFC 8881, section 18.22); and whenever a file is free all its live mirrors hold the
 /// bytes of one flat file, which knows no mirrors, and nothing else (RFC 8435, sections 2.2 and 8). What the journal says of
-/// each mirror's bytes, pending writes and owner is so at its data server.
+/// each mirror's bytes, pending writes and owner is so at its data server. The same laws hold within a flow, whose
+/// deliveries come one after the other.
 pub fn script_laws()
-    ensures { EveryScriptObeys }
+    ensures { LawsOfScripts }
 {
     world_moves();
     bound_worlds();

@@ -17,7 +17,7 @@ use Rattle.script_laws.specs.ScriptLaws.{ObeysPeriods}
 use Rattle.script_laws.proofs.ClientCounts.{counts_still, new_count}
 use Rattle.script_laws.proofs.DeliveriesFirst.{own_at_first, own_behind}
 use Rattle.script_laws.proofs.KeptParts.{WorldLaws, keeps_parts, few_within, range_before}
-use Rattle.script_laws.proofs.Scripts.{scripts_obey}
+use Rattle.script_laws.proofs.Scripts.{laws_of_scripts}
 use Rattle.script_laws.proofs.laws.script_laws.Goals as goal
 
 -- A world is a run of the machine, is told by its nodes, and has as many clients and data servers as a script may choose; where its journal is in
@@ -51,7 +51,7 @@ returns c =
       once = c.world_grants.ensures.once;
       parts = c.world_holders.ensures.parts;
     } in
-    scripts_obey IsWorld
+    laws_of_scripts IsWorld
     (λ servers mirrors clients most some few there count. record {
       run = c.world_moves.ensures.starts servers mirrors clients (omega (arith, most)) some few there;
       told = c.node_histories.ensures.starts servers mirrors clients;

@@ -3,6 +3,8 @@ use Rattle.std.proofs.lemmas.Result.{err_from_is_err_and}
 use Rattle.rpc_record.specs.declared.stream.Failed.{Failed}
 use Rattle.line_runs.specs.declared.end.RunEnd.{RunEnd}
 use Rattle.line_runs.specs.Playback.{stand, HasWrittenAll}
+use Rattle.line_runs.specs.Leads.{AllStand, task_closing}
+use Rattle.line_runs.proofs.LeadLemmas.{all_lost, writes, close_stands}
 use Rattle.line_runs.proofs.EndLemmas.{closed, closed_faults, finished, closed_written, finished_err, unfinished, faults_err}
 use Rattle.line_runs.proofs.playback.Playback.finish.Goals as goal
 
@@ -44,3 +46,30 @@ returns-clause-told g c =
 pub returns-clause-reads : goal.returns-clause-reads
 returns-clause-reads g c =
     closed_faults c.play.result c.in_ok-ended.ended c.close-end.result (g.T.LineTask.value c.play.new.task).closing c.play.new.self.text c.close-end.new.self.text _ _ c.in_ok-ended.was c.close-end.ensures.closes c.play.ensures.reads
+
+pub returns-in_err-ended-clause-stands : goal.returns-in_err-ended-clause-stands
+returns-in_err-ended-clause-stands g c fresh start base so =
+    let new = c.play.new in
+    all_lost (g.T.LineTask.leads start) (task_closing g.T.LineTask.value) base (g.K.Sink.held new.sink) new.task new.self.text c.play.result _ c.in_err-ended.was (c.play.ensures.stands fresh start base so)
+
+pub returns-in_err-flush-clause-stands : goal.returns-in_err-flush-clause-stands
+returns-in_err-flush-clause-stands g c fresh start base so =
+    let held = g.K.Sink.held in
+    let leads = g.T.LineTask.leads start in
+    let closing = task_closing g.T.LineTask.value in
+    let new = c.play.new in
+    writes leads closing base (held new.sink) (held c.flush.new.sink) c.close-end.new.self.text c.flush.result
+    (close_stands leads closing base (held new.sink) new.task new.self.text c.close-end.new.self.text c.in_ok-ended.ended c.close-end.result c.close-end.ensures.closes
+    (subst (λ (r : Result RunEnd Failed). AllStand leads closing base r (held new.sink) new.task new.self.text) c.in_ok-ended.was (c.play.ensures.stands fresh start base so)))
+    c.flush.ensures.told
+
+pub returns-clause-stands : goal.returns-clause-stands
+returns-clause-stands g c fresh start base so =
+    let held = g.K.Sink.held in
+    let leads = g.T.LineTask.leads start in
+    let closing = task_closing g.T.LineTask.value in
+    let new = c.play.new in
+    writes leads closing base (held new.sink) (held c.flush.new.sink) c.close-end.new.self.text c.flush.result
+    (close_stands leads closing base (held new.sink) new.task new.self.text c.close-end.new.self.text c.in_ok-ended.ended c.close-end.result c.close-end.ensures.closes
+    (subst (λ (r : Result RunEnd Failed). AllStand leads closing base r (held new.sink) new.task new.self.text) c.in_ok-ended.was (c.play.ensures.stands fresh start base so)))
+    c.flush.ensures.told

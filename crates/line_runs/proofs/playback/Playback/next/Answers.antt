@@ -6,7 +6,9 @@ use Rattle.line_runs.specs.declared.end.RunEnd.TheVariants.{ReadFault, NoMemory,
 use Rattle.line_runs.specs.Lines.{ReadsLine}
 use Rattle.line_runs.specs.Playback.{RunState, stand, at_line, PlaybackSteps, LastPlays, LinePlays}
 use Rattle.line_runs.proofs.RunLemmas.{flushes, flush_fails, read_fault, read_memory, read_over, read_last, read_ended}
+use Rattle.line_runs.specs.Leads.{task_closing}
 use Rattle.line_runs.proofs.EndLemmas.{of_line_written}
+use Rattle.line_runs.proofs.LeadLemmas.{run_got, writes, stands_waits}
 use Rattle.line_runs.proofs.playback.Playback.next.Goals as goal
 
 pub returns-in_err-flush-clause-told : goal.returns-in_err-flush-clause-told
@@ -101,3 +103,12 @@ returns-in-Ok-End-clause-written g c = of_line_written c.play_last.result c.play
 
 pub returns-in-Ok-Newline-clause-written : goal.returns-in-Ok-Newline-clause-written
 returns-in-Ok-Newline-clause-written g c = of_line_written c.play_line.result c.play_line.new.self.text c.play_line.ensures.ends
+
+pub returns-in_err-flush-clause-stands : goal.returns-in_err-flush-clause-stands
+returns-in_err-flush-clause-stands g c fresh start base so =
+    let held = g.K.Sink.held in
+    let leads = g.T.LineTask.leads start in
+    let closing = task_closing g.T.LineTask.value in
+    let p = err_from_is_err_and c.from_residual.result c.from_residual.ensures.1 in
+    run_got leads closing base (held c.flush.new.sink) c.args.task.now c.flush.new.self.text c.from_residual.result p.0 p.1
+    (writes leads closing base (held c.args.sink.now) (held c.flush.new.sink) c.args.self.now.text c.flush.result (stands_waits leads closing base (held c.args.sink.now) c.args.task.now c.args.self.now.text so) c.flush.ensures.told)
