@@ -20,7 +20,8 @@ use Rattle.world_rule.specs.ClusterWorlds.{ClusterState, packets, cluster_step}
 use Rattle.world_journal.specs.declared.fault.WorldFault.{WorldFault}
 use Rattle.journal_print.specs.declared.mode.Mode.{Mode}
 use Rattle.ff_replay.specs.Script.{ScriptLine, SaysNothing, SetsUp, Happens, ScriptWorld, BareWorld, ClusterWorld, setup_of, journal_so_far, line_in, trace_of, closing_of, meaning_from, journal_behind, script_task}
-use Rattle.ff_replay.specs.Player.{LinePlayed, Outside, Limited, Goes, bare_goes, cluster_goes, flows_by, is_flow, cluster_played, played_by, played, flowed, flowing, PlayerValue, PlayerState, with_trace, GoesFrom, PlayerPlays, is_unfinished, IsOfCluster, IsWithinFlow, IsBetween, IsReached, ByLine, ByFlow, IsJournalReached, LeadsPlayer, PrintsJournal, HasPrinted}
+use Rattle.ff_replay.specs.Player.{LinePlayed, Outside, Limited, Goes, bare_goes, cluster_goes, flows_by, is_flow, cluster_played, played_by, played, flowed, flowing, PlayerValue, PlayerState, with_trace, GoesFrom, PlayerPlays, is_unfinished, IsOfCluster, IsWithinFlow, IsBetween, LinesLeadTo, AtStart, ByLine, ByFlow, LeadToJournal, LeadsPlayer, PrintsJournal, HasPrinted}
+use Rattle.ff_replay.specs.Ending.{no_trace}
 use Rattle.ff_replay.proofs.PlayLemmas.{trace_append}
 use Rattle.ff_replay.proofs.ScriptLemmas.{line_grows, flow_grows, goes_first, outside_first, limited_first, text_first, goes_within, limited_within, flow_not_outside, text_within, journal_first, journal_outside, journal_limited, journal_within, journal_stops}
 
@@ -187,32 +188,32 @@ in_flowing (Some (ClusterWorld sizes w)) = in_flow sizes w
 
 -- what is done leads to a world that is reached, whose journal goes on with the entries
 abbrev pub LeadsFrom : Option ScriptWorld → LinePlayed → Type 0
-LeadsFrom before does = (next : Option ScriptWorld) (flows : Bool) (entries : List Entry) → does ≡ Goes next flows entries → IsReached next × (journal_so_far next ≡ journal_so_far before ++ entries)
+LeadsFrom before does = (next : Option ScriptWorld) (flows : Bool) (entries : List Entry) → does ≡ Goes next flows entries → LinesLeadTo next × (journal_so_far next ≡ journal_so_far before ++ entries)
 
-line_leads : (before : Option ScriptWorld) (line : List ℕ) → IsReached before → LeadsFrom before (played before line)
+line_leads : (before : Option ScriptWorld) (line : List ℕ) → LinesLeadTo before → LeadsFrom before (played before line)
 line_leads before line reached next flows entries is = (ByLine before next line flows entries reached is, line_grows before next flows line entries is)
 
-flow_leads : (before : Option ScriptWorld) → IsReached before → LeadsFrom before (flowing before)
+flow_leads : (before : Option ScriptWorld) → LinesLeadTo before → LeadsFrom before (flowing before)
 flow_leads before reached next flows entries is = (ByFlow before next flows entries reached is, flow_grows before next flows entries is)
 
 rests_by : (mode : Mode) (before : PlayerState) (new : PlayerValue) (text' : List ℕ) (does : LinePlayed) (r : Result LineStep NoMemory) → FlowsInCluster does → LeadsFrom before.stage does → PlayerPlays mode before does r (with_trace new text')
     → IfOk r (λ done. new.flows ≡ is_unfinished done) → Rests r (IsBetween new) (IsWithinFlow new)
 rests_by mode before new text' does (Ok step.Done) cluster leads goes is =
     let stage : new.stage ≡ goes.next = ap (λ (p : PlayerState). p.stage) goes.now in
-    (ap (λ (p : PlayerState). p.spent) goes.now, is, subst IsReached (sym stage) (leads goes.next false goes.entries goes.is).0)
+    (ap (λ (p : PlayerState). p.spent) goes.now, is, subst LinesLeadTo (sym stage) (leads goes.next false goes.entries goes.is).0)
 rests_by mode before new text' does (Ok step.More) cluster leads goes is =
     let there : IsOfCluster goes.next = subst FlowsInCluster goes.is cluster in
     let stage : new.stage ≡ goes.next = ap (λ (p : PlayerState). p.stage) goes.now in
-    (ap (λ (p : PlayerState). p.spent) goes.now, is, subst IsOfCluster (sym stage) there, subst IsReached (sym stage) (leads goes.next true goes.entries goes.is).0)
+    (ap (λ (p : PlayerState). p.spent) goes.now, is, subst IsOfCluster (sym stage) there, subst LinesLeadTo (sym stage) (leads goes.next true goes.entries goes.is).0)
 rests_by mode before new text' does (Ok step.Outside) cluster leads refuses is = tt
 rests_by mode before new text' does (Ok (step.Limited count)) cluster leads limited is = tt
 rests_by mode before new text' does (Err e) cluster leads begun is = tt
 
-pub rests_line : (old new : PlayerValue) (text text' line : List ℕ) (r : Result LineStep NoMemory) → IsReached old.stage → PlayerPlays old.mode (with_trace old text) (played old.stage line) r (with_trace new text') → IfOk r (λ done. new.flows ≡ is_unfinished done)
+pub rests_line : (old new : PlayerValue) (text text' line : List ℕ) (r : Result LineStep NoMemory) → LinesLeadTo old.stage → PlayerPlays old.mode (with_trace old text) (played old.stage line) r (with_trace new text') → IfOk r (λ done. new.flows ≡ is_unfinished done)
     → Rests r (IsBetween new) (IsWithinFlow new)
 rests_line old new text text' line r reached plays is = rests_by old.mode (with_trace old text) new text' (played old.stage line) r (in_line old.stage line) (line_leads old.stage line reached) plays is
 
-pub rests_flow : (old new : PlayerValue) (text text' : List ℕ) (r : Result LineStep NoMemory) → IsReached old.stage → PlayerPlays old.mode (with_trace old text) (flowing old.stage) r (with_trace new text') → IfOk r (λ done. new.flows ≡ is_unfinished done)
+pub rests_flow : (old new : PlayerValue) (text text' : List ℕ) (r : Result LineStep NoMemory) → LinesLeadTo old.stage → PlayerPlays old.mode (with_trace old text) (flowing old.stage) r (with_trace new text') → IfOk r (λ done. new.flows ≡ is_unfinished done)
     → Rests r (IsBetween new) (IsWithinFlow new)
 rests_flow old new text text' r reached plays is = rests_by old.mode (with_trace old text) new text' (flowing old.stage) r (in_flowing old.stage) (flow_leads old.stage reached) plays is
 
@@ -239,7 +240,7 @@ stays_leads start old new text text' front mode text_is journal range led = reco
   mode = mode ∙ led.mode;
   text_is = ap (λ (t : List ℕ). front ++ t) text_is ∙ led.text_is ∙ ap (trace_of start.mode) (sym journal);
   range = range;
-  reached = subst IsJournalReached (sym journal) led.reached;
+  reached = subst LeadToJournal (sym journal) led.reached;
 }
 
 leads_by : (start old new : PlayerValue) (text text' : List ℕ) (does : LinePlayed) (r : Result LineStep NoMemory) → LeadsFrom old.stage does → new.mode ≡ old.mode → IsJournalInRange (journal_so_far new.stage) → PlayerPlays old.mode (with_trace old text) does r (with_trace new text')
@@ -251,15 +252,22 @@ leads_by start old new text text' does (Ok step.Outside) leads mode range refuse
 leads_by start old new text text' does (Ok (step.Limited count)) leads mode range limited front done is led = stays_leads start old new text text' front mode limited.trace limited.journal range led
 leads_by start old new text text' does (Err e) leads mode range begun front done is led = absurd (cc)
 
-pub leads_line : (start old new : PlayerValue) (text text' line : List ℕ) (r : Result LineStep NoMemory) → IsReached old.stage → new.mode ≡ old.mode → IsJournalInRange (journal_so_far new.stage)
+pub leads_line : (start old new : PlayerValue) (text text' line : List ℕ) (r : Result LineStep NoMemory) → LinesLeadTo old.stage → new.mode ≡ old.mode → IsJournalInRange (journal_so_far new.stage)
     → PlayerPlays old.mode (with_trace old text) (played old.stage line) r (with_trace new text') → LeadsOn (LeadsPlayer start) old text r new text'
 leads_line start old new text text' line r reached mode range plays = leads_by start old new text text' (played old.stage line) r (line_leads old.stage line reached) mode range plays
 
-pub leads_flow : (start old new : PlayerValue) (text text' : List ℕ) (r : Result LineStep NoMemory) → IsReached old.stage → new.mode ≡ old.mode → IsJournalInRange (journal_so_far new.stage)
+pub leads_flow : (start old new : PlayerValue) (text text' : List ℕ) (r : Result LineStep NoMemory) → LinesLeadTo old.stage → new.mode ≡ old.mode → IsJournalInRange (journal_so_far new.stage)
     → PlayerPlays old.mode (with_trace old text) (flowing old.stage) r (with_trace new text') → LeadsOn (LeadsPlayer start) old text r new text'
 leads_flow start old new text text' r reached mode range plays = leads_by start old new text text' (flowing old.stage) r (flow_leads old.stage reached) mode range plays
 
 -- ---- what was printed
+
+-- before the first line
+abbrev pub new_player : Mode → PlayerValue
+new_player mode = record { mode = mode; stage = None; spent = None; flows = false }
+
+pub leads_new : (mode : Mode) → LeadsPlayer (new_player mode) (new_player mode) []
+leads_new mode = record { mode = refl; text_is = sym (no_trace mode); range = tt; reached = record { stage = None; reached = AtStart; is = refl } }
 
 -- a run that a new player began
 pub prints_journal : (start : PlayerValue) (base : List ℕ) (held : Option (List ℕ)) → GotPart (LeadsPlayer start) (task_closing (λ (p : PlayerValue). script_task p.mode p.flows p.stage)) base held → PrintsJournal start.mode base held

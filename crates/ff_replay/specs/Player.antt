@@ -117,15 +117,15 @@ player_of mode (Some s) flows = record { mode = mode; stage = Some (stage_world 
 -- ---- where lines lead
 
 -- what lines, and the deliveries of their flows, make of no world
-pub data IsReached : Option ScriptWorld → Type 0 where
-  AtStart : IsReached None
-  ByLine : (before next : Option ScriptWorld) (line : List ℕ) (flows : Bool) (entries : List Entry) → IsReached before → played before line ≡ Goes next flows entries → IsReached next
-  ByFlow : (before next : Option ScriptWorld) (flows : Bool) (entries : List Entry) → IsReached before → flowing before ≡ Goes next flows entries → IsReached next
+pub data LinesLeadTo : Option ScriptWorld → Type 0 where
+  AtStart : LinesLeadTo None
+  ByLine : (before next : Option ScriptWorld) (line : List ℕ) (flows : Bool) (entries : List Entry) → LinesLeadTo before → played before line ≡ Goes next flows entries → LinesLeadTo next
+  ByFlow : (before next : Option ScriptWorld) (flows : Bool) (entries : List Entry) → LinesLeadTo before → flowing before ≡ Goes next flows entries → LinesLeadTo next
 
 -- a world with this journal is reached
-pub record IsJournalReached (journal : List Entry) : Type 0 where
+pub record LeadToJournal (journal : List Entry) : Type 0 where
   pub stage : Option ScriptWorld
-  pub reached : IsReached stage
+  pub reached : LinesLeadTo stage
   pub is : journal ≡ journal_so_far stage
 
 -- A player that began as the first may have become the second, and printed this text: that of its journal, which is in range.
@@ -133,13 +133,13 @@ pub record LeadsPlayer (start now : PlayerValue) (text : List ℕ) : Type 0 wher
   pub mode : now.mode ≡ start.mode
   pub text_is : text ≡ trace_of start.mode (journal_so_far now.stage)
   pub range : IsJournalInRange (journal_so_far now.stage)
-  pub reached : IsJournalReached (journal_so_far now.stage)
+  pub reached : LeadToJournal (journal_so_far now.stage)
 
 -- What was printed of a sink's bytes is a beginning of the whole text of a journal that is in range, and which lines lead to.
 pub record PrintsJournal (mode : Mode) (base : List ℕ) (held : Option (List ℕ)) : Type 0 where
   pub journal : List Entry
   pub range : IsJournalInRange journal
-  pub reached : IsJournalReached journal
+  pub reached : LeadToJournal journal
   pub part : List ℕ
   pub begins : IsBeginningOf part (trace_of mode journal ++ closing_of mode journal)
   pub got : held ≡ Some (base ++ part)
@@ -151,7 +151,7 @@ HasPrinted mode (Some base) held = PrintsJournal mode base held
 
 -- between two lines, and within a line: a flow of a cluster is under way
 abbrev pub IsBetween : PlayerValue → Type 0
-IsBetween p = (p.spent ≡ None) × (p.flows ≡ false) × IsReached p.stage
+IsBetween p = (p.spent ≡ None) × (p.flows ≡ false) × LinesLeadTo p.stage
 
 abbrev pub IsOfCluster : Option ScriptWorld → Type 0
 IsOfCluster None = ⊥
@@ -159,7 +159,7 @@ IsOfCluster (Some (BareWorld w)) = ⊥
 IsOfCluster (Some (ClusterWorld sizes w)) = ⊤
 
 abbrev pub IsWithinFlow : PlayerValue → Type 0
-IsWithinFlow p = (p.spent ≡ None) × (p.flows ≡ true) × IsOfCluster p.stage × IsReached p.stage
+IsWithinFlow p = (p.spent ≡ None) × (p.flows ≡ true) × IsOfCluster p.stage × LinesLeadTo p.stage
 
 -- how many entries fit yet behind those of the journal
 abbrev pub room_of : Option ScriptWorld → ℕ

@@ -10,7 +10,7 @@ use Rattle.line_runs.specs.declared.end.RunEnd.TheVariants.{Done, BadLine, ReadF
 use Rattle.line_runs.specs.Tasks.{Ahead, HasPrintedPart}
 use Rattle.line_runs.specs.Writing.{IsBeginningOf, WritesText}
 use Rattle.line_runs.specs.Playback.{RunState, Owes, OwesPart, Relieves, ClosesRun}
-use Rattle.line_runs.specs.Leads.{LeadsOn, Stands, Stood, GotPart, StepStands, RunStands, AllStand}
+use Rattle.line_runs.specs.Leads.{LeadsOn, HasLed, HadLed, GotPart, StepHasLed, RunHasLed, EndHasLed}
 
 -- ---- a step that wanted memory
 
@@ -33,11 +33,11 @@ begins_behind : (front x y : List ℕ) → IsBeginningOf x y → IsBeginningOf (
 begins_behind front x y begins = record { rest = begins.rest; whole = append_assoc front x begins.rest ∙ ap (λ l. front ++ l) begins.whole }
 
 module _ {Self : Type 0} (leads : Self → List ℕ → Type 0) (closing : Self → List ℕ) (base : List ℕ) where
-  pub stands_waits : (held : Option (List ℕ)) (task : Self) (waiting : List ℕ) → Stands leads base held task waiting → Stood leads closing base held waiting
+  pub stands_waits : (held : Option (List ℕ)) (task : Self) (waiting : List ℕ) → HasLed leads base held task waiting → HadLed leads closing base held waiting
   stands_waits held task waiting s = record { front = s.front; got = s.got; task = task; text = waiting; led = s.led; begins = record { rest = closing task; whole = refl } }
 
   -- the sink got a beginning of what waited
-  got_of : (held held' : Option (List ℕ)) (waiting part : List ℕ) → IsBeginningOf part waiting → (w : Stood leads closing base held waiting) → held' ≡ Some ((base ++ w.front) ++ part) → GotPart leads closing base held'
+  got_of : (held held' : Option (List ℕ)) (waiting part : List ℕ) → IsBeginningOf part waiting → (w : HadLed leads closing base held waiting) → held' ≡ Some ((base ++ w.front) ++ part) → GotPart leads closing base held'
   got_of held held' waiting part begins w is = record {
     task = w.task;
     text = w.front ++ w.text;
@@ -49,14 +49,14 @@ module _ {Self : Type 0} (leads : Self → List ℕ → Type 0) (closing : Self 
 
   -- ---- text that was written
 
-  pub writes : (held held' : Option (List ℕ)) (waiting : List ℕ) (r : Result (Unit {0}) Failed) → Stood leads closing base held waiting → WritesText held waiting r held' → GotPart leads closing base held'
+  pub writes : (held held' : Option (List ℕ)) (waiting : List ℕ) (r : Result (Unit {0}) Failed) → HadLed leads closing base held waiting → WritesText held waiting r held' → GotPart leads closing base held'
   writes held held' waiting r w wrote = by_result r (subst (λ h. WritesText h waiting r held') w.got wrote)
     where
       by_result : (q : Result (Unit {0}) Failed) → WritesText (Some (base ++ w.front)) waiting q held' → GotPart leads closing base held'
       by_result (Ok x) took = got_of held held' waiting waiting (record { rest = []; whole = append-nil waiting }) w took
       by_result (Err e) took = got_of held held' waiting took.0 took.1 w took.2
 
-  pub flushed : (held held' : Option (List ℕ)) (task : Self) (waiting : List ℕ) (r : Result (Unit {0}) Failed) (x : Unit {0}) → r ≡ Ok x → Stands leads base held task waiting → WritesText held waiting r held' → Stands leads base held' task []
+  pub flushed : (held held' : Option (List ℕ)) (task : Self) (waiting : List ℕ) (r : Result (Unit {0}) Failed) (x : Unit {0}) → r ≡ Ok x → HasLed leads base held task waiting → WritesText held waiting r held' → HasLed leads base held' task []
   flushed held held' task waiting r x is s wrote =
       let took : WritesText (Some (base ++ s.front)) waiting (Ok x) held' = subst (λ h. WritesText h waiting (Ok x) held') s.got (subst (λ q. WritesText held waiting q held') is wrote) in record {
         front = s.front ++ waiting;
@@ -66,7 +66,7 @@ module _ {Self : Type 0} (leads : Self → List ℕ → Type 0) (closing : Self 
 
   -- ---- text that was written where it is long
 
-  pub relieved : (held held' : Option (List ℕ)) (task : Self) (old new : RunState) (r : Result (Unit {0}) Failed) (x : Unit {0}) → r ≡ Ok x → Stands leads base held task old.text → Relieves held old r held' new → Stands leads base held' task new.text
+  pub relieved : (held held' : Option (List ℕ)) (task : Self) (old new : RunState) (r : Result (Unit {0}) Failed) (x : Unit {0}) → r ≡ Ok x → HasLed leads base held task old.text → Relieves held old r held' new → HasLed leads base held' task new.text
   relieved held held' task old new r x is s relieves =
       let owes : Owes held old.text held' new.text = (subst (λ q. Relieves held old q held' new) is relieves).1 in
       let took : Owes (Some (base ++ s.front)) old.text held' new.text = subst (λ h. Owes h old.text held' new.text) s.got owes in record {
@@ -75,7 +75,7 @@ module _ {Self : Type 0} (leads : Self → List ℕ → Type 0) (closing : Self 
         led = subst (λ l. leads task l) (ap (λ l. s.front ++ l) (sym took.2) ∙ sym (append_assoc s.front took.0 new.text)) s.led;
       }
 
-  pub unrelieved : (held held' : Option (List ℕ)) (task : Self) (old new : RunState) (r : Result (Unit {0}) Failed) (e : Failed) → r ≡ Err e → Stands leads base held task old.text → Relieves held old r held' new → GotPart leads closing base held'
+  pub unrelieved : (held held' : Option (List ℕ)) (task : Self) (old new : RunState) (r : Result (Unit {0}) Failed) (e : Failed) → r ≡ Err e → HasLed leads base held task old.text → Relieves held old r held' new → GotPart leads closing base held'
   unfolding stands_waits
   unrelieved held held' task old new r e is s relieves =
       let owes : OwesPart held old.text held' [] = subst (λ q. Relieves held old q held' new) is relieves in
@@ -84,48 +84,48 @@ module _ {Self : Type 0} (leads : Self → List ℕ → Type 0) (closing : Self 
 
   -- ---- a step within a line
 
-  pub stepped : (held : Option (List ℕ)) (task new : Self) (text text' : List ℕ) (r : Result LineStep WantsMemory) → LeadsOn leads task text r new text' → OnErr r (text' ≡ text) → Stands leads base held task text → StepStands leads closing base r held new text'
+  pub stepped : (held : Option (List ℕ)) (task new : Self) (text text' : List ℕ) (r : Result LineStep WantsMemory) → LeadsOn leads task text r new text' → OnErr r (text' ≡ text) → HasLed leads base held task text → StepHasLed leads closing base r held new text'
   stepped held task new text text' (Ok step) on same s = record { front = s.front; got = s.got; led = on s.front step refl s.led }
-  stepped held task new text text' (Err e) on same s = stands_waits held task text' (subst (λ l. Stands leads base held task l) (sym same) s)
+  stepped held task new text text' (Err e) on same s = stands_waits held task text' (subst (λ l. HasLed leads base held task l) (sym same) s)
 
-  pub step_stands : (held : Option (List ℕ)) (task : Self) (text : List ℕ) (r : Result LineStep WantsMemory) (step : LineStep) → r ≡ Ok step → StepStands leads closing base r held task text → Stands leads base held task text
-  step_stands held task text r step is s = subst (λ q. StepStands leads closing base q held task text) is s
+  pub step_stands : (held : Option (List ℕ)) (task : Self) (text : List ℕ) (r : Result LineStep WantsMemory) (step : LineStep) → r ≡ Ok step → StepHasLed leads closing base r held task text → HasLed leads base held task text
+  step_stands held task text r step is s = subst (λ q. StepHasLed leads closing base q held task text) is s
 
-  pub step_stood : (held : Option (List ℕ)) (task : Self) (text : List ℕ) (r : Result LineStep WantsMemory) (e : WantsMemory) → r ≡ Err e → StepStands leads closing base r held task text → Stood leads closing base held text
-  step_stood held task text r e is s = subst (λ q. StepStands leads closing base q held task text) is s
+  pub step_stood : (held : Option (List ℕ)) (task : Self) (text : List ℕ) (r : Result LineStep WantsMemory) (e : WantsMemory) → r ≡ Err e → StepHasLed leads closing base r held task text → HadLed leads closing base held text
+  step_stood held task text r e is s = subst (λ q. StepHasLed leads closing base q held task text) is s
 
   -- ---- where a run could not write
 
-  pub run_got : (held : Option (List ℕ)) (task : Self) (text : List ℕ) (q : Result (Option RunEnd) Failed) (e : Failed) → q ≡ Err e → GotPart leads closing base held → RunStands leads closing base q held task text
-  run_got held task text q e is got = subst (λ x. RunStands leads closing base x held task text) (sym is) got
+  pub run_got : (held : Option (List ℕ)) (task : Self) (text : List ℕ) (q : Result (Option RunEnd) Failed) (e : Failed) → q ≡ Err e → GotPart leads closing base held → RunHasLed leads closing base q held task text
+  run_got held task text q e is got = subst (λ x. RunHasLed leads closing base x held task text) (sym is) got
 
-  pub run_lost : (held : Option (List ℕ)) (task : Self) (text : List ℕ) (r : Result (Option RunEnd) Failed) (e : Failed) → r ≡ Err e → RunStands leads closing base r held task text → GotPart leads closing base held
-  run_lost held task text r e is s = subst (λ x. RunStands leads closing base x held task text) is s
+  pub run_lost : (held : Option (List ℕ)) (task : Self) (text : List ℕ) (r : Result (Option RunEnd) Failed) (e : Failed) → r ≡ Err e → RunHasLed leads closing base r held task text → GotPart leads closing base held
+  run_lost held task text r e is s = subst (λ x. RunHasLed leads closing base x held task text) is s
 
-  pub all_got : (held : Option (List ℕ)) (task : Self) (text : List ℕ) (q : Result RunEnd Failed) (e : Failed) → q ≡ Err e → GotPart leads closing base held → AllStand leads closing base q held task text
-  all_got held task text q e is got = subst (λ x. AllStand leads closing base x held task text) (sym is) got
+  pub all_got : (held : Option (List ℕ)) (task : Self) (text : List ℕ) (q : Result RunEnd Failed) (e : Failed) → q ≡ Err e → GotPart leads closing base held → EndHasLed leads closing base q held task text
+  all_got held task text q e is got = subst (λ x. EndHasLed leads closing base x held task text) (sym is) got
 
-  pub all_lost : (held : Option (List ℕ)) (task : Self) (text : List ℕ) (q : Result RunEnd Failed) (e : Failed) → q ≡ Err e → AllStand leads closing base q held task text → GotPart leads closing base held
-  all_lost held task text q e is s = subst (λ x. AllStand leads closing base x held task text) is s
+  pub all_lost : (held : Option (List ℕ)) (task : Self) (text : List ℕ) (q : Result RunEnd Failed) (e : Failed) → q ≡ Err e → EndHasLed leads closing base q held task text → GotPart leads closing base held
+  all_lost held task text q e is s = subst (λ x. EndHasLed leads closing base x held task text) is s
 
   -- ---- the closing text
 
-  closes_part : (held : Option (List ℕ)) (task : Self) (text part : List ℕ) → IsBeginningOf part (closing task) → Stands leads base held task text → Stood leads closing base held (text ++ part)
+  closes_part : (held : Option (List ℕ)) (task : Self) (text part : List ℕ) → IsBeginningOf part (closing task) → HasLed leads base held task text → HadLed leads closing base held (text ++ part)
   closes_part held task text part begins s = record { front = s.front; got = s.got; task = task; text = text; led = s.led; begins = begins_behind text part (closing task) begins }
 
   -- all of it, or a beginning
-  closed : {A B C : Type 0} (held : Option (List ℕ)) (task : Self) (text text' : List ℕ) → (A × (text' ≡ text ++ closing task)) ⊎ (B × C × ((part : List ℕ) × IsBeginningOf part (closing task) × (text' ≡ text ++ part))) → Stands leads base held task text
-      → Stood leads closing base held text'
-  closed held task text text' (inl whole) s = subst (λ l. Stood leads closing base held l) (sym whole.1) (closes_part held task text (closing task) (record { rest = []; whole = append-nil (closing task) }) s)
-  closed held task text text' (inr (b, c, part)) s = subst (λ l. Stood leads closing base held l) (sym part.2) (closes_part held task text part.0 part.1 s)
+  closed : {A B C : Type 0} (held : Option (List ℕ)) (task : Self) (text text' : List ℕ) → (A × (text' ≡ text ++ closing task)) ⊎ (B × C × ((part : List ℕ) × IsBeginningOf part (closing task) × (text' ≡ text ++ part))) → HasLed leads base held task text
+      → HadLed leads closing base held text'
+  closed held task text text' (inl whole) s = subst (λ l. HadLed leads closing base held l) (sym whole.1) (closes_part held task text (closing task) (record { rest = []; whole = append-nil (closing task) }) s)
+  closed held task text text' (inr (b, c, part)) s = subst (λ l. HadLed leads closing base held l) (sym part.2) (closes_part held task text part.0 part.1 s)
 
-  pub close_stands : (held : Option (List ℕ)) (task : Self) (text text' : List ℕ) (end end' : RunEnd) → ClosesRun end (closing task) text end' text' → RunStands leads closing base (Ok (Some end)) held task text → Stood leads closing base held text'
+  pub close_stands : (held : Option (List ℕ)) (task : Self) (text text' : List ℕ) (end end' : RunEnd) → ClosesRun end (closing task) text end' text' → RunHasLed leads closing base (Ok (Some end)) held task text → HadLed leads closing base held text'
   close_stands held task text text' Done end' closes s = closed held task text text' closes s
   close_stands held task text text' (BadLine n) end' closes s = closed held task text text' closes s
   close_stands held task text text' (Limit count) end' closes s = closed held task text text' closes s
-  close_stands held task text text' ReadFault end' (inl same) s = subst (λ l. Stood leads closing base held l) (sym same.1) s
+  close_stands held task text text' ReadFault end' (inl same) s = subst (λ l. HadLed leads closing base held l) (sym same.1) s
   close_stands held task text text' ReadFault end' (inr part) s = let no : false ≡ true = part.0 in absurd (cc)
-  close_stands held task text text' WriteFault end' (inl same) s = subst (λ l. Stood leads closing base held l) (sym same.1) s
+  close_stands held task text text' WriteFault end' (inl same) s = subst (λ l. HadLed leads closing base held l) (sym same.1) s
   close_stands held task text text' WriteFault end' (inr part) s = let no : false ≡ true = part.0 in absurd (cc)
-  close_stands held task text text' NoMemory end' (inl same) s = subst (λ l. Stood leads closing base held l) (sym same.1) s
+  close_stands held task text text' NoMemory end' (inl same) s = subst (λ l. HadLed leads closing base held l) (sym same.1) s
   close_stands held task text text' NoMemory end' (inr part) s = let no : false ≡ true = part.0 in absurd (cc)

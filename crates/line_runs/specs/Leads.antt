@@ -17,13 +17,13 @@ abbrev pub task_closing : {Self State : Type 0} → (Self → TaskValue State) �
 task_closing value task = (value task).closing
 
 -- A run has led a task where it is. A sink that held these bytes at first got all of its text but what waits to be written.
-pub record Stands {Self : Type 0} (leads : Self → List ℕ → Type 0) (base : List ℕ) (held : Option (List ℕ)) (task : Self) (waiting : List ℕ) : Type 0 where
+pub record HasLed {Self : Type 0} (leads : Self → List ℕ → Type 0) (base : List ℕ) (held : Option (List ℕ)) (task : Self) (waiting : List ℕ) : Type 0 where
   pub front : List ℕ
   pub got : held ≡ Some (base ++ front)
   pub led : leads task (front ++ waiting)
 
 -- A run has led to a task; with its closing text, what waits continues what the sink got.
-pub record Stood {Self : Type 0} (leads : Self → List ℕ → Type 0) (closing : Self → List ℕ) (base : List ℕ) (held : Option (List ℕ)) (waiting : List ℕ) : Type 0 where
+pub record HadLed {Self : Type 0} (leads : Self → List ℕ → Type 0) (closing : Self → List ℕ) (base : List ℕ) (held : Option (List ℕ)) (waiting : List ℕ) : Type 0 where
   pub front : List ℕ
   pub got : held ≡ Some (base ++ front)
   pub task : Self
@@ -41,22 +41,22 @@ pub record GotPart {Self : Type 0} (leads : Self → List ℕ → Type 0) (closi
   pub got : held ≡ Some (base ++ part)
 
 -- behind a step within a line
-abbrev pub StepStands : {Self : Type 0} → (Self → List ℕ → Type 0) → (Self → List ℕ) → List ℕ → Result LineStep WantsMemory → Option (List ℕ) → Self → List ℕ → Type 0
-StepStands leads closing base (Ok step) held task waiting = Stands leads base held task waiting
-StepStands leads closing base (Err e) held task waiting = Stood leads closing base held waiting
+abbrev pub StepHasLed : {Self : Type 0} → (Self → List ℕ → Type 0) → (Self → List ℕ) → List ℕ → Result LineStep WantsMemory → Option (List ℕ) → Self → List ℕ → Type 0
+StepHasLed leads closing base (Ok step) held task waiting = HasLed leads base held task waiting
+StepHasLed leads closing base (Err e) held task waiting = HadLed leads closing base held waiting
 
 -- Behind a step of a run: it goes on or lines ended it; the source failed or memory was wanted; or the text could not be written.
-abbrev pub RunStands : {Self : Type 0} → (Self → List ℕ → Type 0) → (Self → List ℕ) → List ℕ → Result (Option RunEnd) Failed → Option (List ℕ) → Self → List ℕ → Type 0
-RunStands leads closing base (Ok None) held task waiting = Stands leads base held task waiting
-RunStands leads closing base (Ok (Some Done)) held task waiting = Stands leads base held task waiting
-RunStands leads closing base (Ok (Some (BadLine n))) held task waiting = Stands leads base held task waiting
-RunStands leads closing base (Ok (Some (Limit count))) held task waiting = Stands leads base held task waiting
-RunStands leads closing base (Ok (Some ReadFault)) held task waiting = Stood leads closing base held waiting
-RunStands leads closing base (Ok (Some WriteFault)) held task waiting = Stood leads closing base held waiting
-RunStands leads closing base (Ok (Some NoMemory)) held task waiting = Stood leads closing base held waiting
-RunStands leads closing base (Err e) held task waiting = GotPart leads closing base held
+abbrev pub RunHasLed : {Self : Type 0} → (Self → List ℕ → Type 0) → (Self → List ℕ) → List ℕ → Result (Option RunEnd) Failed → Option (List ℕ) → Self → List ℕ → Type 0
+RunHasLed leads closing base (Ok None) held task waiting = HasLed leads base held task waiting
+RunHasLed leads closing base (Ok (Some Done)) held task waiting = HasLed leads base held task waiting
+RunHasLed leads closing base (Ok (Some (BadLine n))) held task waiting = HasLed leads base held task waiting
+RunHasLed leads closing base (Ok (Some (Limit count))) held task waiting = HasLed leads base held task waiting
+RunHasLed leads closing base (Ok (Some ReadFault)) held task waiting = HadLed leads closing base held waiting
+RunHasLed leads closing base (Ok (Some WriteFault)) held task waiting = HadLed leads closing base held waiting
+RunHasLed leads closing base (Ok (Some NoMemory)) held task waiting = HadLed leads closing base held waiting
+RunHasLed leads closing base (Err e) held task waiting = GotPart leads closing base held
 
 -- behind all steps
-abbrev pub AllStand : {Self : Type 0} → (Self → List ℕ → Type 0) → (Self → List ℕ) → List ℕ → Result RunEnd Failed → Option (List ℕ) → Self → List ℕ → Type 0
-AllStand leads closing base (Ok end) held task waiting = RunStands leads closing base (Ok (Some end)) held task waiting
-AllStand leads closing base (Err e) held task waiting = GotPart leads closing base held
+abbrev pub EndHasLed : {Self : Type 0} → (Self → List ℕ → Type 0) → (Self → List ℕ) → List ℕ → Result RunEnd Failed → Option (List ℕ) → Self → List ℕ → Type 0
+EndHasLed leads closing base (Ok end) held task waiting = RunHasLed leads closing base (Ok (Some end)) held task waiting
+EndHasLed leads closing base (Err e) held task waiting = GotPart leads closing base held

@@ -7,7 +7,7 @@ ghost use Rattle.line_runs.specs.Lines.{HoldsNoLine, IsWithinBudget, ReadsLine};
 ghost use Rattle.line_runs.specs.Writing.{WritesText};
 ghost use Rattle.line_runs.specs.Runs.{Runs, HasBecome, read_faults, write_faults};
 ghost use Rattle.line_runs.specs.Tasks.{BeginsLine, StepsFrom, Rests, ahead_of, on_line};
-ghost use Rattle.line_runs.specs.Leads.{LeadsOn, Stands, GotPart, RunStands, AllStand, task_closing};
+ghost use Rattle.line_runs.specs.Leads.{LeadsOn, HasLed, GotPart, RunHasLed, EndHasLed, task_closing};
 ghost use Rattle.line_runs.specs.declared.end.LineStep.TheVariants as step;
 ghost use Rattle.line_runs.specs.Playback.{start, with_text, full, stand, at_line, StepFaults, LinesFaults, HasWrittenAll, PlaybackSteps, PlaysAll, Finishes, ClosesRun, Relieves, LinePlays, LastPlays, IsOfLine, to_do};
 
@@ -149,7 +149,7 @@ impl Playback {
         requires some { 0 < taken }
         requires within { taken ≤ self.old.room }
         ensures told { T.fresh task.old → LinePlays (K.held sink.old) (at_line taken line.now (stand (T.value task.old) self.old)) result (K.held sink.new) (T.value task.new) (stand (T.value task.new) self.new) }
-        ensures stands { T.fresh task.old → (start : T) (base : List ℕ) → Stands (T.leads start) base (K.held sink.old) task.old self.old.text → RunStands (T.leads start) (task_closing T.value) base result (K.held sink.new) task.new self.new.text }
+        ensures stands { T.fresh task.old → (start : T) (base : List ℕ) → HasLed (T.leads start) base (K.held sink.old) task.old self.old.text → RunHasLed (T.leads start) (task_closing T.value) base result (K.held sink.new) task.new self.new.text }
         ensures rests { T.fresh task.old → result ≡ Ok None → T.fresh task.new }
         ensures ends { IfOk result (λ end. IfSome end (λ e. IsOfLine e)) }
         ensures room { self.new.room < self.old.room }
@@ -183,7 +183,7 @@ impl Playback {
     ) -> Result<Option<RunEnd>, Failed>
         requires within { length line.now ≤ self.old.room }
         ensures told { T.fresh task.old → LastPlays (K.held sink.old) line.now (T.value task.old) (stand (T.value task.old) self.old) result (K.held sink.new) (T.value task.new) (stand (T.value task.new) self.new) }
-        ensures stands { T.fresh task.old → (start : T) (base : List ℕ) → Stands (T.leads start) base (K.held sink.old) task.old self.old.text → RunStands (T.leads start) (task_closing T.value) base result (K.held sink.new) task.new self.new.text }
+        ensures stands { T.fresh task.old → (start : T) (base : List ℕ) → HasLed (T.leads start) base (K.held sink.old) task.old self.old.text → RunHasLed (T.leads start) (task_closing T.value) base result (K.held sink.new) task.new self.new.text }
         ensures rests { T.fresh task.old → result ≡ Ok (Some ends.Done) → T.fresh task.new }
         ensures ends { IfOk result (λ end. IfSome end (λ e. IsOfLine e)) }
         ensures some { result ≡ Ok None → ⊥ }
@@ -222,7 +222,7 @@ impl Playback {
         line: &mut Vec<u8>,
     ) -> Result<Option<RunEnd>, Failed>
         ensures told { T.fresh task.old → PlaybackSteps (S.left source.old) (K.held sink.old) (stand (T.value task.old) self.old) result (S.left source.new) (K.held sink.new) (T.value task.new) (stand (T.value task.new) self.new) }
-        ensures stands { T.fresh task.old → (start : T) (base : List ℕ) → Stands (T.leads start) base (K.held sink.old) task.old self.old.text → RunStands (T.leads start) (task_closing T.value) base result (K.held sink.new) task.new self.new.text }
+        ensures stands { T.fresh task.old → (start : T) (base : List ℕ) → HasLed (T.leads start) base (K.held sink.old) task.old self.old.text → RunHasLed (T.leads start) (task_closing T.value) base result (K.held sink.new) task.new self.new.text }
         ensures goes_on { T.fresh task.old → result ≡ Ok None → T.fresh task.new }
         ensures shrinks { OnOk result (result ≡ Ok None → to_do self.new < to_do self.old) }
         ensures written { IfOk result (λ end. IfSome end (λ e. HasWrittenAll e self.new.text)) }
@@ -251,7 +251,7 @@ impl Playback {
         sink: &mut K,
     ) -> Result<RunEnd, Failed>
         ensures told { T.fresh task.old → PlaysAll (S.left source.old) (K.held sink.old) (stand (T.value task.old) self.old) result (S.left source.new) (K.held sink.new) (T.value task.new) self.new.text }
-        ensures stands { T.fresh task.old → (start : T) (base : List ℕ) → Stands (T.leads start) base (K.held sink.old) task.old self.old.text → AllStand (T.leads start) (task_closing T.value) base result (K.held sink.new) task.new self.new.text }
+        ensures stands { T.fresh task.old → (start : T) (base : List ℕ) → HasLed (T.leads start) base (K.held sink.old) task.old self.old.text → EndHasLed (T.leads start) (task_closing T.value) base result (K.held sink.new) task.new self.new.text }
         ensures written { IfOk result (λ end. HasWrittenAll end self.new.text) }
         ensures reads { LinesFaults result (S.faults source.old) (S.faults source.new) }
         ensures writes { K.faults sink.new ≡ counted result (K.faults sink.old) }
@@ -287,7 +287,7 @@ impl Playback {
         sink: &mut K,
     ) -> Result<RunEnd, Failed>
         ensures told { T.fresh task.old → Finishes (S.left source.old) (K.held sink.old) (stand (T.value task.old) self.old) result (S.left source.new) (K.held sink.new) (T.value task.new).state [] }
-        ensures stands { T.fresh task.old → (start : T) (base : List ℕ) → Stands (T.leads start) base (K.held sink.old) task.old self.old.text → GotPart (T.leads start) (task_closing T.value) base (K.held sink.new) }
+        ensures stands { T.fresh task.old → (start : T) (base : List ℕ) → HasLed (T.leads start) base (K.held sink.old) task.old self.old.text → GotPart (T.leads start) (task_closing T.value) base (K.held sink.new) }
         ensures reads { LinesFaults result (S.faults source.old) (S.faults source.new) }
         ensures writes { K.faults sink.new ≡ counted result (K.faults sink.old) }
     {

@@ -12,7 +12,7 @@ use Rattle.ff_world.specs.World.{WorldState, WorldStep, preset_world, world_step
 use Rattle.ff_replay.specs.declared.setup.Setup.{Setup}
 use Rattle.ff_replay.specs.declared.setup.Setup.TheVariants.{Bare, Cluster}
 use Rattle.ff_replay.specs.Script.{ScriptLine, SaysNothing, SetsUp, Happens, ScriptWorld, BareWorld, ClusterWorld, script_of, world_of, world_in, run_in, setup_of, line_in, journal_so_far}
-use Rattle.ff_replay.specs.Player.{LinePlayed, Outside, Limited, Goes, bare_goes, cluster_goes, flows_by, flowing, is_flow, cluster_played, played_by, IsReached, AtStart, ByLine, ByFlow}
+use Rattle.ff_replay.specs.Player.{LinePlayed, Outside, Limited, Goes, bare_goes, cluster_goes, flows_by, flowing, is_flow, cluster_played, played_by, LinesLeadTo, AtStart, ByLine, ByFlow}
 use Rattle.ff_replay.proofs.Flows.{let_in}
 use Rattle.world_moves.specs.WorldMoves.{TellsTruth}
 use Rattle.script_laws.specs.ScriptLaws.{ObeysLaws, EndsTrue, EveryScriptObeys, EveryReachedObeys, LawsOfScripts, cluster_end, end_in}
@@ -104,7 +104,7 @@ module _ (IsRun : ℕ → ClusterState → Type 0) (starts : (servers mirrors cl
   flowing_leads (Some (BareWorld w)) is = is
   flowing_leads (Some (ClusterWorld sizes w)) is = flow_leads sizes w is (next_waiting (packets w))
 
-  reached_is : (stage : Option ScriptWorld) → IsReached stage → IsStage stage
+  reached_is : (stage : Option ScriptWorld) → LinesLeadTo stage → IsStage stage
   reached_is stage AtStart = tt
   reached_is stage (ByLine before next line flows entries reached is) =
       subst LeadsToStage is (said_leads before (reached_is before reached) (line_in (setup_of before) line) (line_so (setup_of before) line) (λ chosen sets. line_sets (setup_of before) line chosen sets))

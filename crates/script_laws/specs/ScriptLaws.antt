@@ -18,7 +18,7 @@ use Rattle.world_rule.specs.ClusterWorlds.{ClusterState, packets, new_cluster, c
 use Rattle.ff_replay.specs.declared.setup.Setup.{Setup}
 use Rattle.ff_replay.specs.declared.setup.Setup.TheVariants.{Bare, Cluster}
 use Rattle.ff_replay.specs.Script.{Script, script_of, run_from, script_budget, trace_of, closing_of}
-use Rattle.ff_replay.specs.Player.{IsJournalReached}
+use Rattle.ff_replay.specs.Player.{LeadToJournal}
 use Rattle.ff_laws.specs.ReadLaw.{ObeysReads}
 use Rattle.world_moves.specs.WorldMoves.{TellsTruth}
 
@@ -93,7 +93,7 @@ EveryScriptObeys = (lines : List (List ℕ)) → ScriptObeys lines
 
 -- The journal of every world that lines lead to, and the deliveries of their flows, obeys all laws where it is in range.
 abbrev pub EveryReachedObeys : Type 0
-EveryReachedObeys = (journal : List Entry) → IsJournalReached journal → IsJournalInRange journal → ObeysLaws journal
+EveryReachedObeys = (journal : List Entry) → LeadToJournal journal → IsJournalInRange journal → ObeysLaws journal
 
 pub record LawsOfScripts : Type 0 where
   pub scripts : EveryScriptObeys
@@ -115,7 +115,7 @@ PlaysLawfully (Some bytes) ends.NoMemory = ⊤
 -- What was printed behind a sink's bytes is a beginning of the whole text of a journal that lines lead to, which obeys all laws.
 pub record PrintsLawful (mode : Mode) (base : List ℕ) (held : Option (List ℕ)) : Type 0 where
   pub journal : List Entry
-  pub reached : IsJournalReached journal
+  pub reached : LeadToJournal journal
   pub obeys : ObeysLaws journal
   pub part : List ℕ
   pub begins : IsBeginningOf part (trace_of mode journal ++ closing_of mode journal)

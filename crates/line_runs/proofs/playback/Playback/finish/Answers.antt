@@ -3,7 +3,7 @@ use Rattle.std.proofs.lemmas.Result.{err_from_is_err_and}
 use Rattle.rpc_record.specs.declared.stream.Failed.{Failed}
 use Rattle.line_runs.specs.declared.end.RunEnd.{RunEnd}
 use Rattle.line_runs.specs.Playback.{stand, HasWrittenAll}
-use Rattle.line_runs.specs.Leads.{AllStand, task_closing}
+use Rattle.line_runs.specs.Leads.{EndHasLed, task_closing}
 use Rattle.line_runs.proofs.LeadLemmas.{all_lost, writes, close_stands}
 use Rattle.line_runs.proofs.EndLemmas.{closed, closed_faults, finished, closed_written, finished_err, unfinished, faults_err}
 use Rattle.line_runs.proofs.playback.Playback.finish.Goals as goal
@@ -60,7 +60,7 @@ returns-in_err-flush-clause-stands g c fresh start base so =
     let new = c.play.new in
     writes leads closing base (held new.sink) (held c.flush.new.sink) c.close-end.new.self.text c.flush.result
     (close_stands leads closing base (held new.sink) new.task new.self.text c.close-end.new.self.text c.in_ok-ended.ended c.close-end.result c.close-end.ensures.closes
-    (subst (λ (r : Result RunEnd Failed). AllStand leads closing base r (held new.sink) new.task new.self.text) c.in_ok-ended.was (c.play.ensures.stands fresh start base so)))
+    (subst (λ (r : Result RunEnd Failed). EndHasLed leads closing base r (held new.sink) new.task new.self.text) c.in_ok-ended.was (c.play.ensures.stands fresh start base so)))
     c.flush.ensures.told
 
 pub returns-clause-stands : goal.returns-clause-stands
@@ -71,5 +71,5 @@ returns-clause-stands g c fresh start base so =
     let new = c.play.new in
     writes leads closing base (held new.sink) (held c.flush.new.sink) c.close-end.new.self.text c.flush.result
     (close_stands leads closing base (held new.sink) new.task new.self.text c.close-end.new.self.text c.in_ok-ended.ended c.close-end.result c.close-end.ensures.closes
-    (subst (λ (r : Result RunEnd Failed). AllStand leads closing base r (held new.sink) new.task new.self.text) c.in_ok-ended.was (c.play.ensures.stands fresh start base so)))
+    (subst (λ (r : Result RunEnd Failed). EndHasLed leads closing base r (held new.sink) new.task new.self.text) c.in_ok-ended.was (c.play.ensures.stands fresh start base so)))
     c.flush.ensures.told

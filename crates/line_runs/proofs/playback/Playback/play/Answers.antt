@@ -4,7 +4,7 @@ use Rattle.rpc_record.specs.Stream.{counted}
 use Rattle.rpc_record.specs.declared.stream.Failed.{Failed}
 use Rattle.line_runs.specs.declared.end.RunEnd.{RunEnd}
 use Rattle.line_runs.specs.Playback.{stand, StepFaults}
-use Rattle.line_runs.specs.Leads.{RunStands, task_closing}
+use Rattle.line_runs.specs.Leads.{RunHasLed, task_closing}
 use Rattle.line_runs.proofs.LeadLemmas.{all_got, run_lost}
 use Rattle.line_runs.proofs.EndLemmas.{goes, finishes, finishes_err, written_after}
 use Rattle.line_runs.proofs.playback.Playback.play.Goals as goal
@@ -36,7 +36,7 @@ loop-line-preserved g c =
       told = λ fresh. goes (left c.args.source.now) (held c.args.sink.now) (stand (value c.args.task.now) c.args.self.now) (left c.loop-line.source) (held c.loop-line.sink) (stand (value c.loop-line.task) c.loop-line.self) _ _
           (value c.next.new.task) (stand (value c.next.new.task) c.next.new.self) c.next.result on (c.loop-line.invariant.told fresh) (c.next.ensures.told (c.loop-line.invariant.fresh fresh));
       stands = λ fresh start base so.
-          subst (λ (r : Result (Option RunEnd) Failed). RunStands (g.T.LineTask.leads start) (task_closing value) base r (held c.next.new.sink) c.next.new.task c.next.new.self.text) on
+          subst (λ (r : Result (Option RunEnd) Failed). RunHasLed (g.T.LineTask.leads start) (task_closing value) base r (held c.next.new.sink) c.next.new.task c.next.new.self.text) on
           (c.next.ensures.stands (c.loop-line.invariant.fresh fresh) start base (c.loop-line.invariant.stands fresh start base so));
       reads = subst (λ (r : Result (Option RunEnd) Failed). StepFaults r (g.S.Source.faults c.loop-line.source) (g.S.Source.faults c.next.new.source)) on c.next.ensures.reads ∙ c.loop-line.invariant.reads;
       writes = subst (λ (r : Result (Option RunEnd) Failed). g.K.Sink.faults c.next.new.sink ≡ counted r (g.K.Sink.faults c.loop-line.sink)) on c.next.ensures.writes ∙ c.loop-line.invariant.writes;
@@ -57,5 +57,5 @@ returns-in_err-end-clause-stands g c fresh start base so =
 
 pub returns-in-Some-clause-stands : goal.returns-in-Some-clause-stands
 returns-in-Some-clause-stands g c fresh start base so =
-    subst (λ (r : Result (Option RunEnd) Failed). RunStands (g.T.LineTask.leads start) (task_closing g.T.LineTask.value) base r (g.K.Sink.held c.next.new.sink) c.next.new.task c.next.new.self.text) (c.in_ok-end.was ∙ ap (λ x. Ok x) c.in-Some.is)
+    subst (λ (r : Result (Option RunEnd) Failed). RunHasLed (g.T.LineTask.leads start) (task_closing g.T.LineTask.value) base r (g.K.Sink.held c.next.new.sink) c.next.new.task c.next.new.self.text) (c.in_ok-end.was ∙ ap (λ x. Ok x) c.in-Some.is)
     (c.next.ensures.stands (c.loop-line.invariant.fresh fresh) start base (c.loop-line.invariant.stands fresh start base so))
