@@ -14,7 +14,7 @@ use Rattle.journal_print.specs.declared.mode.Mode.{Mode}
 use Rattle.ff_replay.specs.declared.setup.Setup.{Setup}
 use Rattle.ff_replay.specs.declared.setup.Setup.TheVariants.{Bare, Cluster}
 use Rattle.ff_replay.specs.Script.{ScriptLine, SaysNothing, SetsUp, Happens, setup_in, words_in, line_in, Script, by_line, with_event, script_of, ScriptWorld, BareWorld, ClusterWorld, setup_of_world, setup_of, journal_so_far, count_of, world_in, run_in, run_behind, script_from, run_from, trace_of, closing_of, meaning_from, journal_behind}
-use Rattle.ff_replay.specs.Player.{LinePlayed, Outside, Limited, Goes, event_played, played_by, played, flowed, entries_by}
+use Rattle.ff_replay.specs.Player.{LinePlayed, Outside, Limited, Goes, event_played, played_by, played, flowed, entries_by, flowing}
 use Rattle.ff_replay.specs.Ending.{no_trace}
 use Rattle.ff_replay.proofs.PlayLemmas.{trace_append}
 use Rattle.ff_replay.proofs.Happenings.{adds, GoesOn, world_on, within_on}

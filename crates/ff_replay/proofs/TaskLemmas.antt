@@ -245,12 +245,12 @@ stays_leads start old new text text' front mode text_is journal range led = reco
 
 leads_by : (start old new : PlayerValue) (text text' : List ℕ) (does : LinePlayed) (r : Result LineStep NoMemory) → LeadsFrom old.stage does → new.mode ≡ old.mode → IsJournalInRange (journal_so_far new.stage) → PlayerPlays old.mode (with_trace old text) does r (with_trace new text')
     → LeadsOn (LeadsPlayer start) old text r new text'
-leads_by start old new text text' does (Ok step.Done) leads mode range goes front done is led = goes_leads start old new text text' front does false leads mode range goes led
-leads_by start old new text text' does (Ok step.More) leads mode range goes front done is led = goes_leads start old new text text' front does true leads mode range goes led
-leads_by start old new text text' does (Ok step.Outside) leads mode range refuses front done is led =
+leads_by start old new text text' does (Ok step.Done) leads mode range goes front went is led = goes_leads start old new text text' front does false leads mode range goes led
+leads_by start old new text text' does (Ok step.More) leads mode range goes front went is led = goes_leads start old new text text' front does true leads mode range goes led
+leads_by start old new text text' does (Ok step.Outside) leads mode range refuses front went is led =
     stays_leads start old new text text' front mode (ap (λ (p : PlayerState). p.trace) refuses.1) (ap (λ (p : PlayerState). journal_so_far p.stage) refuses.1) range led
-leads_by start old new text text' does (Ok (step.Limited count)) leads mode range limited front done is led = stays_leads start old new text text' front mode limited.trace limited.journal range led
-leads_by start old new text text' does (Err e) leads mode range begun front done is led = absurd (cc)
+leads_by start old new text text' does (Ok (step.Limited count)) leads mode range limited front went is led = stays_leads start old new text text' front mode limited.trace limited.journal range led
+leads_by start old new text text' does (Err e) leads mode range begun front went is led = absurd (cc)
 
 pub leads_line : (start old new : PlayerValue) (text text' line : List ℕ) (r : Result LineStep NoMemory) → LinesLeadTo old.stage → new.mode ≡ old.mode → IsJournalInRange (journal_so_far new.stage)
     → PlayerPlays old.mode (with_trace old text) (played old.stage line) r (with_trace new text') → LeadsOn (LeadsPlayer start) old text r new text'

@@ -1,7 +1,7 @@
-use Rattle.std.proofs.Common.{subst}
+use Rattle.std.proofs.Common.{refl, sym, subst}
 use Rattle.line_runs.specs.Runs.{HasBecome}
 use Rattle.ff_replay.specs.Script.{journal_so_far, journal_behind, script_budget}
-use Rattle.ff_replay.specs.Player.{PlayerValue}
+use Rattle.ff_replay.specs.Player.{PlayerValue, IsBetween, AtStart}
 use Rattle.ff_replay.proofs.PlayLemmas.{ends_in_range}
 use Rattle.ff_replay.proofs.TaskLemmas.{new_player, leads_new, prints_journal, has_printed}
 use Rattle.ff_replay.proofs.script.replay.Goals as goal
@@ -19,3 +19,6 @@ returns-clause-printed g c =
     let held = g.K.Sink.held in
     let got = rw c.new-player.ensures at c.run_lines-end.ensures.got in
     has_printed c.args.mode (held c.args.sink.now) (held c.run_lines-end.new.sink) (λ base is. prints_journal (new_player c.args.mode) base (held c.run_lines-end.new.sink) (got base is (leads_new c.args.mode)))
+
+pub run_lines-end-requires : goal.run_lines-end-requires
+run_lines-end-requires g c = subst IsBetween (sym c.new-player.ensures) (refl, refl, AtStart)
