@@ -34,8 +34,15 @@ pub enum Arrival {
         /// Its bytes, without their marking (RFC 5531, section 11).
         bytes: Data,
     },
-    /// No answer came from this node in time.
-    TimedOut(NodeId),
+    /// The call of this number to this node got no answer in time.
+    TimedOut {
+        /// The node that was called.
+        node: NodeId,
+        /// The call's number (RFC 5531, section 9).
+        xid: u32,
+    },
+    /// Nothing came for a while: time passes.
+    Quiet,
     /// Nothing more comes.
     Closed,
 }
