@@ -1,5 +1,5 @@
 -- A node by its rule: what comes to it, what it does then, and how it ends by itself.
-use Rattle.std.specs.Prelude.{⊤, ◌≡◌, ℕ, Bool, List, [], ◌∷◌, ◌++◌, Option, None, Result}
+use Rattle.std.specs.Prelude.{⊤, ◌≡◌, ℕ, Bool, true, nat_lt, List, [], ◌∷◌, ◌++◌, Option, None, Some, Result}
 use Rattle.cluster_model.specs.declared.ids.NodeId.{NodeId}
 use Rattle.cluster_model.specs.declared.answer.FailCause.{FailCause}
 use Rattle.node_link.specs.declared.link.Arrival.{Arrival}
@@ -11,6 +11,12 @@ pub record NodeEvent : Type 0 where
 
 abbrev pub event_at : ℕ → Arrival → NodeEvent
 event_at moment arrival = record { moment = moment; arrival = arrival }
+
+-- A node is given a moment, as a tick, only where it is above the last one that it was given; the first counts. So what is to be asked again
+-- at the next tick is asked again once in a second, however much comes in it.
+abbrev pub is_new_moment : Option ℕ → ℕ → Bool
+is_new_moment None moment = true
+is_new_moment (Some last) moment = nat_lt last moment
 
 -- records that are sent, each with the node that it goes to
 abbrev pub SentRecords : Type 0

@@ -9,7 +9,7 @@ use Rattle.ff_node.specs.declared.fault.EventFault.TheVariants as fault
 use Rattle.rpc_record.specs.Stream.{one_more}
 use Rattle.cluster_model.specs.declared.answer.FailCause.{FailCause}
 use Rattle.node_link.specs.declared.link.Arrival.{Arrival}
-use Rattle.node_link.specs.declared.link.Arrival.TheVariants.{Record, TimedOut, Closed}
+use Rattle.node_link.specs.declared.link.Arrival.TheVariants.{Record, TimedOut, Quiet, Closed}
 use Rattle.node_config.specs.declared.config.Config.{Config}
 use Rattle.node_link.specs.declared.link.Opening.{Opening}
 use Rattle.node_link.specs.declared.link.Role.{Role}
@@ -56,7 +56,8 @@ GivesMoments coming last (m ∷ moments) coming' last' = (last ≤ m) × ((next 
 -- the arrival says that nothing more comes
 abbrev pub is_closed : Arrival → Bool
 is_closed (Record from bytes) = false
-is_closed (TimedOut node) = false
+is_closed (TimedOut node xid) = false
+is_closed Quiet = false
 is_closed Closed = true
 
 -- none of these does

@@ -4,6 +4,7 @@
 mod config;
 mod end;
 mod fault;
+mod moments;
 mod node;
 mod nothing;
 mod serve;
@@ -11,6 +12,7 @@ mod serve;
 pub use config::{ConfigFault, MAX_LINE, read_config};
 pub use end::NodeEnd;
 pub use fault::EventFault;
+pub use moments::is_new_moment;
 pub use node::Node;
 pub use node_config::Config;
 pub use nothing::{NoSink, StillClock};

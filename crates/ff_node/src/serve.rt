@@ -34,7 +34,8 @@ fn is_closed(arrival: &Arrival) -> bool
     match arrival {
         Arrival::Closed => true,
         Arrival::Record { .. } => false,
-        Arrival::TimedOut(_) => false,
+        Arrival::TimedOut { .. } => false,
+        Arrival::Quiet => false,
     }
 }
 
@@ -42,7 +43,8 @@ fn is_closed(arrival: &Arrival) -> bool
 fn sender(arrival: &Arrival) -> Option<NodeId> {
     match arrival {
         Arrival::Record { from, .. } => Some(*from),
-        Arrival::TimedOut(_) => None,
+        Arrival::TimedOut { .. } => None,
+        Arrival::Quiet => None,
         Arrival::Closed => None,
     }
 }
