@@ -144,7 +144,7 @@ impl Machines {
         let Some(index) = index_of(number, self.clients.len()) else {
             return Ok(());
         };
-        self.clients[index].on_timeout(to, out)
+        self.clients[index].on_timeout(to, None, out)
     }
 
     /// A record from one machine comes to another, at `now`, in seconds; nothing happens where that is none of these.

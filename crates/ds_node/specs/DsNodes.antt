@@ -4,7 +4,7 @@ use Rattle.cluster_model.specs.Server.{ServerState}
 use Rattle.record_link.specs.Messages.{is_call_record}
 use Rattle.node_config.specs.declared.config.Config.{Config}
 use Rattle.node_link.specs.declared.link.Arrival.{Arrival}
-use Rattle.node_link.specs.declared.link.Arrival.TheVariants.{Record, TimedOut, Closed}
+use Rattle.node_link.specs.declared.link.Arrival.TheVariants.{Record, TimedOut, Quiet, Closed}
 use Rattle.store_disk.specs.Disks.{DiskLife, LeavesNow}
 use Rattle.ds_files.specs.Receive.{outcome_of}
 use Rattle.ds_files.specs.Records.{sent_to}
@@ -29,7 +29,8 @@ use Rattle.node_link.specs.Link.{opening_of}
 -- count, and it does not end by itself.
 abbrev pub server_takes : ServerState → Arrival → ServerState × SentRecords
 server_takes s (Record from bytes) = ((outcome_of s bytes).server, sent_to from (outcome_of s bytes).reply)
-server_takes s (TimedOut node) = (s, [])
+server_takes s (TimedOut node xid) = (s, [])
+server_takes s Quiet = (s, [])
 server_takes s Closed = (s, [])
 
 abbrev pub server_rule : NodeRule ServerState
@@ -46,7 +47,8 @@ gives_none (Some reply) = false
 
 abbrev pub server_excuses : ServerState → Arrival → Bool
 server_excuses s (Record from bytes) = is_call_record bytes && gives_none (outcome_of s bytes).reply
-server_excuses s (TimedOut node) = false
+server_excuses s (TimedOut node xid) = false
+server_excuses s Quiet = false
 server_excuses s Closed = false
 
 -- A crash leaves the log of the server as it is; or, where it broke off at an event, of the server as it is before it or behind it.

@@ -110,7 +110,8 @@ impl Node for DsNode {
                 };
                 Ok(is_call_record(bytes.bytes()) && gives_none)
             }
-            Arrival::TimedOut(_) => Ok(false),
+            Arrival::TimedOut { .. } => Ok(false),
+            Arrival::Quiet => Ok(false),
             Arrival::Closed => Ok(false),
         }
     }

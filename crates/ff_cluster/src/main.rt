@@ -1,7 +1,7 @@
 //! A pNFS cluster with flexible-file layouts: replayed from a script, or as processes over TCP.
 #![tactic(auto)]
 
-use ff_run::run;
+use ff_run::{end_without_words, run};
 use file_disk::FileDisk;
 use node_link::{NodeLink, SystemClock};
 use record_tcp::TcpHost;
@@ -22,7 +22,8 @@ fn words(rt: &HostRuntime) -> io::Result<Vec<String>> {
 }
 
 /// Runs the program on the standard input and output, with its notes on the standard error, its disk
-/// in the working folder, its link over TCP and the system's clock. Words that are not UTF-8 are no command.
+/// in the working folder, its link over TCP and the system's clock. Words that are not UTF-8 are no command, and where
+/// memory is wanted for the words the program says so and ends with 8.
 fn main(rt: HostRuntime) -> ExitCode {
     let mut source = StdSource::new(rt.stdin());
     let mut sink = StdSink::new(rt.stdout());
@@ -30,7 +31,13 @@ fn main(rt: HostRuntime) -> ExitCode {
     let mut disk = FileDisk::new(&rt, LOG_FILE);
     let mut link = NodeLink::new(rt.alloc(), TcpHost::new(&rt, rt.alloc()));
     let mut clock = SystemClock::new(&rt);
-    let words = words(&rt).unwrap_or(Vec::new(rt.alloc()));
+    let words = match words(&rt) {
+        Ok(words) => words,
+        Err(e) if e.kind() == io::ErrorKind::OutOfMemory => {
+            return ExitCode::from(end_without_words(rt.alloc(), &mut notes));
+        }
+        Err(_) => Vec::new(rt.alloc()),
+    };
     ExitCode::from(run(
         rt.alloc(),
         &words,

@@ -10,12 +10,12 @@ use Rattle.node_config.specs.declared.config.Config.{Config}
 use Rattle.node_config.specs.Configs.{ConfigValue, config_value}
 use Rattle.node_link.specs.declared.link.Opening.{Opening}
 use Rattle.node_link.specs.declared.link.Role.TheVariants as role
-use Rattle.mds_rule.specs.MdsStates.{MdsValue, new_mds}
+use Rattle.mds_rule.specs.MdsStates.{new_mds}
 use Rattle.command_words.specs.Commands.{CommandValue, Replay, Gen, Show, Ds, Mds, Put, Get}
 use Rattle.ff_node.specs.declared.end.NodeEnd.{NodeEnd}
 use Rattle.ff_node.specs.Config.{Configures, max_line}
 use Rattle.ff_node.specs.Serve.{Beside, OpensThen, NodeRuns, disk_faults, link_faults, sink_faults}
-use Rattle.mds_node.specs.MdsNodes.{mds_node_rule}
+use Rattle.mds_node.specs.MdsNodes.{MdsNodeValue, fresh_mds_node, mds_node_rule}
 use Rattle.user_nodes.specs.Puts.{PutsFile, source_faults}
 use Rattle.user_nodes.specs.Gets.{GetsFile}
 use Rattle.ff_run.specs.declared.serving.Task.{Task}
@@ -169,7 +169,7 @@ RunsNode Ds config old end new =
     × KeepsClock old.around new.around × KeepsSink old.around new.around
 RunsNode Mds config old end new =
     OpensThen old.opened config role.Mds (no_sink old.around) end new.opened (no_sink new.around)
-    ((mds : MdsValue) × NodeRuns mds_node_rule [] (new_mds (config_value config).servers (config_value config).mirrors) config.turns (no_sink old.around) end mds (no_sink new.around))
+    ((node : MdsNodeValue) × NodeRuns mds_node_rule [] (fresh_mds_node (new_mds (config_value config).servers (config_value config).mirrors)) config.turns (no_sink old.around) end node (no_sink new.around))
     × KeepsSink old.around new.around × KeepsDisk old new
 RunsNode (Put name) config old end new =
     ((held : List ℕ) × PutsFile config name (left_behind old.unread) old.opened (no_sink old.around) end (all_left held new.unread) new.opened (no_sink new.around))

@@ -4,5 +4,5 @@
 mod program;
 mod serving;
 
-pub use program::{ProgramEnd, run};
+pub use program::{ProgramEnd, end_without_words, run};
 pub use serving::{Task, serve};

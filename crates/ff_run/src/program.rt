@@ -7,7 +7,9 @@ ghost use Rattle.line_runs.specs.Runs.{Runs, read_faults, write_faults};
 ghost use Rattle.line_runs.specs.Writing.{WritesText};
 ghost use Rattle.command_words.specs.Commands.{IsInGrammar, command_value};
 ghost use Rattle.ff_node.specs.Serve.{beside};
+ghost use Rattle.line_runs.specs.declared.end.RunEnd.TheVariants.{NoMemory};
 ghost use Rattle.ff_run.specs.declared.program.ProgramEnd.{ProgramEnd};
+ghost use Rattle.ff_run.specs.declared.program.ProgramEnd.TheVariants.{Ended};
 ghost use Rattle.ff_run.specs.Node.{IsShortName, observed, task_command};
 ghost use Rattle.ff_replay.specs.Script.{script_budget, script_meaning};
 ghost use Rattle.script_laws.specs.ScriptLaws.{LawsOfScripts, PlaysLawfully, PrintsLawfully};
@@ -243,6 +245,25 @@ fn do_words<S: Source, K: Sink, D: Disk, L: Link, C: Clock>(
     }
 }
 
+/// Writes the line that says how the program ends, and answers its status.
+fn report<E: Sink>(alloc: Global, end: ProgramEnd, notes: &mut E) -> u8
+    ensures { Reports end result (E.held notes.old) (E.held notes.new) (E.faults notes.old) (E.faults notes.new) }
+{
+    match end.tell(alloc, notes) {
+        Ok(()) => end.status(),
+        Err(Failed::Fault) => 5,
+        Err(Failed::NoMemory) => 8,
+    }
+}
+
+/// Ends the program where memory was wanted for its words, so that nothing was done: says `no memory`, and answers its
+/// status, which is 8, or 5 where the notes failed.
+pub fn end_without_words<E: Sink>(alloc: Global, notes: &mut E) -> u8
+    ensures { Reports (Ended NoMemory) result (E.held notes.old) (E.held notes.new) (E.faults notes.old) (E.faults notes.new) }
+{
+    report(alloc, ProgramEnd::Ended(RunEnd::NoMemory), notes)
+}
+
 /// Runs the program: `words` are those behind its name, `source` its standard input, `sink` its
 /// standard output, `notes` its standard error, `disk` what has the log of a data server, `link` what joins it to other
 /// nodes and `clock` its clock, in seconds. The status is 0 where the source was read to its end, all was written, or all turns were served or the
@@ -272,9 +293,5 @@ pub fn run<S: Source, K: Sink, E: Sink, D: Disk, L: Link, C: Clock>(
     // (what the journals of scripts obey has no code: this brings its proof)
     script_laws();
     let end = do_words(alloc, words, source, sink, disk, link, clock);
-    match end.tell(alloc, notes) {
-        Ok(()) => end.status(),
-        Err(Failed::Fault) => 5,
-        Err(Failed::NoMemory) => 8,
-    }
+    report(alloc, end, notes)
 }

@@ -1,26 +1,26 @@
 -- An event of a metadata server: the tick, and what arrived.
-use Rattle.std.proofs.Common.{◌≡◌, ℕ, ◌++◌, sym, ap, ◌∙◌, append_assoc, refl, subst, [], Err}
+use Rattle.std.proofs.Common.{◌≡◌, ℕ, ◌++◌, sym, ap, ◌∙◌, append_assoc, refl, subst, [], Some, Err}
 use Rattle.std.proofs.lemmas.List.{map-append}
 use Rattle.rpc_record.specs.declared.stream.Failed.{Failed}
 use Rattle.rpc_record.specs.declared.stream.Failed.TheVariants.{Fault, NoMemory}
 use Rattle.rpc_record.specs.Stream.{counted}
 use Rattle.mds_rule.specs.MdsStates.{MdsValue}
-use Rattle.mds_rule.specs.Events.{takes_tick}
 use Rattle.mds_rule.specs.Spelled.{records_sent, spelled_send}
 use Rattle.ff_node.specs.Nodes.{NodeEvent, SentRecords}
 use Rattle.ff_node.specs.Serve.{Beside, NodeRuns, end_of_link, link_faults, sink_faults, disk_faults}
 use Rattle.ff_node.specs.declared.end.NodeEnd.{NodeEnd}
-use Rattle.mds_node.specs.MdsNodes.{mds_hears, mds_does, mds_node_rule}
+use Rattle.mds_node.specs.MdsNodes.{MdsNodeValue, mds_passes, mds_hears, mds_does, mds_node_after, mds_node_rule}
 
-pub state_does : (e : NodeEvent) (m mid last : MdsValue) → mid ≡ (takes_tick e.moment m).mds → last ≡ (mds_hears e.moment e.arrival mid).mds → last ≡ (mds_does e m).mds
-state_does e m mid last ticked heard = heard ∙ ap (λ (x : MdsValue). (mds_hears e.moment e.arrival x).mds) ticked
+pub state_does : (e : NodeEvent) (n : MdsNodeValue) (mid last : MdsValue) (after : MdsNodeValue) → mid ≡ (mds_passes n.last e.moment n.mds).mds → last ≡ (mds_hears e.moment e.arrival mid).mds → after ≡ record { mds = last; last = Some e.moment } → after ≡ mds_node_after e n
+state_does e n mid last after passed heard is =
+    is ∙ ap (λ (m : MdsValue). record { mds = m; last = Some e.moment }) (heard ∙ ap (λ (x : MdsValue). (mds_hears e.moment e.arrival x).mds) passed)
 
-pub sends_does : (e : NodeEvent) (m mid : MdsValue) (old between last : SentRecords) → mid ≡ (takes_tick e.moment m).mds → between ≡ old ++ records_sent (takes_tick e.moment m)
-    → last ≡ between ++ records_sent (mds_hears e.moment e.arrival mid) → last ≡ old ++ records_sent (mds_does e m)
-sends_does e m mid old between last ticked first then =
-    let a = takes_tick e.moment m in
+pub sends_does : (e : NodeEvent) (n : MdsNodeValue) (mid : MdsValue) (old between last : SentRecords) → mid ≡ (mds_passes n.last e.moment n.mds).mds → between ≡ old ++ records_sent (mds_passes n.last e.moment n.mds)
+    → last ≡ between ++ records_sent (mds_hears e.moment e.arrival mid) → last ≡ old ++ records_sent (mds_does e n)
+sends_does e n mid old between last passed first then =
+    let a = mds_passes n.last e.moment n.mds in
     let b = mds_hears e.moment e.arrival a.mds in
-    then ∙ ap (λ (x : MdsValue). between ++ records_sent (mds_hears e.moment e.arrival x)) ticked ∙ ap (λ l. l ++ records_sent b) first
+    then ∙ ap (λ (x : MdsValue). between ++ records_sent (mds_hears e.moment e.arrival x)) passed ∙ ap (λ l. l ++ records_sent b) first
     ∙ append_assoc old (records_sent a) (records_sent b) ∙ ap (λ l. old ++ l) (sym (map-append spelled_send a.sends b.sends))
 
 -- ---- a link that could not be opened
@@ -38,9 +38,9 @@ open_keeps Fault = refl
 open_keeps NoMemory = refl
 
 -- a new server ran over a link that was opened
-pub runs_new : (first : SentRecords) (m fresh last : MdsValue) (turns : ℕ) (b was b' : Beside) (end : NodeEnd) → first ≡ [] → m ≡ fresh → b ≡ was
-    → NodeRuns mds_node_rule first m turns b end last b' → NodeRuns mds_node_rule [] fresh turns was end last b'
-runs_new first m fresh last turns b was b' end none new same runs =
+pub runs_new : (first : SentRecords) (n fresh last : MdsNodeValue) (turns : ℕ) (b was b' : Beside) (end : NodeEnd) → first ≡ [] → n ≡ fresh → b ≡ was
+    → NodeRuns mds_node_rule first n turns b end last b' → NodeRuns mds_node_rule [] fresh turns was end last b'
+runs_new first n fresh last turns b was b' end none new same runs =
     subst (λ (x : Beside). NodeRuns mds_node_rule [] fresh turns x end last b') same
-    (subst (λ (x : MdsValue). NodeRuns mds_node_rule [] x turns b end last b') new
-    (subst (λ (x : SentRecords). NodeRuns mds_node_rule x m turns b end last b') none runs))
+    (subst (λ (x : MdsNodeValue). NodeRuns mds_node_rule [] x turns b end last b') new
+    (subst (λ (x : SentRecords). NodeRuns mds_node_rule x n turns b end last b') none runs))

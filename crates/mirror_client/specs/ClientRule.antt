@@ -23,6 +23,7 @@ use Rattle.client_state.specs.declared.layout.Layout.{Layout}
 use Rattle.client_state.specs.declared.asked.Asked.{Asked}
 use Rattle.client_state.specs.declared.tie.Tie.TheVariants.{HasSession}
 use Rattle.client_state.specs.ClientStates.{ClientValue}
+use Rattle.mirror_writer.specs.Outstanding.{OutCall, out_at}
 use Rattle.client_answers.specs.ClientMirrors.{ds_answered, ds_timed_out}
 use Rattle.client_state.specs.ClientSends.{CallsServer, RepeatsToMds, RepliesToMds, ClientStep, sends_none, and_then, run_then}
 use Rattle.client_calls.specs.ClientCalls.{asks, may_ask, ends_event, xid_after}
@@ -73,6 +74,36 @@ timed_out_to (Client number) c = sends_none c
 
 abbrev pub client_timed_out : NodeId → ClientValue → ClientStep
 client_timed_out to c = unless_left c (timed_out_to to c)
+
+-- the number of a compound, or of a call to a data server, that is outstanding
+abbrev pub compound_number : Option Asked → Option ℕ
+compound_number None = None
+compound_number (Some asked) = Some asked.xid
+
+abbrev pub ds_call_number : Option OutCall → Option ℕ
+ds_call_number None = None
+ds_call_number (Some out) = Some out.xid
+
+-- a call to a data server is outstanding only where a file is open, under its layout
+abbrev pub ds_outstanding : Option OpenFile → Option Layout → ℕ → Option ℕ
+ds_outstanding (Some file) (Some l) server = ds_call_number (out_at l.writer server)
+ds_outstanding file layout server = None
+
+-- The number of the call that is outstanding at a node: a client has one at most at each, and none at another client.
+abbrev pub outstanding_to : NodeId → ClientValue → Option ℕ
+outstanding_to Mds c = compound_number c.asked
+outstanding_to (Server server) c = ds_outstanding c.file c.layout server
+outstanding_to (Client number) c = None
+
+abbrev pub bears_number : ℕ → Option ℕ → Bool
+bears_number xid None = false
+bears_number xid (Some out) = out == xid
+
+-- A call to this node timed out: without a number whichever is outstanding there, with one (RFC 5531, section 9) that call alone. One that
+-- was answered since, or that was never made, is passed over.
+abbrev pub client_late : NodeId → Option ℕ → ClientValue → ClientStep
+client_late to None c = client_timed_out to c
+client_late to (Some xid) c = if bears_number xid (outstanding_to to c) then client_timed_out to c else sends_none c
 
 -- ---- a tick
 

@@ -3,7 +3,7 @@
 ghost use Rattle.std.specs.Prelude.{◌≡◌, ◌≤◌, true, false, [], ◌++◌, length, slice_get, IfOk, OnOk, OnErr};
 ghost use Rattle.cluster_model.specs.declared.limits.TheConstants.{PIECE_SIZE};
 ghost use Rattle.client_state.specs.declared.request.UserRequest.TheVariants.{Open, Write, Through, Commit, Read, Return};
-ghost use Rattle.mirror_client.specs.ClientRule.{client_requested, client_recorded, client_timed_out, client_ticked, strays};
+ghost use Rattle.mirror_client.specs.ClientRule.{client_requested, client_recorded, client_late, client_ticked, strays};
 ghost use Rattle.mirror_client.specs.ClientSteps.{fresh_client_of_user, StepsBy, answer_taken, left_protocol};
 
 use crate::events::{request, tick, time_out};
@@ -169,12 +169,18 @@ impl Client {
         self.end(own, out)
     }
 
-    /// The call that is outstanding at a node timed out; nothing happens where there is none.
-    pub fn on_timeout(&mut self, to: NodeId, out: &mut Outbox) -> Result<(), NoMemory>
-        ensures { StepsBy (client_timed_out to) self.old out.old result self.new out.new }
+    /// The call of this number that is outstanding at a node timed out, or, without a number, whichever is outstanding there;
+    /// nothing happens where there is none.
+    pub fn on_timeout(
+        &mut self,
+        to: NodeId,
+        xid: Option<u32>,
+        out: &mut Outbox,
+    ) -> Result<(), NoMemory>
+        ensures { StepsBy (client_late to xid) self.old out.old result self.new out.new }
     {
         let mut own = self.begin()?;
-        time_out(&mut self.state, to, &mut own)?;
+        time_out(&mut self.state, to, xid, &mut own)?;
         self.end(own, out)
     }
 

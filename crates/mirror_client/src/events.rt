@@ -4,10 +4,11 @@ ghost use Rattle.std.specs.Prelude.{◌≡◌, OnOk};
 ghost use Rattle.rpc_record.specs.Replies.{rpc_reply};
 ghost use Rattle.client_state.specs.ClientSends.{and_then};
 ghost use Rattle.client_calls.specs.ClientCalls.{calls_all, ends_event};
-ghost use Rattle.mirror_client.specs.ClientRule.{with_request, client_requested, ticks_on, replied, mds_timed_out, timed_out_to, client_timed_out, stage_after_tick, client_at_tick, resends_late, is_stale_tie, renews, client_ticked};
+ghost use Rattle.mirror_client.specs.ClientRule.{with_request, client_requested, ticks_on, replied, mds_timed_out, timed_out_to, client_late, client_timed_out, stage_after_tick, client_at_tick, resends_late, is_stale_tie, renews, client_ticked};
 ghost use Rattle.client_state.specs.QueueSteps.{HasStepped};
 
 use crate::client::Client;
+use crate::outstanding::is_outstanding_at;
 use crate::replies::mds_replied;
 use client_answers::{ds_answered, ds_timed_out};
 use client_calls::{ask_mds, end_event, may_ask};
@@ -100,14 +101,32 @@ fn timed_out_to(client: &mut State, to: NodeId, out: &mut Outbox) -> Result<(), 
     }
 }
 
-/// A call to this node timed out.
-pub fn time_out(client: &mut State, to: NodeId, out: &mut Outbox) -> Result<(), NoMemory>
+/// The call that is outstanding at this node, if one is, timed out.
+fn time_out_outstanding(client: &mut State, to: NodeId, out: &mut Outbox) -> Result<(), NoMemory>
     ensures { OnOk result (HasStepped (client_timed_out to client.old) out.old client.new out.new) }
 {
     if client.has_left {
         return Ok(());
     }
     timed_out_to(client, to, out)
+}
+
+/// A call to this node timed out: the one of this number, or, without one, whichever is outstanding there.
+pub fn time_out(
+    client: &mut State,
+    to: NodeId,
+    xid: Option<u32>,
+    out: &mut Outbox,
+) -> Result<(), NoMemory>
+    ensures { OnOk result (HasStepped (client_late to xid client.old) out.old client.new out.new) }
+{
+    let Some(xid) = xid else {
+        return time_out_outstanding(client, to, out);
+    };
+    if !is_outstanding_at(client, to, xid) {
+        return Ok(());
+    }
+    time_out_outstanding(client, to, out)
 }
 
 /// What waited for the tick waits no longer.

@@ -3,10 +3,13 @@
 
 mod client;
 mod events;
+mod laws;
+mod outstanding;
 mod receive;
 mod replies;
 mod rogue;
 mod worked;
 
 pub use client::Client;
+pub use laws::late_law;
 pub use worked::{worked_client_runs, worked_client_ways};

@@ -1,6 +1,6 @@
 //! A client: `new NUMBER VERIFIER XID`, `turn`, `open NAME`, `write AT HEX`, `through AT HEX`, `commit`, `read AT COUNT`,
-//! `return`, `record FROM HEX`, `timeout NODE`, `tick NOW`, `stray PLACE AT HEX`, `answers`, `next_xid`. The moment of a
-//! record is that of the last tick, 0 before, also over a `new`.
+//! `return`, `record FROM HEX`, `timeout NODE` or `timeout NODE XID`, `tick NOW`, `stray PLACE AT HEX`, `answers`,
+//! `next_xid`. The moment of a record is that of the last tick, 0 before, also over a `new`.
 
 use crate::outbox::{put_outbox, put_user_answer};
 use cluster_model::{Entry, Outbox};
@@ -124,6 +124,14 @@ fn request(
     Ok(())
 }
 
+/// The number of a call, where the line has one more word.
+fn xid_if_given(words: &mut Words<'_>) -> Result<Option<u32>, RowFault> {
+    if words.end().is_ok() {
+        return Ok(None);
+    }
+    Ok(Some(words.last_number32()?))
+}
+
 /// An event of a client at a moment.
 fn event(
     client: &mut Client,
@@ -141,8 +149,7 @@ fn event(
         }
         "timeout" => {
             let node = words.node()?;
-            words.end()?;
-            client.on_timeout(node, out)?;
+            client.on_timeout(node, xid_if_given(words)?, out)?;
         }
         "tick" => client.tick(now, out)?,
         "stray" => stray(client, words, out)?,

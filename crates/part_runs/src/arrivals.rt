@@ -3,17 +3,28 @@
 use cluster_model::NodeId;
 use ff_xdr::Data;
 use node_link::Arrival;
-use row_words::{Answer, RowFault, Words};
+use row_words::{Answer, RowFault, Words, number32};
 use std::alloc::Global;
 
-/// `closed`, `timeout:` and a machine, or a machine, `:` and the bytes of its record.
+/// A machine, `:` and the number of the call to it that got no answer.
+fn timeout_of(alloc: Global, item: &str) -> Result<Arrival, RowFault> {
+    let (node, xid) = item.split_once(":").ok_or(RowFault::Outside)?;
+    Ok(Arrival::TimedOut {
+        node: Words::of(alloc, node).node()?,
+        xid: number32(xid)?,
+    })
+}
+
+/// `closed`, `quiet`, `timeout:` and a call, or a machine, `:` and the bytes of its record.
 fn arrival_of(alloc: Global, item: &str) -> Result<Arrival, RowFault> {
-    if item == "closed" {
-        return Ok(Arrival::Closed);
+    match item {
+        "closed" => return Ok(Arrival::Closed),
+        "quiet" => return Ok(Arrival::Quiet),
+        _ => {}
     }
     let (first, second) = item.split_once(":").ok_or(RowFault::Outside)?;
     if first == "timeout" {
-        return Ok(Arrival::TimedOut(Words::of(alloc, second).node()?));
+        return timeout_of(alloc, second);
     }
     Ok(Arrival::Record {
         from: Words::of(alloc, first).node()?,

@@ -1,5 +1,5 @@
 -- Answers that are taken one by one.
-use Rattle.std.proofs.Common.{◌≡◌, Bool, true, false, ◌||◌, List, [], ◌∷◌, drop, Option, Some, None, refl, sym, ap, ◌∙◌}
+use Rattle.std.proofs.Common.{◌≡◌, ℕ, Bool, true, false, ◌||◌, List, [], ◌∷◌, drop, Option, Some, None, refl, sym, ap, ◌∙◌}
 use Rattle.std.specs.Prelude.{slice_get}
 use Rattle.std.specs.List.{list_any}
 use Rattle.cluster_model.specs.declared.answer.UserAnswer.{UserAnswer}
@@ -49,8 +49,9 @@ pub counts_first : (p p' : Progress) (a : UserAnswer) (answers : List UserAnswer
 counts_first p p' a answers first noted = ap (λ q. with_answers q (drop 1 answers)) noted ∙ with_more p a (drop 1 answers) ∙ ap (with_answers p) (sym (first_is answers a first))
 
 -- all were taken from the client of a step
-pub after_answers : (s : ClientStep) (p : Progress) (c : ClientValue) (n : PutValue) → c ≡ s.client → n.client ≡ answers_taken c → n.progress ≡ with_answers p c.answers → n ≡ put_after s p
-after_answers s p c n stepped taken counted = λ i. record {
+pub after_answers : (s : ClientStep) (p : Progress) (last : Option ℕ) (c : ClientValue) (n : PutValue) → c ≡ s.client → n.client ≡ answers_taken c → n.progress ≡ with_answers p c.answers → n.last ≡ last → n ≡ put_after s p last
+after_answers s p last c n stepped taken counted given = λ i. record {
   client = (taken ∙ ap answers_taken stepped) i;
   progress = (counted ∙ ap (λ (d : ClientValue). with_answers p d.answers) stepped) i;
+  last = given i;
 }

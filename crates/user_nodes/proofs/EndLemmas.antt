@@ -12,7 +12,7 @@ use Rattle.ff_node.specs.Nodes.{NodeEvent, HasNotEndedBefore, state_after, text_
 use Rattle.ff_node.specs.Serve.{Beside, NodeServes}
 use Rattle.user_nodes.specs.declared.put.Progress.{Progress}
 use Rattle.user_nodes.specs.Users.{client_does, says_opened, says_committed, says_returned, first_failure, first_of_two, done_or_failed}
-use Rattle.user_nodes.specs.Puts.{PutValue, no_progress, put_after, put_outcome, put_rule, with_answers}
+use Rattle.user_nodes.specs.Puts.{PutValue, no_progress, put_from, put_outcome, put_rule, with_answers}
 use Rattle.user_nodes.specs.Gets.{GetValue, answer_bytes, answered_bytes, first_outcome, get_from, get_outcome, get_rule, says_end}
 use Rattle.user_nodes.specs.Copies.{IsGot, IsPut, NeverFailed, all_put_answers, answers_over, put_answers}
 use Rattle.user_nodes.proofs.AnswerLemmas.{with_more}
@@ -45,7 +45,7 @@ with_append p (a ∷ answers) more =
 pub get_reads : (g : GetValue) (events : List NodeEvent) → text_over get_rule g events ≡ answered_bytes (answers_over g events)
 get_reads g [] = refl
 get_reads g (e ∷ events) =
-    let answers = (client_does e g.client).client.answers in
+    let answers = (client_does g.last e g.client).client.answers in
     let next = (get_rule.step g e).state in
     ap (λ (l : List ℕ). answered_bytes answers ++ l) (get_reads next events) ∙ sym (bytes_of_more answers (answers_over next events))
 
@@ -120,7 +120,7 @@ put_counts : (p : PutValue) (events : List NodeEvent) → (state_after put_rule 
 put_counts p [] = sym (with_none p.progress)
 put_counts p (e ∷ events) =
     let next = (put_rule.step p e).state in
-    put_counts next events ∙ with_append p.progress (client_does e p.client).client.answers (put_answers next events)
+    put_counts next events ∙ with_append p.progress (client_does p.last e p.client).client.answers (put_answers next events)
 
 is_put : (answers : List UserAnswer) (x : Unit {0}) → put_outcome (with_answers no_progress answers) ≡ Some (Ok x) → IsPut answers
 is_put answers x done =
@@ -137,9 +137,9 @@ is_put answers x done =
       returned = is_a_return answers return.0 return.1 return.2;
     }
 
-pub put_done : (s : ClientStep) (turns : ℕ) (b : Beside) (last : PutValue) (b' : Beside) (serves : NodeServes put_rule (put_after s no_progress) turns b ends.Done last b') → IsPut (all_put_answers s serves.served.taken)
+pub put_done : (s : ClientStep) (turns : ℕ) (b : Beside) (last : PutValue) (b' : Beside) (serves : NodeServes put_rule (put_from s) turns b ends.Done last b') → IsPut (all_put_answers s serves.served.taken)
 put_done s turns b last b' serves =
-    let begun = put_after s no_progress in
+    let begun = put_from s in
     let events = serves.served.taken in
     let by_itself = done_by_itself put_rule refl serves.left serves.mid serves.beside_mid last b' serves.stops in
     let counts : serves.mid.progress ≡ with_answers no_progress (all_put_answers s events) =
@@ -195,7 +195,7 @@ by_outcome events answers next (Some r) is came later now = now r is came
 get_ends : (g : GetValue) (events : List NodeEvent) (x : Unit {0}) → g.outcome ≡ None → HasNotEndedBefore get_rule g events → (state_after get_rule g events).outcome ≡ Some (Ok x) → Ends (answers_over g events)
 get_ends g [] x none going done = absurd (cc (none, done))
 get_ends g (e ∷ events) x none going done =
-    let answers = (client_does e g.client).client.answers in
+    let answers = (client_does g.last e g.client).client.answers in
     let next = (get_rule.step g e).state in
     let came : next.outcome ≡ get_outcome answers = ap (λ o. first_outcome o (get_outcome answers)) none in
     by_outcome events answers next (get_outcome answers) refl came (λ goes. get_ends next events x goes going.1 done) (λ r is came_to. ends_in answers next events r x is came_to going.1 done)

@@ -99,14 +99,15 @@ module _ (a : UserAnswer) (answers : List UserAnswer) (first : slice_get answers
 -- ---- all were taken
 
 pub all_taken : (n : GetValue) (c d : ClientValue) (size : ℕ) → slice_get c.answers 0 ≡ None → size < 2 ^ 64 → d ≡ record c { answers = drop 1 c.answers } → answers_taken c ≡ answers_taken n.client
-    → size_behind size c.answers ≡ size_behind n.size n.client.answers → (o : Option (Result (Unit {0}) FailCause)) → o ≡ n.outcome
-    → record { client = d; size = size; outcome = o } ≡ record n { client = answers_taken n.client; size = size_behind n.size n.client.answers }
-all_taken n c d size none fits last client sizes o outcome =
+    → size_behind size c.answers ≡ size_behind n.size n.client.answers → (o : Option (Result (Unit {0}) FailCause)) → o ≡ n.outcome → (given : Option ℕ) → given ≡ n.last
+    → record { client = d; size = size; outcome = o; last = given } ≡ record n { client = answers_taken n.client; size = size_behind n.size n.client.answers }
+all_taken n c d size none fits last client sizes o outcome given same_given =
     let left = none_is c.answers none in
     let same : size ≡ size_behind size c.answers = omega (arith, ap (λ (l : List UserAnswer). length (answered_bytes l)) left) in λ i. record {
       client = (last ∙ ap (λ (l : List UserAnswer). record c { answers = drop 1 l }) left ∙ client) i;
       size = (same ∙ sizes) i;
       outcome = outcome i;
+      last = same_given i;
     }
 
 -- ---- a step
@@ -123,38 +124,39 @@ pub took_for : {T E : Type 0} (held : Option (List ℕ)) (text : List ℕ) (held
 took_for held text held' (Ok x) fails took = absurd (cc (fails))
 took_for held text held' (Err e) fails took = took
 
-module _ (s : ClientStep) (n : GetValue) where
+module _ (s : ClientStep) (n : GetValue) (moment : ℕ) where
   -- the client did not do the step
-  pub step_fails : (held : Option (List ℕ)) → TookBeginning held (get_does s n.size n.outcome).text held
+  pub step_fails : (held : Option (List ℕ)) → TookBeginning held (get_does s n.size n.outcome moment).text held
   step_fails held = took_none held (answered_bytes s.client.answers)
 
   module _ (c : ClientValue) (stepped : c ≡ s.client) where
-    pub bytes_after : {T E : Type 0} (held held' : Option (List ℕ)) (result : Result T E) → WritesFor held (answered_bytes c.answers) result held' → WritesFor held (get_does s n.size n.outcome).text result held'
+    pub bytes_after : {T E : Type 0} (held held' : Option (List ℕ)) (result : Result T E) → WritesFor held (answered_bytes c.answers) result held' → WritesFor held (get_does s n.size n.outcome moment).text result held'
     bytes_after held held' result writes = subst (λ (d : ClientValue). WritesFor held (answered_bytes d.answers) result held') stepped writes
 
     -- its bytes were written, and then something failed
-    pub all_then_fails : (E : Type 0) (held held' : Option (List ℕ)) (x : Seen) → WritesFor {E = E} held (answered_bytes c.answers) (Ok x) held' → TookBeginning held (get_does s n.size n.outcome).text held'
+    pub all_then_fails : (E : Type 0) (held held' : Option (List ℕ)) (x : Seen) → WritesFor {E = E} held (answered_bytes c.answers) (Ok x) held' → TookBeginning held (get_does s n.size n.outcome moment).text held'
     all_then_fails E held held' x writes = took_all held (answered_bytes s.client.answers) held' (subst (λ (d : ClientValue). held' ≡ behind held (answered_bytes d.answers)) stepped writes)
 
     module _ (seen : Seen) (saw : seen ≡ saw_more saw_none c.answers) (mid : GetValue)
-        (taken : mid ≡ record { client = answers_taken c; size = size_behind n.size c.answers; outcome = n.outcome }) where
+        (taken : mid ≡ record { client = answers_taken c; size = size_behind n.size c.answers; outcome = n.outcome; last = Some moment }) where
       goes_on : reads_next mid.size (goes_on_after seen) mid.client ≡ reads_next (size_behind n.size s.client.answers) (goes_on_reading s.client.answers) (answers_taken s.client)
       goes_on =
           ap (λ (m : GetValue). reads_next m.size (goes_on_after seen) m.client) taken ∙ ap (λ (t : Seen). reads_next (size_behind n.size c.answers) (goes_on_after t) (answers_taken c)) saw
           ∙ ap (λ (d : ClientValue). reads_next (size_behind n.size d.answers) (goes_on_reading d.answers) (answers_taken d)) stepped
 
-      pub state_after_step : (last : GetValue) → last.client ≡ (reads_next mid.size (goes_on_after seen) mid.client).client → last.size ≡ mid.size → last.outcome ≡ first_outcome mid.outcome (seen_outcome seen)
-          → last ≡ (get_does s n.size n.outcome).state
-      state_after_step last client size outcome = λ i. record {
+      pub state_after_step : (last : GetValue) → last.client ≡ (reads_next mid.size (goes_on_after seen) mid.client).client → last.size ≡ mid.size → last.outcome ≡ first_outcome mid.outcome (seen_outcome seen) → last.last ≡ mid.last
+          → last ≡ (get_does s n.size n.outcome moment).state
+      state_after_step last client size outcome given = λ i. record {
         client = (client ∙ ap (λ (t : ClientStep). t.client) goes_on) i;
         size = (size ∙ ap (λ (m : GetValue). m.size) taken ∙ ap (λ (d : ClientValue). size_behind n.size d.answers) stepped) i;
         outcome =
             (outcome ∙ ap (λ (m : GetValue). first_outcome m.outcome (seen_outcome seen)) taken ∙ ap (λ (t : Seen). first_outcome n.outcome (seen_outcome t)) saw
             ∙ ap (λ (d : ClientValue). first_outcome n.outcome (get_outcome d.answers)) stepped) i;
+        last = (given ∙ ap (λ (m : GetValue). m.last) taken) i;
       }
 
       pub sends_after_step : (before between after : SentRecords) → between ≡ before ++ records_of s → after ≡ between ++ records_of (reads_next mid.size (goes_on_after seen) mid.client)
-          → after ≡ before ++ (get_does s n.size n.outcome).sends
+          → after ≡ before ++ (get_does s n.size n.outcome moment).sends
       sends_after_step before between after first second =
           let next = reads_next (size_behind n.size s.client.answers) (goes_on_reading s.client.answers) (answers_taken s.client) in
           second ∙ ap (λ (t : ClientStep). between ++ records_of t) goes_on ∙ ap (λ (l : SentRecords). l ++ records_of next) first ∙ append_assoc before (records_of s) (records_of next)

@@ -16,7 +16,7 @@ use Rattle.ff_node.specs.declared.fault.EventFault.TheVariants as faults
 use Rattle.ff_node.specs.Nodes.{NodeRule, SentRecords}
 use Rattle.ff_node.specs.Serve.{Beside, beside, NodeRuns, Stops, end_of_link, end_of_outcome, end_of_event, last_end}
 use Rattle.user_nodes.specs.Users.{records_of}
-use Rattle.user_nodes.specs.Puts.{BeginsPut, PutValue, PutsFile, end_of_source, no_progress, put_after, put_begins, put_rule}
+use Rattle.user_nodes.specs.Puts.{BeginsPut, PutValue, PutsFile, end_of_source, put_begins, put_from, put_rule}
 use Rattle.user_nodes.specs.Gets.{GetValue, GetsFile, get_begins, get_from, get_rule}
 
 -- ---- what is beside a node
@@ -87,7 +87,7 @@ module _ (config : Config) (name : List ℕ) (unread : Option (List ℕ)) (opene
         moment,
         begun,
         (rises, gives, refl),
-        inl (begins.0, begins.1, inl (is-opened, (served, run_is put_rule (records_of step) sends (put_after step no_progress) p served config.turns begun b after end begins.3 begins.2 same runs))),
+        inl (begins.0, begins.1, inl (is-opened, (served, run_is put_rule (records_of step) sends (put_from step) p served config.turns begun b after end begins.3 begins.2 same runs))),
       )
 
 -- ---- a get

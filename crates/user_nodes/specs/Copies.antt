@@ -13,7 +13,7 @@ use Rattle.node_config.specs.declared.config.Config.{Config}
 use Rattle.ff_node.specs.Nodes.{NodeEvent}
 use Rattle.ff_node.specs.Serve.{Beside, TakesFront, behind}
 use Rattle.user_nodes.specs.Users.{client_does}
-use Rattle.user_nodes.specs.Puts.{PutValue, ReadsAll, no_progress, put_after, put_begins, put_rule}
+use Rattle.user_nodes.specs.Puts.{PutValue, ReadsAll, put_begins, put_from, put_rule}
 use Rattle.user_nodes.specs.Gets.{GetValue, answered_bytes, get_begins, get_from, get_rule}
 
 -- ---- what a put writes
@@ -37,15 +37,15 @@ WritesOn at (request ∷ requests) = WritesOn at requests
 -- the answers that the client of a put gives over events, one after the other; and all of them, with those that it gave when it was asked
 abbrev pub put_answers : PutValue → List NodeEvent → List UserAnswer
 put_answers p [] = []
-put_answers p (e ∷ events) = (client_does e p.client).client.answers ++ put_answers (put_rule.step p e).state events
+put_answers p (e ∷ events) = (client_does p.last e p.client).client.answers ++ put_answers (put_rule.step p e).state events
 
 abbrev pub all_put_answers : ClientStep → List NodeEvent → List UserAnswer
-all_put_answers s events = s.client.answers ++ put_answers (put_after s no_progress) events
+all_put_answers s events = s.client.answers ++ put_answers (put_from s) events
 
 -- the answers that the client of a get gives over events
 abbrev pub answers_over : GetValue → List NodeEvent → List UserAnswer
 answers_over g [] = []
-answers_over g (e ∷ events) = (client_does e g.client).client.answers ++ answers_over (get_rule.step g e).state events
+answers_over g (e ∷ events) = (client_does g.last e g.client).client.answers ++ answers_over (get_rule.step g e).state events
 
 -- no answer says that a request was not done
 abbrev pub NeverFailed : List UserAnswer → Type 0

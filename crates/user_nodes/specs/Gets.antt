@@ -67,11 +67,12 @@ goes_on_after s = s.has_bytes && is_unended (seen_outcome s)
 
 -- ---- its rule
 
--- the client, how many bytes it has answered so far, and what it came to
+-- the client, how many bytes it has answered so far, what it came to, and the last moment that it was given, in seconds
 pub record GetValue : Type 0 where
   pub client : ClientValue
   pub size : ℕ
   pub outcome : Option (Result (Unit {0}) FailCause)
+  pub last : Option ℕ
 
 -- a request failed, or the file's end was read
 abbrev pub get_outcome : List UserAnswer → Option (Result (Unit {0}) FailCause)
@@ -96,25 +97,25 @@ abbrev pub size_behind : ℕ → List UserAnswer → ℕ
 size_behind size answers = min (size + length (answered_bytes answers)) (2 ^ 64 - 1)
 
 -- a step of the client, whose answers are looked at and taken, and then the next read
-abbrev pub get_does : ClientStep → ℕ → Option (Result (Unit {0}) FailCause) → NodeStep GetValue
-get_does s size outcome =
+abbrev pub get_does : ClientStep → ℕ → Option (Result (Unit {0}) FailCause) → ℕ → NodeStep GetValue
+get_does s size outcome moment =
     let answers = s.client.answers in
     let next = reads_next (size_behind size answers) (goes_on_reading answers) (answers_taken s.client) in
     record {
-      state = record { client = next.client; size = size_behind size answers; outcome = first_outcome outcome (get_outcome answers) };
+      state = record { client = next.client; size = size_behind size answers; outcome = first_outcome outcome (get_outcome answers); last = Some moment };
       sends = records_of s ++ records_of next;
       text = answered_bytes answers;
     }
 
 abbrev pub get_rule : NodeRule GetValue
-get_rule = record { step = λ g e. get_does (client_does e g.client) g.size g.outcome; outcome = λ g. g.outcome; is_server = false }
+get_rule = record { step = λ g e. get_does (client_does g.last e g.client) g.size g.outcome e.moment; outcome = λ g. g.outcome; is_server = false }
 
 -- at the beginning, by a new client whose verifier is this moment and whose first call has the number 1, the file is opened and read
 abbrev pub get_begins : ℕ → ℕ → List ℕ → ClientStep
 get_begins own moment name = all_requested (Open name ∷ Read 0 PIECE_SIZE ∷ []) (fresh_client own moment 1)
 
 abbrev pub get_from : ClientStep → GetValue
-get_from s = record { client = s.client; size = 0; outcome = None }
+get_from s = record { client = s.client; size = 0; outcome = None; last = None }
 
 -- ---- what it did
 

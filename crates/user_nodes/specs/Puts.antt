@@ -85,28 +85,33 @@ with_answers p answers = record {
 abbrev pub put_outcome : Progress → Option (Result (Unit {0}) FailCause)
 put_outcome p = done_or_failed p.failed ((p.opened && p.committed) && p.returned)
 
+-- the client, which answers came, and the last moment that the client was given, in seconds
 pub record PutValue : Type 0 where
   pub client : ClientValue
   pub progress : Progress
+  pub last : Option ℕ
 
 -- the client of a step, whose answers are looked at and taken
-abbrev pub put_after : ClientStep → Progress → PutValue
-put_after s p = record { client = answers_taken s.client; progress = with_answers p s.client.answers }
+abbrev pub put_after : ClientStep → Progress → Option ℕ → PutValue
+put_after s p last = record { client = answers_taken s.client; progress = with_answers p s.client.answers; last = last }
 
-abbrev pub put_does : ClientStep → Progress → NodeStep PutValue
-put_does s p = record { state = put_after s p; sends = records_of s; text = [] }
+abbrev pub put_does : ClientStep → Progress → ℕ → NodeStep PutValue
+put_does s p moment = record { state = put_after s p (Some moment); sends = records_of s; text = [] }
 
 abbrev pub put_rule : NodeRule PutValue
-put_rule = record { step = λ p e. put_does (client_does e p.client) p.progress; outcome = λ p. put_outcome p.progress; is_server = false }
+put_rule = record { step = λ p e. put_does (client_does p.last e p.client) p.progress e.moment; outcome = λ p. put_outcome p.progress; is_server = false }
 
--- all that is asked at the beginning, by a new client whose verifier is this moment and whose first call has the number 1
+-- all that is asked at the beginning, by a new client whose verifier is this moment and whose first call has the number 1; it is given no moment then
 abbrev pub put_begins : ℕ → ℕ → List ℕ → List ℕ → ClientStep
 put_begins own moment name bytes = all_requested (put_requests name bytes) (fresh_client own moment 1)
+
+abbrev pub put_from : ClientStep → PutValue
+put_from s = put_after s no_progress None
 
 -- What beginning a put did: all was read, and asked of a new client.
 abbrev pub BeginsPut : ℕ → ℕ → List ℕ → Option (List ℕ) → SentRecords → Result PutValue Failed → Option (List ℕ) → SentRecords → Type 0
 BeginsPut own moment name unread sends (Ok p) left sends' =
-    (bytes : List ℕ) × ReadsAll unread bytes left × (p ≡ put_after (put_begins own moment name bytes) no_progress) × (sends' ≡ sends ++ records_of (put_begins own moment name bytes))
+    (bytes : List ℕ) × ReadsAll unread bytes left × (p ≡ put_from (put_begins own moment name bytes)) × (sends' ≡ sends ++ records_of (put_begins own moment name bytes))
 BeginsPut own moment name unread sends (Err e) left sends' = ⊤
 
 -- ---- what it did
@@ -126,7 +131,7 @@ abbrev pub PutsBytes : Config → List ℕ → Option (List ℕ) → ℕ → Opt
 PutsBytes config name unread moment opened b end unread' opened' b' =
     (bytes : List ℕ) × ReadsAll unread bytes unread'
     × OpensThen opened config role.Client b end opened' b'
-    ((last : PutValue) × NodeRuns put_rule (records_of (put_begins config.own moment name bytes)) (put_after (put_begins config.own moment name bytes) no_progress) config.turns b end last b')
+    ((last : PutValue) × NodeRuns put_rule (records_of (put_begins config.own moment name bytes)) (put_from (put_begins config.own moment name bytes)) config.turns b end last b')
 
 -- The source failed, or memory was wanted, before the link was opened.
 abbrev pub PutsNothing : Option Opening → Beside → NodeEnd → Option Opening → Beside → Type 0

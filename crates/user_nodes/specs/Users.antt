@@ -1,29 +1,42 @@
 -- A client as a node: what comes to it, what its user asks of it, and what its answers say.
-use Rattle.std.specs.Prelude.{◌≡◌, ℕ, ◌≤◌, Bool, true, false, List, [], ◌∷◌, ◌++◌, map, Option, Some, None, Result, Ok, Err}
+use Rattle.std.specs.Prelude.{◌≡◌, ℕ, ◌≤◌, Bool, true, false, ◌||◌, if◌then◌else◌, List, [], ◌∷◌, ◌++◌, map, Option, Some, None, Result, Ok, Err}
 use Rattle.cluster_model.specs.declared.answer.UserAnswer.{UserAnswer}
 use Rattle.cluster_model.specs.declared.answer.UserAnswer.TheVariants.{Opened, Committed, Returned, Failed}
 use Rattle.cluster_model.specs.declared.answer.FailCause.{FailCause}
 use Rattle.node_link.specs.declared.link.Arrival.{Arrival}
-use Rattle.node_link.specs.declared.link.Arrival.TheVariants.{Record, TimedOut, Closed}
+use Rattle.node_link.specs.declared.link.Arrival.TheVariants.{Record, TimedOut, Quiet, Closed}
 use Rattle.node_link.specs.Clock.{GivesMoment}
 use Rattle.client_state.specs.declared.request.UserRequest.{UserRequest}
 use Rattle.client_state.specs.ClientStates.{ClientValue}
 use Rattle.client_state.specs.ClientSends.{ClientStep, sends_none, and_then, spelled_send}
-use Rattle.mirror_client.specs.ClientRule.{client_requested, client_recorded, client_timed_out, client_ticked}
-use Rattle.ff_node.specs.Nodes.{NodeEvent, SentRecords}
+use Rattle.mirror_client.specs.ClientRule.{client_requested, client_recorded, client_late, client_ticked}
+use Rattle.ff_node.specs.Nodes.{NodeEvent, SentRecords, is_new_moment}
 use Rattle.ff_node.specs.Serve.{Beside}
 
 -- ---- what comes
 
--- a record, or that a call to a node timed out
+-- a record, or that the call of this number to a node timed out; where nothing came, nothing is done
 abbrev pub client_hears : ℕ → Arrival → ClientValue → ClientStep
 client_hears now (Record from bytes) c = client_recorded from bytes now c
-client_hears now (TimedOut node) c = client_timed_out node c
+client_hears now (TimedOut node xid) c = client_late node (Some xid) c
+client_hears now Quiet c = sends_none c
 client_hears now Closed c = sends_none c
 
--- at each arrival the moment comes first, as a tick
-abbrev pub client_does : NodeEvent → ClientValue → ClientStep
-client_does e c = and_then (client_ticked e.moment c) (client_hears e.moment e.arrival)
+abbrev pub says_quiet : Arrival → Bool
+says_quiet Quiet = true
+says_quiet arrival = false
+
+-- Time passes for a client where the moment is above the last that it was given; and where nothing came for a while, in the same second too, so
+-- that what waits for a tick is asked again.
+abbrev pub time_passes : Option ℕ → NodeEvent → Bool
+time_passes last e = is_new_moment last e.moment || says_quiet e.arrival
+
+abbrev pub client_passes : Option ℕ → NodeEvent → ClientValue → ClientStep
+client_passes last e c = if time_passes last e then client_ticked e.moment c else sends_none c
+
+-- The moment comes first, as a tick, and then what arrived.
+abbrev pub client_does : Option ℕ → NodeEvent → ClientValue → ClientStep
+client_does last e c = and_then (client_passes last e c) (client_hears e.moment e.arrival)
 
 abbrev pub records_of : ClientStep → SentRecords
 records_of s = map spelled_send s.sends

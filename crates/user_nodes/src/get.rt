@@ -83,12 +83,13 @@ fn answer_bytes(answer: &UserAnswer) -> &[u8]
     }
 }
 
-/// A client that was asked to get a file.
+/// A client that was asked to get a file, with the last moment that it was given.
 #[derive(Drop)]
 pub(crate) struct GetNode {
     client: Client,
     size: u64,
     outcome: Option<Result<(), FailCause>>,
+    last: Option<u64>,
 }
 
 impl Model for GetNode {
@@ -96,7 +97,7 @@ impl Model for GetNode {
 
     ghost Value = { GetValue };
 
-    ghost view = { λ n. record { client = n.client.client; size = n.size; outcome = n.outcome } };
+    ghost view = { λ n. record { client = n.client.client; size = n.size; outcome = n.outcome; last = n.last } };
 }
 
 impl GetNode {
@@ -119,6 +120,7 @@ impl GetNode {
             client,
             size: 0,
             outcome: None,
+            last: None,
         })
     }
 
@@ -147,6 +149,7 @@ impl GetNode {
     fn go_on(&mut self, seen: Seen, out: &mut Outbox) -> Result<(), NoMemory>
         ensures client { OnOk result (self.new.client ≡ (reads_next self.old.size (goes_on_after seen) self.old.client).client) }
         ensures size { self.new.size ≡ self.old.size }
+        ensures last { self.new.last ≡ self.old.last }
         ensures outcome { self.new.outcome ≡ first_outcome self.old.outcome (seen_outcome seen) }
         ensures sends { OnOk result (out.new.sends.items ≡ out.old.sends.items ++ records_of (reads_next self.old.size (goes_on_after seen) self.old.client)) }
     {
@@ -191,9 +194,11 @@ impl Node for GetNode {
         sink: &mut K,
         _disk: &mut D,
     ) -> Result<bool, EventFault> {
-        if client_does(&mut self.client, moment, arrival, out).is_err() {
+        let last = self.last;
+        if client_does(&mut self.client, last, moment, arrival, out).is_err() {
             return Err(EventFault::NoMemory);
         }
+        self.last = Some(moment);
         let seen = match self.take_answers(sink) {
             Ok(seen) => seen,
             Err(failed) => return Err(EventFault::of_sink(failed)),

@@ -67,11 +67,12 @@ impl Progress {
     }
 }
 
-/// A client that was asked to put a file.
+/// A client that was asked to put a file, with the last moment that it was given.
 #[derive(Drop)]
 pub(crate) struct PutNode {
     client: Client,
     progress: Progress,
+    last: Option<u64>,
 }
 
 impl Model for PutNode {
@@ -79,7 +80,7 @@ impl Model for PutNode {
 
     ghost Value = { PutValue };
 
-    ghost view = { λ n. record { client = n.client.client; progress = n.progress } };
+    ghost view = { λ n. record { client = n.client.client; progress = n.progress; last = n.last } };
 }
 
 impl PutNode {
@@ -87,6 +88,7 @@ impl PutNode {
     fn take_answers(&mut self)
         ensures client { self.new.client ≡ answers_taken self.old.client }
         ensures progress { self.new.progress ≡ with_answers self.old.progress self.old.client.answers }
+        ensures last { self.new.last ≡ self.old.last }
     {
         'answers: while let Some(answer) = self.client.answers() {
             self.progress.note(&answer);
@@ -117,6 +119,7 @@ impl PutNode {
         let mut node = PutNode {
             client,
             progress: Progress::new(),
+            last: None,
         };
         node.take_answers();
         Ok(node)
@@ -148,9 +151,11 @@ impl Node for PutNode {
         _sink: &mut K,
         _disk: &mut D,
     ) -> Result<bool, EventFault> {
-        if client_does(&mut self.client, moment, arrival, out).is_err() {
+        let last = self.last;
+        if client_does(&mut self.client, last, moment, arrival, out).is_err() {
             return Err(EventFault::NoMemory);
         }
+        self.last = Some(moment);
         self.take_answers();
         Ok(false)
     }

@@ -4,9 +4,10 @@ ghost use Rattle.std.specs.Prelude.{◌≡◌, ◌++◌, IfOk, OnOk};
 ghost use Rattle.client_state.specs.ClientStates.{fresh_client};
 ghost use Rattle.client_state.specs.QueueSteps.{HasStepped};
 ghost use Rattle.ff_node.specs.Nodes.{event_at};
-ghost use Rattle.user_nodes.specs.Users.{client_does, client_hears, done_or_failed, records_of};
+ghost use Rattle.user_nodes.specs.Users.{client_does, client_hears, client_passes, done_or_failed, records_of, says_quiet, time_passes};
 
 use cluster_model::{FailCause, Outbox};
+use ff_node::is_new_moment;
 use ff_xdr::NoMemory;
 use mirror_client::Client;
 use node_link::Arrival;
@@ -22,7 +23,7 @@ pub(crate) fn fresh_client(alloc: Global, own: u32, moment: u64) -> Result<Clien
     Client::new(alloc, own, moment.to_be_bytes(), FIRST_XID)
 }
 
-/// A record came, or a call timed out, at a moment in seconds.
+/// A record came, or the call of this number timed out, at a moment in seconds.
 fn client_hears(
     client: &mut Client,
     moment: u64,
@@ -33,22 +34,61 @@ fn client_hears(
 {
     match arrival {
         Arrival::Record { from, bytes } => client.on_record(from, bytes.bytes(), moment, out),
-        Arrival::TimedOut(node) => client.on_timeout(node, out),
+        Arrival::TimedOut { node, xid } => client.on_timeout(node, Some(xid), out),
+        Arrival::Quiet => Ok(()),
         Arrival::Closed => Ok(()),
     }
 }
 
-/// Takes an arrival at a moment in seconds: time passes to it, and then the record or the timeout is taken.
+/// Nothing came for a while.
+fn says_quiet(arrival: &Arrival) -> bool
+    ensures { result ≡ says_quiet arrival.now }
+{
+    match arrival {
+        Arrival::Quiet => true,
+        Arrival::Record { .. } => false,
+        Arrival::TimedOut { .. } => false,
+        Arrival::Closed => false,
+    }
+}
+
+/// Whether time passes for a client: where the moment, in seconds, is above the last that it was given, and where nothing
+/// came for a while.
+fn time_passes(last: Option<u64>, moment: u64, arrival: &Arrival) -> bool
+    ensures { result ≡ time_passes last (event_at moment arrival.now) }
+{
+    is_new_moment(last, moment) || says_quiet(arrival)
+}
+
+/// Time passes for a client to a moment in seconds, where it does.
+fn client_passes(
+    client: &mut Client,
+    last: Option<u64>,
+    moment: u64,
+    arrival: &Arrival,
+    out: &mut Outbox,
+) -> Result<(), NoMemory>
+    ensures { OnOk result (HasStepped (client_passes last (event_at moment arrival.now) client.old.client) out.old client.new.client out.new) }
+{
+    if !time_passes(last, moment, arrival) {
+        return Ok(());
+    }
+    client.tick(moment, out)
+}
+
+/// Takes an arrival at a moment in seconds, by a client that was last given this moment: time passes, and then the record
+/// or the timeout is taken.
 pub(crate) fn client_does(
     client: &mut Client,
+    last: Option<u64>,
     moment: u64,
     arrival: Arrival,
     out: &mut Outbox,
 ) -> Result<(), NoMemory>
-    ensures client { OnOk result (client.new.client ≡ (client_does (event_at moment arrival) client.old.client).client) }
-    ensures sends { OnOk result (out.new.sends.items ≡ out.old.sends.items ++ records_of (client_does (event_at moment arrival) client.old.client)) }
+    ensures client { OnOk result (client.new.client ≡ (client_does last (event_at moment arrival) client.old.client).client) }
+    ensures sends { OnOk result (out.new.sends.items ≡ out.old.sends.items ++ records_of (client_does last (event_at moment arrival) client.old.client)) }
 {
-    client.tick(moment, out)?;
+    client_passes(client, last, moment, &arrival, out)?;
     client_hears(client, moment, arrival, out)
 }
 

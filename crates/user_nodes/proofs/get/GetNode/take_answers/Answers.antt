@@ -21,6 +21,7 @@ answers-preserved-in_ok-write_all g c =
     record {
       client = ap (λ (s : ClientOfUser). answers_taken s.client) c.in-Some.ensures.rest ∙ c.answers.invariant.client;
       outcome = c.answers.invariant.outcome;
+      last = c.answers.invariant.last;
       seen = ap (saw_more c.note.new.self) left ∙ saw_first c.in-Some.answer was oldest c.answers.seen c.note.new.self c.note.ensures ∙ c.answers.invariant.seen;
       size = ap (size_behind c.saturating_add-size.result) left ∙ size_first c.in-Some.answer was oldest c.answers.size c.saturating_add-size.result c.answer_bytes-bytes.result.now c.answer_bytes-bytes.ensures c.saturating_add-size.ensures ∙ c.answers.invariant.size;
       fits = search rules;
@@ -34,4 +35,4 @@ answers-preserved-in_ok-write_all g c =
 pub returns-clause-state : goal.returns-clause-state
 returns-clause-state g c =
     all_taken c.args.self.now c.answers.self-inside.client.client c.answers-in-answers.new.self.client c.answers.size (sym c.in_default.ensures.oldest) c.answers.invariant.fits
-    (ap (λ (s : ClientOfUser). s.client) c.in_default.ensures.rest) c.answers.invariant.client c.answers.invariant.size c.answers.self-inside.outcome c.answers.invariant.outcome
+    (ap (λ (s : ClientOfUser). s.client) c.in_default.ensures.rest) c.answers.invariant.client c.answers.invariant.size c.answers.self-inside.outcome c.answers.invariant.outcome c.answers.self-inside.last c.answers.invariant.last

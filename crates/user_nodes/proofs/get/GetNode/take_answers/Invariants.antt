@@ -11,6 +11,7 @@ invariant-answers g l =
     record {
       client : answers_taken l.self-inside.client.client ≡ answers_taken l.fn.self.client;
       outcome : l.self-inside.outcome ≡ l.fn.self.outcome;
+      last : l.self-inside.last ≡ l.fn.self.last;
       seen : saw_more l.seen left ≡ saw_more saw_none all;
       size : size_behind l.size left ≡ size_behind l.fn.self.size all;
       fits : l.size < 2 ^ 64;

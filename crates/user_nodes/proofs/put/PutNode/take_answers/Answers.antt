@@ -13,4 +13,5 @@ answers-preserved c =
       progress =
           ap (λ (s : ClientOfUser). with_answers c.note.new.self s.client.answers) c.in-Some.ensures.rest
           ∙ counts_first was.progress c.note.new.self c.in-Some.answer was.client.client.answers (sym c.in-Some.ensures.oldest) c.note.ensures ∙ c.answers.invariant.progress;
+      last = c.answers.invariant.last;
     }

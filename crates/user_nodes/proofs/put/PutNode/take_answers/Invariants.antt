@@ -7,6 +7,7 @@ abbrev pub invariant-answers : goal.invariant-answers
 invariant-answers l = record {
   client : answers_taken l.self-inside.client.client ≡ answers_taken l.fn.self.client;
   progress : with_answers l.self-inside.progress l.self-inside.client.client.answers ≡ with_answers l.fn.self.progress l.fn.self.client.answers;
+  last : l.self-inside.last ≡ l.fn.self.last;
 }
 
 abbrev pub decreases-answers : goal.decreases-answers
