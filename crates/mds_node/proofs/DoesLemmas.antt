@@ -11,9 +11,12 @@ use Rattle.ff_node.specs.Serve.{Beside, NodeRuns, end_of_link, link_faults, sink
 use Rattle.ff_node.specs.declared.end.NodeEnd.{NodeEnd}
 use Rattle.mds_node.specs.MdsNodes.{MdsNodeValue, mds_passes, mds_hears, mds_does, mds_node_after, mds_node_rule}
 
-pub state_does : (e : NodeEvent) (n : MdsNodeValue) (mid last : MdsValue) (after : MdsNodeValue) → mid ≡ (mds_passes n.last e.moment n.mds).mds → last ≡ (mds_hears e.moment e.arrival mid).mds → after ≡ record { mds = last; last = Some e.moment } → after ≡ mds_node_after e n
-state_does e n mid last after passed heard is =
-    is ∙ ap (λ (m : MdsValue). record { mds = m; last = Some e.moment }) (heard ∙ ap (λ (x : MdsValue). (mds_hears e.moment e.arrival x).mds) passed)
+-- the server as it is then, with the moment that it was given
+abbrev pub with_moment : ℕ → MdsValue → MdsNodeValue
+with_moment moment m = record { mds = m; last = Some moment }
+
+pub state_does : (e : NodeEvent) (n : MdsNodeValue) (mid last : MdsValue) → mid ≡ (mds_passes n.last e.moment n.mds).mds → last ≡ (mds_hears e.moment e.arrival mid).mds → with_moment e.moment last ≡ mds_node_after e n
+state_does e n mid last passed heard = ap (with_moment e.moment) (heard ∙ ap (λ (x : MdsValue). (mds_hears e.moment e.arrival x).mds) passed)
 
 pub sends_does : (e : NodeEvent) (n : MdsNodeValue) (mid : MdsValue) (old between last : SentRecords) → mid ≡ (mds_passes n.last e.moment n.mds).mds → between ≡ old ++ records_sent (mds_passes n.last e.moment n.mds)
     → last ≡ between ++ records_sent (mds_hears e.moment e.arrival mid) → last ≡ old ++ records_sent (mds_does e n)

@@ -1,2 +1,3 @@
-pub mod StepLemmas
+mod NamedTimeouts
 pub mod ClientLemmas
+pub mod StepLemmas

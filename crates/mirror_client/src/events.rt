@@ -1,6 +1,6 @@
 //! What happens to a client.
 
-ghost use Rattle.std.specs.Prelude.{◌≡◌, OnOk};
+ghost use Rattle.std.specs.Prelude.{◌≡◌, OnOk, Some};
 ghost use Rattle.rpc_record.specs.Replies.{rpc_reply};
 ghost use Rattle.client_state.specs.ClientSends.{and_then};
 ghost use Rattle.client_calls.specs.ClientCalls.{calls_all, ends_event};
@@ -111,6 +111,21 @@ fn time_out_outstanding(client: &mut State, to: NodeId, out: &mut Outbox) -> Res
     timed_out_to(client, to, out)
 }
 
+/// The call of this number to this node timed out. One that is not outstanding there is passed over.
+fn time_out_numbered(
+    client: &mut State,
+    to: NodeId,
+    xid: u32,
+    out: &mut Outbox,
+) -> Result<(), NoMemory>
+    ensures { OnOk result (HasStepped (client_late to (Some xid) client.old) out.old client.new out.new) }
+{
+    if !is_outstanding_at(client, to, xid) {
+        return Ok(());
+    }
+    time_out_outstanding(client, to, out)
+}
+
 /// A call to this node timed out: the one of this number, or, without one, whichever is outstanding there.
 pub fn time_out(
     client: &mut State,
@@ -120,13 +135,10 @@ pub fn time_out(
 ) -> Result<(), NoMemory>
     ensures { OnOk result (HasStepped (client_late to xid client.old) out.old client.new out.new) }
 {
-    let Some(xid) = xid else {
-        return time_out_outstanding(client, to, out);
-    };
-    if !is_outstanding_at(client, to, xid) {
-        return Ok(());
+    match xid {
+        Some(xid) => time_out_numbered(client, to, xid, out),
+        None => time_out_outstanding(client, to, out),
     }
-    time_out_outstanding(client, to, out)
 }
 
 /// What waited for the tick waits no longer.

@@ -125,7 +125,7 @@ fn request(
 }
 
 /// The number of a call, where the line has one more word.
-fn xid_if_given(words: &mut Words<'_>) -> Result<Option<u32>, RowFault> {
+fn named_call(words: &mut Words<'_>) -> Result<Option<u32>, RowFault> {
     if words.end().is_ok() {
         return Ok(None);
     }
@@ -149,7 +149,7 @@ fn event(
         }
         "timeout" => {
             let node = words.node()?;
-            client.on_timeout(node, xid_if_given(words)?, out)?;
+            client.on_timeout(node, named_call(words)?, out)?;
         }
         "tick" => client.tick(now, out)?,
         "stray" => stray(client, words, out)?,

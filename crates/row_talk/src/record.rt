@@ -129,18 +129,18 @@ pub fn record_words<'x>(
     Ok(answer.into_text())
 }
 
-/// A text whose part in parentheses, if it has one, are a record's words, which are replaced by their bytes in
-/// hexadecimal.
+/// A text in which each part in parentheses are a record's words, which are replaced by their bytes in hexadecimal.
 fn unfolded<'x>(alloc: Global, names: &'x [Name<'x>], line: &'x str) -> Result<String, RowFault> {
     let mut text = String::new(alloc);
-    let Some((front, rest)) = line.split_once("(") else {
-        text.push_str(line)?;
-        return Ok(text);
-    };
-    let (words, back) = rest.split_once(")").ok_or(RowFault::Outside)?;
-    text.push_str(front)?;
-    text.push_str(digits(alloc, names, words)?.as_str())?;
-    text.push_str(back)?;
+    for (place, part) in line.split("(").enumerate() {
+        if place == 0 {
+            text.push_str(part)?;
+            continue;
+        }
+        let (words, back) = part.split_once(")").ok_or(RowFault::Outside)?;
+        text.push_str(digits(alloc, names, words)?.as_str())?;
+        text.push_str(back)?;
+    }
     Ok(text)
 }
 
