@@ -14,7 +14,7 @@ use std::marker::Model;
 use std::ops::Bound;
 
 /// The calls that were sent and are not answered, each number once (RFC 5531, section 9). Clauses see a list, in the order of
-/// the numbers. `add`, `get`, `remove` and `take` cost the logarithm of how many there are.
+/// the numbers. `add`, `get`, `remove`, `take` and `first_behind` cost the logarithm of how many there are.
 #[derive(Drop)]
 pub struct Calls {
     calls: BTreeMap<u32, AwaitedCall>,
@@ -83,6 +83,18 @@ impl Calls {
             return None;
         }
         self.calls.remove(&xid)
+    }
+
+    /// The first call behind the one with a number, or of all. Costs the logarithm of how many there are.
+    pub fn first_behind(&self, after: Option<u32>) -> Option<&AwaitedCall>
+        ensures next { option_copied result ≡ find (λ call. is_behind after call.xid) self.now }
+        ensures ordered { AreOrdered self.now }
+    {
+        let start = start_behind(after);
+        match self.calls.range((start, Bound::Unbounded)).next() {
+            None => None,
+            Some((_, call)) => Some(call),
+        }
     }
 
     /// The first call to this node behind the one with a number, or of all. Costs the logarithm of how many there are, and the calls

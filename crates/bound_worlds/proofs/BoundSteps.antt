@@ -169,7 +169,7 @@ module _ (laws : BoundLaws) (by_mds : MdsLaws) (records : RecordLaws) (users : U
           mds_so laws by_mds records users boots ticked j e tt may.parts
 
   times_so : (w : ClusterState) → IsBoundRunOf boots w → (node to : NodeId) → HoldersKeepParts (acting node (times_out w.now node to w.machines) w).journal → IsBoundRunOf boots (acting node (times_out w.now node to w.machines) w)
-  times_so w i Mds to parts = mds_so laws by_mds records users boots w i (record { now = w.now; input = IsTimedOut to }) tt parts
+  times_so w i Mds to parts = mds_so laws by_mds records users boots w i (record { now = w.now; input = IsTimedOut to None }) tt parts
   times_so w i (Server n) to parts = nothing_so laws by_mds records users boots w i (Server n)
   times_so w i (Client n) to parts = client_alone laws by_mds records users boots w i n (client_timed_out to) (λ c. its_user c (TimeoutOf to)) parts
 

@@ -176,7 +176,7 @@ impl Machines {
         ensures { OnOk result (HasActed (times_out now node to self.old) out.old self.new out.new) }
     {
         match node {
-            NodeId::Mds => self.mds.on_timeout(to, now, out),
+            NodeId::Mds => self.mds.on_timeout(to, None, now, out),
             NodeId::Server(_) => Ok(()),
             NodeId::Client(number) => self.client_times_out(number, to, out),
         }

@@ -3,3 +3,4 @@ pub mod LeaseLemmas
 pub mod RecallLemmas
 pub mod NextAwaited
 pub mod CompoundsWithin
+pub mod Forgotten

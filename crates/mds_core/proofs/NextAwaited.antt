@@ -17,14 +17,14 @@ use Rattle.awaited_calls.specs.Awaited.{AreOrdered, is_behind}
 
 -- ---- numbers
 
-abbrev AreAbove : ℕ → List AwaitedCall → Type 0
+abbrev pub AreAbove : ℕ → List AwaitedCall → Type 0
 AreAbove xid calls = AllByRecursion (λ y. nat_cmp xid y ≡ Less) (map (λ (c : AwaitedCall). c.xid) calls)
 
-behind_too : (after : Option ℕ) (x y : ℕ) → is_behind after x ≡ true → x < y → is_behind after y ≡ true
+pub behind_too : (after : Option ℕ) (x y : ℕ) → is_behind after x ≡ true → x < y → is_behind after y ≡ true
 behind_too None x y past lower = refl
 behind_too (Some n) x y past lower = lt-ltb n y (omega (arith, ltb-true n x past, lower))
 
-not_behind_itself : (x : ℕ) → nat_lt x x ≡ false
+pub not_behind_itself : (x : ℕ) → nat_lt x x ≡ false
 not_behind_itself x = le-ltb x x (omega arith)
 
 -- ---- tests
@@ -100,7 +100,7 @@ module _ (goes waits : AwaitedCall → Bool) where
       ap (λ b. cond ((goes c && waits c) && b) (Some c) (find (sought_behind after) calls)) both
       ∙ ap (λ (r : Option AwaitedCall). cond ((goes c && waits c) && nat_lt xid c.xid) (Some c) r) (all_behind after xid calls past above.1)
 
-  found_above : (test : AwaitedCall → Bool) (xid : ℕ) (call : AwaitedCall) (calls : List AwaitedCall) → find test calls ≡ Some call → AreAbove xid calls → xid < call.xid
+  pub found_above : (test : AwaitedCall → Bool) (xid : ℕ) (call : AwaitedCall) (calls : List AwaitedCall) → find test calls ≡ Some call → AreAbove xid calls → xid < call.xid
   found_above test xid call [] found above = absurd (none-some call found)
   found_above test xid call (c ∷ calls) found above = by_test (test c) found (λ is. found_above test xid call calls is above.1)
     where

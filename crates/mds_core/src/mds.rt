@@ -10,7 +10,7 @@ ghost use Rattle.mds_core.specs.MdsSteps.{fresh_server, MdsStepsBy};
 use crate::asks::{recall, resilver};
 use crate::receive::receive;
 use crate::ticks::tick;
-use crate::timeouts::time_out_first;
+use crate::timeouts::time_out;
 use cluster_model::{FileId, Mirrors, NodeId, Outbox};
 use device_addr::NetAddr;
 use ff_xdr::NoMemory;
@@ -110,17 +110,25 @@ impl Mds {
         self.end(own, out)
     }
 
-    /// Of the calls to this node that are waited for, the one that was sent first timed out, at `now`, in seconds; nothing happens
-    /// where there is none.
-    pub fn on_timeout(&mut self, to: NodeId, now: u64, out: &mut Outbox) -> Result<(), NoMemory>
-        ensures { MdsStepsBy (λ m. takes_timeout now m to) self.old out.old result self.new out.new }
+    /// A call to this node timed out, at `now`, in seconds: the one of the number `xid`, where one is given, or else the one that was
+    /// sent first, of those that are waited for. Nothing happens where there is none, and where the call of that number to that node is
+    /// not waited for.
+    pub fn on_timeout(
+        &mut self,
+        to: NodeId,
+        xid: Option<u32>,
+        now: u64,
+        out: &mut Outbox,
+    ) -> Result<(), NoMemory>
+        ensures { MdsStepsBy (λ m. takes_timeout now m to xid) self.old out.old result self.new out.new }
     {
         let mut own = self.begin()?;
-        time_out_first(&mut self.state, to, now, &mut own)?;
+        time_out(&mut self.state, to, xid, now, &mut own)?;
         self.end(own, out)
     }
 
-    /// Time passed; it is `now`, in seconds. Leases and recalls end, and what waited for the tick is asked again.
+    /// Time passed; it is `now`, in seconds. Leases and recalls end, what waited for the tick is asked again, and calls that nobody
+    /// waits for are forgotten.
     pub fn tick(&mut self, now: u64, out: &mut Outbox) -> Result<(), NoMemory>
         ensures { MdsStepsBy (takes_tick now) self.old out.old result self.new out.new }
     {

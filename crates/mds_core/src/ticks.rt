@@ -1,4 +1,4 @@
-//! Time passes at a metadata server: leases, recalls, what waited for the tick.
+//! Time passes at a metadata server: leases, recalls, what waited for the tick, calls that nobody waits for.
 
 ghost use Rattle.std.specs.Prelude.{◌≡◌, length, OnOk};
 ghost use Rattle.std.specs.List.{range_with_len};
@@ -6,11 +6,12 @@ ghost use Rattle.file_rule.specs.FilePhases.{Ticks};
 ghost use Rattle.mds_rule.specs.MdsStates.{numbered};
 ghost use Rattle.mds_rule.specs.ServedFiles.{takes_input};
 ghost use Rattle.mds_rule.specs.Goes.{each};
-ghost use Rattle.mds_rule.specs.Events.{leases_end, recalls_expire, takes_tick};
+ghost use Rattle.mds_rule.specs.Events.{leases_end, recalls_expire, forgets_calls, takes_tick};
 ghost use Rattle.compound_run.specs.CompoundRuns.{HasMadeStep};
 
 use cluster_model::{EndCause, FileId, Outbox};
 use ff_xdr::NoMemory;
+use mds_answers::is_awaited;
 use mds_file::FileInput;
 use mds_sends::{call_all, kept_calls};
 use mds_state::{State, end_client, take_input};
@@ -45,6 +46,21 @@ fn tick_files(state: &mut State, out: &mut Outbox) -> Result<(), NoMemory>
     Ok(())
 }
 
+/// Calls that nobody waits for are forgotten. It goes over the calls once, by their numbers; each costs the logarithm of how many there
+/// are, and what it costs to see whether it is waited for. Takes no memory.
+fn forget_calls(state: &mut State)
+    ensures { state.new ≡ (forgets_calls state.old).mds }
+{
+    let mut after = None;
+    while let Some(call) = state.calls.first_behind(after) {
+        let (node, xid) = (call.node, call.xid);
+        if !is_awaited(state, node, xid, call.caller) {
+            state.calls.remove(node, xid);
+        }
+        after = Some(xid);
+    }
+}
+
 /// Time passed; it is `now`, in seconds. Takes memory.
 pub fn tick(state: &mut State, now: u64, out: &mut Outbox) -> Result<(), NoMemory>
     ensures { OnOk result (HasMadeStep (takes_tick now state.old) out.old state.new out.new) }
@@ -53,5 +69,7 @@ pub fn tick(state: &mut State, now: u64, out: &mut Outbox) -> Result<(), NoMemor
     expire_recalls(state, now, out)?;
     let kept = kept_calls(state)?;
     tick_files(state, out)?;
-    call_all(state, &kept, out)
+    call_all(state, &kept, out)?;
+    forget_calls(state);
+    Ok(())
 }

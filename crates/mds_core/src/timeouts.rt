@@ -2,7 +2,8 @@
 
 ghost use Rattle.std.specs.Prelude.{◌≡◌, find, option_copied, OnOk};
 ghost use Rattle.mds_rule.specs.MdsStates.{served};
-ghost use Rattle.mds_rule.specs.Events.{is_outstanding_to, is_kept_by, goes_again, takes_timeout};
+ghost use Rattle.mds_rule.specs.MdsStates.{is_call_to};
+ghost use Rattle.mds_rule.specs.Events.{is_outstanding_to, if_awaited, late_call, is_kept_by, goes_again, takes_timeout};
 ghost use Rattle.mds_rule.specs.MdsStates.{AwaitedCall as SentBefore};
 ghost use Rattle.mds_core.specs.LateCalls.{IsLateCall};
 ghost use Rattle.compound_run.specs.CompoundRuns.{HasMadeStep};
@@ -10,7 +11,7 @@ ghost use Rattle.compound_run.specs.CompoundRuns.{HasMadeStep};
 use awaited_calls::AwaitedCall;
 use cluster_model::{Entry, NodeId, Outbox};
 use ff_xdr::{Data, NoMemory};
-use mds_answers::{is_awaited, time_out};
+use mds_answers::{is_awaited, time_out as time_out_for};
 use mds_rule::Waiter;
 use mds_sends::call_all;
 use mds_state::State;
@@ -26,6 +27,28 @@ fn first_awaited(state: &State, node: NodeId) -> Option<&AwaitedCall>
             return Some(call);
         }
         after = Some(call.xid);
+    }
+}
+
+/// The call to a node under this number, where it is waited for.
+fn named_awaited(state: &State, node: NodeId, xid: u32) -> Option<&AwaitedCall>
+    ensures { option_copied result ≡ if_awaited state.now (find (is_call_to node xid) state.now.calls) }
+{
+    let call = state.calls.get(node, xid)?;
+    if !is_awaited(state, call.node, call.xid, call.caller) {
+        return None;
+    }
+    Some(call)
+}
+
+/// The call to a node that a timeout is of: the one of this number, where it is waited for, or else the one that was sent first, of those
+/// that are waited for.
+fn late_call(state: &State, node: NodeId, which: Option<u32>) -> Option<&AwaitedCall>
+    ensures { option_copied result ≡ late_call state.now node which }
+{
+    match which {
+        None => first_awaited(state, node),
+        Some(xid) => named_awaited(state, node, xid),
     }
 }
 
@@ -75,17 +98,18 @@ fn send_again(state: &mut State, late: LateCall, out: &mut Outbox) -> Result<(),
     Ok(())
 }
 
-/// The call to a node that was sent first, of those that are waited for, timed out; nothing happens where there is none. It is
-/// `now`, in seconds. Takes memory.
-pub fn time_out_first(
+/// A call to a node timed out: the one of the number `which`, or else the one that was sent first, of those that are waited for. Nothing
+/// happens where there is none. It is `now`, in seconds. Takes memory.
+pub fn time_out(
     state: &mut State,
     node: NodeId,
+    which: Option<u32>,
     now: u64,
     out: &mut Outbox,
 ) -> Result<(), NoMemory>
-    ensures { OnOk result (HasMadeStep (takes_timeout now state.old node) out.old state.new out.new) }
+    ensures { OnOk result (HasMadeStep (takes_timeout now state.old node which) out.old state.new out.new) }
 {
-    let Some(call) = first_awaited(state, node) else {
+    let Some(call) = late_call(state, node, which) else {
         return Ok(());
     };
     let late = LateCall {
@@ -98,7 +122,7 @@ pub fn time_out_first(
         node: NodeId::Mds,
         xid: late.xid,
     })?;
-    time_out(state, late.xid, late.caller, now, out)?;
+    time_out_for(state, late.xid, late.caller, now, out)?;
     send_again(state, late, out)?;
     call_all(state, &[], out)
 }

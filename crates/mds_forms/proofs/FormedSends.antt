@@ -19,7 +19,7 @@ use Rattle.mds_rule.specs.Goes.{xid_after}
 use Rattle.mds_laws.specs.MdsRuns.{after_event}
 use Rattle.mds_laws.proofs.Lists.{AllOf, all_push, all_in}
 use Rattle.mds_laws.proofs.Keeping.{Cases, HeardAny, hears_any, is_note}
-use Rattle.mds_laws.proofs.Numbers.{WereSent, sent_more, sent_with, sent_without}
+use Rattle.mds_laws.proofs.Numbers.{WereSent, sent_more, sent_with, sent_kept}
 use Rattle.mds_laws.proofs.GoesWalk.{event_walk}
 use Rattle.mds_forms.specs.Forms.{IsNoPacket, IsInForm, MdsStaysInForm}
 use Rattle.mds_forms.proofs.PhaseEntries.{phase_none}
@@ -89,7 +89,7 @@ cases = record {
   calls_read = λ m file s t server call at has same write uid is_read es ss i. called m.next_xid m.calls es ss (record { node = Server server; xid = m.next_xid; caller = ForRead file; sent = CallsServer server m.next_xid 0 call }) (λ small. small) i;
   calls_back = λ m node back file stateid has es ss i. called m.next_xid m.calls es ss (record { node = node; xid = m.next_xid; caller = ForRecall; sent = CallsBack m.next_xid back file stateid }) (λ small. small) i;
   skips = λ m has es ss i. record { none = i.none; fits = after_fits m.next_xid i.fits; were = i.were; forms = i.forms };
-  forgets = λ m node xid es ss i. record { none = i.none; fits = i.fits; were = sent_without node xid m.calls ss i.were; forms = i.forms };
+  forgets = λ m test es ss i. record { none = i.none; fits = i.fits; were = sent_kept test m.calls ss i.were; forms = i.forms };
   was = λ m es ss i. i.were;
   again = λ m s es ss i inside. plain m.next_xid m.calls es ss s (all_in IsInForm ss s i.forms inside) i;
 }

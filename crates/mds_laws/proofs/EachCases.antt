@@ -1,6 +1,6 @@
 -- What any part of an event can do, told more closely than in `Cases`: an own write by what it begins with, by each of its answers and
 -- timeouts, and by its end (RFC 8881, section 18.32), and who holds a file.
-use Rattle.std.proofs.Common.{◌≡◌, ◌≤◌, ◌<◌, ℕ, ◌+◌, Bool, true, false, List, [], ◌∷◌, ◌++◌, length, Some, None}
+use Rattle.std.proofs.Common.{◌≡◌, ◌≤◌, ◌<◌, ℕ, ◌+◌, Bool, true, false, List, [], ◌∷◌, ◌++◌, length, Some, None, filter}
 use Rattle.rpc_record.specs.Replies.{RpcReply, reply_bytes}
 use Rattle.cluster_model.specs.declared.limits.TheConstants.{MAX_FILE, PIECE_SIZE}
 use Rattle.cluster_model.specs.declared.ids.NodeId.{NodeId}
@@ -19,7 +19,7 @@ use Rattle.nfs4_session.specs.declared.back.BackCall.{BackCall}
 use Rattle.nfs4_session.specs.TableLaw.{TableMove}
 use Rattle.recall.specs.declared.recall.Recall.{Recall}
 use Rattle.open_state.specs.Opens.{OpensValue}
-use Rattle.mds_rule.specs.MdsStates.{CompoundRun, WaitingWrite, ServedFile, MdsSend, CallsServer, CallsBack, Replies, Answers, AwaitedCall, MdsValue, served, with_served, without_call}
+use Rattle.mds_rule.specs.MdsStates.{CompoundRun, WaitingWrite, ServedFile, MdsSend, CallsServer, CallsBack, Replies, Answers, AwaitedCall, MdsValue, served, with_served}
 use Rattle.mds_rule.specs.declared.waiter.Waiter.TheVariants.{ForFile, ForRead, ForWrite, ForRecall}
 use Rattle.mds_rule.specs.ServedFiles.{has_fresh, file_behind, file_stepped}
 use Rattle.mds_rule.specs.FileOps.{with_new_file, may_make, with_write}
@@ -112,7 +112,7 @@ pub record EachCase (I : MdsValue → List Entry → List MdsSend → Type 0) (H
       → Keeps I m (calls_as m node ForRecall (CallsBack m.next_xid back file stateid))
   -- a number is passed over
   pub skips : (m : MdsValue) → has_xids m ≡ true → Becomes I m (record m { next_xid = xid_after m.next_xid })
-  -- a call is forgotten, or goes out again
-  pub forgets : (m : MdsValue) (node : NodeId) (xid : ℕ) → Becomes I m (record m { calls = without_call node xid m.calls })
+  -- calls that fail a test are forgotten; a call goes out again
+  pub forgets : (m : MdsValue) (test : AwaitedCall → Bool) → Becomes I m (record m { calls = filter test m.calls })
   pub was : (m : MdsValue) (es : List Entry) (ss : List MdsSend) → I m es ss → (call : AwaitedCall) → IsOneOf call m.calls → IsOneOf call.sent ss
   pub again : (m : MdsValue) (s : MdsSend) (es : List Entry) (ss : List MdsSend) → I m es ss → IsOneOf s ss → I m es (ss ++ s ∷ [])

@@ -29,7 +29,7 @@ use Rattle.mds_laws.proofs.Keeping.{Cases, HeardAny, note_quiet, is_quiet}
 use Rattle.mds_laws.proofs.OpsWalk.{place_served}
 use Rattle.mds_laws.proofs.GoesWalk.{in_each_run}
 use Rattle.mds_laws.proofs.FileGrants.{is_free, IsEntryOf, next_free, Tells, phase_tells, out_layout}
-use Rattle.mds_laws.proofs.Numbers.{WereSent, sent_more, sent_with, sent_without}
+use Rattle.mds_laws.proofs.Numbers.{WereSent, sent_more, sent_with, sent_kept}
 
 -- ---- one entry
 
@@ -195,7 +195,7 @@ cases = record {
       called m file s t (record { node = Server server; xid = m.next_xid; caller = ForRead file; sent = CallsServer server m.next_xid 0 call }) at (ap (λ (f : MdsFile). is_free f.layout.phase) same) es ss i;
   calls_back = λ m node back file stateid has es ss i. called_back m.files m.calls (record { node = node; xid = m.next_xid; caller = ForRecall; sent = CallsBack m.next_xid back file stateid }) es ss i;
   skips = λ m has es ss i. i;
-  forgets = λ m node xid es ss i. record { free = i.free; each = i.each; were = sent_without node xid m.calls ss i.were };
+  forgets = λ m test es ss i. record { free = i.free; each = i.each; were = sent_kept test m.calls ss i.were };
   was = λ m es ss i. i.were;
   again = λ m s es ss i inside. sends m.files m.calls es ss s i;
 }

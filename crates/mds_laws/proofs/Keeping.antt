@@ -1,6 +1,6 @@
 -- What any part of an event can do, and what is kept by all of it: a predicate of a metadata server, of what it has entered and of what it
 -- has sent so far is kept by every part of every event where it is in each of these cases.
-use Rattle.std.proofs.Common.{◌≡◌, ℕ, Bool, true, false, List, [], ◌∷◌, ◌++◌, Option, Some, None, refl, sym, ap, subst, ◌∙◌, ◌⊎◌}
+use Rattle.std.proofs.Common.{◌≡◌, ℕ, Bool, true, false, List, [], ◌∷◌, ◌++◌, Option, Some, None, refl, sym, ap, subst, ◌∙◌, ◌⊎◌, filter}
 use Rattle.std.proofs.lemmas.List.{append_assoc, append-nil}
 use Rattle.rpc_record.specs.Replies.{RpcReply, reply_bytes}
 use Rattle.cluster_model.specs.declared.ids.NodeId.{NodeId}
@@ -19,7 +19,7 @@ use Rattle.nfs4_session.specs.declared.back.BackCall.{BackCall}
 use Rattle.nfs4_session.specs.TableLaw.{TableMove, ExchangeId, CreateSession, BeginRequest, FinishRequest, Bind, CallBack, DestroySession, DestroyClient, Expire, table_after}
 use Rattle.recall.specs.declared.recall.Recall.{Recall}
 use Rattle.open_state.specs.Opens.{OpensValue}
-use Rattle.mds_rule.specs.MdsStates.{WaitingWrite, ServedFile, MdsSend, CallsServer, CallsBack, Replies, Answers, AwaitedCall, MdsValue, MdsStep, sends_none, enters, and_then, served, with_served, is_call_to, without_call}
+use Rattle.mds_rule.specs.MdsStates.{WaitingWrite, ServedFile, MdsSend, CallsServer, CallsBack, Replies, Answers, AwaitedCall, MdsValue, MdsStep, sends_none, enters, and_then, served, with_served, is_call_to}
 use Rattle.mds_rule.specs.declared.waiter.Waiter.TheVariants.{ForFile, ForRead, ForWrite, ForRecall}
 use Rattle.mds_rule.specs.OpSteps.{OpStep, Goes, Ends, Waits}
 use Rattle.mds_rule.specs.ServedFiles.{has_fresh, file_stepped}
@@ -184,8 +184,8 @@ pub record Cases (I : MdsValue → List Entry → List MdsSend → Type 0) (Hear
       → Keeps I m (calls_as m node ForRecall (CallsBack m.next_xid back file stateid))
   -- a number is passed over
   pub skips : (m : MdsValue) → has_xids m ≡ true → Becomes I m (record m { next_xid = xid_after m.next_xid })
-  -- a call is forgotten, or goes out again
-  pub forgets : (m : MdsValue) (node : NodeId) (xid : ℕ) → Becomes I m (record m { calls = without_call node xid m.calls })
+  -- calls that fail a test are forgotten; a call goes out again
+  pub forgets : (m : MdsValue) (test : AwaitedCall → Bool) → Becomes I m (record m { calls = filter test m.calls })
   pub was : (m : MdsValue) (es : List Entry) (ss : List MdsSend) → I m es ss → (call : AwaitedCall) → IsOneOf call m.calls → IsOneOf call.sent ss
   pub again : (m : MdsValue) (s : MdsSend) (es : List Entry) (ss : List MdsSend) → I m es ss → IsOneOf s ss → I m es (ss ++ s ∷ [])
 
@@ -198,14 +198,14 @@ Hearing I Heard node xid replies = (m : MdsValue) (es : List Entry) (ss : List M
 -- of one that an input brings
 abbrev pub HearsSo : (MdsValue → List Entry → List MdsSend → Type 0) → HeardOf → MdsInput → Type 0
 HearsSo I Heard (Hears from bytes) = (reply : RpcReply) → incoming_of bytes ≡ IsReply reply → Hearing I Heard from reply.xid (λ call. reply_of_call call reply)
-HearsSo I Heard (IsTimedOut to) = Unit {0}
+HearsSo I Heard (IsTimedOut to which) = Unit {0}
 HearsSo I Heard IsTick = Unit {0}
 HearsSo I Heard (RecallsFile file) = Unit {0}
 HearsSo I Heard (Resilvers file) = Unit {0}
 
 pub hears_any : (I : MdsValue → List Entry → List MdsSend → Type 0) (input : MdsInput) → HearsSo I HeardAny input
 hears_any I (Hears from bytes) = λ reply is m es ss i call inside its. tt
-hears_any I (IsTimedOut to) = tt
+hears_any I (IsTimedOut to which) = tt
 hears_any I IsTick = tt
 hears_any I (RecallsFile file) = tt
 hears_any I (Resilvers file) = tt

@@ -1,4 +1,5 @@
 pub mod Lists
+pub mod LateFound
 pub mod OwnWriters
 pub mod Keeping
 pub mod EachCases

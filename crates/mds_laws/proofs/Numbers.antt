@@ -1,5 +1,5 @@
 -- Each call has a number of its own, above those of all calls before it, or is one that went out before.
-use Rattle.std.proofs.Common.{◌≡◌, ◌≤◌, ℕ, zero, suc, ◌+◌, Bool, true, false, cond, List, [], ◌∷◌, ◌++◌, Option, Some, None, refl, sym, subst, ◌∙◌, inl, inr, ◌⊎◌, arith}
+use Rattle.std.proofs.Common.{◌≡◌, ◌≤◌, ℕ, zero, suc, ◌+◌, Bool, true, false, cond, List, [], ◌∷◌, ◌++◌, Option, Some, None, refl, sym, subst, ◌∙◌, inl, inr, ◌⊎◌, arith, filter}
 use Rattle.std.specs.Prelude.{not, ◌==◌}
 use Rattle.std.specs.List.{list_any}
 use Rattle.std.proofs.lemmas.Bool.{cond_both}
@@ -17,7 +17,7 @@ use Rattle.file_rule.specs.MdsFiles.{FileStep}
 use Rattle.mds_rows.specs.Draws.{drawn}
 use Rattle.recall.specs.Recalls.{without_file}
 use Rattle.mds_rule.specs.Answers.{own_answer}
-use Rattle.mds_rule.specs.MdsStates.{ServedFile, MdsSend, CallsServer, CallsBack, Replies, Answers, AwaitedCall, MdsValue, with_call, with_served, new_mds, is_call_to, without_call}
+use Rattle.mds_rule.specs.MdsStates.{ServedFile, MdsSend, CallsServer, CallsBack, Replies, Answers, AwaitedCall, MdsValue, with_call, with_served, new_mds}
 use Rattle.mds_rule.specs.declared.waiter.Waiter.TheVariants.{ForFile, ForRead, ForWrite, ForRecall}
 use Rattle.mds_rule.specs.ServedFiles.{is_period_end, file_behind, file_stepped}
 use Rattle.mds_rule.specs.Goes.{xid_after}
@@ -43,8 +43,8 @@ sent_with calls ss call were other inside = by_place (in_with_call other call ca
     by_place (inl old) = in_more other.sent ss (call.sent ∷ []) (were other old)
     by_place (inr new) = subst (λ (c : AwaitedCall). IsOneOf c.sent (ss ++ call.sent ∷ [])) (sym new) (in_last call.sent ss)
 
-pub sent_without : (node : NodeId) (xid : ℕ) (calls : List AwaitedCall) (ss : List MdsSend) → WereSent calls ss → WereSent (without_call node xid calls) ss
-sent_without node xid calls ss were call inside = were call (in_filtered (λ (c : AwaitedCall). not (is_call_to node xid c)) call calls inside)
+pub sent_kept : (test : AwaitedCall → Bool) (calls : List AwaitedCall) (ss : List MdsSend) → WereSent calls ss → WereSent (filter test calls) ss
+sent_kept test calls ss were call inside = were call (in_filtered test call calls inside)
 
 -- ---- numbers
 
@@ -143,7 +143,7 @@ cases = record {
   calls_back = λ m node back file stateid has es ss i.
       called m.next_xid m.calls ss (record { node = node; xid = m.next_xid; caller = ForRecall; sent = CallsBack m.next_xid back file stateid }) has refl i;
   skips = λ m has es ss i. record { each = i.each; below = after_below m.next_xid ss (below_all m.next_xid ss (i.below has)); were = i.were; fits = after_fits m.next_xid i.fits; words = i.words };
-  forgets = λ m node xid es ss i. record { each = i.each; below = i.below; were = sent_without node xid m.calls ss i.were; fits = i.fits; words = i.words };
+  forgets = λ m test es ss i. record { each = i.each; below = i.below; were = sent_kept test m.calls ss i.were; fits = i.fits; words = i.words };
   was = λ m es ss i. i.were;
   again = λ m s es ss i inside. again m.next_xid m.calls ss s inside i;
 }

@@ -43,7 +43,7 @@ use Rattle.mds_laws.proofs.OpsWalk.{place_served, served_again}
 use Rattle.mds_laws.proofs.CompoundWalk.{set_twice}
 use Rattle.mds_laws.proofs.GoesWalk.{behind_each_run}
 use Rattle.mds_laws.proofs.FileGrants.{out_layout}
-use Rattle.mds_laws.proofs.Numbers.{WereSent, sent_more, sent_with, sent_without}
+use Rattle.mds_laws.proofs.Numbers.{WereSent, sent_more, sent_with, sent_kept}
 use Rattle.mds_laws.proofs.HeldFiles.{is_own_entry, NoneOwn, left_none, IsOfOthers, HeldBack, other_apart}
 
 -- ---- lists by their ends
@@ -400,7 +400,7 @@ cases = record {
       subst (λ (l : List Entry). Stands m.files (with_call (record { node = node; xid = m.next_xid; caller = ForRecall; sent = CallsBack m.next_xid back file stateid }) m.calls) l (ss ++ CallsBack m.next_xid back file stateid ∷ [])) (sym (append-nil es))
       (record { sent = i.sent; placed = i.placed; were = sent_with m.calls ss (record { node = node; xid = m.next_xid; caller = ForRecall; sent = CallsBack m.next_xid back file stateid }) i.were });
   skips = λ m has es ss i. i;
-  forgets = λ m node xid es ss i. record { sent = i.sent; placed = i.placed; were = sent_without node xid m.calls ss i.were };
+  forgets = λ m test es ss i. record { sent = i.sent; placed = i.placed; were = sent_kept test m.calls ss i.were };
   was = λ m es ss i. i.were;
   again = λ m s es ss i inside. sends m.files m.calls es ss s i;
 }

@@ -24,7 +24,7 @@ behind_request now m from o = record m { sessions = table_from m.sessions (reque
 -- of an event
 abbrev pub begun_moves : ℕ → MdsInput → List TableMove
 begun_moves now (Hears from bytes) = request_moves now from (request_in (incoming_of bytes))
-begun_moves now (IsTimedOut to) = []
+begun_moves now (IsTimedOut to which) = []
 begun_moves now Ticks = []
 begun_moves now (RecallsFile file) = []
 begun_moves now (Resilvers file) = []
@@ -46,7 +46,7 @@ module _ (I : MdsValue → List Entry → List MdsSend → Type 0) (Heard : Hear
 
   pub begin_kept : (now : ℕ) (input : MdsInput) (m : MdsValue) → Becomes I m (behind_begin now input m)
   begin_kept now (Hears from bytes) m = request_kept now m from (request_in (incoming_of bytes))
-  begin_kept now (IsTimedOut to) m = λ es ss i. i
+  begin_kept now (IsTimedOut to which) m = λ es ss i. i
   begin_kept now Ticks m = λ es ss i. i
   begin_kept now (RecallsFile file) m = λ es ss i. i
   begin_kept now (Resilvers file) m = λ es ss i. i

@@ -39,7 +39,7 @@ use Rattle.mds_laws.specs.SlotUses.{first_request, request_in, effect_asked, eff
 use Rattle.mds_laws.proofs.Lists.{AllOf, all_push}
 use Rattle.mds_laws.proofs.Keeping.{IsNoRequest, Cases, HeardAny, hears_any}
 use Rattle.mds_laws.proofs.Requested.{request_moves, begun_moves}
-use Rattle.mds_laws.proofs.Numbers.{WereSent, sent_more, sent_with, sent_without}
+use Rattle.mds_laws.proofs.Numbers.{WereSent, sent_more, sent_with, sent_kept}
 use Rattle.mds_laws.proofs.CasesOfEach.{each_case}
 use Rattle.mds_laws.proofs.GoesWalk.{input_walk}
 
@@ -128,7 +128,7 @@ module _ (start : SessionsState) where
     calls_back = λ m node back file stateid has es ss i.
         called m.sessions m.calls ss (record { node = node; xid = m.next_xid; caller = ForRecall; sent = CallsBack m.next_xid back file stateid }) i;
     skips = λ m has es ss i. i;
-    forgets = λ m node xid es ss i. record { moves = i.moves; none = i.none; is = i.is; were = sent_without node xid m.calls ss i.were };
+    forgets = λ m test es ss i. record { moves = i.moves; none = i.none; is = i.is; were = sent_kept test m.calls ss i.were };
     was = λ m es ss i. i.were;
     again = λ m s es ss i inside. sends m.sessions m.calls ss s i;
   }
@@ -142,7 +142,7 @@ asked_takes session slot now m from (Some request) = append-nil (effect_on sessi
 
 begun_takes : (session : SessionId) (slot now : ℕ) (m : MdsValue) (input : MdsInput) → effects_from session slot m.sessions (begun_moves now input) ≡ effect_in session slot m input
 begun_takes session slot now m (Hears from bytes) = asked_takes session slot now m from (request_in (incoming_of bytes))
-begun_takes session slot now m (IsTimedOut to) = refl
+begun_takes session slot now m (IsTimedOut to which) = refl
 begun_takes session slot now m Ticks = refl
 begun_takes session slot now m (RecallsFile file) = refl
 begun_takes session slot now m (Resilvers file) = refl

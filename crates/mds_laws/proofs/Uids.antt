@@ -28,7 +28,7 @@ use Rattle.mds_laws.proofs.OpsWalk.{place_served}
 use Rattle.mds_laws.proofs.GoesWalk.{in_each_run}
 use Rattle.mds_laws.proofs.WriterKept.{sends_of}
 use Rattle.mds_laws.proofs.FileUids.{FileFits, phase_fits, out_fits}
-use Rattle.mds_laws.proofs.Numbers.{WereSent, sent_more, sent_with, sent_without}
+use Rattle.mds_laws.proofs.Numbers.{WereSent, sent_more, sent_with, sent_kept}
 
 abbrev WriteFits : Option WaitingWrite → Type 0
 WriteFits None = Unit {0}
@@ -145,7 +145,7 @@ cases = record {
     each = all_push IsByItsUid ss (CallsBack m.next_xid back file stateid) i.each tt;
   };
   skips = λ m has es ss i. i;
-  forgets = λ m node xid es ss i. record { drawn = i.drawn; all = i.all; were = sent_without node xid m.calls ss i.were; each = i.each };
+  forgets = λ m test es ss i. record { drawn = i.drawn; all = i.all; were = sent_kept test m.calls ss i.were; each = i.each };
   was = λ m es ss i. i.were;
   again = λ m s es ss i inside. pushed m.fresh.uid m.files m.calls ss s (all_in IsByItsUid ss s i.each inside) i;
 }

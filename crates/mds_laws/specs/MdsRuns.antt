@@ -1,5 +1,5 @@
 -- Runs of a metadata server, with any events in any order.
-use Rattle.std.specs.Prelude.{ℕ, List, [], ◌∷◌}
+use Rattle.std.specs.Prelude.{ℕ, List, [], ◌∷◌, Option}
 use Rattle.cluster_model.specs.declared.ids.NodeId.{NodeId}
 use Rattle.cluster_model.specs.declared.ids.FileId.{FileId}
 use Rattle.device_addr.specs.Universal.{AddressValue}
@@ -10,8 +10,8 @@ use Rattle.mds_rule.specs.Events.{takes_record, takes_timeout, takes_tick, takes
 pub data MdsInput : Type 0 where
   -- a record, of whatever bytes
   Hears : (from : NodeId) (bytes : List ℕ) → MdsInput
-  -- the call to this node that was sent first times out
-  IsTimedOut : (to : NodeId) → MdsInput
+  -- of the calls to this node the one with this number times out, or else the one that was sent first
+  IsTimedOut : (to : NodeId) (which : Option ℕ) → MdsInput
   Ticks : MdsInput
   -- the layout of a file is to be recalled, and mirrors are to be added to it
   RecallsFile : (file : FileId) → MdsInput
@@ -24,7 +24,7 @@ pub record MdsEvent : Type 0 where
 
 abbrev pub by_input : ℕ → MdsInput → MdsValue → MdsStep
 by_input now (Hears from bytes) m = takes_record now m from bytes
-by_input now (IsTimedOut to) m = takes_timeout now m to
+by_input now (IsTimedOut to which) m = takes_timeout now m to which
 by_input now Ticks m = takes_tick now m
 by_input now (RecallsFile file) m = takes_recall now m file
 by_input now (Resilvers file) m = takes_resilver m file

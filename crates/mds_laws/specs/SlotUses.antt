@@ -44,7 +44,7 @@ effect_asked session slot m from (Some request) = effect_on session slot (after_
 
 abbrev pub effect_in : SessionId → ℕ → MdsValue → MdsInput → List ℕ
 effect_in session slot m (Hears from bytes) = effect_asked session slot m from (request_in (incoming_of bytes))
-effect_in session slot m (IsTimedOut to) = []
+effect_in session slot m (IsTimedOut to which) = []
 effect_in session slot m Ticks = []
 effect_in session slot m (RecallsFile file) = []
 effect_in session slot m (Resilvers file) = []

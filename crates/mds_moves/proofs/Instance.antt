@@ -1,5 +1,5 @@
 -- Each part of an event of the server is moves of the machine, and so is each event.
-use Rattle.std.proofs.Common.{◌≡◌, ◌<◌, ℕ, ◌-◌, true, false, List, [], ◌∷◌, ◌++◌, Option, Some, refl, sym, ap, subst, ◌∙◌, inl, inr, arith}
+use Rattle.std.proofs.Common.{◌≡◌, ◌<◌, ℕ, ◌-◌, true, false, List, [], ◌∷◌, ◌++◌, Option, Some, refl, sym, ap, subst, ◌∙◌, inl, inr, arith, filter}
 use Rattle.std.specs.Prelude.{not, ◌==◌}
 use Rattle.std.proofs.lemmas.Bool.{and_parts, eqb-true}
 use Rattle.std.proofs.lemmas.List.{append-nil}
@@ -32,7 +32,7 @@ use Rattle.cluster_laws.specs.CallRanges.{AreServersInRange}
 use Rattle.cluster_laws.specs.Telling.{telling}
 use Rattle.machine_moves.proofs.Bound.{goes_untold}
 use Rattle.mds_receive.specs.MdsReceive.{PassedOver, IsReply, incoming_of}
-use Rattle.mds_rule.specs.MdsStates.{WaitingWrite, ServedFile, MdsSend, CallsServer, CallsBack, Replies, Answers, AwaitedCall, MdsValue, is_call_to, without_call}
+use Rattle.mds_rule.specs.MdsStates.{WaitingWrite, ServedFile, MdsSend, CallsServer, CallsBack, Replies, Answers, AwaitedCall, MdsValue, is_call_to}
 use Rattle.mds_rule.specs.declared.waiter.Waiter.TheVariants.{ForRead, ForRecall}
 use Rattle.mds_laws.specs.MdsRuns.{MdsEvent, MdsInput, Hears as Comes, IsTimedOut, Ticks, RecallsFile, Resilvers, after_event}
 use Rattle.mds_laws.specs.MdsRunLaws.{number_sent}
@@ -150,11 +150,11 @@ module _ (few : DrawFew) (fit : CallsFit) (tells : TellsAll) (stand : RunsStand)
     calls_back = λ m node back file stateid has es ss i.
         untold_more (calls_as m node ForRecall (CallsBack m.next_xid back file stateid)).mds es [] (ss ++ CallsBack m.next_xid back file stateid ∷ []) refl (called_back m node back file stateid has es ss i);
     skips = λ m has es ss i. record { machine = i.machine; goes = i.goes; stays = i.stays; is = passes_over i.machine m.servers m.mirrors m.files m.fresh m.calls m.next_xid ss i.is has; kept = i.kept; binds = i.binds; own = i.own };
-    forgets = λ m node xid es ss i. record {
+    forgets = λ m test es ss i. record {
       machine = i.machine;
       goes = i.goes;
       stays = i.stays;
-      is = awaits_fewer i.machine m.servers m.mirrors m.files m.fresh m.calls m.next_xid ss i.is (without_call node xid m.calls) (λ call inside. in_filtered (λ (c : AwaitedCall). not (is_call_to node xid c)) call m.calls inside);
+      is = awaits_fewer i.machine m.servers m.mirrors m.files m.fresh m.calls m.next_xid ss i.is (filter test m.calls) (λ call inside. in_filtered test call m.calls inside);
       kept = i.kept;
       binds = i.binds;
       own = i.own;
@@ -202,7 +202,7 @@ module _ (few : DrawFew) (fit : CallsFit) (tells : TellsAll) (stand : RunsStand)
   hears_so (Comes Mds bytes) may = λ reply reads. other_hears Mds (λ k. refl) reply.xid (λ call. reply_of_call call reply)
   hears_so (Comes (Server k) bytes) may = server_hears k bytes may
   hears_so (Comes (Client k) bytes) may = λ reply reads. other_hears (Client k) (λ j. refl) reply.xid (λ call. reply_of_call call reply)
-  hears_so (IsTimedOut to) may = tt
+  hears_so (IsTimedOut to which) may = tt
   hears_so Ticks may = tt
   hears_so (RecallsFile file) may = tt
   hears_so (Resilvers file) may = tt

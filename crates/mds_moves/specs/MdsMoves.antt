@@ -185,7 +185,7 @@ abbrev pub MayComeTo : Machine → List MdsSend → MdsInput → Type 0
 MayComeTo mc ss (Hears Mds bytes) = Unit {0}
 MayComeTo mc ss (Hears (Server k) bytes) = MayComeFrom mc ss k bytes
 MayComeTo mc ss (Hears (Client k) bytes) = Unit {0}
-MayComeTo mc ss (IsTimedOut to) = Unit {0}
+MayComeTo mc ss (IsTimedOut to which) = Unit {0}
 MayComeTo mc ss Ticks = Unit {0}
 MayComeTo mc ss (RecallsFile file) = Unit {0}
 MayComeTo mc ss (Resilvers file) = Unit {0}

@@ -174,7 +174,7 @@ module _ (servers : List AddressValue) (mirrors : ℕ) (past : List MdsEvent) (e
     where
       by_input : (input : MdsInput) → e.input ≡ input → BringsNone W ends AnyTable any_moves AskedIn stays_asked replied AnyEntry (λ x n. tt) input
       by_input (Hears node bytes) at = none node bytes at
-      by_input (IsTimedOut to) at = tt
+      by_input (IsTimedOut to which) at = tt
       by_input Ticks at = tt
       by_input (RecallsFile file) at = tt
       by_input (Resilvers file) at = tt

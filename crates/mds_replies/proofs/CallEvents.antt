@@ -49,7 +49,7 @@ module _ (e : MdsEvent) (node : NodeId) (bytes : List ℕ) (input : e.input ≡ 
 
 abbrev hears_there : MdsInput → Bool
 hears_there (Hears node bytes) = true
-hears_there (IsTimedOut to) = false
+hears_there (IsTimedOut to which) = false
 hears_there Ticks = false
 hears_there (RecallsFile file) = false
 hears_there (Resilvers file) = false
@@ -62,7 +62,7 @@ brings e fit = by_input e.input refl fit
 
     by_input : (input : MdsInput) → e.input ≡ input → HearsFitCall input → Brings e
     by_input (Hears node bytes) at fit = by_incoming e node bytes at fit (incoming_of bytes) refl
-    by_input (IsTimedOut to) at fit = silent (IsTimedOut to) at refl
+    by_input (IsTimedOut to which) at fit = silent (IsTimedOut to which) at refl
     by_input Ticks at fit = silent Ticks at refl
     by_input (RecallsFile file) at fit = silent (RecallsFile file) at refl
     by_input (Resilvers file) at fit = silent (Resilvers file) at refl

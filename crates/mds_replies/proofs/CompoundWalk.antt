@@ -442,11 +442,11 @@ module _ (I : MdsValue → List Entry → List MdsSend → Type 0) (Heard : Hear
       let its : is_call_to node xid call ≡ true = found_passes (is_call_to node xid) m.calls call found in
       cond_both (is_awaited m call) (answered_as now n xid replies status call.caller call.sent) (sends_none n) (λ (s : MdsStep). Keeps I m s)
       (λ is. λ es ss i.
-      becomes_keeps I m n (answered_as now n xid replies status call.caller call.sent) (k.forgets m node xid)
+      becomes_keeps I m n (answered_as now n xid replies status call.caller call.sent) (k.forgets m (λ (c : AwaitedCall). not (is_call_to node xid c)))
       (answered_walk now n xid call replies (eqb-true call.xid xid (and_parts (is_node call.node node) (call.xid == xid) its).1) (hearing m es ss i call (found_in (is_call_to node xid) m.calls call found) its) few status call.sent refl
       (awaits_still m (without_call node xid m.calls) call.node call.xid call.caller is))
       es ss i)
-      (λ off. none_keeps I m n (k.forgets m node xid))
+      (λ off. none_keeps I m n (k.forgets m (λ (c : AwaitedCall). not (is_call_to node xid c))))
 
   pub answer_walk : (now : ℕ) (m : MdsValue) (node : NodeId) (xid : ℕ) (replies : DsCallValue → DsReplyValue) (status : ℕ) → Hearing I Heard node xid replies → ((c : DsCallValue) → GivesFew (replies c)) → Keeps I m (takes_answer now m node xid replies status)
   answer_walk now m node xid replies status hearing few = found_walk now m node xid replies status hearing few (find (is_call_to node xid) m.calls) refl

@@ -286,7 +286,7 @@ module _ (Ok : ℕ → NodeId → Type 0) where
         );
     calls_back = λ m node back file stateid has es ss i. (hold.cases.calls_back m node back file stateid has es ss i.0, i.1);
     skips = λ m has es ss i. (hold.cases.skips m has es ss i.0, i.1);
-    forgets = λ m node xid es ss i. (hold.cases.forgets m node xid es ss i.0, i.1);
+    forgets = λ m test es ss i. (hold.cases.forgets m test es ss i.0, i.1);
     was = λ m es ss i. hold.cases.was m es ss i.0;
     again = λ m s es ss i inside. (hold.cases.again m s es ss i.0 inside, i.1);
   }
@@ -473,7 +473,7 @@ module _ (Ok : ℕ → NodeId → Type 0) where
         ops_keep now m (new_run from xid v) v.count v.ops.values (subst (λ (ops : List (Value argop4)). AllOf (MayRun from) ops) (sym c.2.ops) (call_may from c.0 c.1 c.3)),
     λ given is es ss i. (hold.sends m ss (Answers from given) i.0, i.1),
   )
-  runs_so now (IsTimedOut to) m hears = tt
+  runs_so now (IsTimedOut to which) m hears = tt
   runs_so now IsTick m hears = tt
   runs_so now (RecallsFile file) m hears = tt
   runs_so now (Resilvers file) m hears = tt
@@ -508,7 +508,7 @@ module _ (events : List MdsEvent) where
   may_hear : (early late : List MdsEvent) (f : MdsEvent) → IsEventOf events early f late → (input : MdsInput) → f.input ≡ input → HearsCall input → MayHear Asked input
   may_hear early late f split (Hears node bytes) at hears =
       λ xid v is. let c = hears xid v is in (c.0, c.1, c.2, may_call early late f split node xid c.0 c.1 (record { bytes = bytes; input = at; v = v; compound = is; is = c.2 }))
-  may_hear early late f split (IsTimedOut to) at hears = tt
+  may_hear early late f split (IsTimedOut to which) at hears = tt
   may_hear early late f split IsTick at hears = tt
   may_hear early late f split (RecallsFile file) at hears = tt
   may_hear early late f split (Resilvers file) at hears = tt

@@ -66,7 +66,7 @@ module _ (s t : SessionId) (client : client_in t ≡ client_in s) (number : numb
 
   same_effect : (m : MdsValue) (input : MdsInput) → effect_in s 0 m input ≡ effect_in t 0 m input
   same_effect m (Hears from bytes) = same_asked m from (request_in (incoming_of bytes))
-  same_effect m (IsTimedOut to) = refl
+  same_effect m (IsTimedOut to which) = refl
   same_effect m Ticks = refl
   same_effect m (RecallsFile file) = refl
   same_effect m (Resilvers file) = refl

@@ -34,7 +34,7 @@ use Rattle.mds_replies.specs.PeriodEntries.{UidsEndOnce}
 use Rattle.mds_replies.proofs.NowUids.{now_uid, Agrees, Keeps, Draws, IsUseOf, next_behind, Uses}
 use Rattle.mds_replies.proofs.FileEnds.{phase_uses}
 use Rattle.mds_replies.proofs.CallsLeave.{out_layout, out_agrees}
-use Rattle.mds_laws.proofs.Numbers.{WereSent, sent_more, sent_with, sent_without}
+use Rattle.mds_laws.proofs.Numbers.{WereSent, sent_more, sent_with, sent_kept}
 
 -- ---- entries that do not end a uid's period
 
@@ -332,7 +332,7 @@ cases = record {
   calls_back = λ m node back file stateid has es ss i.
       called m.fresh.uid m.files m.calls (record { node = node; xid = m.next_xid; caller = ForRecall; sent = CallsBack m.next_xid back file stateid }) es ss i.once i.were;
   skips = λ m has es ss i. i;
-  forgets = λ m node xid es ss i. record { once = i.once; were = sent_without node xid m.calls ss i.were };
+  forgets = λ m test es ss i. record { once = i.once; were = sent_kept test m.calls ss i.were };
   was = λ m es ss i. i.were;
   again = λ m s es ss i inside. sends m es ss s i;
 }

@@ -31,7 +31,7 @@ use Rattle.mds_laws.specs.MdsRuns.{MdsInput, MdsEvent, Hears, IsTimedOut, Ticks,
 use Rattle.mds_laws.specs.SlotUses.{first_request, request_in, effect_asked, effect_in}
 use Rattle.mds_laws.proofs.Keeping.{IsNoRequest, Cases, HeardAny, hears_any}
 use Rattle.mds_laws.proofs.Requested.{request_moves, begun_moves}
-use Rattle.mds_laws.proofs.Numbers.{WereSent, sent_more, sent_with, sent_without}
+use Rattle.mds_laws.proofs.Numbers.{WereSent, sent_more, sent_with, sent_kept}
 use Rattle.mds_laws.proofs.CasesOfEach.{each_case}
 use Rattle.mds_laws.proofs.GoesWalk.{input_walk}
 use Rattle.mds_replies.specs.ClientCalls.{IsCallFrom}
@@ -82,7 +82,7 @@ module _ (P : SessionsState → Type 0) (keeps : (s : SessionsState) (move : Tab
     calls_back = λ m node back file stateid has es ss i.
         called m.sessions m.calls ss (record { node = node; xid = m.next_xid; caller = ForRecall; sent = CallsBack m.next_xid back file stateid }) i;
     skips = λ m has es ss i. i;
-    forgets = λ m node xid es ss i. record { table = i.table; were = sent_without node xid m.calls ss i.were };
+    forgets = λ m test es ss i. record { table = i.table; were = sent_kept test m.calls ss i.were };
     was = λ m es ss i. i.were;
     again = λ m s es ss i inside. sends m.sessions m.calls ss s i;
   }
@@ -163,7 +163,7 @@ module _ (e : MdsEvent) (m : MdsValue) where
 
   by_input : (i : MdsInput) → e.input ≡ i → ((node : NodeId) (bytes : List ℕ) → e.input ≡ Hears node bytes → (xid : ℕ) (c : CompoundValue) → incoming_of bytes ≡ IsCompound xid c → ⊥) → Turn
   by_input (Hears node bytes) at none = by_incoming node bytes at (incoming_of bytes) refl (none node bytes at)
-  by_input (IsTimedOut to) at none = silent (IsTimedOut to) at refl (λ s. refl)
+  by_input (IsTimedOut to which) at none = silent (IsTimedOut to which) at refl (λ s. refl)
   by_input Ticks at none = silent Ticks at refl (λ s. refl)
   by_input (RecallsFile file) at none = silent (RecallsFile file) at refl (λ s. refl)
   by_input (Resilvers file) at none = silent (Resilvers file) at refl (λ s. refl)

@@ -21,7 +21,7 @@ use Rattle.mds_rule.specs.ServedFiles.{has_fresh, is_period_end, file_behind, fi
 use Rattle.mds_laws.specs.MdsRuns.{MdsInput, MdsEvent, Hears, IsTimedOut, Ticks, RecallsFile, Resilvers, after_event}
 use Rattle.mds_laws.proofs.Lists.{AllOf, all_push, all_in}
 use Rattle.mds_laws.proofs.Keeping.{HeardAny, Keeps, becomes_keeps, hears_any}
-use Rattle.mds_laws.proofs.Numbers.{WereSent, sent_more, sent_with, sent_without}
+use Rattle.mds_laws.proofs.Numbers.{WereSent, sent_more, sent_with, sent_kept}
 use Rattle.mds_laws.proofs.Requested.{behind_begin}
 use Rattle.mds_replies.specs.ClientCalls.{server_after}
 use Rattle.mds_replies.specs.GivenAnswers.{EachReplyIsWhole, IsAnsweredNow, EachAnswerIsNow}
@@ -83,7 +83,7 @@ module _ (P : MdsSend → Type 0) (called : (s : MdsSend) → IsCall s → P s) 
         calls_one m.calls (record { node = Server server; xid = m.next_xid; caller = ForRead other; sent = CallsServer server m.next_xid 0 call }) ss tt i;
     calls_back = λ m node back other stateid has es ss i. calls_one m.calls (record { node = node; xid = m.next_xid; caller = ForRecall; sent = CallsBack m.next_xid back other stateid }) ss tt i;
     skips = λ m has es ss i. i;
-    forgets = λ m node xid es ss i. record { all = i.all; were = sent_without node xid m.calls ss i.were };
+    forgets = λ m test es ss i. record { all = i.all; were = sent_kept test m.calls ss i.were };
     was = λ m es ss i. i.were;
     again = λ m s es ss i inside. sends m.calls ss s (all_in P ss s i.all inside) i;
   }
@@ -103,7 +103,7 @@ module _ (P : MdsSend → Type 0) (called : (s : MdsSend) → IsCall s → P s) 
     runs_at : (input : MdsInput) → e.input ≡ input → (m : MdsValue) → RunsSo IsSo HeardAny AnyCompound cases (waiting_walk IsSo HeardAny AnyCompound cases runs) e.now input m
     runs_at (Hears from asked) at m =
         (λ xid c is. compound_walk IsSo HeardAny AnyCompound cases runs e.now m from xid c, λ bytes is es ss i. sends m.calls ss (Answers from bytes) (given from bytes asked at is) i)
-    runs_at (IsTimedOut to) at m = tt
+    runs_at (IsTimedOut to which) at m = tt
     runs_at Ticks at m = tt
     runs_at (RecallsFile file) at m = tt
     runs_at (Resilvers file) at m = tt

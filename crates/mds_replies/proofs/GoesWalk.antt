@@ -1,6 +1,6 @@
 -- The calls that go out, and so each event and each run, keep what is kept in each case.
 use Rattle.std.proofs.Common.{◌≡◌, ℕ, zero, suc, true, List, [], ◌∷◌, ◌++◌, length, Option, Some, None, refl, sym, subst}
-use Rattle.std.specs.Prelude.{◌-◌, not, ◌==◌, ◌&&◌, if◌then◌else◌, slice_get, slice_set}
+use Rattle.std.specs.Prelude.{◌-◌, not, ◌==◌, ◌&&◌, if◌then◌else◌, filter, slice_get, slice_set}
 use Rattle.std.specs.Option.{option_map}
 use Rattle.std.specs.List.{find, range_with_len}
 use Rattle.std.proofs.lemmas.Bool.{cond_both, and_parts}
@@ -37,7 +37,7 @@ use Rattle.mds_rule.specs.ServedFiles.{takes_input, asks_back, ends_client}
 use Rattle.mds_rule.specs.Compounds.{runs_compound}
 use Rattle.mds_rule.specs.Answers.{is_awaited, takes_answer, timed_out_for}
 use Rattle.mds_rule.specs.Goes.{calls_server, OwnCall, own_of_file, own_of_write, own_by, place_of, own_call_at, own_next, has_xids, own_call, own_two, own_calls, read_goes, read_call, read_call_in, each, read_count, read_calls, stateid_seqid, calls_back, recall_goes, recall_call, repeats_call, repeats, place_calls, file_calls, calls_out}
-use Rattle.mds_rule.specs.Events.{takes_incoming, is_outstanding_to, is_kept_by, goes_again, times_out, takes_timeout, lease_ends, leases_end, recall_expires, recalls_expire, kept_calls, files_tick, takes_tick}
+use Rattle.mds_rule.specs.Events.{takes_incoming, late_call, is_kept_by, goes_again, times_out, takes_timeout, lease_ends, leases_end, recall_expires, recalls_expire, kept_calls, files_tick, forgets_calls, takes_tick}
 use Rattle.mds_laws.specs.MdsRuns.{MdsInput, MdsEvent, Hears, IsTimedOut, Ticks as IsTick, RecallsFile, Resilvers, by_input, after_event, run_from}
 use Rattle.mds_laws.specs.SlotUses.{first_request, request_in}
 use Rattle.nfs4_types.specs.declared.sequence.Sequence.{Sequence}
@@ -48,6 +48,7 @@ use Rattle.mds_replies.proofs.FewBytes.{reply_few}
 use Rattle.mds_replies.proofs.HolderCases.{Cases, RunCases, GivesAnswers, WaitCases, OutCases, out_of}
 use Rattle.mds_replies.proofs.WaitingCompounds.{set_same}
 use Rattle.mds_laws.proofs.Lists.{found_in}
+use Rattle.mds_laws.proofs.LateFound.{late_is}
 use Rattle.mds_replies.proofs.ServedWalk.{takes, asks, client_ends, recalls_become}
 use Rattle.mds_laws.proofs.OpsWalk.{old_write}
 use Rattle.mds_laws.proofs.WriterKept.{sends_of, read_of}
@@ -185,7 +186,7 @@ module _ (I : MdsValue → List Entry → List MdsSend → Type 0) (Heard : Hear
   again_walk : (call : AwaitedCall) (m : MdsValue) → KeepsBehind I call.sent m (goes_again call m)
   again_walk call m =
       cond_both (not (is_awaited m call)) (sends_none forgotten) (if is_kept_by m call.xid call.caller then sends_none m else again) (λ (s : MdsStep). KeepsBehind I call.sent m s)
-      (λ none. λ es ss was i. none_keeps I m forgotten (k.forgets m call.node call.xid) es ss i)
+      (λ none. λ es ss was i. none_keeps I m forgotten (k.forgets m (λ (c : AwaitedCall). not (is_call_to call.node call.xid c))) es ss i)
       (λ some.
       cond_both (is_kept_by m call.xid call.caller) (sends_none m) again (λ (s : MdsStep). KeepsBehind I call.sent m s) (λ kept. λ es ss was i. same I m es ss i) (λ other. sends_again I (out_of I Heard W k) m call.sent))
     where
@@ -207,8 +208,8 @@ module _ (I : MdsValue → List Entry → List MdsSend → Type 0) (Heard : Hear
   times_walk now m None inside = same I m
   times_walk now m (Some call) inside = late_walk now m call (inside call refl)
 
-  timeouts_walk : (now : ℕ) (m : MdsValue) (node : NodeId) → Keeps I m (takes_timeout now m node)
-  timeouts_walk now m node = times_walk now m (find (is_outstanding_to m node) m.calls) (λ call is. found_in (is_outstanding_to m node) m.calls call is)
+  timeouts_walk : (now : ℕ) (m : MdsValue) (node : NodeId) (which : Option ℕ) → Keeps I m (takes_timeout now m node which)
+  timeouts_walk now m node which = times_walk now m (late_call m node which) (λ call is. (late_is m node which call is).inside)
 
   lease_walk : (m : MdsValue) (o : Option ClientState) → Becomes I m (record m { sessions = expired_by m.sessions o }) → (next : MdsValue → MdsStep) → ((n : MdsValue) → Keeps I n (next n)) → Keeps I m (lease_ends m o next)
   lease_walk m None b next all = same I m
@@ -239,18 +240,24 @@ module _ (I : MdsValue → List Entry → List MdsSend → Type 0) (Heard : Hear
       then_keeps I m all (calls_out (kept_calls m))
       (each_walk I (out_of I Heard W k) (λ n x. takes_input x (numbered n) Ticks) (λ n x. silent_keeps I x (takes_input x (numbered n) Ticks) (takes I Heard W k x (numbered n) Ticks refl)) (range_with_len 1 (length m.files)) m) (λ n. out_walk I (out_of I Heard W k) (kept_calls m) n)
 
+  forgets_walk : (m : MdsValue) → Keeps I m (forgets_calls m)
+  forgets_walk m = none_keeps I m (record m { calls = filter (is_awaited m) m.calls }) (k.forgets m (is_awaited m))
+
   tick_walk : (now : ℕ) (m : MdsValue) → Keeps I m (takes_tick now m)
   tick_walk now m =
       let leases : MdsStep = leases_end now (length m.sessions.clients) m in
-      then_keeps I m (and_then leases (λ n. recalls_expire now (length n.recalls) n)) files_tick
-      (then_keeps I m leases (λ n. recalls_expire now (length n.recalls) n) (leases_walk now (length m.sessions.clients) m) (λ n. recalls_walk now (length n.recalls) n)) (λ n. files_walk n)
+      let expired : MdsStep = and_then leases (λ n. recalls_expire now (length n.recalls) n) in
+      then_keeps I m (and_then expired files_tick) forgets_calls
+      (then_keeps I m expired files_tick
+      (then_keeps I m leases (λ n. recalls_expire now (length n.recalls) n) (leases_walk now (length m.sessions.clients) m) (λ n. recalls_walk now (length n.recalls) n)) (λ n. files_walk n))
+      (λ n. forgets_walk n)
 
   -- of the compound that an event brings, and of what is answered at once
   abbrev pub RunsSo : ℕ → MdsInput → MdsValue → Type 0
   RunsSo now (Hears from bytes) m =
       ((xid : ℕ) (c : CompoundValue) → incoming_of bytes ≡ IsCompound xid c → Keeps I (behind_request now m from (first_request c.ops.values)) (runs_compound now m from xid c))
       × ((given : List ℕ) → incoming_of bytes ≡ IsAnswered given → (es : List Entry) (ss : List MdsSend) → I m es ss → I m es (ss ++ Answers from given ∷ []))
-  RunsSo now (IsTimedOut to) m = Unit {0}
+  RunsSo now (IsTimedOut to which) m = Unit {0}
   RunsSo now IsTick m = Unit {0}
   RunsSo now (RecallsFile file) m = Unit {0}
   RunsSo now (Resilvers file) m = Unit {0}
@@ -258,7 +265,7 @@ module _ (I : MdsValue → List Entry → List MdsSend → Type 0) (Heard : Hear
   -- of an event, behind what the request that it makes leaves of the table of clients
   pub input_walk : (now : ℕ) (input : MdsInput) (m : MdsValue) → HearsSo I Heard input → RunsSo now input m → Keeps I (behind_begin now input m) (by_input now input m)
   input_walk now (Hears from bytes) m hears run = incoming_walk now m from (incoming_of bytes) hears run.1 run.0
-  input_walk now (IsTimedOut to) m hears run = timeouts_walk now m to
+  input_walk now (IsTimedOut to which) m hears run = timeouts_walk now m to which
   input_walk now IsTick m hears run = tick_walk now m
   input_walk now (RecallsFile file) m hears run = then_keeps I m (asks_back m file now) (calls_out []) (silent_keeps I m (asks_back m file now) (asks I Heard W k m file now)) (λ n. out_walk I (out_of I Heard W k) [] n)
   input_walk now (Resilvers file) m hears run =
@@ -276,7 +283,7 @@ module _ (I : MdsValue → List Entry → List MdsSend → Type 0) (Heard : Hear
 
   pub begin_kept : (now : ℕ) (input : MdsInput) (m : MdsValue) → Becomes I m (behind_begin now input m)
   begin_kept now (Hears from bytes) m = request_kept now m from (request_in (incoming_of bytes))
-  begin_kept now (IsTimedOut to) m = λ es ss i. i
+  begin_kept now (IsTimedOut to which) m = λ es ss i. i
   begin_kept now IsTick m = λ es ss i. i
   begin_kept now (RecallsFile file) m = λ es ss i. i
   begin_kept now (Resilvers file) m = λ es ss i. i
@@ -286,7 +293,7 @@ module _ (I : MdsValue → List Entry → List MdsSend → Type 0) (Heard : Hear
 module _ (I : MdsValue → List Entry → List MdsSend → Type 0) (Heard : HeardOf) (W : CompoundRun → Type 0) (k : Cases I Heard W) (r : RunCases I W) (gives : GivesAnswers I) (begins : KeepsBegin I) where
   runs_so : (now : ℕ) (input : MdsInput) (m : MdsValue) → RunsSo I Heard W k (waiting_walk I Heard W k r) now input m
   runs_so now (Hears from bytes) m = (λ xid c is. compound_walk I Heard W k r now m from xid c, λ given is. let u = answers_numbered bytes given is in gives m from given u.said u.spelled)
-  runs_so now (IsTimedOut to) m = tt
+  runs_so now (IsTimedOut to which) m = tt
   runs_so now IsTick m = tt
   runs_so now (RecallsFile file) m = tt
   runs_so now (Resilvers file) m = tt

@@ -1,6 +1,6 @@
 -- What any part of an event can do to a metadata server, as in mds_laws, and to whom a file's layout is given besides: a predicate of it is
 -- kept by every part of every event where it is in each of these cases.
-use Rattle.std.proofs.Common.{◌≡◌, ℕ, Bool, true, false, List, [], ◌∷◌, ◌++◌, Option, Some}
+use Rattle.std.proofs.Common.{◌≡◌, ℕ, Bool, true, false, List, [], ◌∷◌, ◌++◌, Option, Some, filter}
 use Rattle.ff_xdr.specs.Form.{Value}
 use Rattle.rpc_record.specs.Replies.{RpcReply, reply_bytes}
 use Rattle.compound_reply.specs.Replied.{success_reply}
@@ -30,7 +30,7 @@ use Rattle.nfs4_session.specs.TableLaw.{TableMove, ExchangeId, CreateSession, Be
 use Rattle.recall.specs.declared.recall.Recall.{Recall}
 use Rattle.open_state.specs.Opens.{OpensValue}
 use Rattle.nfs4_compound.specs.Results.{resop4}
-use Rattle.mds_rule.specs.MdsStates.{CompoundRun, WaitingRead, WaitingWrite, ServedFile, MdsSend, CallsServer, CallsBack, Replies, Answers, AwaitedCall, MdsValue, confirmed_node, served, with_served, without_call}
+use Rattle.mds_rule.specs.MdsStates.{CompoundRun, WaitingRead, WaitingWrite, ServedFile, MdsSend, CallsServer, CallsBack, Replies, Answers, AwaitedCall, MdsValue, confirmed_node, served, with_served}
 use Rattle.mds_rule.specs.declared.waiter.Waiter.TheVariants.{ForFile, ForRead, ForWrite, ForRecall}
 use Rattle.mds_rule.specs.ServedFiles.{takes_input}
 use Rattle.mds_rule.specs.SessionOps.{confirms}
@@ -176,8 +176,8 @@ pub record Cases (I : MdsValue → List Entry → List MdsSend → Type 0) (Hear
       → Keeps I m (calls_as m node ForRecall (CallsBack m.next_xid back file stateid))
   -- a number is passed over
   pub skips : (m : MdsValue) → has_xids m ≡ true → Becomes I m (record m { next_xid = xid_after m.next_xid })
-  -- a call is forgotten, or goes out again
-  pub forgets : (m : MdsValue) (node : NodeId) (xid : ℕ) → Becomes I m (record m { calls = without_call node xid m.calls })
+  -- calls that fail a test are forgotten; a call goes out again
+  pub forgets : (m : MdsValue) (test : AwaitedCall → Bool) → Becomes I m (record m { calls = filter test m.calls })
   pub was : (m : MdsValue) (es : List Entry) (ss : List MdsSend) → I m es ss → (call : AwaitedCall) → IsOneOf call m.calls → IsOneOf call.sent ss
   pub again : (m : MdsValue) (s : MdsSend) (es : List Entry) (ss : List MdsSend) → I m es ss → IsOneOf s ss → I m es (ss ++ s ∷ [])
 

@@ -31,7 +31,7 @@ use Rattle.mds_rule.specs.LayoutOps.{with_holder}
 use Rattle.mds_laws.specs.MdsRuns.{MdsEvent, mds_run}
 use Rattle.mds_laws.proofs.Lists.{AllOf, all_push, all_set, all_got}
 use Rattle.mds_laws.proofs.Keeping.{HeardAny}
-use Rattle.mds_laws.proofs.Numbers.{WereSent, sent_more, sent_with, sent_without}
+use Rattle.mds_laws.proofs.Numbers.{WereSent, sent_more, sent_with, sent_kept}
 use Rattle.mds_laws.proofs.OpsWalk.{place_served, served_again}
 use Rattle.mds_replies.specs.ClientCalls.{server_after}
 use Rattle.mds_replies.proofs.NowUids.{Agrees, now_uid, now_by}
@@ -292,7 +292,7 @@ cases = record {
     were = sent_with m.calls ss (record { node = node; xid = m.next_xid; caller = ForRecall; sent = CallsBack m.next_xid back file stateid }) i.were;
   };
   skips = λ m has es ss i. i;
-  forgets = λ m node xid es ss i. record { drawn_from_first = i.drawn_from_first; agree = i.agree; fits = i.fits; seqids = i.seqids; holders = i.holders; were = sent_without node xid m.calls ss i.were };
+  forgets = λ m test es ss i. record { drawn_from_first = i.drawn_from_first; agree = i.agree; fits = i.fits; seqids = i.seqids; holders = i.holders; were = sent_kept test m.calls ss i.were };
   was = λ m es ss i. i.were;
   again = λ m s es ss i inside. sends m ss s i;
 }

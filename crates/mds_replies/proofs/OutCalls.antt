@@ -20,7 +20,7 @@ use Rattle.mds_rule.specs.MdsStates.{ServedFile, sends_none, served, with_served
 use Rattle.mds_rule.specs.ServedFiles.{has_fresh, is_period_end, file_behind, file_stepped, input_at}
 use Rattle.mds_laws.specs.MdsRuns.{MdsEvent, mds_run}
 use Rattle.mds_laws.proofs.Lists.{in_with_call, in_filtered}
-use Rattle.mds_laws.proofs.Numbers.{WereSent, sent_more, sent_with, sent_without}
+use Rattle.mds_laws.proofs.Numbers.{WereSent, sent_more, sent_with, sent_kept}
 use Rattle.mds_laws.proofs.Keeping.{HeardAny}
 use Rattle.mds_replies.proofs.HolderCases.{Cases, RunCases, OutCases, AnyCompound}
 use Rattle.cluster_model.specs.declared.phase.EndCause.TheVariants.{ClientGone}
@@ -94,7 +94,7 @@ cases = record {
       one_more m.calls (record { node = Server server; xid = m.next_xid; caller = ForRead other; sent = CallsServer server m.next_xid 0 call }) ss tt i;
   calls_back = λ m node back other stateid has es ss i. one_more m.calls (record { node = node; xid = m.next_xid; caller = ForRecall; sent = CallsBack m.next_xid back other stateid }) ss tt i;
   skips = λ m has es ss i. i;
-  forgets = λ m node xid es ss i. record { called = λ call inside. i.called call (in_filtered _ call m.calls inside); were = sent_without node xid m.calls ss i.were };
+  forgets = λ m test es ss i. record { called = λ call inside. i.called call (in_filtered _ call m.calls inside); were = sent_kept test m.calls ss i.were };
   was = λ m es ss i. i.were;
   again = λ m s es ss i inside. sends m.calls ss s i;
 }

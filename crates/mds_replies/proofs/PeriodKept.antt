@@ -32,7 +32,7 @@ use Rattle.mds_rule.specs.LayoutOps.{with_holder, is_granted}
 use Rattle.mds_laws.specs.MdsRuns.{MdsEvent, run_from}
 use Rattle.mds_laws.proofs.Lists.{in_more, AllOf, all_push, all_set, all_got}
 use Rattle.mds_laws.proofs.Keeping.{HeardAny, Enters}
-use Rattle.mds_laws.proofs.Numbers.{WereSent, sent_more, sent_with, sent_without}
+use Rattle.mds_laws.proofs.Numbers.{WereSent, sent_more, sent_with, sent_kept}
 use Rattle.mds_replies.proofs.NowUids.{Agrees}
 use Rattle.mds_replies.proofs.CallsLeave.{out_layout, out_agrees}
 use Rattle.mds_replies.proofs.EndsOnce.{FileAgrees}
@@ -270,7 +270,7 @@ module _ (file : FileId) (client uid : ℕ) where
     calls_back = λ m node back other stateid has es ss i.
         called m.files m.calls (record { node = node; xid = m.next_xid; caller = ForRecall; sent = CallsBack m.next_xid back other stateid }) es ss i;
     skips = λ m has es ss i. i;
-    forgets = λ m node xid es ss i. record { agree = i.agree; goes = i.goes; were = sent_without node xid m.calls ss i.were };
+    forgets = λ m test es ss i. record { agree = i.agree; goes = i.goes; were = sent_kept test m.calls ss i.were };
     was = λ m es ss i. i.were;
     again = λ m s es ss i inside. sends m.files m.calls es ss s i;
   }

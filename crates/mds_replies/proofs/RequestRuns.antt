@@ -275,7 +275,7 @@ module _ (tables : KeepsTable) (numbered : EffectsAreNumbered) (servers : List A
       by_input : (input : MdsInput) → e.input ≡ input
           → BringsNone (λ (c : CompoundRun). WaitsSo servers mirrors (past ++ e ∷ []) c) ends (λ (s : SessionsState). Q s) moves Answered answered_stays (replied Answered answered_stays (λ s node reply a. a)) AnyEntry (λ x n. tt) input
       by_input (Hears node bytes) at = none node bytes at
-      by_input (IsTimedOut to) at = tt
+      by_input (IsTimedOut to which) at = tt
       by_input Ticks at = tt
       by_input (RecallsFile file) at = tt
       by_input (Resilvers file) at = tt

@@ -138,7 +138,7 @@ module _ (E : Entry → Type 0) (plain : (e : Entry) → IsNoReturn e → E e) w
   none_brought : (e : MdsEvent) → ((node : NodeId) (bytes : List ℕ) → e.input ≡ Hears node bytes → (xid : ℕ) (c : Rattle.nfs4_compound.specs.Compounds.CompoundValue) → Rattle.mds_receive.specs.MdsReceive.incoming_of bytes ≡ Rattle.mds_receive.specs.MdsReceive.IsCompound xid c → ⊥)
       → (input : MdsInput) → e.input ≡ input → BringsNone Left (λ x l. l) AnyTable (λ t move is i. tt) AnyReply (λ t move is node reply a. tt) (λ t q x result status read l. (tt, tt)) E plain input
   none_brought e none (Hears node bytes) at = none node bytes at
-  none_brought e none (IsTimedOut to) at = tt
+  none_brought e none (IsTimedOut to which) at = tt
   none_brought e none Ticks at = tt
   none_brought e none (RecallsFile file) at = tt
   none_brought e none (Resilvers file) at = tt

@@ -20,7 +20,7 @@ use Rattle.mds_rule.specs.ServedFiles.{has_fresh, is_period_end, file_behind, fi
 use Rattle.mds_rule.specs.Goes.{calls_out}
 use Rattle.mds_laws.specs.MdsRuns.{MdsEvent, run_from}
 use Rattle.mds_laws.proofs.Keeping.{HeardAny}
-use Rattle.mds_laws.proofs.Numbers.{WereSent, sent_more, sent_with, sent_without}
+use Rattle.mds_laws.proofs.Numbers.{WereSent, sent_more, sent_with, sent_kept}
 use Rattle.mds_replies.proofs.HolderCases.{Cases, RunCases, AnyCompound, out_of}
 use Rattle.mds_replies.proofs.PeriodKept.{sent_with_calls, in_sent}
 use Rattle.mds_replies.proofs.GoesWalk.{out_walk, run_walk}
@@ -71,7 +71,7 @@ module _ (P : SessionsState → Type 0) (keeps : (s : SessionsState) (move : Tab
         called m.sessions m.calls (record { node = Server server; xid = m.next_xid; caller = ForRead other; sent = CallsServer server m.next_xid 0 call }) ss i;
     calls_back = λ m node back other stateid has es ss i. called m.sessions m.calls (record { node = node; xid = m.next_xid; caller = ForRecall; sent = CallsBack m.next_xid back other stateid }) ss i;
     skips = λ m has es ss i. i;
-    forgets = λ m node xid es ss i. record { table = i.table; were = sent_without node xid m.calls ss i.were };
+    forgets = λ m test es ss i. record { table = i.table; were = sent_kept test m.calls ss i.were };
     was = λ m es ss i. i.were;
     again = λ m s es ss i inside. sends m.sessions m.calls ss s i;
   }

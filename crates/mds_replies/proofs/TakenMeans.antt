@@ -71,7 +71,7 @@ use Rattle.mds_replies.proofs.LayoutReturnRuns as giving
 
 hears_call : (input : MdsInput) → HearsFitCall input → HearsCall input
 hears_call (Hears node bytes) fit = λ xid v is. let c = fit xid v is in (c.0, c.1, c.2)
-hears_call (IsTimedOut to) fit = tt
+hears_call (IsTimedOut to which) fit = tt
 hears_call Ticks fit = tt
 hears_call (RecallsFile file) fit = tt
 hears_call (Resilvers file) fit = tt

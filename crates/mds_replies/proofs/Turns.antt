@@ -49,7 +49,7 @@ use Rattle.mds_laws.specs.MdsRuns.{MdsInput, MdsEvent, Hears, IsTimedOut, Ticks 
 use Rattle.mds_laws.specs.SlotUses.{request_in}
 use Rattle.mds_laws.proofs.Lists.{AllOf, all_push, all_set, all_got}
 use Rattle.mds_laws.proofs.Keeping.{moved, HeardAny, Becomes, Keeps, KeepsOp, TakesInput, IsNoRequest, is_note, hears_any, then_keeps, same, becomes_keeps, enters_keeps, stays}
-use Rattle.mds_laws.proofs.Numbers.{WereSent, sent_more, sent_with, sent_without}
+use Rattle.mds_laws.proofs.Numbers.{WereSent, sent_more, sent_with, sent_kept}
 use Rattle.mds_laws.proofs.OpsWalk.{place_served}
 use Rattle.mds_laws.proofs.Requested.{behind_begin}
 use Rattle.mds_replies.proofs.HolderCases.{plain_no_request, IsNoTurn, plain_no_turn, AllWait, Cases, WaitCases, out_of, comes_unasked}
@@ -292,7 +292,7 @@ module _ (W : CompoundRun → Type 0) (left : (c : CompoundRun) → W c → (c.o
         (record { reads_so = same_wait W s.reads t.reads waits a.reads_so; write_so = λ x one. a.write_so x (sym kept ∙ one) }) i;
     calls_back = λ m node back file stateid has es ss i. called_back m (record { node = node; xid = m.next_xid; caller = ForRecall; sent = CallsBack m.next_xid back file stateid }) es ss refl i;
     skips = λ m has es ss i. i;
-    forgets = λ m node xid es ss i. record { waits = i.waits; table = i.table; entries = i.entries; replies = i.replies; were = sent_without node xid m.calls ss i.were };
+    forgets = λ m test es ss i. record { waits = i.waits; table = i.table; entries = i.entries; replies = i.replies; were = sent_kept test m.calls ss i.were };
     was = λ m es ss i. i.were;
     again = λ m s es ss i inside. sends m es ss s (λ node reply is. i.replies node reply (subst (λ (x : MdsSend). IsOneOf x ss) (sym is) inside)) i;
   }
@@ -508,14 +508,14 @@ module _ (W : CompoundRun → Type 0) (left : (c : CompoundRun) → W c → (c.o
 
   begin_same : (now : ℕ) (input : MdsInput) (m : MdsValue) → BringsNone input → Becomes IsSo m (behind_begin now input m)
   begin_same now (Hears from bytes) m none = begun_same now m from (incoming_of bytes) none
-  begin_same now (IsTimedOut to) m none = λ es ss i. i
+  begin_same now (IsTimedOut to which) m none = λ es ss i. i
   begin_same now IsTick m none = λ es ss i. i
   begin_same now (RecallsFile file) m none = λ es ss i. i
   begin_same now (Resilvers file) m none = λ es ss i. i
 
   runs_none : (now : ℕ) (input : MdsInput) (m : MdsValue) → BringsNone input → RunsSo IsSo HeardAny W cases waiting now input m
   runs_none now (Hears from bytes) m none = (λ xid c is. absurd (none xid c is), λ given is es ss i. sends m es ss (Answers from given) (no_reply m.sessions (Answers from given) refl) i)
-  runs_none now (IsTimedOut to) m none = tt
+  runs_none now (IsTimedOut to which) m none = tt
   runs_none now IsTick m none = tt
   runs_none now (RecallsFile file) m none = tt
   runs_none now (Resilvers file) m none = tt

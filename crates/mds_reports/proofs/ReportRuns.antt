@@ -233,7 +233,7 @@ module _ (numbered : EffectsAreNumbered) (servers : List AddressValue) (mirrors 
     where
       by_input : (input : MdsInput) → e.input ≡ input → BringsNone Alone input
       by_input (Hears node bytes) at = none node bytes at
-      by_input (IsTimedOut to) at = tt
+      by_input (IsTimedOut to which) at = tt
       by_input Ticks at = tt
       by_input (RecallsFile file) at = tt
       by_input (Resilvers file) at = tt

@@ -43,7 +43,7 @@ use Rattle.mds_laws.specs.MdsRuns.{MdsInput, MdsEvent, Hears, IsTimedOut, Ticks 
 use Rattle.mds_laws.specs.SlotUses.{request_in}
 use Rattle.mds_laws.proofs.Lists.{AllOf, all_push, all_set, all_got}
 use Rattle.mds_laws.proofs.Keeping.{HeardAny, Becomes, Keeps, TakesInput, hears_any, then_keeps, becomes_keeps, enters_keeps, stays}
-use Rattle.mds_laws.proofs.Numbers.{WereSent, sent_more, sent_with, sent_without}
+use Rattle.mds_laws.proofs.Numbers.{WereSent, sent_more, sent_with, sent_kept}
 use Rattle.mds_laws.proofs.OpsWalk.{place_served}
 use Rattle.mds_laws.proofs.Requested.{behind_begin, behind_request}
 use Rattle.mds_replies.proofs.HolderCases.{AllWait, Cases, WaitCases, out_of}
@@ -186,7 +186,7 @@ module _ (Own : NodeId → ℕ → Type 0) where
         (record { reads_so = same_wait W s.reads t.reads waits a.reads_so; write_so = λ x one. a.write_so x (sym kept ∙ one) }) i;
     calls_back = λ m node back file stateid has es ss i. called_back m (record { node = node; xid = m.next_xid; caller = ForRecall; sent = CallsBack m.next_xid back file stateid }) es ss refl i;
     skips = λ m has es ss i. i;
-    forgets = λ m node xid es ss i. record { waits = i.waits; table = i.table; replies = i.replies; were = sent_without node xid m.calls ss i.were };
+    forgets = λ m test es ss i. record { waits = i.waits; table = i.table; replies = i.replies; were = sent_kept test m.calls ss i.were };
     was = λ m es ss i. i.were;
     again = λ m s es ss i inside. sends m es ss s (λ node reply is. i.replies node reply (subst (λ (x : MdsSend). IsOneOf x ss) (sym is) inside)) i;
   }
@@ -251,14 +251,14 @@ module _ (Own : NodeId → ℕ → Type 0) where
 
   begin_same : (now : ℕ) (input : MdsInput) (m : MdsValue) → BringsNone input → Becomes IsSo m (behind_begin now input m)
   begin_same now (Hears from bytes) m none = begun_same now m from (incoming_of bytes) none
-  begin_same now (IsTimedOut to) m none = λ es ss i. i
+  begin_same now (IsTimedOut to which) m none = λ es ss i. i
   begin_same now IsTick m none = λ es ss i. i
   begin_same now (RecallsFile file) m none = λ es ss i. i
   begin_same now (Resilvers file) m none = λ es ss i. i
 
   runs_none : (now : ℕ) (input : MdsInput) (m : MdsValue) → BringsNone input → RunsSo IsSo HeardAny W cases waiting now input m
   runs_none now (Hears from bytes) m none = (λ xid c is. absurd (none xid c is), λ given is es ss i. sends m es ss (Answers from given) (no_reply (Answers from given) refl) i)
-  runs_none now (IsTimedOut to) m none = tt
+  runs_none now (IsTimedOut to which) m none = tt
   runs_none now IsTick m none = tt
   runs_none now (RecallsFile file) m none = tt
   runs_none now (Resilvers file) m none = tt

@@ -27,7 +27,7 @@ use Rattle.mds_rule.specs.FileOps.{servers_of, new_served, with_new_file}
 use Rattle.mds_rule.specs.LayoutOps.{with_holder}
 use Rattle.mds_laws.specs.MdsRuns.{MdsEvent, mds_run}
 use Rattle.mds_laws.proofs.Keeping.{is_note, HeardAny}
-use Rattle.mds_laws.proofs.Numbers.{WereSent, sent_more, sent_with, sent_without}
+use Rattle.mds_laws.proofs.Numbers.{WereSent, sent_more, sent_with, sent_kept}
 use Rattle.cluster_laws.specs.FenceLaw.{live_in, live_by}
 use Rattle.cluster_laws.proofs.Journals.{live_append}
 use Rattle.mds_replies.specs.ClientCalls.{server_after}
@@ -191,7 +191,7 @@ cases = record {
       called (slice_set m.files (file.0 - 1) t) m.calls (record { node = Server server; xid = m.next_xid; caller = ForRead file; sent = CallsServer server m.next_xid 0 call }) es ss (puts m file s t es at same i.all) i.were;
   calls_back = λ m node back file stateid has es ss i. called m.files m.calls (record { node = node; xid = m.next_xid; caller = ForRecall; sent = CallsBack m.next_xid back file stateid }) es ss i.all i.were;
   skips = λ m has es ss i. i;
-  forgets = λ m node xid es ss i. record { all = i.all; were = sent_without node xid m.calls ss i.were };
+  forgets = λ m test es ss i. record { all = i.all; were = sent_kept test m.calls ss i.were };
   was = λ m es ss i. i.were;
   again = λ m s es ss i inside. sends m es ss s i;
 }

@@ -31,7 +31,7 @@ one_asked session slot m from (Some request) = one_on session slot (after_bindin
 
 one_in : (session : SessionId) (slot : ℕ) (m : MdsValue) (input : MdsInput) → length (effect_in session slot m input) ≤ heard_with input
 one_in session slot m (Hears from bytes) = one_asked session slot m from (request_in (incoming_of bytes))
-one_in session slot m (IsTimedOut to) = omega arith
+one_in session slot m (IsTimedOut to which) = omega arith
 one_in session slot m Ticks = omega arith
 one_in session slot m (RecallsFile file) = omega arith
 one_in session slot m (Resilvers file) = omega arith

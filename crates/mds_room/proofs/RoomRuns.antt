@@ -24,7 +24,7 @@ use Rattle.mds_rule.specs.LayoutOps.{with_holder}
 use Rattle.mds_laws.specs.MdsRuns.{MdsEvent, run_from, mds_run}
 use Rattle.mds_laws.proofs.Lists.{AllOf, all_push, all_set}
 use Rattle.mds_laws.proofs.Keeping.{HeardAny}
-use Rattle.mds_laws.proofs.Numbers.{WereSent, sent_more, sent_with, sent_without}
+use Rattle.mds_laws.proofs.Numbers.{WereSent, sent_more, sent_with, sent_kept}
 use Rattle.mds_replies.proofs.HoldersHold.{at_file}
 use Rattle.mds_replies.proofs.HolderCases.{Cases, RunCases, AnyCompound}
 use Rattle.mds_replies.proofs.GoesWalk.{run_walk}
@@ -169,7 +169,7 @@ module _ (u k n : ℕ) (wide : 5000 ≤ n) where
       were = sent_with m.calls ss (record { node = node; xid = m.next_xid; caller = ForRecall; sent = CallsBack m.next_xid back file stateid }) i.were;
     };
     skips = λ m has es ss i. i;
-    forgets = λ m node xid es ss i. record { uids = i.uids; names = i.names; limit = i.limit; servers = i.servers; below = i.below; within = i.within; were = sent_without node xid m.calls ss i.were };
+    forgets = λ m test es ss i. record { uids = i.uids; names = i.names; limit = i.limit; servers = i.servers; below = i.below; within = i.within; were = sent_kept test m.calls ss i.were };
     was = λ m es ss i. i.were;
     again = λ m s es ss i inside. sends m ss s i;
   }

@@ -18,7 +18,7 @@ use Rattle.mds_rule.specs.declared.waiter.Waiter.TheVariants.{ForFile, ForRead, 
 use Rattle.mds_rule.specs.ServedFiles.{has_fresh, is_period_end, file_behind, file_stepped, input_at}
 use Rattle.mds_laws.specs.MdsRuns.{MdsEvent, mds_run}
 use Rattle.mds_laws.proofs.Keeping.{HeardAny}
-use Rattle.mds_laws.proofs.Numbers.{WereSent, sent_more, sent_with, sent_without}
+use Rattle.mds_laws.proofs.Numbers.{WereSent, sent_more, sent_with, sent_kept}
 use Rattle.mds_replies.proofs.HolderCases.{Cases, RunCases, AnyCompound}
 use Rattle.mds_replies.proofs.GoesWalk.{run_walk}
 
@@ -69,7 +69,7 @@ module _ (servers : List AddressValue) (mirrors : ℕ) where
         called m (record { node = Server server; xid = m.next_xid; caller = ForRead other; sent = CallsServer server m.next_xid 0 call }) ss i;
     calls_back = λ m node back other stateid has es ss i. called m (record { node = node; xid = m.next_xid; caller = ForRecall; sent = CallsBack m.next_xid back other stateid }) ss i;
     skips = λ m has es ss i. i;
-    forgets = λ m node xid es ss i. record { servers_are = i.servers_are; mirrors_are = i.mirrors_are; were = sent_without node xid m.calls ss i.were };
+    forgets = λ m test es ss i. record { servers_are = i.servers_are; mirrors_are = i.mirrors_are; were = sent_kept test m.calls ss i.were };
     was = λ m es ss i. i.were;
     again = λ m s es ss i inside. sends m ss s i;
   }

@@ -29,7 +29,7 @@ use Rattle.mds_rule.specs.LayoutOps.{with_holder}
 use Rattle.mds_laws.specs.MdsRuns.{MdsEvent, mds_run}
 use Rattle.mds_laws.proofs.Lists.{AllOf, all_push, all_set}
 use Rattle.mds_laws.proofs.Keeping.{HeardAny}
-use Rattle.mds_laws.proofs.Numbers.{WereSent, sent_more, sent_with, sent_without}
+use Rattle.mds_laws.proofs.Numbers.{WereSent, sent_more, sent_with, sent_kept}
 use Rattle.mds_replies.proofs.HoldersHold.{at_file}
 use Rattle.mds_replies.proofs.HolderCases.{Cases, RunCases, AnyCompound}
 use Rattle.mds_replies.proofs.GoesWalk.{run_walk}
@@ -207,7 +207,7 @@ cases = record {
       quiet_so m.mirrors m.fresh.uid m.fresh.name m.files (with_call call m.calls) es (ss ++ call.sent ∷ [])
       (record { limit = i.limit; uids = i.uids; names = i.names; count = i.count; few = i.few; were = sent_with m.calls ss call i.were });
   skips = λ m has es ss i. i;
-  forgets = λ m node xid es ss i. record { limit = i.limit; uids = i.uids; names = i.names; count = i.count; few = i.few; were = sent_without node xid m.calls ss i.were };
+  forgets = λ m test es ss i. record { limit = i.limit; uids = i.uids; names = i.names; count = i.count; few = i.few; were = sent_kept test m.calls ss i.were };
   was = λ m es ss i. i.were;
   again = λ m s es ss i inside. sends m (length es) ss s i;
 }

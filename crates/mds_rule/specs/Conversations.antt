@@ -1,5 +1,5 @@
 -- Conversations with a metadata server that are worked out by hand: two data servers, files with two mirrors, clients c1 and c2.
-use Rattle.std.specs.Prelude.{ℕ, ◌-◌, ◌^◌, true, false, List, [], ◌∷◌, replicate, Some, None, codes}
+use Rattle.std.specs.Prelude.{ℕ, ◌-◌, ◌^◌, true, false, List, [], ◌∷◌, map, replicate, Some, None, codes}
 use Rattle.std.proofs.Common.{inl, inr}
 use Rattle.ff_xdr.specs.Form.{Value, spelling, long}
 use Rattle.ff_xdr.specs.Arms.{arm}
@@ -28,8 +28,8 @@ use Rattle.nfs4_compound.specs.Behind.{behind_arms}
 use Rattle.ff_layout.specs.ReturnBody.{ff_layoutreturn4}
 use Rattle.device_addr.specs.Universal.{AddressValue}
 use Rattle.granted_layouts.specs.GrantedBodies.{layout_body, whole_layout, layout_result}
-use Rattle.mds_rule.specs.MdsStates.{MdsSend, CallsServer, CallsBack, MdsValue, new_mds, numbered}
-use Rattle.mds_rule.specs.MdsTurns.{MdsTurn, Runs, RunsUpTo, Gets, IsTold, TimesOut, Ticks, MdsShown, mds_behind, replied, shows}
+use Rattle.mds_rule.specs.MdsStates.{MdsSend, CallsServer, CallsBack, AwaitedCall, MdsValue, new_mds, numbered}
+use Rattle.mds_rule.specs.MdsTurns.{MdsTurn, Runs, RunsUpTo, Gets, IsTold, TimesOut, CallTimesOut, Ticks, MdsShown, mds_behind, replied, shows}
 
 -- ---- what is spoken of
 
@@ -560,3 +560,79 @@ misplacing_shown =
     ∷ shows [] (replied c1 8 10004 (behind_arms resop4 (26, 10004) ∷ []) ∷ [])
     ∷ shows [] (replied c1 9 10044 (sequenced session1 4 ∷ behind_arms resop4 (10044, 10044) ∷ []) ∷ [])
     ∷ []
+
+-- ---- timeouts, of calls by their numbers, and calls that nobody awaits
+
+-- the same on the second slot
+abbrev sequence_beside : SessionId → ℕ → Value argop4
+sequence_beside session number = arm 53 argop4 (session.0, (number, (1, (1, true))))
+
+abbrev sequenced_beside : SessionId → ℕ → Value resop4
+sequenced_beside session number = arm 53 resop4 (inl (session.0, (number, (1, (7, (7, 0))))))
+
+-- Two READs wait, for calls to one data server. The second call times out, by its number, and then the one that was sent first.
+abbrev two_reads : List (ℕ × MdsTurn)
+two_reads =
+    (1, Runs c1 4 (unkept_sequence session1 2 ∷ put_fh 1 ∷ read open1 0 4 ∷ []))
+    ∷ (1, Runs c1 5 (sequence_beside session1 1 ∷ put_fh 1 ∷ read open1 4 4 ∷ []))
+    ∷ []
+
+abbrev pub two_calls_mds : MdsValue
+two_calls_mds = mds_behind opened_mds two_reads
+
+abbrev pub naming : List (ℕ × MdsTurn)
+naming =
+    (2, CallTimesOut (Server 1) 4)
+    ∷ (2, TimesOut (Server 1))
+    ∷ (2, CallTimesOut (Server 1) 3)
+    ∷ (2, Gets 1 4 (Bytes (Some (showing 65536 1 2)) true []))
+    ∷ []
+
+abbrev pub naming_shown : List MdsShown
+naming_shown =
+    shows (entry.TimedOut Mds 4 ∷ []) (CallsServer 1 4 0 (Read 2 4 4) ∷ [])
+    ∷ shows (entry.TimedOut Mds 3 ∷ []) (CallsServer 1 3 0 (Read 2 0 4) ∷ [])
+    ∷ shows (entry.TimedOut Mds 3 ∷ []) (CallsServer 1 3 0 (Read 2 0 4) ∷ [])
+    ∷ shows (entry.ReadAnswer file1 0 [] ∷ []) (replied c1 5 0 (sequenced_beside session1 1 ∷ put_fh_done ∷ read_done [] ∷ []) ∷ [])
+    ∷ []
+
+-- A timeout of a number that was not given yet, of one at another data server, and of one that was answered.
+abbrev pub naming_none : List (ℕ × MdsTurn)
+naming_none =
+    (2, CallTimesOut (Server 1) 5)
+    ∷ (2, CallTimesOut (Server 2) 3)
+    ∷ (2, Gets 1 3 (Bytes (Some (showing 65536 1 2)) true (65 ∷ 66 ∷ [])))
+    ∷ (2, CallTimesOut (Server 1) 3)
+    ∷ []
+
+abbrev pub naming_none_shown : List MdsShown
+naming_none_shown =
+    shows [] []
+    ∷ shows [] []
+    ∷ shows (entry.ReadAnswer file1 0 (65 ∷ 66 ∷ []) ∷ []) (replied c1 4 0 (sequenced session1 2 ∷ put_fh_done ∷ read_done (65 ∷ 66 ∷ []) ∷ []) ∷ [])
+    ∷ shows [] []
+    ∷ []
+
+-- The layout comes back before the callback that recalls it is answered. The callback, which nobody awaits, stands until the next tick; of
+-- the fence's calls the one that is still awaited stands behind it too.
+abbrev pub unanswered : List (ℕ × MdsTurn)
+unanswered =
+    (1, Runs c2 1 (exchange (codes "c2") ∷ []))
+    ∷ (1, Runs c2 2 (create id2 ∷ []))
+    ∷ (1, Runs c2 3 (sequence session2 1 ∷ put_root ∷ open_name name_a ∷ layout_get (open_stateid_of 1 2) ∷ []))
+    ∷ (2, Runs c1 5 (sequence session1 3 ∷ put_fh 1 ∷ layout_return 65536 ∷ []))
+    ∷ (2, Gets 1 4 (Set None))
+    ∷ []
+
+abbrev pub unanswered_mds : MdsValue
+unanswered_mds = mds_behind held_mds unanswered
+
+-- it is not outstanding, though it stands
+abbrev pub naming_nobody : List (ℕ × MdsTurn)
+naming_nobody = (3, CallTimesOut c1 3) ∷ (3, TimesOut c1) ∷ []
+
+abbrev pub naming_nobody_shown : List MdsShown
+naming_nobody_shown = shows [] [] ∷ shows [] [] ∷ []
+
+abbrev pub numbers_kept : MdsValue → List ℕ
+numbers_kept m = map (λ (call : AwaitedCall). call.xid) m.calls

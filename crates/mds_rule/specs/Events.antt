@@ -1,6 +1,6 @@
 -- What a metadata server does in each event. It has three parts: what came is taken, and what it brought runs as far as it goes; then calls
 -- go out.
-use Rattle.std.specs.Prelude.{ℕ, zero, suc, Bool, false, not, ◌==◌, ◌&&◌, List, [], ◌∷◌, length, map, Option, Some, None, if◌then◌else◌}
+use Rattle.std.specs.Prelude.{ℕ, zero, suc, Bool, false, not, ◌==◌, ◌&&◌, List, [], ◌∷◌, length, filter, map, Option, Some, None, if◌then◌else◌}
 use Rattle.std.specs.List.{find, range_with_len}
 use Rattle.rpc_record.specs.Replies.{RpcReply}
 use Rattle.cluster_model.specs.declared.ids.NodeId.{NodeId}
@@ -19,7 +19,7 @@ use Rattle.ds_calls.specs.GivenReplies.{reply_of_call}
 use Rattle.recall_calls.specs.RecallAnswers.{recall_status}
 use Rattle.mds_activity.specs.FileCalls.{kept_out}
 use Rattle.mds_receive.specs.MdsReceive.{IncomingValue, PassedOver, IsReply, IsAnswered, IsCompound, incoming_of}
-use Rattle.mds_rule.specs.MdsStates.{ServedFile, AwaitedCall, Answers, MdsValue, MdsStep, sends_none, enters, and_then, without_call, served, numbered}
+use Rattle.mds_rule.specs.MdsStates.{ServedFile, AwaitedCall, Answers, MdsValue, MdsStep, sends_none, enters, and_then, is_call_to, without_call, served, numbered}
 use Rattle.mds_rule.specs.declared.waiter.Waiter.{Waiter}
 use Rattle.mds_rule.specs.declared.waiter.Waiter.TheVariants.{ForFile}
 use Rattle.mds_rule.specs.ServedFiles.{takes_input, asks_back, ends_client}
@@ -48,10 +48,18 @@ takes_incoming now m node (IsCompound xid v) = takes_compound now m node xid v
 abbrev pub takes_record : ℕ → MdsValue → NodeId → List ℕ → MdsStep
 takes_record now m node bytes = takes_incoming now m node (incoming_of bytes)
 
--- ---- a timeout: of the call to this node that was sent first, of those that are awaited
+-- ---- a timeout: of the call to this node that has the number given, or else of the one that was sent first; of those that are awaited
 
 abbrev pub is_outstanding_to : MdsValue → NodeId → AwaitedCall → Bool
 is_outstanding_to m node call = is_node call.node node && is_awaited m call
+
+abbrev pub if_awaited : MdsValue → Option AwaitedCall → Option AwaitedCall
+if_awaited m None = None
+if_awaited m (Some call) = if is_awaited m call then Some call else None
+
+abbrev pub late_call : MdsValue → NodeId → Option ℕ → Option AwaitedCall
+late_call m node None = find (is_outstanding_to m node) m.calls
+late_call m node (Some xid) = if_awaited m (find (is_call_to node xid) m.calls)
 
 -- Its record goes out again, where it is still awaited and is not kept until the next tick. A call for which nobody waits is forgotten.
 abbrev pub is_kept : Option (ℕ × ℕ) → ℕ → Bool
@@ -76,10 +84,10 @@ abbrev pub times_out : ℕ → MdsValue → Option AwaitedCall → MdsStep
 times_out now m None = sends_none m
 times_out now m (Some call) = enters (TimedOut Mds call.xid ∷ []) (and_then (and_then (timed_out_for now m call.xid call.caller) (goes_again call)) (calls_out []))
 
-abbrev pub takes_timeout : ℕ → MdsValue → NodeId → MdsStep
-takes_timeout now m node = times_out now m (find (is_outstanding_to m node) m.calls)
+abbrev pub takes_timeout : ℕ → MdsValue → NodeId → Option ℕ → MdsStep
+takes_timeout now m node which = times_out now m (late_call m node which)
 
--- ---- a tick: leases, recalls, what waited for it
+-- ---- a tick: leases, recalls, what waited for it, calls that nobody awaits
 
 abbrev pub lease_ends : MdsValue → Option ClientState → (MdsValue → MdsStep) → MdsStep
 lease_ends m None next = sends_none m
@@ -106,8 +114,13 @@ kept_calls m = map (λ (s : ServedFile). kept_out s.file) m.files
 abbrev pub files_tick : MdsValue → MdsStep
 files_tick m = and_then (each (λ n k. takes_input k (numbered n) Ticks) (range_with_len 1 (length m.files)) m) (calls_out (kept_calls m))
 
+-- What waits for nothing is outstanding no more. That its call is kept until the next tick is seen by nobody: each question asks whether the
+-- call is awaited.
+abbrev pub forgets_calls : MdsValue → MdsStep
+forgets_calls m = sends_none (record m { calls = filter (is_awaited m) m.calls })
+
 abbrev pub takes_tick : ℕ → MdsValue → MdsStep
-takes_tick now m = and_then (and_then (leases_end now (length m.sessions.clients) m) (λ n. recalls_expire now (length n.recalls) n)) files_tick
+takes_tick now m = and_then (and_then (and_then (leases_end now (length m.sessions.clients) m) (λ n. recalls_expire now (length n.recalls) n)) files_tick) forgets_calls
 
 -- ---- what the cluster's administrator asks
 

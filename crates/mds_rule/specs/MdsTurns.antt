@@ -1,5 +1,5 @@
 -- Turns of a conversation with a metadata server, by the values of what comes, and what each shows.
-use Rattle.std.specs.Prelude.{ℕ, ◌+◌, List, [], ◌∷◌, length, None}
+use Rattle.std.specs.Prelude.{ℕ, ◌+◌, List, [], ◌∷◌, length, Some, None}
 use Rattle.ff_xdr.specs.Form.{Value, spelling}
 use Rattle.cluster_model.specs.declared.ids.NodeId.{NodeId}
 use Rattle.cluster_model.specs.declared.ids.NodeId.TheVariants.{Server}
@@ -24,7 +24,9 @@ pub data MdsTurn : Type 0 where
   Gets : (server xid : ℕ) (reply : DsReplyValue) → MdsTurn
   -- the status that a callback is answered with
   IsTold : (node : NodeId) (xid status : ℕ) → MdsTurn
+  -- of the calls to this node, the one that was sent first, and the one of this number
   TimesOut : (node : NodeId) → MdsTurn
+  CallTimesOut : (node : NodeId) (xid : ℕ) → MdsTurn
   Ticks : MdsTurn
   IsToRecall : (file : ℕ) → MdsTurn
   IsToResilver : (file : ℕ) → MdsTurn
@@ -44,7 +46,8 @@ after_turn now m (Runs node xid ops) = takes_compound now m node xid (compound_w
 after_turn now m (RunsUpTo node xid ops number) = takes_compound now m node xid (compound_up_to ops number)
 after_turn now m (Gets server xid reply) = and_then (takes_answer now m (Server server) xid (λ call. reply) 0) (calls_out [])
 after_turn now m (IsTold node xid status) = and_then (takes_answer now m node xid (λ call. Set None) status) (calls_out [])
-after_turn now m (TimesOut node) = takes_timeout now m node
+after_turn now m (TimesOut node) = takes_timeout now m node None
+after_turn now m (CallTimesOut node xid) = takes_timeout now m node (Some xid)
 after_turn now m Ticks = takes_tick now m
 after_turn now m (IsToRecall file) = takes_recall now m (numbered file)
 after_turn now m (IsToResilver file) = takes_resilver m (numbered file)

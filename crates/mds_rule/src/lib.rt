@@ -5,4 +5,4 @@ mod waiter;
 mod worked;
 
 pub use waiter::Waiter;
-pub use worked::{more_conversations, worked_conversations, worked_records};
+pub use worked::{more_conversations, worked_conversations, worked_records, worked_timeouts};

@@ -1,9 +1,9 @@
 //! Conversations that are worked out by hand.
 
-ghost use Rattle.std.specs.Prelude.{◌≡◌};
-ghost use Rattle.mds_rule.specs.MdsTurns.{turns_shown};
+ghost use Rattle.std.specs.Prelude.{◌≡◌, [], ◌∷◌};
+ghost use Rattle.mds_rule.specs.MdsTurns.{Ticks, mds_behind, turns_shown};
 ghost use Rattle.mds_rule.specs.WorkedRecords.{heard, back_to, null_call, null_reply, third_procedure, no_procedure, empty_compound, empty_result, lost_session, bad_session, write_sent, write_record};
-ghost use Rattle.mds_rule.specs.Conversations.{fresh_mds, opened_mds, opening, opening_shown, period, period_shown, read_through, read_through_shown, write_through, write_through_shown, held_mds, reporting, reporting_shown, lease_ending, lease_ending_shown, recalling, recalling_shown, other_holds_mds, denying, denying_shown, three_servers, placing, placing_shown, taking_turns, taking_turns_shown, writing_while_held, writing_while_held_shown, restarting, restarting_shown, returning_all, returning_all_shown, reading_past_the_lease, reading_past_the_lease_shown, misplacing, misplacing_shown};
+ghost use Rattle.mds_rule.specs.Conversations.{fresh_mds, opened_mds, opening, opening_shown, period, period_shown, read_through, read_through_shown, write_through, write_through_shown, held_mds, reporting, reporting_shown, lease_ending, lease_ending_shown, recalling, recalling_shown, other_holds_mds, denying, denying_shown, three_servers, placing, placing_shown, taking_turns, taking_turns_shown, writing_while_held, writing_while_held_shown, restarting, restarting_shown, returning_all, returning_all_shown, reading_past_the_lease, reading_past_the_lease_shown, misplacing, misplacing_shown, two_calls_mds, naming, naming_shown, naming_none, naming_none_shown, unanswered_mds, naming_nobody, naming_nobody_shown, numbers_kept};
 
 /// Conversations with a metadata server that are worked out by hand: a client that opens a file; a period of writing, from
 /// its grant to the end of its fence; a READ that one mirror fails; a WRITE through the metadata server; a return with a
@@ -41,4 +41,15 @@ pub fn more_conversations()
     ensures returning_all { turns_shown held_mds returning_all ≡ returning_all_shown }
     ensures reading_past_the_lease { turns_shown opened_mds reading_past_the_lease ≡ reading_past_the_lease_shown }
     ensures misplacing { turns_shown opened_mds misplacing ≡ misplacing_shown }
+{}
+
+/// Timeouts of calls by their numbers: of two calls to one data server the second goes out again, and a number that is not
+/// outstanding there does nothing, also where its call stands still. Of calls that stand, those that nobody awaits are gone
+/// behind a tick.
+pub fn worked_timeouts()
+    ensures naming { turns_shown two_calls_mds naming ≡ naming_shown }
+    ensures none { turns_shown two_calls_mds naming_none ≡ naming_none_shown }
+    ensures nobody { turns_shown unanswered_mds naming_nobody ≡ naming_nobody_shown }
+    ensures stands { numbers_kept unanswered_mds ≡ 3 ∷ 5 ∷ [] }
+    ensures forgotten { numbers_kept (mds_behind unanswered_mds ((3, Ticks) ∷ [])) ≡ 5 ∷ [] }
 {}

@@ -55,7 +55,7 @@ use Rattle.mds_laws.specs.MdsRuns.{MdsInput, MdsEvent, Hears, IsTimedOut, Ticks 
 use Rattle.mds_laws.specs.SlotUses.{first_request}
 use Rattle.mds_laws.proofs.Lists.{AllOf, all_push, all_set, all_got}
 use Rattle.mds_laws.proofs.Keeping.{HeardAny, Becomes, Keeps, KeepsOp, TakesInput, hears_any, then_keeps, same, becomes_keeps, enters_keeps, stays}
-use Rattle.mds_laws.proofs.Numbers.{WereSent, sent_more, sent_with, sent_without}
+use Rattle.mds_laws.proofs.Numbers.{WereSent, sent_more, sent_with, sent_kept}
 use Rattle.mds_laws.proofs.OpsWalk.{place_served}
 use Rattle.mds_laws.proofs.Requested.{behind_request, behind_begin}
 use Rattle.mds_replies.specs.ClientCalls.{IsCallIn, HearsCall, AreCalls, server_after}
@@ -181,7 +181,7 @@ module _ (P : SessionsState → Type 0) (keeps : (s : SessionsState) (move : Tab
     calls_back = λ m node back file stateid has es ss i.
         record { waits = i.waits; table = i.table; were = sent_with m.calls ss (record { node = node; xid = m.next_xid; caller = ForRecall; sent = CallsBack m.next_xid back file stateid }) i.were };
     skips = λ m has es ss i. i;
-    forgets = λ m node xid es ss i. record { waits = i.waits; table = i.table; were = sent_without node xid m.calls ss i.were };
+    forgets = λ m test es ss i. record { waits = i.waits; table = i.table; were = sent_kept test m.calls ss i.were };
     was = λ m es ss i. i.were;
     again = λ m s es ss i inside. sends m ss s i;
   }
@@ -352,7 +352,7 @@ module _ (P : SessionsState → Type 0) (keeps : (s : SessionsState) (move : Tab
         ops_keep now m (new_run from xid v) v.count v.ops.values (subst (λ (ops : List (Value argop4)). AllOf DestroysNoSession ops) (sym c.2.ops) (call_may c.0 c.1)),
     λ given is es ss i. sends m ss (Answers from given) i,
   )
-  runs_so now (IsTimedOut to) m hears = tt
+  runs_so now (IsTimedOut to which) m hears = tt
   runs_so now IsTick m hears = tt
   runs_so now (RecallsFile file) m hears = tt
   runs_so now (Resilvers file) m hears = tt

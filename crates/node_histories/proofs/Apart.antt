@@ -100,7 +100,7 @@ ItemElse (Sends send) = Unit {0}
 
 unseen_input : (input : MdsInput) → input_shown input ≡ IsUnseen → InputElse input
 unseen_input (Hears from bytes) is = absurd cc
-unseen_input (IsTimedOut to) is = tt
+unseen_input (IsTimedOut to which) is = tt
 unseen_input Ticks is = tt
 unseen_input (RecallsFile file) is = tt
 unseen_input (Resilvers file) is = tt
@@ -121,7 +121,7 @@ heard_else journal from bytes e all has = absurd has
 
 seen_input : (journal : List Entry) (input : MdsInput) (e : Entry) → AreApart journal → IsShownAs Mds journal (input_shown input) e → InputElse input
 seen_input journal (Hears from bytes) e all is = heard_else journal from bytes e all is
-seen_input journal (IsTimedOut to) e all is = tt
+seen_input journal (IsTimedOut to which) e all is = tt
 seen_input journal Ticks e all is = tt
 seen_input journal (RecallsFile file) e all is = tt
 seen_input journal (Resilvers file) e all is = tt

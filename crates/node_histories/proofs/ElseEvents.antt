@@ -1,11 +1,12 @@
 -- The calls that go out, and so each event from other nodes, leave a server that knows no node as itself, and send elsewhere.
 use Rattle.std.proofs.Common.{◌≡◌, ℕ, zero, suc, Bool, List, [], ◌∷◌, length, Option, Some, None, refl}
-use Rattle.std.specs.Prelude.{◌-◌, not, ◌==◌, ◌&&◌, if◌then◌else◌, slice_get, slice_set}
+use Rattle.std.specs.Prelude.{◌-◌, not, ◌==◌, ◌&&◌, if◌then◌else◌, slice_get, slice_set, filter}
 use Rattle.std.specs.Option.{option_map}
 use Rattle.std.specs.List.{find, range_with_len}
 use Rattle.std.proofs.lemmas.Bool.{cond_both}
 use Rattle.cluster_model.specs.declared.ids.NodeId.{NodeId}
 use Rattle.cluster_model.specs.declared.ids.NodeId.TheVariants.{Server}
+use Rattle.cluster_model.specs.Members.{IsOneOf}
 use Rattle.cluster_model.specs.declared.ids.FileId.{FileId}
 use Rattle.cluster_model.specs.declared.ids.Cred.{Cred}
 use Rattle.cluster_model.specs.declared.phase.EndCause.TheVariants.{Lease, Recalled}
@@ -31,9 +32,10 @@ use Rattle.mds_rule.specs.ServedFiles.{takes_input, asks_back, ends_client}
 use Rattle.mds_rule.specs.Compounds.{runs_compound}
 use Rattle.mds_rule.specs.Answers.{is_awaited, takes_answer, timed_out_for}
 use Rattle.mds_rule.specs.Goes.{xid_after, stateid_seqid, calls_as, calls_server, OwnCall, own_of_file, own_of_write, own_by, place_of, own_call_at, own_next, has_xids, own_call, own_two, own_calls, read_goes, read_call, read_call_in, each, read_count, read_calls, calls_back, recall_goes, recall_call, repeats_call, repeats, place_calls, file_calls, calls_out}
-use Rattle.mds_rule.specs.Events.{takes_incoming, is_outstanding_to, is_kept_by, goes_again, times_out, lease_ends, leases_end, recall_expires, recalls_expire, kept_calls, files_tick, takes_tick}
+use Rattle.mds_rule.specs.Events.{takes_incoming, late_call, is_kept_by, goes_again, times_out, lease_ends, leases_end, recall_expires, recalls_expire, kept_calls, files_tick, forgets_calls, takes_tick}
 use Rattle.mds_laws.specs.MdsRuns.{MdsInput, MdsEvent, Hears, IsTimedOut, Ticks as IsTick, RecallsFile, Resilvers, by_input, after_event, run_from}
-use Rattle.mds_laws.proofs.Lists.{AllOf, all_set, all_got}
+use Rattle.mds_laws.proofs.Lists.{AllOf, all_set, all_got, all_in}
+use Rattle.mds_laws.proofs.LateFound.{late_is}
 use Rattle.node_histories.proofs.Elsewhere.{IsElse, SendElse, CallElse, ReadElse, WriteElse, FileElse, Else, StepElse, all_found, gone_else, called_else, last_session_else, with_table, with_file_else, served_else, with_call_else, without_calls_else, none_goes, then_goes}
 use Rattle.node_histories.proofs.ElseInputs.{takes_else, asks_else, client_ends_else}
 use Rattle.node_histories.proofs.ElseCompounds.{compound_else, answer_else, timeout_else}
@@ -173,10 +175,10 @@ again_else call its m e =
     again : MdsStep
     again = record { mds = m; entries = []; sends = call.sent ∷ [] }
 
-late_else : (now : ℕ) (m : MdsValue) (test : AwaitedCall → Bool) → Else m → (o : Option AwaitedCall) → find test m.calls ≡ o → StepElse (times_out now m o)
-late_else now m test e None is = none_goes m e
-late_else now m test e (Some call) is =
-    let its : CallElse call = all_found CallElse test m.calls call e.calls_else is in
+late_else : (now : ℕ) (m : MdsValue) → Else m → (o : Option AwaitedCall) → ((call : AwaitedCall) → o ≡ Some call → IsOneOf call m.calls) → StepElse (times_out now m o)
+late_else now m e None inside = none_goes m e
+late_else now m e (Some call) inside =
+    let its : CallElse call = all_in CallElse m.calls call e.calls_else (inside call refl) in
     then_goes (and_then (timed_out_for now m call.xid call.caller) (goes_again call)) (calls_out [])
     (then_goes (timed_out_for now m call.xid call.caller) (goes_again call) (timeout_else now m call.xid call.caller e) (λ n k. again_else call its n k)) (λ n k. out_else [] n k)
 
@@ -208,20 +210,23 @@ files_else_tick m e =
 tick_else : (now : ℕ) (m : MdsValue) → Else m → StepElse (takes_tick now m)
 tick_else now m e =
     let leases : MdsStep = leases_end now (length m.sessions.clients) m in
-    then_goes (and_then leases (λ n. recalls_expire now (length n.recalls) n)) files_tick
-    (then_goes leases (λ n. recalls_expire now (length n.recalls) n) (leases_else now (length m.sessions.clients) m e) (λ n k. recalls_else now (length n.recalls) n k)) (λ n k. files_else_tick n k)
+    let expired : MdsStep = and_then leases (λ n. recalls_expire now (length n.recalls) n) in
+    then_goes (and_then expired files_tick) forgets_calls
+    (then_goes expired files_tick
+    (then_goes leases (λ n. recalls_expire now (length n.recalls) n) (leases_else now (length m.sessions.clients) m e) (λ n k. recalls_else now (length n.recalls) n k)) (λ n k. files_else_tick n k))
+    (λ n k. none_goes (record n { calls = filter (is_awaited n) n.calls }) (without_calls_else n (is_awaited n) k))
 
 -- what comes, comes from another node
 abbrev pub InputElse : MdsInput → Type 0
 InputElse (Hears from bytes) = IsElse from
-InputElse (IsTimedOut to) = Unit {0}
+InputElse (IsTimedOut to which) = Unit {0}
 InputElse IsTick = Unit {0}
 InputElse (RecallsFile file) = Unit {0}
 InputElse (Resilvers file) = Unit {0}
 
 input_else : (now : ℕ) (input : MdsInput) (m : MdsValue) → Else m → InputElse input → StepElse (by_input now input m)
 input_else now (Hears from bytes) m e its = incoming_else now m from (incoming_of bytes) e its
-input_else now (IsTimedOut to) m e its = late_else now m (is_outstanding_to m to) e (find (is_outstanding_to m to) m.calls) refl
+input_else now (IsTimedOut to which) m e its = late_else now m e (late_call m to which) (λ call is. (late_is m to which call is).inside)
 input_else now IsTick m e its = tick_else now m e
 input_else now (RecallsFile file) m e its = then_goes (asks_back m file now) (calls_out []) (asks_else m file now e) (λ n k. out_else [] n k)
 input_else now (Resilvers file) m e its = then_goes (takes_input m file Resilver) (calls_out []) (takes_else m file Resilver e) (λ n k. out_else [] n k)

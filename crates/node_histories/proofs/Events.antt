@@ -214,7 +214,7 @@ module _ (w : ClusterState) (i : IsTold w) where
       by_server (Some s) = by_new (restart_of s pieces)
 
   pub times_so : (node to : NodeId) → IsTold (acting node (times_out w.now node to w.machines) w)
-  times_so Mds to = mds_so (record { now = w.now; input = IsTimedOut to }) refl tt
+  times_so Mds to = mds_so (record { now = w.now; input = IsTimedOut to None }) refl tt
   times_so (Server n) to = nothing_so (Server n)
   times_so (Client n) to = client_late_so n to
 

@@ -16,7 +16,7 @@ use Rattle.mds_rule.specs.declared.waiter.Waiter.TheVariants.{ForFile, ForRead, 
 use Rattle.mds_rule.specs.ServedFiles.{is_period_end, file_behind, file_stepped}
 use Rattle.mds_laws.specs.MdsRuns.{MdsEvent, after_event}
 use Rattle.mds_laws.proofs.Keeping.{Cases, HeardAny, hears_any, is_note}
-use Rattle.mds_laws.proofs.Numbers.{WereSent, sent_more, sent_with, sent_without}
+use Rattle.mds_laws.proofs.Numbers.{WereSent, sent_more, sent_with, sent_kept}
 use Rattle.mds_laws.proofs.GoesWalk.{event_walk}
 use Rattle.node_histories.proofs.Parts.{all_joined}
 use Rattle.node_histories.proofs.MdsKinds.{IsMdsEntry}
@@ -70,7 +70,7 @@ cases = record {
   calls_read = λ m file s t server call at has same write uid is_read es ss i. called m.calls es ss (record { node = Server server; xid = m.next_xid; caller = ForRead file; sent = CallsServer server m.next_xid 0 call }) i;
   calls_back = λ m node back file stateid has es ss i. called m.calls es ss (record { node = node; xid = m.next_xid; caller = ForRecall; sent = CallsBack m.next_xid back file stateid }) i;
   skips = λ m has es ss i. i;
-  forgets = λ m node xid es ss i. record { kinds = i.kinds; were = sent_without node xid m.calls ss i.were };
+  forgets = λ m test es ss i. record { kinds = i.kinds; were = sent_kept test m.calls ss i.were };
   was = λ m es ss i. i.were;
   again = λ m s es ss i inside. plain m.calls es ss s i;
 }

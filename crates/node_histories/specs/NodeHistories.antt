@@ -33,7 +33,7 @@ use Rattle.node_histories.specs.ClientLives.{Life, client_of, journal_of, AreLiv
 
 abbrev pub input_shown : MdsInput → ItemShown
 input_shown (Hears from bytes) = IsArrival from bytes
-input_shown (IsTimedOut to) = IsUnseen
+input_shown (IsTimedOut to which) = IsUnseen
 input_shown Ticks = IsUnseen
 input_shown (RecallsFile file) = IsUnseen
 input_shown (Resilvers file) = IsUnseen

@@ -1,5 +1,6 @@
 //! A metadata server: `new SERVERS MIRRORS`, whose data server number n has the address 127.0.0.1.8.n, `record FROM NOW HEX`,
-//! `timeout NODE NOW`, `tick NOW`, `recall FILE NOW`, `resilver FILE`. The answer is what the step entered and sent.
+//! `timeout NODE NOW`, `timeout NODE NOW XID`, `tick NOW`, `recall FILE NOW`, `resilver FILE`. The answer is what the step
+//! entered and sent.
 
 use crate::outbox::put_outbox;
 use cluster_model::{FileId, Outbox};
@@ -80,6 +81,23 @@ fn record(mds: &mut Mds, words: &mut Words<'_>, out: &mut Outbox) -> Result<(), 
     Ok(())
 }
 
+/// The number of a call, where the line has one more word.
+fn named_call(words: &mut Words<'_>) -> Result<Option<u32>, RowFault> {
+    match words.end() {
+        Ok(()) => Ok(None),
+        Err(_) => Ok(Some(words.last_number32()?)),
+    }
+}
+
+/// A call to a node times out, at a moment: that of a number, or the one that was sent first.
+fn timeout(mds: &mut Mds, words: &mut Words<'_>, out: &mut Outbox) -> Result<(), RowFault> {
+    let to = words.node()?;
+    let now = words.number64()?;
+    let xid = named_call(words)?;
+    mds.on_timeout(to, xid, now, out)?;
+    Ok(())
+}
+
 /// An event of the server.
 fn event(
     mds: &mut Mds,
@@ -89,10 +107,7 @@ fn event(
 ) -> Result<(), RowFault> {
     match name {
         "record" => record(mds, words, out)?,
-        "timeout" => {
-            let to = words.node()?;
-            mds.on_timeout(to, words.last_number64()?, out)?;
-        }
+        "timeout" => timeout(mds, words, out)?,
         "tick" => mds.tick(words.last_number64()?, out)?,
         "recall" => {
             let file = words.number32()?;

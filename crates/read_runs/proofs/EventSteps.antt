@@ -1,6 +1,6 @@
 -- Each event keeps what holds by the history, and so each run.
 use Rattle.std.proofs.Common.{◌≡◌, ◌≤◌, ℕ, zero, suc, Bool, true, false, cond, List, [], ◌∷◌, ◌++◌, length, Option, Some, None, refl, sym, subst, inl, inr}
-use Rattle.std.specs.Prelude.{not, ◌==◌, if◌then◌else◌, map}
+use Rattle.std.specs.Prelude.{not, ◌==◌, if◌then◌else◌, map, filter}
 use Rattle.std.specs.List.{find, range_with_len}
 use Rattle.std.proofs.lemmas.Bool.{cond_both}
 use Rattle.std.proofs.lemmas.List.{append_assoc, append-nil}
@@ -21,14 +21,15 @@ use Rattle.nfs4_session.specs.Ends.{has_ended, without_client}
 use Rattle.recall.specs.Recalls.{after_tick}
 use Rattle.mds_receive.specs.MdsReceive.{IncomingValue, PassedOver, IsReply, IsAnswered, IsCompound, incoming_of}
 use Rattle.nfs4_compound.specs.Compounds.{CompoundValue}
-use Rattle.mds_rule.specs.MdsStates.{ServedFile, MdsSend, Answers, AwaitedCall, MdsValue, MdsStep, sends_none, and_then, without_call, served_in, numbered, new_mds}
+use Rattle.mds_rule.specs.MdsStates.{ServedFile, MdsSend, Answers, AwaitedCall, MdsValue, MdsStep, sends_none, and_then, without_call, served_in, numbered, new_mds, is_call_to}
 use Rattle.mds_rule.specs.ServedFiles.{takes_input, asks_back, ends_client}
 use Rattle.mds_rule.specs.Compounds.{runs_compound}
 use Rattle.mds_rule.specs.Answers.{is_awaited, takes_answer, timed_out_for}
 use Rattle.mds_rule.specs.Goes.{each, calls_out}
-use Rattle.mds_rule.specs.Events.{takes_incoming, is_outstanding_to, is_kept_by, goes_again, times_out, takes_timeout, lease_ends, leases_end, recall_expires, recalls_expire, kept_calls, files_tick, takes_tick}
+use Rattle.mds_rule.specs.Events.{takes_incoming, late_call, is_kept_by, goes_again, times_out, takes_timeout, lease_ends, leases_end, recall_expires, recalls_expire, kept_calls, files_tick, forgets_calls, takes_tick}
 use Rattle.mds_laws.specs.MdsRuns.{MdsInput, MdsEvent, Hears, IsTimedOut, Ticks as IsTick, RecallsFile, Resilvers, by_input, after_event, run_from}
-use Rattle.mds_laws.proofs.Lists.{in_more, found_in}
+use Rattle.mds_laws.proofs.Lists.{in_more}
+use Rattle.mds_laws.proofs.LateFound.{late_is}
 use Rattle.mds_histories.specs.MdsHistory.{MdsItem, Comes, Enters, Sends, items_of, mds_history, sends_in}
 use Rattle.mds_histories.proofs.Histories.{sends_joined}
 use Rattle.read_runs.specs.ReadRuns.{HearsInForm, AreInForm, ReadsInForm, EachReadIsAnswered}
@@ -74,7 +75,7 @@ incoming_step past now m node bytes form i (IsCompound xid v) is =
 again_sends : (call : AwaitedCall) (m : MdsValue) (h : List MdsItem) → IsOneOf call.sent (sends_in h) → Holds m h → Holds (goes_again call m).mds (h ++ map Sends (goes_again call m).sends)
 again_sends call m h inside i =
     cond_both (not (is_awaited m call)) (sends_none forgotten) (if is_kept_by m call.xid call.caller then sends_none m else again) (λ (s : MdsStep). Holds s.mds (h ++ map Sends s.sends))
-    (λ none. subst (λ (l : List MdsItem). Holds forgotten l) (sym (append-nil h)) (holds_forget m.mirrors m.files m.calls m.next_xid h i call.node call.xid))
+    (λ none. subst (λ (l : List MdsItem). Holds forgotten l) (sym (append-nil h)) (holds_forget m.mirrors m.files m.calls m.next_xid h i (λ c. not (is_call_to call.node call.xid c))))
     (λ some.
     cond_both (is_kept_by m call.xid call.caller) (sends_none m) again (λ (s : MdsStep). Holds s.mds (h ++ map Sends s.sends)) (λ kept. subst (λ (l : List MdsItem). Holds m l) (sym (append-nil h)) i)
     (λ other. holds_again m.mirrors m.files m.calls m.next_xid h i call.sent inside))
@@ -116,8 +117,8 @@ times_step : (now : ℕ) (m : MdsValue) (o : Option AwaitedCall) → ((call : Aw
 times_step now m None inside = same m
 times_step now m (Some call) inside = late_step now m call (inside call refl)
 
-timeouts_step : (now : ℕ) (m : MdsValue) (node : NodeId) → Keeps m (takes_timeout now m node)
-timeouts_step now m node = times_step now m (find (is_outstanding_to m node) m.calls) (λ call is. found_in (is_outstanding_to m node) m.calls call is)
+timeouts_step : (now : ℕ) (m : MdsValue) (node : NodeId) (which : Option ℕ) → Keeps m (takes_timeout now m node which)
+timeouts_step now m node which = times_step now m (late_call m node which) (λ call is. (late_is m node which call is).inside)
 
 -- ---- a tick
 
@@ -151,17 +152,23 @@ files_step m =
     mute_last m all (calls_out (kept_calls m))
     (silent_keeps m all (each_silent (λ n x. takes_input x (numbered n) Ticks) (λ n x. takes x (numbered n) Ticks (λ s. tt)) (range_with_len 1 (length m.files)) m)) (λ n. out_step (kept_calls m) n)
 
+forgets_step : (m : MdsValue) → Mute m (forgets_calls m)
+forgets_step m = mute_none m (record m { calls = filter (is_awaited m) m.calls }) (λ h i. holds_forget m.mirrors m.files m.calls m.next_xid h i (is_awaited m))
+
 tick_step : (now : ℕ) (m : MdsValue) → Keeps m (takes_tick now m)
 tick_step now m =
     let leases : MdsStep = leases_end now (length m.sessions.clients) m in
-    silent_first m (and_then leases (λ n. recalls_expire now (length n.recalls) n)) files_tick
-    (silent_then m leases (λ n. recalls_expire now (length n.recalls) n) (leases_step now (length m.sessions.clients) m) (λ n. recalls_step now (length n.recalls) n)) (λ n. files_step n)
+    let expired : MdsStep = and_then leases (λ n. recalls_expire now (length n.recalls) n) in
+    mute_last m (and_then expired files_tick) forgets_calls
+    (silent_first m expired files_tick
+    (silent_then m leases (λ n. recalls_expire now (length n.recalls) n) (leases_step now (length m.sessions.clients) m) (λ n. recalls_step now (length n.recalls) n)) (λ n. files_step n))
+    (λ n. forgets_step n)
 
 -- ---- an event
 
 event_step : (past : List MdsItem) (now : ℕ) (input : MdsInput) (m : MdsValue) → HearsInForm input → Holds m past → Holds (by_input now input m).mds (with_event past now input ++ items_in (by_input now input m))
 event_step past now (Hears node bytes) m form i = incoming_step past now m node bytes form i (incoming_of bytes) refl
-event_step past now (IsTimedOut to) m form i = timeouts_step now m to (with_event past now (IsTimedOut to)) (it_came past now (IsTimedOut to) m i)
+event_step past now (IsTimedOut to which) m form i = timeouts_step now m to which (with_event past now (IsTimedOut to which)) (it_came past now (IsTimedOut to which) m i)
 event_step past now IsTick m form i = tick_step now m (with_event past now IsTick) (it_came past now IsTick m i)
 event_step past now (RecallsFile file) m form i =
     mute_last m (asks_back m file now) (calls_out []) (silent_keeps m (asks_back m file now) (asks m file now)) (λ n. out_step [] n) (with_event past now (RecallsFile file)) (it_came past now (RecallsFile file) m i)

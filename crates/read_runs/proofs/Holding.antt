@@ -1,6 +1,6 @@
 -- What holds of a metadata server by the history so far: of each file its live mirrors, of each READ that waits what it rests on, of the
 -- calls that went out their numbers, and of each answer what it rests on.
-use Rattle.std.proofs.Common.{◌≡◌, ◌≢◌, ◌≤◌, ℕ, true, false, List, [], ◌∷◌, ◌++◌, Option, Some, None, refl, sym, ap, subst, ◌∙◌, inl, inr}
+use Rattle.std.proofs.Common.{◌≡◌, ◌≢◌, ◌≤◌, ℕ, true, false, List, [], ◌∷◌, ◌++◌, Option, Some, None, refl, sym, ap, subst, ◌∙◌, inl, inr, Bool, filter}
 use Rattle.std.specs.Prelude.{not, ◌==◌}
 use Rattle.std.specs.List.{AllByRecursion}
 use Rattle.std.proofs.lemmas.Bool.{cases_eq}
@@ -14,7 +14,7 @@ use Rattle.nfs4_compound.specs.Args.{argop4}
 use Rattle.cluster_laws.specs.FenceLaw.{live_in}
 use Rattle.cluster_laws.proofs.FewMirrors.{FileHasFew}
 use Rattle.cluster_laws.proofs.Lists.{all_more, put_same, put_other}
-use Rattle.mds_rule.specs.MdsStates.{WaitingRead, WaitingWrite, ServedFile, MdsSend, AwaitedCall, MdsValue, with_call, without_call, served_in, with_file}
+use Rattle.mds_rule.specs.MdsStates.{WaitingRead, WaitingWrite, ServedFile, MdsSend, AwaitedCall, MdsValue, with_call, served_in, with_file}
 use Rattle.mds_rule.specs.Goes.{xid_after}
 use Rattle.mds_laws.specs.MdsRunLaws.{number_sent}
 use Rattle.mds_histories.specs.MdsHistory.{MdsItem, Sends, entries_in, sends_in}
@@ -109,8 +109,8 @@ module _ (mirrors : ℕ) (files : List ServedFile) (calls : List AwaitedCall) (n
   pub holds_skip : not (next == 0) ≡ true → HoldsOf mirrors files calls (xid_after next) h
   holds_skip has = record { few = i.few; files_so = i.files_so; not_told = i.not_told; numbered = numbers_skip next calls (sends_in h) has i.numbered; right = i.right }
 
-  pub holds_forget : (node : NodeId) (xid : ℕ) → HoldsOf mirrors files (without_call node xid calls) next h
-  holds_forget node xid = record { few = i.few; files_so = i.files_so; not_told = i.not_told; numbered = numbers_forget next calls (sends_in h) node xid i.numbered; right = i.right }
+  pub holds_forget : (test : AwaitedCall → Bool) → HoldsOf mirrors files (filter test calls) next h
+  holds_forget test = record { few = i.few; files_so = i.files_so; not_told = i.not_told; numbered = numbers_forget next calls (sends_in h) test i.numbered; right = i.right }
 
 -- ---- one file changes
 

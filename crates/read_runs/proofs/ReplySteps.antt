@@ -1,7 +1,7 @@
 -- An answer to a call keeps what holds by the history. The awaited call is the send that went out under its number, so what answers a
 -- waiting READ is what the mirror that was asked says to it.
 use Rattle.std.proofs.Common.{◌≡◌, ℕ, true, List, [], ◌∷◌, ◌++◌, Option, Some, None, refl, sym, ap, subst, ◌∙◌, inl, inr}
-use Rattle.std.specs.Prelude.{◌==◌}
+use Rattle.std.specs.Prelude.{◌==◌, not}
 use Rattle.std.specs.List.{find}
 use Rattle.std.proofs.lemmas.Bool.{cond_both, and_parts, eqb-true}
 use Rattle.rpc_record.specs.Replies.{RpcReply}
@@ -128,7 +128,7 @@ module _ (past : List MdsItem) (now : ℕ) (node : NodeId) (answer : List ℕ) (
   found_step m i status None found = same m (past ++ Comes (record { now = now; input = Hears node answer }) ∷ []) (it_came m i)
   found_step m i status (Some call) found =
       let n : MdsValue = record m { calls = without_call node reply.xid m.calls } in
-      let j : Holds n past = holds_forget m.mirrors m.files m.calls m.next_xid past i node reply.xid in
+      let j : Holds n past = holds_forget m.mirrors m.files m.calls m.next_xid past i (λ c. not (is_call_to node reply.xid c)) in
       cond_both (is_awaited m call) (answered_as now n reply.xid (λ c. reply_of_call c reply) status call.caller call.sent) (sends_none n) StepHolds
       (λ is. answered_step m i call (found_in (is_call_to node reply.xid) m.calls call found) (found_passes (is_call_to node reply.xid) m.calls call found) n j status call.sent refl)
       (λ off. same n (past ++ Comes (record { now = now; input = Hears node answer }) ∷ []) (it_came n j))

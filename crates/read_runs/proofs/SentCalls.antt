@@ -1,16 +1,16 @@
 -- The calls that went out, by their numbers: no two are under one number, and each call that is awaited went out under its own, to its node.
-use Rattle.std.proofs.Common.{◌≡◌, ℕ, ◌+◌, true, List, [], ◌∷◌, ◌++◌, Some, None, sym, ap, subst, ◌∙◌, inl, inr, ◌⊎◌, arith}
+use Rattle.std.proofs.Common.{◌≡◌, ℕ, ◌+◌, true, List, [], ◌∷◌, ◌++◌, Some, None, sym, ap, subst, ◌∙◌, inl, inr, ◌⊎◌, arith, Bool, filter}
 use Rattle.std.specs.Prelude.{not, ◌==◌}
 use Rattle.std.proofs.lemmas.Option.{none-some}
 use Rattle.cluster_model.specs.declared.ids.NodeId.{NodeId}
 use Rattle.cluster_model.specs.declared.ids.NodeId.TheVariants.{Server}
 use Rattle.cluster_model.specs.Members.{IsOneOf}
 use Rattle.rpc_record.specs.CallNumbers.{IsBelow}
-use Rattle.mds_rule.specs.MdsStates.{MdsSend, CallsServer, CallsBack, Replies, Answers, AwaitedCall, with_call, is_call_to, without_call}
+use Rattle.mds_rule.specs.MdsStates.{MdsSend, CallsServer, CallsBack, Replies, Answers, AwaitedCall, with_call}
 use Rattle.mds_rule.specs.Goes.{xid_after}
 use Rattle.mds_laws.specs.MdsRunLaws.{number_sent, AreBelow}
 use Rattle.mds_laws.proofs.Lists.{in_with_call, in_filtered}
-use Rattle.mds_laws.proofs.Numbers.{WereSent, sent_more, sent_with, sent_without, below_all, below_push, in_below, after_below}
+use Rattle.mds_laws.proofs.Numbers.{WereSent, sent_more, sent_with, sent_kept, below_all, below_push, in_below, after_below}
 
 -- a call of a data server went out to that node
 abbrev pub IsTo : NodeId → MdsSend → Type 0
@@ -101,10 +101,10 @@ numbers_new next calls ss call has number so n = record {
 pub numbers_skip : (next : ℕ) (calls : List AwaitedCall) (ss : List MdsSend) → not (next == 0) ≡ true → HaveNumbers next calls ss → HaveNumbers (xid_after next) calls ss
 numbers_skip next calls ss has n = record { below = after_below next ss (below_all next ss (n.below has)); once = n.once; were = n.were; are = n.are }
 
-pub numbers_forget : (next : ℕ) (calls : List AwaitedCall) (ss : List MdsSend) (node : NodeId) (xid : ℕ) → HaveNumbers next calls ss → HaveNumbers next (without_call node xid calls) ss
-numbers_forget next calls ss node xid n = record {
+pub numbers_forget : (next : ℕ) (calls : List AwaitedCall) (ss : List MdsSend) (test : AwaitedCall → Bool) → HaveNumbers next calls ss → HaveNumbers next (filter test calls) ss
+numbers_forget next calls ss test n = record {
   below = n.below;
   once = n.once;
-  were = sent_without node xid calls ss n.were;
-  are = λ call inside. n.are call (in_filtered (λ (c : AwaitedCall). not (is_call_to node xid c)) call calls inside);
+  were = sent_kept test calls ss n.were;
+  are = λ call inside. n.are call (in_filtered test call calls inside);
 }

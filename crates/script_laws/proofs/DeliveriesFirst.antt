@@ -100,7 +100,7 @@ received_so now from (Server n) bytes m = server_by m n from bytes (nth m.server
 received_so now from (Client n) bytes m = client_by m n (client_recorded from bytes now) (input_so (Recorded from bytes now)) (nth m.clients n)
 
 late_so : (now : ℕ) (node to : NodeId) (m : MachinesValue) → ActsSo (times_out now node to m)
-late_so now Mds to m = mds_so m (record { now = now; input = IsTimedOut to })
+late_so now Mds to m = mds_so m (record { now = now; input = IsTimedOut to None })
 late_so now (Server n) to m = tt
 late_so now (Client n) to m = client_by m n (client_timed_out to) (input_so (TimeoutOf to)) (nth m.clients n)
 

@@ -186,7 +186,7 @@ module _ (laws : CompoundLaws) (boots : List ℕ) (w : ClusterState) (run : IsRu
           (let a : Arrival t before after e node bytes = came_at before after e is node bytes its in
           let k : CameFrom t (entries_in a.earlier) node bytes xid v = caller_of before after e node bytes a xid v reads in
           (k.name, k.call, is_call_in node bytes xid v (entries_in a.earlier) k))
-      by_input before after e is (IsTimedOut to) its = tt
+      by_input before after e is (IsTimedOut to which) its = tt
       by_input before after e is Ticks its = tt
       by_input before after e is (RecallsFile file) its = tt
       by_input before after e is (Resilvers file) its = tt
@@ -199,7 +199,7 @@ module _ (laws : CompoundLaws) (boots : List ℕ) (w : ClusterState) (run : IsRu
           (let a : Arrival t before after e node bytes = came_at before after e is node bytes its in
           let k : CameFrom t (entries_in a.earlier) node bytes xid v = caller_of before after e node bytes a xid v reads in
           (k.name, k.call, is_call_in node bytes xid v (entries_in a.earlier) k, k.fits.0))
-      by_input before after e is (IsTimedOut to) its = tt
+      by_input before after e is (IsTimedOut to which) its = tt
       by_input before after e is Ticks its = tt
       by_input before after e is (RecallsFile file) its = tt
       by_input before after e is (Resilvers file) its = tt

@@ -204,7 +204,7 @@ module _ (events : MdsGoesOn) (forms : MdsStaysInForm) (laws : ServerLaws) (send
       mds_so ticked j (record { now = ticked.now; input = Ticks }) tt
 
   times_so : (w : ClusterState) → IsRunOf boots w → (node to : NodeId) → IsRunOf boots (acting node (times_out w.now node to w.machines) w)
-  times_so w i Mds to = mds_so w i (record { now = w.now; input = IsTimedOut to }) tt
+  times_so w i Mds to = mds_so w i (record { now = w.now; input = IsTimedOut to None }) tt
   times_so w i (Server n) to = nothing w i (Server n)
   times_so w i (Client n) to = client_acts_so w i n (client_timed_out to) (by_input sends entries (TimeoutOf to))
 

@@ -80,7 +80,7 @@ IsToldStep (Seen item e) = IsSaid item e
 said_coming : (journal : List Entry) (event : MdsEvent) (input : MdsInput) (e : Entry) → IsShownAs Mds journal (input_shown input) e → IsSaid (Comes event) e
 said_coming journal event (Hears from bytes) (entry.Delivered number) is = tt
 said_coming journal event (Hears from bytes) e is = absurd is
-said_coming journal event (IsTimedOut to) e is = absurd is
+said_coming journal event (IsTimedOut to which) e is = absurd is
 said_coming journal event Ticks e is = absurd is
 said_coming journal event (RecallsFile file) e is = absurd is
 said_coming journal event (Resilvers file) e is = absurd is

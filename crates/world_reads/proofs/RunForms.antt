@@ -21,7 +21,7 @@ use Rattle.mds_laws.specs.MdsRuns.{MdsEvent, mds_run}
 use Rattle.mds_laws.specs.MdsRunLaws.{number_sent, AreBelow, IsNewOrAgain, IsNew, IsAgain, NumbersAscend}
 use Rattle.mds_laws.proofs.Lists.{AllOf, all_push, all_in}
 use Rattle.mds_laws.proofs.Keeping.{Cases, HeardAny}
-use Rattle.mds_laws.proofs.Numbers.{WereSent, sent_more, sent_with, sent_without}
+use Rattle.mds_laws.proofs.Numbers.{WereSent, sent_more, sent_with, sent_kept}
 use Rattle.mds_laws.proofs.GoesWalk.{in_each_run}
 use Rattle.mds_forms.specs.Forms.{IsReplyRecord}
 
@@ -76,7 +76,7 @@ module _ (mirrors : ℕ) where
     calls_back = λ m node back file stateid has es ss i.
         called m.mirrors m.calls ss (record { node = node; xid = m.next_xid; caller = ForRecall; sent = CallsBack m.next_xid back file stateid }) tt i;
     skips = λ m has es ss i. i;
-    forgets = λ m node xid es ss i. record { stays = i.stays; were = sent_without node xid m.calls ss i.were; forms = i.forms };
+    forgets = λ m test es ss i. record { stays = i.stays; were = sent_kept test m.calls ss i.were; forms = i.forms };
     was = λ m es ss i. i.were;
     again = λ m s es ss i inside. push m.mirrors m.calls ss s (all_in IsAnswerForm ss s i.forms inside) i;
   }

@@ -157,7 +157,7 @@ module _ (w : ClusterState) (t : IsToldByNodes w) (few : length w.machines.clien
     pub seen_form : (past behind : List Entry) → w.journal ≡ past ++ behind → (input : MdsInput) (e : Entry) → IsShownAs Mds past (input_shown input) e → HearsInForm input
     seen_form past behind whole (Hears from bytes) (entry.Delivered number) shown = λ xid v is. form_of from bytes xid v (asked_by boots run past behind whole number from bytes xid v shown is) is
     seen_form past behind whole (Hears from bytes) e shown = absurd shown
-    seen_form past behind whole (IsTimedOut to) e shown = tt
+    seen_form past behind whole (IsTimedOut to which) e shown = tt
     seen_form past behind whole Ticks e shown = tt
     seen_form past behind whole (RecallsFile file) e shown = tt
     seen_form past behind whole (Resilvers file) e shown = tt
@@ -166,7 +166,7 @@ module _ (w : ClusterState) (t : IsToldByNodes w) (few : length w.machines.clien
 
 unseen_form : (input : MdsInput) → input_shown input ≡ IsUnseen → HearsInForm input
 unseen_form (Hears from bytes) is = absurd cc
-unseen_form (IsTimedOut to) is = tt
+unseen_form (IsTimedOut to which) is = tt
 unseen_form Ticks is = tt
 unseen_form (RecallsFile file) is = tt
 unseen_form (Resilvers file) is = tt

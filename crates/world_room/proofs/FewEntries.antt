@@ -59,14 +59,14 @@ heard_in m (e ∷ events) =
 
 unseen_brings : (input : MdsInput) → input_shown input ≡ IsUnseen → heard_with input ≡ 0
 unseen_brings (FromNode from bytes) is = absurd cc
-unseen_brings (IsTimedOut to) is = refl
+unseen_brings (IsTimedOut to which) is = refl
 unseen_brings Ticks is = refl
 unseen_brings (RecallsFile file) is = refl
 unseen_brings (Resilvers file) is = refl
 
 one_brought : (input : MdsInput) → heard_with input ≤ 1
 one_brought (FromNode from bytes) = omega arith
-one_brought (IsTimedOut to) = omega arith
+one_brought (IsTimedOut to which) = omega arith
 one_brought Ticks = omega arith
 one_brought (RecallsFile file) = omega arith
 one_brought (Resilvers file) = omega arith

@@ -95,9 +95,9 @@ receives now from Mds bytes m = mds_acts (λ s. takes_record now s from bytes) m
 receives now from (Server n) bytes m = server_acts n from bytes m
 receives now from (Client n) bytes m = client_acts n (client_recorded from bytes now) m
 
--- a call of one machine to another times out; a data server makes none
+-- a call of one machine to another times out, and of several the one that was sent first; a data server makes none
 abbrev pub times_out : ℕ → NodeId → NodeId → MachinesValue → Act
-times_out now Mds to m = mds_acts (λ s. takes_timeout now s to) m
+times_out now Mds to m = mds_acts (λ s. takes_timeout now s to None) m
 times_out now (Server n) to m = does_nothing m
 times_out now (Client n) to m = client_acts n (client_timed_out to) m
 
