@@ -1,0 +1,22 @@
+//! What holds of each step of a client.
+
+ghost use Rattle.client_state.specs.ClientStates.{ClientValue};
+ghost use Rattle.client_laws.specs.ClientHistory.{ClientInput};
+ghost use Rattle.client_progress.specs.Pace.{PacesInput};
+
+use client_calls::client_law;
+
+/// Whatever a client has and whatever comes to it, a record that went before goes out again only so (RFC 8881, section
+/// 2.10.6.2; RFC 5531, section 4):
+///
+/// - at a tick, the one compound that is outstanding, once;
+/// - for a timeout, once, under the number of the call that the timeout's entry names;
+/// - for a request of the user or a record that comes, none, and none where the client left the protocol.
+///
+/// So what is to be asked again later waits for a tick, and a node that is given no tick twice at one moment sends it
+/// once for each moment.
+pub fn pace_law()
+    ensures { (input : ClientInput) (c : ClientValue) → PacesInput input c }
+{
+    client_law();
+}

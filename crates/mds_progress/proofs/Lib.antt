@@ -1,0 +1,5 @@
+pub mod Kept
+pub mod CallsKeep
+pub mod Ticked
+pub mod Resent
+pub mod Awaits

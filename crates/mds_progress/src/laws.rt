@@ -1,0 +1,18 @@
+//! What holds of each tick of a metadata server.
+
+ghost use Rattle.std.specs.Prelude.{ℕ};
+ghost use Rattle.mds_rule.specs.MdsStates.{MdsValue};
+ghost use Rattle.mds_progress.specs.TickLaw.{AwaitsEach, SendsKept, TickKeepsNothing};
+
+/// Whatever a metadata server has, and whenever it is:
+///
+/// - while uids and names are left, no file keeps a call behind a tick: a fence's SETATTR, a CREATE, a COMMIT or a copy's
+///   READ that was kept behind its third timeout is outstanding again, with its counts at zero (RFC 8435, section 2.2);
+/// - the record of each that was kept, where it is among the calls that were sent, goes out in the tick, as it was sent
+///   (RFC 5531, section 9);
+/// - behind a tick each call that was sent and is not answered is awaited: what has ended leaves none.
+pub fn tick_law()
+    ensures keeps { (now : ℕ) (m : MdsValue) → TickKeepsNothing now m }
+    ensures sends { (now : ℕ) (m : MdsValue) → SendsKept now m }
+    ensures awaits { (now : ℕ) (m : MdsValue) → AwaitsEach now m }
+{}
