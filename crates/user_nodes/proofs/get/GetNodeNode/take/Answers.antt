@@ -1,10 +1,10 @@
 use Rattle.std.proofs.Common.{◌≡◌, ◌++◌, Result, Ok, Err, subst}
 use Rattle.rpc_record.specs.declared.stream.Failed.{Failed}
 use Rattle.ff_node.specs.Nodes.{event_at}
-use Rattle.ff_node.specs.Serve.{TookBeginning, WritesFor, behind}
+use Rattle.ff_node.specs.Serve.{TookBeginning, behind}
 use Rattle.user_nodes.specs.Users.{client_does, records_of}
 use Rattle.user_nodes.specs.declared.get.Seen.{Seen}
-use Rattle.user_nodes.specs.Gets.{GetValue, answered_bytes, get_does, goes_on_after, reads_next}
+use Rattle.user_nodes.specs.Gets.{GetValue, get_does, goes_on_after, reads_next}
 use Rattle.user_nodes.proofs.AskLemmas.{held_at_ok}
 use Rattle.user_nodes.proofs.GetLemmas.{step_fails, bytes_after, all_then_fails, state_after_step, sends_after_step}
 use Rattle.user_nodes.proofs.get.GetNodeNode.take.Goals as goal
