@@ -211,6 +211,35 @@ module _ (node : NodeId) (after : Option ℕ) where
       by_key true rest = by_node (is_node e.1.node node) rest
       by_key false rest = off (is_node e.1.node node) (Some e.1) (find IsNext (calls_of es)) ∙ rest
 
+module _ (after : Option ℕ) where
+  abbrev from_there : List (ℕ × AwaitedCall) → List (ℕ × AwaitedCall)
+  from_there es = entries_between nat_cmp (start_behind after) Unbounded es
+
+  abbrev IsPast : AwaitedCall → Bool
+  IsPast call = is_behind after call.xid
+
+  -- the first from there on is the first of the map's range
+  pub none_there : (es : List (ℕ × AwaitedCall)) → AtNumbers es → from_there es ≡ [] → find IsPast (calls_of es) ≡ None
+  none_there [] at none = refl
+  none_there (e ∷ es) at none =
+      ap (λ b. cond b (Some e.1) (find IsPast (calls_of es))) (sym (starts_there after e at.0))
+      ∙ by_key (is_from_start nat_cmp (start_behind after) e.0) none (none_there es at.1)
+    where
+      by_key : (b : Bool) → cond (b && true) (e ∷ from_there es) (from_there es) ≡ [] → (from_there es ≡ [] → find IsPast (calls_of es) ≡ None) → cond b (Some e.1) (find IsPast (calls_of es)) ≡ None
+      by_key true is rest = absurd cc
+      by_key false is rest = rest is
+
+  pub first_there : (first : ℕ × AwaitedCall) (others es : List (ℕ × AwaitedCall)) → AtNumbers es → from_there es ≡ first ∷ others → find IsPast (calls_of es) ≡ Some first.1
+  first_there first others [] at is = absurd cc
+  first_there first others (e ∷ es) at is =
+      ap (λ b. cond b (Some e.1) (find IsPast (calls_of es))) (sym (starts_there after e at.0))
+      ∙ by_key (is_from_start nat_cmp (start_behind after) e.0) is (first_there first others es at.1)
+    where
+      by_key : (b : Bool) → cond (b && true) (e ∷ from_there es) (from_there es) ≡ first ∷ others → (from_there es ≡ first ∷ others → find IsPast (calls_of es) ≡ Some first.1)
+          → cond b (Some e.1) (find IsPast (calls_of es)) ≡ Some first.1
+      by_key true its rest = let same : e ≡ first = cc in ap (λ (x : ℕ × AwaitedCall). Some x.1) same
+      by_key false its rest = rest its
+
 -- ---- the order of the calls is that of the numbers at which they stand
 
 numbers_are : (entries : List (ℕ × AwaitedCall)) → AtNumbers entries → keys_of entries ≡ map (λ (c : AwaitedCall). c.xid) (calls_of entries)

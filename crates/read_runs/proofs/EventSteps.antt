@@ -35,7 +35,7 @@ use Rattle.mds_histories.proofs.Histories.{sends_joined}
 use Rattle.read_runs.specs.ReadRuns.{HearsInForm, AreInForm, ReadsInForm, EachReadIsAnswered}
 use Rattle.read_runs.proofs.Answered.{AreRight, right_at}
 use Rattle.read_runs.proofs.Holding.{Holds, holds_still, holds_replied, holds_again, holds_forget}
-use Rattle.read_runs.proofs.Steps.{KeepsAt, Keeps, Silent, Mute, items_in, same, enters_keeps_at, silent_then, silent_none, silent_same, silent_keeps, becomes_silent, silent_first, mute_keeps, last_at, mute_last_at, mute_last}
+use Rattle.read_runs.proofs.Steps.{KeepsAt, Keeps, Silent, Mute, items_in, same, enters_keeps_at, silent_then, silent_none, silent_same, silent_keeps, becomes_silent, silent_first, mute_keeps, last_at, mute_last_at, mute_last, mute_none}
 use Rattle.read_runs.proofs.ServedSteps.{takes, asks, client_ends}
 use Rattle.read_runs.proofs.CompoundSteps.{compound_step, timeout_step}
 use Rattle.read_runs.proofs.ReadCompounds.{reads_step}
