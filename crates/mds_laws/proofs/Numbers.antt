@@ -6,7 +6,6 @@ use Rattle.std.proofs.lemmas.Bool.{cond_both}
 use Rattle.std.proofs.lemmas.Bool.Decides.{nat_tests}
 use Rattle.std.proofs.lemmas.Option.{same_Some, none-some}
 use Rattle.device_addr.specs.Universal.{AddressValue}
-use Rattle.cluster_model.specs.declared.ids.NodeId.{NodeId}
 use Rattle.cluster_model.specs.declared.ids.NodeId.TheVariants.{Server}
 use Rattle.cluster_model.specs.declared.ids.FileId.{FileId}
 use Rattle.cluster_model.specs.declared.entry.Entry.{Entry}
