@@ -5,12 +5,10 @@ use Rattle.std.specs.List.{position, position_from}
 use Rattle.std.proofs.lemmas.Iterator.Adapters.{position_from-zero}
 use Rattle.std.proofs.lemmas.Option.{same_Some, slice_get_read}
 use Rattle.std.proofs.lemmas.Bool.{cases_lt, eq-eqb, eqb-true, and_from}
-use Rattle.record_link.specs.Messages.{is_reply_record}
 use Rattle.cluster_model.specs.declared.ids.NodeId.{NodeId}
 use Rattle.cluster_model.specs.declared.ids.NodeId.TheVariants.{Mds, Server, Client}
 use Rattle.cluster_model.specs.Nodes.{is_node}
-use Rattle.node_link.specs.declared.callee.Callee.{Callee}
-use Rattle.node_link.specs.Callees.{callee_in, new_callee, with_heard, told, due_of, sooner_of, is_connected_to, IsFrom, IsDueOrLast, HasNoEntry, AreOnce, SetsCallee}
+use Rattle.node_link.specs.Callees.{callee_in, own_connection, is_connected_to, IsFrom, HasNoEntry, AreOnce, SetsCallee}
 
 -- ---- nodes
 
@@ -42,20 +40,12 @@ differs_back a b other = by_test (is_node b a) refl
 
 -- ---- lists
 
-pub no_entry : (node : NodeId) (xs : List (NodeId × Callee)) → HasNoEntry node xs → callee_in xs node ≡ new_callee node
+pub no_entry : (node : NodeId) (xs : List (NodeId × ℕ)) → HasNoEntry node xs → callee_in xs node ≡ own_connection node
 no_entry node [] none = refl
 no_entry node (x ∷ xs) none = rw none.0 (no_entry node xs none.1)
 
--- where it is waited for as before, nothing changes
-pub unchanged : (node : NodeId) (callee : Callee) (xs : List (NodeId × Callee)) → callee_in xs node ≡ callee → SetsCallee node callee xs xs
-unchanged node callee xs is other = by_test (is_node node other) refl
-  where
-    by_test : (t : Bool) → is_node node other ≡ t → callee_in xs other ≡ cond t callee (callee_in xs other)
-    by_test true same = ap (callee_in xs) (sym (is_one node other same)) ∙ is
-    by_test false differs = refl
-
 -- an entry of another node stands before
-past : (x : NodeId × Callee) (node other : NodeId) (callee new old : Callee) → is_node x.0 node ≡ false → new ≡ cond (is_node node other) callee old
+past : (x : NodeId × ℕ) (node other : NodeId) (callee new old : ℕ) → is_node x.0 node ≡ false → new ≡ cond (is_node node other) callee old
     → cond (is_node x.0 other) x.1 new ≡ cond (is_node node other) callee (cond (is_node x.0 other) x.1 old)
 past x node other callee new old fails rest = by_tests (is_node x.0 other) (is_node node other) refl refl rest
   where
@@ -66,37 +56,34 @@ past x node other callee new old fails rest = by_tests (is_node x.0 other) (is_n
 
 -- ---- one more
 
-pub pushed_sets : (node : NodeId) (callee : Callee) (xs : List (NodeId × Callee)) → HasNoEntry node xs → SetsCallee node callee xs (xs ++ (node, callee) ∷ [])
+pub pushed_sets : (node : NodeId) (callee : ℕ) (xs : List (NodeId × ℕ)) → HasNoEntry node xs → SetsCallee node callee xs (xs ++ (node, callee) ∷ [])
 pushed_sets node callee [] none other = refl
 pushed_sets node callee (x ∷ xs) none other = past x node other callee (callee_in (xs ++ (node, callee) ∷ []) other) (callee_in xs other) none.0 (pushed_sets node callee xs none.1 other)
 
-pushed_none : (node other : NodeId) (callee : Callee) (xs : List (NodeId × Callee)) → is_node node other ≡ false → HasNoEntry other xs → HasNoEntry other (xs ++ (node, callee) ∷ [])
+pushed_none : (node other : NodeId) (callee : ℕ) (xs : List (NodeId × ℕ)) → is_node node other ≡ false → HasNoEntry other xs → HasNoEntry other (xs ++ (node, callee) ∷ [])
 pushed_none node other callee [] differs none = (differs, tt)
 pushed_none node other callee (x ∷ xs) differs none = (none.0, pushed_none node other callee xs differs none.1)
 
-pub pushed_once : (node : NodeId) (callee : Callee) (xs : List (NodeId × Callee)) → HasNoEntry node xs → AreOnce xs → AreOnce (xs ++ (node, callee) ∷ [])
+pub pushed_once : (node : NodeId) (callee : ℕ) (xs : List (NodeId × ℕ)) → HasNoEntry node xs → AreOnce xs → AreOnce (xs ++ (node, callee) ∷ [])
 pushed_once node callee [] none once = (tt, tt)
 pushed_once node callee (x ∷ xs) none once = (pushed_none node x.0 callee xs (differs_back x.0 node none.0) once.0, pushed_once node callee xs none.1 once.1)
 
 -- ---- where the entry of a node stands
 
-abbrev pub is_of : NodeId → NodeId × Callee → Bool
+abbrev pub is_of : NodeId → NodeId × ℕ → Bool
 is_of node entry = is_node entry.0 node
 
-pub record IsPlaceOf (node : NodeId) (xs : List (NodeId × Callee)) (place : ℕ) : Type 0 where
-  pub item : NodeId × Callee
+pub record IsPlaceOf (node : NodeId) (xs : List (NodeId × ℕ)) (place : ℕ) : Type 0 where
+  pub item : NodeId × ℕ
   pub within : place < length xs
   pub at : slice_get xs place ≡ Some item
   pub reads : callee_in xs node ≡ item.1
-  pub sets : (callee : Callee) → SetsCallee node callee xs (set xs place (node, callee))
-  pub set_none : (callee : Callee) (other : NodeId) → HasNoEntry other xs → HasNoEntry other (set xs place (node, callee))
-  pub set_once : (callee : Callee) → AreOnce xs → AreOnce (set xs place (node, callee))
-  pub removes : AreOnce xs → SetsCallee node (new_callee node) xs (remove xs place)
-  pub removed_none : (other : NodeId) → HasNoEntry other xs → HasNoEntry other (remove xs place)
-  pub removed_once : AreOnce xs → AreOnce (remove xs place)
+  pub sets : (callee : ℕ) → SetsCallee node callee xs (set xs place (node, callee))
+  pub set_none : (callee : ℕ) (other : NodeId) → HasNoEntry other xs → HasNoEntry other (set xs place (node, callee))
+  pub set_once : (callee : ℕ) → AreOnce xs → AreOnce (set xs place (node, callee))
 
 module _ (node : NodeId) where
-  here : (x : NodeId × Callee) (xs : List (NodeId × Callee)) → is_node x.0 node ≡ true → IsPlaceOf node (x ∷ xs) 0
+  here : (x : NodeId × ℕ) (xs : List (NodeId × ℕ)) → is_node x.0 node ≡ true → IsPlaceOf node (x ∷ xs) 0
   here x xs passes = record {
     item = x;
     within = omega arith;
@@ -107,25 +94,16 @@ module _ (node : NodeId) where
         (sym same) (covered (is_node node other) callee (callee_in xs other));
     set_none = λ callee other none. (subst (λ n. is_node n other ≡ false) same none.0, none.1);
     set_once = λ callee once. (subst (λ n. HasNoEntry n xs) same once.0, once.1);
-    removes = λ once other. subst
-        (λ n. callee_in xs other ≡ cond (is_node node other) (new_callee node) (cond (is_node n other) x.1 (callee_in xs other)))
-        (sym same) (uncovered other (subst (λ n. HasNoEntry n xs) same once.0) (is_node node other) refl);
-    removed_none = λ other none. none.1;
-    removed_once = λ once. once.1;
   }
     where
       same : x.0 ≡ node
       same = is_one x.0 node passes
 
-      covered : (t : Bool) (callee rest : Callee) → cond t callee rest ≡ cond t callee (cond t x.1 rest)
+      covered : (t : Bool) (callee rest : ℕ) → cond t callee rest ≡ cond t callee (cond t x.1 rest)
       covered true callee rest = refl
       covered false callee rest = refl
 
-      uncovered : (other : NodeId) → HasNoEntry node xs → (t : Bool) → is_node node other ≡ t → callee_in xs other ≡ cond t (new_callee node) (cond t x.1 (callee_in xs other))
-      uncovered other none true is = ap (callee_in xs) (sym (is_one node other is)) ∙ no_entry node xs none
-      uncovered other none false is = refl
-
-  behind : (x : NodeId × Callee) (xs : List (NodeId × Callee)) (k : ℕ) → is_node x.0 node ≡ false → IsPlaceOf node xs k → IsPlaceOf node (x ∷ xs) (suc k)
+  behind : (x : NodeId × ℕ) (xs : List (NodeId × ℕ)) (k : ℕ) → is_node x.0 node ≡ false → IsPlaceOf node xs k → IsPlaceOf node (x ∷ xs) (suc k)
   behind x xs k fails there = record {
     item = there.item;
     within = let within = there.within in omega arith;
@@ -134,12 +112,9 @@ module _ (node : NodeId) where
     sets = λ callee other. past x node other callee (callee_in (set xs k (node, callee)) other) (callee_in xs other) fails (there.sets callee other);
     set_none = λ callee other none. (none.0, there.set_none callee other none.1);
     set_once = λ callee once. (there.set_none callee x.0 once.0, there.set_once callee once.1);
-    removes = λ once other. past x node other (new_callee node) (callee_in (remove xs k) other) (callee_in xs other) fails (there.removes once.1 other);
-    removed_none = λ other none. (none.0, there.removed_none other none.1);
-    removed_once = λ once. (there.removed_none x.0 once.0, there.removed_once once.1);
   }
 
-  found_from : (xs : List (NodeId × Callee)) (i place : ℕ) → position_from (is_of node) i xs ≡ Some place → (k : ℕ) × (place ≡ i + k) × IsPlaceOf node xs k
+  found_from : (xs : List (NodeId × ℕ)) (i place : ℕ) → position_from (is_of node) i xs ≡ Some place → (k : ℕ) × (place ≡ i + k) × IsPlaceOf node xs k
   found_from [] i place is = absurd (cc (is))
   found_from (x ∷ xs) i place is = by_case (is_node x.0 node) refl is (found_from xs (i + 1) place)
     where
@@ -149,7 +124,7 @@ module _ (node : NodeId) where
       by_case true passes is rest = let same : i ≡ place = same_Some i place is in (0, omega arith, here x xs passes)
       by_case false fails is rest = let r = rest is in let at = r.1 in (suc r.0, omega arith, behind x xs r.0 fails r.2)
 
-  missing_from : (xs : List (NodeId × Callee)) (i : ℕ) → position_from (is_of node) i xs ≡ None → HasNoEntry node xs
+  missing_from : (xs : List (NodeId × ℕ)) (i : ℕ) → position_from (is_of node) i xs ≡ None → HasNoEntry node xs
   missing_from [] i is = tt
   missing_from (x ∷ xs) i is = by_case (is_node x.0 node) refl is (missing_from xs (i + 1))
     where
@@ -158,39 +133,39 @@ module _ (node : NodeId) where
       by_case true passes is rest = absurd (cc (is))
       by_case false fails is rest = (fails, rest is)
 
-  pub found : (xs : List (NodeId × Callee)) (place : ℕ) → position (is_of node) xs ≡ Some place → IsPlaceOf node xs place
+  pub found : (xs : List (NodeId × ℕ)) (place : ℕ) → position (is_of node) xs ≡ Some place → IsPlaceOf node xs place
   found xs place is =
       let r = found_from xs 0 place (sym (position_from-zero (is_of node) xs) ∙ is) in
       let at = r.1 in
       let same : r.0 ≡ place = omega arith in
       subst (λ k. IsPlaceOf node xs k) same r.2
 
-  pub missing : (xs : List (NodeId × Callee)) → position (is_of node) xs ≡ None → HasNoEntry node xs
+  pub missing : (xs : List (NodeId × ℕ)) → position (is_of node) xs ≡ None → HasNoEntry node xs
   missing xs is = missing_from xs 0 (sym (position_from-zero (is_of node) xs) ∙ is)
 
   -- what is read there
-  pub reads_there : (xs : List (NodeId × Callee)) (place : ℕ) (x : NodeId × Callee) → IsPlaceOf node xs place → x ≡ get_or xs place x → x.1 ≡ callee_in xs node
+  pub reads_there : (xs : List (NodeId × ℕ)) (place : ℕ) (x : NodeId × ℕ) → IsPlaceOf node xs place → x ≡ get_or xs place x → x.1 ≡ callee_in xs node
   reads_there xs place x there read =
-      ap (λ (e : NodeId × Callee). e.1) (same_Some x there.item (sym (slice_get_read xs (length xs) place x refl there.within read) ∙ there.at)) ∙ sym there.reads
+      ap (λ (e : NodeId × ℕ). e.1) (same_Some x there.item (sym (slice_get_read xs (length xs) place x refl there.within read) ∙ there.at)) ∙ sym there.reads
 
 -- ---- entry by entry
 
-none_at : (node : NodeId) (xs : List (NodeId × Callee)) (k : ℕ) (x : NodeId × Callee) → HasNoEntry node xs → slice_get xs k ≡ Some x → is_node x.0 node ≡ false
+none_at : (node : NodeId) (xs : List (NodeId × ℕ)) (k : ℕ) (x : NodeId × ℕ) → HasNoEntry node xs → slice_get xs k ≡ Some x → is_node x.0 node ≡ false
 none_at node [] k x none at = absurd (cc)
-none_at node (y ∷ ys) zero x none at = ap (λ (e : NodeId × Callee). is_node e.0 node) (sym (same_Some y x at)) ∙ none.0
+none_at node (y ∷ ys) zero x none at = ap (λ (e : NodeId × ℕ). is_node e.0 node) (sym (same_Some y x at)) ∙ none.0
 none_at node (y ∷ ys) (suc k) x none at = none_at node ys k x none.1 at
 
--- each entry is what is waited for from its node
-pub at_place : (xs : List (NodeId × Callee)) (k : ℕ) (x : NodeId × Callee) → AreOnce xs → slice_get xs k ≡ Some x → callee_in xs x.0 ≡ x.1
+-- each entry has the connection of its node
+pub at_place : (xs : List (NodeId × ℕ)) (k : ℕ) (x : NodeId × ℕ) → AreOnce xs → slice_get xs k ≡ Some x → callee_in xs x.0 ≡ x.1
 at_place [] k x once at = absurd (cc)
-at_place (y ∷ ys) zero x once at = subst (λ (e : NodeId × Callee). callee_in (y ∷ ys) e.0 ≡ e.1) (same_Some y x at) (rw (is_itself y.0) refl)
+at_place (y ∷ ys) zero x once at = subst (λ (e : NodeId × ℕ). callee_in (y ∷ ys) e.0 ≡ e.1) (same_Some y x at) (rw (is_itself y.0) refl)
 at_place (y ∷ ys) (suc k) x once at = rw (differs_back x.0 y.0 (none_at y.0 ys k x once.0 at)) (at_place ys k x once.1 at)
 
 -- so it is with each entry before a place
-abbrev pub Before : (NodeId × Callee → Type 0) → List (NodeId × Callee) → ℕ → Type 0
-Before P xs n = (k : ℕ) → k < n → (x : NodeId × Callee) → slice_get xs k ≡ Some x → P x
+abbrev pub Before : (NodeId × ℕ → Type 0) → List (NodeId × ℕ) → ℕ → Type 0
+Before P xs n = (k : ℕ) → k < n → (x : NodeId × ℕ) → slice_get xs k ≡ Some x → P x
 
-pub one_further : (P : NodeId × Callee → Type 0) (xs : List (NodeId × Callee)) (n : ℕ) (y : NodeId × Callee) → slice_get xs n ≡ Some y → P y → Before P xs n → Before P xs (n + 1)
+pub one_further : (P : NodeId × ℕ → Type 0) (xs : List (NodeId × ℕ)) (n : ℕ) (y : NodeId × ℕ) → slice_get xs n ≡ Some y → P y → Before P xs n → Before P xs (n + 1)
 one_further P xs n y at is before k below x there = by_case (cases_lt k n)
   where
     by_case : (k < n) ⊎ (n ≤ k) → P x
@@ -200,7 +175,7 @@ one_further P xs n y at is before k below x there = by_case (cases_lt k n)
         subst P (same_Some y x (sym at ∙ ap (slice_get xs) (sym same) ∙ there)) is
 
 -- what holds of each entry, and of a node that has none, holds of all nodes
-pub of_each : (Q : NodeId → Callee → Type 0) (xs : List (NodeId × Callee)) → ((node : NodeId) → Q node (new_callee node)) → Before (λ x. Q x.0 x.1) xs (length xs) → (node : NodeId) → Q node (callee_in xs node)
+pub of_each : (Q : NodeId → ℕ → Type 0) (xs : List (NodeId × ℕ)) → ((node : NodeId) → Q node (own_connection node)) → Before (λ x. Q x.0 x.1) xs (length xs) → (node : NodeId) → Q node (callee_in xs node)
 of_each Q [] fresh each node = fresh node
 of_each Q (x ∷ xs) fresh each node = by_test (is_node x.0 node) refl (of_each Q xs fresh (λ k below y at. each (suc k) (omega arith) y at) node)
   where
@@ -210,81 +185,35 @@ of_each Q (x ∷ xs) fresh each node = by_test (is_node x.0 node) refl (of_each 
 
 -- ---- the turns of a loop
 
-read_at : (xs : List (NodeId × Callee)) (n : ℕ) (d : NodeId × Callee) → n < length xs → slice_get xs n ≡ Some (get_or xs n d)
+read_at : (xs : List (NodeId × ℕ)) (n : ℕ) (d : NodeId × ℕ) → n < length xs → slice_get xs n ≡ Some (get_or xs n d)
 read_at [] n d below = absurd (omega arith)
 read_at (x ∷ xs) zero d below = refl
 read_at (x ∷ xs) (suc n) d below = read_at xs n d (omega arith)
 
-module _ (xs ys : List (NodeId × Callee)) (n : ℕ) (same : ys ≡ xs) where
-  read_so : (d : NodeId × Callee) → n < length ys → slice_get xs n ≡ Some (get_or ys n d)
+module _ (xs ys : List (NodeId × ℕ)) (n : ℕ) (same : ys ≡ xs) where
+  read_so : (d : NodeId × ℕ) → n < length ys → slice_get xs n ≡ Some (get_or ys n d)
   read_so d below = subst (λ l. slice_get l n ≡ Some (get_or ys n d)) same (read_at ys n d below)
 
-  pub turn : (P : NodeId × Callee → Type 0) (d : NodeId × Callee) → n < length ys → P (get_or ys n d) → Before P xs n → Before P xs (n + 1)
+  pub turn : (P : NodeId × ℕ → Type 0) (d : NodeId × ℕ) → n < length ys → P (get_or ys n d) → Before P xs n → Before P xs (n + 1)
   turn P d below is before = one_further P xs n (get_or ys n d) (read_so d below) is before
 
-  pub its_own : (d : NodeId × Callee) → n < length ys → AreOnce xs → callee_in xs (get_or ys n d).0 ≡ (get_or ys n d).1
+  pub its_own : (d : NodeId × ℕ) → n < length ys → AreOnce xs → callee_in xs (get_or ys n d).0 ≡ (get_or ys n d).1
   its_own d below once = at_place xs n (get_or ys n d) once (read_so d below)
 
-  pub all_of : (Q : NodeId → Callee → Type 0) → length ys ≤ n → ((node : NodeId) → Q node (new_callee node)) → Before (λ x. Q x.0 x.1) xs n → (node : NodeId) → Q node (callee_in xs node)
+  pub all_of : (Q : NodeId → ℕ → Type 0) → length ys ≤ n → ((node : NodeId) → Q node (own_connection node)) → Before (λ x. Q x.0 x.1) xs n → (node : NodeId) → Q node (callee_in xs node)
   all_of Q end fresh each = of_each Q xs fresh (λ k below x at. each k (omega (arith, ap length same)) x at)
-
--- ---- when something is given up first
-
--- nothing of it is to be given up before this moment
-abbrev pub NoneBefore : ℕ → NodeId × Callee → Type 0
-NoneBefore moment x = (due : ℕ) → due_of x.1 ≡ Some due → moment ≤ due
-
-below_sooner : (moment : ℕ) (due : Option ℕ) → sooner_of moment due ≤ moment
-below_sooner moment None = omega arith
-below_sooner moment (Some due) = omega arith
-
-sooner_first : (moment due : ℕ) (first : Option ℕ) → first ≡ Some due → sooner_of moment first ≤ due
-sooner_first moment due None is = absurd cc
-sooner_first moment due (Some first) is = let same : first ≡ due = same_Some first due is in omega arith
-
-sooner_due : (xs : List (NodeId × Callee)) (node : NodeId) (moment : ℕ) (due : Option ℕ) → due_of (callee_in xs node) ≡ due → IsDueOrLast xs moment → IsDueOrLast xs (sooner_of moment due)
-sooner_due xs node moment None is last = last
-sooner_due xs node moment (Some due) is last = by_case (cases_lt moment due)
-  where
-    by_case : (moment < due) ⊎ (due ≤ moment) → IsDueOrLast xs (min moment due)
-    by_case (inl less) = let same : moment ≡ min moment due = omega arith in subst (IsDueOrLast xs) same last
-    by_case (inr more) = let same : due ≡ min moment due = omega arith in inl (node, is ∙ ap Some same)
-
-module _ (xs ys : List (NodeId × Callee)) (n : ℕ) (same : ys ≡ xs) where
-  -- the turn at the next entry
-  pub sooner_turn : (moment moment' : ℕ) (d : NodeId × Callee) → n < length ys → AreOnce xs → moment' ≡ sooner_of moment (due_of (get_or ys n d).1) → Before (NoneBefore moment) xs n × IsDueOrLast xs moment
-      → Before (NoneBefore moment') xs (n + 1) × IsDueOrLast xs moment'
-  sooner_turn moment moment' d below once is (before, last) =
-      let due : Option ℕ = due_of (get_or ys n d).1 in
-      let less : moment' ≤ moment = omega (arith, is, below_sooner moment due) in (
-        turn xs ys n same (NoneBefore moment') d below (λ first its. omega (arith, is, sooner_first moment first due its)) (λ k further x at first its. omega (arith, less, before k further x at first its)),
-        subst (IsDueOrLast xs) (sym is) (sooner_due xs (get_or ys n d).0 moment due (ap due_of (its_own xs ys n same d below once)) last),
-      )
 
 -- ---- which node a record is from
 
-pub from_made : (number : ℕ) (xs : List (NodeId × Callee)) (node : NodeId) (callee : Callee) → callee_in xs node ≡ callee → (is_connected_to node && callee.connection == number) ≡ true → IsFrom number xs node
-from_made number xs Mds callee its is = ap (λ (c : Callee). c.connection) its ∙ eqb-true callee.connection number is
-from_made number xs (Server k) callee its is = ap (λ (c : Callee). c.connection) its ∙ eqb-true callee.connection number is
+pub from_made : (number : ℕ) (xs : List (NodeId × ℕ)) (node : NodeId) (callee : ℕ) → callee_in xs node ≡ callee → (is_connected_to node && callee == number) ≡ true → IsFrom number xs node
+from_made number xs Mds callee its is = its ∙ eqb-true callee number is
+from_made number xs (Server k) callee its is = its ∙ eqb-true callee number is
 from_made number xs (Client k) callee its is = absurd cc
 
-pub new_made : (number : ℕ) (node : NodeId) → is_connected_to node ≡ true → (new_callee node).connection ≡ number → number ≡ 0
+pub new_made : (number : ℕ) (node : NodeId) → is_connected_to node ≡ true → own_connection node ≡ number → number ≡ 0
 new_made number Mds made is = sym is
 new_made number (Server k) made is = sym is
 new_made number (Client k) made is = absurd cc
 
-pub not_made_as : (number : ℕ) (node : NodeId) (callee : Callee) → (is_connected_to node && callee.connection == number) ≡ false → is_connected_to node ≡ true → callee.connection ≡ number → number ≡ 0
-not_made_as number node callee differs made is = absurd (not_both (and_from (is_connected_to node) (callee.connection == number) made (eq-eqb callee.connection number is)) differs)
-
--- ---- where nothing was waited for, nothing is
-
-pub heard_new : (message : List ℕ) (now : ℕ) (node : NodeId) → with_heard message now (new_callee node) ≡ new_callee node
-heard_new message now node = by_kind (is_reply_record message) refl
-  where
-    by_kind : (b : Bool) → is_reply_record message ≡ b → with_heard message now (new_callee node) ≡ new_callee node
-    by_kind true is = rw is refl
-    by_kind false is = rw is refl
-
-pub told_new : (is_open : Bool) (now : ℕ) (node : NodeId) → told is_open now (new_callee node) ≡ new_callee node
-told_new true now node = refl
-told_new false now node = refl
+pub not_made_as : (number : ℕ) (node : NodeId) (callee : ℕ) → (is_connected_to node && callee == number) ≡ false → is_connected_to node ≡ true → callee ≡ number → number ≡ 0
+not_made_as number node callee differs made is = absurd (not_both (and_from (is_connected_to node) (callee == number) made (eq-eqb callee number is)) differs)

@@ -1,2 +1,4 @@
 mod CalleeLemmas
+mod CountLemmas
 mod LinkLemmas
+mod TakeOutLemmas

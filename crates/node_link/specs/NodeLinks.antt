@@ -1,6 +1,7 @@
--- The link of a node over a network: which node is on which connection, and when a call is given up.
-use Rattle.std.specs.Prelude.{⊤, ◌≡◌, ◌⊎◌, ℕ, ◌+◌, ◌-◌, ◌^◌, ◌<◌, ◌≤◌, min, Bool, true, false, if◌then◌else◌, List, Option, Some, None, Result, Ok, Err}
+-- The link of a node over a network: which node is on which connection, when a call is given up, and when time passes.
+use Rattle.std.specs.Prelude.{⊤, ◌≡◌, ◌⊎◌, ℕ, min, Bool, true, false, List, [], Option, Some, None, Result, Ok, Err}
 use Rattle.ff_xdr.specs.declared.error.NoMemory.{NoMemory}
+use Rattle.rpc_record.specs.Calls.{word_of}
 use Rattle.rpc_record.specs.declared.stream.Failed.{Failed}
 use Rattle.rpc_record.specs.declared.stream.Failed.TheVariants as failed
 use Rattle.cluster_model.specs.declared.ids.NodeId.{NodeId}
@@ -12,109 +13,95 @@ use Rattle.device_addr.specs.declared.net_addr.NetAddr.{NetAddr}
 use Rattle.node_config.specs.declared.config.Config.{Config}
 use Rattle.node_link.specs.Link.{address_numbered}
 use Rattle.node_link.specs.declared.link.Arrival.{Arrival}
-use Rattle.node_link.specs.declared.link.Arrival.TheVariants.{Record, TimedOut, Closed}
+use Rattle.node_link.specs.declared.link.Arrival.TheVariants.{Record, TimedOut, Quiet, Closed}
 use Rattle.node_link.specs.declared.link.Opening.{Opening}
-use Rattle.node_link.specs.declared.link.Role.TheVariants as role
 use Rattle.node_link.specs.declared.link.Role.{Role}
-use Rattle.node_link.specs.declared.callee.Callee.{Callee}
-use Rattle.node_link.specs.declared.network_link.TheConstants.{QUIET_LIMIT}
-use Rattle.node_link.specs.Callees.{CalleesValue, callee_in, new_callee, with_called, with_heard, rewired, unreached, told, is_late, SetsCallee, IsFrom, IsEarliest}
+use Rattle.node_link.specs.declared.silence.Silence.{Silence}
+use Rattle.node_link.specs.Callees.{CalleesValue, AreSame, callee_in, own_connection, SetsCallee, IsFrom}
+use Rattle.node_link.specs.LinkCalls.{LinkCallsValue, no_link_calls, is_read_to, answered_number, call_over, earliest}
+use Rattle.node_link.specs.LinkMoves.{LinkMove, GoesOut, ComesIn, EndsCall, DoesMove}
+use Rattle.node_link.specs.Silence.{first_pause, new_silence, silence_end, is_silence_over, with_record, with_timeout, with_quiet}
 
--- What it was opened with; where the metadata server and the data servers listen; its connections, where it is open; what is waited for
--- from other nodes; when the last arrival was given, in milliseconds; and how many calls have met a fault.
+-- What it was opened with; where the metadata server and the data servers listen; its connections, where it is open; on which of them each node
+-- is called; its calls that got no answer yet; how long it bears that nothing comes; and how many calls have met a fault.
 pub record LinkState : Type 0 where
   pub opened : Option Opening
   pub mds : Option NetAddr
   pub servers : List NetAddr
   pub server : Option ServingState
   pub callees : CalleesValue
-  pub quiet : ℕ
+  pub calls : LinkCallsValue
+  pub silence : Silence
   pub faults : ℕ
 
 -- ---- opening
 
+-- no connection was made
 abbrev pub AreNew : CalleesValue → Type 0
-AreNew callees = (node : NodeId) → callee_in callees node ≡ new_callee node
+AreNew callees = (node : NodeId) → callee_in callees node ≡ own_connection node
 
--- It has no connection, and waits for nothing; other nodes are where the configuration says. Or it is as it was, but for its count of faults.
-abbrev pub OpensNetwork : Config → LinkState → Result (Unit {0}) Failed → LinkState → Type 0
-OpensNetwork config old (Ok x) new =
-    (new.mds ≡ Some config.mds) × (new.servers ≡ config.servers.items) × AreNew new.callees × (new.quiet ≡ 0)
+-- It has no connection and no call, and no time has passed; other nodes are where the configuration says. Or it is as it was, but for its count
+-- of faults.
+abbrev pub OpensNetwork : Config → Role → LinkState → Result (Unit {0}) Failed → LinkState → Type 0
+OpensNetwork config role old (Ok x) new =
+    (new.mds ≡ Some config.mds) × (new.servers ≡ config.servers.items) × AreNew new.callees × (new.calls ≡ no_link_calls) × (new.silence ≡ new_silence (first_pause role))
     × ((waiting : Waiting) × (made : Made) × (reported : List ℕ) × (moment : ℕ) × (faults : ℕ) × (new.server ≡ Some (no_connections waiting made reported moment faults)))
-OpensNetwork config old (Err e) new = new ≡ record old { faults = new.faults }
+OpensNetwork config role old (Err e) new = new ≡ record old { faults = new.faults }
 
 -- ---- what comes
 
-abbrev pub is_client_role : Role → Bool
-is_client_role role.Mds = false
-is_client_role role.Server = false
-is_client_role role.Client = true
+-- until when a record is waited for: up to the moment at which something is given up, and no longer than it is borne that nothing comes
+abbrev pub wait_end : ℕ → LinkCallsValue → Silence → ℕ
+wait_end now calls silence = min (earliest now calls) (silence_end silence)
 
-abbrev pub is_client_link : Option Opening → Bool
-is_client_link None = false
-is_client_link (Some opening) = is_client_role opening.role
+-- Nothing was to be given up before, and this came of the wait for a record.
+abbrev pub Waits : LinkState → ServingState → Result (Option (ℕ × List ℕ)) Failed → ServingState → Type 0
+Waits l s result s' = (call_over s.time l.calls ≡ None) × GivesRecord (wait_end s.time l.calls l.silence) s result s'
 
--- until when a client bears that nothing comes
-abbrev pub quiet_end : LinkState → ℕ
-quiet_end s = min (s.quiet + QUIET_LIMIT) (2 ^ 64 - 1)
+-- nothing is to be given up by this moment, and all is as it was; or a call is given up
+abbrev pub GivesUp : ℕ → LinkCallsValue → Silence → Option Arrival → LinkCallsValue → Silence → Type 0
+GivesUp now calls silence None calls' silence' = (call_over now calls ≡ None) × (calls' ≡ calls) × (silence' ≡ silence)
+GivesUp now calls silence (Some (TimedOut node xid)) calls' silence' = DoesMove (EndsCall now node xid) calls calls' × (silence' ≡ with_timeout now silence)
+GivesUp now calls silence (Some (Record from bytes)) calls' silence' = ⊥
+GivesUp now calls silence (Some Quiet) calls' silence' = ⊥
+GivesUp now calls silence (Some Closed) calls' silence' = ⊥
 
--- until when a record is waited for: up to the moment at which something is given up, and at a client no longer than it bears that nothing comes
-abbrev pub WaitsUntil : LinkState → ℕ → Type 0
-WaitsUntil s until = (earliest : ℕ) × IsEarliest s.callees earliest × (until ≡ (if is_client_link s.opened then min earliest (quiet_end s) else earliest))
+-- What comes where no record did: a call is given up; or none is to be, and time passes, or it is not yet to be told that.
+abbrev pub EndsWait : ℕ → LinkCallsValue → Silence → Arrival → LinkCallsValue → Silence → Type 0
+EndsWait now calls silence (TimedOut node xid) calls' silence' = GivesUp now calls silence (Some (TimedOut node xid)) calls' silence'
+EndsWait now calls silence Quiet calls' silence' = (call_over now calls ≡ None) × (is_silence_over now silence ≡ true) × (calls' ≡ calls) × (silence' ≡ with_quiet now silence)
+EndsWait now calls silence Closed calls' silence' = (call_over now calls ≡ None) × (is_silence_over now silence ≡ false) × (calls' ≡ calls) × (silence' ≡ silence)
+EndsWait now calls silence (Record from bytes) calls' silence' = ⊥
 
-abbrev pub AreSame : CalleesValue → CalleesValue → Type 0
-AreSame old new = (node : NodeId) → callee_in new node ≡ callee_in old node
+-- its calls and how long it bears silence are as they were
+abbrev pub IsAsBefore : LinkState → LinkState → Type 0
+IsAsBefore old new = (new.calls ≡ old.calls) × (new.silence ≡ old.silence)
 
--- nothing is given up by this moment
-abbrev pub NoneIsLate : ℕ → CalleesValue → Type 0
-NoneIsLate now callees = (node : NodeId) → is_late now (callee_in callees node) ≡ false
-
--- a node is given up at this moment, or a client's metadata server is silent
-abbrev pub GivesUp : NodeId → LinkState → ServingState → LinkState → Type 0
-GivesUp node old s new =
-    ((is_late s.time (callee_in old.callees node) ≡ true)
-    × ((is_open : Bool) × IsListed is_open (callee_in old.callees node).connection s.peers × SetsCallee node (told is_open s.time (callee_in old.callees node)) old.callees new.callees))
-    ⊎ ((node ≡ Mds) × (is_client_link old.opened ≡ true) × (old.quiet + QUIET_LIMIT ≤ s.time) × NoneIsLate s.time old.callees × AreSame old.callees new.callees)
-
--- What asking for the next arrival did, where it is open: a record came, of the node whose connection brought it; or none did, and a node is
--- given up, or nothing more comes; or the connections met a fault. Where it is not open that is a fault.
+-- What asking for the next arrival did, where it is open: a call is given up without a wait; or nothing was to be, and a record came, of the node
+-- whose connection brought it, or none did, or the connections met a fault.
 abbrev pub Arrives : LinkState → ServingState → Result Arrival Failed → ServingState → LinkState → Type 0
 Arrives old s (Ok (Record from bytes)) s' new =
-    (until : ℕ) × WaitsUntil old until × ((number : ℕ) × GivesRecord until s (Ok (Some (number, bytes))) s' × IsFrom number old.callees from)
-    × SetsCallee from (with_heard bytes s'.time (callee_in old.callees from)) old.callees new.callees × (new.quiet ≡ s'.time)
-Arrives old s (Ok (TimedOut node)) s' new = (until : ℕ) × WaitsUntil old until × GivesRecord until s (Ok None) s' × GivesUp node old s' new × (new.quiet ≡ s'.time)
-Arrives old s (Ok Closed) s' new =
-    (until : ℕ) × WaitsUntil old until × GivesRecord until s (Ok None) s' × NoneIsLate s'.time old.callees
-    × (is_client_link old.opened ≡ true → s'.time < old.quiet + QUIET_LIMIT) × AreSame old.callees new.callees × (new.quiet ≡ old.quiet)
-Arrives old s (Err e) s' new = (until : ℕ) × WaitsUntil old until × GivesRecord until s (Err e) s' × AreSame old.callees new.callees × (new.quiet ≡ old.quiet)
+    ((number : ℕ) × Waits old s (Ok (Some (number, bytes))) s' × IsFrom number old.callees from)
+    × DoesMove (ComesIn s'.time from (answered_number bytes)) old.calls new.calls × (new.silence ≡ with_record s'.time old.silence)
+Arrives old s (Ok (TimedOut node xid)) s' new =
+    ((s' ≡ s) ⊎ Waits old s (Ok None) s') × GivesUp s'.time old.calls old.silence (Some (TimedOut node xid)) new.calls new.silence
+Arrives old s (Ok Quiet) s' new = Waits old s (Ok None) s' × EndsWait s'.time old.calls old.silence Quiet new.calls new.silence
+Arrives old s (Ok Closed) s' new = Waits old s (Ok None) s' × EndsWait s'.time old.calls old.silence Closed new.calls new.silence
+Arrives old s (Err e) s' new = Waits old s (Err e) s' × IsAsBefore old new
 
+-- Where it is not open that is a fault.
 abbrev pub GivesArrival : LinkState → Result Arrival Failed → LinkState → Type 0
 GivesArrival old result new =
-    ((old.server ≡ None) × (result ≡ Err failed.Fault) × (new.server ≡ None))
+    ((old.server ≡ None) × (result ≡ Err failed.Fault) × (new.server ≡ None) × IsAsBefore old new)
     ⊎ ((s : ServingState) × (s' : ServingState) × (old.server ≡ Some s) × (new.server ≡ Some s') × Arrives old s result s' new)
 
--- ---- what goes
-
--- a call went to this node, of which this is waited for then; nothing is waited for behind another record
-abbrev pub Calls : Bool → NodeId → Callee → CalleesValue → CalleesValue → Type 0
-Calls false node callee old new = AreSame old new
-Calls true node callee old new = SetsCallee node callee old new
+-- ---- what goes, by connections
 
 -- where a node listens
 abbrev pub address_to : LinkState → NodeId → Option NetAddr
 address_to s Mds = s.mds
 address_to s (Server n) = address_numbered s.servers n
 address_to s (Client k) = None
-
--- A call did not go to this node, since memory was wanted: what is waited for from it is as it was, or this, as if it had gone.
-abbrev pub IsUnsent : Bool → NodeId → Callee → CalleesValue → CalleesValue → Type 0
-IsUnsent false node callee old new = AreSame old new
-IsUnsent true node callee old new = AreSame old new ⊎ SetsCallee node callee old new
-
--- the message was sent on this connection; or memory was wanted
-abbrev pub SendsOnOr : ℕ → NodeId → Callee → List ℕ → ServingState → CalleesValue → Result (Unit {0}) NoMemory → ServingState → CalleesValue → Type 0
-SendsOnOr number node callee message s callees (Ok x) s' callees' = SendsRecord number message s (Ok tt) s' × Calls (is_call_record message) node (with_called s.time callee) callees callees'
-SendsOnOr number node callee message s callees (Err e) s' callees' = (s' ≡ s) × IsUnsent (is_call_record message) node (with_called s.time callee) callees callees'
 
 -- a connection was made to an address, under this number; or none was, as there is no address, or it cannot be made
 abbrev pub ConnectsOrNot : Option NetAddr → ServingState → Option ℕ → ServingState → Type 0
@@ -125,16 +112,15 @@ ConnectsOrNot (Some to) s number s' = Connects to s (Ok number) s'
 abbrev pub IsUnreached : Option NetAddr → ServingState → ServingState → Type 0
 IsUnreached address s s' = ConnectsOrNot address s None s'
 
--- A connection to the node's address is made for a call; where none can be, the call is lost, and given up in time. Where memory was wanted
--- nothing was sent: before a connection was tried, behind it, or on the one that was made.
+-- A connection to the node's address is made for a call; where none can be, the call is lost. Where memory was wanted nothing was sent: before a
+-- connection was tried, or on the one that was made.
 abbrev pub ReachesOr : NodeId → Option NetAddr → List ℕ → ServingState → CalleesValue → Result (Unit {0}) NoMemory → ServingState → CalleesValue → Type 0
 ReachesOr node address message s callees (Ok x) s' callees' =
-    ((number : ℕ) × (mid : ServingState) × ConnectsOrNot address s (Some number) mid × SendsRecord number message mid (Ok tt) s' × SetsCallee node (with_called s.time (rewired number (callee_in callees node))) callees callees')
-    ⊎ (IsUnreached address s s' × SetsCallee node (unreached s.time (callee_in callees node)) callees callees')
+    ((number : ℕ) × (mid : ServingState) × ConnectsOrNot address s (Some number) mid × SendsRecord number message mid (Ok tt) s' × SetsCallee node number callees callees')
+    ⊎ (IsUnreached address s s' × AreSame callees callees')
 ReachesOr node address message s callees (Err e) s' callees' =
     ((s' ≡ s) × AreSame callees callees')
-    ⊎ (IsUnreached address s s' × AreSame callees callees')
-    ⊎ ((number : ℕ) × ConnectsOrNot address s (Some number) s' × IsUnsent true node (with_called s.time (rewired number (callee_in callees node))) callees callees')
+    ⊎ ((number : ℕ) × ConnectsOrNot address s (Some number) s' × (AreSame callees callees' ⊎ SetsCallee node number callees callees'))
 
 -- the same for any record: one that is no call is lost with its connection
 abbrev pub ReachesIf : Bool → NodeId → Option NetAddr → List ℕ → ServingState → CalleesValue → Result (Unit {0}) NoMemory → ServingState → CalleesValue → Type 0
@@ -144,25 +130,35 @@ ReachesIf true node address message s callees result s' callees' = ReachesOr nod
 -- to a node that is called on a connection that is made: on that one, where it is open
 abbrev pub SendsMadeOr : NodeId → Option NetAddr → List ℕ → ServingState → CalleesValue → Result (Unit {0}) NoMemory → ServingState → CalleesValue → Type 0
 SendsMadeOr node address message s callees result s' callees' =
-    (IsListed true (callee_in callees node).connection s.peers × SendsOnOr (callee_in callees node).connection node (callee_in callees node) message s callees result s' callees')
-    ⊎ (IsListed false (callee_in callees node).connection s.peers × ReachesIf (is_call_record message) node address message s callees result s' callees')
+    (IsListed true (callee_in callees node) s.peers × SendsRecord (callee_in callees node) message s result s' × AreSame callees callees')
+    ⊎ (IsListed false (callee_in callees node) s.peers × ReachesIf (is_call_record message) node address message s callees result s' callees')
 
 abbrev pub SendsWhere : LinkState → NodeId → List ℕ → ServingState → CalleesValue → Result (Unit {0}) NoMemory → ServingState → CalleesValue → Type 0
-SendsWhere l (Client k) message s callees result s' callees' = SendsOnOr k (Client k) (callee_in callees (Client k)) message s callees result s' callees'
+SendsWhere l (Client k) message s callees result s' callees' = SendsRecord k message s result s' × AreSame callees callees'
 SendsWhere l Mds message s callees result s' callees' = SendsMadeOr Mds (address_to l Mds) message s callees result s' callees'
 SendsWhere l (Server n) message s callees result s' callees' = SendsMadeOr (Server n) (address_to l (Server n)) message s callees result s' callees'
 
--- What sending did: where it is open, the message went on the node's connection, or memory was wanted; else it is lost.
+-- ---- what goes, and what waits then
+
+-- a call waits, whether its record could be sent or not; other records change nothing of the calls
+abbrev pub GoesOutIf : Bool → ℕ → NodeId → List ℕ → LinkCallsValue → LinkCallsValue → Type 0
+GoesOutIf false now node message old new = new ≡ old
+GoesOutIf true now node message old new = DoesMove (GoesOut now node (word_of message 0) (is_read_to node message)) old new
+
+-- What sending did: where it is open, the message went on the node's connection, or memory was wanted, before it was to wait or behind; else it
+-- is lost.
 abbrev pub SendsTo : LinkState → NodeId → List ℕ → Result (Unit {0}) NoMemory → LinkState → Type 0
 SendsTo old to message result new =
-    ((old.server ≡ None) × (new.server ≡ None) × (result ≡ Ok tt))
-    ⊎ ((s : ServingState) × (s' : ServingState) × (old.server ≡ Some s) × (new.server ≡ Some s') × SendsWhere old to message s old.callees result s' new.callees)
+    ((old.server ≡ None) × (result ≡ Ok tt) × (new ≡ old))
+    ⊎ ((e : NoMemory) × (result ≡ Err e) × (new ≡ old))
+    ⊎ ((s : ServingState) × (s' : ServingState) × (old.server ≡ Some s) × (new.server ≡ Some s') × SendsWhere old to message s old.callees result s' new.callees
+       × GoesOutIf (is_call_record message) s.time to message old.calls new.calls)
 
 -- what excusing a call of a node did
 abbrev pub ExcusesFrom : NodeId → LinkState → LinkState → Type 0
 ExcusesFrom from old new =
     ((old.server ≡ None) × (new.server ≡ None))
-    ⊎ ((s : ServingState) × (s' : ServingState) × (old.server ≡ Some s) × (new.server ≡ Some s') × ExcusesCall (callee_in old.callees from).connection s s')
+    ⊎ ((s : ServingState) × (s' : ServingState) × (old.server ≡ Some s) × (new.server ≡ Some s') × ExcusesCall (callee_in old.callees from) s s')
 
 -- ---- the end
 

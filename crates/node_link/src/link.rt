@@ -38,7 +38,7 @@ pub enum Arrival {
     TimedOut {
         /// The node that was called.
         node: NodeId,
-        /// The call's number (RFC 5531, section 9).
+        /// The number of the call.
         xid: u32,
     },
     /// Nothing came for a while: time passes.

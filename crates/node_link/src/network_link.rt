@@ -1,14 +1,21 @@
 //! The link of a node over a network.
 
-ghost use Rattle.std.specs.Prelude.{◌≡◌, ◌+◌, nat_le, ℕ, Bool, true, None, Ok, Err, MatchOption};
-ghost use Rattle.record_server.specs.Server.{IsListed};
+ghost use Rattle.std.specs.Prelude.{◌≡◌, None, OnOk, OnErr, MatchOption};
+ghost use Rattle.record_link.specs.Messages.{is_call_record};
+ghost use Rattle.record_server.specs.Server.{SendsRecord};
 ghost use Rattle.rpc_record.specs.Stream.{counted, one_more};
-ghost use Rattle.node_link.specs.Callees.{callee_in, is_late, told, SetsCallee};
-ghost use Rattle.node_link.specs.NodeLinks.{AreSame, ExcusesFrom, FinishesLink, GivesArrival, HasGivenIn, LinkState, NoneIsLate, OpensNetwork, ReachesOr, SendsMadeOr, SendsOnOr, SendsTo, WaitsUntil, is_client_link};
+ghost use Rattle.node_link.specs.Callees.{AreSame, callee_in};
+ghost use Rattle.node_link.specs.LinkCalls.{call_over};
+ghost use Rattle.node_link.specs.LinkMoves.{ComesIn, DoesMove, EndsCall};
+ghost use Rattle.node_link.specs.Silence.{is_silence_over, with_quiet, with_timeout};
+ghost use Rattle.node_link.specs.NodeLinks.{EndsWait, ExcusesFrom, FinishesLink, GivesArrival, GivesUp, GoesOutIf, HasGivenIn, LinkState, OpensNetwork, ReachesOr, SendsMadeOr, SendsTo, wait_end};
 ghost use Rattle.node_link.specs.Link.{OpensLink};
 
 use crate::callees::Callees;
 use crate::link::{Arrival, Link, Opening, Role, address_numbered};
+use crate::link_call::{LinkCall, answered_number};
+use crate::link_calls::LinkCalls;
+use crate::silence::{Silence, first_pause};
 use cluster_model::NodeId;
 use device_addr::NetAddr;
 use ff_xdr::{Data, NoMemory};
@@ -19,13 +26,11 @@ use rpc_record::Failed;
 use std::alloc::Global;
 use std::marker::Model;
 
-/// Where nothing came for so many milliseconds a client hears that its metadata server is silent, so that its
-/// time passes.
-pub(crate) const QUIET_LIMIT: u64 = 1_000;
-
 /// The link of a node over a network. A connection that was accepted is the node `Client(k)`, with k its number
 /// from 1. To the metadata server and to data servers it makes a connection when one is first called, keeps
-/// it, and makes it anew where it is gone. It tells nothing of what comes and of what is sent.
+/// it, and makes it anew where it is gone. Each call that went out is answered, or given up under its own
+/// number; what becomes of connections changes nothing of that. It tells nothing of what comes and of what is
+/// sent.
 #[derive(Drop)]
 pub struct NodeLink<H: Host> {
     alloc: Global,
@@ -36,8 +41,8 @@ pub struct NodeLink<H: Host> {
     servers: Vec<NetAddr>,
     server: Option<RecordServer<H::Net>>,
     callees: Callees,
-    // when the last arrival was given, in milliseconds
-    quiet: u64,
+    calls: LinkCalls,
+    silence: Silence,
     faults: u64,
 }
 
@@ -46,7 +51,16 @@ impl<H: Host> Model for NodeLink<H> {
 
     ghost Value = { LinkState };
 
-    ghost view = { λ l. record { opened = l.opened; mds = l.mds; servers = l.servers.items; server = l.server; callees = l.callees; quiet = l.quiet; faults = l.faults } };
+    ghost view = { λ l. record {
+      opened = l.opened;
+      mds = l.mds;
+      servers = l.servers.items;
+      server = l.server;
+      callees = l.callees;
+      calls = l.calls;
+      silence = l.silence;
+      faults = l.faults;
+    } };
 }
 
 impl<H: Host + Drop> NodeLink<H> {
@@ -64,7 +78,8 @@ impl<H: Host + Drop> NodeLink<H> {
             servers: Vec::new(alloc),
             server: None,
             callees: Callees::new(alloc),
-            quiet: 0,
+            calls: LinkCalls::new(alloc),
+            silence: Silence::new(None),
             faults: 0,
         }
     }
@@ -86,24 +101,6 @@ impl<H: Host + Drop> NodeLink<H> {
     }
 }
 
-/// Sends a message on the connection of this number to a node, of which this is waited for.
-fn send_on<N: Network + Drop>(
-    server: &mut RecordServer<N>,
-    callees: &mut Callees,
-    node: NodeId,
-    number: u32,
-    message: Data,
-) -> Result<(), NoMemory>
-    ensures { SendsOnOr number node (callee_in callees.old node) message server.old callees.old result server.new callees.new }
-{
-    if !is_call_record(message.bytes()) {
-        return server.send(number, message);
-    }
-    let callee = callees.get(node).with_called(server.time());
-    callees.put(node, callee)?;
-    server.send(number, message)
-}
-
 /// Sends a call to a node that has no open connection: one is made to its address, or the call is lost.
 fn reach<N: Network + Drop>(
     server: &mut RecordServer<N>,
@@ -114,17 +111,15 @@ fn reach<N: Network + Drop>(
 ) -> Result<(), NoMemory>
     ensures { ReachesOr node address message server.old callees.old result server.new callees.new }
 {
-    let callee = callees.get(node);
-    let now = server.time();
     let Some(address) = address else {
-        return callees.put(node, callee.unreached(now));
+        return Ok(());
     };
     match server.connect(address)? {
         Some(number) => {
-            callees.put(node, callee.rewired(number).with_called(now))?;
+            callees.put(node, number)?;
             server.send(number, message)
         }
-        None => callees.put(node, callee.unreached(now)),
+        None => Ok(()),
     }
 }
 
@@ -139,9 +134,9 @@ fn send_made<N: Network + Drop>(
 ) -> Result<(), NoMemory>
     ensures { SendsMadeOr node address message server.old callees.old result server.new callees.new }
 {
-    let number = callees.get(node).connection;
+    let number = callees.get(node);
     if server.is_open(number) {
-        send_on(server, callees, node, number, message)
+        server.send(number, message)
     } else if is_call_record(message.bytes()) {
         reach(server, callees, node, address, message)
     } else {
@@ -149,49 +144,57 @@ fn send_made<N: Network + Drop>(
     }
 }
 
-/// Gives up a node from which nothing came in time: what was lost with it is forgotten, and calls that are
-/// outstanding on an open connection are waited for anew.
-fn give_up<N: Network + Drop>(server: &RecordServer<N>, callees: &mut Callees) -> Option<NodeId>
-    ensures { MatchOption result (NoneIsLate server.now.time callees.old × AreSame callees.old callees.new) (λ node. (is_late server.now.time (callee_in callees.old node) ≡ true) × ((is_open : Bool) × IsListed is_open (callee_in callees.old node).connection server.now.peers × SetsCallee node (told is_open server.now.time (callee_in callees.old node)) callees.old callees.new)) }
+/// A call waits from now on, where this record that goes to a node is one. At an error nothing has changed.
+fn go_out(
+    calls: &mut LinkCalls,
+    node: NodeId,
+    message: &[u8],
+    now: u64,
+) -> Result<(), NoMemory>
+    ensures goes { OnOk result (GoesOutIf (is_call_record message.now) now node message.now calls.old calls.new) }
+    ensures unchanged { OnErr result (calls.new ≡ calls.old) }
 {
-    let now = server.time();
-    let Some(node) = callees.late(now) else {
+    if is_call_record(message) {
+        calls.go_out(LinkCall::new(node, message, now), now)
+    } else {
+        Ok(())
+    }
+}
+
+/// Until when a record is waited for: up to the moment at which a call is given up, and no longer than it is
+/// borne that nothing comes.
+fn wait_end(calls: &LinkCalls, silence: Silence, now: u64) -> u64
+    ensures { result ≡ wait_end now calls.now silence }
+{
+    calls.earliest(now).min(silence.end())
+}
+
+/// The call that is given up by now, where one is.
+fn give_up(calls: &mut LinkCalls, silence: &mut Silence, now: u64) -> Option<Arrival>
+    ensures { GivesUp now calls.old silence.old result calls.new silence.new }
+{
+    let Some(call) = calls.give_up(now) else {
         return None;
     };
-    let is_open = server.is_open(callees.get(node).connection);
-    callees.tell(node, is_open, now);
-    Some(node)
+    *silence = silence.with_timeout(now);
+    Some(Arrival::TimedOut {
+        node: call.node,
+        xid: call.xid,
+    })
 }
 
-/// The silence since the last arrival has lasted as long as a client bears it.
-fn is_over(quiet: u64, now: u64) -> bool
-    ensures { result ≡ nat_le (quiet + QUIET_LIMIT) now }
+/// What comes where no record did: a call is given up, or time passes, or nothing more comes.
+fn end_wait(calls: &mut LinkCalls, silence: &mut Silence, now: u64) -> Arrival
+    ensures { EndsWait now calls.old silence.old result calls.new silence.new }
 {
-    now.saturating_sub(quiet) >= QUIET_LIMIT
-}
-
-impl<H: Host + Drop> NodeLink<H> {
-    /// The node is a client.
-    fn is_client(&self) -> bool
-        ensures { result ≡ is_client_link self.now.opened }
-    {
-        match self.opened {
-            Some(opening) => opening.role == Role::Client,
-            None => false,
-        }
+    if let Some(arrival) = give_up(calls, silence, now) {
+        return arrival;
     }
-
-    /// Until when a record is waited for.
-    fn until(&self) -> u64
-        ensures { WaitsUntil self.now result }
-    {
-        let earliest = self.callees.earliest();
-        if self.is_client() {
-            earliest.min(self.quiet.saturating_add(QUIET_LIMIT))
-        } else {
-            earliest
-        }
+    if silence.is_over(now) {
+        *silence = silence.with_quiet(now);
+        return Arrival::Quiet;
     }
+    Arrival::Closed
 }
 
 impl<H: Host + Drop> Link for NodeLink<H> {
@@ -209,7 +212,7 @@ impl<H: Host + Drop> Link for NodeLink<H> {
     fn open(&mut self, config: &Config, role: Role) -> Result<(), Failed>
         ensures opened { OpensLink self.old.opened config.now role result self.new.opened }
         ensures faults { self.new.faults ≡ counted result self.old.faults }
-        ensures network { OpensNetwork config.now self.old result self.new }
+        ensures network { OpensNetwork config.now role self.old result self.new }
     {
         let opening = Opening::of(config, role);
         if opening.address.is_none() && role != Role::Client {
@@ -225,7 +228,8 @@ impl<H: Host + Drop> Link for NodeLink<H> {
                 self.mds = Some(config.mds);
                 self.servers = servers;
                 self.callees = Callees::new(self.alloc);
-                self.quiet = 0;
+                self.calls = LinkCalls::new(self.alloc);
+                self.silence = Silence::new(first_pause(role));
                 Ok(())
             }
             Err(Failed::Fault) => Err(self.fault()),
@@ -233,59 +237,53 @@ impl<H: Host + Drop> Link for NodeLink<H> {
         }
     }
 
-    /// The next record, or the node that is given up: one that was called, from which nothing came for two
-    /// seconds, or to which no connection could be made; or, at a client, the metadata server, where nothing
-    /// came for a second. A link that is not open fails.
+    /// The next arrival. A call that got no answer for two seconds is given up first, so no stream of records
+    /// holds that back; a READ of a data server that is down is, at once. Then a record is waited for, up to the
+    /// next moment at which a call is given up. Where nothing comes for a second a metadata server is told that
+    /// time passes; a client is after 10 milliseconds, and behind each time after twice as many, up to a
+    /// second. A link that is not open fails.
     fn next(&mut self) -> Result<Arrival, Failed>
         ensures opened { self.new.opened ≡ self.old.opened }
         ensures faults { self.new.faults ≡ counted result self.old.faults }
         ensures arrives { GivesArrival self.old result self.new }
-        ensures addresses { (self.new.mds ≡ self.old.mds) × (self.new.servers ≡ self.old.servers) }
+        ensures rest { self.new ≡ record self.old { server = self.new.server; calls = self.new.calls; silence = self.new.silence; faults = self.new.faults } }
     {
-        let until = self.until();
-        let is_client = self.is_client();
         let Some(server) = &mut self.server else {
             return Err(self.fault());
         };
-        match server.next(until) {
+        let now = server.time();
+        if let Some(arrival) = give_up(&mut self.calls, &mut self.silence, now) {
+            return Ok(arrival);
+        }
+        match server.next(wait_end(&self.calls, self.silence, now)) {
             Ok(Some((number, bytes))) => {
                 let now = server.time();
                 let from = self.callees.from(number);
-                self.callees.hear(from, bytes.bytes(), now);
-                self.quiet = now;
+                self.calls.come_in(from, answered_number(bytes.bytes()), now);
+                self.silence = self.silence.with_record(now);
                 Ok(Arrival::Record { from, bytes })
             }
-            Ok(None) => {
-                let now = server.time();
-                if let Some(node) = give_up(server, &mut self.callees) {
-                    self.quiet = now;
-                    return Ok(Arrival::TimedOut(node));
-                }
-                if is_client && is_over(self.quiet, now) {
-                    self.quiet = now;
-                    return Ok(Arrival::TimedOut(NodeId::Mds));
-                }
-                Ok(Arrival::Closed)
-            }
+            Ok(None) => Ok(end_wait(&mut self.calls, &mut self.silence, server.time())),
             Err(Failed::Fault) => Err(self.fault()),
             Err(Failed::NoMemory) => Err(Failed::NoMemory),
         }
     }
 
     /// Sends a record on the connection of a client, or on the one that is made to a server: where that is
-    /// gone a call is sent on a new one, and a reply is lost. A call to which no connection can be made is lost,
-    /// and its node is given up in two seconds.
+    /// gone a call is sent on a new one, and a reply is lost. A call waits for its answer from now on, also where
+    /// no connection can be made for it, or it is lost with its connection.
     fn send(&mut self, to: NodeId, message: Data) -> Result<(), NoMemory>
         ensures opened { self.new.opened ≡ self.old.opened }
         ensures faults { self.new.faults ≡ self.old.faults }
         ensures sends { SendsTo self.old to message result self.new }
-        ensures rest { self.new ≡ record self.old { server = self.new.server; callees = self.new.callees } }
+        ensures rest { self.new ≡ record self.old { server = self.new.server; callees = self.new.callees; calls = self.new.calls } }
     {
         let Some(server) = &mut self.server else {
             return Ok(());
         };
+        go_out(&mut self.calls, to, message.bytes(), server.time())?;
         match to {
-            NodeId::Client(number) => send_on(server, &mut self.callees, to, number, message),
+            NodeId::Client(number) => server.send(number, message),
             NodeId::Mds => send_made(server, &mut self.callees, to, self.mds, message),
             NodeId::Server(number) => {
                 let address = address_numbered(&self.servers, number);
@@ -303,7 +301,7 @@ impl<H: Host + Drop> Link for NodeLink<H> {
         let Some(server) = &mut self.server else {
             return;
         };
-        server.excuse(self.callees.get(from).connection);
+        server.excuse(self.callees.get(from));
     }
 
     fn finish(&mut self)

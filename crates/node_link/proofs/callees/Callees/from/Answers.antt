@@ -12,13 +12,13 @@ returns-then-is_made_as c =
 pub loop-node-preserved : goal.loop-node-preserved
 loop-node-preserved c =
     let same = c.deref-node-items.ensures.value ∙ c.self.view_is in
-    turn c.args.self.now c.deref-node-items.result.now c.loop-node.node-index same (λ x. (is_connected_to x.0 && x.1.connection == c.args.number) ≡ false) _ (omega arith) (sym c.is_made_as.ensures ∙ c.if-is_made_as.false) c.loop-node.invariant
+    turn c.args.self.now c.deref-node-items.result.now c.loop-node.node-index same (λ x. (is_connected_to x.0 && x.1 == c.args.number) ≡ false) _ (omega arith) (sym c.is_made_as.ensures ∙ c.if-is_made_as.false) c.loop-node.invariant
 
 pub returns : goal.returns
 returns c =
     let same = c.deref-node-items.ensures.value ∙ c.self.view_is in (
       refl,
-      all_of c.args.self.now c.deref-node-items.result.now c.loop-node.node-index same (λ node callee. is_connected_to node ≡ true → callee.connection ≡ c.args.number → c.args.number ≡ 0) (omega arith)
+      all_of c.args.self.now c.deref-node-items.result.now c.loop-node.node-index same (λ node callee. is_connected_to node ≡ true → callee ≡ c.args.number → c.args.number ≡ 0) (omega arith)
           (new_made c.args.number)
           (λ k below x at. not_made_as c.args.number x.0 x.1 (c.loop-node.invariant k below x at)),
     )

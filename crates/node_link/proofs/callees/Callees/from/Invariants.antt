@@ -5,4 +5,4 @@ use Rattle.node_link.proofs.CalleeLemmas.{Before}
 use Rattle.node_link.proofs.callees.Callees.from.Given as goal
 
 abbrev pub invariant-loop-node : goal.invariant-loop-node
-invariant-loop-node l = Before (λ x. (is_connected_to x.0 && x.1.connection == l.number) ≡ false) l.self l.node-index
+invariant-loop-node l = Before (λ x. (is_connected_to x.0 && x.1 == l.number) ≡ false) l.self l.node-index

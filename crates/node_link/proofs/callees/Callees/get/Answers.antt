@@ -12,4 +12,4 @@ returns-in-Some c =
 pub returns-in-None : goal.returns-in-None
 returns-in-None c =
     let is = ap (position (is_of c.args.node)) (sym c.deref.ensures.value) ∙ sym c.place_of.ensures ∙ c.in-None.is in
-    c.new.ensures ∙ sym (no_entry c.args.node c.self.inside.entries.items (missing c.args.node c.self.inside.entries.items is)) ∙ ap (λ xs. callee_in xs c.args.node) c.self.view_is
+    c.own_connection.ensures ∙ sym (no_entry c.args.node c.self.inside.entries.items (missing c.args.node c.self.inside.entries.items is)) ∙ ap (λ xs. callee_in xs c.args.node) c.self.view_is
