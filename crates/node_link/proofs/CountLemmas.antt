@@ -245,7 +245,7 @@ comes_counted sending node xid now from (Some number) c counted = by_test (is_sa
 -- ---- a call is given up
 
 -- the first of all stands there no longer
-first_counted : (sending : Option (ℕ × Bool)) (node : NodeId) (xid now : ℕ) (waiting at_once : List LinkCall) (servers : List ServerNews) (call : LinkCall) → first_over_of now waiting at_once ≡ Some call
+pub first_counted : (sending : Option (ℕ × Bool)) (node : NodeId) (xid now : ℕ) (waiting at_once : List LinkCall) (servers : List ServerNews) (call : LinkCall) → first_over_of now waiting at_once ≡ Some call
     → IsCounted sending node xid (record { waiting = waiting; at_once = at_once; servers = servers })
     → IsCounted (cond (is_same_call node xid call.node call.xid) None sending) node xid (without_first at_once (record { waiting = waiting; at_once = at_once; servers = servers }))
 first_counted sending node xid now [] [] servers call is counted = absurd cc

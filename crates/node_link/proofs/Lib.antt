@@ -1,4 +1,6 @@
 mod CalleeLemmas
 mod CountLemmas
 mod LinkLemmas
+mod NewsLemmas
 mod TakeOutLemmas
+mod TurnLemmas
