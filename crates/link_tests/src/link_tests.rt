@@ -1,6 +1,9 @@
-//! The link of a node over memory: the connections that it makes, and when a call is given up.
+//! The link of a node over memory: the connections that it makes, and when a call is given up, and when time
+//! passes.
 
-use crate::memory::{CALL, CALL_RECORD, NEVER, REPLY, REPLY_RECORD, stream};
+use crate::memory::{
+    CALL, CALL_RECORD, NEVER, NEXT_CALL, READ, REPLIES, REPLY, REPLY_RECORD, stream,
+};
 use cluster_model::NodeId;
 use device_addr::NetAddr;
 use ff_xdr::Data;
@@ -51,11 +54,40 @@ fn link(
     Ok(link)
 }
 
-/// The next arrival is that a node is given up.
-fn gives_up(rt: &impl Abort, link: &mut MemoryNode, node: NodeId) {
+/// The next arrival is that the call of this number is given up.
+fn gives_up(rt: &impl Abort, link: &mut MemoryNode, node: NodeId, xid: u32) {
     match link.next() {
-        Ok(Arrival::TimedOut(found)) => assert!(rt; found == node),
+        Ok(
+            Arrival::TimedOut {
+                node: found,
+                xid: number,
+            },
+        ) => assert!(rt; found == node && number == xid),
         _ => panic!(rt; "not given up"),
+    }
+}
+
+/// The next arrival is that time passes, up to this moment.
+fn passes(rt: &impl Abort, link: &mut MemoryNode, moment: u64) {
+    let arrival = link.next();
+    assert!(rt; matches!(arrival, Ok(Arrival::Quiet)) && time(link) == moment);
+}
+
+/// The call that is given up next, behind other arrivals.
+fn given_up(link: &mut MemoryNode) -> Option<(NodeId, u32)> {
+    for _ in 0..100 {
+        if let Ok(Arrival::TimedOut { node, xid }) = link.next() {
+            return Some((node, xid));
+        }
+    }
+    None
+}
+
+/// The time in milliseconds.
+fn time(link: &MemoryNode) -> u64 {
+    match link.server() {
+        Some(server) => server.time(),
+        None => 0,
     }
 }
 
@@ -77,27 +109,67 @@ fn made(link: &MemoryNode) -> &[(u32, NetAddr)] {
     }
 }
 
-/// A client calls its metadata server, which replies, and then a data server to which no connection can be
-/// made: that one is given up in two seconds, and each second of silence is told.
+/// Of two calls to the metadata server one is answered twice, and the other is given up under its number, whatever
+/// else comes. To a data server no connection can be made: each call to it is given up, once.
 #[test]
-fn a_client(rt: HostRuntime) -> Result<(), Fail> {
+fn calls_by_their_numbers(rt: HostRuntime) -> Result<(), Fail> {
     let alloc = rt.alloc();
     let mut to_make = Vec::new(alloc);
-    to_make.push(Some(stream(alloc, &REPLY_RECORD, &[64, 0, 0, 0, 0, 0])?))?;
+    to_make.push(Some(stream(alloc, &REPLIES, &[])?))?;
     to_make.push(None)?;
-    let mut link = link(&rt, alloc, Role::Client, Vec::new(alloc), to_make)?;
-    link.send(NodeId::Mds, Data::of(alloc, &CALL)?)?;
-    link.send(NodeId::Server(2), Data::of(alloc, &CALL)?)?;
-    assert!(rt; made(&link) == [(1, at(2049)), (0, at(2))].as_slice());
+    let mut link = link(&rt, alloc, Role::Server, Vec::new(alloc), to_make)?;
+    for node in [NodeId::Mds, NodeId::Server(2)] {
+        link.send(node, Data::of(alloc, &CALL)?)?;
+        link.send(node, Data::of(alloc, &NEXT_CALL)?)?;
+    }
+    assert!(rt; made(&link) == [(1, at(2049)), (0, at(2)), (0, at(2))].as_slice());
     gives(&rt, &mut link, NodeId::Mds, &REPLY);
-    gives_up(&rt, &mut link, NodeId::Mds);
-    gives_up(&rt, &mut link, NodeId::Server(2));
-    gives_up(&rt, &mut link, NodeId::Mds);
+    gives(&rt, &mut link, NodeId::Mds, &REPLY);
+    gives(&rt, &mut link, NodeId::Mds, &[0, 0, 0, 9, 0, 0, 0, 1]);
+    gives_up(&rt, &mut link, NodeId::Mds, 8);
+    gives_up(&rt, &mut link, NodeId::Server(2), 7);
+    gives_up(&rt, &mut link, NodeId::Server(2), 8);
+    Ok(())
+}
+
+/// To a client the pauses in which nothing comes are 10, 20 and 40 milliseconds long.
+#[test]
+fn a_silent_client(rt: HostRuntime) -> Result<(), Fail> {
+    let alloc = rt.alloc();
+    let mut link = link(&rt, alloc, Role::Client, Vec::new(alloc), Vec::new(alloc))?;
+    for moment in [10, 30, 70] {
+        passes(&rt, &mut link, moment);
+    }
+    Ok(())
+}
+
+/// Records of one data server, which come all along, hold no call to another one back, and where that was silent
+/// for six seconds, a READ of it is given up at once.
+#[test]
+fn a_dead_server(rt: HostRuntime) -> Result<(), Fail> {
+    let alloc = rt.alloc();
+    let mut bytes = Vec::new(alloc);
+    let mut sizes = Vec::new(alloc);
+    for _ in 0..70 {
+        bytes.extend_from_slice(&REPLY_RECORD)?;
+        sizes.extend_from_slice(&[12, 0])?;
+    }
+    let mut to_make = Vec::new(alloc);
+    to_make.push(Some(stream(alloc, &bytes, &sizes)?))?;
+    let mut link = link(&rt, alloc, Role::Server, Vec::new(alloc), to_make)?;
+    link.send(NodeId::Server(1), Data::of(alloc, &CALL)?)?;
+    for _ in 0..3 {
+        link.send(NodeId::Server(2), Data::of(alloc, &READ)?)?;
+        assert_eq!(rt; given_up(&mut link), Some((NodeId::Server(2), 7)));
+    }
+    link.send(NodeId::Server(2), Data::of(alloc, &READ)?)?;
+    gives_up(&rt, &mut link, NodeId::Server(2), 7);
+    assert_eq!(rt; time(&link), 6_000);
     Ok(())
 }
 
 /// A connection that is cut off is made anew for the next call, to the same address; the call that was lost with
-/// it is given up in two seconds, though the other is replied to.
+/// it is given up in two seconds. Each second a metadata server is told that time passes.
 #[test]
 fn a_connection_that_is_cut(rt: HostRuntime) -> Result<(), Fail> {
     let alloc = rt.alloc();
@@ -110,7 +182,8 @@ fn a_connection_that_is_cut(rt: HostRuntime) -> Result<(), Fail> {
     to_make.push(Some(stream(alloc, &REPLY_RECORD, &[])?))?;
     let mut link = link(&rt, alloc, Role::Mds, Vec::new(alloc), to_make)?;
     link.send(NodeId::Server(1), Data::of(alloc, &CALL)?)?;
-    gives_up(&rt, &mut link, NodeId::Server(1));
+    passes(&rt, &mut link, 1_000);
+    gives_up(&rt, &mut link, NodeId::Server(1), 7);
     link.send(NodeId::Server(1), Data::of(alloc, &CALL)?)?;
     assert!(rt; made(&link) == [(1, at(1)), (2, at(1))].as_slice());
     gives(&rt, &mut link, NodeId::Server(1), &REPLY);
@@ -129,7 +202,9 @@ fn a_callback(rt: HostRuntime) -> Result<(), Fail> {
     let mut link = link(&rt, alloc, Role::Mds, coming, Vec::new(alloc))?;
     gives(&rt, &mut link, NodeId::Client(1), &CALL);
     link.send(NodeId::Client(1), Data::of(alloc, &CALL)?)?;
-    gives_up(&rt, &mut link, NodeId::Client(1));
+    let moment = time(&link).saturating_add(1_000);
+    passes(&rt, &mut link, moment);
+    gives_up(&rt, &mut link, NodeId::Client(1), 7);
     let went = match link.server() {
         Some(server) => server.stream(1).map(|stream| stream.gone()),
         None => None,

@@ -25,10 +25,24 @@ pub const CALL: [u8; 8] = [0, 0, 0, 7, 0, 0, 0, 0];
 
 pub const REPLY: [u8; 8] = [0, 0, 0, 7, 0, 0, 0, 1];
 
+/// The beginning of the next call.
+pub const NEXT_CALL: [u8; 8] = [0, 0, 0, 8, 0, 0, 0, 0];
+
+/// The beginning of a READ of NFSv3, up to its procedure (RFC 1813, section 3.3.6).
+pub const READ: [u8; 24] = [
+    0, 0, 0, 7, 0, 0, 0, 0, 0, 0, 0, 2, 0, 1, 0x86, 0xa3, 0, 0, 0, 3, 0, 0, 0, 6,
+];
+
 /// The same as records.
 pub const CALL_RECORD: [u8; 12] = [0x80, 0, 0, 8, 0, 0, 0, 7, 0, 0, 0, 0];
 
 pub const REPLY_RECORD: [u8; 12] = [0x80, 0, 0, 8, 0, 0, 0, 7, 0, 0, 0, 1];
+
+/// The reply to this call twice, and one to a call that nobody made.
+pub const REPLIES: [u8; 36] = [
+    0x80, 0, 0, 8, 0, 0, 0, 7, 0, 0, 0, 1, 0x80, 0, 0, 8, 0, 0, 0, 7, 0, 0, 0, 1, 0x80, 0, 0, 8, 0,
+    0, 0, 9, 0, 0, 0, 1,
+];
 
 /// Nothing moves for three seconds.
 pub const NEVER: [usize; 30] = [0; 30];

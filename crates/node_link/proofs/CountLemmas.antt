@@ -10,9 +10,9 @@ use Rattle.cluster_model.specs.Nodes.{is_node}
 use Rattle.node_link.specs.declared.link_call.LinkCall.{LinkCall}
 use Rattle.node_link.specs.declared.server_news.ServerNews.{ServerNews}
 use Rattle.node_link.specs.ServerNews.{is_found_down, servers_called, servers_given_up, servers_heard}
-use Rattle.node_link.specs.LinkCalls.{LinkCallsValue, no_link_calls, later, is_link_call, is_read_of, new_link_call, calls_without, taken_out, with_call, with_servers, call_goes, call_answered, record_comes, is_node_down, first_due, first_over_of, call_over, without_first, with_reads_over_if, node_given_up, call_given_up}
-use Rattle.node_link.specs.LinkMoves.{LinkMove, GoesOut, ComesIn, EndsCall, DoesMove, RunsMoves}
-use Rattle.node_link.specs.LinkLaws.{is_same_call, is_answer, out_since, times_here, IsDueBehind, IsKept}
+use Rattle.node_link.specs.LinkCalls.{LinkCallsValue, no_link_calls, later, is_link_call, is_read_of, new_link_call, calls_without, taken_out, with_waiting, with_servers, call_goes_out, settles_call, record_comes, is_node_down, first_due, first_over_of, call_over, without_first, with_reads_over_if, node_given_up, call_given_up}
+use Rattle.node_link.specs.LinkMoves.{LinkMove, CallGoesOut, RecordComesIn, CallIsGivenUp, DoesMove, RunsMoves}
+use Rattle.node_link.specs.LinkLaws.{is_one_call, is_answer_to, out_since, times_here, IsDueBehind, IsKeptOnce}
 use Rattle.node_link.proofs.CalleeLemmas.{is_one, is_itself}
 
 pub not_both : {b : Bool} → b ≡ true → b ≡ false → ⊥
@@ -20,35 +20,35 @@ not_both is other = absurd cc
 
 -- ---- names of calls
 
-pub one_call : (node : NodeId) (xid : ℕ) (other : NodeId) (number : ℕ) → is_same_call node xid other number ≡ true → (node ≡ other) × (xid ≡ number)
+pub one_call : (node : NodeId) (xid : ℕ) (other : NodeId) (number : ℕ) → is_one_call node xid other number ≡ true → (node ≡ other) × (xid ≡ number)
 one_call node xid other number is =
     let parts = and_parts (is_node node other) (xid == number) is in
     (is_one node other parts.0, eqb-true xid number parts.1)
 
-pub same_call : (node : NodeId) (xid : ℕ) → is_same_call node xid node xid ≡ true
+pub same_call : (node : NodeId) (xid : ℕ) → is_one_call node xid node xid ≡ true
 same_call node xid = and_from (is_node node node) (xid == xid) (is_itself node) (eq-eqb xid xid refl)
 
-same_back : (node : NodeId) (xid : ℕ) (other : NodeId) (number : ℕ) → is_same_call node xid other number ≡ true → is_same_call other number node xid ≡ true
+same_back : (node : NodeId) (xid : ℕ) (other : NodeId) (number : ℕ) → is_one_call node xid other number ≡ true → is_one_call other number node xid ≡ true
 same_back node xid other number is =
     let one = one_call node xid other number is in
-    subst (λ (n : NodeId). is_same_call n number node xid ≡ true) one.0 (subst (λ (x : ℕ). is_same_call node x node xid ≡ true) one.1 (same_call node xid))
+    subst (λ (n : NodeId). is_one_call n number node xid ≡ true) one.0 (subst (λ (x : ℕ). is_one_call node x node xid ≡ true) one.1 (same_call node xid))
 
 -- whether two names are one does not depend on which comes first
-pub turned : (node : NodeId) (xid : ℕ) (other : NodeId) (number : ℕ) → is_same_call node xid other number ≡ is_same_call other number node xid
-turned node xid other number = by_tests (is_same_call node xid other number) (is_same_call other number node xid) refl refl
+pub turned : (node : NodeId) (xid : ℕ) (other : NodeId) (number : ℕ) → is_one_call node xid other number ≡ is_one_call other number node xid
+turned node xid other number = by_tests (is_one_call node xid other number) (is_one_call other number node xid) refl refl
   where
-    by_tests : (t u : Bool) → is_same_call node xid other number ≡ t → is_same_call other number node xid ≡ u → t ≡ u
+    by_tests : (t u : Bool) → is_one_call node xid other number ≡ t → is_one_call other number node xid ≡ u → t ≡ u
     by_tests true true is back = refl
     by_tests true false is back = absurd (not_both (same_back node xid other number is) back)
     by_tests false true is back = absurd (not_both (same_back other number node xid back) is)
     by_tests false false is back = refl
 
 -- a call that is the one is not another
-pub not_another : (node : NodeId) (xid : ℕ) (other : NodeId) (number : ℕ) (call : LinkCall) → is_same_call node xid other number ≡ false → is_link_call other number call ≡ true → is_link_call node xid call ≡ false
+pub not_another : (node : NodeId) (xid : ℕ) (other : NodeId) (number : ℕ) (call : LinkCall) → is_one_call node xid other number ≡ false → is_link_call other number call ≡ true → is_link_call node xid call ≡ false
 not_another node xid other number call differs is =
     let one = one_call call.node call.xid other number is in
-    let back : is_same_call other number node xid ≡ false = sym (turned node xid other number) ∙ differs in
-    subst (λ (n : NodeId). is_same_call n call.xid node xid ≡ false) (sym one.0) (subst (λ (x : ℕ). is_same_call other x node xid ≡ false) (sym one.1) back)
+    let back : is_one_call other number node xid ≡ false = sym (turned node xid other number) ∙ differs in
+    subst (λ (n : NodeId). is_one_call n call.xid node xid ≡ false) (sym one.0) (subst (λ (x : ℕ). is_one_call other x node xid ≡ false) (sym one.1) back)
 
 -- ---- what holds of each of a list
 
@@ -96,7 +96,7 @@ module _ (node : NodeId) (xid : ℕ) where
       by_case false is rest = rw is (omega (arith, rest))
 
   -- another is taken out
-  pub times_other : (other : NodeId) (number : ℕ) → is_same_call node xid other number ≡ false → (xs : List LinkCall) → times (calls_without other number xs) ≡ times xs
+  pub times_other : (other : NodeId) (number : ℕ) → is_one_call node xid other number ≡ false → (xs : List LinkCall) → times (calls_without other number xs) ≡ times xs
   times_other other number differs [] = refl
   times_other other number differs (x ∷ xs) = by_case (is_link_call other number x) refl (times_other other number differs xs)
     where
@@ -111,7 +111,7 @@ module _ (node : NodeId) (xid : ℕ) where
     where
       by_case : (b : Bool) → times (filter (λ call. not (test call)) xs) + times (filter (λ call. test call) xs) ≡ times xs
           → times (cond (not b) (x ∷ filter (λ call. not (test call)) xs) (filter (λ call. not (test call)) xs)) + times (cond b (x ∷ filter (λ call. test call) xs) (filter (λ call. test call) xs))
-            ≡ cond (is_link_call node xid x) 1 0 + times xs
+          ≡ cond (is_link_call node xid x) 1 0 + times xs
       by_case true rest = in_second (cond (is_link_call node xid x) 1 0) (times (filter (λ call. not (test call)) xs)) (times (filter (λ call. test call) xs)) (times xs) rest
         where
           in_second : (one first second all : ℕ) → first + second ≡ all → first + (one + second) ≡ one + all
@@ -161,7 +161,7 @@ counted_so (Some sending) node xid c c' same due counted = (same ∙ counted.0, 
 
 -- the one that goes
 goes_itself : (now : ℕ) (node : NodeId) (xid : ℕ) (is_data_read : Bool) (servers : List ServerNews) (waiting at_once : List LinkCall) (b : Bool) → (k : ℕ) → times_here node xid waiting + times_here node xid at_once + k ≡ 1
-    → IsCounted (Some (now, is_data_read)) node xid (with_call b (new_link_call now node xid is_data_read) (record { waiting = calls_without node xid waiting; at_once = calls_without node xid at_once; servers = servers }))
+    → IsCounted (Some (now, is_data_read)) node xid (with_waiting b (new_link_call now node xid is_data_read) (record { waiting = calls_without node xid waiting; at_once = calls_without node xid at_once; servers = servers }))
 goes_itself now node xid is_data_read servers waiting at_once false k few =
     let call : LinkCall = new_link_call now node xid is_data_read in
     let left = calls_without node xid waiting in
@@ -182,8 +182,8 @@ goes_itself now node xid is_data_read servers waiting at_once true k few =
     (omega arith, due_none node xid now (calls_without node xid waiting) none)
 
 -- another one
-goes_other : (sending : Option (ℕ × Bool)) (node : NodeId) (xid now : ℕ) (other : NodeId) (number : ℕ) (is_data_read : Bool) (servers : List ServerNews) (c : LinkCallsValue) (b : Bool) → is_same_call node xid other number ≡ false
-    → IsCounted sending node xid c → IsCounted sending node xid (with_call b (new_link_call now other number is_data_read) (with_servers servers (taken_out other number c)))
+goes_other : (sending : Option (ℕ × Bool)) (node : NodeId) (xid now : ℕ) (other : NodeId) (number : ℕ) (is_data_read : Bool) (servers : List ServerNews) (c : LinkCallsValue) (b : Bool) → is_one_call node xid other number ≡ false
+    → IsCounted sending node xid c → IsCounted sending node xid (with_waiting b (new_link_call now other number is_data_read) (with_servers servers (taken_out other number c)))
 goes_other sending node xid now other number is_data_read servers c false differs counted =
     let call : LinkCall = new_link_call now other number is_data_read in
     let left = calls_without other number c.waiting in
@@ -208,26 +208,26 @@ goes_other sending node xid now other number is_data_read servers c true differs
     counted
 
 goes_counted : (sending : Option (ℕ × Bool)) (node : NodeId) (xid now : ℕ) (other : NodeId) (number : ℕ) (is_data_read : Bool) (c : LinkCallsValue) → IsCounted sending node xid c
-    → IsCounted (cond (is_same_call node xid other number) (Some (now, is_data_read)) sending) node xid (call_goes now (new_link_call now other number is_data_read) c)
-goes_counted sending node xid now other number is_data_read c counted = by_test (is_same_call node xid other number) refl
+    → IsCounted (cond (is_one_call node xid other number) (Some (now, is_data_read)) sending) node xid (call_goes_out now (new_link_call now other number is_data_read) c)
+goes_counted sending node xid now other number is_data_read c counted = by_test (is_one_call node xid other number) refl
   where
-    by_test : (t : Bool) → is_same_call node xid other number ≡ t → IsCounted (cond t (Some (now, is_data_read)) sending) node xid (call_goes now (new_link_call now other number is_data_read) c)
+    by_test : (t : Bool) → is_one_call node xid other number ≡ t → IsCounted (cond t (Some (now, is_data_read)) sending) node xid (call_goes_out now (new_link_call now other number is_data_read) c)
     by_test true is =
         let one = one_call node xid other number is in
         let few = at_most_once sending node xid c counted in
         let itself = goes_itself now node xid is_data_read (servers_called now node c.servers) c.waiting c.at_once (is_data_read && is_node_down now node c.servers) few.0 few.1 in
-        subst (λ (n : NodeId). IsCounted (Some (now, is_data_read)) node xid (call_goes now (new_link_call now n number is_data_read) c)) one.0
-        (subst (λ (x : ℕ). IsCounted (Some (now, is_data_read)) node xid (call_goes now (new_link_call now node x is_data_read) c)) one.1 itself)
+        subst (λ (n : NodeId). IsCounted (Some (now, is_data_read)) node xid (call_goes_out now (new_link_call now n number is_data_read) c)) one.0
+        (subst (λ (x : ℕ). IsCounted (Some (now, is_data_read)) node xid (call_goes_out now (new_link_call now node x is_data_read) c)) one.1 itself)
     by_test false differs = goes_other sending node xid now other number is_data_read (servers_called now other c.servers) c (is_data_read && is_node_down now other c.servers) differs counted
 
 -- ---- a record comes in
 
 comes_counted : (sending : Option (ℕ × Bool)) (node : NodeId) (xid now : ℕ) (from : NodeId) (answers : Option ℕ) (c : LinkCallsValue) → IsCounted sending node xid c
-    → IsCounted (cond (is_answer node xid from answers) None sending) node xid (record_comes now from answers c)
+    → IsCounted (cond (is_answer_to node xid from answers) None sending) node xid (record_comes now from answers c)
 comes_counted sending node xid now from None c counted = counted_so sending node xid c _ refl (λ at due. due) counted
-comes_counted sending node xid now from (Some number) c counted = by_test (is_same_call node xid from number) refl
+comes_counted sending node xid now from (Some number) c counted = by_test (is_one_call node xid from number) refl
   where
-    by_test : (t : Bool) → is_same_call node xid from number ≡ t → IsCounted (cond t None sending) node xid (taken_out from number (with_servers (servers_heard now from c.servers) c))
+    by_test : (t : Bool) → is_one_call node xid from number ≡ t → IsCounted (cond t None sending) node xid (taken_out from number (with_servers (servers_heard now from c.servers) c))
     by_test true is =
         let one = one_call node xid from number is in
         let few = at_most_once sending node xid c counted in
@@ -247,11 +247,11 @@ comes_counted sending node xid now from (Some number) c counted = by_test (is_sa
 -- the first of all stands there no longer
 pub first_counted : (sending : Option (ℕ × Bool)) (node : NodeId) (xid now : ℕ) (waiting at_once : List LinkCall) (servers : List ServerNews) (call : LinkCall) → first_over_of now waiting at_once ≡ Some call
     → IsCounted sending node xid (record { waiting = waiting; at_once = at_once; servers = servers })
-    → IsCounted (cond (is_same_call node xid call.node call.xid) None sending) node xid (without_first at_once (record { waiting = waiting; at_once = at_once; servers = servers }))
+    → IsCounted (cond (is_one_call node xid call.node call.xid) None sending) node xid (without_first at_once (record { waiting = waiting; at_once = at_once; servers = servers }))
 first_counted sending node xid now [] [] servers call is counted = absurd cc
 first_counted sending node xid now (x ∷ xs) [] servers call is counted = by_moment (nat_le x.due now) is
   where
-    by_test : (t : Bool) → is_same_call node xid x.node x.xid ≡ t → IsCounted (cond t None sending) node xid (record { waiting = xs; at_once = []; servers = servers })
+    by_test : (t : Bool) → is_one_call node xid x.node x.xid ≡ t → IsCounted (cond t None sending) node xid (record { waiting = xs; at_once = []; servers = servers })
     by_test true same =
         let few = at_most_once sending node xid (record { waiting = x ∷ xs; at_once = []; servers = servers }) counted in
         let sum = few.1 in
@@ -263,13 +263,13 @@ first_counted sending node xid now (x ∷ xs) [] servers call is counted = by_mo
         let one : times_here node xid (x ∷ xs) ≡ 0 + times_here node xid xs = rw here refl in
         counted_so sending node xid (record { waiting = x ∷ xs; at_once = []; servers = servers }) (record { waiting = xs; at_once = []; servers = servers }) (omega arith) (λ at due. due.1) counted
 
-    by_moment : (b : Bool) → cond b (Some x) None ≡ Some call → IsCounted (cond (is_same_call node xid call.node call.xid) None sending) node xid (record { waiting = xs; at_once = []; servers = servers })
-    by_moment true is = subst (λ (c : LinkCall). IsCounted (cond (is_same_call node xid c.node c.xid) None sending) node xid (record { waiting = xs; at_once = []; servers = servers })) (same_Some x call is) (by_test (is_same_call node xid x.node x.xid) refl)
+    by_moment : (b : Bool) → cond b (Some x) None ≡ Some call → IsCounted (cond (is_one_call node xid call.node call.xid) None sending) node xid (record { waiting = xs; at_once = []; servers = servers })
+    by_moment true is = subst (λ (c : LinkCall). IsCounted (cond (is_one_call node xid c.node c.xid) None sending) node xid (record { waiting = xs; at_once = []; servers = servers })) (same_Some x call is) (by_test (is_one_call node xid x.node x.xid) refl)
     by_moment false is = absurd cc
 first_counted sending node xid now waiting (x ∷ xs) servers call is counted =
-    subst (λ (c : LinkCall). IsCounted (cond (is_same_call node xid c.node c.xid) None sending) node xid (record { waiting = waiting; at_once = xs; servers = servers })) (same_Some x call is) (by_test (is_same_call node xid x.node x.xid) refl)
+    subst (λ (c : LinkCall). IsCounted (cond (is_one_call node xid c.node c.xid) None sending) node xid (record { waiting = waiting; at_once = xs; servers = servers })) (same_Some x call is) (by_test (is_one_call node xid x.node x.xid) refl)
   where
-    by_test : (t : Bool) → is_same_call node xid x.node x.xid ≡ t → IsCounted (cond t None sending) node xid (record { waiting = waiting; at_once = xs; servers = servers })
+    by_test : (t : Bool) → is_one_call node xid x.node x.xid ≡ t → IsCounted (cond t None sending) node xid (record { waiting = waiting; at_once = xs; servers = servers })
     by_test true same =
         let few = at_most_once sending node xid (record { waiting = waiting; at_once = x ∷ xs; servers = servers }) counted in
         let sum = few.1 in
@@ -299,26 +299,26 @@ node_counted sending node xid now (Client k) c counted = counted
 -- ---- moves
 
 pub move_counted : (node : NodeId) (xid : ℕ) (move : LinkMove) (past : List LinkMove) (old new : LinkCallsValue) → DoesMove move old new → IsCounted (out_since node xid past) node xid old → IsCounted (out_since node xid (move ∷ past)) node xid new
-move_counted node xid (GoesOut now other number is_data_read) past old new does counted =
-    subst (λ (c : LinkCallsValue). IsCounted (out_since node xid (GoesOut now other number is_data_read ∷ past)) node xid c) (sym does) (goes_counted (out_since node xid past) node xid now other number is_data_read old counted)
-move_counted node xid (ComesIn now from answers) past old new does counted =
-    subst (λ (c : LinkCallsValue). IsCounted (out_since node xid (ComesIn now from answers ∷ past)) node xid c) (sym does.1) (comes_counted (out_since node xid past) node xid now from answers old counted)
-move_counted node xid (EndsCall now other number) past old new does counted =
+move_counted node xid (CallGoesOut now other number is_data_read) past old new does counted =
+    subst (λ (c : LinkCallsValue). IsCounted (out_since node xid (CallGoesOut now other number is_data_read ∷ past)) node xid c) (sym does) (goes_counted (out_since node xid past) node xid now other number is_data_read old counted)
+move_counted node xid (RecordComesIn now from answers) past old new does counted =
+    subst (λ (c : LinkCallsValue). IsCounted (out_since node xid (RecordComesIn now from answers ∷ past)) node xid c) (sym does.1) (comes_counted (out_since node xid past) node xid now from answers old counted)
+move_counted node xid (CallIsGivenUp now other number) past old new does counted =
     let call = does.0 in
-    let sending = cond (is_same_call node xid call.node call.xid) None (out_since node xid past) in
+    let sending = cond (is_one_call node xid call.node call.xid) None (out_since node xid past) in
     let ended = node_counted sending node xid now call.node (without_first old.at_once old) (first_counted (out_since node xid past) node xid now old.waiting old.at_once old.servers call does.1 counted) in
-    subst (λ (c : LinkCallsValue). IsCounted (out_since node xid (EndsCall now other number ∷ past)) node xid c) (sym does.4)
-    (subst (λ (n : NodeId). IsCounted (cond (is_same_call node xid n number) None (out_since node xid past)) node xid (call_given_up now call old)) does.2
-    (subst (λ (x : ℕ). IsCounted (cond (is_same_call node xid call.node x) None (out_since node xid past)) node xid (call_given_up now call old)) does.3 ended))
+    subst (λ (c : LinkCallsValue). IsCounted (out_since node xid (CallIsGivenUp now other number ∷ past)) node xid c) (sym does.4)
+    (subst (λ (n : NodeId). IsCounted (cond (is_one_call node xid n number) None (out_since node xid past)) node xid (call_given_up now call old)) does.2
+    (subst (λ (x : ℕ). IsCounted (cond (is_one_call node xid call.node x) None (out_since node xid past)) node xid (call_given_up now call old)) does.3 ended))
 
 pub counted : (moves : List LinkMove) (c : LinkCallsValue) → RunsMoves moves c → (node : NodeId) (xid : ℕ) → IsCounted (out_since node xid moves) node xid c
 counted [] c is node xid = subst (λ (x : LinkCallsValue). IsCounted None node xid x) (sym is) refl
 counted (move ∷ past) c run node xid = move_counted node xid move past run.0 c run.2 (counted past run.0 run.1 node xid)
 
-pub kept : (sending : Option (ℕ × Bool)) (node : NodeId) (xid : ℕ) (c : LinkCallsValue) → IsCounted sending node xid c → IsKept sending node xid c
+pub kept : (sending : Option (ℕ × Bool)) (node : NodeId) (xid : ℕ) (c : LinkCallsValue) → IsCounted sending node xid c → IsKeptOnce sending node xid c
 kept None node xid c none = (omega arith, omega arith)
 kept (Some sending) node xid c one = let sum = one.0 in by_case (cases_lt 0 (times_here node xid c.waiting))
   where
-    by_case : (0 < times_here node xid c.waiting) ⊎ (times_here node xid c.waiting ≤ 0) → IsKept (Some sending) node xid c
+    by_case : (0 < times_here node xid c.waiting) ⊎ (times_here node xid c.waiting ≤ 0) → IsKeptOnce (Some sending) node xid c
     by_case (inl more) = let sum = one.0 in inl (omega arith, omega arith, one.1)
     by_case (inr less) = let sum = one.0 in inr (omega arith, omega arith)

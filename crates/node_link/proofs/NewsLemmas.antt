@@ -8,11 +8,11 @@ use Rattle.cluster_model.specs.declared.ids.NodeId.{NodeId}
 use Rattle.cluster_model.specs.declared.ids.NodeId.TheVariants.{Mds, Server, Client}
 use Rattle.node_link.specs.declared.server_news.ServerNews.{ServerNews}
 use Rattle.node_link.specs.declared.server_news.NewsChange.{NewsChange}
-use Rattle.node_link.specs.declared.server_news.NewsChange.TheVariants.{IsCalled, IsHeard, IsGivenUp}
+use Rattle.node_link.specs.declared.server_news.NewsChange.TheVariants.{IsCalled, IsHeardFrom, IsGivenUp}
 use Rattle.node_link.specs.declared.server_news.TheConstants.{DOWN_LIMIT}
 use Rattle.node_link.specs.declared.link_call.TheConstants.{CALL_LIMIT}
-use Rattle.node_link.specs.ServerNews.{is_recent, is_down_at, since_at, new_news, changed_news, is_behind, has_other_come, is_silent_since, is_silent, is_server_down, is_found_down, with_news, is_known, with_called, servers_called, servers_heard, servers_given_up}
-use Rattle.node_link.specs.LinkMoves.{LinkMove, GoesOut, ComesIn, EndsCall, last_moment, moment_of}
+use Rattle.node_link.specs.ServerNews.{is_recent, is_down_at, since_at, new_news, changed_news, is_heard_since, has_other_come, is_silent_since, is_silent, is_server_down, is_found_down, with_news, is_called_before, with_called, servers_called, servers_heard, servers_given_up}
+use Rattle.node_link.specs.LinkMoves.{LinkMove, CallGoesOut, RecordComesIn, CallIsGivenUp, last_moment, move_moment}
 use Rattle.node_link.specs.LinkLaws.{IsMuteSince, HasOtherCome, IsSilentBy}
 use Rattle.node_link.proofs.CountLemmas.{not_both}
 
@@ -26,9 +26,9 @@ server_number (Client k) = k
 -- a record came from this server at this moment
 abbrev pub HasComeAt : ℕ → ℕ → List LinkMove → Type 0
 HasComeAt number at [] = ⊥
-HasComeAt number at (GoesOut now node xid is_data_read ∷ past) = HasComeAt number at past
-HasComeAt number at (ComesIn now node answers ∷ past) = ((node ≡ Server number) × (now ≡ at)) ⊎ HasComeAt number at past
-HasComeAt number at (EndsCall now node xid ∷ past) = HasComeAt number at past
+HasComeAt number at (CallGoesOut now node xid is_data_read ∷ past) = HasComeAt number at past
+HasComeAt number at (RecordComesIn now node answers ∷ past) = ((node ≡ Server number) × (now ≡ at)) ⊎ HasComeAt number at past
+HasComeAt number at (CallIsGivenUp now node xid ∷ past) = HasComeAt number at past
 
 -- what is known of a server is what the moves say
 pub record IsTold (moves : List LinkMove) (news : ServerNews) : Type 0 where
@@ -38,10 +38,10 @@ pub record IsTold (moves : List LinkMove) (news : ServerNews) : Type 0 where
 
 other_came : (number other since at : ℕ) (moves : List LinkMove) → (other ≡ number → ⊥) → since ≤ at → HasComeAt other at moves → HasOtherCome number since moves
 other_came number other since at [] differs behind came = came
-other_came number other since at (GoesOut now node xid is_data_read ∷ past) differs behind came = other_came number other since at past differs behind came
-other_came number other since at (ComesIn now node answers ∷ past) differs behind (inl came) = let at_now = came.1 in inl (other, came.0, differs, omega (arith, behind, at_now))
-other_came number other since at (ComesIn now node answers ∷ past) differs behind (inr came) = inr (other_came number other since at past differs behind came)
-other_came number other since at (EndsCall now node xid ∷ past) differs behind came = other_came number other since at past differs behind came
+other_came number other since at (CallGoesOut now node xid is_data_read ∷ past) differs behind came = other_came number other since at past differs behind came
+other_came number other since at (RecordComesIn now node answers ∷ past) differs behind (inl came) = let at_now = came.1 in inl (other, came.0, differs, omega (arith, behind, at_now))
+other_came number other since at (RecordComesIn now node answers ∷ past) differs behind (inr came) = inr (other_came number other since at past differs behind came)
+other_came number other since at (CallIsGivenUp now node xid ∷ past) differs behind came = other_came number other since at past differs behind came
 
 pub silent_later : (number now then_at : ℕ) (moves : List LinkMove) → now ≤ then_at → IsSilentBy number now moves → IsSilentBy number then_at moves
 silent_later number now then_at moves later silent = let long = silent.1 in (silent.0, omega (arith, long, later), silent.2, silent.3)
@@ -50,33 +50,33 @@ silent_later number now then_at moves later silent = let long = silent.1 in (sil
 
 -- the move is no record of this server
 abbrev pub IsNoneOf : ℕ → LinkMove → Type 0
-IsNoneOf number (GoesOut now node xid is_data_read) = Unit {0}
-IsNoneOf number (ComesIn now node answers) = node ≡ Server number → ⊥
-IsNoneOf number (EndsCall now node xid) = Unit {0}
+IsNoneOf number (CallGoesOut now node xid is_data_read) = Unit {0}
+IsNoneOf number (RecordComesIn now node answers) = node ≡ Server number → ⊥
+IsNoneOf number (CallIsGivenUp now node xid) = Unit {0}
 
 mute_on : (number since : ℕ) (move : LinkMove) (past : List LinkMove) → IsNoneOf number move → IsMuteSince number since past → IsMuteSince number since (move ∷ past)
-mute_on number since (GoesOut now node xid is_data_read) past none mute = inr mute
-mute_on number since (ComesIn now node answers) past none mute = (none, mute)
-mute_on number since (EndsCall now node xid) past none mute = mute
+mute_on number since (CallGoesOut now node xid is_data_read) past none mute = inr mute
+mute_on number since (RecordComesIn now node answers) past none mute = (none, mute)
+mute_on number since (CallIsGivenUp now node xid) past none mute = mute
 
 came_on : (number at : ℕ) (move : LinkMove) (past : List LinkMove) → HasComeAt number at past → HasComeAt number at (move ∷ past)
-came_on number at (GoesOut now node xid is_data_read) past came = came
-came_on number at (ComesIn now node answers) past came = inr came
-came_on number at (EndsCall now node xid) past came = came
+came_on number at (CallGoesOut now node xid is_data_read) past came = came
+came_on number at (RecordComesIn now node answers) past came = inr came
+came_on number at (CallIsGivenUp now node xid) past came = came
 
 others_on : (number since : ℕ) (move : LinkMove) (past : List LinkMove) → HasOtherCome number since past → HasOtherCome number since (move ∷ past)
-others_on number since (GoesOut now node xid is_data_read) past came = came
-others_on number since (ComesIn now node answers) past came = inr came
-others_on number since (EndsCall now node xid) past came = came
+others_on number since (CallGoesOut now node xid is_data_read) past came = came
+others_on number since (RecordComesIn now node answers) past came = inr came
+others_on number since (CallIsGivenUp now node xid) past came = came
 
 pub silent_on : (number now : ℕ) (move : LinkMove) (past : List LinkMove) → IsNoneOf number move → IsSilentBy number now past → IsSilentBy number now (move ∷ past)
 silent_on number now move past none silent = (silent.0, silent.1, mute_on number silent.0 move past none silent.2, others_on number silent.0 move past silent.3)
 
-told_on : (move : LinkMove) (past : List LinkMove) (news : ServerNews) → last_moment past ≤ moment_of move → IsNoneOf news.number move → IsTold past news → IsTold (move ∷ past) news
+told_on : (move : LinkMove) (past : List LinkMove) (news : ServerNews) → last_moment past ≤ move_moment move → IsNoneOf news.number move → IsTold past news → IsTold (move ∷ past) news
 told_on move past news after none told = record {
   mute = λ since is. mute_on news.number since move past none (told.mute since is);
   heard = λ at is. came_on news.number at move past (told.heard at is);
-  down = λ is. silent_later news.number (last_moment past) (moment_of move) (move ∷ past) after (silent_on news.number (last_moment past) move past none (told.down is));
+  down = λ is. silent_later news.number (last_moment past) (move_moment move) (move ∷ past) after (silent_on news.number (last_moment past) move past none (told.down is));
 }
 
 -- ---- lists
@@ -112,7 +112,7 @@ module _ (now number : ℕ) (moves : List LinkMove) (servers : List ServerNews) 
   silent_says : (news : ServerNews) → IsTold moves news → is_silent now servers news ≡ true → IsSilentBy news.number now moves
   silent_says news its is = by_since news.since refl is
     where
-      other_heard : (since : ℕ) (other : ServerNews) → IsTold moves other → (other.number ≡ news.number → ⊥) → (o : Option ℕ) → other.heard ≡ o → is_behind since o ≡ true → HasOtherCome news.number since moves
+      other_heard : (since : ℕ) (other : ServerNews) → IsTold moves other → (other.number ≡ news.number → ⊥) → (o : Option ℕ) → other.heard ≡ o → is_heard_since since o ≡ true → HasOtherCome news.number since moves
       other_heard since other others differs None heard behind = absurd cc
       other_heard since other others differs (Some at) heard behind = other_came news.number other.number since at moves differs (leb-true since at behind) (others.heard at heard)
 
@@ -121,9 +121,9 @@ module _ (now number : ℕ) (moves : List LinkMove) (servers : List ServerNews) 
       by_since (Some since) is_since silent =
           let parts = and_parts (nat_le DOWN_LIMIT (now - since)) (has_other_come news.number since servers) silent in
           let long : DOWN_LIMIT ≤ now - since = leb-true DOWN_LIMIT (now - since) parts.0 in
-          let some = some_passes (λ (x : ServerNews). IsTold moves x) (λ (x : ServerNews). not (x.number == news.number) && is_behind since x.heard) servers parts.1 told in
+          let some = some_passes (λ (x : ServerNews). IsTold moves x) (λ (x : ServerNews). not (x.number == news.number) && is_heard_since since x.heard) servers parts.1 told in
           let other = some.0 in
-          let tests = and_parts (not (other.number == news.number)) (is_behind since other.heard) some.1 in
+          let tests = and_parts (not (other.number == news.number)) (is_heard_since since other.heard) some.1 in
           let came = other_heard since other some.2 (λ same. not_one (other.number == news.number) tests.0 (eq-eqb other.number news.number same)) other.heard refl tests.1 in
           (since, omega (arith, long), its.mute since is_since, came)
 
@@ -147,37 +147,37 @@ module _ (now number : ℕ) (moves : List LinkMove) (servers : List ServerNews) 
 
 -- ---- what happens to one server
 
-told_called : (now number xid : ℕ) (is_data_read : Bool) (past : List LinkMove) (news : ServerNews) → last_moment past ≤ now → news.number ≡ number → IsTold past news → IsTold (GoesOut now (Server number) xid is_data_read ∷ past) (changed_news now IsCalled news)
+told_called : (now number xid : ℕ) (is_data_read : Bool) (past : List LinkMove) (news : ServerNews) → last_moment past ≤ now → news.number ≡ number → IsTold past news → IsTold (CallGoesOut now (Server number) xid is_data_read ∷ past) (changed_news now IsCalled news)
 told_called now number xid is_data_read past news after same told = record {
   mute = λ since is. by_since since news.since refl is;
   heard = told.heard;
-  down = λ is. silent_later news.number (last_moment past) now (GoesOut now (Server number) xid is_data_read ∷ past) after (silent_on news.number (last_moment past) (GoesOut now (Server number) xid is_data_read) past tt (told.down is));
+  down = λ is. silent_later news.number (last_moment past) now (CallGoesOut now (Server number) xid is_data_read ∷ past) after (silent_on news.number (last_moment past) (CallGoesOut now (Server number) xid is_data_read) past tt (told.down is));
 }
   where
-    by_gap : (since s : ℕ) → news.since ≡ Some s → (b : Bool) → cond b (Some now) (Some s) ≡ Some since → IsMuteSince news.number since (GoesOut now (Server number) xid is_data_read ∷ past)
+    by_gap : (since s : ℕ) → news.since ≡ Some s → (b : Bool) → cond b (Some now) (Some s) ≡ Some since → IsMuteSince news.number since (CallGoesOut now (Server number) xid is_data_read ∷ past)
     by_gap since s was true is = inl (ap Server (sym same), same_Some now since is)
     by_gap since s was false is = inr (told.mute since (was ∙ is))
 
-    by_since : (since : ℕ) (o : Option ℕ) → news.since ≡ o → since_at now news.called o ≡ Some since → IsMuteSince news.number since (GoesOut now (Server number) xid is_data_read ∷ past)
+    by_since : (since : ℕ) (o : Option ℕ) → news.since ≡ o → since_at now news.called o ≡ Some since → IsMuteSince news.number since (CallGoesOut now (Server number) xid is_data_read ∷ past)
     by_since since None was is = inl (ap Server (sym same), same_Some now since is)
     by_since since (Some s) was is = by_gap since s was (nat_lt (2 * CALL_LIMIT) (now - news.called)) is
 
-told_new : (now number xid : ℕ) (is_data_read : Bool) (past : List LinkMove) → IsTold (GoesOut now (Server number) xid is_data_read ∷ past) (new_news now number)
+told_new : (now number xid : ℕ) (is_data_read : Bool) (past : List LinkMove) → IsTold (CallGoesOut now (Server number) xid is_data_read ∷ past) (new_news now number)
 told_new now number xid is_data_read past = record {
   mute = λ since is. inl (refl, same_Some now since is);
   heard = λ at is. absurd cc;
   down = λ is. absurd cc;
 }
 
-told_heard : (now number : ℕ) (answers : Option ℕ) (past : List LinkMove) (news : ServerNews) → news.number ≡ number → IsTold (ComesIn now (Server number) answers ∷ past) (changed_news now IsHeard news)
+told_heard : (now number : ℕ) (answers : Option ℕ) (past : List LinkMove) (news : ServerNews) → news.number ≡ number → IsTold (RecordComesIn now (Server number) answers ∷ past) (changed_news now IsHeardFrom news)
 told_heard now number answers past news same = record {
   mute = λ since is. absurd cc;
   heard = λ at is. inl (ap Server (sym same), same_Some now at is);
   down = λ is. absurd cc;
 }
 
-told_given_up : (now : ℕ) (node : NodeId) (xid : ℕ) (is_down : Bool) (past : List LinkMove) (news : ServerNews) → (is_down ≡ true → IsSilentBy news.number now past) → IsTold past news → IsTold (EndsCall now node xid ∷ past) (changed_news now (IsGivenUp is_down) news)
-told_given_up now node xid is_down past news silent told = record { mute = told.mute; heard = told.heard; down = λ is. silent_on news.number now (EndsCall now node xid) past tt (silent is) }
+told_given_up : (now : ℕ) (node : NodeId) (xid : ℕ) (is_down : Bool) (past : List LinkMove) (news : ServerNews) → (is_down ≡ true → IsSilentBy news.number now past) → IsTold past news → IsTold (CallIsGivenUp now node xid ∷ past) (changed_news now (IsGivenUp is_down) news)
+told_given_up now node xid is_down past news silent told = record { mute = told.mute; heard = told.heard; down = λ is. silent_on news.number now (CallIsGivenUp now node xid) past tt (silent is) }
 
 -- ---- what happens to all servers
 
@@ -197,44 +197,44 @@ module _ (move : LinkMove) (past : List LinkMove) where
 
 -- a call goes
 pub told_behind_call : (now : ℕ) (node : NodeId) (xid : ℕ) (is_data_read : Bool) (past : List LinkMove) (servers : List ServerNews) → last_moment past ≤ now → AreTold past servers
-    → AreTold (GoesOut now node xid is_data_read ∷ past) (servers_called now node servers)
-told_behind_call now Mds xid is_data_read past servers after told = all_told (GoesOut now Mds xid is_data_read) past servers (λ news its. told_on (GoesOut now Mds xid is_data_read) past news after tt its) told
-told_behind_call now (Client k) xid is_data_read past servers after told = all_told (GoesOut now (Client k) xid is_data_read) past servers (λ news its. told_on (GoesOut now (Client k) xid is_data_read) past news after tt its) told
-told_behind_call now (Server number) xid is_data_read past servers after told = by_case (is_known number servers)
+    → AreTold (CallGoesOut now node xid is_data_read ∷ past) (servers_called now node servers)
+told_behind_call now Mds xid is_data_read past servers after told = all_told (CallGoesOut now Mds xid is_data_read) past servers (λ news its. told_on (CallGoesOut now Mds xid is_data_read) past news after tt its) told
+told_behind_call now (Client k) xid is_data_read past servers after told = all_told (CallGoesOut now (Client k) xid is_data_read) past servers (λ news its. told_on (CallGoesOut now (Client k) xid is_data_read) past news after tt its) told
+told_behind_call now (Server number) xid is_data_read past servers after told = by_case (is_called_before number servers)
   where
-    by_case : (b : Bool) → AreTold (GoesOut now (Server number) xid is_data_read ∷ past) (cond b (with_news now number IsCalled servers) (servers ++ new_news now number ∷ []))
+    by_case : (b : Bool) → AreTold (CallGoesOut now (Server number) xid is_data_read ∷ past) (cond b (with_news now number IsCalled servers) (servers ++ new_news now number ∷ []))
     by_case true =
-        changed_told (GoesOut now (Server number) xid is_data_read) past now number IsCalled servers (λ news same its. told_called now number xid is_data_read past news after same its)
-        (λ news differs its. told_on (GoesOut now (Server number) xid is_data_read) past news after tt its) told
+        changed_told (CallGoesOut now (Server number) xid is_data_read) past now number IsCalled servers (λ news same its. told_called now number xid is_data_read past news after same its)
+        (λ news differs its. told_on (CallGoesOut now (Server number) xid is_data_read) past news after tt its) told
     by_case false =
-        told_joined (GoesOut now (Server number) xid is_data_read ∷ past) servers (new_news now number ∷ [])
-        (all_told (GoesOut now (Server number) xid is_data_read) past servers (λ news its. told_on (GoesOut now (Server number) xid is_data_read) past news after tt its) told)
+        told_joined (CallGoesOut now (Server number) xid is_data_read ∷ past) servers (new_news now number ∷ [])
+        (all_told (CallGoesOut now (Server number) xid is_data_read) past servers (λ news its. told_on (CallGoesOut now (Server number) xid is_data_read) past news after tt its) told)
         (told_new now number xid is_data_read past, tt)
 
 -- a record comes
-pub told_behind_record : (now : ℕ) (node : NodeId) (answers : Option ℕ) (past : List LinkMove) (servers : List ServerNews) → last_moment past ≤ now → AreTold past servers → AreTold (ComesIn now node answers ∷ past) (servers_heard now node servers)
-told_behind_record now Mds answers past servers after told = all_told (ComesIn now Mds answers) past servers (λ news its. told_on (ComesIn now Mds answers) past news after (λ is. absurd cc) its) told
-told_behind_record now (Client k) answers past servers after told = all_told (ComesIn now (Client k) answers) past servers (λ news its. told_on (ComesIn now (Client k) answers) past news after (λ is. absurd cc) its) told
+pub told_behind_record : (now : ℕ) (node : NodeId) (answers : Option ℕ) (past : List LinkMove) (servers : List ServerNews) → last_moment past ≤ now → AreTold past servers → AreTold (RecordComesIn now node answers ∷ past) (servers_heard now node servers)
+told_behind_record now Mds answers past servers after told = all_told (RecordComesIn now Mds answers) past servers (λ news its. told_on (RecordComesIn now Mds answers) past news after (λ is. absurd cc) its) told
+told_behind_record now (Client k) answers past servers after told = all_told (RecordComesIn now (Client k) answers) past servers (λ news its. told_on (RecordComesIn now (Client k) answers) past news after (λ is. absurd cc) its) told
 told_behind_record now (Server number) answers past servers after told =
-    changed_told (ComesIn now (Server number) answers) past now number IsHeard servers (λ news same its. told_heard now number answers past news same)
-    (λ news differs its. told_on (ComesIn now (Server number) answers) past news after (λ is. differs (sym (ap server_number is))) its) told
+    changed_told (RecordComesIn now (Server number) answers) past now number IsHeardFrom servers (λ news same its. told_heard now number answers past news same)
+    (λ news differs its. told_on (RecordComesIn now (Server number) answers) past news after (λ is. differs (sym (ap server_number is))) its) told
 
 -- a call is given up
-pub told_behind_end : (now : ℕ) (node : NodeId) (other : NodeId) (xid : ℕ) (past : List LinkMove) (servers : List ServerNews) → last_moment past ≤ now → AreTold past servers → AreTold (EndsCall now other xid ∷ past) (servers_given_up now node servers)
-told_behind_end now Mds other xid past servers after told = all_told (EndsCall now other xid) past servers (λ news its. told_on (EndsCall now other xid) past news after tt its) told
-told_behind_end now (Client k) other xid past servers after told = all_told (EndsCall now other xid) past servers (λ news its. told_on (EndsCall now other xid) past news after tt its) told
+pub told_behind_end : (now : ℕ) (node : NodeId) (other : NodeId) (xid : ℕ) (past : List LinkMove) (servers : List ServerNews) → last_moment past ≤ now → AreTold past servers → AreTold (CallIsGivenUp now other xid ∷ past) (servers_given_up now node servers)
+told_behind_end now Mds other xid past servers after told = all_told (CallIsGivenUp now other xid) past servers (λ news its. told_on (CallIsGivenUp now other xid) past news after tt its) told
+told_behind_end now (Client k) other xid past servers after told = all_told (CallIsGivenUp now other xid) past servers (λ news its. told_on (CallIsGivenUp now other xid) past news after tt its) told
 told_behind_end now (Server number) other xid past servers after told =
-    changed_told (EndsCall now other xid) past now number (IsGivenUp (is_found_down now number servers)) servers
+    changed_told (CallIsGivenUp now other xid) past now number (IsGivenUp (is_found_down now number servers)) servers
     (λ news same its. told_given_up now other xid (is_found_down now number servers) past news (λ is. subst (λ (n : ℕ). IsSilentBy n now past) (sym same) (found_silent now number past servers told after is)) its)
-    (λ news differs its. told_on (EndsCall now other xid) past news after tt its) told
+    (λ news differs its. told_on (CallIsGivenUp now other xid) past news after tt its) told
 
 -- ---- one that gave a record
 
-pub heard_up : (then_at now number : ℕ) (servers : List ServerNews) → is_server_down now number (with_news then_at number IsHeard servers) ≡ false
+pub heard_up : (then_at now number : ℕ) (servers : List ServerNews) → is_server_down now number (with_news then_at number IsHeardFrom servers) ≡ false
 heard_up then_at now number [] = refl
 heard_up then_at now number (news ∷ servers) = by_case (news.number == number) refl (heard_up then_at now number servers)
   where
-    by_case : (b : Bool) → (news.number == number) ≡ b → is_server_down now number (with_news then_at number IsHeard servers) ≡ false
-        → is_server_down now number (cond b (changed_news then_at IsHeard news) news ∷ with_news then_at number IsHeard servers) ≡ false
+    by_case : (b : Bool) → (news.number == number) ≡ b → is_server_down now number (with_news then_at number IsHeardFrom servers) ≡ false
+        → is_server_down now number (cond b (changed_news then_at IsHeardFrom news) news ∷ with_news then_at number IsHeardFrom servers) ≡ false
     by_case true is rest = rw is rest
     by_case false is rest = rw is rest

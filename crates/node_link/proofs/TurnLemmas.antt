@@ -10,10 +10,10 @@ use Rattle.cluster_model.specs.Nodes.{is_node}
 use Rattle.node_link.specs.declared.link_call.LinkCall.{LinkCall}
 use Rattle.node_link.specs.declared.server_news.ServerNews.{ServerNews}
 use Rattle.node_link.specs.ServerNews.{is_server_down, is_found_down, servers_called, servers_heard, servers_given_up, with_news}
-use Rattle.node_link.specs.declared.server_news.NewsChange.TheVariants.{IsHeard}
-use Rattle.node_link.specs.LinkCalls.{LinkCallsValue, no_link_calls, later, is_link_call, is_read_of, is_node_down, new_link_call, calls_without, taken_out, with_call, with_servers, with_reads_over, with_reads_over_if, call_goes, call_answered, record_comes, first_due, first_over_of, call_over, without_first, node_given_up, call_given_up, first_moment, earliest_of, earliest}
-use Rattle.node_link.specs.LinkMoves.{LinkMove, GoesOut, ComesIn, EndsCall, DoesMove, RunsMoves, NeverFall, last_moment, moment_of}
-use Rattle.node_link.specs.LinkLaws.{is_same_call, is_answer, out_since, times_here, IsSilentBy, IsFirstDue, IsReadOfSilent, EndsRightly}
+use Rattle.node_link.specs.declared.server_news.NewsChange.TheVariants.{IsHeardFrom}
+use Rattle.node_link.specs.LinkCalls.{LinkCallsValue, no_link_calls, later, is_link_call, is_read_of, is_node_down, new_link_call, calls_without, taken_out, with_waiting, with_servers, with_reads_over, with_reads_over_if, call_goes_out, settles_call, record_comes, first_due, first_over_of, call_over, without_first, node_given_up, call_given_up, first_due_moment, earliest_of, earliest}
+use Rattle.node_link.specs.LinkMoves.{LinkMove, CallGoesOut, RecordComesIn, CallIsGivenUp, DoesMove, RunsMoves, NeverFall, last_moment, move_moment}
+use Rattle.node_link.specs.LinkLaws.{is_one_call, is_answer_to, out_since, times_here, IsSilentBy, IsDueFirst, IsReadOfSilent, EndsRightly}
 use Rattle.node_link.proofs.CalleeLemmas.{is_one}
 use Rattle.node_link.proofs.CountLemmas.{not_both, one_call, same_call, turned, all_joined, all_without, all_filtered, none_here, times_joined, times_without, times_parted, IsCounted, at_most_once, counted, first_counted}
 use Rattle.node_link.proofs.NewsLemmas.{AreTold, IsNoneOf, silent_later, silent_on, down_silent, found_silent, told_behind_call, told_behind_record, told_behind_end, heard_up}
@@ -73,17 +73,17 @@ turn_filtered test low moves (call ∷ calls) turn = by_case (test call) (turn_f
 -- nothing went out behind the latest move
 out_before : (node : NodeId) (xid : ℕ) (moves : List LinkMove) (at : ℕ) (is_data_read : Bool) → NeverFall moves → out_since node xid moves ≡ Some (at, is_data_read) → at ≤ last_moment moves
 out_before node xid [] at is_data_read fall is = absurd cc
-out_before node xid (GoesOut now to number r ∷ past) at is_data_read fall is = by_case (is_same_call node xid to number) is (out_before node xid past at is_data_read fall.1)
+out_before node xid (CallGoesOut now to number r ∷ past) at is_data_read fall is = by_case (is_one_call node xid to number) is (out_before node xid past at is_data_read fall.1)
   where
     by_case : (b : Bool) → cond b (Some (now, r)) (out_since node xid past) ≡ Some (at, is_data_read) → (out_since node xid past ≡ Some (at, is_data_read) → at ≤ last_moment past) → at ≤ now
     by_case true is rest = let same : now ≡ at = ap (λ (p : ℕ × Bool). p.0) (same_Some (now, r) (at, is_data_read) is) in omega arith
     by_case false is rest = let before = rest is in let after = fall.0 in omega arith
-out_before node xid (ComesIn now from answers ∷ past) at is_data_read fall is = by_case (is_answer node xid from answers) is (out_before node xid past at is_data_read fall.1)
+out_before node xid (RecordComesIn now from answers ∷ past) at is_data_read fall is = by_case (is_answer_to node xid from answers) is (out_before node xid past at is_data_read fall.1)
   where
     by_case : (b : Bool) → cond b None (out_since node xid past) ≡ Some (at, is_data_read) → (out_since node xid past ≡ Some (at, is_data_read) → at ≤ last_moment past) → at ≤ now
     by_case true is rest = absurd cc
     by_case false is rest = let before = rest is in let after = fall.0 in omega arith
-out_before node xid (EndsCall now to number ∷ past) at is_data_read fall is = by_case (is_same_call node xid to number) is (out_before node xid past at is_data_read fall.1)
+out_before node xid (CallIsGivenUp now to number ∷ past) at is_data_read fall is = by_case (is_one_call node xid to number) is (out_before node xid past at is_data_read fall.1)
   where
     by_case : (b : Bool) → cond b None (out_since node xid past) ≡ Some (at, is_data_read) → (out_since node xid past ≡ Some (at, is_data_read) → at ≤ last_moment past) → at ≤ now
     by_case true is rest = absurd cc
@@ -125,12 +125,11 @@ all_any : (P : LinkCall → Type 0) → ((call : LinkCall) → P call) → (call
 all_any P says [] = tt
 all_any P says (call ∷ calls) = (says call, all_any P says calls)
 
-hopeless_on : (move : LinkMove) (past : List LinkMove) → last_moment past ≤ moment_of move → ((number : ℕ) → IsNoneOf number move) → (calls : List LinkCall) → AllByRecursion (IsSame past (move ∷ past)) calls → AreHopeless past calls → AreHopeless (move ∷ past) calls
+hopeless_on : (move : LinkMove) (past : List LinkMove) → last_moment past ≤ move_moment move → ((number : ℕ) → IsNoneOf number move) → (calls : List LinkCall) → AllByRecursion (IsSame past (move ∷ past)) calls → AreHopeless past calls → AreHopeless (move ∷ past) calls
 hopeless_on move past after none [] same all = tt
 hopeless_on move past after none (call ∷ calls) same all =
-    let its = all.0 in
-    (
-      record { at = its.at; sent = same.0 ∙ its.sent; number = its.number; server = its.server; silent = silent_later its.number (last_moment past) (moment_of move) (move ∷ past) after (silent_on its.number (last_moment past) move past (none its.number) its.silent) },
+    let its = all.0 in (
+      record { at = its.at; sent = same.0 ∙ its.sent; number = its.number; server = its.server; silent = silent_later its.number (last_moment past) (move_moment move) (move ∷ past) after (silent_on its.number (last_moment past) move past (none its.number) its.silent) },
       hopeless_on move past after none calls same.1 all.1,
     )
 
@@ -169,54 +168,54 @@ node_down now (Server number) servers is = (number, refl, is)
 node_down now (Client k) servers is = absurd cc
 
 -- a call goes out
-goes_right : (now : ℕ) (node : NodeId) (xid : ℕ) (is_data_read : Bool) (past : List LinkMove) (c : LinkCallsValue) → NeverFall (GoesOut now node xid is_data_read ∷ past) → IsCounted (out_since node xid past) node xid c → IsRight past c
-    → IsRight (GoesOut now node xid is_data_read ∷ past) (call_goes now (new_link_call now node xid is_data_read) c)
+goes_right : (now : ℕ) (node : NodeId) (xid : ℕ) (is_data_read : Bool) (past : List LinkMove) (c : LinkCallsValue) → NeverFall (CallGoesOut now node xid is_data_read ∷ past) → IsCounted (out_since node xid past) node xid c → IsRight past c
+    → IsRight (CallGoesOut now node xid is_data_read ∷ past) (call_goes_out now (new_link_call now node xid is_data_read) c)
 goes_right now node xid is_data_read past c fall count right = by_case (is_data_read && is_node_down now node c.servers) refl
   where
-    same : (calls : List LinkCall) → times_here node xid calls ≡ 0 → AllByRecursion (IsSame past (GoesOut now node xid is_data_read ∷ past)) calls
-    same calls none = all_so (λ (x : LinkCall). is_link_call node xid x ≡ false) (IsSame past (GoesOut now node xid is_data_read ∷ past)) (λ x differs. ap (λ (b : Bool). cond b (Some (now, is_data_read)) (out_since x.node x.xid past)) differs) calls (none_here node xid calls none)
+    same : (calls : List LinkCall) → times_here node xid calls ≡ 0 → AllByRecursion (IsSame past (CallGoesOut now node xid is_data_read ∷ past)) calls
+    same calls none = all_so (λ (x : LinkCall). is_link_call node xid x ≡ false) (IsSame past (CallGoesOut now node xid is_data_read ∷ past)) (λ x differs. ap (λ (b : Bool). cond b (Some (now, is_data_read)) (out_since x.node x.xid past)) differs) calls (none_here node xid calls none)
 
-    sent : out_since node xid (GoesOut now node xid is_data_read ∷ past) ≡ Some (now, is_data_read)
+    sent : out_since node xid (CallGoesOut now node xid is_data_read ∷ past) ≡ Some (now, is_data_read)
     sent = rw (same_call node xid) refl
 
-    by_case : (b : Bool) → (is_data_read && is_node_down now node c.servers) ≡ b → IsRight (GoesOut now node xid is_data_read ∷ past) (with_call b (new_link_call now node xid is_data_read) (with_servers (servers_called now node c.servers) (taken_out node xid c)))
+    by_case : (b : Bool) → (is_data_read && is_node_down now node c.servers) ≡ b → IsRight (CallGoesOut now node xid is_data_read ∷ past) (with_waiting b (new_link_call now node xid is_data_read) (with_servers (servers_called now node c.servers) (taken_out node xid c)))
     by_case false is =
         let none = none_left node xid (out_since node xid past) c count in
-        let waits = turn_same 0 past (GoesOut now node xid is_data_read ∷ past) (calls_without node xid c.waiting) (same (calls_without node xid c.waiting) none.0) (turn_without node xid 0 past c.waiting right.turn) in
+        let waits = turn_same 0 past (CallGoesOut now node xid is_data_read ∷ past) (calls_without node xid c.waiting) (same (calls_without node xid c.waiting) none.0) (turn_without node xid 0 past c.waiting right.turn) in
         record {
-          turn = turn_pushed 0 now (GoesOut now node xid is_data_read ∷ past) (calls_without node xid c.waiting) (new_link_call now node xid is_data_read) fall refl (omega arith) (record { is_data_read = is_data_read; sent = sent; reads = refl; due = refl }) waits;
-          hopeless = hopeless_on (GoesOut now node xid is_data_read) past fall.0 (λ n. tt) (calls_without node xid c.at_once) (same (calls_without node xid c.at_once) none.1) (all_without (λ (x : LinkCall). IsHopeless past x) node xid c.at_once right.hopeless);
+          turn = turn_pushed 0 now (CallGoesOut now node xid is_data_read ∷ past) (calls_without node xid c.waiting) (new_link_call now node xid is_data_read) fall refl (omega arith) (record { is_data_read = is_data_read; sent = sent; reads = refl; due = refl }) waits;
+          hopeless = hopeless_on (CallGoesOut now node xid is_data_read) past fall.0 (λ n. tt) (calls_without node xid c.at_once) (same (calls_without node xid c.at_once) none.1) (all_without (λ (x : LinkCall). IsHopeless past x) node xid c.at_once right.hopeless);
           told = told_behind_call now node xid is_data_read past c.servers fall.0 right.told;
         }
     by_case true is =
         let none = none_left node xid (out_since node xid past) c count in
         let parts = and_parts is_data_read (is_node_down now node c.servers) is in
         let down = node_down now node c.servers parts.1 in
-        let silent = silent_on down.0 now (GoesOut now node xid is_data_read) past tt (down_silent now down.0 past c.servers right.told fall.0 down.2) in
-        let its : IsHopeless (GoesOut now node xid is_data_read ∷ past) (new_link_call now node xid is_data_read) =
+        let silent = silent_on down.0 now (CallGoesOut now node xid is_data_read) past tt (down_silent now down.0 past c.servers right.told fall.0 down.2) in
+        let its : IsHopeless (CallGoesOut now node xid is_data_read ∷ past) (new_link_call now node xid is_data_read) =
         record { at = now; sent = sent ∙ ap (λ (r : Bool). Some (now, r)) parts.0; number = down.0; server = down.1; silent = silent } in
         record {
-          turn = turn_same 0 past (GoesOut now node xid is_data_read ∷ past) (calls_without node xid c.waiting) (same (calls_without node xid c.waiting) none.0) (turn_without node xid 0 past c.waiting right.turn);
-          hopeless = all_joined (λ (x : LinkCall). IsHopeless (GoesOut now node xid is_data_read ∷ past) x) (calls_without node xid c.at_once) (new_link_call now node xid is_data_read ∷ [])
-              (hopeless_on (GoesOut now node xid is_data_read) past fall.0 (λ n. tt) (calls_without node xid c.at_once) (same (calls_without node xid c.at_once) none.1) (all_without (λ (x : LinkCall). IsHopeless past x) node xid c.at_once right.hopeless)) (its, tt);
+          turn = turn_same 0 past (CallGoesOut now node xid is_data_read ∷ past) (calls_without node xid c.waiting) (same (calls_without node xid c.waiting) none.0) (turn_without node xid 0 past c.waiting right.turn);
+          hopeless = all_joined (λ (x : LinkCall). IsHopeless (CallGoesOut now node xid is_data_read ∷ past) x) (calls_without node xid c.at_once) (new_link_call now node xid is_data_read ∷ [])
+              (hopeless_on (CallGoesOut now node xid is_data_read) past fall.0 (λ n. tt) (calls_without node xid c.at_once) (same (calls_without node xid c.at_once) none.1) (all_without (λ (x : LinkCall). IsHopeless past x) node xid c.at_once right.hopeless)) (its, tt);
           told = told_behind_call now node xid is_data_read past c.servers fall.0 right.told;
         }
 
 -- a record comes in
 comes_right : (now : ℕ) (node : NodeId) (answers : Option ℕ) (past : List LinkMove) (c : LinkCallsValue) → last_moment past ≤ now → c.at_once ≡ [] → ((xid : ℕ) → IsCounted (out_since node xid past) node xid c) → IsRight past c
-    → IsRight (ComesIn now node answers ∷ past) (record_comes now node answers c)
+    → IsRight (RecordComesIn now node answers ∷ past) (record_comes now node answers c)
 comes_right now node None past c after none count right = record {
-  turn = turn_same 0 past (ComesIn now node None ∷ past) c.waiting (all_any (IsSame past (ComesIn now node None ∷ past)) (λ call. refl) c.waiting) right.turn;
-  hopeless = subst (λ (calls : List LinkCall). AreHopeless (ComesIn now node None ∷ past) calls) (sym none) tt;
+  turn = turn_same 0 past (RecordComesIn now node None ∷ past) c.waiting (all_any (IsSame past (RecordComesIn now node None ∷ past)) (λ call. refl) c.waiting) right.turn;
+  hopeless = subst (λ (calls : List LinkCall). AreHopeless (RecordComesIn now node None ∷ past) calls) (sym none) tt;
   told = told_behind_record now node None past c.servers after right.told;
 }
 comes_right now node (Some xid) past c after none count right =
     let left = none_left node xid (out_since node xid past) c (count xid) in
     record {
-      turn = turn_same 0 past (ComesIn now node (Some xid) ∷ past) (calls_without node xid c.waiting)
-          (all_so (λ (x : LinkCall). is_link_call node xid x ≡ false) (IsSame past (ComesIn now node (Some xid) ∷ past)) (λ x differs. ap (λ (b : Bool). cond b None (out_since x.node x.xid past)) differs) (calls_without node xid c.waiting) (none_here node xid (calls_without node xid c.waiting) left.0))
+      turn = turn_same 0 past (RecordComesIn now node (Some xid) ∷ past) (calls_without node xid c.waiting)
+          (all_so (λ (x : LinkCall). is_link_call node xid x ≡ false) (IsSame past (RecordComesIn now node (Some xid) ∷ past)) (λ x differs. ap (λ (b : Bool). cond b None (out_since x.node x.xid past)) differs) (calls_without node xid c.waiting) (none_here node xid (calls_without node xid c.waiting) left.0))
           (turn_without node xid 0 past c.waiting right.turn);
-      hopeless = subst (λ (calls : List LinkCall). AreHopeless (ComesIn now node (Some xid) ∷ past) (calls_without node xid calls)) (sym none) tt;
+      hopeless = subst (λ (calls : List LinkCall). AreHopeless (RecordComesIn now node (Some xid) ∷ past) (calls_without node xid calls)) (sym none) tt;
       told = told_behind_record now node (Some xid) past c.servers after right.told;
     }
 
@@ -229,33 +228,33 @@ first_right now past waiting (call ∷ calls) servers right = record { turn = ri
 
 -- the others went out as before
 ended_lists : (now : ℕ) (node : NodeId) (xid : ℕ) (past : List LinkMove) (c : LinkCallsValue) → last_moment past ≤ now → IsCounted None node xid c → IsRight past c
-    → AreInTurn 0 (EndsCall now node xid ∷ past) c.waiting × AreHopeless (EndsCall now node xid ∷ past) c.at_once
+    → AreInTurn 0 (CallIsGivenUp now node xid ∷ past) c.waiting × AreHopeless (CallIsGivenUp now node xid ∷ past) c.at_once
 ended_lists now node xid past c after count right = (
-  turn_same 0 past (EndsCall now node xid ∷ past) c.waiting (same c.waiting (omega (arith, count))) right.turn,
-  hopeless_on (EndsCall now node xid) past after (λ n. tt) c.at_once (same c.at_once (omega (arith, count))) right.hopeless,
+  turn_same 0 past (CallIsGivenUp now node xid ∷ past) c.waiting (same c.waiting (omega (arith, count))) right.turn,
+  hopeless_on (CallIsGivenUp now node xid) past after (λ n. tt) c.at_once (same c.at_once (omega (arith, count))) right.hopeless,
 )
   where
-    same : (calls : List LinkCall) → times_here node xid calls ≡ 0 → AllByRecursion (IsSame past (EndsCall now node xid ∷ past)) calls
-    same calls none = all_so (λ (x : LinkCall). is_link_call node xid x ≡ false) (IsSame past (EndsCall now node xid ∷ past)) (λ x differs. ap (λ (b : Bool). cond b None (out_since x.node x.xid past)) differs) calls (none_here node xid calls none)
+    same : (calls : List LinkCall) → times_here node xid calls ≡ 0 → AllByRecursion (IsSame past (CallIsGivenUp now node xid ∷ past)) calls
+    same calls none = all_so (λ (x : LinkCall). is_link_call node xid x ≡ false) (IsSame past (CallIsGivenUp now node xid ∷ past)) (λ x differs. ap (λ (b : Bool). cond b None (out_since x.node x.xid past)) differs) calls (none_here node xid calls none)
 
 -- a call to a data server is given up
 server_right : (now number xid : ℕ) (past : List LinkMove) (c : LinkCallsValue) → last_moment past ≤ now → IsCounted None (Server number) xid c → IsRight past c → (b : Bool) → is_found_down now number c.servers ≡ b
-    → IsRight (EndsCall now (Server number) xid ∷ past) (with_reads_over_if b number (with_servers (servers_given_up now (Server number) c.servers) c))
+    → IsRight (CallIsGivenUp now (Server number) xid ∷ past) (with_reads_over_if b number (with_servers (servers_given_up now (Server number) c.servers) c))
 server_right now number xid past c after count right false found =
     let lists = ended_lists now (Server number) xid past c after count right in
     record { turn = lists.0; hopeless = lists.1; told = told_behind_end now (Server number) (Server number) xid past c.servers after right.told }
 server_right now number xid past c after count right true found =
     let lists = ended_lists now (Server number) xid past c after count right in
-    let silent = silent_on number now (EndsCall now (Server number) xid) past tt (found_silent now number past c.servers right.told after found) in
+    let silent = silent_on number now (CallIsGivenUp now (Server number) xid) past tt (found_silent now number past c.servers right.told after found) in
     record {
-      turn = turn_filtered (λ call. not (is_read_of number call)) 0 (EndsCall now (Server number) xid ∷ past) c.waiting lists.0;
-      hopeless = all_joined (λ (x : LinkCall). IsHopeless (EndsCall now (Server number) xid ∷ past) x) c.at_once (filter (λ call. is_read_of number call) c.waiting) lists.1
-          (reads_hopeless (EndsCall now (Server number) xid ∷ past) number 0 c.waiting silent lists.0);
+      turn = turn_filtered (λ call. not (is_read_of number call)) 0 (CallIsGivenUp now (Server number) xid ∷ past) c.waiting lists.0;
+      hopeless = all_joined (λ (x : LinkCall). IsHopeless (CallIsGivenUp now (Server number) xid ∷ past) x) c.at_once (filter (λ call. is_read_of number call) c.waiting) lists.1
+          (reads_hopeless (CallIsGivenUp now (Server number) xid ∷ past) number 0 c.waiting silent lists.0);
       told = told_behind_end now (Server number) (Server number) xid past c.servers after right.told;
     }
 
 -- a call to any node is
-node_right : (now : ℕ) (node : NodeId) (xid : ℕ) (past : List LinkMove) (c : LinkCallsValue) → last_moment past ≤ now → IsCounted None node xid c → IsRight past c → IsRight (EndsCall now node xid ∷ past) (node_given_up now node c)
+node_right : (now : ℕ) (node : NodeId) (xid : ℕ) (past : List LinkMove) (c : LinkCallsValue) → last_moment past ≤ now → IsCounted None node xid c → IsRight past c → IsRight (CallIsGivenUp now node xid ∷ past) (node_given_up now node c)
 node_right now Mds xid past c after count right =
     let lists = ended_lists now Mds xid past c after count right in
     record { turn = lists.0; hopeless = lists.1; told = told_behind_end now Mds Mds xid past c.servers after right.told }
@@ -266,23 +265,23 @@ node_right now (Client k) xid past c after count right =
 
 -- the first of all is given up
 ends_right : (now : ℕ) (past : List LinkMove) (c : LinkCallsValue) (call : LinkCall) → last_moment past ≤ now → call_over now c ≡ Some call → IsCounted (out_since call.node call.xid past) call.node call.xid c → IsRight past c
-    → IsRight (EndsCall now call.node call.xid ∷ past) (call_given_up now call c)
+    → IsRight (CallIsGivenUp now call.node call.xid ∷ past) (call_given_up now call c)
 ends_right now past c call after is count right =
     let ended = first_counted (out_since call.node call.xid past) call.node call.xid now c.waiting c.at_once c.servers call is count in
     let none : IsCounted None call.node call.xid (without_first c.at_once c) = subst (λ (b : Bool). IsCounted (cond b None (out_since call.node call.xid past)) call.node call.xid (without_first c.at_once c)) (same_call call.node call.xid) ended in
     node_right now call.node call.xid past (without_first c.at_once c) after none (first_right now past c.waiting c.at_once c.servers right)
 
 move_right : (move : LinkMove) (past : List LinkMove) (old new : LinkCallsValue) → DoesMove move old new → NeverFall (move ∷ past) → ((node : NodeId) (xid : ℕ) → IsCounted (out_since node xid past) node xid old) → IsRight past old → IsRight (move ∷ past) new
-move_right (GoesOut now node xid is_data_read) past old new does fall count right =
-    subst (λ (c : LinkCallsValue). IsRight (GoesOut now node xid is_data_read ∷ past) c) (sym does) (goes_right now node xid is_data_read past old fall (count node xid) right)
-move_right (ComesIn now node answers) past old new does fall count right =
-    subst (λ (c : LinkCallsValue). IsRight (ComesIn now node answers ∷ past) c) (sym does.1) (comes_right now node answers past old fall.0 does.0 (count node) right)
-move_right (EndsCall now node xid) past old new does fall count right =
+move_right (CallGoesOut now node xid is_data_read) past old new does fall count right =
+    subst (λ (c : LinkCallsValue). IsRight (CallGoesOut now node xid is_data_read ∷ past) c) (sym does) (goes_right now node xid is_data_read past old fall (count node xid) right)
+move_right (RecordComesIn now node answers) past old new does fall count right =
+    subst (λ (c : LinkCallsValue). IsRight (RecordComesIn now node answers ∷ past) c) (sym does.1) (comes_right now node answers past old fall.0 does.0 (count node) right)
+move_right (CallIsGivenUp now node xid) past old new does fall count right =
     let call = does.0 in
     let ended = ends_right now past old call fall.0 does.1 (count call.node call.xid) right in
-    subst (λ (c : LinkCallsValue). IsRight (EndsCall now node xid ∷ past) c) (sym does.4)
-    (subst (λ (n : NodeId). IsRight (EndsCall now n xid ∷ past) (call_given_up now call old)) does.2
-    (subst (λ (x : ℕ). IsRight (EndsCall now call.node x ∷ past) (call_given_up now call old)) does.3 ended))
+    subst (λ (c : LinkCallsValue). IsRight (CallIsGivenUp now node xid ∷ past) c) (sym does.4)
+    (subst (λ (n : NodeId). IsRight (CallIsGivenUp now n xid ∷ past) (call_given_up now call old)) does.2
+    (subst (λ (x : ℕ). IsRight (CallIsGivenUp now call.node x ∷ past) (call_given_up now call old)) does.3 ended))
 
 pub right : (moves : List LinkMove) (c : LinkCallsValue) → RunsMoves moves c → NeverFall moves → IsRight moves c
 right [] c is fall = subst (λ (x : LinkCallsValue). IsRight [] x) (sym is) (record { turn = tt; hopeless = tt; told = tt })
@@ -301,7 +300,7 @@ due_in_turn low moves (call ∷ calls) turn =
     let less : later low ≤ call.due = subst (λ (d : ℕ). later low ≤ d) (sym out.due) (later_more low turn.0 turn.2) in
     (less, all_so (λ (x : LinkCall). later turn.0 ≤ x.due) (λ (x : LinkCall). later low ≤ x.due) (λ x more. omega (arith, more, later_more low turn.0 turn.2)) calls (due_in_turn turn.0 moves calls turn.3))
 
-first_in_time : (moves : List LinkMove) (calls : List LinkCall) → AreInTurn 0 moves calls → AllByRecursion (λ (call : LinkCall). first_moment calls ≤ call.due) calls
+first_in_time : (moves : List LinkMove) (calls : List LinkCall) → AreInTurn 0 moves calls → AllByRecursion (λ (call : LinkCall). first_due_moment calls ≤ call.due) calls
 first_in_time moves [] turn = tt
 first_in_time moves (call ∷ calls) turn =
     let out = turn.1 in
@@ -318,7 +317,7 @@ up_behind : (then_at number now : ℕ) (answers : Option ℕ) (c : LinkCallsValu
 up_behind then_at number now None c = heard_up then_at now number c.servers
 up_behind then_at number now (Some xid) c = heard_up then_at now number c.servers
 
-pub up_behind_record : (past : List LinkMove) (c : LinkCallsValue) (number then_at now : ℕ) (answers : Option ℕ) → RunsMoves (ComesIn then_at (Server number) answers ∷ past) c → is_server_down now number c.servers ≡ false
+pub up_behind_record : (past : List LinkMove) (c : LinkCallsValue) (number then_at now : ℕ) (answers : Option ℕ) → RunsMoves (RecordComesIn then_at (Server number) answers ∷ past) c → is_server_down now number c.servers ≡ false
 up_behind_record past c number then_at now answers run = subst (λ (x : LinkCallsValue). is_server_down now number x.servers ≡ false) (sym run.2.1) (up_behind then_at number now answers run.0)
 
 -- what is given up first
@@ -348,7 +347,7 @@ over_rightly now past waiting (x ∷ xs) servers call after is count right =
     subst (λ (c : LinkCall). EndsRightly c.node c.xid now past) (same_Some x call is)
     (its.at, true, its.sent, inr (refl, its.number, its.server, silent_later its.number (last_moment past) now past after its.silent))
 
-pub end_rightly : (past : List LinkMove) (c : LinkCallsValue) (now : ℕ) (node : NodeId) (xid : ℕ) → RunsMoves (EndsCall now node xid ∷ past) c → NeverFall (EndsCall now node xid ∷ past) → EndsRightly node xid now past
+pub end_rightly : (past : List LinkMove) (c : LinkCallsValue) (now : ℕ) (node : NodeId) (xid : ℕ) → RunsMoves (CallIsGivenUp now node xid ∷ past) c → NeverFall (CallIsGivenUp now node xid ∷ past) → EndsRightly node xid now past
 end_rightly past c now node xid run fall =
     let mid = run.0 in
     let does = run.2 in

@@ -69,30 +69,30 @@ is_node_down now (Server number) servers = is_server_down now number servers
 is_node_down now (Client k) servers = false
 
 -- it stands behind the others
-abbrev pub with_call : Bool → LinkCall → LinkCallsValue → LinkCallsValue
-with_call false call c = record c { waiting = c.waiting ++ call ∷ [] }
-with_call true call c = record c { at_once = c.at_once ++ call ∷ [] }
+abbrev pub with_waiting : Bool → LinkCall → LinkCallsValue → LinkCallsValue
+with_waiting false call c = record c { waiting = c.waiting ++ call ∷ [] }
+with_waiting true call c = record c { at_once = c.at_once ++ call ∷ [] }
 
 abbrev pub with_servers : List ServerNews → LinkCallsValue → LinkCallsValue
 with_servers servers c = record c { servers = servers }
 
 -- A call goes: where it went before, that counts no longer. A READ to a server that is down is given up at once.
-abbrev pub call_goes : ℕ → LinkCall → LinkCallsValue → LinkCallsValue
-call_goes now call c =
-    with_call (call.is_data_read && is_node_down now call.node c.servers) call (with_servers (servers_called now call.node c.servers) (taken_out call.node call.xid c))
+abbrev pub call_goes_out : ℕ → LinkCall → LinkCallsValue → LinkCallsValue
+call_goes_out now call c =
+    with_waiting (call.is_data_read && is_node_down now call.node c.servers) call (with_servers (servers_called now call.node c.servers) (taken_out call.node call.xid c))
 
 -- the number of the call that a record replies to: its first word
-abbrev pub answered_number : List ℕ → Option ℕ
-answered_number bytes = if is_reply_record bytes then Some (word_of bytes 0) else None
+abbrev pub replied_number : List ℕ → Option ℕ
+replied_number bytes = if is_reply_record bytes then Some (word_of bytes 0) else None
 
 -- the call of this number to this node is answered
-abbrev pub call_answered : NodeId → Option ℕ → LinkCallsValue → LinkCallsValue
-call_answered node None c = c
-call_answered node (Some xid) c = taken_out node xid c
+abbrev pub settles_call : NodeId → Option ℕ → LinkCallsValue → LinkCallsValue
+settles_call node None c = c
+settles_call node (Some xid) c = taken_out node xid c
 
 -- A record comes from a node, the reply to the call of a number, or none. A reply to a call that is not out changes no call.
 abbrev pub record_comes : ℕ → NodeId → Option ℕ → LinkCallsValue → LinkCallsValue
-record_comes now node answers c = call_answered node answers (with_servers (servers_heard now node c.servers) c)
+record_comes now node answers c = settles_call node answers (with_servers (servers_heard now node c.servers) c)
 
 -- ---- giving up
 
@@ -139,12 +139,12 @@ GivesUpFirst now old (Some call) new = (call_over now old ≡ Some call) × (new
 
 -- ---- the first moment at which something is to be given up, and the last of all where nothing is
 
-abbrev pub first_moment : List LinkCall → ℕ
-first_moment [] = 2 ^ 64 - 1
-first_moment (call ∷ calls) = call.due
+abbrev pub first_due_moment : List LinkCall → ℕ
+first_due_moment [] = 2 ^ 64 - 1
+first_due_moment (call ∷ calls) = call.due
 
 abbrev pub earliest_of : ℕ → List LinkCall → List LinkCall → ℕ
-earliest_of now waiting [] = first_moment waiting
+earliest_of now waiting [] = first_due_moment waiting
 earliest_of now waiting (call ∷ calls) = now
 
 abbrev pub earliest : ℕ → LinkCallsValue → ℕ

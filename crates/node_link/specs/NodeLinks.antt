@@ -18,9 +18,9 @@ use Rattle.node_link.specs.declared.link.Opening.{Opening}
 use Rattle.node_link.specs.declared.link.Role.{Role}
 use Rattle.node_link.specs.declared.silence.Silence.{Silence}
 use Rattle.node_link.specs.Callees.{CalleesValue, AreSame, callee_in, own_connection, SetsCallee, IsFrom}
-use Rattle.node_link.specs.LinkCalls.{LinkCallsValue, no_link_calls, is_read_to, answered_number, call_over, earliest}
-use Rattle.node_link.specs.LinkMoves.{LinkMove, GoesOut, ComesIn, EndsCall, DoesMove}
-use Rattle.node_link.specs.Silence.{first_pause, new_silence, silence_end, is_silence_over, with_record, with_timeout, with_quiet}
+use Rattle.node_link.specs.LinkCalls.{LinkCallsValue, no_link_calls, is_read_to, replied_number, call_over, earliest}
+use Rattle.node_link.specs.LinkMoves.{LinkMove, CallGoesOut, RecordComesIn, CallIsGivenUp, DoesMove}
+use Rattle.node_link.specs.Silence.{first_pause, new_silence, silence_end, is_silence_over, behind_arrival, behind_timeout, behind_pause}
 
 -- What it was opened with; where the metadata server and the data servers listen; its connections, where it is open; on which of them each node
 -- is called; its calls that got no answer yet; how long it bears that nothing comes; and how many calls have met a fault.
@@ -55,13 +55,13 @@ abbrev pub wait_end : ℕ → LinkCallsValue → Silence → ℕ
 wait_end now calls silence = min (earliest now calls) (silence_end silence)
 
 -- Nothing was to be given up before, and this came of the wait for a record.
-abbrev pub Waits : LinkState → ServingState → Result (Option (ℕ × List ℕ)) Failed → ServingState → Type 0
-Waits l s result s' = (call_over s.time l.calls ≡ None) × GivesRecord (wait_end s.time l.calls l.silence) s result s'
+abbrev pub WaitsForRecord : LinkState → ServingState → Result (Option (ℕ × List ℕ)) Failed → ServingState → Type 0
+WaitsForRecord l s result s' = (call_over s.time l.calls ≡ None) × GivesRecord (wait_end s.time l.calls l.silence) s result s'
 
 -- nothing is to be given up by this moment, and all is as it was; or a call is given up
 abbrev pub GivesUp : ℕ → LinkCallsValue → Silence → Option Arrival → LinkCallsValue → Silence → Type 0
 GivesUp now calls silence None calls' silence' = (call_over now calls ≡ None) × (calls' ≡ calls) × (silence' ≡ silence)
-GivesUp now calls silence (Some (TimedOut node xid)) calls' silence' = DoesMove (EndsCall now node xid) calls calls' × (silence' ≡ with_timeout now silence)
+GivesUp now calls silence (Some (TimedOut node xid)) calls' silence' = DoesMove (CallIsGivenUp now node xid) calls calls' × (silence' ≡ behind_timeout now silence)
 GivesUp now calls silence (Some (Record from bytes)) calls' silence' = ⊥
 GivesUp now calls silence (Some Quiet) calls' silence' = ⊥
 GivesUp now calls silence (Some Closed) calls' silence' = ⊥
@@ -69,30 +69,30 @@ GivesUp now calls silence (Some Closed) calls' silence' = ⊥
 -- What comes where no record did: a call is given up; or none is to be, and time passes, or it is not yet to be told that.
 abbrev pub EndsWait : ℕ → LinkCallsValue → Silence → Arrival → LinkCallsValue → Silence → Type 0
 EndsWait now calls silence (TimedOut node xid) calls' silence' = GivesUp now calls silence (Some (TimedOut node xid)) calls' silence'
-EndsWait now calls silence Quiet calls' silence' = (call_over now calls ≡ None) × (is_silence_over now silence ≡ true) × (calls' ≡ calls) × (silence' ≡ with_quiet now silence)
+EndsWait now calls silence Quiet calls' silence' = (call_over now calls ≡ None) × (is_silence_over now silence ≡ true) × (calls' ≡ calls) × (silence' ≡ behind_pause now silence)
 EndsWait now calls silence Closed calls' silence' = (call_over now calls ≡ None) × (is_silence_over now silence ≡ false) × (calls' ≡ calls) × (silence' ≡ silence)
 EndsWait now calls silence (Record from bytes) calls' silence' = ⊥
 
 -- its calls and how long it bears silence are as they were
-abbrev pub IsAsBefore : LinkState → LinkState → Type 0
-IsAsBefore old new = (new.calls ≡ old.calls) × (new.silence ≡ old.silence)
+abbrev pub KeepsCalls : LinkState → LinkState → Type 0
+KeepsCalls old new = (new.calls ≡ old.calls) × (new.silence ≡ old.silence)
 
 -- What asking for the next arrival did, where it is open: a call is given up without a wait; or nothing was to be, and a record came, of the node
 -- whose connection brought it, or none did, or the connections met a fault.
 abbrev pub Arrives : LinkState → ServingState → Result Arrival Failed → ServingState → LinkState → Type 0
 Arrives old s (Ok (Record from bytes)) s' new =
-    ((number : ℕ) × Waits old s (Ok (Some (number, bytes))) s' × IsFrom number old.callees from)
-    × DoesMove (ComesIn s'.time from (answered_number bytes)) old.calls new.calls × (new.silence ≡ with_record s'.time old.silence)
+    ((number : ℕ) × WaitsForRecord old s (Ok (Some (number, bytes))) s' × IsFrom number old.callees from)
+    × DoesMove (RecordComesIn s'.time from (replied_number bytes)) old.calls new.calls × (new.silence ≡ behind_arrival s'.time old.silence)
 Arrives old s (Ok (TimedOut node xid)) s' new =
-    ((s' ≡ s) ⊎ Waits old s (Ok None) s') × GivesUp s'.time old.calls old.silence (Some (TimedOut node xid)) new.calls new.silence
-Arrives old s (Ok Quiet) s' new = Waits old s (Ok None) s' × EndsWait s'.time old.calls old.silence Quiet new.calls new.silence
-Arrives old s (Ok Closed) s' new = Waits old s (Ok None) s' × EndsWait s'.time old.calls old.silence Closed new.calls new.silence
-Arrives old s (Err e) s' new = Waits old s (Err e) s' × IsAsBefore old new
+    ((s' ≡ s) ⊎ WaitsForRecord old s (Ok None) s') × GivesUp s'.time old.calls old.silence (Some (TimedOut node xid)) new.calls new.silence
+Arrives old s (Ok Quiet) s' new = WaitsForRecord old s (Ok None) s' × EndsWait s'.time old.calls old.silence Quiet new.calls new.silence
+Arrives old s (Ok Closed) s' new = WaitsForRecord old s (Ok None) s' × EndsWait s'.time old.calls old.silence Closed new.calls new.silence
+Arrives old s (Err e) s' new = WaitsForRecord old s (Err e) s' × KeepsCalls old new
 
 -- Where it is not open that is a fault.
 abbrev pub GivesArrival : LinkState → Result Arrival Failed → LinkState → Type 0
 GivesArrival old result new =
-    ((old.server ≡ None) × (result ≡ Err failed.Fault) × (new.server ≡ None) × IsAsBefore old new)
+    ((old.server ≡ None) × (result ≡ Err failed.Fault) × (new.server ≡ None) × KeepsCalls old new)
     ⊎ ((s : ServingState) × (s' : ServingState) × (old.server ≡ Some s) × (new.server ≡ Some s') × Arrives old s result s' new)
 
 -- ---- what goes, by connections
@@ -141,9 +141,9 @@ SendsWhere l (Server n) message s callees result s' callees' = SendsMadeOr (Serv
 -- ---- what goes, and what waits then
 
 -- a call waits, whether its record could be sent or not; other records change nothing of the calls
-abbrev pub GoesOutIf : Bool → ℕ → NodeId → List ℕ → LinkCallsValue → LinkCallsValue → Type 0
-GoesOutIf false now node message old new = new ≡ old
-GoesOutIf true now node message old new = DoesMove (GoesOut now node (word_of message 0) (is_read_to node message)) old new
+abbrev pub CallGoesOutIf : Bool → ℕ → NodeId → List ℕ → LinkCallsValue → LinkCallsValue → Type 0
+CallGoesOutIf false now node message old new = new ≡ old
+CallGoesOutIf true now node message old new = DoesMove (CallGoesOut now node (word_of message 0) (is_read_to node message)) old new
 
 -- What sending did: where it is open, the message went on the node's connection, or memory was wanted, before it was to wait or behind; else it
 -- is lost.
@@ -152,7 +152,7 @@ SendsTo old to message result new =
     ((old.server ≡ None) × (result ≡ Ok tt) × (new ≡ old))
     ⊎ ((e : NoMemory) × (result ≡ Err e) × (new ≡ old))
     ⊎ ((s : ServingState) × (s' : ServingState) × (old.server ≡ Some s) × (new.server ≡ Some s') × SendsWhere old to message s old.callees result s' new.callees
-       × GoesOutIf (is_call_record message) s.time to message old.calls new.calls)
+    × CallGoesOutIf (is_call_record message) s.time to message old.calls new.calls)
 
 -- what excusing a call of a node did
 abbrev pub ExcusesFrom : NodeId → LinkState → LinkState → Type 0

@@ -10,7 +10,7 @@ use Rattle.node_link.specs.declared.link_call.TheConstants.{CALL_LIMIT}
 use Rattle.node_link.specs.declared.server_news.TheConstants.{DOWN_LIMIT}
 use Rattle.node_link.specs.declared.server_news.ServerNews.{ServerNews}
 use Rattle.node_link.specs.declared.server_news.NewsChange.{NewsChange}
-use Rattle.node_link.specs.declared.server_news.NewsChange.TheVariants.{IsCalled, IsHeard, IsGivenUp}
+use Rattle.node_link.specs.declared.server_news.NewsChange.TheVariants.{IsCalled, IsHeardFrom, IsGivenUp}
 
 -- ---- one server
 
@@ -36,18 +36,18 @@ new_news now number = record { number = number; heard = None; since = Some now; 
 -- A call goes to it; a record came from it; or a call to it was given up, and it is down from now on, or is not.
 abbrev pub changed_news : ℕ → NewsChange → ServerNews → ServerNews
 changed_news now IsCalled news = record news { since = since_at now news.called news.since; called = now }
-changed_news now IsHeard news = record news { heard = Some now; since = None; is_down = false }
+changed_news now IsHeardFrom news = record news { heard = Some now; since = None; is_down = false }
 changed_news now (IsGivenUp is_down) news = record news { given_up = Some now; is_down = is_down }
 
 -- ---- all servers
 
 -- a record came from another server at this moment or later
-abbrev pub is_behind : ℕ → Option ℕ → Bool
-is_behind since None = false
-is_behind since (Some heard) = nat_le since heard
+abbrev pub is_heard_since : ℕ → Option ℕ → Bool
+is_heard_since since None = false
+is_heard_since since (Some heard) = nat_le since heard
 
 abbrev pub has_other_come : ℕ → ℕ → List ServerNews → Bool
-has_other_come number since servers = list_any (λ news. not (news.number == number) && is_behind since news.heard) servers
+has_other_come number since servers = list_any (λ news. not (news.number == number) && is_heard_since since news.heard) servers
 
 -- calls to it are out for six seconds, in which something came from another server and nothing from this one
 abbrev pub is_silent_since : ℕ → List ServerNews → ℕ → Option ℕ → Bool
@@ -69,12 +69,12 @@ is_found_down now number servers = list_any (λ news. news.number == number && (
 abbrev pub with_news : ℕ → ℕ → NewsChange → List ServerNews → List ServerNews
 with_news now number change servers = map (λ news. if news.number == number then changed_news now change news else news) servers
 
-abbrev pub is_known : ℕ → List ServerNews → Bool
-is_known number servers = list_any (λ news. news.number == number) servers
+abbrev pub is_called_before : ℕ → List ServerNews → Bool
+is_called_before number servers = list_any (λ news. news.number == number) servers
 
 -- a call goes to the server of this number
 abbrev pub with_called : ℕ → ℕ → List ServerNews → List ServerNews
-with_called now number servers = if is_known number servers then with_news now number IsCalled servers else servers ++ new_news now number ∷ []
+with_called now number servers = if is_called_before number servers then with_news now number IsCalled servers else servers ++ new_news now number ∷ []
 
 -- ---- by nodes: of others than data servers nothing is kept
 
@@ -85,7 +85,7 @@ servers_called now (Client k) servers = servers
 
 abbrev pub servers_heard : ℕ → NodeId → List ServerNews → List ServerNews
 servers_heard now Mds servers = servers
-servers_heard now (Server number) servers = with_news now number IsHeard servers
+servers_heard now (Server number) servers = with_news now number IsHeardFrom servers
 servers_heard now (Client k) servers = servers
 
 abbrev pub servers_given_up : ℕ → NodeId → List ServerNews → List ServerNews

@@ -20,29 +20,29 @@ next_pause None = None
 next_pause (Some pause) = Some (min (2 * pause) LONGEST_PAUSE)
 
 -- a record came: the second one since time passed makes the pause short again
-abbrev pub with_record : ℕ → Silence → Silence
-with_record now s = record s { quiet = now; came = min (s.came + 1) 2; pause = if nat_le 1 s.came then s.first else s.pause }
+abbrev pub behind_arrival : ℕ → Silence → Silence
+behind_arrival now s = record s { quiet = now; came = min (s.came + 1) 2; pause = if nat_le 1 s.came then s.first else s.pause }
 
 -- a call was given up
-abbrev pub with_timeout : ℕ → Silence → Silence
-with_timeout now s = record s { quiet = now }
+abbrev pub behind_timeout : ℕ → Silence → Silence
+behind_timeout now s = record s { quiet = now }
 
 -- time passed
-abbrev pub with_quiet : ℕ → Silence → Silence
-with_quiet now s = record s { quiet = now; came = 0; pause = next_pause s.pause }
+abbrev pub behind_pause : ℕ → Silence → Silence
+behind_pause now s = record s { quiet = now; came = 0; pause = next_pause s.pause }
 
 -- until when it is borne that nothing comes
-abbrev pub end_of : ℕ → Option ℕ → ℕ
-end_of quiet None = 2 ^ 64 - 1
-end_of quiet (Some pause) = min (quiet + pause) (2 ^ 64 - 1)
+abbrev pub pause_end : ℕ → Option ℕ → ℕ
+pause_end quiet None = 2 ^ 64 - 1
+pause_end quiet (Some pause) = min (quiet + pause) (2 ^ 64 - 1)
 
 abbrev pub silence_end : Silence → ℕ
-silence_end s = end_of s.quiet s.pause
+silence_end s = pause_end s.quiet s.pause
 
 -- it was borne long enough by this moment
-abbrev pub has_passed : ℕ → ℕ → Option ℕ → Bool
-has_passed now quiet None = false
-has_passed now quiet (Some pause) = nat_le pause (now - quiet)
+abbrev pub is_pause_over : ℕ → ℕ → Option ℕ → Bool
+is_pause_over now quiet None = false
+is_pause_over now quiet (Some pause) = nat_le pause (now - quiet)
 
 abbrev pub is_silence_over : ℕ → Silence → Bool
-is_silence_over now s = has_passed now s.quiet s.pause
+is_silence_over now s = is_pause_over now s.quiet s.pause

@@ -1,6 +1,6 @@
 //! What holds of the calls of every history of a link.
 
-ghost use Rattle.node_link.specs.LinkLaws.{AreInTime, AreKept, AreSilentIfDown, AreUpBehindRecords, EndRightly};
+ghost use Rattle.node_link.specs.LinkLaws.{AreInTime, AreKeptOnce, AreSilentIfDown, AreUpBehindRecords, EndRightly};
 
 /// Over every list of moves, at moments that never fall: each call that went out and was neither answered nor
 /// given up since stands once, under its node and its number, among those that wait, and is given up two seconds
@@ -9,7 +9,7 @@ ghost use Rattle.node_link.specs.LinkLaws.{AreInTime, AreKept, AreSilentIfDown, 
 /// six seconds, while something came from another. A server that is down is silent, and one that gave a record
 /// is up.
 pub fn link_law()
-    ensures kept { AreKept }
+    ensures kept { AreKeptOnce }
     ensures ended { EndRightly }
     ensures in_time { AreInTime }
     ensures down { AreSilentIfDown }

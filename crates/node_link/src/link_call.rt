@@ -3,7 +3,7 @@
 ghost use Rattle.std.specs.Prelude.{◌≡◌, ◌+◌, ◌≤◌, ◌&&◌, true, length};
 ghost use Rattle.rpc_record.specs.Calls.{word_of};
 ghost use Rattle.record_link.specs.Messages.{is_call_record};
-ghost use Rattle.node_link.specs.LinkCalls.{answered_number, is_link_call, is_read_of, is_read_record, is_read_to, later, new_link_call};
+ghost use Rattle.node_link.specs.LinkCalls.{replied_number, is_link_call, is_read_of, is_read_record, is_read_to, later, new_link_call};
 
 use cluster_model::NodeId;
 use record_link::is_reply_record;
@@ -71,8 +71,8 @@ fn is_read_to(node: NodeId, message: &[u8]) -> bool
 }
 
 /// The number of the call that a record replies to, where it is a reply.
-pub(crate) fn answered_number(message: &[u8]) -> Option<u32>
-    ensures { result ≡ answered_number message.now }
+pub(crate) fn replied_number(message: &[u8]) -> Option<u32>
+    ensures { result ≡ replied_number message.now }
 {
     if is_reply_record(message) {
         Some(word_at(message, 0))

@@ -4,7 +4,7 @@ ghost use Rattle.std.specs.Prelude.{◌≡◌, ◌+◌, ◌≤◌, ◌++◌, not
 ghost use Rattle.std.specs.List.{filter};
 ghost use Rattle.std.specs.VecDeque.{deque_len, deque_capacity};
 ghost use Rattle.node_link.specs.ServerNews.{servers_called, servers_heard};
-ghost use Rattle.node_link.specs.LinkCalls.{GivesUpFirst, call_goes, call_over, calls_without, earliest, is_link_call, is_node_down, is_read_of, no_link_calls, node_given_up, record_comes, without_first};
+ghost use Rattle.node_link.specs.LinkCalls.{GivesUpFirst, call_goes_out, call_over, calls_without, earliest, is_link_call, is_node_down, is_read_of, no_link_calls, node_given_up, record_comes, without_first};
 
 use crate::link_call::LinkCall;
 use crate::server_news::{
@@ -117,7 +117,7 @@ fn hear_node(servers: &mut [ServerNews], node: NodeId, now: u64)
 {
     match node {
         NodeId::Mds => {}
-        NodeId::Server(number) => change_news(servers, number, now, NewsChange::IsHeard),
+        NodeId::Server(number) => change_news(servers, number, now, NewsChange::IsHeardFrom),
         NodeId::Client(_) => {}
     }
 }
@@ -147,7 +147,7 @@ impl LinkCalls {
 
     /// A call goes now. Where it went before, that counts no longer. At an error nothing has changed.
     pub fn go_out(&mut self, call: LinkCall, now: u64) -> Result<(), NoMemory>
-        ensures goes { OnOk result (self.new ≡ call_goes now call self.old) }
+        ensures goes { OnOk result (self.new ≡ call_goes_out now call self.old) }
         ensures unchanged { OnErr result (self.new ≡ self.old) }
     {
         make_room(&mut self.waiting, &mut self.at_once)?;
@@ -182,13 +182,7 @@ impl LinkCalls {
             return Some(*call);
         }
         match self.waiting.front() {
-            Some(call) => {
-                if call.due <= now {
-                    Some(*call)
-                } else {
-                    None
-                }
-            }
+            Some(call) => { if call.due <= now { Some(*call) } else { None } }
             None => None,
         }
     }
@@ -208,7 +202,12 @@ impl LinkCalls {
         ensures { self.new ≡ node_given_up now (NodeId.Server number) self.old }
     {
         let is_down = is_found_down(now, number, &self.servers);
-        change_news(&mut self.servers, number, now, NewsChange::IsGivenUp(is_down));
+        change_news(
+            &mut self.servers,
+            number,
+            now,
+            NewsChange::IsGivenUp(is_down),
+        );
         if is_down {
             move_reads(&mut self.waiting, &mut self.at_once, number);
         }

@@ -6,14 +6,14 @@ ghost use Rattle.record_server.specs.Server.{SendsRecord};
 ghost use Rattle.rpc_record.specs.Stream.{counted, one_more};
 ghost use Rattle.node_link.specs.Callees.{AreSame, callee_in};
 ghost use Rattle.node_link.specs.LinkCalls.{call_over};
-ghost use Rattle.node_link.specs.LinkMoves.{ComesIn, DoesMove, EndsCall};
-ghost use Rattle.node_link.specs.Silence.{is_silence_over, with_quiet, with_timeout};
-ghost use Rattle.node_link.specs.NodeLinks.{EndsWait, ExcusesFrom, FinishesLink, GivesArrival, GivesUp, GoesOutIf, HasGivenIn, LinkState, OpensNetwork, ReachesOr, SendsMadeOr, SendsTo, wait_end};
+ghost use Rattle.node_link.specs.LinkMoves.{RecordComesIn, DoesMove, CallIsGivenUp};
+ghost use Rattle.node_link.specs.Silence.{is_silence_over, behind_pause, behind_timeout};
+ghost use Rattle.node_link.specs.NodeLinks.{EndsWait, ExcusesFrom, FinishesLink, GivesArrival, GivesUp, CallGoesOutIf, HasGivenIn, LinkState, OpensNetwork, ReachesOr, SendsMadeOr, SendsTo, wait_end};
 ghost use Rattle.node_link.specs.Link.{OpensLink};
 
 use crate::callees::Callees;
 use crate::link::{Arrival, Link, Opening, Role, address_numbered};
-use crate::link_call::{LinkCall, answered_number};
+use crate::link_call::{LinkCall, replied_number};
 use crate::link_calls::LinkCalls;
 use crate::silence::{Silence, first_pause};
 use cluster_model::NodeId;
@@ -145,13 +145,8 @@ fn send_made<N: Network + Drop>(
 }
 
 /// A call waits from now on, where this record that goes to a node is one. At an error nothing has changed.
-fn go_out(
-    calls: &mut LinkCalls,
-    node: NodeId,
-    message: &[u8],
-    now: u64,
-) -> Result<(), NoMemory>
-    ensures goes { OnOk result (GoesOutIf (is_call_record message.now) now node message.now calls.old calls.new) }
+fn go_out(calls: &mut LinkCalls, node: NodeId, message: &[u8], now: u64) -> Result<(), NoMemory>
+    ensures goes { OnOk result (CallGoesOutIf (is_call_record message.now) now node message.now calls.old calls.new) }
     ensures unchanged { OnErr result (calls.new ≡ calls.old) }
 {
     if is_call_record(message) {
@@ -176,7 +171,7 @@ fn give_up(calls: &mut LinkCalls, silence: &mut Silence, now: u64) -> Option<Arr
     let Some(call) = calls.give_up(now) else {
         return None;
     };
-    *silence = silence.with_timeout(now);
+    *silence = silence.behind_timeout(now);
     Some(Arrival::TimedOut {
         node: call.node,
         xid: call.xid,
@@ -191,7 +186,7 @@ fn end_wait(calls: &mut LinkCalls, silence: &mut Silence, now: u64) -> Arrival
         return arrival;
     }
     if silence.is_over(now) {
-        *silence = silence.with_quiet(now);
+        *silence = silence.behind_pause(now);
         return Arrival::Quiet;
     }
     Arrival::Closed
@@ -259,8 +254,8 @@ impl<H: Host + Drop> Link for NodeLink<H> {
             Ok(Some((number, bytes))) => {
                 let now = server.time();
                 let from = self.callees.from(number);
-                self.calls.come_in(from, answered_number(bytes.bytes()), now);
-                self.silence = self.silence.with_record(now);
+                self.calls.come_in(from, replied_number(bytes.bytes()), now);
+                self.silence = self.silence.behind_arrival(now);
                 Ok(Arrival::Record { from, bytes })
             }
             Ok(None) => Ok(end_wait(&mut self.calls, &mut self.silence, server.time())),

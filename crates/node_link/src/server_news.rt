@@ -1,7 +1,7 @@
 //! What is known of the silence of data servers.
 
 ghost use Rattle.std.specs.Prelude.{◌≡◌, ◌==◌, if◌then◌else◌, OnErr, OnOk};
-ghost use Rattle.node_link.specs.ServerNews.{changed_news, has_other_come, is_behind, is_down_at, is_found_down, is_known, is_recent, is_server_down, is_silent, is_silent_since, new_news, since_at, with_called, with_news};
+ghost use Rattle.node_link.specs.ServerNews.{changed_news, has_other_come, is_heard_since, is_down_at, is_found_down, is_called_before, is_recent, is_server_down, is_silent, is_silent_since, new_news, since_at, with_called, with_news};
 
 use crate::link_call::CALL_LIMIT;
 use ff_xdr::NoMemory;
@@ -33,7 +33,7 @@ pub enum NewsChange {
     /// A call goes to it.
     IsCalled,
     /// A record came from it.
-    IsHeard,
+    IsHeardFrom,
     /// A call to it is given up, and it is down from now on, or is not.
     IsGivenUp(bool),
 }
@@ -65,8 +65,8 @@ fn since_at(now: u64, called: u64, since: Option<u64>) -> Option<u64>
 }
 
 /// Whether something came at this moment or later.
-fn is_behind(since: u64, heard: Option<u64>) -> bool
-    ensures { result ≡ is_behind since heard }
+fn is_heard_since(since: u64, heard: Option<u64>) -> bool
+    ensures { result ≡ is_heard_since since heard }
 {
     match heard {
         Some(heard) => since <= heard,
@@ -106,7 +106,7 @@ impl ServerNews {
                 called: now,
                 ..self
             },
-            NewsChange::IsHeard => ServerNews {
+            NewsChange::IsHeardFrom => ServerNews {
                 heard: Some(now),
                 since: None,
                 is_down: false,
@@ -136,9 +136,7 @@ impl ServerNews {
 fn has_other_come(number: u32, since: u64, servers: &[ServerNews]) -> bool
     ensures { result ≡ has_other_come number since servers.now }
 {
-    servers
-        .iter()
-        .any(|news| news.number != number && is_behind(since, news.heard))
+    servers.iter().any(|news| news.number != number && is_heard_since(since, news.heard))
 }
 
 /// Calls to this server are out for six seconds, in which something came from another one, and nothing from it.
@@ -172,8 +170,8 @@ pub(crate) fn is_found_down(now: u64, number: u32, servers: &[ServerNews]) -> bo
 }
 
 /// A call went to the server of this number before.
-fn is_known(number: u32, servers: &[ServerNews]) -> bool
-    ensures { result ≡ is_known number servers.now }
+fn is_called_before(number: u32, servers: &[ServerNews]) -> bool
+    ensures { result ≡ is_called_before number servers.now }
 {
     servers.iter().any(|news| news.number == number)
 }
@@ -196,7 +194,7 @@ pub(crate) fn call_server(
     ensures called { OnOk result (servers.new.items ≡ with_called now number servers.old.items) }
     ensures unchanged { OnErr result (servers.new.items ≡ servers.old.items) }
 {
-    if is_known(number, servers) {
+    if is_called_before(number, servers) {
         change_news(servers, number, now, NewsChange::IsCalled);
         return Ok(());
     }

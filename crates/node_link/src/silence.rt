@@ -1,7 +1,7 @@
 //! How long a node bears that nothing comes.
 
 ghost use Rattle.std.specs.Prelude.{◌≡◌};
-ghost use Rattle.node_link.specs.Silence.{first_pause, is_silence_over, new_silence, next_pause, silence_end, with_quiet, with_record, with_timeout};
+ghost use Rattle.node_link.specs.Silence.{first_pause, is_silence_over, new_silence, next_pause, silence_end, behind_pause, behind_arrival, behind_timeout};
 
 use crate::link::Role;
 
@@ -60,8 +60,8 @@ impl Silence {
     }
 
     /// A record came.
-    pub(crate) fn with_record(self, now: u64) -> Silence
-        ensures { result ≡ with_record now self }
+    pub(crate) fn behind_arrival(self, now: u64) -> Silence
+        ensures { result ≡ behind_arrival now self }
     {
         let pause = if self.came >= 1 {
             self.first
@@ -77,15 +77,15 @@ impl Silence {
     }
 
     /// A call was given up.
-    pub(crate) fn with_timeout(self, now: u64) -> Silence
-        ensures { result ≡ with_timeout now self }
+    pub(crate) fn behind_timeout(self, now: u64) -> Silence
+        ensures { result ≡ behind_timeout now self }
     {
         Silence { quiet: now, ..self }
     }
 
     /// Time passed.
-    pub(crate) fn with_quiet(self, now: u64) -> Silence
-        ensures { result ≡ with_quiet now self }
+    pub(crate) fn behind_pause(self, now: u64) -> Silence
+        ensures { result ≡ behind_pause now self }
     {
         Silence {
             pause: next_pause(self.pause),
