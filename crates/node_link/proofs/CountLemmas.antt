@@ -1,6 +1,6 @@
 -- How often a call stands among those of a link: once where it is out, and else never, whatever moves there were.
 use Rattle.std.proofs.Common.{◌≡◌, ℕ, ◌+◌, ◌-◌, ◌<◌, ◌≤◌, ◌⊎◌, inl, inr, Bool, true, false, cond, List, [], ◌∷◌, ◌++◌, Option, Some, None, refl, sym, ap, ◌∙◌, arith, subst}
-use Rattle.std.specs.Prelude.{◌&&◌, ◌==◌, not, nat_le, drop}
+use Rattle.std.specs.Prelude.{◌&&◌, ◌==◌, not, nat_le}
 use Rattle.std.specs.List.{filter, AllByRecursion}
 use Rattle.std.proofs.lemmas.Option.{same_Some}
 use Rattle.std.proofs.lemmas.Bool.{cases_lt, eq-eqb, eqb-true, and_parts, and_from}
@@ -10,7 +10,7 @@ use Rattle.cluster_model.specs.Nodes.{is_node}
 use Rattle.node_link.specs.declared.link_call.LinkCall.{LinkCall}
 use Rattle.node_link.specs.declared.server_news.ServerNews.{ServerNews}
 use Rattle.node_link.specs.ServerNews.{is_found_down, servers_called, servers_given_up, servers_heard}
-use Rattle.node_link.specs.LinkCalls.{LinkCallsValue, no_link_calls, later, is_link_call, is_read_of, new_link_call, calls_without, taken_out, with_waiting, with_servers, call_goes_out, settles_call, record_comes, is_node_down, first_due, first_over_of, call_over, without_first, with_reads_over_if, node_given_up, call_given_up}
+use Rattle.node_link.specs.LinkCalls.{LinkCallsValue, later, is_link_call, is_read_of, new_link_call, calls_without, taken_out, with_waiting, with_servers, call_goes_out, record_comes, is_node_down, first_over_of, without_first, with_reads_over_if, node_given_up, call_given_up}
 use Rattle.node_link.specs.LinkMoves.{LinkMove, CallGoesOut, RecordComesIn, CallIsGivenUp, DoesMove, RunsMoves}
 use Rattle.node_link.specs.LinkLaws.{is_one_call, is_answer_to, out_since, times_here, IsDueBehind, IsKeptOnce}
 use Rattle.node_link.proofs.CalleeLemmas.{is_one, is_itself}

@@ -1,5 +1,5 @@
 -- What sending over a network does, from what its parts do.
-use Rattle.std.proofs.Common.{◌≡◌, ℕ, inr, List, Option, Some, Result, refl, sym, subst}
+use Rattle.std.proofs.Common.{◌≡◌, ℕ, inr, List, Some, Result, refl, sym, subst}
 use Rattle.ff_xdr.specs.declared.error.NoMemory.{NoMemory}
 use Rattle.cluster_model.specs.declared.ids.NodeId.{NodeId}
 use Rattle.cluster_model.specs.declared.ids.NodeId.TheVariants.{Mds, Server}

@@ -1,9 +1,9 @@
 -- What is known of data servers, and what the moves of a link say of their silence.
-use Rattle.std.proofs.Common.{◌≡◌, ℕ, ◌+◌, ◌-◌, ◌*◌, ◌<◌, ◌≤◌, ◌⊎◌, inl, inr, Bool, true, false, cond, List, [], ◌∷◌, ◌++◌, map, Option, Some, None, refl, sym, ap, ◌∙◌, arith, subst}
-use Rattle.std.specs.Prelude.{◌&&◌, ◌||◌, ◌==◌, ◌≢◌, not, nat_lt, nat_le}
+use Rattle.std.proofs.Common.{◌≡◌, ℕ, ◌-◌, ◌*◌, ◌≤◌, ◌⊎◌, inl, inr, Bool, true, false, cond, List, [], ◌∷◌, ◌++◌, Option, Some, None, refl, sym, ap, ◌∙◌, arith, subst}
+use Rattle.std.specs.Prelude.{◌&&◌, ◌||◌, ◌==◌, not, nat_lt, nat_le}
 use Rattle.std.specs.List.{list_any, AllByRecursion}
 use Rattle.std.proofs.lemmas.Option.{same_Some}
-use Rattle.std.proofs.lemmas.Bool.{cases_lt, eq-eqb, eqb-true, leb-true, and_parts, or_cases}
+use Rattle.std.proofs.lemmas.Bool.{eq-eqb, eqb-true, leb-true, and_parts, or_cases}
 use Rattle.cluster_model.specs.declared.ids.NodeId.{NodeId}
 use Rattle.cluster_model.specs.declared.ids.NodeId.TheVariants.{Mds, Server, Client}
 use Rattle.node_link.specs.declared.server_news.ServerNews.{ServerNews}
@@ -11,7 +11,7 @@ use Rattle.node_link.specs.declared.server_news.NewsChange.{NewsChange}
 use Rattle.node_link.specs.declared.server_news.NewsChange.TheVariants.{IsCalled, IsHeardFrom, IsGivenUp}
 use Rattle.node_link.specs.declared.server_news.TheConstants.{DOWN_LIMIT}
 use Rattle.node_link.specs.declared.link_call.TheConstants.{CALL_LIMIT}
-use Rattle.node_link.specs.ServerNews.{is_recent, is_down_at, since_at, new_news, changed_news, is_heard_since, has_other_come, is_silent_since, is_silent, is_server_down, is_found_down, with_news, is_called_before, with_called, servers_called, servers_heard, servers_given_up}
+use Rattle.node_link.specs.ServerNews.{is_recent, is_down_at, since_at, new_news, changed_news, is_heard_since, has_other_come, is_silent_since, is_silent, is_server_down, is_found_down, with_news, is_called_before, servers_called, servers_heard, servers_given_up}
 use Rattle.node_link.specs.LinkMoves.{LinkMove, CallGoesOut, RecordComesIn, CallIsGivenUp, last_moment, move_moment}
 use Rattle.node_link.specs.LinkLaws.{IsMuteSince, HasOtherCome, IsSilentBy}
 use Rattle.node_link.proofs.CountLemmas.{not_both}

@@ -1,6 +1,6 @@
 -- That calls wait in the order of their last sending, and that those that are given up at once are READs of silent servers.
-use Rattle.std.proofs.Common.{◌≡◌, ℕ, ◌+◌, ◌-◌, ◌^◌, ◌<◌, ◌≤◌, ◌⊎◌, inl, inr, min, Bool, true, false, cond, List, [], ◌∷◌, ◌++◌, Option, Some, None, refl, sym, ap, ◌∙◌, arith, subst}
-use Rattle.std.specs.Prelude.{◌&&◌, ◌==◌, not, nat_le, drop}
+use Rattle.std.proofs.Common.{◌≡◌, ℕ, ◌+◌, ◌<◌, ◌≤◌, inl, inr, Bool, true, false, cond, List, [], ◌∷◌, ◌++◌, Option, Some, None, refl, sym, ap, ◌∙◌, arith, subst}
+use Rattle.std.specs.Prelude.{◌&&◌, not, nat_le}
 use Rattle.std.specs.List.{filter, AllByRecursion}
 use Rattle.std.proofs.lemmas.Option.{same_Some}
 use Rattle.std.proofs.lemmas.Bool.{leb-true, and_parts}
@@ -9,13 +9,12 @@ use Rattle.cluster_model.specs.declared.ids.NodeId.TheVariants.{Mds, Server, Cli
 use Rattle.cluster_model.specs.Nodes.{is_node}
 use Rattle.node_link.specs.declared.link_call.LinkCall.{LinkCall}
 use Rattle.node_link.specs.declared.server_news.ServerNews.{ServerNews}
-use Rattle.node_link.specs.ServerNews.{is_server_down, is_found_down, servers_called, servers_heard, servers_given_up, with_news}
-use Rattle.node_link.specs.declared.server_news.NewsChange.TheVariants.{IsHeardFrom}
-use Rattle.node_link.specs.LinkCalls.{LinkCallsValue, no_link_calls, later, is_link_call, is_read_of, is_node_down, new_link_call, calls_without, taken_out, with_waiting, with_servers, with_reads_over, with_reads_over_if, call_goes_out, settles_call, record_comes, first_due, first_over_of, call_over, without_first, node_given_up, call_given_up, first_due_moment, earliest_of, earliest}
+use Rattle.node_link.specs.ServerNews.{is_server_down, is_found_down, servers_called, servers_given_up}
+use Rattle.node_link.specs.LinkCalls.{LinkCallsValue, later, is_link_call, is_read_of, is_node_down, new_link_call, calls_without, taken_out, with_waiting, with_servers, with_reads_over_if, call_goes_out, record_comes, first_over_of, call_over, without_first, node_given_up, call_given_up, first_due_moment, earliest_of, earliest}
 use Rattle.node_link.specs.LinkMoves.{LinkMove, CallGoesOut, RecordComesIn, CallIsGivenUp, DoesMove, RunsMoves, NeverFall, last_moment, move_moment}
-use Rattle.node_link.specs.LinkLaws.{is_one_call, is_answer_to, out_since, times_here, IsSilentBy, IsDueFirst, IsReadOfSilent, EndsRightly}
+use Rattle.node_link.specs.LinkLaws.{is_one_call, is_answer_to, out_since, times_here, IsSilentBy, EndsRightly}
 use Rattle.node_link.proofs.CalleeLemmas.{is_one}
-use Rattle.node_link.proofs.CountLemmas.{not_both, one_call, same_call, turned, all_joined, all_without, all_filtered, none_here, times_joined, times_without, times_parted, IsCounted, at_most_once, counted, first_counted}
+use Rattle.node_link.proofs.CountLemmas.{one_call, same_call, all_joined, all_without, none_here, times_without, IsCounted, at_most_once, counted, first_counted}
 use Rattle.node_link.proofs.NewsLemmas.{AreTold, IsNoneOf, silent_later, silent_on, down_silent, found_silent, told_behind_call, told_behind_record, told_behind_end, heard_up}
 
 -- ---- what is told of one call

@@ -4,7 +4,7 @@ use Rattle.std.specs.Prelude.{ℕ, ◌+◌, ◌-◌, ◌^◌, ◌==◌, ◌&&◌
 use Rattle.std.specs.List.{filter}
 use Rattle.rpc_record.specs.Calls.{word_of}
 use Rattle.rpc_record.specs.declared.call.TheConstants.{NFS_PROGRAM}
-use Rattle.record_link.specs.Messages.{is_call_record, is_reply_record}
+use Rattle.record_link.specs.Messages.{is_reply_record}
 use Rattle.cluster_model.specs.declared.ids.NodeId.{NodeId}
 use Rattle.cluster_model.specs.declared.ids.NodeId.TheVariants.{Mds, Server, Client}
 use Rattle.cluster_model.specs.Nodes.{is_node}

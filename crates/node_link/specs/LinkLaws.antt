@@ -1,5 +1,5 @@
 -- What holds of the calls of a link, told by its moves, of which the latest comes first.
-use Rattle.std.specs.Prelude.{⊤, ◌≡◌, ◌≢◌, ◌⊎◌, ℕ, ◌+◌, ◌≤◌, ◌==◌, ◌&&◌, Bool, true, false, if◌then◌else◌, List, [], ◌∷◌, Option, None, Some}
+use Rattle.std.specs.Prelude.{◌≡◌, ◌≢◌, ◌⊎◌, ℕ, ◌+◌, ◌≤◌, ◌==◌, ◌&&◌, Bool, true, false, if◌then◌else◌, List, [], ◌∷◌, Option, None, Some}
 use Rattle.std.specs.List.{AllByRecursion}
 use Rattle.cluster_model.specs.declared.ids.NodeId.{NodeId}
 use Rattle.cluster_model.specs.declared.ids.NodeId.TheVariants.{Server}

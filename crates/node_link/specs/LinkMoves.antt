@@ -1,5 +1,5 @@
 -- What happens to the calls of a link, move by move.
-use Rattle.std.specs.Prelude.{⊤, ◌≡◌, ℕ, ◌≤◌, Bool, List, [], ◌∷◌, Option, None, Some, Result, Ok, Err}
+use Rattle.std.specs.Prelude.{⊤, ◌≡◌, ℕ, ◌≤◌, Bool, List, [], ◌∷◌, Option, Some, Result, Ok, Err}
 use Rattle.ff_xdr.specs.declared.error.NoMemory.{NoMemory}
 use Rattle.cluster_model.specs.declared.ids.NodeId.{NodeId}
 use Rattle.node_link.specs.declared.link_call.LinkCall.{LinkCall}

@@ -1,5 +1,5 @@
 -- The link of a node over a network: which node is on which connection, when a call is given up, and when time passes.
-use Rattle.std.specs.Prelude.{⊤, ◌≡◌, ◌⊎◌, ℕ, min, Bool, true, false, List, [], Option, Some, None, Result, Ok, Err}
+use Rattle.std.specs.Prelude.{⊤, ◌≡◌, ◌⊎◌, ℕ, min, Bool, true, false, List, Option, Some, None, Result, Ok, Err}
 use Rattle.ff_xdr.specs.declared.error.NoMemory.{NoMemory}
 use Rattle.rpc_record.specs.Calls.{word_of}
 use Rattle.rpc_record.specs.declared.stream.Failed.{Failed}
@@ -19,7 +19,7 @@ use Rattle.node_link.specs.declared.link.Role.{Role}
 use Rattle.node_link.specs.declared.silence.Silence.{Silence}
 use Rattle.node_link.specs.Callees.{CalleesValue, AreSame, callee_in, own_connection, SetsCallee, IsFrom}
 use Rattle.node_link.specs.LinkCalls.{LinkCallsValue, no_link_calls, is_read_to, replied_number, call_over, earliest}
-use Rattle.node_link.specs.LinkMoves.{LinkMove, CallGoesOut, RecordComesIn, CallIsGivenUp, DoesMove}
+use Rattle.node_link.specs.LinkMoves.{CallGoesOut, RecordComesIn, CallIsGivenUp, DoesMove}
 use Rattle.node_link.specs.Silence.{first_pause, new_silence, silence_end, is_silence_over, behind_arrival, behind_timeout, behind_pause}
 
 -- What it was opened with; where the metadata server and the data servers listen; its connections, where it is open; on which of them each node

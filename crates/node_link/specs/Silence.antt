@@ -1,5 +1,5 @@
 -- How long a node bears that nothing comes: behind each pause it is told that time passes.
-use Rattle.std.specs.Prelude.{◌≡◌, ℕ, ◌+◌, ◌*◌, ◌^◌, ◌-◌, nat_le, min, Bool, true, false, if◌then◌else◌, Option, None, Some}
+use Rattle.std.specs.Prelude.{ℕ, ◌+◌, ◌*◌, ◌^◌, ◌-◌, nat_le, min, Bool, false, if◌then◌else◌, Option, None, Some}
 use Rattle.node_link.specs.declared.link.Role.{Role}
 use Rattle.node_link.specs.declared.link.Role.TheVariants.{Mds, Server, Client}
 use Rattle.node_link.specs.declared.silence.Silence.{Silence}

@@ -1,4 +1,4 @@
-use Rattle.std.proofs.Common.{rules, not, ap, ◌≡◌, ℕ, List, ◌+◌, ◌++◌, length, refl, sym, ◌∙◌, arith, length-append}
+use Rattle.std.proofs.Common.{rules, not, ap, ◌≡◌, ◌++◌, length, refl, arith, length-append}
 use Rattle.std.specs.List.{filter}
 use Rattle.std.proofs.lemmas.Fn.{filter_same}
 use Rattle.std.proofs.lemmas.List.Filters.{length-filter_both}

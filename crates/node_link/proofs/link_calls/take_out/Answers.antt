@@ -1,4 +1,4 @@
-use Rattle.std.proofs.Common.{◌≡◌, ◌<◌, ℕ, length, false, sym, ◌∙◌, arith}
+use Rattle.std.proofs.Common.{◌<◌, false, sym, ◌∙◌, arith}
 use Rattle.std.specs.VecDeque.{deque_len}
 use Rattle.node_link.specs.declared.link_call.LinkCall.{LinkCall}
 use Rattle.node_link.proofs.TakeOutLemmas.{without_found, without_missing, removed}
