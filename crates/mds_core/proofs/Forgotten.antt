@@ -1,6 +1,6 @@
 -- Calls that nobody awaits are forgotten one after the other, by their numbers.
-use Rattle.std.proofs.Common.{◌≡◌, ℕ, suc, ◌<◌, ◌≤◌, Bool, true, false, cond, not, List, [], ◌∷◌, length, filter, map, Option, Some, None, refl, sym, ap, subst, ◌∙◌, arith}
-use Rattle.std.specs.Prelude.{◌&&◌, ◌||◌, ◌==◌, nat_lt, find}
+use Rattle.std.proofs.Common.{◌≡◌, ℕ, suc, ◌<◌, ◌≤◌, Bool, true, false, cond, not, List, [], ◌∷◌, length, filter, map, Option, Some, None, Bor, refl, sym, ap, subst, ◌∙◌, arith}
+use Rattle.std.specs.Prelude.{◌&&◌, ◌||◌, ◌==◌, nat_lt, find, option_copied}
 use Rattle.std.specs.Ordering.{nat_cmp}
 use Rattle.std.specs.declared.cmp.Ordering.TheVariants.{Less}
 use Rattle.std.proofs.lemmas.Bool.{lt-ltb, le-ltb, eq-eqb, ne_eqb}
@@ -207,27 +207,42 @@ pub record IsForgotten (m : MdsValue) (after : Option ℕ) (n : MdsValue) : Type
 pub begun : (m : MdsValue) → IsForgotten m None m
 begun m = record { awaited = refl; left = none_looked_at (is_awaited m) m.calls; others = refl }
 
-pub done : (m n : MdsValue) (after : Option ℕ) → IsForgotten m after n → find (λ (c : AwaitedCall). is_behind after c.xid) n.calls ≡ None → n ≡ record m { calls = filter (is_awaited m) m.calls }
-done m n after f none =
+-- what the code has found of the calls
+none_found : (found : Option (Bor AwaitedCall)) (o : Option AwaitedCall) → ((call : Bor AwaitedCall) → found ≡ Some call → ⊥) → option_copied found ≡ o → o ≡ None
+none_found None o none is = sym is
+none_found (Some call) o none is = absurd (none call refl)
+
+pub done : (m n view : MdsValue) (after : Option ℕ) → view ≡ n → IsForgotten m after n → (found : Option (Bor AwaitedCall)) → ((call : Bor AwaitedCall) → found ≡ Some call → ⊥)
+    → option_copied found ≡ find (λ (c : AwaitedCall). is_behind after c.xid) view.calls → n ≡ record m { calls = filter (is_awaited m) m.calls }
+done m n view after is f found none next =
+    let no_more : find (λ (c : AwaitedCall). is_behind after c.xid) n.calls ≡ None =
+    sym (ap (λ (k : MdsValue). find (λ (c : AwaitedCall). is_behind after c.xid) k.calls) is) ∙ none_found found (find (λ (c : AwaitedCall). is_behind after c.xid) view.calls) none next in
     let gone : n.calls ≡ filter (is_awaited m) n.calls =
-    sym f.left ∙ all_looked_at (is_awaited m) after n.calls (ap (λ (l : List AwaitedCall). find (λ (c : AwaitedCall). is_behind after c.xid) l) f.left ∙ none) in
+    sym f.left ∙ all_looked_at (is_awaited m) after n.calls (ap (λ (l : List AwaitedCall). find (λ (c : AwaitedCall). is_behind after c.xid) l) f.left ∙ no_more) in
     f.others ∙ ap (λ (l : List AwaitedCall). record m { calls = l }) (gone ∙ f.awaited)
 
-module _ (m n : MdsValue) (after : Option ℕ) (call : AwaitedCall) (f : IsForgotten m after n) (ordered : AreOrdered n.calls) (next : find (λ (c : AwaitedCall). is_behind after c.xid) n.calls ≡ Some call) where
+module _ (m n view : MdsValue) (after : Option ℕ) (call : AwaitedCall) (is : view ≡ n) (f : IsForgotten m after n) (ordered : AreOrdered view.calls) (next : Some call ≡ find (λ (c : AwaitedCall). is_behind after c.xid) view.calls) where
   abbrev waits_for : AwaitedCall → Bool
   waits_for = is_awaited m
+
+  abbrev others_than : AwaitedCall → Bool
+  others_than other = not (is_call_to call.node call.xid other)
+
+  it_is : find (λ (c : AwaitedCall). is_behind after c.xid) n.calls ≡ Some call
+  it_is = sym (next ∙ ap (λ (k : MdsValue). find (λ (c : AwaitedCall). is_behind after c.xid) k.calls) is)
 
   list_is : filter (stays waits_for (waits_for call) call) n.calls ≡ left_behind waits_for (Some call.xid) n.calls
   list_is =
       ap (λ (l : List AwaitedCall). filter (stays waits_for (waits_for call) call) l) (sym f.left)
-      ∙ looked_at waits_for after call n.calls ordered (ap (λ (l : List AwaitedCall). find (λ (c : AwaitedCall). is_behind after c.xid) l) f.left ∙ next)
+      ∙ looked_at waits_for after call n.calls (subst (λ (k : MdsValue). AreOrdered k.calls) is ordered)
+      (ap (λ (l : List AwaitedCall). find (λ (c : AwaitedCall). is_behind after c.xid) l) f.left ∙ it_is)
 
   goes_on : (calls : List AwaitedCall) → calls ≡ left_behind waits_for (Some call.xid) n.calls → IsForgotten m (Some call.xid) (record n { calls = calls })
-  goes_on calls is = record {
-    awaited = ap (λ (l : List AwaitedCall). filter waits_for l) is
+  goes_on calls at = record {
+    awaited = ap (λ (l : List AwaitedCall). filter waits_for l) at
         ∙ narrower (λ c. is_behind (Some call.xid) c.xid || waits_for c) waits_for (λ d waiting. or_second (is_behind (Some call.xid) d.xid) (waits_for d) waiting) n.calls
         ∙ f.awaited;
-    left = ap (λ (l : List AwaitedCall). left_behind waits_for (Some call.xid) l) is ∙ again (λ c. is_behind (Some call.xid) c.xid || waits_for c) n.calls ∙ sym is;
+    left = ap (λ (l : List AwaitedCall). left_behind waits_for (Some call.xid) l) at ∙ again (λ c. is_behind (Some call.xid) c.xid || waits_for c) n.calls ∙ sym at;
     others = ap (λ (k : MdsValue). record k { calls = calls }) f.others;
   }
 
@@ -236,25 +251,27 @@ module _ (m n : MdsValue) (after : Option ℕ) (call : AwaitedCall) (f : IsForgo
 
   -- it is awaited, and stays
   pub one_stays : is_awaited n call ≡ true → IsForgotten m (Some call.xid) n
-  one_stays waiting =
-      let all : filter (stays waits_for true call) n.calls ≡ n.calls = all_stay n.calls in
-      goes_on n.calls (sym all ∙ ap (λ w. filter (stays waits_for w call) n.calls) (sym (sym waits_so ∙ waiting)) ∙ list_is)
+  one_stays waiting = goes_on n.calls (sym (all_stay n.calls) ∙ ap (λ w. filter (stays waits_for w call) n.calls) (sym (sym waits_so ∙ waiting)) ∙ list_is)
     where
       all_stay : (calls : List AwaitedCall) → filter (stays waits_for true call) calls ≡ calls
       all_stay [] = refl
       all_stay (c ∷ calls) = ap (λ (l : List AwaitedCall). c ∷ l) (all_stay calls)
 
   -- nobody awaits it, and it is gone
-  pub one_goes : is_awaited n call ≡ false → IsForgotten m (Some call.xid) (record n { calls = filter (λ (c : AwaitedCall). not (is_call_to call.node call.xid c)) n.calls })
-  one_goes idle =
-      goes_on (filter (λ (c : AwaitedCall). not (is_call_to call.node call.xid c)) n.calls) (ap (λ w. filter (stays waits_for w call) n.calls) (sym (sym waits_so ∙ idle)) ∙ list_is)
+  pub one_goes : is_awaited n call ≡ false → (calls : List AwaitedCall) → calls ≡ filter others_than view.calls → IsForgotten m (Some call.xid) (record view { calls = calls })
+  one_goes idle calls gone =
+      subst (λ (k : MdsValue). IsForgotten m (Some call.xid) k)
+      (ap (λ (k : MdsValue). record k { calls = filter others_than k.calls }) (sym is) ∙ ap (λ (l : List AwaitedCall). record view { calls = l }) (sym gone))
+      (goes_on (filter others_than n.calls) (ap (λ w. filter (stays waits_for w call) n.calls) (sym (sym waits_so ∙ idle)) ∙ list_is))
 
   -- fewer are left to be looked at
   pub fewer_stay : length (filter (λ (c : AwaitedCall). is_behind (Some call.xid) c.xid) n.calls) < length (filter (λ (c : AwaitedCall). is_behind after c.xid) n.calls)
-  fewer_stay = let fewer = fewer_behind (λ c. true) waits_for after call n.calls next in omega (arith, fewer)
+  fewer_stay = let fewer = fewer_behind (λ c. true) waits_for after call n.calls it_is in omega (arith, fewer)
 
-  pub fewer_go : length (filter (λ (c : AwaitedCall). is_behind (Some call.xid) c.xid) (filter (λ (c : AwaitedCall). not (is_call_to call.node call.xid c)) n.calls)) < length (filter (λ (c : AwaitedCall). is_behind after c.xid) n.calls)
-  fewer_go =
-      let fewer = fewer_behind (λ c. true) waits_for after call n.calls next in
-      let kept = fewer_kept (λ c. is_behind (Some call.xid) c.xid) (λ c. not (is_call_to call.node call.xid c)) n.calls in
-      omega (arith, fewer, kept)
+  pub fewer_go : (calls : List AwaitedCall) → calls ≡ filter others_than view.calls
+      → length (filter (λ (c : AwaitedCall). is_behind (Some call.xid) c.xid) calls) < length (filter (λ (c : AwaitedCall). is_behind after c.xid) n.calls)
+  fewer_go calls gone =
+      let fewer = fewer_behind (λ c. true) waits_for after call n.calls it_is in
+      let kept = fewer_kept (λ c. is_behind (Some call.xid) c.xid) others_than n.calls in
+      let same = ap (λ (l : List AwaitedCall). length (filter (λ (c : AwaitedCall). is_behind (Some call.xid) c.xid) l)) (gone ∙ ap (λ (k : MdsValue). filter others_than k.calls) is) in
+      omega (arith, fewer, kept, same)
