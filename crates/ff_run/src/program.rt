@@ -7,7 +7,7 @@ ghost use Rattle.line_runs.specs.Runs.{Runs, read_faults, write_faults};
 ghost use Rattle.line_runs.specs.Writing.{WritesText};
 ghost use Rattle.command_words.specs.Commands.{IsInGrammar, command_value};
 ghost use Rattle.ff_node.specs.Serve.{beside};
-ghost use Rattle.line_runs.specs.declared.end.RunEnd.TheVariants.{NoMemory};
+ghost use Rattle.line_runs.specs.declared.end.RunEnd.TheVariants as run_end;
 ghost use Rattle.ff_run.specs.declared.program.ProgramEnd.{ProgramEnd};
 ghost use Rattle.ff_run.specs.declared.program.ProgramEnd.TheVariants.{Ended};
 ghost use Rattle.ff_run.specs.Node.{IsShortName, observed, task_command};
@@ -259,7 +259,7 @@ fn report<E: Sink>(alloc: Global, end: ProgramEnd, notes: &mut E) -> u8
 /// Ends the program where memory was wanted for its words, so that nothing was done: says `no memory`, and answers its
 /// status, which is 8, or 5 where the notes failed.
 pub fn end_without_words<E: Sink>(alloc: Global, notes: &mut E) -> u8
-    ensures { Reports (Ended NoMemory) result (E.held notes.old) (E.held notes.new) (E.faults notes.old) (E.faults notes.new) }
+    ensures { Reports (Ended run_end.NoMemory) result (E.held notes.old) (E.held notes.new) (E.faults notes.old) (E.faults notes.new) }
 {
     report(alloc, ProgramEnd::Ended(RunEnd::NoMemory), notes)
 }
