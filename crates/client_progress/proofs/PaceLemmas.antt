@@ -25,13 +25,14 @@ use Rattle.mds_calls.specs.MdsReplies.{reply_of_ask}
 use Rattle.client_state.specs.declared.layout.Layout.{Layout}
 use Rattle.client_state.specs.declared.asked.Asked.{Asked}
 use Rattle.client_state.specs.ClientStates.{ClientValue}
-use Rattle.client_state.specs.ClientSends.{ClientSend, CallsServer, CallsMds, RepeatsToServer, RepeatsToMds, RepliesToMds, ClientStep, sends_none}
+use Rattle.client_state.specs.ClientSends.{ClientSend, CallsServer, CallsMds, RepeatsToServer, RepeatsToMds, RepliesToMds, ClientStep, sends_none, and_then, run_then}
 use Rattle.client_state.specs.ClientQueue.{run_queue}
 use Rattle.client_calls.specs.ClientCalls.{xid_after, asks_as, asks, call_by_ask, may_ask, ends_event}
 use Rattle.client_calls.specs.ClientLaws.{CarryNumbers, NumbersCalls}
-use Rattle.client_answers.specs.ClientMirrors.{goes_again, late_out, ds_timed_out_by, ds_timed_out}
+use Rattle.client_answers.specs.ClientAnswers.{mds_answered}
+use Rattle.client_answers.specs.ClientMirrors.{goes_again, ds_answered, late_out, ds_timed_out_by, ds_timed_out}
 use Rattle.client_callbacks.specs.Callbacks.{CbReply, callback_of}
-use Rattle.mirror_client.specs.ClientRule.{unless_left, mds_replied, found_reply, found_call, record_from, mds_timed_out, timed_out_to, client_at_tick, resends_late, is_stale_tie, renews, ticks_on, rogue_write, mirror_of_place, strays}
+use Rattle.mirror_client.specs.ClientRule.{with_request, unless_left, mds_replied, found_reply, found_call, record_from, mds_timed_out, timed_out_to, client_at_tick, resends_late, is_stale_tie, renews, ticks_on, rogue_write, mirror_of_place, strays}
 use Rattle.client_laws.specs.ClientHistory.{ClientInput, Requested, Recorded, TimeoutOf, Ticked, LeftProtocol, Strayed}
 use Rattle.client_progress.specs.Pace.{is_again, sent_again, AtMostOne, IsOutstanding, IsOfNumber, IsOfTimeout, PacesInput}
 
@@ -70,13 +71,13 @@ module _ (numbers : (c : ClientValue) (wants : Option MdsAsk) → NumbersCalls c
   replied_none None reply now c = refl
   replied_none (Some a) reply now c = by_number (a.xid == reply.xid)
     where
-      by_number : (b : Bool) → sent_again (if b then _ else sends_none c) ≡ []
-      by_number true = ends_none _
+      by_number : (b : Bool) → sent_again (if b then run_then (mds_answered a.ask (reply_of_ask a.ask reply) now c) ends_event else sends_none c) ≡ []
+      by_number true = ends_none (mds_answered a.ask (reply_of_ask a.ask reply) now c).client
       by_number false = refl
 
   found_none : (from : NodeId) (reply : Result RpcReply XdrError) (now : ℕ) (c : ClientValue) → sent_again (found_reply from reply now c) ≡ []
   found_none Mds (Ok reply) now c = replied_none c.asked reply now c
-  found_none (Server server) (Ok reply) now c = ends_none _
+  found_none (Server server) (Ok reply) now c = ends_none (ds_answered server reply.xid (λ call. reply_of_call call reply) c).client
   found_none (Client number) (Ok reply) now c = refl
   found_none from (Err e) now c = refl
 
@@ -91,7 +92,7 @@ module _ (numbers : (c : ClientValue) (wants : Option MdsAsk) → NumbersCalls c
 
   -- ---- a timeout
 
-  IsLate : ClientStep → Type 0
+  abbrev IsLate : ClientStep → Type 0
   IsLate s = AtMostOne (IsOfTimeout s.entries) (sent_again s)
 
   mds_late : (asked : Option Asked) (c : ClientValue) → IsLate (mds_timed_out asked c)
@@ -112,7 +113,7 @@ module _ (numbers : (c : ClientValue) (wants : Option MdsAsk) → NumbersCalls c
 
   out_late : (file : OpenFile) (l : Layout) (server : ℕ) (c : ClientValue) (o : Option OutCall) → IsLate (and_then (late_out file l server o c) ends_event)
   out_late file l server c None = none_late (and_then (late_out file l server None c) ends_event) (ends_none c)
-  out_late file l server c (Some out) = late_of c file l server out (after_timeout l.writer out.xid).step _ (ends_none _)
+  out_late file l server c (Some out) = late_of c file l server out (after_timeout l.writer out.xid).step _ (ends_none (late_out file l server (Some out) c).client)
 
   server_late : (file : Option OpenFile) (layout : Option Layout) (server : ℕ) (c : ClientValue) → IsLate (and_then (ds_timed_out_by file layout server c) ends_event)
   server_late (Some file) (Some l) server c = out_late file l server c (out_at l.writer server)
@@ -130,7 +131,7 @@ module _ (numbers : (c : ClientValue) (wants : Option MdsAsk) → NumbersCalls c
 
   -- ---- a tick
 
-  IsTicked : ClientStep → Type 0
+  abbrev IsTicked : ClientStep → Type 0
   IsTicked s = AtMostOne (IsOutstanding s.client.asked) (sent_again s)
 
   renews_none : (now : ℕ) (c : ClientValue) → sent_again (renews now c) ≡ []
@@ -186,7 +187,7 @@ module _ (numbers : (c : ClientValue) (wants : Option MdsAsk) → NumbersCalls c
   -- ---- all inputs
 
   pub paces : (input : ClientInput) (c : ClientValue) → PacesInput input c
-  paces (Requested request) c = unless_none c.has_left c _ (ends_none _)
+  paces (Requested request) c = unless_none c.has_left c _ (ends_none (with_request request c))
   paces (Recorded from bytes now) c = unless_none c.has_left c _ (record_none from bytes now c)
   paces (TimeoutOf to) c = unless_late c.has_left c _ (timeout_late to c)
   paces (Ticked now) c = unless_ticked c.has_left c _ (tick_ticked now (client_at_tick c))
