@@ -53,9 +53,9 @@ removed r call P on is = subst (λ (o : Option LinkCall). OnSome o P) is on
 -- the READs of a server that is down are moved
 pub gave_up : (now number : ℕ) (c : LinkCallsValue) (down : Bool) (waiting at_once : List LinkCall) (servers : List ServerNews) → down ≡ true → down ≡ is_found_down now number c.servers
     → servers ≡ with_news now number (IsGivenUp down) c.servers → waiting ≡ filter (λ call. not (is_read_of number call)) c.waiting → at_once ≡ c.at_once ++ filter (λ call. is_read_of number call) c.waiting
-    → (let x : LinkCallsValue = record { waiting = waiting; at_once = at_once; servers = servers } in x) ≡ node_given_up now (Server number) c
+    → (let x : LinkCallsValue = record { waiting = waiting; at_once = at_once; servers = servers; highest = c.highest } in x) ≡ node_given_up now (Server number) c
 gave_up now number c down waiting at_once servers so found news waits over =
     let news' : servers ≡ with_news now number (IsGivenUp (is_found_down now number c.servers)) c.servers = news ∙ ap (λ (b : Bool). with_news now number (IsGivenUp b) c.servers) found in
     let found_so : is_found_down now number c.servers ≡ true = sym found ∙ so in
-    (λ i. record { waiting = waits i; at_once = over i; servers = news' i })
+    (λ i. record { waiting = waits i; at_once = over i; servers = news' i; highest = c.highest })
     ∙ ap (λ (b : Bool). with_reads_over_if b number (with_servers (with_news now number (IsGivenUp (is_found_down now number c.servers)) c.servers) c)) (sym found_so)

@@ -1,6 +1,6 @@
 -- That calls wait in the order of their last sending, and that those that are given up at once are READs of silent servers.
 use Rattle.std.proofs.Common.{◌≡◌, ℕ, ◌+◌, ◌<◌, ◌≤◌, inl, inr, Bool, true, false, cond, List, [], ◌∷◌, ◌++◌, Option, Some, None, refl, sym, ap, ◌∙◌, arith, subst}
-use Rattle.std.specs.Prelude.{◌&&◌, not, nat_le}
+use Rattle.std.specs.Prelude.{max, ◌&&◌, not, nat_le}
 use Rattle.std.specs.List.{filter, AllByRecursion}
 use Rattle.std.proofs.lemmas.Option.{same_Some}
 use Rattle.std.proofs.lemmas.Bool.{leb-true, and_parts}
@@ -10,11 +10,11 @@ use Rattle.cluster_model.specs.Nodes.{is_node}
 use Rattle.node_link.specs.declared.link_call.LinkCall.{LinkCall}
 use Rattle.node_link.specs.declared.server_news.ServerNews.{ServerNews}
 use Rattle.node_link.specs.ServerNews.{is_server_down, is_found_down, servers_called, servers_given_up}
-use Rattle.node_link.specs.LinkCalls.{LinkCallsValue, later, is_link_call, is_read_of, is_node_down, new_link_call, calls_without, taken_out, with_waiting, with_servers, with_reads_over_if, call_goes_out, record_comes, first_over_of, call_over, without_first, node_given_up, call_given_up, first_due_moment, earliest_of, earliest}
+use Rattle.node_link.specs.LinkCalls.{LinkCallsValue, later, is_link_call, is_read_of, is_node_down, new_link_call, calls_without, with_waiting, with_servers, with_reads_over_if, record_comes, first_over_of, call_over, without_first, node_given_up, call_given_up, first_due_moment, earliest_of, earliest}
 use Rattle.node_link.specs.LinkMoves.{LinkMove, CallGoesOut, RecordComesIn, CallIsGivenUp, DoesMove, RunsMoves, NeverFall, last_moment, move_moment}
 use Rattle.node_link.specs.LinkLaws.{is_one_call, is_answer_to, out_since, times_here, IsSilentBy, EndsRightly}
 use Rattle.node_link.proofs.CalleeLemmas.{is_one}
-use Rattle.node_link.proofs.CountLemmas.{one_call, same_call, all_joined, all_without, none_here, times_without, IsCounted, at_most_once, counted, first_counted}
+use Rattle.node_link.proofs.CountLemmas.{one_call, same_call, all_joined, all_without, none_here, times_without, IsCounted, at_most_once, counted, first_counted, AreBelow, below, goes_plain, plain_goes}
 use Rattle.node_link.proofs.NewsLemmas.{AreTold, IsNoneOf, silent_later, silent_on, down_silent, found_silent, told_behind_call, told_behind_record, told_behind_end, heard_up}
 
 -- ---- what is told of one call
@@ -168,7 +168,7 @@ node_down now (Client k) servers is = absurd cc
 
 -- a call goes out
 goes_right : (now : ℕ) (node : NodeId) (xid : ℕ) (is_data_read : Bool) (past : List LinkMove) (c : LinkCallsValue) → NeverFall (CallGoesOut now node xid is_data_read ∷ past) → IsCounted (out_since node xid past) node xid c → IsRight past c
-    → IsRight (CallGoesOut now node xid is_data_read ∷ past) (call_goes_out now (new_link_call now node xid is_data_read) c)
+    → IsRight (CallGoesOut now node xid is_data_read ∷ past) (plain_goes now (new_link_call now node xid is_data_read) c)
 goes_right now node xid is_data_read past c fall count right = by_case (is_data_read && is_node_down now node c.servers) refl
   where
     same : (calls : List LinkCall) → times_here node xid calls ≡ 0 → AllByRecursion (IsSame past (CallGoesOut now node xid is_data_read ∷ past)) calls
@@ -177,7 +177,7 @@ goes_right now node xid is_data_read past c fall count right = by_case (is_data_
     sent : out_since node xid (CallGoesOut now node xid is_data_read ∷ past) ≡ Some (now, is_data_read)
     sent = rw (same_call node xid) refl
 
-    by_case : (b : Bool) → (is_data_read && is_node_down now node c.servers) ≡ b → IsRight (CallGoesOut now node xid is_data_read ∷ past) (with_waiting b (new_link_call now node xid is_data_read) (with_servers (servers_called now node c.servers) (taken_out node xid c)))
+    by_case : (b : Bool) → (is_data_read && is_node_down now node c.servers) ≡ b → IsRight (CallGoesOut now node xid is_data_read ∷ past) (with_waiting b (new_link_call now node xid is_data_read) (record { waiting = calls_without node xid c.waiting; at_once = calls_without node xid c.at_once; servers = servers_called now node c.servers; highest = max c.highest xid }))
     by_case false is =
         let none = none_left node xid (out_since node xid past) c count in
         let waits = turn_same 0 past (CallGoesOut now node xid is_data_read ∷ past) (calls_without node xid c.waiting) (same (calls_without node xid c.waiting) none.0) (turn_without node xid 0 past c.waiting right.turn) in
@@ -219,11 +219,11 @@ comes_right now node (Some xid) past c after none count right =
     }
 
 -- the first of all stands there no longer
-first_right : (now : ℕ) (past : List LinkMove) (waiting at_once : List LinkCall) (servers : List ServerNews) → IsRight past (record { waiting = waiting; at_once = at_once; servers = servers })
-    → IsRight past (without_first at_once (record { waiting = waiting; at_once = at_once; servers = servers }))
-first_right now past [] [] servers right = right
-first_right now past (call ∷ calls) [] servers right = let turn = right.turn in record { turn = turn_lower 0 turn.0 past calls turn.2 turn.3; hopeless = tt; told = right.told }
-first_right now past waiting (call ∷ calls) servers right = record { turn = right.turn; hopeless = right.hopeless.1; told = right.told }
+first_right : (now : ℕ) (past : List LinkMove) (waiting at_once : List LinkCall) (servers : List ServerNews) (highest : ℕ) → IsRight past (record { waiting = waiting; at_once = at_once; servers = servers; highest = highest })
+    → IsRight past (without_first at_once (record { waiting = waiting; at_once = at_once; servers = servers; highest = highest }))
+first_right now past [] [] servers highest right = right
+first_right now past (call ∷ calls) [] servers highest right = let turn = right.turn in record { turn = turn_lower 0 turn.0 past calls turn.2 turn.3; hopeless = tt; told = right.told }
+first_right now past waiting (call ∷ calls) servers highest right = record { turn = right.turn; hopeless = right.hopeless.1; told = right.told }
 
 -- the others went out as before
 ended_lists : (now : ℕ) (node : NodeId) (xid : ℕ) (past : List LinkMove) (c : LinkCallsValue) → last_moment past ≤ now → IsCounted None node xid c → IsRight past c
@@ -266,16 +266,16 @@ node_right now (Client k) xid past c after count right =
 ends_right : (now : ℕ) (past : List LinkMove) (c : LinkCallsValue) (call : LinkCall) → last_moment past ≤ now → call_over now c ≡ Some call → IsCounted (out_since call.node call.xid past) call.node call.xid c → IsRight past c
     → IsRight (CallIsGivenUp now call.node call.xid ∷ past) (call_given_up now call c)
 ends_right now past c call after is count right =
-    let ended = first_counted (out_since call.node call.xid past) call.node call.xid now c.waiting c.at_once c.servers call is count in
+    let ended = first_counted (out_since call.node call.xid past) call.node call.xid now c.waiting c.at_once c.servers c.highest call is count in
     let none : IsCounted None call.node call.xid (without_first c.at_once c) = subst (λ (b : Bool). IsCounted (cond b None (out_since call.node call.xid past)) call.node call.xid (without_first c.at_once c)) (same_call call.node call.xid) ended in
-    node_right now call.node call.xid past (without_first c.at_once c) after none (first_right now past c.waiting c.at_once c.servers right)
+    node_right now call.node call.xid past (without_first c.at_once c) after none (first_right now past c.waiting c.at_once c.servers c.highest right)
 
-move_right : (move : LinkMove) (past : List LinkMove) (old new : LinkCallsValue) → DoesMove move old new → NeverFall (move ∷ past) → ((node : NodeId) (xid : ℕ) → IsCounted (out_since node xid past) node xid old) → IsRight past old → IsRight (move ∷ past) new
-move_right (CallGoesOut now node xid is_data_read) past old new does fall count right =
-    subst (λ (c : LinkCallsValue). IsRight (CallGoesOut now node xid is_data_read ∷ past) c) (sym does) (goes_right now node xid is_data_read past old fall (count node xid) right)
-move_right (RecordComesIn now node answers) past old new does fall count right =
+move_right : (move : LinkMove) (past : List LinkMove) (old new : LinkCallsValue) → DoesMove move old new → AreBelow old → NeverFall (move ∷ past) → ((node : NodeId) (xid : ℕ) → IsCounted (out_since node xid past) node xid old) → IsRight past old → IsRight (move ∷ past) new
+move_right (CallGoesOut now node xid is_data_read) past old new does low fall count right =
+    subst (λ (c : LinkCallsValue). IsRight (CallGoesOut now node xid is_data_read ∷ past) c) (sym (does ∙ goes_plain now (new_link_call now node xid is_data_read) old low)) (goes_right now node xid is_data_read past old fall (count node xid) right)
+move_right (RecordComesIn now node answers) past old new does low fall count right =
     subst (λ (c : LinkCallsValue). IsRight (RecordComesIn now node answers ∷ past) c) (sym does.1) (comes_right now node answers past old fall.0 does.0 (count node) right)
-move_right (CallIsGivenUp now node xid) past old new does fall count right =
+move_right (CallIsGivenUp now node xid) past old new does low fall count right =
     let call = does.0 in
     let ended = ends_right now past old call fall.0 does.1 (count call.node call.xid) right in
     subst (λ (c : LinkCallsValue). IsRight (CallIsGivenUp now node xid ∷ past) c) (sym does.4)
@@ -284,7 +284,7 @@ move_right (CallIsGivenUp now node xid) past old new does fall count right =
 
 pub right : (moves : List LinkMove) (c : LinkCallsValue) → RunsMoves moves c → NeverFall moves → IsRight moves c
 right [] c is fall = subst (λ (x : LinkCallsValue). IsRight [] x) (sym is) (record { turn = tt; hopeless = tt; told = tt })
-right (move ∷ past) c run fall = move_right move past run.0 c run.2 fall (counted past run.0 run.1) (right past run.0 run.1 fall.1)
+right (move ∷ past) c run fall = move_right move past run.0 c run.2 (below past run.0 run.1) fall (counted past run.0 run.1) (right past run.0 run.1 fall.1)
 
 -- ---- the laws
 
@@ -320,15 +320,15 @@ pub up_behind_record : (past : List LinkMove) (c : LinkCallsValue) (number then_
 up_behind_record past c number then_at now answers run = subst (λ (x : LinkCallsValue). is_server_down now number x.servers ≡ false) (sym run.2.1) (up_behind then_at number now answers run.0)
 
 -- what is given up first
-over_rightly : (now : ℕ) (past : List LinkMove) (waiting at_once : List LinkCall) (servers : List ServerNews) (call : LinkCall) → last_moment past ≤ now → first_over_of now waiting at_once ≡ Some call
-    → ((node : NodeId) (xid : ℕ) → IsCounted (out_since node xid past) node xid (record { waiting = waiting; at_once = at_once; servers = servers })) → IsRight past (record { waiting = waiting; at_once = at_once; servers = servers })
+over_rightly : (now : ℕ) (past : List LinkMove) (waiting at_once : List LinkCall) (servers : List ServerNews) (highest : ℕ) (call : LinkCall) → last_moment past ≤ now → first_over_of now waiting at_once ≡ Some call
+    → ((node : NodeId) (xid : ℕ) → IsCounted (out_since node xid past) node xid (record { waiting = waiting; at_once = at_once; servers = servers; highest = highest })) → IsRight past (record { waiting = waiting; at_once = at_once; servers = servers; highest = highest })
     → EndsRightly call.node call.xid now past
-over_rightly now past [] [] servers call after is count right = absurd cc
-over_rightly now past (x ∷ xs) [] servers call after is count right = by_moment (nat_le x.due now) refl is more
+over_rightly now past [] [] servers highest call after is count right = absurd cc
+over_rightly now past (x ∷ xs) [] servers highest call after is count right = by_moment (nat_le x.due now) refl is more
   where
     more : (node : NodeId) (xid : ℕ) (sending : ℕ × Bool) → out_since node xid past ≡ Some sending → 0 < times_here node xid (x ∷ xs)
     more node xid sending sent =
-        let one = (subst (λ (o : Option (ℕ × Bool)). IsCounted o node xid (record { waiting = x ∷ xs; at_once = []; servers = servers })) sent (count node xid)).0 in
+        let one = (subst (λ (o : Option (ℕ × Bool)). IsCounted o node xid (record { waiting = x ∷ xs; at_once = []; servers = servers; highest = highest })) sent (count node xid)).0 in
         omega (arith, one)
 
     by_moment : (b : Bool) → nat_le x.due now ≡ b → cond b (Some x) None ≡ Some call → ((node : NodeId) (xid : ℕ) (sending : ℕ × Bool) → out_since node xid past ≡ Some sending → 0 < times_here node xid (x ∷ xs))
@@ -341,7 +341,7 @@ over_rightly now past (x ∷ xs) [] servers call after is count right = by_momen
         subst (λ (c : LinkCall). EndsRightly c.node c.xid now past) (same_Some x call is)
         (turn.0, out.is_data_read, out.sent, inl (over, λ node xid first reads sent. turn_least node xid turn.0 past (x ∷ xs) first reads sent (here node xid (first, reads) sent) least))
     by_moment false due is here = absurd cc
-over_rightly now past waiting (x ∷ xs) servers call after is count right =
+over_rightly now past waiting (x ∷ xs) servers highest call after is count right =
     let its = right.hopeless.0 in
     subst (λ (c : LinkCall). EndsRightly c.node c.xid now past) (same_Some x call is)
     (its.at, true, its.sent, inr (refl, its.number, its.server, silent_later its.number (last_moment past) now past after its.silent))
@@ -350,5 +350,5 @@ pub end_rightly : (past : List LinkMove) (c : LinkCallsValue) (now : ℕ) (node 
 end_rightly past c now node xid run fall =
     let mid = run.0 in
     let does = run.2 in
-    let ends = over_rightly now past mid.waiting mid.at_once mid.servers does.0 fall.0 does.1 (counted past mid run.1) (right past mid run.1 fall.1) in
+    let ends = over_rightly now past mid.waiting mid.at_once mid.servers mid.highest does.0 fall.0 does.1 (counted past mid run.1) (right past mid run.1 fall.1) in
     subst (λ (n : NodeId). EndsRightly n xid now past) does.2 (subst (λ (x : ℕ). EndsRightly does.0.node x now past) does.3 ends)

@@ -1,6 +1,6 @@
 -- The calls of a link that got no answer yet: each is given up under its own number, two seconds behind its last sending; a READ of a data
 -- server that is down is given up at once.
-use Rattle.std.specs.Prelude.{ℕ, ◌+◌, ◌-◌, ◌^◌, ◌==◌, ◌&&◌, not, ◌≡◌, nat_le, min, Bool, true, false, if◌then◌else◌, List, [], ◌∷◌, ◌++◌, length, drop, Option, None, Some}
+use Rattle.std.specs.Prelude.{ℕ, ◌+◌, ◌-◌, ◌^◌, ◌==◌, ◌&&◌, not, ◌≡◌, nat_le, max, min, Bool, true, false, if◌then◌else◌, List, [], ◌∷◌, ◌++◌, length, drop, Option, None, Some}
 use Rattle.std.specs.List.{filter}
 use Rattle.rpc_record.specs.Calls.{word_of}
 use Rattle.rpc_record.specs.declared.call.TheConstants.{NFS_PROGRAM}
@@ -14,14 +14,15 @@ use Rattle.node_link.specs.declared.server_news.ServerNews.{ServerNews}
 use Rattle.node_link.specs.ServerNews.{is_server_down, is_found_down, servers_called, servers_heard, servers_given_up}
 
 -- The calls that went out and got no answer, in the order of their last sending; the READs of servers that are down, which are given up at once,
--- in order; and what is known of the data servers that were called.
+-- in order; what is known of the data servers that were called; and the highest number under which a call went out.
 pub record LinkCallsValue : Type 0 where
   pub waiting : List LinkCall
   pub at_once : List LinkCall
   pub servers : List ServerNews
+  pub highest : ℕ
 
 abbrev pub no_link_calls : LinkCallsValue
-no_link_calls = record { waiting = []; at_once = []; servers = [] }
+no_link_calls = record { waiting = []; at_once = []; servers = []; highest = 0 }
 
 -- ---- one call
 
@@ -76,10 +77,21 @@ with_waiting true call c = record c { at_once = c.at_once ++ call ∷ [] }
 abbrev pub with_servers : List ServerNews → LinkCallsValue → LinkCallsValue
 with_servers servers c = record c { servers = servers }
 
+-- the same, where no call of a number above this one stands here: one of such a number is not looked for
+abbrev pub calls_without_known : ℕ → NodeId → ℕ → List LinkCall → List LinkCall
+calls_without_known highest node xid calls = if nat_le xid highest then calls_without node xid calls else calls
+
+abbrev pub taken_out_known : NodeId → ℕ → LinkCallsValue → LinkCallsValue
+taken_out_known node xid c = record c {
+  waiting = calls_without_known c.highest node xid c.waiting;
+  at_once = calls_without_known c.highest node xid c.at_once;
+  highest = max c.highest xid;
+}
+
 -- A call goes: where it went before, that counts no longer. A READ to a server that is down is given up at once.
 abbrev pub call_goes_out : ℕ → LinkCall → LinkCallsValue → LinkCallsValue
 call_goes_out now call c =
-    with_waiting (call.is_data_read && is_node_down now call.node c.servers) call (with_servers (servers_called now call.node c.servers) (taken_out call.node call.xid c))
+    with_waiting (call.is_data_read && is_node_down now call.node c.servers) call (with_servers (servers_called now call.node c.servers) (taken_out_known call.node call.xid c))
 
 -- the number of the call that a record replies to: its first word
 abbrev pub replied_number : List ℕ → Option ℕ

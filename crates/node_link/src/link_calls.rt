@@ -4,7 +4,7 @@ ghost use Rattle.std.specs.Prelude.{◌≡◌, ◌+◌, ◌≤◌, ◌++◌, not
 ghost use Rattle.std.specs.List.{filter};
 ghost use Rattle.std.specs.VecDeque.{deque_len, deque_capacity};
 ghost use Rattle.node_link.specs.ServerNews.{servers_called, servers_heard};
-ghost use Rattle.node_link.specs.LinkCalls.{GivesUpFirst, call_goes_out, call_over, calls_without, earliest, is_link_call, is_node_down, is_read_of, no_link_calls, node_given_up, record_comes, without_first};
+ghost use Rattle.node_link.specs.LinkCalls.{GivesUpFirst, call_goes_out, call_over, calls_without, calls_without_known, earliest, is_link_call, is_node_down, is_read_of, no_link_calls, node_given_up, record_comes, without_first};
 
 use crate::link_call::LinkCall;
 use crate::server_news::{
@@ -24,6 +24,8 @@ pub struct LinkCalls {
     // the READs that are given up at once; there is room for each that waits
     at_once: VecDeque<LinkCall>,
     servers: Vec<ServerNews>,
+    // the highest number under which a call went out
+    highest: u32,
 }
 
 impl Model for LinkCalls {
@@ -33,7 +35,7 @@ impl Model for LinkCalls {
 
     ghost Value = { LinkCallsValue };
 
-    ghost view = { λ c. record { waiting = c.waiting.items; at_once = c.at_once.items; servers = c.servers.items } };
+    ghost view = { λ c. record { waiting = c.waiting.items; at_once = c.at_once.items; servers = c.servers.items; highest = c.highest } };
 
     ghost invariant = { λ c. deque_len c.at_once + deque_len c.waiting ≤ deque_capacity c.at_once };
 }
@@ -54,6 +56,17 @@ fn take_out(calls: &mut VecDeque<LinkCall>, node: NodeId, xid: u32)
 {
     if let Some(place) = place_of(calls, node, xid) {
         calls.remove(place);
+    }
+}
+
+/// The same, where no call of a number above the highest stands here: one of such a number is not looked for.
+fn take_out_known(calls: &mut VecDeque<LinkCall>, highest: u32, node: NodeId, xid: u32)
+    ensures items { calls.new.items ≡ calls_without_known highest node xid calls.old.items }
+    ensures fewer { deque_len calls.new ≤ deque_len calls.old }
+    ensures capacity { deque_capacity calls.new ≡ deque_capacity calls.old }
+{
+    if xid <= highest {
+        take_out(calls, node, xid);
     }
 }
 
@@ -142,6 +155,7 @@ impl LinkCalls {
             waiting: VecDeque::new(alloc),
             at_once: VecDeque::new(alloc),
             servers: Vec::new(alloc),
+            highest: 0,
         }
     }
 
@@ -153,8 +167,10 @@ impl LinkCalls {
         make_room(&mut self.waiting, &mut self.at_once)?;
         let is_over = call.is_data_read && is_node_down(now, call.node, &self.servers);
         call_node(&mut self.servers, call.node, now)?;
-        take_out(&mut self.waiting, call.node, call.xid);
-        take_out(&mut self.at_once, call.node, call.xid);
+        let highest = self.highest;
+        take_out_known(&mut self.waiting, highest, call.node, call.xid);
+        take_out_known(&mut self.at_once, highest, call.node, call.xid);
+        self.highest = highest.max(call.xid);
         if is_over {
             self.at_once.push_back_reserved(call);
         } else {

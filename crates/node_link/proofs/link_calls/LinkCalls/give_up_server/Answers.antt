@@ -9,7 +9,7 @@ use Rattle.node_link.proofs.link_calls.LinkCalls.give_up_server.Goals as goal
 
 pub returns-then-is_down : goal.returns-then-is_down
 returns-then-is_down c =
-    let old : LinkCallsValue = record { waiting = c.self.inside.waiting.items; at_once = c.self.inside.at_once.items; servers = c.self.inside.servers.items } in
+    let old : LinkCallsValue = record { waiting = c.self.inside.waiting.items; at_once = c.self.inside.at_once.items; servers = c.self.inside.servers.items; highest = c.self.inside.highest } in
     let long : length c.change_news.new.servers ≡ vec_len c.self.inside.servers = c.change_news.auto.servers ∙ c.deref_mut.ensures.len in
     rw (← c.self.view_is)
     (gave_up c.args.now c.args.number old c.is_found_down-is_down.result c.move_reads.new.waiting.items c.move_reads.new.at_once.items (with_items c.self.inside.servers c.change_news.new.servers).items c.if-is_down.true
