@@ -1,6 +1,2 @@
 mod CalleeLemmas
-mod CountLemmas
 mod LinkLemmas
-mod NewsLemmas
-mod TakeOutLemmas
-mod TurnLemmas

@@ -6,7 +6,7 @@ use Rattle.cluster_model.specs.declared.ids.NodeId.TheVariants.{Mds, Server}
 use Rattle.record_link.specs.Messages.{is_call_record}
 use Rattle.record_server.specs.Server.{ServingState}
 use Rattle.node_link.specs.Callees.{CalleesValue}
-use Rattle.node_link.specs.LinkCalls.{LinkCallsValue}
+use Rattle.waiting_calls.specs.LinkCalls.{LinkCallsValue}
 use Rattle.node_link.specs.NodeLinks.{LinkState, CallGoesOutIf, SendsMadeOr, SendsWhere, SendsTo, address_to}
 
 -- a call waits from the moment that the connections know

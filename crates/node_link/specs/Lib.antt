@@ -1,9 +1,5 @@
 pub mod Callees
 pub mod Clock
 pub mod Link
-pub mod LinkCalls
-pub mod LinkLaws
-pub mod LinkMoves
 pub mod NodeLinks
-pub mod ServerNews
 pub mod Silence

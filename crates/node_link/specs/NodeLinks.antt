@@ -18,8 +18,8 @@ use Rattle.node_link.specs.declared.link.Opening.{Opening}
 use Rattle.node_link.specs.declared.link.Role.{Role}
 use Rattle.node_link.specs.declared.silence.Silence.{Silence}
 use Rattle.node_link.specs.Callees.{CalleesValue, AreSame, callee_in, own_connection, SetsCallee, IsFrom}
-use Rattle.node_link.specs.LinkCalls.{LinkCallsValue, no_link_calls, is_read_to, replied_number, call_over, earliest}
-use Rattle.node_link.specs.LinkMoves.{CallGoesOut, RecordComesIn, CallIsGivenUp, DoesMove}
+use Rattle.waiting_calls.specs.LinkCalls.{LinkCallsValue, no_link_calls, is_read_to, replied_number, call_over, earliest}
+use Rattle.waiting_calls.specs.LinkMoves.{CallGoesOut, RecordComesIn, CallIsGivenUp, DoesMove}
 use Rattle.node_link.specs.Silence.{first_pause, new_silence, silence_end, is_silence_over, behind_arrival, behind_timeout, behind_pause}
 
 -- What it was opened with; where the metadata server and the data servers listen; its connections, where it is open; on which of them each node

@@ -5,16 +5,14 @@ ghost use Rattle.record_link.specs.Messages.{is_call_record};
 ghost use Rattle.record_server.specs.Server.{SendsRecord};
 ghost use Rattle.rpc_record.specs.Stream.{counted, one_more};
 ghost use Rattle.node_link.specs.Callees.{AreSame, callee_in};
-ghost use Rattle.node_link.specs.LinkCalls.{call_over};
-ghost use Rattle.node_link.specs.LinkMoves.{RecordComesIn, DoesMove, CallIsGivenUp};
+ghost use Rattle.waiting_calls.specs.LinkCalls.{call_over};
+ghost use Rattle.waiting_calls.specs.LinkMoves.{RecordComesIn, DoesMove, CallIsGivenUp};
 ghost use Rattle.node_link.specs.Silence.{is_silence_over, behind_pause, behind_timeout};
 ghost use Rattle.node_link.specs.NodeLinks.{EndsWait, ExcusesFrom, FinishesLink, GivesArrival, GivesUp, CallGoesOutIf, HasGivenIn, LinkState, OpensNetwork, ReachesOr, SendsMadeOr, SendsTo, wait_end};
 ghost use Rattle.node_link.specs.Link.{OpensLink};
 
 use crate::callees::Callees;
 use crate::link::{Arrival, Link, Opening, Role, address_numbered};
-use crate::link_call::{LinkCall, replied_number};
-use crate::link_calls::LinkCalls;
 use crate::silence::{Silence, first_pause};
 use cluster_model::NodeId;
 use device_addr::NetAddr;
@@ -25,6 +23,7 @@ use record_server::{Host, Network, RecordServer};
 use rpc_record::Failed;
 use std::alloc::Global;
 use std::marker::Model;
+use waiting_calls::{LinkCall, LinkCalls, replied_number};
 
 /// The link of a node over a network. A connection that was accepted is the node `Client(k)`, with k its number
 /// from 1. To the metadata server and to data servers it makes a connection when one is first called, keeps

@@ -1,0 +1,5 @@
+mod CountLemmas
+mod NewsLemmas
+pub mod NodeLemmas
+mod TakeOutLemmas
+mod TurnLemmas

@@ -1,0 +1,4 @@
+pub mod LinkCalls
+pub mod LinkLaws
+pub mod LinkMoves
+pub mod ServerNews
