@@ -1,5 +1,9 @@
 pub mod Kept
 pub mod CallsKeep
+pub mod Called
+pub mod WriterCalled
+pub mod OutWalk
 pub mod Ticked
 pub mod Resent
 pub mod Awaits
+pub mod FirstCalls

@@ -44,7 +44,7 @@ in_behind x (y ∷ xs) ys inside = inr (in_behind x xs ys inside)
 unequal : (a b : ℕ) → (a == b) ≡ false → a ≢ b
 unequal a b off same = not_both (sym (eq-eqb a b same) ∙ off)
 
-in_range : (count from n : ℕ) → from ≤ n → n < from + count → IsOneOf n (range_with_len from count)
+pub in_range : (count from n : ℕ) → from ≤ n → n < from + count → IsOneOf n (range_with_len from count)
 in_range zero from n low high = absurd (omega (arith, low, high))
 in_range (suc count) from n low high = by_first (n == from) refl (λ low high. in_range count (from + 1) n low high)
   where
@@ -57,7 +57,7 @@ got_kept [] place s is = absurd (none-some s is)
 got_kept (f ∷ files) zero s is = ap (λ (x : ServedFile). Some (kept_out x.file)) (same_Some f s is)
 got_kept (f ∷ files) (suc place) s is = got_kept files place s is
 
-within : (files : List ServedFile) (place : ℕ) (s : ServedFile) → slice_get files place ≡ Some s → place < length files
+pub within : (files : List ServedFile) (place : ℕ) (s : ServedFile) → slice_get files place ≡ Some s → place < length files
 within [] place s is = absurd (none-some s is)
 within (f ∷ files) zero s is = omega arith
 within (f ∷ files) (suc place) s is = let l : place < length files = within files place s is in omega (arith, l)

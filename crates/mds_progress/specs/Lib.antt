@@ -1,1 +1,2 @@
+pub mod FirstOut
 pub mod TickLaw

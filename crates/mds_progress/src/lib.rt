@@ -3,4 +3,4 @@
 
 mod laws;
 
-pub use laws::tick_law;
+pub use laws::{out_law, tick_law};
