@@ -213,9 +213,12 @@ module _ (p server : ℕ) where
     own_here m file s c is its here waits =
         let to : c.server ≡ server =
         same_Some c.server server (sym (ap (option_map (λ (d : OwnCall). d.server)) its) ∙ own_for file s m.next_xid s.write ∙ waits.0 m.next_xid) in
-        let own : slice_get m.files p ≡ Some s = subst (λ (i : ℕ). slice_get m.files i ≡ Some s) here (served_at m file s is) in
-        (c.served, m.next_xid, subst (λ (i : ℕ). slice_get (slice_set m.files i c.served) p ≡ Some c.served) (sym here) (set_here m.files p c.served s own),
-        subst (λ (n : ℕ). is_called_by c.served.write c.served.file n m.next_xid ≡ true) to (own_goes file s m.next_xid s.write refl c its))
+        let own : slice_get m.files p ≡ Some s = subst (λ (i : ℕ). slice_get m.files i ≡ Some s) here (served_at m file s is) in (
+          c.served,
+          m.next_xid,
+          subst (λ (i : ℕ). slice_get (slice_set m.files i c.served) p ≡ Some c.served) (sym here) (set_here m.files p c.served s own),
+          subst (λ (n : ℕ). is_called_by c.served.write c.served.file n m.next_xid ≡ true) to (own_goes file s m.next_xid s.write refl c its),
+        )
 
     open_own : (m : MdsValue) (file : FileId) (s : ServedFile) (c : OwnCall) → Anything file → served m file ≡ Some s → own_by file s m.next_xid s.write ≡ Some c → Open m → Open (with_served m file c.served)
     open_own m file s c may is its (inr goes) = inr (goes_own m file s c may is its goes)
