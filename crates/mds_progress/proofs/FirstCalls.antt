@@ -7,6 +7,7 @@ use Rattle.std.proofs.lemmas.Bool.{cond_both, eq-eqb, eqb-true}
 use Rattle.std.proofs.lemmas.List.Quantifiers.{position-Some}
 use Rattle.std.proofs.lemmas.Option.{none-some, same_Some}
 use Rattle.cluster_model.specs.Members.{IsOneOf}
+use Rattle.cluster_model.proofs.Elements.{slice_get-set_same, slice_get-set_other}
 use Rattle.cluster_model.specs.declared.ids.FileId.{FileId}
 use Rattle.cluster_model.specs.declared.ids.Mirror.{Mirror}
 use Rattle.cluster_model.specs.declared.ids.NodeId.{NodeId}
@@ -21,7 +22,7 @@ use Rattle.mds_rule.specs.declared.waiter.Waiter.{Waiter}
 use Rattle.mds_rule.specs.MdsStates.{WaitingRead, WaitingWrite, ServedFile, MdsSend, MdsValue, MdsStep, sends_none, served, with_served, numbered}
 use Rattle.mds_rule.specs.Goes.{xid_after, calls_as, calls_server, OwnCall, own_of_file, own_of_write, own_by, place_of, place_or_last, own_call_at, own_next, has_xids, own_call, read_calls, each, place_calls, file_calls, calls_out}
 use Rattle.mds_progress.specs.FirstOut.{is_called_at, is_called_by, FirstWaitsFor, HasCallTo, FirstGoesOut}
-use Rattle.mds_progress.proofs.Called.{GoesOut, goes_out, KeepsOut, stays_out}
+use Rattle.mds_progress.proofs.Called.{not_both, GoesOut, goes_out, KeepsOut, stays_out}
 use Rattle.mds_progress.proofs.WriterCalled.{WriteGoes, write_goes, WriteStays, write_stays}
 use Rattle.mds_progress.proofs.OutWalk.{some_number, each_so, reads_so, front_so, own_so, place_so, file_so}
 use Rattle.mds_progress.proofs.Ticked.{pred_suc}
@@ -82,18 +83,6 @@ own_stays server own file s xid None at out c is = file_stays server own file s 
 own_stays server own file s xid (Some w) at out c is = write_stays_so server own file s w out (writer.next_sent w.writer xid) (write_stays server own w.writer xid) c is
 
 -- ---- lists
-
-set_here : {X : Type 0} (xs : List X) (i : ℕ) (x y : X) → slice_get xs i ≡ Some y → slice_get (slice_set xs i x) i ≡ Some x
-set_here [] i x y at = absurd (none-some y at)
-set_here (z ∷ xs) zero x y at = refl
-set_here (z ∷ xs) (suc i) x y at = set_here xs i x y at
-
-set_elsewhere : {X : Type 0} (xs : List X) (i j : ℕ) (x : X) → i ≢ j → slice_get (slice_set xs i x) j ≡ slice_get xs j
-set_elsewhere [] i j x other = refl
-set_elsewhere (z ∷ xs) zero zero x other = absurd (other refl)
-set_elsewhere (z ∷ xs) zero (suc j) x other = refl
-set_elsewhere (z ∷ xs) (suc i) zero x other = refl
-set_elsewhere (z ∷ xs) (suc i) (suc j) x other = set_elsewhere xs i j x (λ same. other (ap suc same))
 
 served_at : (m : MdsValue) (file : FileId) (s : ServedFile) → served m file ≡ Some s → slice_get m.files (file.0 - 1) ≡ Some s
 served_at m file s is =
@@ -157,11 +146,8 @@ module _ (p server : ℕ) where
       by_place true here =
           let same : file.0 - 1 ≡ p = eqb-true (file.0 - 1) p here in
           let own : slice_get m.files p ≡ Some s = subst (λ (i : ℕ). slice_get m.files i ≡ Some s) same (served_at m file s is) in
-          (t, subst (λ (i : ℕ). slice_get (slice_set m.files i t) p ≡ Some t) (sym same) (set_here m.files p t s own), moves (subst Is (same_Some u s (sym at ∙ own)) has))
-      by_place false off = (u, set_elsewhere m.files (file.0 - 1) p t (λ same. not_both (sym off ∙ eq-eqb (file.0 - 1) p same)) ∙ at, has)
-        where
-          not_both : false ≡ true → ⊥
-          not_both e = absurd cc
+          (t, subst (λ (i : ℕ). slice_get (slice_set m.files i t) p ≡ Some t) (sym same) (slice_get-set_same m.files p s t own), moves (subst Is (same_Some u s (sym at ∙ own)) has))
+      by_place false off = (u, slice_get-set_other m.files (file.0 - 1) p t (λ same. not_both (sym off ∙ eq-eqb (file.0 - 1) p (sym same))) ∙ at, has)
 
   goes_put : (m : MdsValue) (file : FileId) (s t : ServedFile) → served m file ≡ Some s → ((own : ℕ) → is_called_by s.write s.file server own ≡ true → is_called_by t.write t.file server own ≡ true) → Goes m → Goes (with_served m file t)
   goes_put m file s t is moves (inl none) = inl none
@@ -216,7 +202,7 @@ module _ (p server : ℕ) where
         let own : slice_get m.files p ≡ Some s = subst (λ (i : ℕ). slice_get m.files i ≡ Some s) here (served_at m file s is) in (
           c.served,
           m.next_xid,
-          subst (λ (i : ℕ). slice_get (slice_set m.files i c.served) p ≡ Some c.served) (sym here) (set_here m.files p c.served s own),
+          subst (λ (i : ℕ). slice_get (slice_set m.files i c.served) p ≡ Some c.served) (sym here) (slice_get-set_same m.files p s c.served own),
           subst (λ (n : ℕ). is_called_by c.served.write c.served.file n m.next_xid ≡ true) to (own_goes file s m.next_xid s.write refl c its),
         )
 
@@ -229,10 +215,7 @@ module _ (p server : ℕ) where
             let same : file.0 - 1 ≡ p = eqb-true (file.0 - 1) p here in
             let own : slice_get m.files p ≡ Some s = subst (λ (i : ℕ). slice_get m.files i ≡ Some s) same (served_at m file s is) in
             inr (inr (own_here m file s c is its same (subst Waits (same_Some waits.0 s (sym waits.1 ∙ own)) waits.2)))
-        by_place false off = inl (waits.0, set_elsewhere m.files (file.0 - 1) p c.served (λ same. not_both (sym off ∙ eq-eqb (file.0 - 1) p same)) ∙ waits.1, waits.2)
-          where
-            not_both : false ≡ true → ⊥
-            not_both e = absurd cc
+        by_place false off = inl (waits.0, slice_get-set_other m.files (file.0 - 1) p c.served (λ same. not_both (sym off ∙ eq-eqb (file.0 - 1) p (sym same))) ∙ waits.1, waits.2)
 
     -- ---- its pass
 
@@ -247,9 +230,6 @@ module _ (p server : ℕ) where
         cond_both (place_of s c.server == q) (calls_server m (numbered (suc p)) c.served c.caller c.server c.uid c.call) (sends_none m) (λ (x : MdsStep). Goes x.mds)
         (λ on. inr (own_here m (numbered (suc p)) s c is its here_is waits))
         (λ off. absurd (not_both (sym off ∙ eq-eqb (place_of s c.server) q (ap (place_of s) to ∙ waits.1))))
-      where
-        not_both : false ≡ true → ⊥
-        not_both e = absurd cc
 
     turn_next : (m : MdsValue) (o : Option ServedFile) → served m (numbered (suc p)) ≡ o → StillWaits m → m.next_xid ≢ 0 → Goes (own_next m (numbered (suc p)) q o).mds
     turn_next m None is waits some = absurd (none-some waits.0 (sym is ∙ served_suc m p ∙ waits.1))
