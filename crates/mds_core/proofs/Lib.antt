@@ -1,6 +1,6 @@
-pub mod EachTurn
+pub mod CompoundsWithin
+pub mod FilesTick
 pub mod LeaseLemmas
 pub mod RecallLemmas
 pub mod NextAwaited
-pub mod CompoundsWithin
 pub mod Forgotten

@@ -9,7 +9,7 @@ use ff_xdr::NoMemory;
 use mds_answers::take_answer;
 use mds_compounds::run_compound;
 use mds_receive::{Incoming, receive_record};
-use mds_sends::call_all;
+use mds_sends::call_due;
 use mds_state::State;
 
 /// A record came from a node; it is `now`, in seconds. Takes memory.
@@ -26,7 +26,7 @@ pub fn receive(
         Incoming::Nothing => Ok(()),
         Incoming::Reply(reply) => {
             take_answer(state, from, &reply, now, out)?;
-            call_all(state, &[], out)
+            call_due(state, out)
         }
         Incoming::Answered(bytes) => {
             out.sends.push((from, bytes))?;
@@ -34,7 +34,7 @@ pub fn receive(
         }
         Incoming::Compound { xid, compound } => {
             run_compound(state, from, xid, &compound, now, out)?;
-            call_all(state, &[], out)
+            call_due(state, out)
         }
     }
 }

@@ -36,12 +36,14 @@ fn expire_recalls(state: &mut State, now: u64, out: &mut Outbox) -> Result<(), N
     Ok(())
 }
 
-/// A tick at each file. It costs by the number of files. Takes memory.
+/// A tick at each file. Only those are visited that it may change: it costs by them. Takes memory.
 fn tick_files(state: &mut State, out: &mut Outbox) -> Result<(), NoMemory>
     ensures { OnOk result (HasMadeStep (each (λ n m. takes_input m (numbered n) Ticks) (range_with_len 1 (length state.old.files)) state.old) out.old state.new out.new) }
 {
-    for place in 0..state.files.len() {
-        take_input(state, FileId(place + 1), FileInput::Ticks, out)?;
+    let mut from = 1;
+    while let Some(file) = state.files.next_restless(from) {
+        take_input(state, file, FileInput::Ticks, out)?;
+        from = file.0 + 1;
     }
     Ok(())
 }

@@ -13,7 +13,7 @@ use cluster_model::{Entry, NodeId, Outbox};
 use ff_xdr::{Data, NoMemory};
 use mds_answers::{is_awaited, time_out as time_out_for};
 use mds_rule::Waiter;
-use mds_sends::call_all;
+use mds_sends::call_due;
 use mds_state::State;
 
 /// The call to a node that was sent first, of those that are waited for.
@@ -124,5 +124,5 @@ pub fn time_out(
     })?;
     time_out_for(state, late.xid, late.caller, now, out)?;
     send_again(state, late, out)?;
-    call_all(state, &[], out)
+    call_due(state, out)
 }

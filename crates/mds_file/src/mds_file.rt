@@ -6,6 +6,7 @@ ghost use Rattle.cluster_model.specs.declared.limits.TheConstants.{PIECE_SIZE};
 ghost use Rattle.file_rule.specs.FilePhases.{new_mds_file, is_outstanding};
 ghost use Rattle.mds_activity.specs.FileCalls.{SendsFileCall, call_of, servers_waiting, kept_out};
 ghost use Rattle.mds_creations.specs.Makings.{are_different};
+ghost use Rattle.mds_file.specs.Inputs.{is_idle};
 
 use arrayvec::ArrayVec;
 use cluster_model::{Cred, DsCall};
@@ -98,5 +99,12 @@ impl MdsFile {
     {
         let live = self.layout.live();
         self.activity.kept_out(live)
+    }
+
+    /// It has nothing under way.
+    pub fn is_idle(&self) -> bool
+        ensures { result ≡ is_idle self.now.activity }
+    {
+        matches!(self.activity, Activity::Idle)
     }
 }

@@ -50,7 +50,7 @@ fn give_granted(
     ensures op { (step : MdsStep) (old out : Outbox) → HasEntered step.mds step.entries old state.old out → HasOperated (granted_in step run.old file again (served step.mds file)) old result state.new run.new out }
     ensures on { AddsResult run.old result run.new }
 {
-    state.files.hand_to(file, client_of(run), again);
+    state.files.hand_to(file, client_of(run), again)?;
     let Some(served) = state.files.get(file) else {
         return run.refuse(50, Stat4::LayoutUnavailable);
     };

@@ -1,5 +1,5 @@
 -- A file of which nothing waits sends nothing, and is passed over.
-use Rattle.std.proofs.Common.{◌≡◌, ℕ, zero, suc, ◌+◌, ◌-◌, ◌<◌, ◌≤◌, cond, List, [], ◌∷◌, slice_get, Option, Some, None, refl, ap, subst, ◌∙◌, inl, inr, ◌⊎◌, arith}
+use Rattle.std.proofs.Common.{◌≡◌, ℕ, zero, suc, ◌+◌, ◌-◌, ◌<◌, ◌≤◌, cond, List, [], ◌∷◌, slice_get, Option, Some, None, refl, sym, ap, subst, ◌∙◌, inl, inr, ◌⊎◌, arith}
 use Rattle.std.specs.Prelude.{min}
 use Rattle.std.specs.List.{range_with_len}
 use Rattle.std.proofs.lemmas.Bool.{cases_lt}
@@ -9,8 +9,10 @@ use Rattle.mds_rule.specs.MdsStates.{ServedFile, MdsValue, MdsStep, sends_none, 
 use Rattle.mds_rule.specs.Goes.{each, has_xids, own_next, own_call, own_two, own_calls, read_call_in, read_count, read_calls, place_calls, recall_call, repeats, file_calls}
 use Rattle.compound_run.specs.CompoundRuns.{HasMadeStep}
 use Rattle.served_files.specs.Quiet.{IsFileQuiet, AreQuiet}
+use Rattle.mds_sends.specs.Kept.{kept_in, NoneKept}
 use Rattle.mds_sends.specs.Visits.{NoRecalls, AreSilent}
 use Rattle.mds_sends.proofs.GoesEach.{each_turn}
+use Rattle.mds_sends.proofs.GoesKept.{KeptList, repeats_as}
 use Rattle.mds_sends.proofs.GoesOwn.{either_none, steps_none, own_is}
 use Rattle.mds_sends.proofs.GoesReads.{none_at, read_is}
 
@@ -46,10 +48,10 @@ module _ (m : MdsValue) (file : FileId) where
     places_none : each (place_calls file) (0 ∷ 1 ∷ 2 ∷ 3 ∷ 4 ∷ []) m ≡ sends_none m
     places_none = each_silent (place_calls file) (0 ∷ 1 ∷ 2 ∷ 3 ∷ 4 ∷ []) m (λ place. then_none (own_calls file place m) (read_calls file place) m (own_none place) (reads_none place))
 
-file_none : (m : MdsValue) (n : ℕ) → recall_call (numbered n) m ≡ sends_none m → ((s : ServedFile) → served m (numbered n) ≡ Some s → IsFileQuiet s) → file_calls [] n m ≡ sends_none m
-file_none m n recall quiet =
-    then_none (and_then (recall_call (numbered n) m) (repeats (slice_get [] (n - 1)))) (each (place_calls (numbered n)) (0 ∷ 1 ∷ 2 ∷ 3 ∷ 4 ∷ [])) m
-    (then_none (recall_call (numbered n) m) (repeats (slice_get [] (n - 1))) m recall refl)
+file_none : (list : KeptList) (m : MdsValue) (n : ℕ) → kept_in list (n - 1) ≡ None → recall_call (numbered n) m ≡ sends_none m → ((s : ServedFile) → served m (numbered n) ≡ Some s → IsFileQuiet s) → file_calls list n m ≡ sends_none m
+file_none list m n none recall quiet =
+    then_none (and_then (recall_call (numbered n) m) (repeats (slice_get list (n - 1)))) (each (place_calls (numbered n)) (0 ∷ 1 ∷ 2 ∷ 3 ∷ 4 ∷ [])) m
+    (then_none (recall_call (numbered n) m) (repeats (slice_get list (n - 1))) m recall (sym (repeats_as (slice_get list (n - 1)) None m none)))
     (places_none m (numbered n) quiet)
 
 -- ---- files from one number on
@@ -61,21 +63,23 @@ lesser from a b n end is below first second = by_order (cases_lt a b)
     by_order (inl left) = let behind : from ≤ a = first (omega (arith, is, below, left)) in omega (arith, is, left, behind)
     by_order (inr right) = let behind : from ≤ b = second (omega (arith, is, below, right)) in omega (arith, is, right, behind)
 
--- up to the lesser of two numbers
-pub silent : (m : MdsValue) (from due recalled next : ℕ) → next ≤ due → next ≤ recalled → AreQuiet m.files from due → NoRecalls m from recalled → AreSilent m from next
-silent m from due recalled next first second quiet none = λ n behind before.
-    file_none m n (none n behind (omega (arith, before, second))) (λ s is. quiet (numbered n) s behind (omega (arith, before, first)) is)
+-- up to the least of three numbers
+pub silent : (list : KeptList) (m : MdsValue) (from due recalled kept next : ℕ) → 1 ≤ from → next ≤ due → next ≤ recalled → next ≤ kept → AreQuiet m.files from due → NoRecalls m from recalled → NoneKept list from kept
+    → AreSilent list m from next
+silent list m from due recalled kept next some first second third quiet no_recalls none = λ n behind before.
+    file_none list m n (none (n - 1) (omega (arith, behind)) (omega (arith, before, third, behind, some))) (no_recalls n behind (omega (arith, before, second)))
+    (λ s is. quiet (numbered n) s behind (omega (arith, before, first)) is)
 
--- those that are silent are passed over
-pub passed : (m : MdsValue) (from to len left k : ℕ) (out new : Outbox) (n : MdsValue) → from + k ≡ to → len ≡ k + left → AreSilent m from to
-    → HasMadeStep (each (file_calls []) (range_with_len to left) m) out n new → HasMadeStep (each (file_calls []) (range_with_len from len) m) out n new
-passed m from to len left zero out new n at so none rest =
+-- what does nothing is passed over
+pub passed : (step : ℕ → MdsValue → MdsStep) (m : MdsValue) (from to len left k : ℕ) (out new : Outbox) (n : MdsValue) → from + k ≡ to → len ≡ k + left → ((i : ℕ) → from ≤ i → i < to → step i m ≡ sends_none m)
+    → HasMadeStep (each step (range_with_len to left) m) out n new → HasMadeStep (each step (range_with_len from len) m) out n new
+passed step m from to len left zero out new n at so none rest =
     let here : to ≡ from = omega (arith, at) in
     let all : left ≡ len = omega (arith, so) in
-    subst (λ (i : ℕ). HasMadeStep (each (file_calls []) (range_with_len i len) m) out n new) here (subst (λ (l : ℕ). HasMadeStep (each (file_calls []) (range_with_len to l) m) out n new) all rest)
-passed m from to len left (suc k) out new n at so none rest =
+    subst (λ (i : ℕ). HasMadeStep (each step (range_with_len i len) m) out n new) here (subst (λ (l : ℕ). HasMadeStep (each step (range_with_len to l) m) out n new) all rest)
+passed step m from to len left (suc k) out new n at so none rest =
     let more : len ≡ suc (k + left) = omega (arith, so) in
     let below : from < to = omega (arith, at) in
     let on : from + 1 + k ≡ to = omega (arith, at) in
-    each_turn (file_calls []) from len (k + left) out out new m m n more (steps_none (file_calls [] from m) m out (none from (omega arith) below))
-    (passed m (from + 1) to (k + left) left k out new n on refl (λ i behind before. none i (omega (arith, behind)) before) rest)
+    each_turn step from len (k + left) out out new m m n more (steps_none (step from m) m out (none from (omega arith) below))
+    (passed step m (from + 1) to (k + left) left k out new n on refl (λ i behind before. none i (omega (arith, behind)) before) rest)

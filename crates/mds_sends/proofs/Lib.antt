@@ -1,6 +1,6 @@
-mod GoesEach
-mod GoesKept
-mod GoesOwn
-mod GoesQuiet
-mod GoesReads
-mod GoesRecalls
+pub mod GoesEach
+pub mod GoesKept
+pub mod GoesOwn
+pub mod GoesQuiet
+pub mod GoesReads
+pub mod GoesRecalls

@@ -1,10 +1,11 @@
 //! All calls that go out at the end of an event.
 
-ghost use Rattle.std.specs.Prelude.{◌≡◌, ◌≤◌, ◌-◌, ◌∷◌, [], slice_get, OnOk, IfOk};
+ghost use Rattle.std.specs.Prelude.{◌≡◌, ◌≤◌, ◌-◌, ◌∷◌, [], ℕ, List, Option, Some, OnOk};
 ghost use Rattle.mds_rule.specs.Goes.{each, repeats, place_calls, file_calls, calls_out};
-ghost use Rattle.mds_rule.specs.Events.{kept_calls};
 ghost use Rattle.compound_run.specs.CompoundRuns.{HasMadeStep};
+ghost use Rattle.mds_sends.specs.Kept.{kept_in, first_number, kept_for, rest_behind, numbered_kept};
 
+use crate::kept::KeptCall;
 use crate::next::next_file;
 use crate::own::call_own;
 use crate::reads::call_reads;
@@ -13,28 +14,11 @@ use cluster_model::{FileId, NodeId, Outbox};
 use ff_xdr::NoMemory;
 use mds_state::State;
 
-/// A call by its server and number, which a file kept until the tick, if it kept one.
-pub type Kept = Option<(u32, u32)>;
-
-/// What each file has kept, at its place. It costs by the number of files. Takes memory.
-pub fn kept_calls(state: &State) -> Result<Vec<Kept>, NoMemory>
-    ensures { IfOk result (λ kept. kept.items ≡ kept_calls state.now) }
+/// The call of this server and number, which was kept until the tick, is sent again. Takes memory.
+fn repeat(state: &mut State, kept: Option<(u32, u32)>, out: &mut Outbox) -> Result<(), NoMemory>
+    ensures { OnOk result (HasMadeStep (repeats (Some kept) state.old) out.old state.new out.new) }
 {
-    let mut kept = Vec::new(state.alloc);
-    for place in 0..state.files.len() {
-        let Some(served) = state.files.get(FileId(place + 1)) else {
-            return Ok(kept);
-        };
-        kept.push(served.file.kept_out())?;
-    }
-    Ok(kept)
-}
-
-/// What was kept until the tick under its number is sent again. Takes memory.
-fn repeat(state: &mut State, kept: Option<Kept>, out: &mut Outbox) -> Result<(), NoMemory>
-    ensures { OnOk result (HasMadeStep (repeats kept state.old) out.old state.new out.new) }
-{
-    let Some(Some((server, xid))) = kept else {
+    let Some((server, xid)) = kept else {
         return Ok(());
     };
     let Some(call) = state.calls.get(NodeId::Server(server), xid) else {
@@ -42,14 +26,6 @@ fn repeat(state: &mut State, kept: Option<Kept>, out: &mut Outbox) -> Result<(),
     };
     out.sends.push(call.record(state.alloc)?)?;
     Ok(())
-}
-
-/// What the file with this number has kept.
-fn kept_at(kept: &[Kept], number: u32) -> Option<Kept>
-    requires { 1 ≤ number }
-    ensures { result ≡ slice_get kept.now (number - 1) }
-{
-    kept.get(number as usize - 1).copied()
 }
 
 /// At one place a file's own calls go before its READs. Takes memory.
@@ -80,45 +56,72 @@ fn call_places(state: &mut State, file: FileId, out: &mut Outbox) -> Result<(), 
 /// memory.
 fn call_file(
     state: &mut State,
-    kept: &[Kept],
+    kept: Option<(u32, u32)>,
     number: u32,
     out: &mut Outbox,
 ) -> Result<(), NoMemory>
     requires { 1 ≤ number }
-    ensures { OnOk result (HasMadeStep (file_calls kept.now number state.old) out.old state.new out.new) }
+    ensures { (list : List (Option (ℕ × ℕ))) → kept_in list (number - 1) ≡ kept → OnOk result (HasMadeStep (file_calls list number state.old) out.old state.new out.new) }
 {
     let file = FileId(number);
     call_recall(state, file, out)?;
-    repeat(state, kept_at(kept, number), out)?;
+    repeat(state, kept, out)?;
     call_places(state, file, out)?;
     state.files.settle(file);
     Ok(())
 }
 
-/// All calls that wait go out, where nothing was kept until a tick. Only the files are visited that are due or whose recall is next.
-/// Takes memory.
-fn call_due(state: &mut State, out: &mut Outbox) -> Result<(), NoMemory>
-    ensures { OnOk result (HasMadeStep (calls_out [] state.old) out.old state.new out.new) }
+/// The number of the file that has kept the first of these.
+fn first_number(rest: &[KeptCall]) -> Option<u32>
+    ensures { result ≡ first_number rest.now }
+{
+    let (call, _) = rest.split_first()?;
+    Some(call.number)
+}
+
+/// The call that the file with this number has kept, if it is the first of these.
+fn kept_for(rest: &[KeptCall], number: u32) -> Option<(u32, u32)>
+    ensures { result ≡ kept_for number rest.now }
+{
+    let (call, _) = rest.split_first()?;
+    if call.number != number {
+        return None;
+    }
+    Some((call.server, call.xid))
+}
+
+/// What is left of these behind the file with this number.
+fn rest_behind(rest: &[KeptCall], number: u32) -> &[KeptCall]
+    ensures { result.now ≡ rest_behind number rest.now }
+{
+    let Some((call, others)) = rest.split_first() else {
+        return rest;
+    };
+    if call.number != number {
+        return rest;
+    }
+    others
+}
+
+/// All calls that wait go out, and what files have kept until a tick. Only the files are visited that are due, whose recall is next, or
+/// that have kept a call. Takes memory.
+pub fn call_all(state: &mut State, kept: &[KeptCall], out: &mut Outbox) -> Result<(), NoMemory>
+    ensures { (list : List (Option (ℕ × ℕ))) → kept.now ≡ numbered_kept 1 list → OnOk result (HasMadeStep (calls_out list state.old) out.old state.new out.new) }
 {
     let end = state.files.len() + 1;
     let mut from = 1;
-    while let Some(number) = next_file(state, from, end) {
-        call_file(state, &[], number, out)?;
+    let mut rest = kept;
+    while let Some(number) = next_file(state, first_number(rest), from, end) {
+        call_file(state, kept_for(rest, number), number, out)?;
+        rest = rest_behind(rest, number);
         from = number + 1;
     }
     Ok(())
 }
 
-/// All calls that wait go out, and at a tick what each file has kept until it. It costs by the number of files at a tick, and else,
-/// where `kept` is empty, by the files that are due or whose recall is next. Takes memory.
-pub fn call_all(state: &mut State, kept: &[Kept], out: &mut Outbox) -> Result<(), NoMemory>
-    ensures { OnOk result (HasMadeStep (calls_out kept.now state.old) out.old state.new out.new) }
+/// All calls that wait go out, where nothing was kept until a tick. Takes memory.
+pub fn call_due(state: &mut State, out: &mut Outbox) -> Result<(), NoMemory>
+    ensures { OnOk result (HasMadeStep (calls_out [] state.old) out.old state.new out.new) }
 {
-    if kept.is_empty() {
-        return call_due(state, out);
-    }
-    for place in 0..state.files.len() {
-        call_file(state, kept, place + 1, out)?;
-    }
-    Ok(())
+    call_all(state, &[], out)
 }

@@ -3,10 +3,12 @@
 #![tactic(auto)]
 
 mod all;
+mod kept;
 mod next;
 mod own;
 mod reads;
 mod recalls;
 mod send;
 
-pub use all::{Kept, call_all, kept_calls};
+pub use all::{call_all, call_due};
+pub use kept::{KeptCall, kept_calls};

@@ -4,6 +4,7 @@ use Rattle.std.specs.Prelude.{slice_get}
 use Rattle.std.proofs.lemmas.List.{length-set}
 use Rattle.std.proofs.lemmas.Option.{same_Some, slice_get_read}
 use Rattle.ff_xdr.specs.declared.error.NoMemory.{NoMemory}
+use Rattle.cluster_model.proofs.Elements.{slice_get-set_same}
 use Rattle.cluster_model.specs.declared.ids.FileId.{FileId}
 use Rattle.cluster_model.specs.declared.entry.Entry.{Entry}
 use Rattle.file_rule.specs.declared.fresh.Fresh.{Fresh}
@@ -16,10 +17,10 @@ use Rattle.served_files.specs.declared.writing.EndedWrite.{EndedWrite}
 use Rattle.served_files.specs.declared.sending.SentByFile.{SentByFile}
 use Rattle.served_files.specs.Waiting.{StepsRead, StepsWrite}
 use Rattle.served_files.specs.Sending.{SendsOwn, SendsFileRead}
-use Rattle.served_files.specs.Quiet.{IsFileQuiet, is_due, AreQuietBut}
+use Rattle.served_files.specs.Quiet.{IsFileQuiet, IsFileStill, is_marked, AreQuietBut, AreStillBut}
 use Rattle.served_files.specs.FileSteps.{at_place, changed_at, changed_in, TakesStep, TakesAt, TakesIn, StepsReadOf, StepsReadIn, StepsWriteOf, StepsWriteIn, SendsOwnOf, SendsOwnIn, SendsReadOf, SendsReadIn}
 use Rattle.served_files.proofs.NameLists.{map-push}
-use Rattle.served_files.proofs.QuietLemmas.{StayDue, still_quiet, quiet_set, quiet_stays, quiet_push}
+use Rattle.served_files.proofs.QuietLemmas.{StayMarked, still_all, all_set, all_push}
 
 -- ---- the names, where a file changes and keeps its own
 
@@ -28,16 +29,22 @@ names_set [] i x y there same = absurd (cc)
 names_set (f ∷ files) zero x y there same = ap (λ name. name ∷ map (λ (f : ServedFile). f.name) files) (same ∙ ap (λ (g : ServedFile). g.name) (sym (same_Some f x there)))
 names_set (f ∷ files) (suc i) x y there same = ap (λ names. f.name ∷ names) (names_set files i x y there same)
 
--- the names, the places that are due, and the files
-abbrev pub AreKept : List (List ℕ) → List ℕ → List ServedFile → Type 0
-AreKept names due files = (names ≡ map (λ (f : ServedFile). f.name) files) × (length files ≤ 4096) × AreQuietBut due files
+-- the names, the places that are due and those that are restless, and the files
+abbrev pub AreKept : List (List ℕ) → List ℕ → List ℕ → List ServedFile → Type 0
+AreKept names due restless files = (names ≡ map (λ (f : ServedFile). f.name) files) × (length files ≤ 4096) × AreQuietBut due files × AreStillBut restless files
 
--- one file more, which is due
-pub one_more : (names : List (List ℕ)) (old new : List ℕ) (files : List ServedFile) (y : ServedFile) → length files < 4096 → StayDue old new → is_due new (length files) ≡ true → AreKept names old files → AreKept (names ++ y.name ∷ []) new (files ++ y ∷ [])
-one_more names old new files y room stay is (are, few, quiet) = (
+-- more places are marked
+pub stay_kept : (names : List (List ℕ)) (due due' restless restless' : List ℕ) (files : List ServedFile) → StayMarked due due' → StayMarked restless restless' → AreKept names due restless files → AreKept names due' restless' files
+stay_kept names due due' restless restless' files stay stay' (are, few, quiet, still) = (are, few, still_all IsFileQuiet due due' files stay quiet, still_all IsFileStill restless restless' files stay' still)
+
+-- one file more, which is marked
+pub one_more : (names : List (List ℕ)) (due due' restless restless' : List ℕ) (files : List ServedFile) (y : ServedFile) → length files < 4096 → StayMarked due due' → is_marked due' (length files) ≡ true
+    → StayMarked restless restless' → is_marked restless' (length files) ≡ true → AreKept names due restless files → AreKept (names ++ y.name ∷ []) due' restless' (files ++ y ∷ [])
+one_more names due due' restless restless' files y room stay is stay' is' (are, few, quiet, still) = (
   ap (λ (l : List (List ℕ)). l ++ y.name ∷ []) are ∙ sym (map-push (λ (f : ServedFile). f.name) files y),
   omega (arith, room, length-append files (y ∷ [])),
-  quiet_push new files y is (still_quiet old new files stay quiet),
+  all_push IsFileQuiet due' files y is (still_all IsFileQuiet due due' files stay quiet),
+  all_push IsFileStill restless' files y is' (still_all IsFileStill restless restless' files stay' still),
 )
 
 -- ---- a place that was found
@@ -47,6 +54,12 @@ pub record IsAt (now files : List ServedFile) (file : FileId) (place : ℕ) (x :
   pub there : slice_get files place ≡ Some x
   pub served : served_in now file ≡ Some x
   pub puts : (y : ServedFile) → set files place y ≡ with_file now file y
+
+-- a file that was put there and is read again
+pub read_back : (files : List ServedFile) (place : ℕ) (x y r : ServedFile) → slice_get files place ≡ Some x → place < length files → r ≡ get_or (set files place y) place r → r ≡ y
+read_back files place x y r there within read =
+    let got : slice_get (set files place y) place ≡ Some r = slice_get_read (set files place y) (length (set files place y)) place r refl (subst (λ (n : ℕ). place < n) (sym (length-set files place y)) within) read in
+    same_Some r y (sym got ∙ slice_get-set_same files place x y there)
 
 before : (place n : ℕ) → place + 1 ≡ n → place ≡ n - 1
 before place n numbered = omega (arith, numbered)
@@ -65,18 +78,13 @@ not_found now file None found none = found
 not_found now file (Some place) found none = absurd (none place refl)
 
 module _ (now files : List ServedFile) (file : FileId) (place : ℕ) (x : ServedFile) (at : IsAt now files file place x) (y : ServedFile) where
-  pub stands : (names : List (List ℕ)) (old new : List ℕ) → y.name ≡ x.name → StayDue old new → is_due new place ≡ true → AreKept names old files → AreKept names new (set files place y)
-  stands names old new same stay is (are, few, quiet) = (
+  pub stands : (names : List (List ℕ)) (due due' restless restless' : List ℕ) → y.name ≡ x.name → StayMarked due due' → is_marked due' place ≡ true → StayMarked restless restless' → is_marked restless' place ≡ true
+      → AreKept names due restless files → AreKept names due' restless' (set files place y)
+  stands names due due' restless restless' same stay is stay' is' (are, few, quiet, still) = (
     are ∙ sym (names_set files place x y at.there same),
     subst (λ (n : ℕ). n ≤ 4096) (sym (length-set files place y)) few,
-    quiet_set new files place y is (still_quiet old new files stay quiet),
-  )
-
-  pub stands_quiet : (names : List (List ℕ)) (due : List ℕ) → y.name ≡ x.name → (IsFileQuiet x → IsFileQuiet y) → AreKept names due files → AreKept names due (set files place y)
-  stands_quiet names due same goes (are, few, quiet) = (
-    are ∙ sym (names_set files place x y at.there same),
-    subst (λ (n : ℕ). n ≤ 4096) (sym (length-set files place y)) few,
-    quiet_stays due files place x y at.there goes quiet,
+    all_set IsFileQuiet due' files place y is (still_all IsFileQuiet due due' files stay quiet),
+    all_set IsFileStill restless' files place y is' (still_all IsFileStill restless restless' files stay' still),
   )
 
   pub changed : (change : ServedFile → ServedFile) → y ≡ change x → set files place y ≡ changed_in now file change

@@ -5,4 +5,5 @@ mod QuietLemmas
 mod ReadLists
 mod ReadSteps
 mod SendLemmas
+mod StillLemmas
 mod Walks

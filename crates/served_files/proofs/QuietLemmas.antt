@@ -1,80 +1,92 @@
--- Files that have nothing to send, where one of them changes or another place is due.
-use Rattle.std.proofs.Common.{◌≡◌, ℕ, ◌<◌, ◌≤◌, Bool, true, false, List, [], ◌∷◌, ◌++◌, length, set, Option, Some, None, refl, sym, ap, subst, ◌∙◌, inl, inr, ◌⊎◌, arith}
+-- Files that are so but for those that are marked, where one of them changes or another place is marked; whether a file is quiet.
+use Rattle.std.proofs.Common.{◌≡◌, ℕ, ◌+◌, ◌-◌, ◌==◌, ◌<◌, cond, ◌≤◌, Bool, true, false, List, [], ◌∷◌, ◌++◌, length, set, Option, Some, None, refl, sym, ap, subst, ◌∙◌, inl, inr, ◌⊎◌, arith}
 use Rattle.std.specs.Prelude.{◌≢◌, slice_get, is_some}
 use Rattle.std.specs.BTreeMap.{is_at}
-use Rattle.std.specs.Option.{option_map}
 use Rattle.std.specs.Ordering.{nat_cmp}
-use Rattle.std.proofs.lemmas.Bool.{cases_eq, cases_lt}
+use Rattle.std.proofs.lemmas.Bool.{cases_eq, cases_lt, eq-eqb}
 use Rattle.std.proofs.lemmas.Bool.Decides.{nat_tests}
 use Rattle.std.proofs.lemmas.Option.{none-some, same_Some, slice_get_past}
 use Rattle.cluster_model.proofs.Elements.{slice_get-set_same, slice_get-set_other, Pushed, Old, New, pushed}
 use Rattle.cluster_model.specs.declared.ids.FileId.{FileId}
-use Rattle.file_rule.specs.FilePhases.{call_out}
-use Rattle.mirror_writer.specs.Writers as writer
-use Rattle.mds_rule.specs.MdsStates.{WaitingWrite, ServedFile, numbered}
-use Rattle.mds_rule.specs.LayoutOps.{with_holder}
-use Rattle.mds_rule.specs.Goes.{own_of_file, own_of_write, own_by}
+use Rattle.mds_rule.specs.MdsStates.{ServedFile, served_in, numbered}
 use Rattle.served_files.specs.Sending.{OwnWaits, ReadWaits, read_sent}
-use Rattle.served_files.specs.Quiet.{IsFileQuiet, is_due, AreQuietBut}
+use Rattle.served_files.specs.Quiet.{IsFileQuiet, AreAll, is_marked, AreAllBut, IsFirstMarked}
 
--- ---- a file whose layout is handed to a client
+-- ---- the places that are marked
 
-still_none : {A B C : Type 0} (f : A → B) (g : A → C) (o : Option A) → option_map f o ≡ None → option_map g o ≡ None
-still_none f g None is = refl
-still_none f g (Some x) is = absurd (cc)
+-- each place that was marked still is
+abbrev pub StayMarked : List ℕ → List ℕ → Type 0
+StayMarked old new = (place : ℕ) → is_marked new place ≡ false → is_marked old place ≡ false
 
-own_held : (client : ℕ) (again : Bool) (s : ServedFile) (file : FileId) (xid : ℕ) (w : Option WaitingWrite) → own_by file s xid w ≡ None → own_by file (with_holder client again s) xid w ≡ None
-own_held client again s file xid None is = still_none (own_of_file file s) (own_of_file file (with_holder client again s)) (call_out s.file xid) is
-own_held client again s file xid (Some w) is = still_none (own_of_write file s w) (own_of_write file (with_holder client again s) w) (writer.next_sent w.writer xid) is
-
-pub quiet_held : (client : ℕ) (again : Bool) (s : ServedFile) → IsFileQuiet s → IsFileQuiet (with_holder client again s)
-quiet_held client again s quiet = record { own = λ file xid. own_held client again s file xid s.write (quiet.own file xid); reads = quiet.reads }
-
--- ---- the places that are due
-
--- each place that was due still is
-abbrev pub StayDue : List ℕ → List ℕ → Type 0
-StayDue old new = (place : ℕ) → is_due new place ≡ false → is_due old place ≡ false
-
-pub still_quiet : (old new : List ℕ) (files : List ServedFile) → StayDue old new → AreQuietBut old files → AreQuietBut new files
-still_quiet old new files stay quiet = λ place s there not. quiet place s there (stay place not)
-
-due_twice : (due : List ℕ) (i j : ℕ) → i ≡ j → is_due due i ≡ false → is_due due j ≡ true → ⊥
-due_twice due i j same not is = let bad : false ≡ true = sym not ∙ ap (is_due due) same ∙ is in absurd (cc)
-
--- a file changes whose place is due
-pub quiet_set : (due : List ℕ) (files : List ServedFile) (i : ℕ) (y : ServedFile) → is_due due i ≡ true → AreQuietBut due files → AreQuietBut due (set files i y)
-quiet_set due files i y is quiet = λ place s there not. quiet place s (sym (slice_get-set_other files i place y (λ same. due_twice due place i same not is)) ∙ there) not
-
--- a file changes, and is as quiet as it was
-pub quiet_stays : (due : List ℕ) (files : List ServedFile) (i : ℕ) (x y : ServedFile) → slice_get files i ≡ Some x → (IsFileQuiet x → IsFileQuiet y) → AreQuietBut due files → AreQuietBut due (set files i y)
-quiet_stays due files i x y here goes quiet = λ place s there not. by_place place s there not (cases_eq place i)
-  where
-    by_place : (place : ℕ) (s : ServedFile) → slice_get (set files i y) place ≡ Some s → is_due due place ≡ false → (place ≡ i) ⊎ (place ≢ i) → IsFileQuiet s
-    by_place place s there not (inl same) =
-        let is : y ≡ s = same_Some y s (sym (slice_get-set_same files i x y here) ∙ ap (slice_get (set files i y)) (sym same) ∙ there) in
-        subst IsFileQuiet is (goes (quiet i x here (ap (is_due due) (sym same) ∙ not)))
-    by_place place s there not (inr other) = quiet place s (sym (slice_get-set_other files i place y other) ∙ there) not
-
--- a file comes whose place is due
-pub quiet_push : (due : List ℕ) (files : List ServedFile) (y : ServedFile) → is_due due (length files) ≡ true → AreQuietBut due files → AreQuietBut due (files ++ y ∷ [])
-quiet_push due files y is quiet = λ place s there not. by_place place s not (pushed files y place s there)
-  where
-    by_place : (place : ℕ) (s : ServedFile) → is_due due place ≡ false → Pushed files y place s → IsFileQuiet s
-    by_place place s not (Old there) = quiet place s there not
-    by_place place s not (New at same) = absurd (due_twice due place (length files) at not is)
+marked_twice : (marked : List ℕ) (i j : ℕ) → i ≡ j → is_marked marked i ≡ false → is_marked marked j ≡ true → ⊥
+marked_twice marked i j same not is = let bad : false ≡ true = sym not ∙ ap (is_marked marked) same ∙ is in absurd (cc)
 
 other_place : (i place : ℕ) → place ≢ i → is_at (nat_cmp i) place ≡ false
 other_place i place differs = grind (arith, nat_tests, differs)
 
--- a quiet file is due no more
-pub quiet_settled : (old new : List ℕ) (files : List ServedFile) (i : ℕ) (x : ServedFile) → slice_get files i ≡ Some x → IsFileQuiet x → ((place : ℕ) → is_at (nat_cmp i) place ≡ false → is_due new place ≡ is_due old place)
-    → AreQuietBut old files → AreQuietBut new files
-quiet_settled old new files i x here quiet others all = λ place s there not. by_place place s there not (cases_eq place i)
+module _ (P : ServedFile → Type 0) where
+  pub still_all : (old new : List ℕ) (files : List ServedFile) → StayMarked old new → AreAllBut P old files → AreAllBut P new files
+  still_all old new files stay all = λ place s there not. all place s there (stay place not)
+
+  -- a file changes whose place is marked
+  pub all_set : (marked : List ℕ) (files : List ServedFile) (i : ℕ) (y : ServedFile) → is_marked marked i ≡ true → AreAllBut P marked files → AreAllBut P marked (set files i y)
+  all_set marked files i y is all = λ place s there not. all place s (sym (slice_get-set_other files i place y (λ same. marked_twice marked place i same not is)) ∙ there) not
+
+  -- a file comes whose place is marked
+  pub all_push : (marked : List ℕ) (files : List ServedFile) (y : ServedFile) → is_marked marked (length files) ≡ true → AreAllBut P marked files → AreAllBut P marked (files ++ y ∷ [])
+  all_push marked files y is all = λ place s there not. by_place place s not (pushed files y place s there)
+    where
+      by_place : (place : ℕ) (s : ServedFile) → is_marked marked place ≡ false → Pushed files y place s → P s
+      by_place place s not (Old there) = all place s there not
+      by_place place s not (New at same) = absurd (marked_twice marked place (length files) at not is)
+
+  -- a file that is so is marked no more
+  pub all_settled : (old new : List ℕ) (files : List ServedFile) (i : ℕ) (x : ServedFile) → slice_get files i ≡ Some x → P x → ((place : ℕ) → is_at (nat_cmp i) place ≡ false → is_marked new place ≡ is_marked old place)
+      → AreAllBut P old files → AreAllBut P new files
+  all_settled old new files i x here is others all = λ place s there not. by_place place s there not (cases_eq place i)
+    where
+      by_place : (place : ℕ) (s : ServedFile) → slice_get files place ≡ Some s → is_marked new place ≡ false → (place ≡ i) ⊎ (place ≢ i) → P s
+      by_place place s there not (inl same) = subst P (same_Some x s (sym here ∙ ap (slice_get files) (sym same) ∙ there)) is
+      by_place place s there not (inr other) = all place s there (sym (others place (other_place i place other)) ∙ not)
+
+-- ---- the files before the first place that is marked
+
+served_at : (files : List ServedFile) (file : FileId) (s : ServedFile) → served_in files file ≡ Some s → slice_get files (file.0 - 1) ≡ Some s
+served_at files file s there = by_test (file.0 == 0) there
   where
-    by_place : (place : ℕ) (s : ServedFile) → slice_get files place ≡ Some s → is_due new place ≡ false → (place ≡ i) ⊎ (place ≢ i) → IsFileQuiet s
-    by_place place s there not (inl same) = subst IsFileQuiet (same_Some x s (sym here ∙ ap (slice_get files) (sym same) ∙ there)) quiet
-    by_place place s there not (inr other) = all place s there (sym (others place (other_place i place other)) ∙ not)
+    by_test : (b : Bool) → cond b None (slice_get files (file.0 - 1)) ≡ Some s → slice_get files (file.0 - 1) ≡ Some s
+    by_test true is = absurd (cc)
+    by_test false is = is
+
+served_past : (files : List ServedFile) (file : FileId) (s : ServedFile) → served_in files file ≡ Some s → 1 ≤ file.0
+served_past files file s there = by_place (cases_lt 0 file.0)
+  where
+    by_place : (0 < file.0) ⊎ (file.0 ≤ 0) → 1 ≤ file.0
+    by_place (inl some) = omega (arith, some)
+    by_place (inr none) =
+        let zero : file.0 ≡ 0 = omega (arith, none) in
+        absurd (none-some s (sym (ap (λ (b : Bool). cond b None (slice_get files (file.0 - 1))) (eq-eqb file.0 0 zero)) ∙ there))
+
+unmarked : (marked : List ℕ) (first place p : ℕ) → IsFirstMarked marked first place → first ≤ p → p < place → is_marked marked p ≡ false
+unmarked marked first place p found from before = by_test (is_marked marked p) refl
+  where
+    by_test : (b : Bool) → is_marked marked p ≡ b → is_marked marked p ≡ false
+    by_test false is = is
+    by_test true is = let over : place ≤ p = found.least p from is in absurd (omega (arith, over, before))
+
+module _ (P : ServedFile → Type 0) where
+  -- none is marked
+  pub all_from : (marked : List ℕ) (files : List ServedFile) (from first end : ℕ) → first ≡ from - 1 → ((p : ℕ) → first ≤ p → is_marked marked p ≡ false) → AreAllBut P marked files → AreAll P files from end
+  all_from marked files from first end begins none all = λ file s behind before there.
+      let past = served_past files file s there in
+      all (file.0 - 1) s (served_at files file s there) (none (file.0 - 1) (omega (arith, begins, behind, past)))
+
+  -- this one is the first
+  pub all_before : (marked : List ℕ) (files : List ServedFile) (from first place end : ℕ) → first ≡ from - 1 → IsFirstMarked marked first place → end ≤ place + 1 → AreAllBut P marked files → AreAll P files from end
+  all_before marked files from first place end begins found within all = λ file s behind before there.
+      let past = served_past files file s there in
+      all (file.0 - 1) s (served_at files file s there)
+      (unmarked marked first place (file.0 - 1) found (omega (arith, begins, behind, past)) (omega (arith, before, within, past)))
 
 -- ---- whether a file is quiet, by what waits in it
 

@@ -1,6 +1,6 @@
 //! A file of a metadata server.
 
-ghost use Rattle.std.specs.Prelude.{◌≡◌, ◌≤◌, ◌+◌, length, OnOk, IfOk};
+ghost use Rattle.std.specs.Prelude.{◌≡◌, ◌≤◌, ◌+◌, true, length, OnOk, IfOk};
 ghost use Rattle.std.specs.List.{list_any};
 ghost use Rattle.cluster_model.specs.Phases.{holder_of};
 ghost use Rattle.cluster_model.specs.declared.limits.TheConstants.{MAX_FILE, PIECE_SIZE};
@@ -8,7 +8,7 @@ ghost use Rattle.cluster_model.specs.DsCalls.{plain_ds_call, plain_ds_reply};
 ghost use Rattle.ds_calls.specs.GivenReplies.{HasFewBytes};
 ghost use Rattle.file_rule.specs.FilePhases.{phase};
 ghost use Rattle.mds_rows.specs.Draws.{HasFresh};
-ghost use Rattle.mds_file.specs.Inputs.{plain_input};
+ghost use Rattle.mds_file.specs.Inputs.{plain_input, is_idle};
 ghost use Rattle.mds_io.specs.Reads as read;
 ghost use Rattle.mds_io.specs.OwnWrites.{after_own_reply};
 ghost use Rattle.mirror_writer.specs.Writers as writer;
@@ -19,6 +19,7 @@ ghost use Rattle.mds_rule.specs.LayoutOps.{with_holder};
 ghost use Rattle.mds_rule.specs.Answers.{is_read_out, is_writer_out, sized, fileid_of, attributes_shown};
 ghost use Rattle.served_files.specs.Waiting.{StepsRead, GivesFew, StepsWrite, WriteTaken};
 ghost use Rattle.served_files.specs.FileSteps.{TakesStep, heard};
+ghost use Rattle.served_files.specs.Quiet.{IsFileStill};
 
 use crate::reading::{EndedRead, WaitingRead, answer_in, has_out, restart_behind, time_out_in};
 use crate::writing::{EndedWrite, WaitingWrite, causes_of, has_failed_everywhere};
@@ -102,7 +103,8 @@ impl ServedFile {
         entries: &mut Vec<Entry>,
     ) -> Result<bool, NoMemory>
         requires { HasFresh fresh.old }
-        ensures { TakesStep (phase file self.old.file (plain_input input.entry) fresh.old) self.old fresh.old entries.old.items result self.new fresh.new entries.new.items }
+        ensures takes { TakesStep (phase file self.old.file (plain_input input.entry) fresh.old) self.old fresh.old entries.old.items result self.new fresh.new entries.new.items }
+        ensures still { OnOk result (is_idle self.new.file.activity ≡ true → IsFileStill self.new) }
     {
         let before = entries.len();
         self.file.take(file, input, fresh, entries)?;

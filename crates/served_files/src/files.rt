@@ -15,14 +15,14 @@ ghost use Rattle.mds_rule.specs.FileOps.{max_files, new_served, with_read, with_
 ghost use Rattle.mds_rule.specs.LayoutOps.{with_holder};
 ghost use Rattle.mds_rule.specs.Answers.{sized, fileid_of, attributes_shown};
 ghost use Rattle.served_files.specs.Waiting.{GivesFew};
-ghost use Rattle.served_files.specs.Quiet.{NextDue};
+ghost use Rattle.served_files.specs.Quiet.{NextDue, NextRestless};
 ghost use Rattle.served_files.specs.FileSteps.{at_place, changed_in, TakesIn, StepsReadIn, StepsWriteIn, SendsOwnIn, SendsReadIn};
 
-use crate::due::{first_from, mark};
 use crate::file::ServedFile;
 use crate::names::FileNames;
 use crate::reading::EndedRead;
 use crate::sending::SentByFile;
+use crate::touched::{Touched, first_from, mark};
 use crate::writing::EndedWrite;
 use cluster_model::{DsCall, DsReply, Entry, FileId};
 use compound_run::KeptRun;
@@ -30,21 +30,19 @@ use ff_xdr::{Data, NoMemory};
 use file_rule::Fresh;
 use mds_file::{FileInput, MdsFile};
 use std::alloc::Global;
-use std::collections::BTreeSet;
 use std::marker::Model;
 
 /// The most files of a metadata server.
 pub const MAX_FILES: usize = 4_096;
 
-/// The files, by their numbers from 1 and by their names. A call that may leave a file with a call to send makes it due first, so
-/// that `next_due` finds those files alone.
+/// The files, by their numbers from 1 and by their names. A call that changes a file marks it first, so that `next_due` finds the
+/// files alone that may have a call to send, and `next_restless` those that a tick may change.
 #[derive(Drop)]
 pub struct Files {
     alloc: Global,
     names: FileNames,
     files: Vec<ServedFile>,
-    // the places of the files that are due
-    due: BTreeSet<usize>,
+    touched: Touched,
 }
 
 impl Model for Files {
@@ -55,9 +53,9 @@ impl Model for Files {
 
     ghost view = { λ s. s.files.items };
 
-    ghost use Rattle.served_files.specs.Quiet.{AreQuietBut};
+    ghost use Rattle.served_files.specs.Quiet.{AreQuietBut, AreStillBut};
 
-    ghost invariant = { λ s. (s.names ≡ map (λ f. f.name) s.files.items) × (length s.files.items ≤ 4096) × AreQuietBut s.due.keys s.files.items };
+    ghost invariant = { λ s. (s.names ≡ map (λ f. f.name) s.files.items) × (length s.files.items ≤ 4096) × AreQuietBut s.touched.due.keys s.files.items × AreStillBut s.touched.restless.keys s.files.items };
 }
 
 impl Files {
@@ -69,7 +67,7 @@ impl Files {
             alloc,
             names: FileNames::new(alloc),
             files: Vec::new(alloc),
-            due: BTreeSet::new(alloc),
+            touched: Touched::new(alloc),
         }
     }
 
@@ -105,8 +103,23 @@ impl Files {
         ensures { NextDue self.now from result }
     {
         let first = (from as usize).saturating_sub(1);
-        let place = first_from(first, &self.due)?;
+        let place = first_from(first, &self.touched.due)?;
         // the place behind the last is due where memory was wanted for a new file
+        if place >= self.files.len() {
+            return None;
+        }
+        Some(FileId(place as u32 + 1))
+    }
+
+    /// The first file from this number on that a tick may change: one that has something under way, or was touched since it last took
+    /// an input. It costs the logarithm of how many such files there are.
+    pub fn next_restless(&self, from: u32) -> Option<FileId>
+        ensures next { NextRestless self.now from result }
+        ensures few { length self.now ≤ 4096 }
+    {
+        let first = (from as usize).saturating_sub(1);
+        let place = first_from(first, &self.touched.restless)?;
+        // the place behind the last is marked where memory was wanted for a new file
         if place >= self.files.len() {
             return None;
         }
@@ -122,7 +135,7 @@ impl Files {
             return;
         };
         if self.files[place].is_quiet() {
-            self.due.remove(&place);
+            self.touched.due.remove(&place);
         }
     }
 
@@ -142,7 +155,7 @@ impl Files {
         let own = Data::of(self.alloc, name)?;
         self.files.reserve(1)?;
         let place = self.files.len();
-        mark(place, &mut self.due)?;
+        mark(place, &mut self.touched)?;
         self.names.add(name)?;
         // there is room for it, so it does not fail
         self.files.push(ServedFile::new(self.alloc, own, file))?;
@@ -164,7 +177,8 @@ impl Files {
         Some(place)
     }
 
-    /// An input of the table of phases comes to a file; whether a period of it ended. Takes memory.
+    /// An input of the table of phases comes to a file; whether a period of it ended. Where the file has nothing under way behind it,
+    /// a tick would change nothing of it. Takes memory.
     pub fn take(
         &mut self,
         file: FileId,
@@ -178,8 +192,12 @@ impl Files {
         let Some(place) = self.place(file) else {
             return Ok(false);
         };
-        mark(place, &mut self.due)?;
-        self.files[place].take(file, input, fresh, entries)
+        mark(place, &mut self.touched)?;
+        let has_ended = self.files[place].take(file, input, fresh, entries)?;
+        if self.files[place].file.is_idle() {
+            self.touched.restless.remove(&place);
+        }
+        Ok(has_ended)
     }
 
     /// What the reply to a call of this server shows of a mirror's size is seen. Takes memory.
@@ -195,18 +213,20 @@ impl Files {
         let Some(place) = self.place(file) else {
             return Ok(());
         };
-        mark(place, &mut self.due)?;
+        mark(place, &mut self.touched)?;
         self.files[place].see_size(server, call, reply)
     }
 
-    /// A file's layout is given to this client: with seqid 1, or, where the client has it, again with the next one.
-    pub fn hand_to(&mut self, file: FileId, client: u64, again: bool)
-        ensures { self.new ≡ changed_in self.old file (with_holder client again) }
+    /// A file's layout is given to this client: with seqid 1, or, where the client has it, again with the next one. Takes memory.
+    pub fn hand_to(&mut self, file: FileId, client: u64, again: bool) -> Result<(), NoMemory>
+        ensures { OnOk result (self.new ≡ changed_in self.old file (with_holder client again)) }
     {
         let Some(place) = self.place(file) else {
-            return;
+            return Ok(());
         };
+        mark(place, &mut self.touched)?;
         self.files[place].hand_to(client, again);
+        Ok(())
     }
 
     /// A READ of a file begins, and the compound waits for it. Takes memory.
@@ -222,7 +242,7 @@ impl Files {
         let Some(place) = self.place(file) else {
             return Ok(());
         };
-        mark(place, &mut self.due)?;
+        mark(place, &mut self.touched)?;
         self.files[place].begin_read(compound, at, count)
     }
 
@@ -242,7 +262,7 @@ impl Files {
         let Some(place) = self.place(file) else {
             return Ok(None);
         };
-        mark(place, &mut self.due)?;
+        mark(place, &mut self.touched)?;
         self.files[place].answer_read(alloc, xid, reply, entries)
     }
 
@@ -259,7 +279,7 @@ impl Files {
         let Some(place) = self.place(file) else {
             return Ok(None);
         };
-        mark(place, &mut self.due)?;
+        mark(place, &mut self.touched)?;
         self.files[place].time_out_read(xid, entries)
     }
 
@@ -280,7 +300,7 @@ impl Files {
         let Some(place) = self.place(file) else {
             return Ok(());
         };
-        mark(place, &mut self.due)?;
+        mark(place, &mut self.touched)?;
         self.files[place].begin_write(alloc, compound, at, bytes)
     }
 
@@ -296,7 +316,7 @@ impl Files {
         let Some(place) = self.place(file) else {
             return Ok(None);
         };
-        mark(place, &mut self.due)?;
+        mark(place, &mut self.touched)?;
         self.files[place].answer_write(xid, reply)
     }
 
@@ -307,7 +327,7 @@ impl Files {
         let Some(place) = self.place(file) else {
             return Ok(None);
         };
-        mark(place, &mut self.due)?;
+        mark(place, &mut self.touched)?;
         self.files[place].time_out_write(xid)
     }
 
@@ -319,7 +339,7 @@ impl Files {
         let Some(place) = self.place(file) else {
             return Ok(None);
         };
-        mark(place, &mut self.due)?;
+        mark(place, &mut self.touched)?;
         self.files[place].send_own(alloc, file, xid)
     }
 
@@ -336,7 +356,7 @@ impl Files {
         let Some(place) = self.place(file) else {
             return Ok(None);
         };
-        mark(place, &mut self.due)?;
+        mark(place, &mut self.touched)?;
         self.files[place].send_read(alloc, file, n, xid)
     }
 }

@@ -2,12 +2,12 @@
 //! RFC 8435, section 2.2).
 #![tactic(auto)]
 
-mod due;
 mod file;
 mod files;
 mod names;
 mod reading;
 mod sending;
+mod touched;
 mod writing;
 
 pub use file::ServedFile;

@@ -2,8 +2,13 @@ use Rattle.std.proofs.lemmas.Result.{on_ok_weaker}
 use Rattle.cluster_model.specs.DsCalls.{plain_ds_call, plain_ds_reply}
 use Rattle.mds_rule.specs.Answers.{sized, fileid_of, attributes_shown}
 use Rattle.mds_rule.specs.MdsStates.{ServedFile}
-use Rattle.served_files.proofs.FileLists.{is_at, stands, changed}
+use Rattle.served_files.proofs.FileLists.{is_at, stands, stay_kept, changed}
 use Rattle.served_files.proofs.files.Files.see_size.Goals as goal
+
+pub invariant_of-self : goal.invariant_of-self
+invariant_of-self c =
+    stay_kept c.self.inside.names c.self.inside.touched.due.keys c.mark.new.touched.due.keys c.self.inside.touched.restless.keys c.mark.new.touched.restless.keys c.self.inside.files.items c.mark.ensures.stay_due
+    c.mark.ensures.stay_restless c.self.invariant
 
 pub invariant_of-self-2 : goal.invariant_of-self-2
 invariant_of-self-2 c =
@@ -14,7 +19,7 @@ invariant_of-self-2 c =
     let x = c.index_mut.result.now in
     let y = c.see_size.new.self in
     let at = is_at now files file place x c.self.view_is c.in-Some.ensures.exact c.in-Some.ensures.within.0 c.in-Some.ensures.within.1 c.index_mut.ensures.value in
-    stands now files file place x at y c.self.inside.names c.self.inside.due.keys c.mark.new.due.keys c.see_size.ensures.name c.mark.ensures.kept c.in_ok-mark.ensures.due c.self.invariant
+    stands now files file place x at y c.self.inside.names c.self.inside.touched.due.keys c.mark.new.touched.due.keys c.self.inside.touched.restless.keys c.mark.new.touched.restless.keys c.see_size.ensures.name c.mark.ensures.stay_due c.in_ok-mark.ensures.due c.mark.ensures.stay_restless c.in_ok-mark.ensures.restless c.self.invariant
 
 pub returns : goal.returns
 returns c =

@@ -1,6 +1,11 @@
-use Rattle.served_files.proofs.FileLists.{is_at, stands, sends_own}
+use Rattle.served_files.proofs.FileLists.{is_at, stands, stay_kept, sends_own}
 use Rattle.served_files.proofs.KeptNames.{own_sent}
 use Rattle.served_files.proofs.files.Files.send_own.Goals as goal
+
+pub invariant_of-self : goal.invariant_of-self
+invariant_of-self c =
+    stay_kept c.self.inside.names c.self.inside.touched.due.keys c.mark.new.touched.due.keys c.self.inside.touched.restless.keys c.mark.new.touched.restless.keys c.self.inside.files.items c.mark.ensures.stay_due
+    c.mark.ensures.stay_restless c.self.invariant
 
 pub invariant_of-self-2 : goal.invariant_of-self-2
 invariant_of-self-2 c =
@@ -11,7 +16,7 @@ invariant_of-self-2 c =
     let x = c.index_mut.result.now in
     let y = c.send_own.new.self in
     let at = is_at now files file place x c.self.view_is c.in-Some.ensures.exact c.in-Some.ensures.within.0 c.in-Some.ensures.within.1 c.index_mut.ensures.value in
-    stands now files file place x at y c.self.inside.names c.self.inside.due.keys c.mark.new.due.keys (own_sent file x c.args.xid c.send_own.result y c.send_own.ensures) c.mark.ensures.kept c.in_ok-mark.ensures.due c.self.invariant
+    stands now files file place x at y c.self.inside.names c.self.inside.touched.due.keys c.mark.new.touched.due.keys c.self.inside.touched.restless.keys c.mark.new.touched.restless.keys (own_sent file x c.args.xid c.send_own.result y c.send_own.ensures) c.mark.ensures.stay_due c.in_ok-mark.ensures.due c.mark.ensures.stay_restless c.in_ok-mark.ensures.restless c.self.invariant
 
 pub returns : goal.returns
 returns c =

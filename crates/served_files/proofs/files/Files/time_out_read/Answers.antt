@@ -1,8 +1,13 @@
 use Rattle.std.proofs.Common.{ap}
 use Rattle.mds_io.specs.Reads.{after_timeout}
 use Rattle.mds_rule.specs.MdsStates.{ServedFile}
-use Rattle.served_files.proofs.FileLists.{is_at, stands, steps_read}
+use Rattle.served_files.proofs.FileLists.{is_at, stands, stay_kept, steps_read}
 use Rattle.served_files.proofs.files.Files.time_out_read.Goals as goal
+
+pub invariant_of-self : goal.invariant_of-self
+invariant_of-self c =
+    stay_kept c.self.inside.names c.self.inside.touched.due.keys c.mark.new.touched.due.keys c.self.inside.touched.restless.keys c.mark.new.touched.restless.keys c.self.inside.files.items c.mark.ensures.stay_due
+    c.mark.ensures.stay_restless c.self.invariant
 
 pub invariant_of-self-2 : goal.invariant_of-self-2
 invariant_of-self-2 c =
@@ -13,7 +18,7 @@ invariant_of-self-2 c =
     let x = c.index_mut.result.now in
     let y = c.time_out_read.new.self in
     let at = is_at now files file place x c.self.view_is c.in-Some.ensures.exact c.in-Some.ensures.within.0 c.in-Some.ensures.within.1 c.index_mut.ensures.value in
-    stands now files file place x at y c.self.inside.names c.self.inside.due.keys c.mark.new.due.keys (ap (λ (s : ServedFile). s.name) c.time_out_read.ensures.stays) c.mark.ensures.kept c.in_ok-mark.ensures.due c.self.invariant
+    stands now files file place x at y c.self.inside.names c.self.inside.touched.due.keys c.mark.new.touched.due.keys c.self.inside.touched.restless.keys c.mark.new.touched.restless.keys (ap (λ (s : ServedFile). s.name) c.time_out_read.ensures.stays) c.mark.ensures.stay_due c.in_ok-mark.ensures.due c.mark.ensures.stay_restless c.in_ok-mark.ensures.restless c.self.invariant
 
 pub returns-clause-steps : goal.returns-clause-steps
 returns-clause-steps c =
