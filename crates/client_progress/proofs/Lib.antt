@@ -1,1 +1,11 @@
 pub mod PaceLemmas
+pub mod Ticks
+pub mod Fits
+pub mod FlagLists
+pub mod OneServer
+pub mod Waiting
+pub mod WriterSteps
+pub mod QueueFits
+pub mod CallsFit
+pub mod EndsFit
+pub mod AnswersFit

@@ -1,7 +1,9 @@
 //! What holds of each step of a client.
 
+ghost use Rattle.std.specs.Prelude.{ℕ, ◌≡◌, false};
 ghost use Rattle.client_state.specs.ClientStates.{ClientValue};
-ghost use Rattle.client_laws.specs.ClientHistory.{ClientInput};
+ghost use Rattle.client_laws.specs.ClientHistory.{ClientInput, Ticked, input_step};
+ghost use Rattle.client_progress.specs.Going.{AwaitsNoTick};
 ghost use Rattle.client_progress.specs.Pace.{PacesInput};
 
 use client_calls::client_law;
@@ -20,3 +22,10 @@ pub fn pace_law()
 {
     client_law();
 }
+
+/// Behind a tick nothing of a client that has not left the protocol waits for a tick, whatever it has: not the request at
+/// the head of its queue, not the return of its layout, and not the record of a compound. So what is to be asked again
+/// later is asked again at the very next moment.
+pub fn moment_law()
+    ensures { (now : ℕ) (c : ClientValue) → c.has_left ≡ false → AwaitsNoTick (input_step (Ticked now) c).client }
+{}
