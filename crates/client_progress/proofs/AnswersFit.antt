@@ -1,14 +1,13 @@
 -- What an answer of the metadata server leaves.
-use Rattle.client_progress.proofs.Fits.{not_both, is_open_head, has_number, HasUnknown, AskFits, IsUncovered, WriterFits, IsSound, LayoutFitsOf, LayoutFits, FitOf, Fit}
+use Rattle.client_progress.proofs.Fits.{not_both, is_open_head, has_number, HasUnknown, AskFits, LayoutFits, FitOf, Fit}
 use Rattle.std.proofs.Common.{◌≡◌, ℕ, zero, suc, ◌≤◌, Bool, true, false, List, [], ◌∷◌, length, Option, Some, None, Result, Ok, Err, refl, sym, ap, subst, ◌∙◌, inl, inr, ◌⊎◌, arith}
-use Rattle.std.specs.Prelude.{slice_get, map, is_some, drop, replicate, ◌==◌, ◌&&◌, ◌||◌, if◌then◌else◌}
+use Rattle.std.specs.Prelude.{map, is_some, drop, ◌==◌, ◌&&◌, if◌then◌else◌}
 use Rattle.std.proofs.lemmas.Option.{none-some, same_Some}
 use Rattle.ff_xdr.specs.declared.error.XdrError.{XdrError}
 use Rattle.ff_xdr.specs.Form.{Value}
 use Rattle.ff_xdr.specs.Reading.{reading, whole}
 use Rattle.rpc_record.specs.Replies.{RpcReply, is_success}
 use Rattle.nfs4_types.specs.declared.ids.DeviceId.{DeviceId}
-use Rattle.nfs4_types.specs.declared.ids.SessionId.{SessionId}
 use Rattle.nfs4_compound.specs.Results.{resop4}
 use Rattle.nfs4_compound.specs.Compounds.{compound4_res}
 use Rattle.device_addr.specs.declared.net_addr.NetAddr.{NetAddr}
@@ -32,9 +31,9 @@ use Rattle.client_state.specs.declared.tie.Tie.{Tie}
 use Rattle.client_state.specs.declared.tie.Tie.TheVariants.{NoClient, HasClient, HasSession}
 use Rattle.client_state.specs.ClientStates.{ClientValue, ClientRun, unmoved, as_new, is_layout_return}
 use Rattle.client_state.specs.ClientQueue.{is_writing, unknown_in, unknown_servers, revoked_layout}
-use Rattle.client_answers.specs.ClientAnswers.{moved_tie, next_on_slot, fresh_session, completed_tie, new_layout, with_addresses, learns_devices, layout_returned, head_refused, has_session, deferred, defers, after_refusal, refused_otherwise, is_for_later, asks_later, session_lost, refused_by_mds, by_answer, delayed, mds_answered}
+use Rattle.client_answers.specs.ClientAnswers.{moved_tie, fresh_session, completed_tie, new_layout, with_addresses, learns_devices, layout_returned, head_refused, has_session, deferred, defers, after_refusal, refused_otherwise, is_for_later, asks_later, session_lost, refused_by_mds, by_answer, delayed, mds_answered}
 use Rattle.client_laws.proofs.GrantFacts.{IsSome, granted_apart, granted_some}
-use Rattle.client_laws.proofs.Stands.{Every, AtEach, IfThere}
+use Rattle.client_laws.proofs.Stands.{AtEach, IfThere}
 use Rattle.client_laws.proofs.Steady.{kind_of}
 use Rattle.client_progress.specs.Going.{is_returning_stage, is_returning}
 
@@ -266,7 +265,7 @@ is_return ask.Write is = absurd cc
 is_return (ask.Read at count) is = absurd cc
 is_return ask.Renew is = absurd cc
 
-run_if : (P : ClientValue → Type 0) (b : Bool) (x y : ClientRun) → (b ≡ true → P x.client) → (b ≡ false → P y.client) → P (if b then x else y).client
+pub run_if : (P : ClientValue → Type 0) (b : Bool) (x y : ClientRun) → (b ≡ true → P x.client) → (b ≡ false → P y.client) → P (if b then x else y).client
 run_if P true x y first second = first refl
 run_if P false x y first second = second refl
 

@@ -1,37 +1,34 @@
 -- What the calls of an event's end leave: no mirror waits to send, and what is due was asked.
-use Rattle.client_progress.proofs.FlagLists.{covers}
-use Rattle.client_progress.proofs.Fits.{not_both, is_open_head, is_through_head, has_number, AskFits, WriterFits, LayoutFits, FitOf, Fit, SameAsk, ask_layout, fit_layout}
-use Rattle.client_progress.proofs.QueueFits.{WantsCommit, IsUnderWay, StopsOf, NoRequest, WantsCall, Waits, Stops}
+use Rattle.client_progress.proofs.Fits.{not_both, is_open_head, is_through_head, has_number, AskFits, LayoutFits, FitOf, Fit, SameAsk, ask_layout, fit_layout}
+use Rattle.client_progress.proofs.QueueFits.{StopsOf, NoRequest, WantsCall, Waits}
 use Rattle.client_progress.proofs.Ticks.{step_if}
-use Rattle.client_progress.proofs.Waiting.{waits_in, AreIdle, waits_none, none_waits, AreCallable, nothing_waits, OneFewer, one_fewer}
+use Rattle.client_progress.proofs.Waiting.{waits_in, waits_none, AreCallable, nothing_waits, OneFewer, one_fewer}
 use Rattle.client_progress.proofs.WriterSteps.{SentFits, sent_fits}
-use Rattle.std.proofs.Common.{◌≡◌, ◌≢◌, ℕ, suc, ◌+◌, ◌≤◌, Bool, true, false, List, [], ◌∷◌, length, Option, Some, None, refl, sym, ap, subst, ◌∙◌, inl, inr, ◌⊎◌, arith}
-use Rattle.std.specs.Prelude.{not, is_some, ◌==◌, ◌&&◌, if◌then◌else◌}
-use Rattle.std.proofs.lemmas.Option.{none-some}
+use Rattle.std.proofs.Common.{◌≡◌, ◌≢◌, ℕ, suc, ◌≤◌, Bool, true, false, List, [], ◌∷◌, Option, Some, None, refl, sym, ap, subst, ◌∙◌, inl, inr, ◌⊎◌, arith}
+use Rattle.std.specs.Prelude.{not, is_some, ◌==◌}
 use Rattle.nfs4_types.specs.declared.ids.DeviceId.{DeviceId}
 use Rattle.device_addr.specs.declared.net_addr.NetAddr.{NetAddr}
-use Rattle.mirror_writer.specs.Writers.{WriterValue, WriterSends, next_sent, open_committed}
+use Rattle.mirror_writer.specs.Writers.{WriterSends, next_sent, open_committed}
 use Rattle.mds_file_calls.specs.declared.open.OpenFile.{OpenFile}
 use Rattle.mds_calls.specs.declared.ask.MdsAsk.{MdsAsk}
 use Rattle.mds_calls.specs.declared.ask.MdsAsk.TheVariants as ask
 use Rattle.mds_calls.specs.MdsCalls.{MdsCallValue, SlotCallValue}
-use Rattle.client_state.specs.declared.stage.LayoutStage.{LayoutStage}
-use Rattle.client_state.specs.declared.stage.LayoutStage.TheVariants.{Writing, Ending, Deferred, Returning}
+use Rattle.client_state.specs.declared.stage.LayoutStage.TheVariants.{Returning}
 use Rattle.client_state.specs.declared.request.UserRequest.{UserRequest}
 use Rattle.client_state.specs.declared.request.UserRequest.TheVariants.{Open, Write, Through, Commit, Read, Return}
 use Rattle.client_state.specs.declared.layout.Layout.{Layout}
 use Rattle.client_state.specs.declared.tie.Tie.{Tie}
 use Rattle.client_state.specs.declared.tie.Tie.TheVariants.{NoClient, HasClient, HasSession}
 use Rattle.client_state.specs.ClientStates.{ClientValue}
-use Rattle.client_state.specs.ClientSends.{ClientStep, sends_none}
+use Rattle.client_state.specs.ClientSends.{sends_none}
 use Rattle.client_state.specs.ClientQueue.{is_writing}
-use Rattle.client_calls.specs.ClientCalls.{xid_after, calls_next, calls_under, calls_mirror, calls_two, calls_mirrors, open_call, through_call, return_call, devices_call, file_call, slot_call, on_slot, session_call, call_by_ask, layout_asked}
+use Rattle.client_calls.specs.ClientCalls.{calls_next, calls_under, calls_mirror, calls_two, calls_mirrors, open_call, through_call, return_call, devices_call, file_call, on_slot, session_call, call_by_ask, layout_asked}
 use Rattle.client_answers.specs.ClientAnswers.{has_session}
 use Rattle.client_laws.proofs.CallsOut.{nonzero}
 use Rattle.client_laws.proofs.Places.{same_number}
 use Rattle.client_laws.proofs.Stands.{IfThere}
 use Rattle.client_laws.proofs.Steady.{kind_of}
-use Rattle.client_progress.specs.Going.{is_given_back, is_returning_stage, is_returning}
+use Rattle.client_progress.specs.Going.{is_given_back, is_returning}
 
 -- ---- calls to data servers
 

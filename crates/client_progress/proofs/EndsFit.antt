@@ -1,12 +1,12 @@
 -- Why no client is stuck behind the end of an event.
-use Rattle.client_progress.proofs.CallsFit.{waits_of, CallingOf, Calling, mirrors_calling, CanAsk, can_return, can_ask, IsReady, asked_fit}
-use Rattle.client_progress.proofs.Fits.{not_both, AskFits, LayoutFits, FitOf, Fit}
+use Rattle.client_progress.proofs.CallsFit.{waits_of, Calling, mirrors_calling, CanAsk, can_return, can_ask, IsReady, asked_fit}
+use Rattle.client_progress.proofs.Fits.{not_both, AskFits, LayoutFits, Fit}
 use Rattle.client_progress.proofs.FlagLists.{Misses, missed}
-use Rattle.client_progress.proofs.OneServer.{IsBusy, out_there, HasBusy, one_busy}
-use Rattle.client_progress.proofs.QueueFits.{WantsCommit, IsUnderWay, StopsOf, NoRequest, WantsCall, Waits, Stops, QueueFits, queue_fits}
+use Rattle.client_progress.proofs.OneServer.{out_there, HasBusy, one_busy}
+use Rattle.client_progress.proofs.QueueFits.{WantsCommit, NoRequest, WantsCall, Waits, Stops, QueueFits, queue_fits}
 use Rattle.client_progress.proofs.Waiting.{waits_in, waits_few, AreIdle, none_waits, AreCallable, callable}
 use Rattle.std.proofs.Common.{◌≡◌, ◌≢◌, ℕ, zero, suc, ◌≤◌, Bool, true, false, List, [], ◌∷◌, ◌++◌, length, Option, Some, None, refl, sym, ap, subst, ◌∙◌, inl, inr, ◌⊎◌, arith}
-use Rattle.std.specs.Prelude.{slice_get, map, not, is_some, ◌==◌, ◌&&◌, ◌||◌, if◌then◌else◌}
+use Rattle.std.specs.Prelude.{slice_get, not, is_some, ◌==◌, ◌&&◌, ◌||◌, if◌then◌else◌}
 use Rattle.std.specs.List.{list_any}
 use Rattle.std.specs.Option.{option_or}
 use Rattle.std.proofs.lemmas.List.{length-map}
@@ -21,24 +21,22 @@ use Rattle.mds_calls.specs.declared.ask.MdsAsk.{MdsAsk}
 use Rattle.mds_calls.specs.declared.ask.MdsAsk.TheVariants as ask
 use Rattle.mds_calls.specs.FittingCalls.{reports_server}
 use Rattle.mds_calls.specs.MdsCalls.{MdsCallValue}
-use Rattle.mds_calls.specs.MdsCompounds.{mds_call_bytes}
 use Rattle.client_state.specs.declared.stage.LayoutStage.{LayoutStage}
 use Rattle.client_state.specs.declared.stage.LayoutStage.TheVariants.{Writing, Ending, Deferred, Returning}
 use Rattle.client_state.specs.declared.layout.Layout.{Layout}
 use Rattle.client_state.specs.declared.asked.Asked.{Asked}
 use Rattle.client_state.specs.ClientStates.{ClientValue}
-use Rattle.client_state.specs.ClientSends.{ClientStep, sends_none}
+use Rattle.client_state.specs.ClientSends.{sends_none}
 use Rattle.client_state.specs.ClientQueue.{is_writing, run_queue}
-use Rattle.client_calls.specs.ClientCalls.{calls_mirrors, is_ending, is_settled, return_ask, due_ask, call_by_ask, layout_asked, asked_by, asks_as, asks, may_ask, calls_mds, ends_event}
-use Rattle.mirror_client.specs.ClientRule.{compound_number, ds_call_number, ds_outstanding, outstanding_to}
+use Rattle.client_calls.specs.ClientCalls.{calls_mirrors, is_ending, is_settled, return_ask, due_ask, asks_as, asks, may_ask, calls_mds, ends_event}
+use Rattle.mirror_client.specs.ClientRule.{compound_number, ds_call_number, ds_outstanding}
 use Rattle.client_laws.specs.ClientHistory.{HistoryItem, entered, sent}
 use Rattle.client_laws.proofs.CallsOut.{nonzero, mirrors_go}
-use Rattle.client_laws.proofs.Goes.{RunGoes, CallsGo}
 use Rattle.client_laws.proofs.Places.{all_at, same_number}
 use Rattle.client_laws.proofs.QueueGoes.{QueueGoes, queue_goes}
-use Rattle.client_laws.proofs.Stands.{Stands, StandsOf, LayoutStands, IfThere, reported_of, writer_ids, mirror_ids, is_settled_there}
+use Rattle.client_laws.proofs.Stands.{Stands, LayoutStands, IfThere, reported_of, is_settled_there}
 use Rattle.client_laws.proofs.Steady.{kind_of}
-use Rattle.client_progress.specs.Going.{has_request, is_given_back, is_deferred, is_returning, HasToDo, AwaitsAnswer, AwaitsTick, IsNeverStuck, HasSentAnew}
+use Rattle.client_progress.specs.Going.{is_given_back, is_deferred, is_returning, HasToDo, AwaitsAnswer, AwaitsTick, IsNeverStuck, HasSentAnew}
 
 -- ---- a return that is not due yet
 

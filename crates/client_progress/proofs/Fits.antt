@@ -1,12 +1,12 @@
 -- What is so of a client at every moment, also within an event: what is asked of the metadata server can be asked, and how a layout's writer is.
 use Rattle.std.proofs.Common.{◌≡◌, ℕ, ◌<◌, ◌≤◌, Bool, true, false, List, [], ◌∷◌, length, Option, Some, None, refl, sym, ap, subst, ◌∙◌, inl, inr, ◌⊎◌}
-use Rattle.std.specs.Prelude.{slice_get, slice_set, not, is_some, ◌==◌, ◌||◌, ◌&&◌, if◌then◌else◌}
-use Rattle.std.specs.List.{list_all, filter}
+use Rattle.std.specs.Prelude.{not, is_some, ◌==◌, ◌||◌, ◌&&◌}
+use Rattle.std.specs.List.{list_all}
 use Rattle.nfs4_types.specs.declared.ids.DeviceId.{DeviceId}
 use Rattle.device_addr.specs.declared.net_addr.NetAddr.{NetAddr}
 use Rattle.cluster_model.specs.declared.ids.Mirror.{Mirror}
 use Rattle.cluster_model.specs.Mirrors.{are_on_different_servers}
-use Rattle.mirror_writer.specs.Writers.{WriterMirror, WriterValue, commit_wanted, open_committed, all_committed, is_committed, covered_flag}
+use Rattle.mirror_writer.specs.Writers.{WriterMirror, WriterValue, commit_wanted, open_committed, all_committed, is_committed}
 use Rattle.mirror_writer.specs.Outstanding.{is_covered_everywhere}
 use Rattle.mds_file_calls.specs.declared.open.OpenFile.{OpenFile}
 use Rattle.mds_calls.specs.declared.ask.MdsAsk.{MdsAsk}
@@ -14,14 +14,13 @@ use Rattle.mds_calls.specs.declared.ask.MdsAsk.TheVariants as ask
 use Rattle.client_state.specs.declared.stage.LayoutStage.{LayoutStage}
 use Rattle.client_state.specs.declared.stage.LayoutStage.TheVariants.{Writing, Ending, Deferred, Returning}
 use Rattle.client_state.specs.declared.request.UserRequest.{UserRequest}
-use Rattle.client_state.specs.declared.request.UserRequest.TheVariants.{Open, Write, Through, Commit, Read, Return}
+use Rattle.client_state.specs.declared.request.UserRequest.TheVariants.{Open, Through}
 use Rattle.client_state.specs.declared.layout.Layout.{Layout}
 use Rattle.client_state.specs.declared.tie.Tie.{Tie}
 use Rattle.client_state.specs.declared.tie.Tie.TheVariants.{NoClient, HasClient, HasSession}
 use Rattle.client_state.specs.ClientStates.{ClientValue}
 use Rattle.client_state.specs.ClientQueue.{ends_layout, ending, is_writing, is_past, unknown_in}
 use Rattle.client_answers.specs.ClientAnswers.{has_session}
-use Rattle.client_laws.proofs.Places.{all_at, or_right}
 use Rattle.client_laws.proofs.Stands.{Every, AtEach, IfThere, writer_ids}
 use Rattle.client_laws.proofs.Steady.{kind_of}
 use Rattle.client_progress.specs.Going.{is_returning_stage, is_returning}

@@ -1,11 +1,10 @@
 -- Lists of mirrors and of flags: what a test of each comes to behind a change.
-use Rattle.std.proofs.Common.{◌≡◌, ℕ, zero, suc, ◌<◌, Bool, true, false, List, [], ◌∷◌, ◌++◌, length, get_or, Option, Some, None, refl, sym, ap, subst, ◌∙◌}
-use Rattle.std.specs.Prelude.{slice_get, slice_set, map, not, ◌||◌, ◌&&◌, ◌==◌}
+use Rattle.std.proofs.Common.{◌≡◌, ℕ, zero, suc, ◌<◌, Bool, true, false, List, [], ◌∷◌, ◌++◌, length, get_or, Some, refl, sym, ap, subst, ◌∙◌}
+use Rattle.std.specs.Prelude.{slice_get, slice_set, map, not, ◌||◌, ◌&&◌}
 use Rattle.std.specs.List.{list_all}
 use Rattle.std.proofs.lemmas.Option.{none-some, same_Some, slice_get-get_or}
 use Rattle.cluster_model.specs.declared.ids.MirrorId.{MirrorId}
 use Rattle.mirror_writer.specs.Writers.{WriterMirror, WriterValue, queued, is_committed, is_covered, covered_flag, all_committed, open_committed}
-use Rattle.mirror_writer.specs.Outstanding.{is_covered_everywhere}
 use Rattle.client_laws.proofs.Places.{all_at}
 use Rattle.client_laws.proofs.Stands.{AtEach, is_settled_there}
 use Rattle.client_progress.proofs.Fits.{not_both, IsUncovered, IsSound}

@@ -9,3 +9,6 @@ pub mod QueueFits
 pub mod CallsFit
 pub mod EndsFit
 pub mod AnswersFit
+pub mod DsFits
+pub mod CallbackFits
+pub mod EachEvent

@@ -10,13 +10,12 @@ use Rattle.cluster_model.specs.declared.ids.MirrorId.{MirrorId}
 use Rattle.cluster_model.specs.Mirrors.{has_server, are_on_different_servers}
 use Rattle.mirror_writer.specs.declared.call.WriterCall.{WriterCall}
 use Rattle.mirror_writer.specs.declared.call.WriterCall.TheVariants.{NoCall, OutWrite, OutCommit}
-use Rattle.mirror_writer.specs.declared.call.NextCall.{NextCall}
-use Rattle.mirror_writer.specs.declared.call.NextCall.TheVariants.{SendsWrite, SendsCommit}
+use Rattle.mirror_writer.specs.declared.call.NextCall.TheVariants.{SendsCommit}
 use Rattle.mirror_writer.specs.Writers.{WriterMirror, WriterValue, open_committed, is_committed, next_at, next_of_call, next_idle, is_some_call, write_of_taken}
 use Rattle.mirror_writer.specs.Outstanding.{OutCall, out_as, out_call, out_at_mirror, out_at}
 use Rattle.client_laws.specs.ClientHistory.{HistoryItem}
 use Rattle.client_laws.proofs.Places.{Found, found, same_number}
-use Rattle.client_laws.proofs.Stands.{AtEach, CallStands, MirrorStands, WriterStands, is_settled_there, writer_ids, mirror_ids}
+use Rattle.client_laws.proofs.Stands.{AtEach, CallStands, WriterStands, is_settled_there, writer_ids, mirror_ids}
 
 -- ---- two places
 

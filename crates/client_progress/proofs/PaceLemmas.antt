@@ -1,6 +1,6 @@
 -- Why no record of a client goes out again but at a tick and for a timeout.
 use Rattle.std.proofs.Common.{◌≡◌, ℕ, Bool, true, false, List, [], ◌∷◌, ◌++◌, Option, Some, None, Result, Ok, Err, refl, sym, ap, subst, ◌∙◌}
-use Rattle.std.specs.Prelude.{◌==◌, ◌||◌, ◌&&◌, if◌then◌else◌, slice_get}
+use Rattle.std.specs.Prelude.{◌==◌, ◌||◌, ◌&&◌, if◌then◌else◌}
 use Rattle.std.specs.List.{filter}
 use Rattle.std.proofs.lemmas.List.{append_assoc}
 use Rattle.std.proofs.lemmas.List.Elements.{filter-append}
@@ -11,7 +11,6 @@ use Rattle.rpc_record.specs.Replies.{RpcReply, reply_at}
 use Rattle.cluster_model.specs.declared.ids.NodeId.{NodeId}
 use Rattle.cluster_model.specs.declared.ids.NodeId.TheVariants.{Mds, Server, Client}
 use Rattle.cluster_model.specs.declared.ids.Mirror.{Mirror}
-use Rattle.cluster_model.specs.DsCalls.{DsCallValue}
 use Rattle.ds_calls.specs.GivenReplies.{reply_of_call}
 use Rattle.mirror_writer.specs.declared.step.WriterStep.{WriterStep}
 use Rattle.mirror_writer.specs.declared.step.WriterStep.TheVariants as step
@@ -30,9 +29,9 @@ use Rattle.client_state.specs.ClientQueue.{run_queue}
 use Rattle.client_calls.specs.ClientCalls.{xid_after, asks_as, asks, call_by_ask, may_ask, ends_event}
 use Rattle.client_calls.specs.ClientLaws.{CarryNumbers, NumbersCalls}
 use Rattle.client_answers.specs.ClientAnswers.{mds_answered}
-use Rattle.client_answers.specs.ClientMirrors.{goes_again, ds_answered, late_out, ds_timed_out_by, ds_timed_out}
+use Rattle.client_answers.specs.ClientMirrors.{goes_again, ds_answered, late_out, ds_timed_out_by}
 use Rattle.client_callbacks.specs.Callbacks.{CbReply, callback_of}
-use Rattle.mirror_client.specs.ClientRule.{with_request, unless_left, mds_replied, found_reply, found_call, record_from, mds_timed_out, timed_out_to, client_at_tick, resends_late, is_stale_tie, renews, ticks_on, rogue_write, mirror_of_place, strays}
+use Rattle.mirror_client.specs.ClientRule.{with_request, mds_replied, found_reply, found_call, record_from, mds_timed_out, timed_out_to, client_at_tick, resends_late, is_stale_tie, renews, ticks_on, rogue_write, mirror_of_place, strays}
 use Rattle.client_laws.specs.ClientHistory.{ClientInput, Requested, Recorded, TimeoutOf, Ticked, LeftProtocol, Strayed}
 use Rattle.client_progress.specs.Pace.{is_again, sent_again, AtMostOne, IsOutstanding, IsOfNumber, IsOfTimeout, PacesInput}
 

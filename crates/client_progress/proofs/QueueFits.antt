@@ -1,14 +1,12 @@
 -- What the queue leaves: what its head wants can be asked, or something is under way for which it waits.
 use Rattle.client_progress.proofs.FlagLists.{at_map, covers, queued_covers, queued_ids, last_uncovered, IsUncommitted, uncommitted}
-use Rattle.client_progress.proofs.Fits.{not_both, is_open_head, is_through_head, has_number, HasUnknown, AskFits, IsUncovered, WriterFits, IsSound, LayoutFitsOf, LayoutFits, FitOf, Fit, SameHead, fit_queue, SameAsk, fit_layout, commits_fit, ending_fits, ending_same, ending_given}
+use Rattle.client_progress.proofs.Fits.{not_both, is_open_head, is_through_head, has_number, HasUnknown, AskFits, IsUncovered, LayoutFits, FitOf, Fit, SameHead, fit_queue, fit_layout, commits_fit, ending_fits, ending_same, ending_given}
 use Rattle.std.proofs.Common.{◌≡◌, ℕ, ◌+◌, ◌<◌, ◌≤◌, Bool, true, false, List, [], ◌∷◌, ◌++◌, length, Option, Some, None, refl, sym, ap, subst, ◌∙◌, inl, inr, ◌⊎◌, arith}
-use Rattle.std.specs.Prelude.{slice_get, map, not, is_some, ◌==◌, ◌&&◌, if◌then◌else◌}
+use Rattle.std.specs.Prelude.{map, not, is_some, ◌==◌, if◌then◌else◌}
 use Rattle.std.specs.List.{list_all}
 use Rattle.std.proofs.lemmas.List.{length-append}
-use Rattle.std.proofs.lemmas.Option.{none-some}
 use Rattle.nfs4_types.specs.declared.ids.DeviceId.{DeviceId}
 use Rattle.device_addr.specs.declared.net_addr.NetAddr.{NetAddr}
-use Rattle.cluster_model.specs.declared.ids.Mirror.{Mirror}
 use Rattle.cluster_model.specs.declared.ids.MirrorId.{MirrorId}
 use Rattle.cluster_model.specs.declared.answer.UserAnswer.TheVariants as answer
 use Rattle.mirror_writer.specs.declared.call.TakenWrite.{TakenWrite}
@@ -16,17 +14,15 @@ use Rattle.mirror_writer.specs.Writers.{WriterMirror, WriterValue, overlaps_take
 use Rattle.mds_file_calls.specs.declared.open.OpenFile.{OpenFile}
 use Rattle.mds_calls.specs.declared.ask.MdsAsk.{MdsAsk}
 use Rattle.mds_calls.specs.declared.ask.MdsAsk.TheVariants as ask
-use Rattle.client_state.specs.declared.stage.LayoutStage.{LayoutStage}
 use Rattle.client_state.specs.declared.request.UserRequest.{UserRequest}
 use Rattle.client_state.specs.declared.request.UserRequest.TheVariants.{Open, Write, Through, Commit, Read, Return}
 use Rattle.client_state.specs.declared.layout.Layout.{Layout}
 use Rattle.client_state.specs.declared.tie.Tie.{Tie}
 use Rattle.client_state.specs.declared.tie.Tie.TheVariants.{NoClient, HasClient, HasSession}
-use Rattle.client_state.specs.ClientStates.{ClientValue, ClientRun}
+use Rattle.client_state.specs.ClientStates.{ClientValue}
 use Rattle.client_state.specs.ClientQueue.{HeadStep, IsDone, IsWaiting, Asks, answers_user, refuses_request, answers_committed, with_layout, with_writer, ending, is_writing, unknown_in, unknown_servers, is_past, taken_write, write_under, write_to, write_by, behind_return, is_all_told, layout_committing, on_open_file, opens_by, head_step, QueueRun, keeps_head, after_head, awake, with_rest, run_requests, run_queue}
 use Rattle.client_laws.proofs.Later.{every_map, every_append}
-use Rattle.client_laws.proofs.Places.{or_right}
-use Rattle.client_laws.proofs.Stands.{Every, AtEach, IfThere, writer_ids}
+use Rattle.client_laws.proofs.Stands.{Every, AtEach, IfThere}
 use Rattle.client_laws.proofs.Steady.{kind_of}
 use Rattle.client_progress.specs.Going.{has_request, is_given_back}
 

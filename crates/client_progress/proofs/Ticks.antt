@@ -1,5 +1,5 @@
 -- Why nothing of a client waits for a moment behind a tick: the queue and the calls leave nothing for later.
-use Rattle.std.proofs.Common.{◌≡◌, ℕ, Bool, true, false, List, [], ◌∷◌, length, Option, Some, None, refl, sym, ap, subst, ◌∙◌}
+use Rattle.std.proofs.Common.{◌≡◌, ℕ, Bool, true, false, List, [], ◌∷◌, length, Option, Some, None, refl, sym, ap, ◌∙◌}
 use Rattle.std.specs.Prelude.{◌==◌, ◌&&◌, if◌then◌else◌}
 use Rattle.cluster_model.specs.declared.answer.UserAnswer.TheVariants as answer
 use Rattle.mirror_writer.specs.Writers.{overlaps_taken, WriterSends, next_sent}
@@ -16,7 +16,7 @@ use Rattle.client_state.specs.declared.asked.Asked.{Asked}
 use Rattle.client_state.specs.ClientStates.{ClientValue}
 use Rattle.client_state.specs.ClientSends.{RepeatsToMds, ClientStep, sends_none}
 use Rattle.client_state.specs.ClientQueue.{HeadStep, IsDone, IsWaiting, Asks, answers_user, refuses_request, answers_committed, with_layout, ends_layout, ending, is_writing, unknown_servers, is_past, taken_write, write_under, write_to, write_by, behind_return, is_all_told, layout_committing, on_open_file, head_step, QueueRun, after_head, awake, with_rest, run_requests, run_queue}
-use Rattle.client_calls.specs.ClientCalls.{calls_next, calls_under, calls_mirror, calls_two, calls_mirrors, due_ask, call_by_ask, layout_asked, returning, asks_as, asks, may_ask, calls_mds, calls_all, ends_event}
+use Rattle.client_calls.specs.ClientCalls.{calls_next, calls_under, calls_mirror, calls_two, calls_mirrors, due_ask, call_by_ask, layout_asked, returning, asks_as, asks, may_ask, calls_mds, ends_event}
 use Rattle.mirror_client.specs.ClientRule.{stage_after_tick, layout_at_tick, client_at_tick, resends_late, is_stale_tie, renews, ticks_on}
 use Rattle.client_laws.specs.ClientHistory.{Ticked, input_step}
 use Rattle.client_progress.specs.Going.{is_deferred_stage, is_deferred, has_late_record, AwaitsNoTick}

@@ -1,19 +1,17 @@
 -- How many mirrors wait to send: a call goes out to one of them, so behind four calls there is none.
-use Rattle.std.proofs.Common.{◌≡◌, ◌≢◌, ℕ, zero, suc, ◌+◌, ◌≤◌, Bool, true, false, List, [], ◌∷◌, length, Option, Some, None, refl, sym, ap, subst, ◌∙◌, inl, inr, ◌⊎◌, arith}
-use Rattle.std.specs.Prelude.{slice_get, slice_set, not, ◌==◌, ◌&&◌, ◌||◌, if◌then◌else◌}
+use Rattle.std.proofs.Common.{◌≡◌, ℕ, zero, suc, ◌+◌, ◌≤◌, Bool, true, false, List, [], ◌∷◌, length, Option, Some, None, refl, sym, ap, subst, ◌∙◌, inl, inr, ◌⊎◌, arith}
+use Rattle.std.specs.Prelude.{slice_get, slice_set, not, ◌==◌, ◌&&◌, if◌then◌else◌}
 use Rattle.std.specs.List.{position}
-use Rattle.std.proofs.lemmas.Option.{none-some, same_Some, slice_get-get_or}
-use Rattle.cluster_model.specs.DsCalls.{DsCallValue}
+use Rattle.std.proofs.lemmas.Option.{none-some, same_Some}
 use Rattle.mirror_writer.specs.declared.call.TakenWrite.{TakenWrite}
-use Rattle.mirror_writer.specs.declared.call.WriterCall.{WriterCall}
-use Rattle.mirror_writer.specs.declared.call.WriterCall.TheVariants.{NoCall, OutWrite, OutCommit}
+use Rattle.mirror_writer.specs.declared.call.WriterCall.TheVariants.{OutWrite, OutCommit}
 use Rattle.mirror_writer.specs.declared.call.NextCall.{NextCall}
 use Rattle.mirror_writer.specs.declared.call.NextCall.TheVariants.{SendsWrite, SendsCommit}
-use Rattle.mirror_writer.specs.Writers.{WriterMirror, WriterValue, WriterSends, is_committed, unqueued, with_out, with_writer_mirrors, next_idle, next_of_call, next_at, next_place, next_sent, sends_at, sends_to, sends_next, sends_as, call_for, write_of_taken, is_some_call}
+use Rattle.mirror_writer.specs.Writers.{WriterMirror, WriterValue, WriterSends, is_committed, with_out, next_idle, next_of_call, next_at, next_sent, sends_at, sends_to, sends_next, sends_as, call_for, write_of_taken, is_some_call}
 use Rattle.client_laws.specs.ClientHistory.{HistoryItem}
-use Rattle.client_laws.proofs.Counting.{IsWaiting, waits}
+use Rattle.client_laws.proofs.Counting.{waits}
 use Rattle.client_laws.proofs.Places.{at_set, FirstPlace, first_place, equal}
-use Rattle.client_laws.proofs.Stands.{AtEach, times, times_at, CountsOnce, one_if, MirrorStands, WriterStands}
+use Rattle.client_laws.proofs.Stands.{AtEach, times, CountsOnce, one_if, MirrorStands, WriterStands}
 use Rattle.client_laws.proofs.NextSent.{Sending, sending}
 
 not_both : true ≡ false → ⊥

@@ -1,10 +1,10 @@
 -- What a call, an answer and a timeout leave of how a layout's writer is.
 use Rattle.client_progress.proofs.FlagLists.{all_set, covers}
 use Rattle.client_progress.proofs.Fits.{not_both, IsUncovered, WriterFits, IsSound}
-use Rattle.std.proofs.Common.{◌≡◌, ℕ, ◌<◌, ◌≤◌, Bool, true, false, List, [], ◌∷◌, length, Option, Some, None, refl, sym, ap, subst, ◌∙◌, inl, inr, ◌⊎◌}
-use Rattle.std.specs.Prelude.{slice_get, slice_set, not, ◌==◌, ◌||◌, if◌then◌else◌}
-use Rattle.std.specs.List.{list_all, filter, find}
-use Rattle.std.proofs.lemmas.Option.{none-some, same_Some}
+use Rattle.std.proofs.Common.{◌≡◌, ℕ, ◌≤◌, Bool, true, false, List, length, Option, Some, None, refl, sym, ap, subst, ◌∙◌, inl, inr, ◌⊎◌}
+use Rattle.std.specs.Prelude.{slice_get, slice_set, ◌==◌, ◌||◌, if◌then◌else◌}
+use Rattle.std.specs.List.{list_all, find}
+use Rattle.std.proofs.lemmas.Option.{none-some}
 use Rattle.nfs4_types.specs.declared.ids.DeviceId.{DeviceId}
 use Rattle.device_addr.specs.declared.net_addr.NetAddr.{NetAddr}
 use Rattle.cluster_model.specs.declared.ids.Mirror.{Mirror}
@@ -20,16 +20,15 @@ use Rattle.mirror_writer.specs.declared.call.NextCall.TheVariants.{SendsWrite, S
 use Rattle.mirror_writer.specs.declared.step.WriterStep.{WriterStep}
 use Rattle.mirror_writer.specs.declared.step.WriterStep.TheVariants as step
 use Rattle.mirror_writer.specs.Writers.{WriterMirror, WriterValue, WriterSends, WriterAfter, with_out, with_write_answer, with_commit, with_failure, without_call, with_writer_call, with_writer_mirror, with_writer_mirrors, is_covered, is_committed, open_committed, is_call, mirror_of_call, after_reply, answered_at, mirror_answered, call_answered, write_answered, commit_answered, after_commit, is_stranger, fails, refused_by, is_fenced_by, after_timeout, timed_out_at, mirror_timed_out, call_timed_out, timed_out_as, next_sent}
-use Rattle.mirror_writer.specs.Outstanding.{OutCall, out_call, out_at_mirror, out_at, is_covered_everywhere}
+use Rattle.mirror_writer.specs.Outstanding.{OutCall, out_at_mirror, out_at, is_covered_everywhere}
 use Rattle.client_answers.specs.ClientMirrors.{is_commit}
 use Rattle.client_state.specs.declared.stage.LayoutStage.{LayoutStage}
-use Rattle.client_state.specs.ClientQueue.{is_writing, unknown_in}
 use Rattle.client_state.specs.ClientSends.{ClientSend, CallsServer}
 use Rattle.client_laws.specs.ClientHistory.{HistoryItem, Sends, HasItem}
 use Rattle.client_laws.proofs.Later.{every_map}
 use Rattle.client_laws.proofs.NextSent.{Sending, sending}
 use Rattle.client_laws.proofs.Places.{at_set, map_set, Found, found, position_passes, same_number}
-use Rattle.client_laws.proofs.Stands.{Every, AtEach, CallStands, CommitItem, MirrorStands, WriterStands, NumbersStand, is_settled_there, writer_ids}
+use Rattle.client_laws.proofs.Stands.{CallStands, CommitItem, WriterStands, NumbersStand, is_settled_there}
 use Rattle.client_laws.proofs.WriterMoves.{out_sent}
 
 -- ---- a mirror that has failed as little, and covers as much
@@ -109,11 +108,19 @@ is_failed_step step.Committed = false
 is_failed_step (step.Failed id cause) = true
 is_failed_step (step.Fenced id status) = false
 
+-- the writer goes on, and the writes that are covered by now are told
+abbrev pub is_told_step : WriterStep → Bool
+is_told_step step.Stranger = false
+is_told_step step.Waiting = true
+is_told_step step.Committed = true
+is_told_step (step.Failed id cause) = false
+is_told_step (step.Fenced id status) = false
+
 -- A writer is fenced where it says so; its wish ends where all is committed; a COMMIT alone covers; and a mirror fails where it says so.
 pub record AfterGoes (commit : Bool) (w : WriterValue) (after : WriterAfter) : Type 0 where
   pub fenced : is_fenced_step after.step ≡ false → after.writer.is_fenced ≡ w.is_fenced
   pub wants : (after.writer.wants_commit ≡ w.wants_commit) ⊎ (open_committed after.writer.mirrors ≡ true)
-  pub covered : ((commit ≡ true) × (is_failed_step after.step ≡ false)) ⊎ ((n : ℕ) → is_covered_everywhere after.writer n ≡ is_covered_everywhere w n)
+  pub covered : ((commit ≡ true) × (is_told_step after.step ≡ true)) ⊎ ((n : ℕ) → is_covered_everywhere after.writer n ≡ is_covered_everywhere w n)
   pub sound : is_failed_step after.step ≡ false → IsSound w.mirrors → IsSound after.writer.mirrors
 
 module _ (commit : Bool) (w : WriterValue) where

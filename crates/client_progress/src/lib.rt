@@ -1,6 +1,6 @@
-//! What a client goes on by: when a record of it goes out again.
+//! What a client goes on by: when a record of it goes out again, and that it is never stuck.
 #![tactic(auto)]
 
 mod laws;
 
-pub use laws::{moment_law, pace_law};
+pub use laws::{going_law, moment_law, pace_law};
