@@ -5,7 +5,7 @@ use Rattle.client_progress.proofs.CallsFit.{can_ask, asked_fit}
 use Rattle.client_progress.proofs.DsFits.{all_known, not_returning, after_fit}
 use Rattle.client_progress.proofs.EndsFit.{EndsOf, event_end}
 use Rattle.client_progress.proofs.Fits.{not_both, LayoutFits, FitOf, Fit, SameHead, fit_queue, fit_layout}
-use Rattle.client_progress.proofs.Ticks.{step_if}
+use Rattle.client_progress.proofs.Ticks.{step_if, awaits_none}
 use Rattle.client_progress.proofs.WriterSteps.{AfterGoes, timeout_goes, reply_goes}
 use Rattle.std.proofs.Common.{◌≡◌, ◌≢◌, ℕ, Bool, true, false, List, [], ◌∷◌, ◌++◌, Option, Some, None, Result, Ok, Err, refl, sym, ap, subst, ◌∙◌, inl, inr, ◌⊎◌}
 use Rattle.std.specs.Prelude.{not, ◌==◌, ◌&&◌, ◌||◌, if◌then◌else◌}
@@ -57,7 +57,7 @@ use Rattle.client_laws.proofs.SlotSteps.{input_slot}
 use Rattle.client_laws.proofs.Stands.{Stands, LayoutStands, IfThere, reported_of}
 use Rattle.client_laws.proofs.Steady.{kind_of}
 use Rattle.client_laws.proofs.WriterMoves.{AfterMoves, reply_moves, timeout_moves}
-use Rattle.client_progress.specs.Going.{is_deferred, is_returning_stage, is_returning, AwaitsAnswer, AwaitsTick, IsNeverStuck, HasSentAnew, IsOutFor, ReturnsByCompound, BehindEachEvent}
+use Rattle.client_progress.specs.Going.{is_deferred, is_returning_stage, is_returning, AwaitsAnswer, AwaitsTick, IsNeverStuck, HasCalledMirrors, HasSentAnew, AsksAtTick, AwaitsNoTick, IsOutFor, ReturnsByCompound, BehindEachEvent}
 
 -- ---- a request
 
@@ -137,6 +137,7 @@ resent_end c (Some a) at e =
       fit = subst (λ (o : Option MdsAsk). FitOf c.tie c.file c.queue c.layout c.devices o c.again) (ap kind_of at) e.fit;
       goes = λ some todo. either_same c (record c { asked = Some (record a { is_late = false }) }) (sym (ap compound_number at)) refl refl refl (e.goes some todo);
       anew = e.anew;
+      called = e.called;
     }) (λ late. e)
 
 renewed_end : (now : ℕ) (c : ClientValue) → EndsOf c → EndsOf (renews now c).client
@@ -169,8 +170,9 @@ renewed_end now c e = by_asked c.asked refl
     by_call : c.asked ≡ None → c.next_xid ≢ 0 → has_session c.tie ≡ true → (call : MdsCallValue) × (call_by_ask c ask.Renew ≡ Some call) → EndsOf (asks c (Some ask.Renew)).client
     by_call none some session (call, is) = subst (λ (o : Option MdsCallValue). EndsOf (asks_as c ask.Renew o).client) (sym is) (record {
       fit = asked_fit c.tie c.file c.queue c.devices c.layout ask.Renew (kind_of c.asked) c.again (inr (session, still none some)) e.fit;
-      goes = λ some todo. inl (Mds, c.next_xid, refl);
-      anew = λ some. refl;
+      goes = λ left todo. inl (Mds, c.next_xid, refl);
+      anew = λ left. refl;
+      called = λ left. e.called some;
     })
 
     by_asked : (asked : Option Asked) → c.asked ≡ asked → EndsOf (if may_ask c asked && is_stale_tie now c.tie then asks c (Some ask.Renew) else sends_none c).client
@@ -199,7 +201,7 @@ module _ (h : List HistoryItem) (c : ClientValue) (s : Stands h c) (e : EndsOf c
 
   call_found_end : (bytes : List ℕ) (now : ℕ) (o : Option CbReply) → callback_of (call_at bytes) c ≡ o → EndsOf (found_call o bytes now c).client
   call_found_end bytes now None is = mds_found_end bytes now (reply_at bytes) refl
-  call_found_end bytes now (Some k) is = (let done : EndsOf (ends_event k.client).client = event_end h k.client (callback_stands h (call_at bytes) c k is s) (callback_fit (call_at bytes) c k is e.fit) in record { fit = done.fit; goes = done.goes; anew = done.anew })
+  call_found_end bytes now (Some k) is = (let done : EndsOf (ends_event k.client).client = event_end h k.client (callback_stands h (call_at bytes) c k is s) (callback_fit (call_at bytes) c k is e.fit) in record { fit = done.fit; goes = done.goes; anew = done.anew; called = done.called })
 
   its_layout : (l : Layout) → c.layout ≡ Some l → LayoutStands h c.name (reports_server (reported_of l)) l
   its_layout l at = subst (λ (o : Option Layout). IfThere o (λ l. LayoutStands h c.name (reports_server (reported_of l)) l)) at s.layout_stands
@@ -278,11 +280,11 @@ module _ (h : List HistoryItem) (c : ClientValue) (s : Stands h c) (e : EndsOf c
   -- ---- a client that left the protocol
 
   turned_end : EndsOf (turned c)
-  turned_end = record { fit = e.fit; goes = λ some todo. either_same c (turned c) refl refl refl refl (e.goes some todo); anew = e.anew }
+  turned_end = record { fit = e.fit; goes = λ some todo. either_same c (turned c) refl refl refl refl (e.goes some todo); anew = e.anew; called = e.called }
 
   rogue_end : (file : OpenFile) (l : Layout) (at : ℕ) (bytes : List ℕ) (m : Option Mirror) → c.next_xid ≢ 0 → EndsOf (rogue_write c file l at bytes m).client
   rogue_end file l at bytes None some = e
-  rogue_end file l at bytes (Some m) some = record { fit = e.fit; goes = λ left todo. either_same c (rogue_write c file l at bytes (Some m)).client refl refl refl refl (e.goes some todo); anew = λ left. e.anew some }
+  rogue_end file l at bytes (Some m) some = record { fit = e.fit; goes = λ left todo. either_same c (rogue_write c file l at bytes (Some m)).client refl refl refl refl (e.goes some todo); anew = λ left. e.anew some; called = λ left. e.called some }
 
   stray_end : (file : Option OpenFile) (layout : Option Layout) (place at : ℕ) (bytes : List ℕ) → EndsOf (strays file layout place at bytes c).client
   stray_end (Some file) (Some l) place at bytes =
@@ -324,6 +326,7 @@ fresh_end number verifier first_xid = record {
   fit = record { tied = λ is. absurd (not_both (sym is)); held = tt; layout_fits = tt; out = tt; anew = tt; returning = λ is. absurd (not_both (sym is)) };
   goes = λ some todo. by_todo todo;
   anew = λ some. refl;
+  called = λ some. refl;
 }
   where
     by_todo : (false ≡ true) ⊎ (false ≡ true) → AwaitsAnswer (fresh_client number verifier first_xid) ⊎ AwaitsTick (fresh_client number verifier first_xid)
@@ -352,3 +355,23 @@ returns_so c fit is = by_either (fit.returning is)
 
 pub returns_by_compound : BehindEachEvent ReturnsByCompound
 returns_by_compound number verifier first_xid inputs = returns_so (client_after (fresh_client number verifier first_xid) inputs) (each_end number verifier first_xid inputs).fit
+
+pub has_called_mirrors : BehindEachEvent HasCalledMirrors
+has_called_mirrors number verifier first_xid inputs = (each_end number verifier first_xid inputs).called
+
+-- ---- behind a tick
+
+after_more : (c : ClientValue) (inputs : List ClientInput) (input : ClientInput) → client_after c (inputs ++ input ∷ []) ≡ (input_step input (client_after c inputs)).client
+after_more c [] input = refl
+after_more c (first ∷ inputs) input = after_more (input_step first c).client inputs input
+
+quiet_awaits : (d : ClientValue) → AwaitsNoTick d → AwaitsAnswer d ⊎ AwaitsTick d → AwaitsAnswer d
+quiet_awaits d none (inl answer) = answer
+quiet_awaits d none (inr (inl waits)) = absurd (not_both (sym waits ∙ none.head))
+quiet_awaits d none (inr (inr deferred)) = absurd (not_both (sym deferred ∙ none.layout))
+
+pub asks_at_tick : BehindEachEvent AsksAtTick
+asks_at_tick number verifier first_xid inputs now stays some todo =
+    let c : ClientValue = client_after (fresh_client number verifier first_xid) inputs in
+    let e : EndsOf (input_step (Ticked now) c).client = subst EndsOf (after_more (fresh_client number verifier first_xid) inputs (Ticked now)) (each_end number verifier first_xid (inputs ++ Ticked now ∷ [])) in
+    quiet_awaits (input_step (Ticked now) c).client (awaits_none now c stays) (e.goes some todo)

@@ -4,7 +4,7 @@ use Rattle.client_progress.proofs.Fits.{not_both, AskFits, LayoutFits, Fit}
 use Rattle.client_progress.proofs.FlagLists.{Misses, missed}
 use Rattle.client_progress.proofs.OneServer.{out_there, HasBusy, one_busy}
 use Rattle.client_progress.proofs.QueueFits.{WantsCommit, NoRequest, WantsCall, Waits, Stops, QueueFits, queue_fits}
-use Rattle.client_progress.proofs.Waiting.{waits_in, waits_few, AreIdle, none_waits, AreCallable, callable}
+use Rattle.client_progress.proofs.Waiting.{waits_in, waits_few, AreIdle, none_waits, AreCallable, callable, nowhere}
 use Rattle.std.proofs.Common.{◌≡◌, ◌≢◌, ℕ, zero, suc, ◌≤◌, Bool, true, false, List, [], ◌∷◌, ◌++◌, length, Option, Some, None, refl, sym, ap, subst, ◌∙◌, inl, inr, ◌⊎◌, arith}
 use Rattle.std.specs.Prelude.{slice_get, not, is_some, ◌==◌, ◌&&◌, ◌||◌, if◌then◌else◌}
 use Rattle.std.specs.List.{list_any}
@@ -28,7 +28,7 @@ use Rattle.client_state.specs.declared.asked.Asked.{Asked}
 use Rattle.client_state.specs.ClientStates.{ClientValue}
 use Rattle.client_state.specs.ClientSends.{sends_none}
 use Rattle.client_state.specs.ClientQueue.{is_writing, run_queue}
-use Rattle.client_calls.specs.ClientCalls.{calls_mirrors, is_ending, is_settled, return_ask, due_ask, asks_as, asks, may_ask, calls_mds, ends_event}
+use Rattle.client_calls.specs.ClientCalls.{calls_mirrors, is_ending, is_settled, return_ask, due_ask, asks_as, asks, may_ask, calls_mds, ends_event, returning, layout_asked}
 use Rattle.mirror_client.specs.ClientRule.{compound_number, ds_call_number, ds_outstanding}
 use Rattle.client_laws.specs.ClientHistory.{HistoryItem, entered, sent}
 use Rattle.client_laws.proofs.CallsOut.{nonzero, mirrors_go}
@@ -36,7 +36,7 @@ use Rattle.client_laws.proofs.Places.{all_at, same_number}
 use Rattle.client_laws.proofs.QueueGoes.{QueueGoes, queue_goes}
 use Rattle.client_laws.proofs.Stands.{Stands, LayoutStands, IfThere, reported_of, is_settled_there}
 use Rattle.client_laws.proofs.Steady.{kind_of}
-use Rattle.client_progress.specs.Going.{is_given_back, is_deferred, is_returning, HasToDo, AwaitsAnswer, AwaitsTick, IsNeverStuck, HasSentAnew}
+use Rattle.client_progress.specs.Going.{is_given_back, is_deferred, is_returning, HasToDo, AwaitsAnswer, AwaitsTick, IsNeverStuck, waiting_place, HasCalledMirrors, HasSentAnew}
 
 -- ---- a return that is not due yet
 
@@ -102,6 +102,7 @@ pub record EndsOf (e : ClientValue) : Type 0 where
   pub fit : Fit e
   pub goes : IsNeverStuck e
   pub anew : HasSentAnew e
+  pub called : HasCalledMirrors e
 
 returning_given : (layout : Option Layout) → is_returning layout ≡ true → is_given_back layout ≡ true
 returning_given None is = absurd cc
@@ -170,18 +171,46 @@ module _ (past : List HistoryItem) (f : ClientValue) (s : Stands past f) (wants 
       by_stage Deferred stage = inr (inr (ap is_deferred at ∙ ap (λ s. is_deferred (Some (record l { stage = s }))) stage))
       by_stage Returning stage = absurd (not_both (sym (ap (λ s. is_returning (Some (record l { stage = s }))) stage) ∙ still))
 
+  -- no mirror waits
+  none_called : f.next_xid ≢ 0 → (layout : Option Layout) → f.layout ≡ layout → waiting_place layout ≡ None
+  none_called some None at = refl
+  none_called some (Some l) at = nowhere l.writer (none_waits l.writer.wants_commit l.writer.mirrors (zero_of (subst (λ (o : Option Layout). waits_of o ≤ 0) at (i.few some))))
+    where
+      zero_of : waits_in l.writer.wants_commit l.writer.mirrors ≤ 0 → waits_in l.writer.wants_commit l.writer.mirrors ≡ 0
+      zero_of few = omega (arith, few)
+
+  called_here : HasCalledMirrors f
+  called_here some = none_called some f.layout refl
+
+  back_called : (layout : Option Layout) → waiting_place layout ≡ None → waiting_place (returning layout) ≡ None
+  back_called None none = refl
+  back_called (Some l) none = none
+
+  asked_called : (kind : MdsAsk) (layout : Option Layout) → waiting_place layout ≡ None → waiting_place (layout_asked kind layout) ≡ None
+  asked_called ask.LayoutReturn layout none = back_called layout none
+  asked_called ask.ExchangeId layout none = none
+  asked_called ask.CreateSession layout none = none
+  asked_called ask.ReclaimComplete layout none = none
+  asked_called ask.Open layout none = none
+  asked_called ask.LayoutGet layout none = none
+  asked_called (ask.DeviceInfo count) layout none = none
+  asked_called ask.Write layout none = none
+  asked_called (ask.Read at count) layout none = none
+  asked_called ask.Renew layout none = none
+
   -- a compound goes out
-  sent_end : (kind : MdsAsk) → IsReady f.tie f.file f.queue f.layout f.devices kind → CanAsk f kind → EndsOf (asks f (Some kind)).client
-  sent_end kind ready (call, is) = subst (λ (o : Option MdsCallValue). EndsOf (asks_as f kind o).client) (sym is) (record {
+  sent_end : (kind : MdsAsk) → f.next_xid ≢ 0 → IsReady f.tie f.file f.queue f.layout f.devices kind → CanAsk f kind → EndsOf (asks f (Some kind)).client
+  sent_end kind some ready (call, is) = subst (λ (o : Option MdsCallValue). EndsOf (asks_as f kind o).client) (sym is) (record {
     fit = asked_fit f.tie f.file f.queue f.devices f.layout kind (kind_of f.asked) f.again ready i.fit;
-    goes = λ some todo. inl (Mds, f.next_xid, refl);
-    anew = λ some. refl;
+    goes = λ left todo. inl (Mds, f.next_xid, refl);
+    anew = λ left. refl;
+    called = λ left. asked_called kind f.layout (called_here some);
   })
 
   module _ (none : f.asked ≡ None) (some : f.next_xid ≢ 0) where
     -- what goes out anew
     anew_end : (kind : MdsAsk) → f.again ≡ Some kind → EndsOf (asks f (Some kind)).client
-    anew_end kind anew = sent_end kind (by_return (is_returning f.layout) refl) (can_ask f i.fit kind fits)
+    anew_end kind anew = sent_end kind some (by_return (is_returning f.layout) refl) (can_ask f i.fit kind fits)
       where
         fits : AskFits f.tie f.file f.queue f.layout f.devices kind
         fits = subst (λ (o : Option MdsAsk). IfThere o (AskFits f.tie f.file f.queue f.layout f.devices)) anew i.fit.anew
@@ -207,10 +236,10 @@ module _ (past : List HistoryItem) (f : ClientValue) (s : Stands past f) (wants 
           by_return false is = is
 
       stays : (HasToDo f → AwaitsAnswer f ⊎ AwaitsTick f) → EndsOf f
-      stays goes = record { fit = i.fit; goes = λ left todo. goes todo; anew = λ left. idle }
+      stays goes = record { fit = i.fit; goes = λ left todo. goes todo; anew = λ left. idle; called = called_here }
 
       due_end : (kind : MdsAsk) → IsReturnDue f.layout kind → EndsOf (asks f (Some kind)).client
-      due_end kind due = subst (λ (k : MdsAsk). EndsOf (asks f (Some k)).client) (sym due.is) (sent_end ask.LayoutReturn (inl (refl, due.back)) (can_return f i.fit due.layout_of due.at))
+      due_end kind due = subst (λ (k : MdsAsk). EndsOf (asks f (Some k)).client) (sym due.is) (sent_end ask.LayoutReturn some (inl (refl, due.back)) (can_return f i.fit due.layout_of due.at))
 
       commit_goes : (layout : Option Layout) → f.layout ≡ layout → WantsCommit layout → AwaitsAnswer f
       commit_goes None at commits = absurd commits
@@ -222,7 +251,7 @@ module _ (past : List HistoryItem) (f : ClientValue) (s : Stands past f) (wants 
           by_todo : HasToDo f → AwaitsAnswer f ⊎ AwaitsTick f
           by_todo (inl has) = absurd (not_both (sym has ∙ empty))
           by_todo (inr back) = layout_goes f.layout refl some no_return still back
-      stops_end no_return (WantsCall kind is fits) = subst (λ (o : Option MdsAsk). EndsOf (asks f o).client) (sym is) (sent_end kind (inr (fits, still)) (can_ask f i.fit kind fits))
+      stops_end no_return (WantsCall kind is fits) = subst (λ (o : Option MdsAsk). EndsOf (asks f o).client) (sym is) (sent_end kind some (inr (fits, still)) (can_ask f i.fit kind fits))
       stops_end no_return (Waits is (inl back)) = subst (λ (o : Option MdsAsk). EndsOf (asks f o).client) (sym is) (stays (λ todo. layout_goes f.layout refl some no_return still back))
       stops_end no_return (Waits is (inr commits)) = subst (λ (o : Option MdsAsk). EndsOf (asks f o).client) (sym is) (stays (λ todo. inl (commit_goes f.layout refl commits)))
 
@@ -239,11 +268,11 @@ module _ (past : List HistoryItem) (f : ClientValue) (s : Stands past f) (wants 
     again_end (Some kind) is = anew_end kind is
 
   asked_end : (asked : Option Asked) → f.asked ≡ asked → EndsOf (if may_ask f asked then asks f (due_ask wants f) else sends_none f).client
-  asked_end (Some a) at = record { fit = i.fit; goes = λ some todo. inl (Mds, a.xid, ap compound_number at); anew = λ some. subst (λ (o : Option Asked). IfThere o (λ a. f.again ≡ None)) at s.alone }
+  asked_end (Some a) at = record { fit = i.fit; goes = λ some todo. inl (Mds, a.xid, ap compound_number at); anew = λ some. subst (λ (o : Option Asked). IfThere o (λ a. f.again ≡ None)) at s.alone; called = called_here }
   asked_end None at = by_number (f.next_xid == 0) refl
     where
       by_number : (b : Bool) → (f.next_xid == 0) ≡ b → EndsOf (if not b then asks f (due_ask wants f) else sends_none f).client
-      by_number true is = record { fit = i.fit; goes = λ some todo. absurd (some (same_number f.next_xid 0 is)); anew = λ some. absurd (some (same_number f.next_xid 0 is)) }
+      by_number true is = record { fit = i.fit; goes = λ some todo. absurd (some (same_number f.next_xid 0 is)); anew = λ some. absurd (some (same_number f.next_xid 0 is)); called = called_here }
       by_number false is = again_end at (nonzero f.next_xid is) f.again refl
 
   pub mds_end : EndsOf (calls_mds wants f).client

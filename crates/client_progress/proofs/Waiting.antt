@@ -1,16 +1,17 @@
 -- How many mirrors wait to send: a call goes out to one of them, so behind four calls there is none.
 use Rattle.std.proofs.Common.{◌≡◌, ℕ, zero, suc, ◌+◌, ◌≤◌, Bool, true, false, List, [], ◌∷◌, length, Option, Some, None, refl, sym, ap, subst, ◌∙◌, inl, inr, ◌⊎◌, arith}
-use Rattle.std.specs.Prelude.{slice_get, slice_set, not, ◌==◌, ◌&&◌, if◌then◌else◌}
-use Rattle.std.specs.List.{position}
+use Rattle.std.specs.Prelude.{slice_get, slice_set, not, ◌==◌, ◌&&◌, if◌then◌else◌, nat_lt}
+use Rattle.std.specs.List.{position, position_or_len}
+use Rattle.std.proofs.lemmas.Bool.{ltb-true}
 use Rattle.std.proofs.lemmas.Option.{none-some, same_Some}
 use Rattle.mirror_writer.specs.declared.call.TakenWrite.{TakenWrite}
 use Rattle.mirror_writer.specs.declared.call.WriterCall.TheVariants.{OutWrite, OutCommit}
 use Rattle.mirror_writer.specs.declared.call.NextCall.{NextCall}
 use Rattle.mirror_writer.specs.declared.call.NextCall.TheVariants.{SendsWrite, SendsCommit}
-use Rattle.mirror_writer.specs.Writers.{WriterMirror, WriterValue, WriterSends, is_committed, with_out, next_idle, next_of_call, next_at, next_sent, sends_at, sends_to, sends_next, sends_as, call_for, write_of_taken, is_some_call}
+use Rattle.mirror_writer.specs.Writers.{WriterMirror, WriterValue, WriterSends, is_committed, with_out, next_idle, next_of_call, next_at, next_sent, sends_at, sends_to, sends_next, sends_as, call_for, write_of_taken, is_some_call, next_place}
 use Rattle.client_laws.specs.ClientHistory.{HistoryItem}
 use Rattle.client_laws.proofs.Counting.{waits}
-use Rattle.client_laws.proofs.Places.{at_set, FirstPlace, first_place, equal}
+use Rattle.client_laws.proofs.Places.{at_set, FirstPlace, first_place, equal, position_passes}
 use Rattle.client_laws.proofs.Stands.{AtEach, times, CountsOnce, one_if, MirrorStands, WriterStands}
 use Rattle.client_laws.proofs.NextSent.{Sending, sending}
 
@@ -76,14 +77,14 @@ first_of m wants [] k is = absurd (by_wish (wants && not (is_committed m)) is)
     by_wish true is = absurd cc
     by_wish false is = none-some (SendsWrite k) is
 
+past : {A : Type 0} (xs : List A) (k : ℕ) → slice_get xs k ≡ None → length xs ≤ k
+past [] k none = omega arith
+past (x ∷ xs) zero none = absurd (none-some x (sym none))
+past (x ∷ xs) (suc k) none = omega (arith, past xs k none)
+
 within : (taken : List TakenWrite) (m : WriterMirror) → length m.covered ≡ length taken → CountsOnce m → (n : ℕ) → 1 ≤ times n m.queue → (t : TakenWrite) × (slice_get taken n ≡ Some t)
 within taken m size counts n some = by_end (slice_get taken n) refl
   where
-    past : (xs : List TakenWrite) (k : ℕ) → slice_get xs k ≡ None → length xs ≤ k
-    past [] k none = omega arith
-    past (x ∷ xs) zero none = absurd (none-some x (sym none))
-    past (x ∷ xs) (suc k) none = omega (arith, past xs k none)
-
     by_end : (o : Option TakenWrite) → slice_get taken n ≡ o → (t : TakenWrite) × (slice_get taken n ≡ Some t)
     by_end (Some t) at = (t, at)
     by_end None at = absurd (omega (arith, some, counts.taken n (omega (arith, size, past taken n at))))
@@ -151,3 +152,23 @@ one_fewer w xid s can is =
       callable = at_set (λ m. (next : NextCall) → next_at w.wants_commit m ≡ Some next → IsCallable w.taken next) w.mirrors how.place new can (λ next at. absurd (none-some next (sym (out_idle xid how.next how.mirror w.wants_commit) ∙ at)));
       fewer = waits_set w.wants_commit w.mirrors how.place how.mirror new how.found (ap is_some_call how.next_is) (ap is_some_call (out_idle xid how.next how.mirror w.wants_commit));
     })
+
+-- ---- no place
+
+no_place : {A : Type 0} (test : A → Bool) (xs : List A) → ((i : ℕ) (x : A) → slice_get xs i ≡ Some x → test x ≡ false) → position test xs ≡ None
+no_place {A} test xs none = by_within (nat_lt (position_or_len test xs) (length xs)) refl
+  where
+    by_there : nat_lt (position_or_len test xs) (length xs) ≡ true → (o : Option A) → slice_get xs (position_or_len test xs) ≡ o → ⊥
+    by_there is None at = absurd (omega (arith, ltb-true (position_or_len test xs) (length xs) is, past xs (position_or_len test xs) at))
+    by_there is (Some x) at = not_both (sym (position_passes test xs (position_or_len test xs) x (ap (λ b. if b then Some (position_or_len test xs) else None) is) at) ∙ none (position_or_len test xs) x at)
+
+    by_within : (b : Bool) → nat_lt (position_or_len test xs) (length xs) ≡ b → (if b then Some (position_or_len test xs) else None) ≡ None
+    by_within true is = absurd (by_there is (slice_get xs (position_or_len test xs)) refl)
+    by_within false is = refl
+
+pub nowhere : (w : WriterValue) → AreIdle w.wants_commit w.mirrors → next_place w ≡ None
+nowhere w idle = by_fence w.is_fenced
+  where
+    by_fence : (b : Bool) → (if b then None else position (λ m. is_some_call (next_at w.wants_commit m)) w.mirrors) ≡ None
+    by_fence true = refl
+    by_fence false = no_place (λ m. is_some_call (next_at w.wants_commit m)) w.mirrors idle

@@ -1,6 +1,7 @@
 -- What a client waits for, and that it is never stuck.
 use Rattle.std.specs.Prelude.{◌≡◌, ◌≢◌, ℕ, Bool, true, false, not, List, [], ◌∷◌, Option, Some, None, ◌⊎◌}
 use Rattle.cluster_model.specs.declared.ids.NodeId.{NodeId}
+use Rattle.mirror_writer.specs.Writers.{next_place}
 use Rattle.mds_calls.specs.declared.ask.MdsAsk.{MdsAsk}
 use Rattle.mds_calls.specs.declared.ask.MdsAsk.TheVariants as ask
 use Rattle.client_state.specs.declared.stage.LayoutStage.{LayoutStage}
@@ -11,7 +12,7 @@ use Rattle.client_state.specs.declared.asked.Asked.{Asked}
 use Rattle.client_state.specs.ClientStates.{ClientValue, fresh_client}
 use Rattle.client_state.specs.ClientQueue.{is_writing}
 use Rattle.mirror_client.specs.ClientRule.{outstanding_to}
-use Rattle.client_laws.specs.ClientHistory.{ClientInput, client_after}
+use Rattle.client_laws.specs.ClientHistory.{ClientInput, Ticked, input_step, client_after}
 
 -- ---- what waits for a tick
 
@@ -64,9 +65,23 @@ AwaitsTick c = (c.waits ≡ true) ⊎ (is_deferred c.layout ≡ true)
 abbrev pub IsNeverStuck : ClientValue → Type 0
 IsNeverStuck c = c.next_xid ≢ 0 → HasToDo c → AwaitsAnswer c ⊎ AwaitsTick c
 
+-- the first mirror of the layout to which a call waits
+abbrev pub waiting_place : Option Layout → Option ℕ
+waiting_place None = None
+waiting_place (Some l) = next_place l.writer
+
+-- to no mirror a call waits, while a number is left: each one that has a write to send, or is to commit, has a call out
+abbrev pub HasCalledMirrors : ClientValue → Type 0
+HasCalledMirrors c = c.next_xid ≢ 0 → waiting_place c.layout ≡ None
+
 -- what is to go out anew did go out, while a number is left
 abbrev pub HasSentAnew : ClientValue → Type 0
 HasSentAnew c = c.next_xid ≢ 0 → c.again ≡ None
+
+-- behind a tick a client that has something to do, and has not left the protocol, awaits an answer
+abbrev pub AsksAtTick : ClientValue → Type 0
+AsksAtTick c =
+    (now : ℕ) → c.has_left ≡ false → (input_step (Ticked now) c).client.next_xid ≢ 0 → HasToDo (input_step (Ticked now) c).client → AwaitsAnswer (input_step (Ticked now) c).client
 
 -- ---- a layout whose return is out
 

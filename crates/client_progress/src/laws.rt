@@ -3,7 +3,7 @@
 ghost use Rattle.std.specs.Prelude.{ℕ, ◌≡◌, false};
 ghost use Rattle.client_state.specs.ClientStates.{ClientValue};
 ghost use Rattle.client_laws.specs.ClientHistory.{ClientInput, Ticked, input_step};
-ghost use Rattle.client_progress.specs.Going.{AwaitsNoTick, BehindEachEvent, HasSentAnew, IsNeverStuck, ReturnsByCompound};
+ghost use Rattle.client_progress.specs.Going.{AsksAtTick, AwaitsNoTick, BehindEachEvent, HasCalledMirrors, HasSentAnew, IsNeverStuck, ReturnsByCompound};
 ghost use Rattle.client_progress.specs.Pace.{PacesInput};
 
 use client_calls::client_law;
@@ -35,12 +35,16 @@ pub fn moment_law()
 /// - while a number is left for its next call, a client with a request at the head of its queue, or with a layout that is
 ///   to be given back, is never stuck: a call of it is outstanding, whose answer or timeout brings it on, or it is asked
 ///   again at the next tick. The call is the one compound, or a call to a mirror of its layout at its data server.
+/// - behind a tick such a client has a call outstanding, where it has not left the protocol;
 /// - where the return of its layout has begun, its LAYOUTRETURN is the compound that is outstanding, or goes out anew
 ///   (RFC 8881, section 18.44);
 /// - while a number is left, nothing that is to go out anew, since its reply was not kept, is left behind (RFC 8881,
-///   section 2.10.6.2).
+///   section 2.10.6.2), and to no mirror of its layout a call waits: each one that has a write to send, or is to commit,
+///   has a call out.
 pub fn going_law()
     ensures goes { BehindEachEvent IsNeverStuck }
+    ensures ticks { BehindEachEvent AsksAtTick }
     ensures returns { BehindEachEvent ReturnsByCompound }
     ensures anew { BehindEachEvent HasSentAnew }
+    ensures mirrors { BehindEachEvent HasCalledMirrors }
 {}
