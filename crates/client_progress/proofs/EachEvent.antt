@@ -5,10 +5,11 @@ use Rattle.client_progress.proofs.CallsFit.{can_ask, asked_fit}
 use Rattle.client_progress.proofs.DsFits.{all_known, not_returning, after_fit}
 use Rattle.client_progress.proofs.EndsFit.{EndsOf, event_end}
 use Rattle.client_progress.proofs.Fits.{not_both, LayoutFits, FitOf, Fit, SameHead, fit_queue, fit_layout}
+use Rattle.client_progress.proofs.OneServer.{its_number}
 use Rattle.client_progress.proofs.Ticks.{step_if, awaits_none}
 use Rattle.client_progress.proofs.WriterSteps.{AfterGoes, timeout_goes, reply_goes}
 use Rattle.std.proofs.Common.{◌≡◌, ◌≢◌, ℕ, Bool, true, false, List, [], ◌∷◌, ◌++◌, Option, Some, None, Result, Ok, Err, refl, sym, ap, subst, ◌∙◌, inl, inr, ◌⊎◌}
-use Rattle.std.specs.Prelude.{not, ◌==◌, ◌&&◌, ◌||◌, if◌then◌else◌}
+use Rattle.std.specs.Prelude.{not, ◌==◌, ◌&&◌, ◌||◌, if◌then◌else◌, slice_get, is_some}
 use Rattle.std.proofs.lemmas.List.{append_assoc, append-nil}
 use Rattle.std.proofs.lemmas.Option.{none-some, same_Some}
 use Rattle.ff_xdr.specs.declared.error.XdrError.{XdrError}
@@ -18,7 +19,7 @@ use Rattle.ds_calls.specs.GivenReplies.{reply_of_call}
 use Rattle.cluster_model.specs.declared.ids.NodeId.{NodeId}
 use Rattle.cluster_model.specs.declared.ids.NodeId.TheVariants.{Mds, Server, Client}
 use Rattle.cluster_model.specs.declared.ids.Mirror.{Mirror}
-use Rattle.mirror_writer.specs.Writers.{after_reply, after_timeout}
+use Rattle.mirror_writer.specs.Writers.{WriterMirror, after_reply, after_timeout}
 use Rattle.mirror_writer.specs.Outstanding.{OutCall, out_at}
 use Rattle.mds_file_calls.specs.declared.open.OpenFile.{OpenFile}
 use Rattle.mds_calls.specs.declared.ask.MdsAsk.{MdsAsk}
@@ -41,7 +42,7 @@ use Rattle.client_calls.specs.ClientCalls.{call_by_ask, asks_as, asks, may_ask, 
 use Rattle.client_answers.specs.ClientMirrors.{is_commit, after_step, has_writer, answered_out, ds_answered_by, ds_answered, late_out, ds_timed_out_by}
 use Rattle.client_answers.specs.ClientAnswers.{has_session, mds_answered}
 use Rattle.client_callbacks.specs.Callbacks.{CbReply, callback_of}
-use Rattle.mirror_client.specs.ClientRule.{unless_left, with_request, mds_replied, mds_timed_out, timed_out_to, stage_after_tick, layout_at_tick, client_at_tick, resends_late, is_stale_tie, renews, ticks_on, turned, rogue_write, mirror_of_place, strays, found_reply, found_call, record_from, compound_number, ds_outstanding}
+use Rattle.mirror_client.specs.ClientRule.{unless_left, with_request, mds_replied, mds_timed_out, timed_out_to, stage_after_tick, layout_at_tick, client_at_tick, resends_late, is_stale_tie, renews, ticks_on, turned, rogue_write, mirror_of_place, strays, found_reply, found_call, record_from, compound_number, ds_call_number, ds_outstanding, outstanding_to}
 use Rattle.client_laws.specs.ClientHistory.{ClientInput, Requested, Recorded, TimeoutOf, Ticked, LeftProtocol, Strayed, input_step, HistoryItem, Hears, entered, sent, client_after}
 use Rattle.client_laws.proofs.CallbackGoes.{callback_stands}
 use Rattle.client_laws.proofs.CallsOut.{nonzero}
@@ -57,7 +58,7 @@ use Rattle.client_laws.proofs.SlotSteps.{input_slot}
 use Rattle.client_laws.proofs.Stands.{Stands, LayoutStands, IfThere, reported_of}
 use Rattle.client_laws.proofs.Steady.{kind_of}
 use Rattle.client_laws.proofs.WriterMoves.{AfterMoves, reply_moves, timeout_moves}
-use Rattle.client_progress.specs.Going.{is_deferred, is_returning_stage, is_returning, AwaitsAnswer, AwaitsTick, IsNeverStuck, HasCalledMirrors, HasSentAnew, AsksAtTick, AwaitsNoTick, IsOutFor, ReturnsByCompound, BehindEachEvent}
+use Rattle.client_progress.specs.Going.{is_deferred, is_returning_stage, is_returning, AwaitsAnswer, AwaitsTick, IsNeverStuck, HasCalledMirrors, number_of_call, AwaitsOwnMirrors, HasSentAnew, AsksAtTick, AwaitsNoTick, IsOutFor, ReturnsByCompound, BehindEachEvent}
 
 -- ---- a request
 
@@ -312,8 +313,14 @@ module _ (h : List HistoryItem) (c : ClientValue) (s : Stands h c) (e : EndsOf c
 
 -- ---- every run
 
-run_ends : (inputs : List ClientInput) (h : List HistoryItem) (c : ClientValue) → Stands h c → SlotStands h c.tie → EndsOf c → EndsOf (client_after c inputs)
-run_ends [] h c s slot e = e
+-- it stands in its history, and ends so
+pub record RunEnds (c : ClientValue) : Type 0 where
+  pub history : List HistoryItem
+  pub stands : Stands history c
+  pub ends : EndsOf c
+
+run_ends : (inputs : List ClientInput) (h : List HistoryItem) (c : ClientValue) → Stands h c → SlotStands h c.tie → EndsOf c → RunEnds (client_after c inputs)
+run_ends [] h c s slot e = record { history = h; stands = s; ends = e }
 run_ends (input ∷ inputs) h c s slot e =
     let step : ClientStep = input_step input c in
     let heard : List HistoryItem = h ++ Hears input ∷ [] in
@@ -333,8 +340,11 @@ fresh_end number verifier first_xid = record {
     by_todo (inl is) = absurd (not_both (sym is))
     by_todo (inr is) = absurd (not_both (sym is))
 
+each_run : BehindEachEvent RunEnds
+each_run number verifier first_xid inputs = run_ends inputs [] (fresh_client number verifier first_xid) (fresh_stands number verifier first_xid) (fresh_slot number verifier first_xid) (fresh_end number verifier first_xid)
+
 each_end : BehindEachEvent EndsOf
-each_end number verifier first_xid inputs = run_ends inputs [] (fresh_client number verifier first_xid) (fresh_stands number verifier first_xid) (fresh_slot number verifier first_xid) (fresh_end number verifier first_xid)
+each_end number verifier first_xid inputs = (each_run number verifier first_xid inputs).ends
 
 pub never_stuck : BehindEachEvent IsNeverStuck
 never_stuck number verifier first_xid inputs = (each_end number verifier first_xid inputs).goes
@@ -358,6 +368,25 @@ returns_by_compound number verifier first_xid inputs = returns_so (client_after 
 
 pub has_called_mirrors : BehindEachEvent HasCalledMirrors
 has_called_mirrors number verifier first_xid inputs = (each_end number verifier first_xid inputs).called
+
+own_so : (c : ClientValue) → RunEnds c → AwaitsOwnMirrors c
+own_so c r l place m at there = by_file c.file refl
+  where
+    stands : LayoutStands r.history c.name (reports_server (reported_of l)) l
+    stands = its_layout r.history c r.stands r.ends l at
+
+    number : ds_call_number (out_at l.writer m.id.server) ≡ number_of_call m.call
+    number = its_number r.history c.name (reports_server (reported_of l)) l.writer stands.writer l.mirrors stands.ids (its_fits r.history c r.stands r.ends l at).writer.apart place m there
+
+    held : is_some c.file ≡ true
+    held = subst (λ (o : Option Layout). IfThere o (λ l. is_some c.file ≡ true)) at r.ends.fit.held
+
+    by_file : (file : Option OpenFile) → c.file ≡ file → outstanding_to (Server m.id.server) c ≡ number_of_call m.call
+    by_file None none = absurd (not_both (sym held ∙ ap is_some none))
+    by_file (Some file) some = ap (λ o. ds_outstanding o c.layout m.id.server) some ∙ ap (λ o. ds_outstanding (Some file) o m.id.server) at ∙ number
+
+pub awaits_own : BehindEachEvent AwaitsOwnMirrors
+awaits_own number verifier first_xid inputs = own_so (client_after (fresh_client number verifier first_xid) inputs) (each_run number verifier first_xid inputs)
 
 -- ---- behind a tick
 

@@ -16,6 +16,8 @@ use Rattle.mirror_writer.specs.Outstanding.{OutCall, out_as, out_call, out_at_mi
 use Rattle.client_laws.specs.ClientHistory.{HistoryItem}
 use Rattle.client_laws.proofs.Places.{Found, found, same_number}
 use Rattle.client_laws.proofs.Stands.{AtEach, CallStands, WriterStands, is_settled_there, writer_ids, mirror_ids}
+use Rattle.mirror_client.specs.ClientRule.{ds_call_number}
+use Rattle.client_progress.specs.Going.{number_of_call}
 
 -- ---- two places
 
@@ -103,6 +105,14 @@ module _ (h : List HistoryItem) (name : List ℕ) (reports : ℕ → Bool) (w : 
     where
       by_call : (out : OutCall) × (out_call w m.id m.call ≡ Some out) → (out : OutCall) × (out_at w m.id.server ≡ Some out)
       by_call (out, is) = (out, ap (out_at_mirror w) (only w mirrors ids apart place m there) ∙ is)
+
+  call_number : (m : WriterMirror) (call : WriterCall) → CallStands h name w.cred w.taken m.id m.answered call → ds_call_number (out_call w m.id call) ≡ number_of_call call
+  call_number m NoCall stands = refl
+  call_number m (OutWrite xid n timeouts) stands = ap (λ t. ds_call_number (out_as xid (write_of_taken m.id t))) stands.there
+  call_number m (OutCommit xid timeouts) stands = refl
+
+  pub its_number : (mirrors : List Mirror) → writer_ids w ≡ mirror_ids mirrors → are_on_different_servers mirrors ≡ true → (place : ℕ) (m : WriterMirror) → slice_get w.mirrors place ≡ Some m → ds_call_number (out_at w m.id.server) ≡ number_of_call m.call
+  its_number mirrors ids apart place m there = ap (λ o. ds_call_number (out_at_mirror w o)) (only w mirrors ids apart place m there) ∙ call_number m m.call (s place m there).call
 
 -- ---- a mirror that is to commit
 

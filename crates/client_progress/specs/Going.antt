@@ -1,7 +1,10 @@
 -- What a client waits for, and that it is never stuck.
-use Rattle.std.specs.Prelude.{◌≡◌, ◌≢◌, ℕ, Bool, true, false, not, List, [], ◌∷◌, Option, Some, None, ◌⊎◌}
+use Rattle.std.specs.Prelude.{◌≡◌, ◌≢◌, ℕ, Bool, true, false, not, List, [], ◌∷◌, Option, Some, None, slice_get, ◌⊎◌}
 use Rattle.cluster_model.specs.declared.ids.NodeId.{NodeId}
-use Rattle.mirror_writer.specs.Writers.{next_place}
+use Rattle.cluster_model.specs.declared.ids.NodeId.TheVariants.{Server}
+use Rattle.mirror_writer.specs.declared.call.WriterCall.{WriterCall}
+use Rattle.mirror_writer.specs.declared.call.WriterCall.TheVariants.{NoCall, OutWrite, OutCommit}
+use Rattle.mirror_writer.specs.Writers.{WriterMirror, next_place}
 use Rattle.mds_calls.specs.declared.ask.MdsAsk.{MdsAsk}
 use Rattle.mds_calls.specs.declared.ask.MdsAsk.TheVariants as ask
 use Rattle.client_state.specs.declared.stage.LayoutStage.{LayoutStage}
@@ -73,6 +76,17 @@ waiting_place (Some l) = next_place l.writer
 -- to no mirror a call waits, while a number is left: each one that has a write to send, or is to commit, has a call out
 abbrev pub HasCalledMirrors : ClientValue → Type 0
 HasCalledMirrors c = c.next_xid ≢ 0 → waiting_place c.layout ≡ None
+
+-- the number of the call that is out at a mirror
+abbrev pub number_of_call : WriterCall → Option ℕ
+number_of_call NoCall = None
+number_of_call (OutWrite xid write timeouts) = Some xid
+number_of_call (OutCommit xid timeouts) = Some xid
+
+-- what is outstanding at the data server of a mirror of the layout is the call that is out at this mirror
+abbrev pub AwaitsOwnMirrors : ClientValue → Type 0
+AwaitsOwnMirrors c =
+    (l : Layout) (place : ℕ) (m : WriterMirror) → c.layout ≡ Some l → slice_get l.writer.mirrors place ≡ Some m → outstanding_to (Server m.id.server) c ≡ number_of_call m.call
 
 -- what is to go out anew did go out, while a number is left
 abbrev pub HasSentAnew : ClientValue → Type 0

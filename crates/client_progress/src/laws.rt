@@ -3,7 +3,7 @@
 ghost use Rattle.std.specs.Prelude.{ℕ, ◌≡◌, false};
 ghost use Rattle.client_state.specs.ClientStates.{ClientValue};
 ghost use Rattle.client_laws.specs.ClientHistory.{ClientInput, Ticked, input_step};
-ghost use Rattle.client_progress.specs.Going.{AsksAtTick, AwaitsNoTick, BehindEachEvent, HasCalledMirrors, HasSentAnew, IsNeverStuck, ReturnsByCompound};
+ghost use Rattle.client_progress.specs.Going.{AsksAtTick, AwaitsNoTick, AwaitsOwnMirrors, BehindEachEvent, HasCalledMirrors, HasSentAnew, IsNeverStuck, ReturnsByCompound};
 ghost use Rattle.client_progress.specs.Pace.{PacesInput};
 
 use client_calls::client_law;
@@ -36,6 +36,8 @@ pub fn moment_law()
 ///   to be given back, is never stuck: a call of it is outstanding, whose answer or timeout brings it on, or it is asked
 ///   again at the next tick. The call is the one compound, or a call to a mirror of its layout at its data server.
 /// - behind a tick such a client has a call outstanding, where it has not left the protocol;
+/// - what is outstanding at the data server of a mirror of its layout is the call that is out at this mirror, so each such
+///   call is awaited;
 /// - where the return of its layout has begun, its LAYOUTRETURN is the compound that is outstanding, or goes out anew
 ///   (RFC 8881, section 18.44);
 /// - while a number is left, nothing that is to go out anew, since its reply was not kept, is left behind (RFC 8881,
@@ -44,6 +46,7 @@ pub fn moment_law()
 pub fn going_law()
     ensures goes { BehindEachEvent IsNeverStuck }
     ensures ticks { BehindEachEvent AsksAtTick }
+    ensures own { BehindEachEvent AwaitsOwnMirrors }
     ensures returns { BehindEachEvent ReturnsByCompound }
     ensures anew { BehindEachEvent HasSentAnew }
     ensures mirrors { BehindEachEvent HasCalledMirrors }

@@ -1,4 +1,4 @@
-use Rattle.client_progress.proofs.EachEvent.{never_stuck, asks_at_tick, has_sent_anew, returns_by_compound, has_called_mirrors}
+use Rattle.client_progress.proofs.EachEvent.{never_stuck, asks_at_tick, awaits_own, has_sent_anew, returns_by_compound, has_called_mirrors}
 use Rattle.client_progress.proofs.laws.going_law.Goals as goal
 
 pub returns-clause-goes : goal.returns-clause-goes
@@ -6,6 +6,9 @@ returns-clause-goes c = never_stuck
 
 pub returns-clause-ticks : goal.returns-clause-ticks
 returns-clause-ticks c = asks_at_tick
+
+pub returns-clause-own : goal.returns-clause-own
+returns-clause-own c = awaits_own
 
 pub returns-clause-returns : goal.returns-clause-returns
 returns-clause-returns c = returns_by_compound
