@@ -9,7 +9,7 @@ use Rattle.client_progress.proofs.OneServer.{its_number}
 use Rattle.client_progress.proofs.Ticks.{step_if, awaits_none}
 use Rattle.client_progress.proofs.WriterSteps.{AfterGoes, timeout_goes, reply_goes}
 use Rattle.std.proofs.Common.{◌≡◌, ◌≢◌, ℕ, Bool, true, false, List, [], ◌∷◌, ◌++◌, Option, Some, None, Result, Ok, Err, refl, sym, ap, subst, ◌∙◌, inl, inr, ◌⊎◌}
-use Rattle.std.specs.Prelude.{not, ◌==◌, ◌&&◌, ◌||◌, if◌then◌else◌, slice_get, is_some}
+use Rattle.std.specs.Prelude.{not, ◌==◌, ◌&&◌, ◌||◌, if◌then◌else◌, is_some}
 use Rattle.std.proofs.lemmas.List.{append_assoc, append-nil}
 use Rattle.std.proofs.lemmas.Option.{none-some, same_Some}
 use Rattle.ff_xdr.specs.declared.error.XdrError.{XdrError}
@@ -19,7 +19,7 @@ use Rattle.ds_calls.specs.GivenReplies.{reply_of_call}
 use Rattle.cluster_model.specs.declared.ids.NodeId.{NodeId}
 use Rattle.cluster_model.specs.declared.ids.NodeId.TheVariants.{Mds, Server, Client}
 use Rattle.cluster_model.specs.declared.ids.Mirror.{Mirror}
-use Rattle.mirror_writer.specs.Writers.{WriterMirror, after_reply, after_timeout}
+use Rattle.mirror_writer.specs.Writers.{after_reply, after_timeout}
 use Rattle.mirror_writer.specs.Outstanding.{OutCall, out_at}
 use Rattle.mds_file_calls.specs.declared.open.OpenFile.{OpenFile}
 use Rattle.mds_calls.specs.declared.ask.MdsAsk.{MdsAsk}

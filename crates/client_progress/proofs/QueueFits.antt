@@ -153,7 +153,7 @@ module _ (c : ClientValue) (file : OpenFile) (there : c.file ≡ Some file) wher
   commit_fits None at untold fit = absurd (not_both untold)
   commit_fits (Some l) at untold fit = (
     fit_layout c.tie c.file (Commit ∷ c.queue) c.layout l (with_writer l (commit_wanted l.writer)) c.devices (kind_of c.asked) c.again at (record { mirrors = refl; stage = refl })
-    (λ fits. record { writer = commits_fit c.devices l.mirrors l.writer l.untold l.stage l.stage fits.writer; sound = fits.sound }) fit,
+        (λ fits. record { writer = commits_fit c.devices l.mirrors l.writer l.untold l.stage l.stage fits.writer; sound = fits.sound }) fit,
     commit_waits l at untold (subst (λ (o : Option Layout). IfThere o (LayoutFits c.devices)) at fit.layout_fits),
   )
 
