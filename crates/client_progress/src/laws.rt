@@ -1,4 +1,4 @@
-//! What holds of each step of a client.
+//! What holds of each step of a client, and of every run of it.
 
 ghost use Rattle.std.specs.Prelude.{ℕ, ◌≡◌, false};
 ghost use Rattle.client_state.specs.ClientStates.{ClientValue};
@@ -33,7 +33,7 @@ pub fn moment_law()
 /// Of every run of a client, whatever comes to it, behind each event:
 ///
 /// - while a number is left for its next call, a client with a request at the head of its queue, or with a layout that is
-///   to be given back, is never stuck: a call of it is outstanding, whose answer or timeout brings it on, or it is asked
+///   to be given back, is never stuck: a call of it is outstanding, whose answer it awaits, or it is asked
 ///   again at the next tick. The call is the one compound, or a call to a mirror of its layout at its data server.
 /// - behind a tick such a client has a call outstanding, where it has not left the protocol;
 /// - what is outstanding at the data server of a mirror of its layout is the call that is out at this mirror, so each such
