@@ -1,0 +1,4 @@
+pub mod OutWalk
+pub mod FileOuts
+pub mod OwnCalls
+pub mod ReadsOut

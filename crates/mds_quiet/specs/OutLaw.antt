@@ -1,0 +1,10 @@
+-- What is left behind the calls that go out at the end of an event, whatever the metadata server has then.
+use Rattle.std.specs.Prelude.{◌≡◌, ◌≢◌, ℕ, ◌≤◌, List, length, Option, Some, slice_get}
+use Rattle.mds_rule.specs.MdsStates.{ServedFile, MdsValue}
+use Rattle.mds_rule.specs.Goes.{calls_out}
+use Rattle.mds_quiet.specs.Resting.{RestReads}
+
+-- While numbers are left, the READs of each file with at most four live mirrors rest.
+abbrev pub ReadsGoOut : List (Option (ℕ × ℕ)) → MdsValue → Type 0
+ReadsGoOut kept m =
+    (place : ℕ) (s : ServedFile) → slice_get (calls_out kept m).mds.files place ≡ Some s → length s.file.layout.live ≤ 4 → (calls_out kept m).mds.next_xid ≢ 0 → RestReads s

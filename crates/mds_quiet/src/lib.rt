@@ -1,0 +1,6 @@
+//! Behind an event of a metadata server nothing waits to be sent.
+#![tactic(auto)]
+
+mod laws;
+
+pub use laws::out_law;
