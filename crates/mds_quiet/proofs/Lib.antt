@@ -2,3 +2,4 @@ pub mod OutWalk
 pub mod FileOuts
 pub mod OwnCalls
 pub mod ReadsOut
+pub mod OwnOut

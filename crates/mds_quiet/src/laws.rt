@@ -2,12 +2,15 @@
 
 ghost use Rattle.std.specs.Prelude.{List, Option, ℕ};
 ghost use Rattle.mds_rule.specs.MdsStates.{MdsValue};
-ghost use Rattle.mds_quiet.specs.OutLaw.{ReadsGoOut};
+ghost use Rattle.mds_quiet.specs.OutLaw.{FilesGoOut, ReadsGoOut};
 
 /// What is left behind the calls that go out at the end of an event, whatever a metadata server has then, while numbers are
 /// left:
 ///
-/// - of the READs of a file with at most four live mirrors none waits to be sent.
+/// - of the own calls of a file none waits to be sent, where they waited in order: to at most four servers, whose places in
+///   the live list, or 4, do not fall;
+/// - of the READs of a file with at most four live mirrors none does.
 pub fn out_law()
+    ensures files { (kept : List (Option (ℕ × ℕ))) (m : MdsValue) → FilesGoOut kept m }
     ensures reads { (kept : List (Option (ℕ × ℕ))) (m : MdsValue) → ReadsGoOut kept m }
 {}

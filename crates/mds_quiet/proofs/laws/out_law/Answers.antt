@@ -1,5 +1,9 @@
+use Rattle.mds_quiet.proofs.OwnOut.{files_go}
 use Rattle.mds_quiet.proofs.ReadsOut.{reads_go}
 use Rattle.mds_quiet.proofs.laws.out_law.Goals as goal
 
-pub returns : goal.returns
-returns c = record { reads = reads_go }
+pub returns-clause-files : goal.returns-clause-files
+returns-clause-files c = files_go
+
+pub returns-clause-reads : goal.returns-clause-reads
+returns-clause-reads c = reads_go
