@@ -3,3 +3,4 @@ pub mod FileOuts
 pub mod OwnCalls
 pub mod ReadsOut
 pub mod OwnOut
+pub mod RecallsOut

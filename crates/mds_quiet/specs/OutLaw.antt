@@ -2,7 +2,7 @@
 use Rattle.std.specs.Prelude.{◌≡◌, ◌≢◌, ℕ, ◌≤◌, List, length, Option, Some, slice_get}
 use Rattle.mds_rule.specs.MdsStates.{ServedFile, MdsValue}
 use Rattle.mds_rule.specs.Goes.{calls_out}
-use Rattle.mds_quiet.specs.Resting.{RestsFile, RestReads, WaitsInOrder}
+use Rattle.mds_quiet.specs.Resting.{RestsFile, RestReads, RestRecalls, WaitsInOrder, AreRecallsInOrder}
 
 -- While numbers are left, each file whose own calls wait in order rests.
 abbrev pub FilesGoOut : List (Option (ℕ × ℕ)) → MdsValue → Type 0
@@ -13,3 +13,7 @@ FilesGoOut kept m =
 abbrev pub ReadsGoOut : List (Option (ℕ × ℕ)) → MdsValue → Type 0
 ReadsGoOut kept m =
     (place : ℕ) (s : ServedFile) → slice_get (calls_out kept m).mds.files place ≡ Some s → length s.file.layout.live ≤ 4 → (calls_out kept m).mds.next_xid ≢ 0 → RestReads s
+
+-- While numbers are left, recalls in order rest.
+abbrev pub RecallsGoOut : List (Option (ℕ × ℕ)) → MdsValue → Type 0
+RecallsGoOut kept m = AreRecallsInOrder m → (calls_out kept m).mds.next_xid ≢ 0 → RestRecalls (calls_out kept m).mds

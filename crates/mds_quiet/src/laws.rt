@@ -2,15 +2,18 @@
 
 ghost use Rattle.std.specs.Prelude.{List, Option, ℕ};
 ghost use Rattle.mds_rule.specs.MdsStates.{MdsValue};
-ghost use Rattle.mds_quiet.specs.OutLaw.{FilesGoOut, ReadsGoOut};
+ghost use Rattle.mds_quiet.specs.OutLaw.{FilesGoOut, ReadsGoOut, RecallsGoOut};
 
 /// What is left behind the calls that go out at the end of an event, whatever a metadata server has then, while numbers are
 /// left:
 ///
 /// - of the own calls of a file none waits to be sent, where they waited in order: to at most four servers, whose places in
 ///   the live list, or 4, do not fall;
-/// - of the READs of a file with at most four live mirrors none does.
+/// - of the READs of a file with at most four live mirrors none does;
+/// - no recall may go, where recalls were in the order of their files, of at most one for each file that is there: each
+///   that waits stands behind one of the same client whose callback is out.
 pub fn out_law()
     ensures files { (kept : List (Option (ℕ × ℕ))) (m : MdsValue) → FilesGoOut kept m }
     ensures reads { (kept : List (Option (ℕ × ℕ))) (m : MdsValue) → ReadsGoOut kept m }
+    ensures recalls { (kept : List (Option (ℕ × ℕ))) (m : MdsValue) → RecallsGoOut kept m }
 {}
