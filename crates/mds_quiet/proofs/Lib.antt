@@ -4,3 +4,5 @@ pub mod OwnCalls
 pub mod ReadsOut
 pub mod OwnOut
 pub mod RecallsOut
+pub mod NewServers
+pub mod Parts
