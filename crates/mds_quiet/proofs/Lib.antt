@@ -6,3 +6,4 @@ pub mod OwnOut
 pub mod RecallsOut
 pub mod NewServers
 pub mod Parts
+pub mod Ordered
