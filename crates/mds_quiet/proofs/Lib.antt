@@ -7,3 +7,4 @@ pub mod RecallsOut
 pub mod NewServers
 pub mod Parts
 pub mod Ordered
+pub mod OrderedSteps
