@@ -8,3 +8,6 @@ pub mod NewServers
 pub mod Parts
 pub mod Ordered
 pub mod OrderedSteps
+pub mod OwnPhases
+pub mod WriterServers
+pub mod Standing

@@ -81,7 +81,7 @@ pub record IsOrdered (f : MdsFile) : Type 0 where
 
 -- ---- ctimes that are seen
 
-servers_seen : (id : MirrorId) (tick : Tick) (live : List Mirror) → servers_of (seen_at id tick live) ≡ servers_of live
+pub servers_seen : (id : MirrorId) (tick : Tick) (live : List Mirror) → servers_of (seen_at id tick live) ≡ servers_of live
 servers_seen id tick [] = refl
 servers_seen id tick (m ∷ live) = ap (λ (k : MirrorId). k.server ∷ servers_of (seen_at id tick live)) (seen_id id tick m) ∙ ap (λ (l : List ℕ). m.id.server ∷ l) (servers_seen id tick live)
 
