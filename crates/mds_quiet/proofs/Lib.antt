@@ -11,3 +11,5 @@ pub mod OrderedSteps
 pub mod OwnPhases
 pub mod WriterServers
 pub mod Standing
+pub mod RunsStand
+pub mod RunsRest

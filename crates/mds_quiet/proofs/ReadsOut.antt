@@ -226,7 +226,7 @@ places (suc (suc (suc (suc (suc q))))) few = absurd (omega (arith, few))
 
 
 module _ (p : ℕ) where
-  abbrev NoFile : ServedFile → Type 0
+  abbrev pub NoFile : ServedFile → Type 0
   NoFile s = ⊥
 
   no_file : FileCases NoFile

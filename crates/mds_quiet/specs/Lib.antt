@@ -1,2 +1,3 @@
 pub mod Resting
 pub mod OutLaw
+pub mod QuietRuns

@@ -1,8 +1,11 @@
-//! What is left behind the calls that go out at the end of an event.
+//! What is left behind the calls that go out at the end of an event, and behind each event of every run.
 
 ghost use Rattle.std.specs.Prelude.{List, Option, ℕ};
+ghost use Rattle.device_addr.specs.Universal.{AddressValue};
 ghost use Rattle.mds_rule.specs.MdsStates.{MdsValue};
+ghost use Rattle.mds_laws.specs.MdsRuns.{MdsEvent};
 ghost use Rattle.mds_quiet.specs.OutLaw.{FilesGoOut, ReadsGoOut, RecallsGoOut};
+ghost use Rattle.mds_quiet.specs.QuietRuns.{RunsRest};
 
 /// What is left behind the calls that go out at the end of an event, whatever a metadata server has then, while numbers are
 /// left:
@@ -16,4 +19,11 @@ pub fn out_law()
     ensures files { (kept : List (Option (ℕ × ℕ))) (m : MdsValue) → FilesGoOut kept m }
     ensures reads { (kept : List (Option (ℕ × ℕ))) (m : MdsValue) → ReadsGoOut kept m }
     ensures recalls { (kept : List (Option (ℕ × ℕ))) (m : MdsValue) → RecallsGoOut kept m }
+{}
+
+/// Behind each event of every run of a metadata server, with at most four mirrors to a file and as many data servers, and
+/// while numbers are left: of no file a call of its own, one of a write of the metadata server's own, or a READ waits to be
+/// sent. So each has gone out in the event in which it came to wait.
+pub fn quiet_law()
+    ensures { (servers : List AddressValue) (mirrors : ℕ) (events : List MdsEvent) → RunsRest servers mirrors events }
 {}
