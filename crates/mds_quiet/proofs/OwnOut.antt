@@ -57,11 +57,13 @@ taken : (low few : ℕ) (file : FileId) (s : ServedFile) (xid : ℕ) (c : OwnCal
 taken low few file s xid c is left =
     let first : servers s ≡ c.server ∷ servers c.served = goes_first file s xid s.write refl c is in
     let rise : PlacesRise low (place_of s c.server ∷ map (place_of s) (servers c.served)) = subst (λ (l : List ℕ). PlacesRise low (map (place_of s) l)) first left.rise in
-    let size : length (c.server ∷ servers c.served) ≤ suc few = subst (λ (l : List ℕ). length l ≤ suc few) first left.few_left in
-    (rise.0, record {
-      rise = subst (PlacesRise low) (sym (same_places s c.served (servers c.served) (own_beside file s xid c s.write is).layout)) (lower low (place_of s c.server) (map (place_of s) (servers c.served)) rise.0 rise.2);
-      few_left = omega (arith, size);
-    })
+    let size : length (c.server ∷ servers c.served) ≤ suc few = subst (λ (l : List ℕ). length l ≤ suc few) first left.few_left in (
+      rise.0,
+      record {
+        rise = subst (PlacesRise low) (sym (same_places s c.served (servers c.served) (own_beside file s xid c s.write is).layout)) (lower low (place_of s c.server) (map (place_of s) (servers c.served)) rise.0 rise.2);
+        few_left = omega (arith, size);
+      },
+    )
 
 more_left : (low few : ℕ) (s : ServedFile) → AreLeft low few s → AreLeft low (suc few) s
 more_left low few s left = let few_so = left.few_left in record { rise = left.rise; few_left = omega (arith, few_so) }

@@ -224,7 +224,6 @@ places (suc (suc (suc (suc (suc q))))) few = absurd (omega (arith, few))
 
 -- ---- the law
 
-
 module _ (p : ℕ) where
   abbrev pub NoFile : ServedFile → Type 0
   NoFile s = ⊥

@@ -93,7 +93,7 @@ module _ (f : MdsFile) where
         ordered = record {
           apart = b.ordered.apart;
           busy = subst (λ (l : List FenceMirror). IsPart (kept_ids l) (ids_of f.layout.live)) (set_back x.mirrors place m new at)
-          (fence_set (set x.mirrors place new) place new m (ids_of f.layout.live) (slice_get-set_same x.mirrors place m new at) refl refl b.ordered.busy);
+              (fence_set (set x.mirrors place new) place new m (ids_of f.layout.live) (slice_get-set_same x.mirrors place m new at) refl refl b.ordered.busy);
         };
         few = record { mirrors = b.few.mirrors; room = tt };
       })
