@@ -79,7 +79,7 @@ later test low last (y ∷ all) k i r (up, few, rest) is at j x there passes = b
         further (inl here) = inl (ap suc here ∙ same)
         further (inr behind) = inr behind
 
-rise_set : (low last : ℕ) (all : List Recall) (i : ℕ) (r new : Recall) → slice_get all i ≡ Some r → new.file ≡ r.file → RecallsRise low last all → RecallsRise low last (slice_set all i new)
+pub rise_set : (low last : ℕ) (all : List Recall) (i : ℕ) (r new : Recall) → slice_get all i ≡ Some r → new.file ≡ r.file → RecallsRise low last all → RecallsRise low last (slice_set all i new)
 rise_set low last [] i r new at same rise = absurd (none-some r at)
 rise_set low last (x ∷ all) zero r new at same (up, few, rest) =
     let file : x.file ≡ new.file = ap (λ (y : Recall). y.file) (same_Some x r at) ∙ sym same in
@@ -108,7 +108,7 @@ pub record IsSent (all : List Recall) (sent : RecallSends) : Type 0 where
   pub behind : sent.recalls ≡ slice_set all place (at_stage (Out xid 0) r)
   pub file : sent.call.file ≡ r.file
 
-sent_of : (all : List Recall) (xid : ℕ) (sent : RecallSends) → next_sent all xid ≡ Some sent → IsSent all sent
+pub sent_of : (all : List Recall) (xid : ℕ) (sent : RecallSends) → next_sent all xid ≡ Some sent → IsSent all sent
 sent_of all xid sent is = by_place (position (may_go all) all) refl is
   where
     by_recall : (place : ℕ) → position (may_go all) all ≡ Some place → (o : Option Recall) → slice_get all place ≡ o → sent_at all xid place o ≡ Some sent → IsSent all sent

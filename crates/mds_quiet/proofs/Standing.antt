@@ -54,7 +54,7 @@ pub record Stands (s : ServedFile) : Type 0 where
 
 -- ---- before a call that went out
 
-set_back : {A : Type 0} (xs : List A) (place : ℕ) (x y : A) → slice_get xs place ≡ Some x → set (set xs place y) place x ≡ xs
+pub set_back : {A : Type 0} (xs : List A) (place : ℕ) (x y : A) → slice_get xs place ≡ Some x → set (set xs place y) place x ≡ xs
 set_back [] place x y at = refl
 set_back (z ∷ xs) zero x y at = ap (λ w. w ∷ xs) (sym (same_Some z x at))
 set_back (z ∷ xs) (suc place) x y at = ap (λ l. z ∷ l) (set_back xs place x y at)
