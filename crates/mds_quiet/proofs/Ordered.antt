@@ -159,9 +159,6 @@ made_apart (c ∷ items) on apart =
 
 -- ---- a fence
 
-still_in : CallStage → Bool
-still_in stage = not (is_given_up stage)
-
 out_left : (xid : ℕ) (stage : CallStage) → is_out xid stage ≡ true → is_given_up stage ≡ false
 out_left xid Waits is = refl
 out_left xid (Out own timeouts) is = refl
@@ -260,12 +257,6 @@ dropped_part : (id : MirrorId) (mirrors : List FenceMirror) → IsPart (kept_ids
 dropped_part id [] = tt
 dropped_part id (m ∷ mirrors) = by_test (is_mirror m.id id) refl (is_given_up m.stage) refl (dropped_part id mirrors)
   where
-    others : List MirrorId
-    others = kept_ids (map (dropped_if id) mirrors)
-
-    rest : List MirrorId
-    rest = filter (λ (k : MirrorId). not (is_mirror k id)) (kept_ids mirrors)
-
     by_test : (here : Bool) → is_mirror m.id id ≡ here → (given : Bool) → is_given_up m.stage ≡ given → IsPart (kept_ids (map (dropped_if id) mirrors)) (filter (λ (k : MirrorId). not (is_mirror k id)) (kept_ids mirrors))
         → IsPart (kept_ids (cond here (with_stage m GivenUp) m ∷ map (dropped_if id) mirrors)) (filter (λ (k : MirrorId). not (is_mirror k id)) (map (λ (x : FenceMirror). x.id) (cond (not given) (m ∷ filter (λ (x : FenceMirror). not (is_given_up x.stage)) mirrors) (filter (λ (x : FenceMirror). not (is_given_up x.stage)) mirrors))))
     by_test true is true its part = part

@@ -1,4 +1,4 @@
--- Compounds, and what comes of answers and timeouts, keep what is kept in each case.
+-- Compounds, and what comes of answers and timeouts, keep what is kept in each case of recalls.
 use Rattle.std.proofs.Common.{◌≡◌, ℕ, zero, suc, ◌-◌, Bool, true, false, List, [], ◌∷◌, ◌++◌, length, Option, Some, None, refl, sym, ap, subst, ◌∙◌}
 use Rattle.std.specs.Prelude.{not, ◌==◌, slice_get, slice_set, remove, drop, position, map}
 use Rattle.std.specs.List.{find}

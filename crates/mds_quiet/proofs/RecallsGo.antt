@@ -1,4 +1,4 @@
--- The calls that go out, and so each event and each run, keep what is kept in each case.
+-- The calls that go out, and so each event and each run, keep what is kept in each case of recalls.
 use Rattle.std.proofs.Common.{◌≡◌, ℕ, zero, suc, true, List, [], ◌∷◌, ◌++◌, length, Option, Some, None, refl, sym, subst}
 use Rattle.std.specs.Prelude.{◌-◌, not, ◌==◌, ◌&&◌, if◌then◌else◌, filter, slice_get, slice_set}
 use Rattle.std.specs.Option.{option_map}
@@ -275,4 +275,3 @@ module _ (I : MdsValue → List Entry → List MdsSend → Type 0) (k : RecallCa
   -- what holds of a new server holds behind every run
   pub behind_each_run : (m : MdsValue) (events : List MdsEvent) → I m [] [] → I (run_from m events).mds (run_from m events).entries (run_from m events).sends
   behind_each_run m events i = each_run events m [] [] i
-

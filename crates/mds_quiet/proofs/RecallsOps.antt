@@ -1,4 +1,4 @@
--- Each operation on files and layouts keeps what is kept in each case.
+-- Each operation on files and layouts keeps what is kept in each case of recalls.
 use Rattle.std.proofs.Common.{◌≡◌, ◌≤◌, ℕ, ◌+◌, Bool, true, false, cond, List, [], ◌∷◌, length, Option, Some, None, refl, sym, ap, subst, ◌∙◌, inl, inr, arith}
 use Rattle.std.specs.Prelude.{◌-◌, ◌==◌, ◌&&◌, not, nat_lt, is_some, slice_get, slice_set}
 use Rattle.std.specs.List.{list_any}

@@ -281,12 +281,12 @@ recalls_go kept m rise some xid =
     by_sent (next_sent (calls_out kept m).mds.recalls xid) refl
     (of_files (length m.files) kept (length m.files) 1 m (inr (record { rise = rise; from = λ i r at goes. (rise_in 0 (length m.files) m.recalls i r rise at).0 })))
   where
-    past : (n a last : ℕ) → 1 + last ≤ n → n ≤ last → ⊥
-    past n a last up few = absurd (omega (arith, up, few))
+    past : (n last : ℕ) → 1 + last ≤ n → n ≤ last → ⊥
+    past n last up few = absurd (omega (arith, up, few))
 
     by_sent : (o : Option RecallSends) → next_sent (calls_out kept m).mds.recalls xid ≡ o → From (length m.files) (1 + length m.files) (calls_out kept m).mds → o ≡ None
     by_sent None is i = refl
     by_sent (Some sent) is (inl none) = absurd (some none)
     by_sent (Some sent) is (inr g) =
         let s : IsSent (calls_out kept m).mds.recalls sent = sent_of (calls_out kept m).mds.recalls xid sent is in
-        absurd (past s.r.file.0 0 (length m.files) (g.from s.place s.r s.at s.goes) (rise_in 0 (length m.files) (calls_out kept m).mds.recalls s.place s.r g.rise s.at).1)
+        absurd (past s.r.file.0 (length m.files) (g.from s.place s.r s.at s.goes) (rise_in 0 (length m.files) (calls_out kept m).mds.recalls s.place s.r g.rise s.at).1)

@@ -1,4 +1,4 @@
--- Each part of an event that is about inputs of the table of phases, clients and sessions keeps what is kept in each case.
+-- Each part of an event that is about inputs of the table of phases, clients and sessions keeps what is kept in each case of recalls.
 use Rattle.std.proofs.Common.{◌≡◌, ℕ, true, false, List, [], ◌∷◌, ◌++◌, Option, Some, None, refl, inl}
 use Rattle.std.specs.Prelude.{is_some, nat_eq, map}
 use Rattle.std.specs.List.{find, list_any}

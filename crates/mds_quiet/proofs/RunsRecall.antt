@@ -50,9 +50,6 @@ use Rattle.mds_quiet.proofs.RecallCases.{RecallCase}
 
 -- ---- grants in order
 
-abbrev Grant : Type 0
-Grant = FileId × Cred
-
 abbrev Rises : ℕ → ℕ → List (FileId × Cred) → Type 0
 Rises low last [] = Unit {0}
 Rises low last (g ∷ all) = (low < g.0.0) × (g.0.0 ≤ last) × Rises g.0.0 last all
@@ -132,7 +129,6 @@ held_on file fresh f input n r at idle = by_input input
         subst (λ (p : LayoutPhase). list_any is_period_end (held_in f (by_client f (λ client. revoked_row file f cause fresh)) p).entries ≡ false → IsHeldOn f (held_in f (by_client f (λ client. revoked_row file f cause fresh)) p).file) (sym at)
         (cond_both (is_clean cause) (nothing f) (goes_fencing (revoked file f.layout cause (a_uid fresh.uid)) fresh.uid) (λ (x : FileStep). list_any is_period_end x.entries ≡ false → IsHeldOn f x.file) (λ is. itself) (λ off none. absurd (on_off none)))
     by_input (OwnEnds causes place bytes) =
-        let told : Entry = entry.Told file f.layout.cred place bytes in
         subst (λ (p : LayoutPhase). list_any is_period_end (held_in f (by_mds f (own_row file f causes (entry.Told file f.layout.cred place bytes) fresh)) p).entries ≡ false → IsHeldOn f (held_in f (by_mds f (own_row file f causes (entry.Told file f.layout.cred place bytes) fresh)) p).file) (sym at) itself
     by_input Resilver = subst (λ (p : LayoutPhase). list_any is_period_end (resilvered_in f fresh p).entries ≡ false → IsHeldOn f (resilvered_in f fresh p).file) (sym at) itself
     by_input (IsAnswer xid reply) = subst (λ (a : Activity). list_any is_period_end (answered_in file f xid reply fresh a).entries ≡ false → IsHeldOn f (answered_in file f xid reply fresh a).file) (sym idle) itself
@@ -161,9 +157,6 @@ GoesOn s t = IsClients s.file.layout.phase → IsHeldOn s.file t.file
 module _ (m : MdsValue) (file : FileId) (s t : ServedFile) (at : served m file ≡ Some s) where
   there : slice_get m.files (file.0 - 1) ≡ Some s
   there = (place_served m file s at).1
-
-  abbrev put : List ServedFile
-  put = slice_set m.files (file.0 - 1) t
 
   other_held : (g : FileId × Cred) → g.0.0 ≢ file.0 → HeldAs m.files g → HeldAs (slice_set m.files (file.0 - 1) t) g
   other_held g ne (x, is, cred, client) =

@@ -163,8 +163,8 @@ module _ (m : MdsValue) (file : FileId) (s : ServedFile) (at : served m file ≡
   other_case : (input : FileInput) → is_own_input input ≡ false → has_fresh m.fresh ≡ true → (es more : List Entry) (ss : List MdsSend) → IsSo m es ss → IsSo (file_stepped m file s (phase file s.file input m.fresh)).mds more ss
   other_case input other has es more ss i = input_case input es more ss has (other_fits file m.fresh (drawn m.fresh (phase file s.file input m.fresh)) s input has other (its_fits i.fit)) i
 
-  call_case : (t : ServedFile) (call : AwaitedCall) (es more : List Entry) (ss : List MdsSend) → Fits m.fresh t → IsSo m es ss → RunStands (slice_set m.files (file.0 - 1) t) m.fresh m.servers m.mirrors (with_call call m.calls) (ss ++ call.sent ∷ [])
-  call_case t call es more ss new i = record {
+  call_case : (t : ServedFile) (call : AwaitedCall) (es : List Entry) (ss : List MdsSend) → Fits m.fresh t → IsSo m es ss → RunStands (slice_set m.files (file.0 - 1) t) m.fresh m.servers m.mirrors (with_call call m.calls) (ss ++ call.sent ∷ [])
+  call_case t call es ss new i = record {
     fit = fit_set m.files m.fresh m.fresh (file.0 - 1) s t (place_served m file s at).1 (λ x k. k) new i.fit;
     few = i.few;
     there = i.there;
@@ -251,9 +251,6 @@ makes m name may es ss i = record { fit = λ place s got. by_place place s (push
     now : Fresh
     now = (with_new_file m name).fresh
 
-    servers : List ℕ
-    servers = servers_of (length m.servers) m.mirrors (length m.files + 1)
-
     size : length (servers_of (length m.servers) m.mirrors (length m.files + 1)) ≡ m.mirrors
     size = how_many (length m.servers) m.mirrors (length m.files + 1)
 
@@ -318,12 +315,12 @@ cases = record {
   drops_write = λ m file s w places at waits over spent es ss i. put_case m file s at (without_write s) es ss (unwritten_fits m.fresh m.fresh s (its_fits m file s at i.fit)) i;
   makes = λ m name may es ss i. makes m name may es ss i;
   calls_file = λ m file s c at has its es ss i.
-      call_case m file s at (record s { file = c.file }) (record { node = Server c.server; xid = m.next_xid; caller = ForFile file; sent = CallsServer c.server m.next_xid c.uid c.call }) es es ss (out_fits m.fresh s m.next_xid c its (its_fits m file s at i.fit)) i;
+      call_case m file s at (record s { file = c.file }) (record { node = Server c.server; xid = m.next_xid; caller = ForFile file; sent = CallsServer c.server m.next_xid c.uid c.call }) es ss (out_fits m.fresh s m.next_xid c its (its_fits m file s at i.fit)) i;
   calls_write = λ m file s w c at has waits its is_write es ss i.
-      call_case m file s at (record s { write = Some (record w { writer = c.writer }) }) (record { node = Server c.id.server; xid = m.next_xid; caller = ForWrite file; sent = CallsServer c.id.server m.next_xid w.writer.cred c.call }) es es ss
+      call_case m file s at (record s { write = Some (record w { writer = c.writer }) }) (record { node = Server c.id.server; xid = m.next_xid; caller = ForWrite file; sent = CallsServer c.id.server m.next_xid w.writer.cred c.call }) es ss
       (written_fits m.fresh s w (record w { writer = c.writer }) waits (sends_same w.writer m.next_xid c its) (its_fits m file s at i.fit)) i;
   calls_read = λ m file s t server call at has same holder write uid is_read es ss i.
-      call_case m file s at t (record { node = Server server; xid = m.next_xid; caller = ForRead file; sent = CallsServer server m.next_xid 0 call }) es es ss (same_fits m.fresh s t same write (its_fits m file s at i.fit)) i;
+      call_case m file s at t (record { node = Server server; xid = m.next_xid; caller = ForRead file; sent = CallsServer server m.next_xid 0 call }) es ss (same_fits m.fresh s t same write (its_fits m file s at i.fit)) i;
   calls_back = λ m node back file stateid has es ss i.
       record { fit = i.fit; few = i.few; there = i.there; were = sent_with m.calls ss (record { node = node; xid = m.next_xid; caller = ForRecall; sent = CallsBack m.next_xid back file stateid }) i.were };
   skips = λ m has es ss i. i;
