@@ -25,7 +25,7 @@ use Rattle.recall.specs.declared.recall.Recall.{Recall}
 use Rattle.recall.specs.declared.recall.RecallStage.TheVariants.{Out}
 use Rattle.recall.specs.Recalls.{RecallSends, at_stage}
 use Rattle.mds_quiet.specs.Resting.{RestsFile, RestReads, RecallsRise, AreRecallsInOrder}
-use Rattle.mds_quiet.specs.QuietRuns.{FilesRest, RunsRest, RecallsRest, RunsRestRecalls}
+use Rattle.mds_quiet.specs.QuietRuns.{FilesRest, RunsRestFiles, RecallsRest, RunsRestRecalls}
 use Rattle.mds_quiet.proofs.OutWalk.{read_sent, OutCases, each_so, file_so}
 use Rattle.mds_quiet.proofs.FileOuts.{FileCases, At, out_cases}
 use Rattle.mds_quiet.proofs.ReadsOut.{NoFile, none_there, reads_go}
@@ -114,7 +114,7 @@ run_rests (e ∷ events) m es ss i p =
     let next : IsSo step.mds (es ++ step.entries) (ss ++ step.sends) = each_event IsSo HeardAny cases (λ n request now fs ts k. k) e (hears_any IsSo e.input) m es ss i in
     run_rests events step.mds (es ++ step.entries) (ss ++ step.sends) next (files_event e.now e.input m p (each_stands step.mds (es ++ step.entries) (ss ++ step.sends) next))
 
-pub runs_rest : (servers : List AddressValue) (mirrors : ℕ) (events : List MdsEvent) → RunsRest servers mirrors events
+pub runs_rest : (servers : List AddressValue) (mirrors : ℕ) (events : List MdsEvent) → RunsRestFiles servers mirrors events
 runs_rest servers mirrors events few there = run_rests events (new_mds servers mirrors) [] [] (begun servers mirrors few there) (λ some place s at. absurd (none-some s at))
 
 -- ---- recalls

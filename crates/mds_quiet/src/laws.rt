@@ -5,7 +5,7 @@ ghost use Rattle.device_addr.specs.Universal.{AddressValue};
 ghost use Rattle.mds_rule.specs.MdsStates.{MdsValue};
 ghost use Rattle.mds_laws.specs.MdsRuns.{MdsEvent};
 ghost use Rattle.mds_quiet.specs.OutLaw.{FilesGoOut, ReadsGoOut, RecallsGoOut};
-ghost use Rattle.mds_quiet.specs.QuietRuns.{RunsRest, RunsRestRecalls};
+ghost use Rattle.mds_quiet.specs.QuietRuns.{RunsRestFiles, RunsRestRecalls};
 
 /// What is left behind the calls that go out at the end of an event, whatever a metadata server has then, while numbers are
 /// left:
@@ -27,6 +27,6 @@ pub fn out_law()
 ///   metadata server's own, or a READ waits to be sent. So each has gone out in the event in which it came to wait;
 /// - no recall may go: each that waits stands behind one of the same client whose callback is out.
 pub fn quiet_law()
-    ensures files { (servers : List AddressValue) (mirrors : ℕ) (events : List MdsEvent) → RunsRest servers mirrors events }
+    ensures files { (servers : List AddressValue) (mirrors : ℕ) (events : List MdsEvent) → RunsRestFiles servers mirrors events }
     ensures recalls { (servers : List AddressValue) (mirrors : ℕ) (events : List MdsEvent) → RunsRestRecalls servers mirrors events }
 {}
