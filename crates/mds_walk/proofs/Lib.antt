@@ -1,0 +1,11 @@
+pub mod Lists
+pub mod Keeping
+pub mod Requested
+mod LateFound
+mod ServedWalk
+pub mod OpsWalk
+mod CompoundWalk
+mod AnswerWalk
+mod GoesWalk
+pub mod EventWalk
+pub mod TableKept

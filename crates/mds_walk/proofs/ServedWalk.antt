@@ -1,0 +1,161 @@
+-- Each part of an event that is about inputs of the table of phases, clients and sessions keeps what is kept in each case.
+use Rattle.std.proofs.Common.{◌≡◌, ℕ, Bool, true, false, List, [], ◌∷◌, ◌++◌, Option, Some, None, refl, inl}
+use Rattle.std.specs.Prelude.{is_some, nat_eq}
+use Rattle.std.specs.List.{find, list_any}
+use Rattle.std.proofs.lemmas.Bool.{cond_both}
+use Rattle.ff_xdr.specs.Form.{Value, long}
+use Rattle.ff_xdr.specs.Arms.{arm}
+use Rattle.cluster_model.specs.declared.ids.FileId.{FileId}
+use Rattle.cluster_model.specs.declared.ids.Cred.{Cred}
+use Rattle.cluster_model.specs.declared.phase.EndCause.{EndCause}
+use Rattle.cluster_model.specs.declared.phase.EndCause.TheVariants.{ClientGone}
+use Rattle.cluster_model.specs.declared.entry.Entry.{Entry}
+use Rattle.file_rule.specs.FilePhases.{FileInput, Recall as ToRecall, Revokes, phase}
+use Rattle.layout_state.specs.Grants.{holder_to_recall}
+use Rattle.nfs4_types.specs.declared.ids.SessionId.{SessionId}
+use Rattle.nfs4_types.specs.declared.status.Stat4.{Stat4}
+use Rattle.nfs4_types.specs.Channels.{channel_attrs4}
+use Rattle.nfs4_session_ops.specs.BindConn.{bind_conn4_args}
+use Rattle.nfs4_session_ops.specs.ExchangeId.{exchange_id4_args}
+use Rattle.nfs4_session_ops.specs.CreateSession.{create_session4_args}
+use Rattle.nfs4_session.specs.declared.begin.SlotPass.{SlotPass}
+use Rattle.nfs4_session.specs.declared.faults.Created.{Created}
+use Rattle.nfs4_session.specs.declared.faults.IdFault.{IdFault}
+use Rattle.nfs4_session.specs.declared.faults.SessionFault.{SessionFault}
+use Rattle.nfs4_session.specs.Clients.{SessionsState, has_id, client_in, session_of}
+use Rattle.nfs4_session.specs.ExchangeIds.{ExchangeCase, exchange_case, exchange_fault, after_exchange}
+use Rattle.nfs4_session.specs.CreateSessions.{CreateSessionCase, create_session_case, create_session_fault, created_answer, after_creating}
+use Rattle.nfs4_session.specs.Bindings.{after_binding}
+use Rattle.nfs4_session.specs.Ends.{without_session, without_client, destroy_client_fault}
+use Rattle.nfs4_session.specs.TableLaw.{ExchangeId, CreateSession, Bind, DestroySession, DestroyClient, exchanged_unless, destroyed_unless}
+use Rattle.recall.specs.Recalls.{is_under_way, new_recall, with_recall}
+use Rattle.mds_rule.specs.MdsStates.{CompoundRun, ServedFile, MdsSend, MdsValue, MdsStep, sends_none, served}
+use Rattle.mds_rule.specs.OpSteps.{OpStep, Goes, with_result, refuses, refused_or}
+use Rattle.mds_rule.specs.ServedFiles.{has_fresh, file_stepped, input_at, takes_input, with_new_recall, recall_by, recall_at, asks_back, held_from, one_by_one, ends_periods, forgotten, ends_client}
+use Rattle.mds_rule.specs.SessionOps.{with_exchange, runs_exchange, confirmed_by, confirms, gone_with, goes_with, with_session, with_create, runs_create, on_session, runs_bind, runs_destroy_session, runs_destroy_client, reclaims}
+use Rattle.mds_walk.specs.Parts.{Parts, is_own_input, Becomes, HeardOf, TakesInput, comes_by_itself}
+use Rattle.mds_walk.proofs.Keeping.{KeepsOp, Silent, no_entries, stays, silent_then, silent_none, silent_same, becomes_silent}
+
+module _ (I : MdsValue → List Entry → List MdsSend → Type 0) (Heard : HeardOf) (k : Parts I Heard) where
+  -- ---- one input
+
+  input_walk : (m : MdsValue) (file : FileId) (input : FileInput) → ((s : ServedFile) → TakesInput I m file s input) → (o : Option ServedFile) → served m file ≡ o → Silent I m (input_at m file input o)
+  input_walk m file input each None at = silent_same I m
+  input_walk m file input each (Some s) at =
+      cond_both (has_fresh m.fresh) (file_stepped m file s (phase file s.file input m.fresh)) (sends_none m) (λ (x : MdsStep). Silent I m x)
+      (λ fresh. record { enters = each s at fresh; none = refl }) (λ off. silent_same I m)
+
+  -- from wherever it comes
+  pub takes_by : (m : MdsValue) (file : FileId) (input : FileInput) → ((s : ServedFile) → TakesInput I m file s input) → Silent I m (takes_input m file input)
+  takes_by m file input each = input_walk m file input each (served m file) refl
+
+  pub takes : (m : MdsValue) (file : FileId) (input : FileInput) → comes_by_itself input ≡ true → is_own_input input ≡ false → Silent I m (takes_input m file input)
+  takes m file input itself other = takes_by m file input (λ s. k.inputs m file s input itself other)
+
+  -- ---- recalls
+
+  recall_noted : (m : MdsValue) (file : FileId) (cred : Cred) (client : Option ℕ) (now : ℕ) → Becomes I m (with_new_recall m file cred client now)
+  recall_noted m file cred None now = λ es ss i. i
+  recall_noted m file cred (Some client) now =
+      cond_both (is_under_way file cred m.recalls) m (record m { recalls = with_recall (new_recall file cred client now) m.recalls }) (λ (n : MdsValue). Becomes I m n)
+      (λ is. λ es ss i. i) (λ off. k.asks_recall m file cred client now off)
+
+  back_by : (m : MdsValue) (file : FileId) (s : ServedFile) (now : ℕ) (held : Bool) → Silent I m (recall_by m file s now held)
+  back_by m file s now false = silent_same I m
+  back_by m file s now true =
+      silent_then I m (takes_input m file ToRecall) (λ n. sends_none (with_new_recall n file s.file.layout.cred s.holder now)) (takes m file ToRecall refl refl)
+      (λ n. silent_none I n (with_new_recall n file s.file.layout.cred s.holder now) (recall_noted n file s.file.layout.cred s.holder now))
+
+  back_at : (m : MdsValue) (file : FileId) (now : ℕ) (o : Option ServedFile) → Silent I m (recall_at m file now o)
+  back_at m file now None = silent_same I m
+  back_at m file now (Some s) = back_by m file s now (is_some (holder_to_recall s.file.layout.phase))
+
+  pub asks : (m : MdsValue) (file : FileId) (now : ℕ) → Silent I m (asks_back m file now)
+  asks m file now = back_at m file now (served m file)
+
+  -- ---- the periods of a client
+
+  turns : (step : MdsValue → FileId → MdsStep) → ((m : MdsValue) (file : FileId) → Silent I m (step m file)) → (files : List FileId) (m : MdsValue) → Silent I m (one_by_one step files m)
+  turns step one [] m = silent_same I m
+  turns step one (file ∷ files) m = silent_then I m (step m file) (λ n. one_by_one step files n) (one m file) (λ n. turns step one files n)
+
+  pub periods : (m : MdsValue) (client : ℕ) (end : EndCause) → Silent I m (ends_periods m client end)
+  periods m client end = turns (λ n file. takes_input n file (Revokes end)) (λ n file. takes n file (Revokes end) refl refl) (held_from client 1 m.files) m
+
+  forgets_client : (client : ℕ) (m : MdsValue) → Becomes I m (forgotten client m)
+  forgets_client client m = k.clients m (forgotten client m).confirmed (forgotten client m).opens (forgotten client m).reclaimed
+
+  pub client_ends : (m : MdsValue) (client : ℕ) (end : EndCause) → Silent I m (ends_client m client end)
+  client_ends m client end = silent_then I m (ends_periods m client end) (λ n. sends_none (forgotten client n)) (periods m client end) (λ n. silent_none I n (forgotten client n) (forgets_client client n))
+
+  -- ---- operations
+
+  -- where it is not refused
+  pub unless_refused : (m : MdsValue) (c : CompoundRun) (number : ℕ) (status : Option Stat4) (step : OpStep) → (status ≡ None → KeepsOp I m step) → KeepsOp I m (refused_or m c number status step)
+  unless_refused m c number None step q = q refl
+  unless_refused m c number (Some status) step q = stays I m
+
+  pub refused : (m : MdsValue) (c : CompoundRun) (number : ℕ) (status : Option Stat4) (step : OpStep) → KeepsOp I m step → KeepsOp I m (refused_or m c number status step)
+  refused m c number None step q = q
+  refused m c number (Some status) step q = stays I m
+
+  exchange_walk : (m : MdsValue) (c : CompoundRun) (verifier owner : List ℕ) (now : ℕ) (case : ExchangeCase) (fault : Option IdFault)
+      → Becomes I m (record m { sessions = exchanged_unless m.sessions (after_exchange m.sessions verifier owner now case) fault }) → KeepsOp I m (with_exchange m c verifier owner now case fault)
+  exchange_walk m c verifier owner now case None b = no_entries I m (record m { sessions = after_exchange m.sessions verifier owner now case }) b
+  exchange_walk m c verifier owner now case (Some fault) b = stays I m
+
+  pub exchanges : (m : MdsValue) (c : CompoundRun) (now : ℕ) (args : Value exchange_id4_args) → KeepsOp I m (runs_exchange m c now args)
+  exchanges m c now (verifier, (owner, (flags, rest))) =
+      exchange_walk m c (long verifier) owner now (exchange_case m.sessions.clients (long verifier) owner) (exchange_fault m.sessions (exchange_case m.sessions.clients (long verifier) owner))
+      (k.tables m (ExchangeId (long verifier) owner now) tt)
+
+  gone : (client : Option ℕ) (m : MdsValue) → Silent I m (gone_with client m)
+  gone None m = silent_same I m
+  gone (Some client) m = client_ends m client ClientGone
+
+  session_walk : (m : MdsValue) (c : CompoundRun) (client sequence : ℕ) (fore back : Value channel_attrs4) (sessions : SessionsState) (o : Option Created) → Becomes I m (record m { sessions = sessions })
+      → KeepsOp I m (with_session m c client sequence fore back sessions o)
+  session_walk m c client sequence fore back sessions None b = stays I m
+  session_walk m c client sequence fore back sessions (Some created) b =
+      let x : MdsValue = record m { sessions = sessions } in
+      let n : MdsValue = confirms client c.node x in
+      becomes_silent I m n (gone_with created.gone n) (λ es ss i. k.clients x (confirmed_by client c.node m.confirmed) m.opens m.reclaimed es ss (b es ss i)) (gone created.gone n)
+
+  create_walk : (m : MdsValue) (c : CompoundRun) (client sequence : ℕ) (fore back : Value channel_attrs4) (program now : ℕ) (case : CreateSessionCase) (fault : Option SessionFault)
+      → Becomes I m (record m { sessions = after_creating m.sessions program c.node now case }) → KeepsOp I m (with_create m c client sequence fore back program now case fault)
+  create_walk m c client sequence fore back program now case (Some fault) b = stays I m
+  create_walk m c client sequence fore back program now case None b = session_walk m c client sequence fore back (after_creating m.sessions program c.node now case) (created_answer m.sessions client case) b
+
+  pub creates : (m : MdsValue) (c : CompoundRun) (now : ℕ) (args : Value create_session4_args) → KeepsOp I m (runs_create m c now args)
+  creates m c now (client, (sequence, (flags, (fore, (back, (program, security)))))) =
+      create_walk m c client sequence fore back program now (create_session_case m.sessions client sequence) (create_session_fault (create_session_case m.sessions client sequence))
+      (k.tables m (CreateSession client sequence program c.node now) tt)
+
+  at_session : (m : MdsValue) (c : CompoundRun) (number : ℕ) (session : SessionId) (step : OpStep) → KeepsOp I m step → KeepsOp I m (on_session m c number session step)
+  at_session m c number session step q =
+      cond_both (is_some (session_of m.sessions.clients session)) step (refuses m c number Rattle.nfs4_types.specs.declared.status.Stat4.TheVariants.BadSession) (λ (x : OpStep). KeepsOp I m x) (λ is. q) (λ off. stays I m)
+
+  pub binds : (m : MdsValue) (c : CompoundRun) (args : Value bind_conn4_args) → KeepsOp I m (runs_bind m c args)
+  binds m c (session, (direction, rdma)) =
+      at_session m c 41 (record { 0 = session }) _ (no_entries I m (record m { sessions = after_binding m.sessions (record { 0 = session }) c.node }) (k.tables m (Bind (record { 0 = session }) c.node) tt))
+
+  pub destroys_session : (m : MdsValue) (c : CompoundRun) (session : List ℕ) → KeepsOp I m (runs_destroy_session m c session)
+  destroys_session m c session =
+      at_session m c 44 (record { 0 = session }) _ (no_entries I m (record m { sessions = without_session m.sessions (record { 0 = session }) }) (k.tables m (DestroySession (record { 0 = session })) tt))
+
+  destroy_walk : (m : MdsValue) (c : CompoundRun) (client : ℕ) (fault : Option Stat4) → Becomes I m (record m { sessions = destroyed_unless m.sessions (without_client m.sessions client) fault })
+      → KeepsOp I m (refused_or m c 57 fault (goes_with (ends_client (record m { sessions = without_client m.sessions client }) client ClientGone) (with_result c (arm 57 Rattle.nfs4_compound.specs.Results.resop4 (inl tt)))))
+  destroy_walk m c client None b =
+      becomes_silent I m (record m { sessions = without_client m.sessions client }) (ends_client (record m { sessions = without_client m.sessions client }) client ClientGone) b
+      (client_ends (record m { sessions = without_client m.sessions client }) client ClientGone)
+  destroy_walk m c client (Some status) b = stays I m
+
+  pub destroys_client : (m : MdsValue) (c : CompoundRun) (client : ℕ) → KeepsOp I m (runs_destroy_client m c client)
+  destroys_client m c client = destroy_walk m c client (destroy_client_fault (find (has_id client) m.sessions.clients)) (k.tables m (DestroyClient client) tt)
+
+  pub reclaims_all : (m : MdsValue) (c : CompoundRun) (slot : Option SlotPass) → KeepsOp I m (reclaims m c slot)
+  reclaims_all m c None = stays I m
+  reclaims_all m c (Some slot) =
+      cond_both (list_any (nat_eq (client_in slot.session)) m.reclaimed) (refuses m c 58 Rattle.nfs4_types.specs.declared.status.Stat4.TheVariants.CompleteAlready)
+      (Goes (record m { reclaimed = m.reclaimed ++ client_in slot.session ∷ [] }) [] (with_result c (arm 58 Rattle.nfs4_compound.specs.Results.resop4 (inl tt)))) (λ (x : OpStep). KeepsOp I m x)
+      (λ is. stays I m) (λ off. no_entries I m (record m { reclaimed = m.reclaimed ++ client_in slot.session ∷ [] }) (k.clients m m.confirmed m.opens (m.reclaimed ++ client_in slot.session ∷ [])))

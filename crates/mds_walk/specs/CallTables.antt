@@ -1,0 +1,28 @@
+-- The table of the calls that were sent and are not answered, in every run.
+use Rattle.std.specs.Prelude.{◌≡◌, ◌<◌, true, List}
+use Rattle.cluster_model.specs.Members.{IsOneOf}
+use Rattle.mds_rule.specs.MdsStates.{MdsSend, AwaitedCall, MdsValue, MdsStep}
+use Rattle.mds_rule.specs.Goes.{has_xids}
+use Rattle.mds_walk.specs.Parts.{IsCallFor}
+
+-- each of them went out
+abbrev pub WereSent : MdsValue → List MdsSend → Type 0
+WereSent m sends = (call : AwaitedCall) → IsOneOf call m.calls → IsOneOf call.sent sends
+
+-- a call to a data server is waited for by a file, a READ or an own write, a callback by a recall
+abbrev pub AreFor : MdsValue → Type 0
+AreFor m = (call : AwaitedCall) → IsOneOf call m.calls → IsCallFor call.sent call.caller
+
+-- no two have the same number
+abbrev pub AreApart : MdsValue → Type 0
+AreApart m = (a b : AwaitedCall) → IsOneOf a m.calls → IsOneOf b m.calls → a.xid ≡ b.xid → a ≡ b
+
+-- while numbers are left, each has one below the next
+abbrev pub AreBelow : MdsValue → Type 0
+AreBelow m = has_xids m ≡ true → (call : AwaitedCall) → IsOneOf call m.calls → call.xid < m.next_xid
+
+pub record TableStands (s : MdsStep) : Type 0 where
+  pub sent : WereSent s.mds s.sends
+  pub waiters : AreFor s.mds
+  pub apart : AreApart s.mds
+  pub below : AreBelow s.mds
