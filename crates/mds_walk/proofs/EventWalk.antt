@@ -53,16 +53,16 @@ record IsReplyRecord (bytes : List ℕ) : Type 0 where
   reply : RpcReply
   is : bytes ≡ reply_bytes reply
 
-not_so : (b : Bool) → not b ≡ true → b ≡ false
+pub not_so : (b : Bool) → not b ≡ true → b ≡ false
 not_so true is = absurd cc
 not_so false is = refl
 
-itself : (node : NodeId) → is_node node node ≡ true
+pub itself : (node : NodeId) → is_node node node ≡ true
 itself Mds = refl
 itself (Server n) = eq-eqb n n refl
 itself (Client n) = eq-eqb n n refl
 
-is_its : (call : AwaitedCall) → is_call_to call.node call.xid call ≡ true
+pub is_its : (call : AwaitedCall) → is_call_to call.node call.xid call ≡ true
 is_its call = ap (λ (b : Bool). b && (call.xid == call.xid)) (itself call.node) ∙ eq-eqb call.xid call.xid refl
 
 -- ---- the taking of an event leaves the calls that were sent as they are

@@ -1,0 +1,4 @@
+pub mod Spots
+pub mod Stands
+pub mod OwnSpots
+pub mod OwnSteps
