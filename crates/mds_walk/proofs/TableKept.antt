@@ -143,7 +143,7 @@ table_calls = record {
 pub table_begins : KeepsBegin Table
 table_begins m request now es ss t = t
 
-new_table : IsTable [] 1 []
+pub new_table : IsTable [] 1 []
 new_table = record { sent = λ call inside. absurd inside; waiters = λ call inside. absurd inside; apart = λ a b one other same. absurd one; below = λ some call inside. absurd inside }
 
 pub tables_stand : (servers : List AddressValue) (mirrors : ℕ) (events : List MdsEvent) → TableStands (mds_run servers mirrors events)

@@ -2,3 +2,8 @@ pub mod Spots
 pub mod Stands
 pub mod OwnSpots
 pub mod OwnSteps
+pub mod OwnOuts
+pub mod ReadSpots
+pub mod WriteSpots
+pub mod FilesKept
+pub mod StandingKept

@@ -291,7 +291,7 @@ pub record Taken (n : ℕ) (xs ys : List Spot) : Type 0 where
   pub left : IsLeft ys xs
   pub gone : Once xs → has_number n ys ≡ false
 
-taken_then : (n : ℕ) (xs ys zs : List Spot) → Taken n xs ys → IsLeft zs ys → Taken n xs zs
+pub taken_then : (n : ℕ) (xs ys zs : List Spot) → Taken n xs ys → IsLeft zs ys → Taken n xs zs
 taken_then n xs ys zs t l = record { left = left_then zs ys xs l t.left; gone = λ once. l.number n (t.gone once) }
 
 -- what is left is the file's
@@ -305,10 +305,10 @@ ends_taken n xs ys f t e = record { taken = taken_then n xs ys (own_spots f) t e
 none_taken : (n : ℕ) (xs : List Spot) (f : MdsFile) → HasNone f → IsTaken n xs f
 none_taken n xs f h = record { taken = record { left = none_left (own_spots f) xs h.none; gone = λ once. none_number n (own_spots f) h.none }; kind = h.kind }
 
-never_out : (n : ℕ) (xs : List Spot) → has_number n xs ≡ false → Taken n xs xs
+pub never_out : (n : ℕ) (xs : List Spot) → has_number n xs ≡ false → Taken n xs xs
 never_out n xs off = record { left = left_same xs; gone = λ once. off }
 
-item_gone : {A : Type 0} (f : A → Spot) (n : ℕ) (xs : List A) (i : ℕ) (x y : A) → slice_get xs i ≡ Some x → is_number n (f x).1 ≡ true → (f y).1 ≡ None → Taken n (map f xs) (map f (slice_set xs i y))
+pub item_gone : {A : Type 0} (f : A → Spot) (n : ℕ) (xs : List A) (i : ℕ) (x y : A) → slice_get xs i ≡ Some x → is_number n (f x).1 ≡ true → (f y).1 ≡ None → Taken n (map f xs) (map f (slice_set xs i y))
 item_gone f n xs i x y at is none = record { left = thin_left (map f (slice_set xs i y)) (map f xs) (item_left f xs i x y at (inl none)); gone = item_taken f n xs i x y at is none }
 
 -- CREATEs
@@ -341,7 +341,7 @@ mirror_none cred m (Committed shown verifier) = refl
 mirror_none cred m (Bytes shown eof bytes) = refl
 
 -- what passes the rule's test has the number
-out_is : (n : ℕ) (stage : CallStage) → is_out n stage ≡ true → is_number n (number_of stage) ≡ true
+pub out_is : (n : ℕ) (stage : CallStage) → is_out n stage ≡ true → is_number n (number_of stage) ≡ true
 out_is n stage is = sym (out_number n stage) ∙ is
 
 fence_answered_at : (g : FenceState) (xid : ℕ) (reply : DsReplyValue) (place : ℕ) → position (λ (m : FenceMirror). is_out xid m.stage) g.mirrors ≡ Some place → (o : Option FenceMirror) → slice_get g.mirrors place ≡ o

@@ -219,6 +219,11 @@ set_taken n (y ∷ ys) (suc i) x q at is none once =
 pub first_passes : {X : Type 0} (test : X → Bool) (xs : List X) (i : ℕ) (y : X) → position test xs ≡ Some i → slice_get xs i ≡ Some y → test y ≡ true
 first_passes test xs i y is at = ap test (sym (get_or_from_slice_get xs i y y at)) ∙ (position-Some test xs i y is).1
 
+pub got_at : (server n : ℕ) (xs : List Spot) (i : ℕ) (x : Spot) → slice_get xs i ≡ Some x → is_at server n x ≡ true → has_at server n xs ≡ true
+got_at server n [] i x at is = absurd (none-some x at)
+got_at server n (y ∷ ys) zero x at is = or_first (is_at server n y) (has_at server n ys) (subst (λ (z : Spot). is_at server n z ≡ true) (sym (same_Some y x at)) is)
+got_at server n (y ∷ ys) (suc i) x at is = or_second (is_at server n y) (has_at server n ys) (got_at server n ys i x at is)
+
 -- ---- one of them goes
 
 pub remove_at : (server n : ℕ) (xs : List Spot) (i : ℕ) (q : Spot) → has_at server n (remove xs i) ≡ true → has_at server n (slice_set xs i q) ≡ true
