@@ -7,3 +7,5 @@ pub mod ReadSpots
 pub mod WriteSpots
 pub mod FilesKept
 pub mod StandingKept
+pub mod RecallSpots
+pub mod RecallsKept

@@ -1,9 +1,9 @@
 -- Places to which calls go: the server of each, and the number of the call that is out to it, where one is. What a step leaves of a list of
 -- them.
 use Rattle.std.proofs.Common.{◌≡◌, ◌≢◌, ℕ, zero, suc, Bool, true, false, List, [], ◌∷◌, ◌++◌, Option, Some, None, refl, sym, ap, subst, ◌∙◌, ◌⊎◌, inl, inr}
-use Rattle.std.specs.Prelude.{◌==◌, ◌&&◌, ◌||◌, map, position, remove, slice_get, slice_set}
+use Rattle.std.specs.Prelude.{◌==◌, ◌&&◌, ◌||◌, filter, map, position, remove, slice_get, slice_set}
 use Rattle.std.specs.List.{list_any}
-use Rattle.std.proofs.lemmas.Bool.{and_parts, eqb-true, eq-eqb, ne_eqb}
+use Rattle.std.proofs.lemmas.Bool.{cond_both, and_parts, eqb-true, eq-eqb, ne_eqb}
 use Rattle.std.proofs.lemmas.List.Quantifiers.{position-Some}
 use Rattle.std.proofs.lemmas.Option.{none-some, same_Some, get_or_from_slice_get}
 
@@ -202,7 +202,7 @@ set_thin [] i x q at less = tt
 set_thin (y ∷ ys) zero x q at less = (subst (λ (z : Spot). Less z q) (sym (same_Some y x at)) less, thin_same ys)
 set_thin (y ∷ ys) (suc i) x q at less = (inr refl, set_thin ys i x q at less)
 
-got_number : (n : ℕ) (xs : List Spot) (i : ℕ) (x : Spot) → slice_get xs i ≡ Some x → is_number n x.1 ≡ true → has_number n xs ≡ true
+pub got_number : (n : ℕ) (xs : List Spot) (i : ℕ) (x : Spot) → slice_get xs i ≡ Some x → is_number n x.1 ≡ true → has_number n xs ≡ true
 got_number n [] i x at is = absurd (none-some x at)
 got_number n (y ∷ ys) zero x at is = or_first (is_number n y.1) (has_number n ys) (subst (λ (z : Spot). is_number n z.1 ≡ true) (sym (same_Some y x at)) is)
 got_number n (y ∷ ys) (suc i) x at is = or_second (is_number n y.1) (has_number n ys) (got_number n ys i x at is)
@@ -259,6 +259,56 @@ map_remove f [] (suc i) = refl
 map_remove f (y ∷ ys) zero = refl
 map_remove f (y ∷ ys) (suc i) = ap (λ l. f y ∷ l) (map_remove f ys i)
 
+-- ---- one more, fewer, and one in front of both
+
+pub left_none : (ys xs : List Spot) (y : Spot) → y.1 ≡ None → IsLeft ys xs → IsLeft (y ∷ ys) xs
+left_none ys xs y none l = record {
+  at = λ server n is. by_case server n (or_split (is_at server n y) (has_at server n ys) is);
+  number = λ n off. or_false (is_number n y.1) (has_number n ys) (no_number n y.1 none) (l.number n off);
+  once = λ o. (λ n is. absurd (not_both (sym is ∙ no_number n y.1 none)), l.once o);
+}
+  where
+    by_case : (server n : ℕ) → (is_at server n y ≡ true) ⊎ (has_at server n ys ≡ true) → has_at server n xs ≡ true
+    by_case server n (inl here) = absurd (none_at server n y none here)
+    by_case server n (inr there) = l.at server n there
+
+pub left_drop : (ys xs : List Spot) (x : Spot) → IsLeft ys xs → IsLeft ys (x ∷ xs)
+left_drop ys xs x l = record {
+  at = λ server n is. or_second (is_at server n x) (has_at server n xs) (l.at server n is);
+  number = λ n off. l.number n (or_none (is_number n x.1) (has_number n xs) off).1;
+  once = λ o. l.once o.1;
+}
+
+pub left_keep : (ys xs : List Spot) (x : Spot) → IsLeft ys xs → IsLeft (x ∷ ys) (x ∷ xs)
+left_keep ys xs x l = record {
+  at = λ server n is. by_case server n (or_split (is_at server n x) (has_at server n ys) is);
+  number = λ n off. let both = or_none (is_number n x.1) (has_number n xs) off in or_false (is_number n x.1) (has_number n ys) both.0 (l.number n both.1);
+  once = λ o. (λ n is. l.number n (o.0 n is), l.once o.1);
+}
+  where
+    by_case : (server n : ℕ) → (is_at server n x ≡ true) ⊎ (has_at server n ys ≡ true) → has_at server n (x ∷ xs) ≡ true
+    by_case server n (inl here) = or_first (is_at server n x) (has_at server n xs) here
+    by_case server n (inr there) = or_second (is_at server n x) (has_at server n xs) (l.at server n there)
+
+pub filter_left : {A : Type 0} (f : A → Spot) (test : A → Bool) (xs : List A) → IsLeft (map f (filter test xs)) (map f xs)
+filter_left f test [] = left_same []
+filter_left {A = A} f test (x ∷ xs) =
+    cond_both (test x) (x ∷ filter test xs) (filter test xs) (λ (l : List A). IsLeft (map f l) (f x ∷ map f xs)) (λ is. left_keep (map f (filter test xs)) (map f xs) (f x) (filter_left f test xs))
+    (λ off. left_drop (map f (filter test xs)) (map f xs) (f x) (filter_left f test xs))
+
+-- the one to which a number is out is filtered out
+pub filter_gone : {A : Type 0} (f : A → Spot) (test : A → Bool) (n : ℕ) (xs : List A) (i : ℕ) (x : A) → slice_get xs i ≡ Some x → is_number n (f x).1 ≡ true → test x ≡ false → Once (map f xs) → has_number n (map f (filter test xs)) ≡ false
+filter_gone f test n [] i x at is off once = refl
+filter_gone {A = A} f test n (y ∷ ys) zero x at is off once =
+    let same : y ≡ x = same_Some y x at in
+    let fails : test y ≡ false = ap test same ∙ off in
+    let rest : has_number n (map f (filter test ys)) ≡ false = (filter_left f test ys).number n (once.0 n (subst (λ (z : A). is_number n (f z).1 ≡ true) (sym same) is)) in
+    cond_both (test y) (y ∷ filter test ys) (filter test ys) (λ (l : List A). has_number n (map f l) ≡ false) (λ passes. absurd (not_both (sym passes ∙ fails))) (λ its. rest)
+filter_gone {A = A} f test n (y ∷ ys) (suc i) x at is off once =
+    let rest : has_number n (map f (filter test ys)) ≡ false = filter_gone f test n ys i x at is off once.1 in
+    let other : is_number n (f y).1 ≡ false = is_off (is_number n (f y).1) (λ its. not_both (sym (got_number n (map f ys) i (f x) (map_get f ys i x at) is) ∙ once.0 n its)) in
+    cond_both (test y) (y ∷ filter test ys) (filter test ys) (λ (l : List A). has_number n (map f l) ≡ false) (λ passes. or_false (is_number n (f y).1) (has_number n (map f (filter test ys))) other rest) (λ its. rest)
+
 -- ---- a call goes out to one of them
 
 pub out_at : (server n : ℕ) (xs : List Spot) (i : ℕ) (q : Spot) → has_at server n (slice_set xs i q) ≡ true → (is_at server n q ≡ true) ⊎ (has_at server n xs ≡ true)
@@ -277,6 +327,24 @@ out_at server n (y ∷ ys) (suc i) q is = by_case (or_split (is_at server n y) (
     by_case : (is_at server n y ≡ true) ⊎ (has_at server n (slice_set ys i q) ≡ true) → (has_at server n (slice_set ys i q) ≡ true → (is_at server n q ≡ true) ⊎ (has_at server n ys ≡ true))
         → (is_at server n q ≡ true) ⊎ (has_at server n (y ∷ ys) ≡ true)
     by_case (inl here) rest = inr (or_first (is_at server n y) (has_at server n ys) here)
+    by_case (inr there) rest = further (rest there)
+
+pub number_set : (n : ℕ) (xs : List Spot) (i : ℕ) (q : Spot) → has_number n (slice_set xs i q) ≡ true → (is_number n q.1 ≡ true) ⊎ (has_number n xs ≡ true)
+number_set n [] i q is = inr is
+number_set n (y ∷ ys) zero q is = by_case (or_split (is_number n q.1) (has_number n ys) is)
+  where
+    by_case : (is_number n q.1 ≡ true) ⊎ (has_number n ys ≡ true) → (is_number n q.1 ≡ true) ⊎ (has_number n (y ∷ ys) ≡ true)
+    by_case (inl here) = inl here
+    by_case (inr there) = inr (or_second (is_number n y.1) (has_number n ys) there)
+number_set n (y ∷ ys) (suc i) q is = by_case (or_split (is_number n y.1) (has_number n (slice_set ys i q)) is) (number_set n ys i q)
+  where
+    further : (is_number n q.1 ≡ true) ⊎ (has_number n ys ≡ true) → (is_number n q.1 ≡ true) ⊎ (has_number n (y ∷ ys) ≡ true)
+    further (inl new) = inl new
+    further (inr old) = inr (or_second (is_number n y.1) (has_number n ys) old)
+
+    by_case : (is_number n y.1 ≡ true) ⊎ (has_number n (slice_set ys i q) ≡ true) → (has_number n (slice_set ys i q) ≡ true → (is_number n q.1 ≡ true) ⊎ (has_number n ys ≡ true))
+        → (is_number n q.1 ≡ true) ⊎ (has_number n (y ∷ ys) ≡ true)
+    by_case (inl here) rest = inr (or_first (is_number n y.1) (has_number n ys) here)
     by_case (inr there) rest = further (rest there)
 
 out_number : (n : ℕ) (xs : List Spot) (i : ℕ) (q : Spot) → has_number n xs ≡ false → is_number n q.1 ≡ false → has_number n (slice_set xs i q) ≡ false
