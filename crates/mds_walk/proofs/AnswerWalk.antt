@@ -1,7 +1,7 @@
 -- What comes of an answer keeps what is kept in each case: the call leaves the table of those that were sent together with what its answer
 -- does.
 use Rattle.std.proofs.Common.{◌≡◌, ℕ, true, false, List, ◌++◌, Option, Some, None, refl, sym, ap, subst, ◌∙◌}
-use Rattle.std.specs.Prelude.{◌-◌, ◌==◌, position, slice_get}
+use Rattle.std.specs.Prelude.{◌-◌, ◌==◌, position, slice_get, is_some}
 use Rattle.std.specs.List.{find, list_any}
 use Rattle.std.proofs.lemmas.Bool.{cond_both, and_parts, eqb-true}
 use Rattle.std.proofs.lemmas.List.{append-nil}
@@ -19,15 +19,15 @@ use Rattle.mds_io.specs.Reads as read
 use Rattle.mds_io.specs.OwnWrites.{after_own_reply}
 use Rattle.recall.specs.Recalls as recalls
 use Rattle.mds_rule.specs.MdsStates as mds
-use Rattle.mds_rule.specs.MdsStates.{WaitingRead, ServedFile, MdsSend, CallsServer, CallsBack, Replies, AwaitedCall, MdsValue, MdsStep, sends_none, and_then, served, with_served, is_call_to, without_call}
+use Rattle.mds_rule.specs.MdsStates.{WaitingRead, WaitingWrite, ServedFile, MdsSend, CallsServer, CallsBack, Replies, AwaitedCall, MdsValue, MdsStep, sends_none, and_then, served, with_served, is_call_to, without_call}
 use Rattle.mds_rule.specs.declared.waiter.Waiter.{Waiter}
 use Rattle.mds_rule.specs.declared.waiter.Waiter.TheVariants.{ForFile, ForRead, ForWrite, ForRecall}
 use Rattle.mds_rule.specs.ServedFiles.{has_fresh, file_stepped, input_at, takes_input}
-use Rattle.mds_rule.specs.Answers.{server_number, is_read_out, is_file_out, has_read_out, has_write_out, is_awaited_by, is_awaited, sized, fileid_of, attributes_shown, sees_in, read_step_at, read_from, read_of, steps_read, write_in, steps_write, sees_ctime, recall_end, own_answer, server_answered, answered_as, answers_found, takes_answer}
+use Rattle.mds_rule.specs.Answers.{server_number, is_read_out, is_file_out, has_read_out, has_write_out, is_awaited_by, is_awaited, sized, fileid_of, attributes_shown, sees_in, read_step_at, read_from, read_of, steps_read, write_in, steps_write, sees_ctime, recall_end, own_answer, server_answered, answered_as, answers_found, takes_answer, is_writer_out, recalls_after}
 use Rattle.mds_walk.specs.Parts.{Becomes, Keeps, HeardOf, Hearing, IsReadAt, IsCallFor, IsOfServers, IsOfClients, IsHeard, heard_by, Parts, Calls}
 use Rattle.mds_walk.proofs.Keeping.{none_keeps, same, becomes_keeps}
 use Rattle.mds_walk.proofs.Lists.{found_in, found_passes, put_back, none_there, first_there}
-use Rattle.mds_walk.proofs.OpsWalk.{place_served, served_again}
+use Rattle.mds_walk.proofs.OpsWalk.{place_served, served_again, stepped_there}
 use Rattle.mds_walk.proofs.CompoundWalk.{read_walk, write_in_walk, recalls_walk}
 
 not_both : true ≡ false → ⊥
@@ -50,6 +50,11 @@ module _ (I : MdsValue → List Entry → List MdsSend → Type 0) (Heard : Hear
   sized_reads s server (Some fileid) (Some shown) = refl
   sized_reads s server None shown = refl
   sized_reads s server (Some fileid) None = refl
+
+  sized_write : (s : ServedFile) (server : ℕ) (fileid : Option ℕ) (shown : Option Shown) → (sized s server fileid shown).write ≡ s.write
+  sized_write s server (Some fileid) (Some shown) = refl
+  sized_write s server None shown = refl
+  sized_write s server (Some fileid) None = refl
 
   -- ---- of one call
 
@@ -119,18 +124,17 @@ module _ (I : MdsValue → List Entry → List MdsSend → Type 0) (Heard : Hear
 
       -- ---- of an own write
 
-      write_walk : (m : MdsValue) (file : FileId) → call.caller ≡ ForWrite file → Found m → Keeps I m (steps_write now (heard_by node xid m) file (λ w. after_own_reply w xid (replies d)))
-      write_walk m file is f =
-          write_in_walk I Heard k now m (heard_by node xid m) file (λ w. after_own_reply w xid (replies d))
-          (λ s w there waits. c.hears_write m node xid file s w call d replies heard (as_heard m (ForWrite file) is f) there waits)
-          (λ none. c.leaves m node xid call f.inside its (ap (is_awaited_by m call.node call.xid) is ∙ none call.xid)) (served m file) refl
+      write_walk : (m : MdsValue) (file : FileId) → call.caller ≡ ForWrite file → Found m → has_write_out xid (served m file) ≡ true → Keeps I m (steps_write now (heard_by node xid m) file (λ w. after_own_reply w xid (replies d)))
+      write_walk m file is f out =
+          write_in_walk I Heard k now m (heard_by node xid m) file xid (λ w. after_own_reply w xid (replies d))
+          (λ s w there waits its. c.hears_write m node xid file s w call d replies heard (as_heard m (ForWrite file) is f) there waits its) (served m file) refl out
 
       -- behind what the answer shows of the mirror's ctime
-      ctime_walk : (m : MdsValue) (file : FileId) → call.caller ≡ ForWrite file → Found m → (t : ServedFile) → served m file ≡ Some t → (fileid : Option ℕ) (shown : Option Shown) → fileid_of d (replies d) ≡ fileid → attributes_shown (replies d) ≡ shown
+      ctime_walk : (m : MdsValue) (file : FileId) → call.caller ≡ ForWrite file → Found m → (t : ServedFile) → served m file ≡ Some t → is_writer_out xid t.write ≡ true → (fileid : Option ℕ) (shown : Option Shown) → fileid_of d (replies d) ≡ fileid → attributes_shown (replies d) ≡ shown
           → Keeps I m (and_then (sees_ctime (heard_by node xid m) file server fileid shown) (λ x. steps_write now x file (λ w. after_own_reply w xid (replies d))))
-      ctime_walk m file is f t there None shown named shows = write_walk m file is f
-      ctime_walk m file is f t there (Some fileid) None named shows = write_walk m file is f
-      ctime_walk m file is f t there (Some fileid) (Some shown) named shows =
+      ctime_walk m file is f t there out None shown named shows = write_walk m file is f (ap (has_write_out xid) there ∙ out)
+      ctime_walk m file is f t there out (Some fileid) None named shows = write_walk m file is f (ap (has_write_out xid) there ∙ out)
+      ctime_walk m file is f t there out (Some fileid) (Some shown) named shows =
           let input : FileInput = Sees (record { server = server; fileid = fileid }) shown.seen in
           let n : MdsValue = heard_by node xid m in
           let next : MdsValue → MdsStep = λ x. steps_write now x file (λ w. after_own_reply w xid (replies d)) in
@@ -138,9 +142,9 @@ module _ (I : MdsValue → List Entry → List MdsSend → Type 0) (Heard : Hear
           subst (λ (o : Option ServedFile). Keeps I m (and_then (input_at n file input o) next)) (sym there)
           (cond_both (has_fresh m.fresh) (file_stepped n file t (phase file t.file input m.fresh)) (sends_none n) (λ (y : MdsStep). Keeps I m (and_then y next))
           (λ fresh. λ es ss i.
-          write_walk x file is (record { found = f.found; inside = f.inside }) es ss
+          write_walk x file is (record { found = f.found; inside = f.inside }) (ap (has_write_out xid) (stepped_there m file t (phase file t.file input m.fresh) there) ∙ out) es ss
           (subst (λ (l : List Entry). I x l ss) (append-nil es) (k.learns m file t call server own uid d replies fileid shown heard is sent named shows there fresh es ss i)))
-          (λ spent. write_walk m file is f))
+          (λ spent. write_walk m file is f (ap (has_write_out xid) there ∙ out)))
 
       write_by : (m : MdsValue) (file : FileId) → call.caller ≡ ForWrite file → Found m → (o : Option ServedFile) → served m file ≡ o → has_write_out call.xid o ≡ true
           → Keeps I m (and_then (sees_ctime (sees_in (heard_by node xid m) file server d (replies d) o) file server (fileid_of d (replies d)) (attributes_shown (replies d))) (λ x. steps_write now x file (λ w. after_own_reply w xid (replies d))))
@@ -151,7 +155,8 @@ module _ (I : MdsValue → List Entry → List MdsSend → Type 0) (Heard : Hear
           let n : MdsValue = with_served m file t in
           becomes_keeps I m n (and_then (sees_ctime (heard_by node xid n) file server (fileid_of d answer) (attributes_shown answer)) (λ x. steps_write now x file (λ w. after_own_reply w xid answer)))
           (size_walk m file server s there (fileid_of d answer) (attributes_shown answer))
-          (ctime_walk n file is (record { found = f.found; inside = f.inside }) t (served_again m file s t there) (fileid_of d answer) (attributes_shown answer) refl refl)
+          (ctime_walk n file is (record { found = f.found; inside = f.inside }) t (served_again m file s t there)
+          (ap (λ (o : Option WaitingWrite). is_writer_out xid o) (sized_write s server (fileid_of d answer) (attributes_shown answer)) ∙ (ap (λ (x : ℕ). is_writer_out x s.write) (sym number) ∙ out)) (fileid_of d answer) (attributes_shown answer) refl refl)
 
       -- ---- by who waits
 
@@ -161,16 +166,17 @@ module _ (I : MdsValue → List Entry → List MdsSend → Type 0) (Heard : Hear
       server_walk m f (ForWrite file) is fits out = write_by m file is f (served m file) refl out
       server_walk m f ForRecall is fits out = absurd fits
 
-    back_walk : (m : MdsValue) → Found m → (status : ℕ) (caller : Waiter) → call.caller ≡ caller → IsOfClients caller → Keeps I m (Rattle.mds_rule.specs.Answers.recalls_after (heard_by node xid m) (recalls.after_reply m.recalls xid (recall_end status)))
-    back_walk m f status (ForFile file) is fits = absurd fits
-    back_walk m f status (ForRead file) is fits = absurd fits
-    back_walk m f status (ForWrite file) is fits = absurd fits
-    back_walk m f status ForRecall is fits = recalls_walk I Heard k m (heard_by node xid m) (recalls.after_reply m.recalls xid (recall_end status)) (c.hears_recall m node xid status call f.found is)
+    back_walk : (m : MdsValue) → Found m → (status : ℕ) (caller : Waiter) → call.caller ≡ caller → IsOfClients caller → is_awaited_by m call.node call.xid caller ≡ true → Keeps I m (recalls_after (heard_by node xid m) (recalls.after_reply m.recalls xid (recall_end status)))
+    back_walk m f status (ForFile file) is fits out = absurd fits
+    back_walk m f status (ForRead file) is fits out = absurd fits
+    back_walk m f status (ForWrite file) is fits out = absurd fits
+    back_walk m f status ForRecall is fits out =
+        recalls_walk I Heard k m (heard_by node xid m) (recalls.after_reply m.recalls xid (recall_end status)) (c.hears_recall m node xid status call f.found is (ap (λ (x : ℕ). is_some (recalls.out_at m.recalls x)) (sym number) ∙ out))
 
     answered_walk : (m : MdsValue) → Found m → (status : ℕ) (sent : MdsSend) → call.sent ≡ sent → IsCallFor sent call.caller → is_awaited m call ≡ true
         → Keeps I m (answered_as now (heard_by node xid m) xid replies status call.caller sent)
     answered_walk m f status (CallsServer server own uid d) sent fits out = server_walk server own uid d sent m f call.caller refl fits out
-    answered_walk m f status (CallsBack own back file stateid) sent fits out = back_walk m f status call.caller refl fits
+    answered_walk m f status (CallsBack own back file stateid) sent fits out = back_walk m f status call.caller refl fits out
     answered_walk m f status (Replies to other) sent fits out = absurd fits
     answered_walk m f status (mds.Answers to bytes) sent fits out = absurd fits
 

@@ -44,7 +44,7 @@ use Rattle.mds_rule.specs.declared.waiter.Waiter.TheVariants.{ForFile, ForRead, 
 use Rattle.mds_rule.specs.OpSteps.{OpStep, Goes, Ends, Waits, with_result, refuses, refused_as, unread, stopped, is_operation_number}
 use Rattle.mds_rule.specs.ServedFiles.{has_fresh, file_stepped, input_at, takes_input}
 use Rattle.mds_rule.specs.Compounds.{operate, has_session, operates, compound_bytes, kept_in_slot, finishes, op_then, with_ops, runs, sequence_in, in_slot, sequenced, sequence_of, may_stand_alone, first_alone, first_by, first_operation, new_run, runs_compound}
-use Rattle.mds_rule.specs.Answers.{resumes, is_done_as, has_failed_as, failed_entries, read_result, without_read, read_resumes, read_after, read_ends, read_step_at, read_from, read_of, is_read_out, is_writer_out, has_write_out, write_answer, write_stepped, write_ends, write_of, write_in, has_failed_everywhere, write_over, recall_outcome, recalls_after, timed_out_for}
+use Rattle.mds_rule.specs.Answers.{resumes, is_done_as, has_failed_as, failed_entries, read_result, without_read, read_resumes, read_after, read_ends, read_step_at, read_from, read_of, is_read_out, is_writer_out, has_write_out, write_answer, write_stepped, write_ends, write_of, write_in, has_failed_everywhere, write_over, recall_outcome, recalls_after, timed_out_for, is_file_out, is_awaited_by}
 use Rattle.mds_laws.specs.SlotUses.{first_request}
 use Rattle.mds_walk.specs.Parts.{Parts, IsReadAt, with_read_at, end_entry, end_input, without_write, Becomes, Enters, Keeps, HeardOf}
 use Rattle.mds_walk.proofs.Keeping.{KeepsOp, then_keeps, none_keeps, same, becomes_keeps, enters_twice, enters_keeps, stays, silent_keeps}
@@ -269,21 +269,20 @@ module _ (I : MdsValue → List Entry → List MdsSend → Type 0) (Heard : Hear
       (then_keeps I n x (λ y. resumes now (write_answer y w.compound (length w.bytes) failed) w.compound.ops) its
       (λ y. resume_walk now y (write_answer y w.compound (length w.bytes) failed) w.compound.ops (write_answered y w.compound (length w.bytes) failed)))
 
-  -- what a step of its writer leaves waits; where none waits nothing comes of it
-  abbrev pub StepsWrite : MdsValue → MdsValue → FileId → (WriterValue → WriterAfter) → Type 0
-  StepsWrite m p file step = (s : ServedFile) (w : WaitingWrite) → served p file ≡ Some s → s.write ≡ Some w → Becomes I m (with_served p file (record s { write = Some (write_stepped w (step w.writer)) }))
+  -- what a step of its writer leaves waits
+  abbrev pub StepsWrite : MdsValue → MdsValue → FileId → ℕ → (WriterValue → WriterAfter) → Type 0
+  StepsWrite m p file xid step =
+      (s : ServedFile) (w : WaitingWrite) → served p file ≡ Some s → s.write ≡ Some w → is_writer_out xid s.write ≡ true → Becomes I m (with_served p file (record s { write = Some (write_stepped w (step w.writer)) }))
 
-  abbrev pub HasNoWrite : MdsValue → FileId → Type 0
-  HasNoWrite p file = (xid : ℕ) → has_write_out xid (served p file) ≡ false
-
-  write_of_walk : (now : ℕ) (m p : MdsValue) (file : FileId) (step : WriterValue → WriterAfter) → StepsWrite m p file step → (HasNoWrite p file → Becomes I m p) → (s : ServedFile) → served p file ≡ Some s → (o : Option WaitingWrite) → s.write ≡ o
+  write_of_walk : (now : ℕ) (m p : MdsValue) (file : FileId) (xid : ℕ) (step : WriterValue → WriterAfter) → StepsWrite m p file xid step → (s : ServedFile) → served p file ≡ Some s → (o : Option WaitingWrite) → s.write ≡ o → is_writer_out xid o ≡ true
       → Keeps I m (write_of now p file step s o)
-  write_of_walk now m p file step each idle s is None its = none_keeps I m p (idle (λ xid. ap (has_write_out xid) is ∙ ap (is_writer_out xid) its))
-  write_of_walk now m p file step each idle s is (Some w) its = write_end_walk now m p file s is (write_stepped w (step w.writer)) (each s w is its) (ended (step w.writer).writer) refl
+  write_of_walk now m p file xid step each s is None its out = absurd cc
+  write_of_walk now m p file xid step each s is (Some w) its out =
+      write_end_walk now m p file s is (write_stepped w (step w.writer)) (each s w is its (ap (is_writer_out xid) its ∙ out)) (ended (step w.writer).writer) refl
 
-  pub write_in_walk : (now : ℕ) (m p : MdsValue) (file : FileId) (step : WriterValue → WriterAfter) → StepsWrite m p file step → (HasNoWrite p file → Becomes I m p) → (o : Option ServedFile) → served p file ≡ o → Keeps I m (write_in now p file step o)
-  write_in_walk now m p file step each idle None is = none_keeps I m p (idle (λ xid. ap (has_write_out xid) is))
-  write_in_walk now m p file step each idle (Some s) is = write_of_walk now m p file step each idle s is s.write refl
+  pub write_in_walk : (now : ℕ) (m p : MdsValue) (file : FileId) (xid : ℕ) (step : WriterValue → WriterAfter) → StepsWrite m p file xid step → (o : Option ServedFile) → served p file ≡ o → has_write_out xid o ≡ true → Keeps I m (write_in now p file step o)
+  write_in_walk now m p file xid step each None is out = absurd cc
+  write_in_walk now m p file xid step each (Some s) is out = write_of_walk now m p file xid step each s is s.write refl out
 
   -- ---- recalls
 
@@ -295,10 +294,12 @@ module _ (I : MdsValue → List Entry → List MdsSend → Type 0) (Heard : Hear
   pub recalls_walk : (m p : MdsValue) (a : RecallsAfter) → Becomes I m (record p { recalls = a.recalls }) → Keeps I m (recalls_after p a)
   recalls_walk m p a b = becomes_keeps I m (record p { recalls = a.recalls }) (recall_outcome (record p { recalls = a.recalls }) a.outcome) b (outcome_walk (record p { recalls = a.recalls }) a.outcome)
 
-  -- ---- a timeout
+  -- ---- a timeout of a call that is awaited
 
-  pub timeout_walk : (now : ℕ) (m : MdsValue) (xid : ℕ) (caller : Waiter) → Keeps I m (timed_out_for now m xid caller)
-  timeout_walk now m xid (ForFile file) = silent_keeps I m _ (takes_by I Heard k m file (TimesOut xid) (λ s. k.timeouts m file s xid))
-  timeout_walk now m xid (ForRead file) = read_late now m file xid (served m file) refl
-  timeout_walk now m xid (ForWrite file) = write_in_walk now m m file (λ w. writer.after_timeout w xid) (λ s w at waits. k.times_write m file s w xid at waits) (λ none es ss i. i) (served m file) refl
-  timeout_walk now m xid ForRecall = recalls_walk m m (recalls.after_timeout m.recalls xid) (k.times_recall m xid)
+  pub timeout_walk : (now : ℕ) (m : MdsValue) (node : NodeId) (xid : ℕ) (caller : Waiter) → is_awaited_by m node xid caller ≡ true → Keeps I m (timed_out_for now m xid caller)
+  timeout_walk now m node xid (ForFile file) awaited =
+      silent_keeps I m _ (takes_by I Heard k m file (TimesOut xid) (λ s there fresh. k.timeouts m file s node xid (ap (is_file_out node xid) (sym there) ∙ awaited) there fresh))
+  timeout_walk now m node xid (ForRead file) awaited = read_late now m file xid (served m file) refl
+  timeout_walk now m node xid (ForWrite file) awaited =
+      write_in_walk now m m file xid (λ w. writer.after_timeout w xid) (λ s w at waits out. k.times_write m file s w xid at waits out) (served m file) refl awaited
+  timeout_walk now m node xid ForRecall awaited = recalls_walk m m (recalls.after_timeout m.recalls xid) (k.times_recall m xid awaited)

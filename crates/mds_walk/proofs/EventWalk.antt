@@ -39,23 +39,18 @@ use Rattle.file_rule.specs.MdsFiles.{FileStep}
 use Rattle.mds_rule.specs.MdsStates.{with_served}
 use Rattle.mds_rule.specs.ServedFiles.{is_period_end, file_behind, file_stepped}
 use Rattle.mds_walk.specs.Parts.{Becomes, Keeps, HeardOf, HeardAny, Hearing, HearsSo, KeepsBegin, end_input, without_write, Parts, Calls}
-use Rattle.mds_walk.proofs.Keeping.{KeepsBehind, joined, hears_any, then_keeps, none_keeps, same, becomes_keeps, silent_keeps, behind_then, enters_behind}
-use Rattle.mds_walk.proofs.Lists.{in_more}
-use Rattle.mds_walk.proofs.LateFound.{late_is}
+use Rattle.mds_walk.proofs.Keeping.{joined, hears_any, then_keeps, none_keeps, same, becomes_keeps, enters_keeps, silent_keeps}
+use Rattle.mds_walk.proofs.LateFound.{IsAwaitedCall, late_is}
 use Rattle.mds_walk.proofs.Requested.{behind_request, behind_begin, begin_kept}
 use Rattle.mds_walk.proofs.ServedWalk.{takes, asks, client_ends}
 use Rattle.mds_walk.proofs.CompoundWalk.{compound_walk, timeout_walk}
 use Rattle.mds_walk.proofs.AnswerWalk.{answer_walk}
-use Rattle.mds_walk.proofs.GoesWalk.{each_walk, sends_again, out_walk}
+use Rattle.mds_walk.proofs.GoesWalk.{each_walk, out_walk}
 
 -- it is the record of a reply
 record IsReplyRecord (bytes : List ℕ) : Type 0 where
   reply : RpcReply
   is : bytes ≡ reply_bytes reply
-
-pub not_so : (b : Bool) → not b ≡ true → b ≡ false
-not_so true is = absurd cc
-not_so false is = refl
 
 pub itself : (node : NodeId) → is_node node node ≡ true
 itself Mds = refl
@@ -77,18 +72,22 @@ stepped_calls m file s step =
 
 pub parts_with : (I : MdsValue → List Entry → List MdsSend → Type 0) (Heard : HeardOf) → Parts I Heard → (calls : List AwaitedCall) → Parts (WithCalls I calls) Heard
 parts_with I Heard k calls = record {
-  clients = λ m confirmed opens reclaimed es ss j. (k.clients m confirmed opens reclaimed es ss j.0, j.1);
+  opens = λ m client file es ss j. (k.opens m client file es ss j.0, j.1);
+  closes = λ m client file es ss j. (k.closes m client file es ss j.0, j.1);
+  confirmed = λ m client node es ss j. (k.confirmed m client node es ss j.0, j.1);
+  reclaims = λ m client es ss j. (k.reclaims m client es ss j.0, j.1);
+  gone = λ m client es ss j. (k.gone m client es ss j.0, j.1);
   tables = λ m move no es ss j. (k.tables m move no es ss j.0, j.1);
   asks_recall = λ m file cred client now off es ss j. (k.asks_recall m file cred client now off es ss j.0, j.1);
-  times_recall = λ m xid es ss j. (k.times_recall m xid es ss j.0, j.1);
+  times_recall = λ m xid out es ss j. (k.times_recall m xid out es ss j.0, j.1);
   ticks_recalls = λ m now es ss j. (k.ticks_recalls m now es ss j.0, j.1);
   replies = λ m node reply es ss j. (k.replies m node reply es ss j.0, j.1);
   answers = λ m node bytes reply is es ss j. (k.answers m node bytes reply is es ss j.0, j.1);
-  notes = λ m e is es ss j. (k.notes m e is es ss j.0, j.1);
+  later = λ m file p es ss j. (k.later m file p es ss j.0, j.1);
   sizes = λ m file s server fileid size there es ss j. (k.sizes m file s server fileid size there es ss j.0, j.1);
   holds = λ m file s client again there es ss j. (k.holds m file s client again there es ss j.0, j.1);
   inputs = λ m file s input itself other there fresh es ss j. (k.inputs m file s input itself other there fresh es ss j.0, stepped_calls m file s (phase file s.file input m.fresh) ∙ j.1);
-  timeouts = λ m file s xid there fresh es ss j. (k.timeouts m file s xid there fresh es ss j.0, stepped_calls m file s (phase file s.file (TimesOut xid) m.fresh) ∙ j.1);
+  timeouts = λ m file s node xid out there fresh es ss j. (k.timeouts m file s node xid out there fresh es ss j.0, stepped_calls m file s (phase file s.file (TimesOut xid) m.fresh) ∙ j.1);
   learns = λ m file s call server own uid c replies fileid shown heard caller sent named shows there fresh es ss j.
       (k.learns m file s call server own uid c replies fileid shown heard caller sent named shows there fresh es ss j.0, j.1);
   begins_read = λ m file s c at count there es ss j. (k.begins_read m file s c at count there es ss j.0, j.1);
@@ -96,7 +95,7 @@ parts_with I Heard k calls = record {
   loses_read = λ m file s xid place r e at over es ss j. (k.loses_read m file s xid place r e at over es ss j.0, j.1);
   begins_write = λ m file s c at bytes there can fresh es ss j. (k.begins_write m file s c at bytes there can fresh es ss j.0, stepped_calls m file s (phase file s.file (OwnWrite at bytes) m.fresh) ∙ j.1);
   begins_alone = λ m file s c at bytes there can spent es ss j. (k.begins_alone m file s c at bytes there can spent es ss j.0, j.1);
-  times_write = λ m file s w xid there waits es ss j. (k.times_write m file s w xid there waits es ss j.0, j.1);
+  times_write = λ m file s w xid there waits out es ss j. (k.times_write m file s w xid there waits out es ss j.0, j.1);
   ends_write = λ m file s w places there waits over fresh es ss j.
       (k.ends_write m file s w places there waits over fresh es ss j.0, stepped_calls (with_served m file (without_write s)) file (without_write s) (phase file s.file (end_input s w) m.fresh) ∙ j.1);
   drops_write = λ m file s w places there waits over spent es ss j. (k.drops_write m file s w places there waits over spent es ss j.0, j.1);
@@ -116,40 +115,39 @@ module _ (I : MdsValue → List Entry → List MdsSend → Type 0) (Heard : Hear
   incoming_walk now m node (IsCompound xid v) hearing replied =
       then_keeps I (behind_request now m node (first_request v.ops.values)) (runs_compound now m node xid v) (calls_out []) (compound_walk I Heard k now m node xid v) (λ n. out_walk I Heard k c [] n)
 
-  again_walk : (call : AwaitedCall) (m : MdsValue) → IsOneOf call m.calls → KeepsBehind I call.sent m (goes_again call m)
-  again_walk call m inside =
-      cond_both (not (is_awaited m call)) (sends_none left) (if is_kept_by m call.xid call.caller then sends_none m else again) (λ (s : MdsStep). KeepsBehind I call.sent m s)
-      (λ none. λ es ss was i. none_keeps I m left (c.leaves m call.node call.xid call inside (is_its call) (not_so (is_awaited m call) none)) es ss i)
-      (λ some.
-      cond_both (is_kept_by m call.xid call.caller) (sends_none m) again (λ (s : MdsStep). KeepsBehind I call.sent m s) (λ kept. λ es ss was i. same I m es ss i) (λ other. sends_again I Heard k c m call.sent))
+  again_walk : (call : AwaitedCall) (m : MdsValue) → IsOneOf call m.calls → Keeps I m (goes_again call m)
+  again_walk call m inside = by_awaited (is_awaited m call) refl
     where
-      left : MdsValue
-      left = record m { calls = without_call call.node call.xid m.calls }
+      sent_again : is_awaited m call ≡ true → Keeps I m (record { mds = m; entries = []; sends = call.sent ∷ [] })
+      sent_again is es ss i = subst (λ (l : List Entry). I m l (ss ++ call.sent ∷ [])) (sym (append-nil es)) (c.again m call inside is es ss i)
 
-      again : MdsStep
-      again = record { mds = m; entries = []; sends = call.sent ∷ [] }
+      by_awaited : (b : Bool) → is_awaited m call ≡ b
+          → Keeps I m (if not b then sends_none (record m { calls = without_call call.node call.xid m.calls }) else if is_kept_by m call.xid call.caller then sends_none m else record { mds = m; entries = []; sends = call.sent ∷ [] })
+      by_awaited true is =
+          cond_both (is_kept_by m call.xid call.caller) (sends_none m) (record { mds = m; entries = []; sends = call.sent ∷ [] }) (λ (s : MdsStep). Keeps I m s) (λ kept. same I m) (λ other. sent_again is)
+      by_awaited false off = none_keeps I m (record m { calls = without_call call.node call.xid m.calls }) (c.leaves m call.node call.xid call inside (is_its call) off)
 
   -- the calls are as they were where it goes again
-  late_again : (now : ℕ) (m : MdsValue) (call : AwaitedCall) → IsOneOf call m.calls → KeepsBehind I call.sent m (and_then (timed_out_for now m call.xid call.caller) (goes_again call))
-  late_again now m call inside es ss was i =
+  late_again : (now : ℕ) (m : MdsValue) (call : AwaitedCall) → IsOneOf call m.calls → is_awaited m call ≡ true → Keeps I m (and_then (timed_out_for now m call.xid call.caller) (goes_again call))
+  late_again now m call inside awaited es ss i =
       let timed : MdsStep = timed_out_for now m call.xid call.caller in
-      let j : I timed.mds (es ++ timed.entries) (ss ++ timed.sends) × (timed.mds.calls ≡ m.calls) = timeout_walk (WithCalls I m.calls) Heard (parts_with I Heard k m.calls) now m call.xid call.caller es ss (i, refl) in
+      let j : I timed.mds (es ++ timed.entries) (ss ++ timed.sends) × (timed.mds.calls ≡ m.calls) =
+      timeout_walk (WithCalls I m.calls) Heard (parts_with I Heard k m.calls) now m call.node call.xid call.caller awaited es ss (i, refl) in
       joined I (goes_again call timed.mds).mds es timed.entries (goes_again call timed.mds).entries ss timed.sends (goes_again call timed.mds).sends
-      (again_walk call timed.mds (subst (λ (l : List AwaitedCall). IsOneOf call l) (sym j.1) inside) (es ++ timed.entries) (ss ++ timed.sends) (in_more call.sent ss timed.sends was) j.0)
+      (again_walk call timed.mds (subst (λ (l : List AwaitedCall). IsOneOf call l) (sym j.1) inside) (es ++ timed.entries) (ss ++ timed.sends) j.0)
 
-  late_walk : (now : ℕ) (m : MdsValue) (call : AwaitedCall) → IsOneOf call m.calls → Keeps I m (times_out now m (Some call))
-  late_walk now m call inside es ss i =
+  late_walk : (now : ℕ) (m : MdsValue) (call : AwaitedCall) → IsAwaitedCall m call → Keeps I m (times_out now m (Some call))
+  late_walk now m call is =
       let again : MdsStep = and_then (timed_out_for now m call.xid call.caller) (goes_again call) in
-      enters_behind I call.sent m m (entry.TimedOut Mds call.xid ∷ []) (and_then again (calls_out [])) (k.notes m (entry.TimedOut Mds call.xid) refl)
-      (behind_then I call.sent m again (calls_out []) (late_again now m call inside) (λ n. out_walk I Heard k c [] n))
-      es ss (c.was m es ss i call inside) i
+      enters_keeps I m m (entry.TimedOut Mds call.xid ∷ []) (and_then again (calls_out [])) (c.late m call is.inside is.awaited)
+      (then_keeps I m again (calls_out []) (late_again now m call is.inside is.awaited) (λ n. out_walk I Heard k c [] n))
 
-  times_walk : (now : ℕ) (m : MdsValue) (o : Option AwaitedCall) → ((call : AwaitedCall) → o ≡ Some call → IsOneOf call m.calls) → Keeps I m (times_out now m o)
-  times_walk now m None inside = same I m
-  times_walk now m (Some call) inside = late_walk now m call (inside call refl)
+  times_walk : (now : ℕ) (m : MdsValue) (o : Option AwaitedCall) → ((call : AwaitedCall) → o ≡ Some call → IsAwaitedCall m call) → Keeps I m (times_out now m o)
+  times_walk now m None is = same I m
+  times_walk now m (Some call) is = late_walk now m call (is call refl)
 
   timeouts_walk : (now : ℕ) (m : MdsValue) (node : NodeId) (which : Option ℕ) → Keeps I m (takes_timeout now m node which)
-  timeouts_walk now m node which = times_walk now m (late_call m node which) (λ call is. (late_is m node which call is).inside)
+  timeouts_walk now m node which = times_walk now m (late_call m node which) (λ call is. late_is m node which call is)
 
   lease_walk : (m : MdsValue) (o : Option ClientState) → Becomes I m (record m { sessions = expired_by m.sessions o }) → (next : MdsValue → MdsStep) → ((n : MdsValue) → Keeps I n (next n)) → Keeps I m (lease_ends m o next)
   lease_walk m None b next all = same I m

@@ -22,8 +22,7 @@ use Rattle.mds_rule.specs.MdsStates.{WaitingRead, WaitingWrite, ServedFile, MdsS
 use Rattle.mds_rule.specs.declared.waiter.Waiter.TheVariants.{ForRead}
 use Rattle.mds_rule.specs.Goes.{xid_after, calls_server, OwnCall, own_of_file, own_of_write, own_by, place_of, own_call_at, own_next, has_xids, own_call, own_two, own_calls, read_goes, read_call, read_call_in, each, read_count, read_calls, calls_back, recall_goes, recall_call, repeats_call, repeats, place_calls, file_calls, calls_out}
 use Rattle.mds_walk.specs.Parts.{Becomes, Keeps, HeardOf, with_read_at, Parts, Calls}
-use Rattle.mds_walk.proofs.Keeping.{KeepsBehind, then_keeps, none_keeps, same, becomes_keeps}
-use Rattle.mds_walk.proofs.Lists.{found_in}
+use Rattle.mds_walk.proofs.Keeping.{then_keeps, none_keeps, same, becomes_keeps}
 
 module _ (I : MdsValue → List Entry → List MdsSend → Type 0) (Heard : HeardOf) (k : Parts I Heard) (c : Calls I Heard) where
   pub each_walk : {A : Type 0} (step : A → MdsValue → MdsStep) → ((a : A) (m : MdsValue) → Keeps I m (step a m)) → (list : List A) (m : MdsValue) → Keeps I m (each step list m)
@@ -105,18 +104,14 @@ module _ (I : MdsValue → List Entry → List MdsSend → Type 0) (Heard : Hear
 
   -- ---- what goes out again
 
-  -- what went out before
-  pub sends_again : (m : MdsValue) (s : MdsSend) → KeepsBehind I s m (record { mds = m; entries = []; sends = s ∷ [] })
-  sends_again m s es ss was i = subst (λ (l : List Entry). I m l (ss ++ s ∷ [])) (sym (append-nil es)) (c.again m s es ss i was)
-
-  repeat_walk : (m : MdsValue) (o : Option AwaitedCall) → ((call : AwaitedCall) → o ≡ Some call → IsOneOf call m.calls) → Keeps I m (repeats_call m o)
-  repeat_walk m None inside = same I m
-  repeat_walk m (Some call) inside = λ es ss i. sends_again m call.sent es ss (c.was m es ss i call (inside call refl)) i
+  repeat_walk : (m : MdsValue) (server xid : ℕ) (o : Option AwaitedCall) → find (is_call_to (Server server) xid) m.calls ≡ o → Keeps I m (repeats_call m o)
+  repeat_walk m server xid None found = same I m
+  repeat_walk m server xid (Some call) found = λ es ss i. subst (λ (l : List Entry). I m l (ss ++ call.sent ∷ [])) (sym (append-nil es)) (c.repeats m server xid call found es ss i)
 
   repeats_walk : (kept : Option (Option (ℕ × ℕ))) (m : MdsValue) → Keeps I m (repeats kept m)
   repeats_walk None m = same I m
   repeats_walk (Some None) m = same I m
-  repeats_walk (Some (Some kept)) m = repeat_walk m (find (is_call_to (Server kept.0) kept.1) m.calls) (λ call is. found_in (is_call_to (Server kept.0) kept.1) m.calls call is)
+  repeats_walk (Some (Some kept)) m = repeat_walk m kept.0 kept.1 (find (is_call_to (Server kept.0) kept.1) m.calls) refl
 
   -- ---- all of them
 

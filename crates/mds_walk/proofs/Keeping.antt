@@ -7,11 +7,6 @@ use Rattle.mds_rule.specs.MdsStates.{MdsSend, MdsValue, MdsStep, sends_none, ent
 use Rattle.mds_rule.specs.OpSteps.{OpStep, Goes, Ends, Waits}
 use Rattle.mds_laws.specs.MdsRuns.{MdsInput, Hears, IsTimedOut, Ticks as IsTick, RecallsFile, Resilvers}
 use Rattle.mds_walk.specs.Parts.{Becomes, Enters, Keeps, HeardAny, HearsSo}
-use Rattle.mds_walk.proofs.Lists.{in_more}
-
--- where a send went out before
-abbrev pub KeepsBehind : (MdsValue → List Entry → List MdsSend → Type 0) → MdsSend → MdsValue → MdsStep → Type 0
-KeepsBehind I x m s = (es : List Entry) (ss : List MdsSend) → IsOneOf x ss → I m es ss → I s.mds (es ++ s.entries) (ss ++ s.sends)
 
 abbrev pub KeepsOp : (MdsValue → List Entry → List MdsSend → Type 0) → MdsValue → OpStep → Type 0
 KeepsOp I m (Goes n entries c) = Enters I m n entries
@@ -90,18 +85,3 @@ module _ (I : MdsValue → List Entry → List MdsSend → Type 0) where
 
   pub becomes_silent : (m n : MdsValue) (s : MdsStep) → Becomes I m n → Silent I n s → Enters I m s.mds s.entries
   becomes_silent m n s b q es ss i = q.enters es ss (b es ss i)
-
-  -- ---- where a send went out before
-
-  pub then_behind : (x : MdsSend) (m : MdsValue) (s : MdsStep) (next : MdsValue → MdsStep) → Keeps I m s → ((n : MdsValue) → KeepsBehind I x n (next n)) → KeepsBehind I x m (and_then s next)
-  then_behind x m s next first second es ss was i =
-      joined (next s.mds).mds es s.entries (next s.mds).entries ss s.sends (next s.mds).sends
-      (second s.mds (es ++ s.entries) (ss ++ s.sends) (in_more x ss s.sends was) (first es ss i))
-
-  pub behind_then : (x : MdsSend) (m : MdsValue) (s : MdsStep) (next : MdsValue → MdsStep) → KeepsBehind I x m s → ((n : MdsValue) → Keeps I n (next n)) → KeepsBehind I x m (and_then s next)
-  behind_then x m s next first second es ss was i =
-      joined (next s.mds).mds es s.entries (next s.mds).entries ss s.sends (next s.mds).sends (second s.mds (es ++ s.entries) (ss ++ s.sends) (first es ss was i))
-
-  pub enters_behind : (x : MdsSend) (m n : MdsValue) (entries : List Entry) (s : MdsStep) → Enters I m n entries → KeepsBehind I x n s → KeepsBehind I x m (enters entries s)
-  enters_behind x m n entries s e k es ss was i =
-      subst (λ (l : List Entry). I s.mds l (ss ++ s.sends)) (append_assoc es entries s.entries) (k (es ++ entries) ss was (e es ss i))

@@ -184,25 +184,22 @@ module _ (I : MdsValue → List Entry → List MdsSend → Type 0) (Heard : Hear
   pub gets_attr : (m : MdsValue) (c : CompoundRun) (words : List ℕ) → KeepsOp I m (runs_get_attr m c words)
   gets_attr m c words = attributes_got m c words c.current
 
-  opens_become : (m : MdsValue) (opens : OpensValue) → Becomes I m (record m { opens = opens })
-  opens_become m opens = k.clients m m.confirmed opens m.reclaimed
-
   open_walk : (m : MdsValue) (c : CompoundRun) (access : ℕ) (creation : Creation) (name : List ℕ) (o : Option FileId) → KeepsOp I m (open_named m c access creation name o)
   open_walk m c access creation name (Some file) =
       refused I Heard k m c 18 (refusal (open_order c.current name access creation (found_of m c (Some file)))) (opens_file m c file)
-      (no_entries I m (record m { opens = opened m.opens (client_of c) file }) (opens_become m (opened m.opens (client_of c) file)))
+      (no_entries I m (record m { opens = opened m.opens (client_of c) file }) (k.opens m (client_of c) file))
   open_walk m c access creation name None =
       unless_refused I Heard k m c 18 (refusal (open_order c.current name access creation (found_of m c None))) (opens_or_makes m c name None)
       (λ so.
       no_entries I m (record (with_new_file m name) { opens = opened m.opens (client_of c) (numbered (length m.files + 1)) })
-      (λ es ss i. opens_become (with_new_file m name) (opened m.opens (client_of c) (numbered (length m.files + 1))) es ss (k.makes m name (makes_so m c access creation name so) es ss i)))
+      (λ es ss i. k.opens (with_new_file m name) (client_of c) (numbered (length m.files + 1)) es ss (k.makes m name (makes_so m c access creation name so) es ss i)))
 
   pub opens : (m : MdsValue) (c : CompoundRun) (args : Value open4_args) → KeepsOp I m (runs_open m c args)
   opens m c (seqid, (access, (deny, (clientid, (owner, (how, claim)))))) = open_walk m c access (creation_in how) (name_in claim) (file_named m (name_in claim))
 
   close_walk : (m : MdsValue) (c : CompoundRun) (file : FileId) (o : Option Open) → KeepsOp I m (closes m c file o)
   close_walk m c file None = stays I m
-  close_walk m c file (Some o) = no_entries I m (record m { opens = closed m.opens (client_of c) file }) (opens_become m (closed m.opens (client_of c) file))
+  close_walk m c file (Some o) = no_entries I m (record m { opens = closed m.opens (client_of c) file }) (k.closes m (client_of c) file)
 
   pub closes_file : (m : MdsValue) (c : CompoundRun) (args : Value close4_args) → KeepsOp I m (runs_close m c args)
   closes_file m c (seqid, stateid) = refused I Heard k m c 4 _ _ (close_walk m c (current_file c) (open_of m.opens (client_of c) (current_file c)))
@@ -265,7 +262,7 @@ module _ (I : MdsValue → List Entry → List MdsSend → Type 0) (Heard : Hear
   later_walk m c now None = stays I m
   later_walk m c now (Some p) =
       let s : MdsStep = asks_back m (current_file c) now in
-      enters_then I m m s.mds (entry.Later (current_file c) p ∷ []) s.entries (k.notes m (entry.Later (current_file c) p) refl) (asks I Heard k m (current_file c) now).enters
+      enters_then I m m s.mds (entry.Later (current_file c) p ∷ []) s.entries (k.later m (current_file c) p) (asks I Heard k m (current_file c) now).enters
 
   pub layout_gets : (m : MdsValue) (c : CompoundRun) (now : ℕ) (args : Value layoutget4_args) → KeepsOp I m (runs_layout_get m c now args)
   layout_gets m c now args = by_found (layout_found m c (layout_asked args)) (refusal (layout_get_order c.current (layout_asked args) (layout_found m c (layout_asked args))))

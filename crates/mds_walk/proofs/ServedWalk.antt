@@ -83,7 +83,7 @@ module _ (I : MdsValue → List Entry → List MdsSend → Type 0) (Heard : Hear
   periods m client end = turns (λ n file. takes_input n file (Revokes end)) (λ n file. takes n file (Revokes end) refl refl) (held_from client 1 m.files) m
 
   forgets_client : (client : ℕ) (m : MdsValue) → Becomes I m (forgotten client m)
-  forgets_client client m = k.clients m (forgotten client m).confirmed (forgotten client m).opens (forgotten client m).reclaimed
+  forgets_client client m = k.gone m client
 
   pub client_ends : (m : MdsValue) (client : ℕ) (end : EndCause) → Silent I m (ends_client m client end)
   client_ends m client end = silent_then I m (ends_periods m client end) (λ n. sends_none (forgotten client n)) (periods m client end) (λ n. silent_none I n (forgotten client n) (forgets_client client n))
@@ -119,7 +119,7 @@ module _ (I : MdsValue → List Entry → List MdsSend → Type 0) (Heard : Hear
   session_walk m c client sequence fore back sessions (Some created) b =
       let x : MdsValue = record m { sessions = sessions } in
       let n : MdsValue = confirms client c.node x in
-      becomes_silent I m n (gone_with created.gone n) (λ es ss i. k.clients x (confirmed_by client c.node m.confirmed) m.opens m.reclaimed es ss (b es ss i)) (gone created.gone n)
+      becomes_silent I m n (gone_with created.gone n) (λ es ss i. k.confirmed x client c.node es ss (b es ss i)) (gone created.gone n)
 
   create_walk : (m : MdsValue) (c : CompoundRun) (client sequence : ℕ) (fore back : Value channel_attrs4) (program now : ℕ) (case : CreateSessionCase) (fault : Option SessionFault)
       → Becomes I m (record m { sessions = after_creating m.sessions program c.node now case }) → KeepsOp I m (with_create m c client sequence fore back program now case fault)
@@ -158,4 +158,4 @@ module _ (I : MdsValue → List Entry → List MdsSend → Type 0) (Heard : Hear
   reclaims_all m c (Some slot) =
       cond_both (list_any (nat_eq (client_in slot.session)) m.reclaimed) (refuses m c 58 Rattle.nfs4_types.specs.declared.status.Stat4.TheVariants.CompleteAlready)
       (Goes (record m { reclaimed = m.reclaimed ++ client_in slot.session ∷ [] }) [] (with_result c (arm 58 Rattle.nfs4_compound.specs.Results.resop4 (inl tt)))) (λ (x : OpStep). KeepsOp I m x)
-      (λ is. stays I m) (λ off. no_entries I m (record m { reclaimed = m.reclaimed ++ client_in slot.session ∷ [] }) (k.clients m m.confirmed m.opens (m.reclaimed ++ client_in slot.session ∷ [])))
+      (λ is. stays I m) (λ off. no_entries I m (record m { reclaimed = m.reclaimed ++ client_in slot.session ∷ [] }) (k.reclaims m (client_in slot.session)))

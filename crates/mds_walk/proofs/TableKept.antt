@@ -90,25 +90,29 @@ stepped_table m file s step es ss t =
 
 pub table_parts : Parts Table HeardAny
 table_parts = record {
-  clients = λ m confirmed opens reclaimed es ss t. t;
+  opens = λ m client file es ss t. t;
+  closes = λ m client file es ss t. t;
+  confirmed = λ m client node es ss t. t;
+  reclaims = λ m client es ss t. t;
+  gone = λ m client es ss t. t;
   tables = λ m move no es ss t. t;
   asks_recall = λ m file cred client now off es ss t. t;
-  times_recall = λ m xid es ss t. t;
+  times_recall = λ m xid out es ss t. t;
   ticks_recalls = λ m now es ss t. t;
   replies = λ m node reply es ss t. sends_more m.calls m.next_xid ss _ t;
   answers = λ m node bytes reply is es ss t. sends_more m.calls m.next_xid ss _ t;
-  notes = λ m e is es ss t. t;
+  later = λ m file p es ss t. t;
   sizes = λ m file s server fileid size there es ss t. t;
   holds = λ m file s client again there es ss t. t;
   inputs = λ m file s input itself other there fresh es ss t. stepped_table m file s (phase file s.file input m.fresh) es ss t;
-  timeouts = λ m file s xid there fresh es ss t. stepped_table m file s (phase file s.file (TimesOut xid) m.fresh) es ss t;
+  timeouts = λ m file s node xid out there fresh es ss t. stepped_table m file s (phase file s.file (TimesOut xid) m.fresh) es ss t;
   learns = λ m file s call server own uid c replies fileid shown heard caller sent named shows there fresh es ss t. t;
   begins_read = λ m file s c at count there es ss t. t;
   times_read = λ m file s xid place r at on es ss t. t;
   loses_read = λ m file s xid place r e at over es ss t. t;
   begins_write = λ m file s c at bytes there can fresh es ss t. stepped_table m file s (phase file s.file (OwnWrite at bytes) m.fresh) es ss t;
   begins_alone = λ m file s c at bytes there can spent es ss t. t;
-  times_write = λ m file s w xid there waits es ss t. t;
+  times_write = λ m file s w xid there waits out es ss t. t;
   ends_write = λ m file s w places there waits over fresh es ss t. stepped_table (with_served m file (without_write s)) file (without_write s) (phase file s.file (end_input s w) m.fresh) es ss t;
   drops_write = λ m file s w places there waits over spent es ss t. t;
   makes = λ m name may es ss t. t;
@@ -122,14 +126,13 @@ goes m node caller sent has fits es ss t = called (record { node = node; xid = m
 
 pub table_calls : Calls Table HeardAny
 table_calls = record {
-  was = λ m es ss t. t.sent;
   fits = λ m es ss t. t.waiters;
   hears = λ m node xid file s call c replies heard its there out fresh es ss t. stepped_table (heard_by node xid m) file s (phase file s.file (Answers xid (own_answer c (replies c))) m.fresh) es ss (left node xid m es ss t);
   unheard = λ m node xid file s call c its there spent es ss t. left node xid m es ss t;
   hears_read = λ m node xid file s call c replies place r heard its at on es ss t. left node xid m es ss t;
   ends_read = λ m node xid file s call c replies place r e heard its at over es ss t. left node xid m es ss t;
-  hears_write = λ m node xid file s w call c replies heard its there waits es ss t. left node xid m es ss t;
-  hears_recall = λ m node xid status call found its es ss t. left node xid m es ss t;
+  hears_write = λ m node xid file s w call c replies heard its there waits out es ss t. left node xid m es ss t;
+  hears_recall = λ m node xid status call found its out es ss t. left node xid m es ss t;
   leaves = λ m node xid call inside its off es ss t. left node xid m es ss t;
   forgets = λ m es ss t. filtered (is_awaited m) m.calls m.next_xid ss t;
   calls_file = λ m file s out there has idle its es ss t. goes m _ _ _ has tt es ss t;
@@ -137,7 +140,9 @@ table_calls = record {
   calls_read = λ m file s place r out there has at its es ss t. goes m _ _ _ has tt es ss t;
   calls_back = λ m sent session has its es ss t. goes m _ _ _ has tt es ss t;
   skips = λ m sent has its es ss t. skipped m.calls m.next_xid ss has t;
-  again = λ m s es ss t was. sends_more m.calls m.next_xid ss (s ∷ []) t;
+  late = λ m call inside is es ss t. t;
+  again = λ m call inside is es ss t. sends_more m.calls m.next_xid ss (call.sent ∷ []) t;
+  repeats = λ m server xid call found es ss t. sends_more m.calls m.next_xid ss (call.sent ∷ []) t;
 }
 
 pub table_begins : KeepsBegin Table

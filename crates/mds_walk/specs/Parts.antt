@@ -1,11 +1,13 @@
 -- What any part of an event can do, each told by what it changes, so that all else is as it was: the one list of cases of a metadata
 -- server's whole rule (RFC 8881, sections 12.5.5, 18.22, 18.32, 18.43, 18.44 and 20.3; RFC 8435, section 2.2).
 use Rattle.std.proofs.Common.{◌≡◌, ◌≤◌, ◌<◌, ℕ, ◌+◌, Bool, true, false, List, [], ◌∷◌, ◌++◌, length, Some, None, filter}
-use Rattle.std.specs.Prelude.{position, slice_get, slice_set}
+use Rattle.cluster_model.specs.declared.phase.Phase.{Phase}
+use Rattle.std.specs.Prelude.{is_some, position, slice_get, slice_set}
 use Rattle.std.specs.List.{find}
 use Rattle.rpc_record.specs.Replies.{RpcReply, reply_bytes}
 use Rattle.cluster_model.specs.declared.limits.TheConstants.{MAX_FILE, PIECE_SIZE}
 use Rattle.cluster_model.specs.declared.ids.NodeId.{NodeId}
+use Rattle.cluster_model.specs.declared.ids.NodeId.TheVariants.{Mds, Server}
 use Rattle.cluster_model.specs.declared.ids.FileId.{FileId}
 use Rattle.cluster_model.specs.declared.ids.Cred.{Cred}
 use Rattle.cluster_model.specs.declared.entry.Entry.{Entry}
@@ -26,15 +28,16 @@ use Rattle.nfs4_session.specs.Clients.{SessionState}
 use Rattle.nfs4_session.specs.Bindings.{back_call}
 use Rattle.nfs4_session.specs.TableLaw.{TableMove}
 use Rattle.nfs4_types.specs.Stateids.{layout_stateid_of}
-use Rattle.recall.specs.Recalls.{RecallSends, next_sent, is_under_way, new_recall, with_recall, after_reply, after_timeout, after_tick}
-use Rattle.open_state.specs.Opens.{OpensValue}
+use Rattle.recall.specs.Recalls.{RecallSends, next_sent, is_under_way, new_recall, with_recall, out_at, after_reply, after_timeout, after_tick}
+use Rattle.open_state.specs.Opens.{opened, closed}
 use Rattle.mds_rule.specs.MdsStates.{CompoundRun, WaitingRead, WaitingWrite, ServedFile, MdsSend, CallsServer, CallsBack, Replies, Answers, AwaitedCall, MdsValue, is_call_to, without_call, served, with_served, with_size}
 use Rattle.mds_rule.specs.declared.waiter.Waiter.{Waiter}
 use Rattle.mds_rule.specs.declared.waiter.Waiter.TheVariants.{ForFile, ForRead, ForWrite, ForRecall}
-use Rattle.mds_rule.specs.ServedFiles.{has_fresh, file_behind, file_stepped}
+use Rattle.mds_rule.specs.ServedFiles.{has_fresh, file_behind, file_stepped, forgotten}
+use Rattle.mds_rule.specs.SessionOps.{confirms}
 use Rattle.mds_rule.specs.FileOps.{with_new_file, may_make, with_read, with_write}
 use Rattle.mds_rule.specs.LayoutOps.{with_holder}
-use Rattle.mds_rule.specs.Answers.{server_number, is_read_out, is_awaited, fileid_of, attributes_shown, own_answer, failures_by_place, failed_entries, without_read, write_stepped, recall_end}
+use Rattle.mds_rule.specs.Answers.{server_number, is_read_out, is_writer_out, is_awaited, fileid_of, attributes_shown, own_answer, failures_by_place, failed_entries, without_read, write_stepped, recall_end}
 use Rattle.mds_rule.specs.Goes.{xid_after, calls_as, calls_server, has_xids, stateid_seqid}
 use Rattle.nfs4_session.specs.TableLaw.{ExchangeId, CreateSession, BeginRequest, FinishRequest, Bind, CallBack, DestroySession, DestroyClient, Expire, table_after}
 use Rattle.nfs4_types.specs.declared.sequence.Sequence.{Sequence}
@@ -42,14 +45,6 @@ use Rattle.ds_calls.specs.GivenReplies.{reply_of_call}
 use Rattle.mds_receive.specs.MdsReceive.{IsReply, incoming_of}
 use Rattle.mds_rule.specs.MdsStates.{MdsStep}
 use Rattle.mds_laws.specs.MdsRuns.{MdsInput, Hears, IsTimedOut, Ticks as IsTick, RecallsFile, Resilvers}
-
--- an entry that only notes how a call or a request went
-abbrev pub is_note : Entry → Bool
-is_note (entry.TimedOut node xid) = true
-is_note (entry.Failed id xid) = true
-is_note (entry.Later file phase) = true
-is_note (entry.ReadAnswer file status bytes) = true
-is_note e = false
 
 -- an input that neither an answer nor a timeout brings
 abbrev pub comes_by_itself : FileInput → Bool
@@ -197,18 +192,23 @@ heard_by node xid m = record m { calls = without_call node xid m.calls }
 -- ---- what the taking of an event does: the calls that were sent, and the number of the next one, are as they were
 
 pub record Parts (I : MdsValue → List Entry → List MdsSend → Type 0) (Heard : HeardOf) : Type 0 where
-  -- nothing but the opens of clients, where they were confirmed from and what they reclaimed changes
-  pub clients : (m : MdsValue) (confirmed : List (ℕ × NodeId)) (opens : OpensValue) (reclaimed : List ℕ) → Becomes I m (record m { confirmed = confirmed; opens = opens; reclaimed = reclaimed })
+  -- Clients: one opens a file, or closes it; one is confirmed from a node, has reclaimed all, or is gone.
+  pub opens : (m : MdsValue) (client : ℕ) (file : FileId) → Becomes I m (record m { opens = opened m.opens client file })
+  pub closes : (m : MdsValue) (client : ℕ) (file : FileId) → Becomes I m (record m { opens = closed m.opens client file })
+  pub confirmed : (m : MdsValue) (client : ℕ) (node : NodeId) → Becomes I m (confirms client node m)
+  pub reclaims : (m : MdsValue) (client : ℕ) → Becomes I m (record m { reclaimed = m.reclaimed ++ client ∷ [] })
+  pub gone : (m : MdsValue) (client : ℕ) → Becomes I m (forgotten client m)
   -- nothing but sessions does, by a call of their table
   pub tables : (m : MdsValue) (move : TableMove) → IsNoRequest move → Becomes I m (moved m move)
   -- Recalls: a new one; a timeout of a callback; time passes.
   pub asks_recall : (m : MdsValue) (file : FileId) (cred : Cred) (client now : ℕ) → is_under_way file cred m.recalls ≡ false → Becomes I m (record m { recalls = with_recall (new_recall file cred client now) m.recalls })
-  pub times_recall : (m : MdsValue) (xid : ℕ) → Becomes I m (record m { recalls = (after_timeout m.recalls xid).recalls })
+  pub times_recall : (m : MdsValue) (xid : ℕ) → is_some (out_at m.recalls xid) ≡ true → Becomes I m (record m { recalls = (after_timeout m.recalls xid).recalls })
   pub ticks_recalls : (m : MdsValue) (now : ℕ) → Becomes I m (record m { recalls = (after_tick m.recalls now).recalls })
   pub replies : (m : MdsValue) (node : NodeId) (reply : RpcReply) (es : List Entry) (ss : List MdsSend) → I m es ss → I m es (ss ++ Replies node reply ∷ [])
   -- what is answered at once is answered by a reply
   pub answers : (m : MdsValue) (node : NodeId) (bytes : List ℕ) (reply : RpcReply) → bytes ≡ reply_bytes reply → (es : List Entry) (ss : List MdsSend) → I m es ss → I m es (ss ++ Answers node bytes ∷ [])
-  pub notes : (m : MdsValue) (e : Entry) → is_note e ≡ true → Enters I m m (e ∷ [])
+  -- a LAYOUTGET is told to come again
+  pub later : (m : MdsValue) (file : FileId) (p : Phase) → Enters I m m (entry.Later file p ∷ [])
   -- a size is seen at a mirror
   pub sizes : (m : MdsValue) (file : FileId) (s : ServedFile) (server fileid size : ℕ) → served m file ≡ Some s
       → Becomes I m (with_served m file (record s { sizes = with_size (record { server = server; fileid = fileid }) size s.sizes }))
@@ -216,7 +216,7 @@ pub record Parts (I : MdsValue → List Entry → List MdsSend → Type 0) (Hear
   pub holds : (m : MdsValue) (file : FileId) (s : ServedFile) (client : ℕ) (again : Bool) → served m file ≡ Some s → Becomes I m (with_served m file (with_holder client again s))
   -- an input of the table of phases that comes by itself, and is not of an own write; a timeout; what an answer to an own write shows
   pub inputs : (m : MdsValue) (file : FileId) (s : ServedFile) (input : FileInput) → comes_by_itself input ≡ true → is_own_input input ≡ false → TakesInput I m file s input
-  pub timeouts : (m : MdsValue) (file : FileId) (s : ServedFile) (xid : ℕ) → TakesInput I m file s (TimesOut xid)
+  pub timeouts : (m : MdsValue) (file : FileId) (s : ServedFile) (node : NodeId) (xid : ℕ) → is_outstanding s.file (server_number node) xid ≡ true → TakesInput I m file s (TimesOut xid)
   pub learns : (m : MdsValue) (file : FileId) (s : ServedFile) (call : AwaitedCall) (server own uid : ℕ) (c : DsCallValue) (replies : DsCallValue → DsReplyValue) (fileid : ℕ) (shown : Shown) → Heard call replies
       → call.caller ≡ ForWrite file → call.sent ≡ CallsServer server own uid c → fileid_of c (replies c) ≡ Some fileid → attributes_shown (replies c) ≡ Some shown
       → TakesInput I m file s (Sees (record { server = server; fileid = fileid }) shown.seen)
@@ -233,7 +233,7 @@ pub record Parts (I : MdsValue → List Entry → List MdsSend → Type 0) (Hear
   pub begins_alone : (m : MdsValue) (file : FileId) (s : ServedFile) (c : CompoundRun) (at : ℕ) (bytes : List ℕ) → served m file ≡ Some s → CanBegin m s at bytes → has_fresh m.fresh ≡ false
       → Becomes I m (with_served m file (with_write c at bytes s))
   -- a timeout of a call of it comes
-  pub times_write : (m : MdsValue) (file : FileId) (s : ServedFile) (w : WaitingWrite) (xid : ℕ) → served m file ≡ Some s → s.write ≡ Some w
+  pub times_write : (m : MdsValue) (file : FileId) (s : ServedFile) (w : WaitingWrite) (xid : ℕ) → served m file ≡ Some s → s.write ≡ Some w → is_writer_out xid s.write ≡ true
       → Becomes I m (with_served m file (record s { write = Some (write_stepped w (writer.after_timeout w.writer xid)) }))
   -- It is over: it waits no more, and the file takes its end. Where nothing can be drawn it only waits no more.
   pub ends_write : (m : MdsValue) (file : FileId) (s : ServedFile) (w : WaitingWrite) (places : List Bool) → served m file ≡ Some s → s.write ≡ Some w → ended w.writer ≡ Some places → has_fresh m.fresh ≡ true
@@ -246,8 +246,7 @@ pub record Parts (I : MdsValue → List Entry → List MdsSend → Type 0) (Hear
 -- ---- what becomes of the calls
 
 pub record Calls (I : MdsValue → List Entry → List MdsSend → Type 0) (Heard : HeardOf) : Type 0 where
-  -- each of them went out, for a waiter of its kind
-  pub was : (m : MdsValue) (es : List Entry) (ss : List MdsSend) → I m es ss → (call : AwaitedCall) → IsOneOf call m.calls → IsOneOf call.sent ss
+  -- each of them is for a waiter of its kind
   pub fits : (m : MdsValue) (es : List Entry) (ss : List MdsSend) → I m es ss → (call : AwaitedCall) → IsOneOf call m.calls → IsCallFor call.sent call.caller
   -- a file's call is answered, and the file takes the answer; where nothing can be drawn nothing comes of it
   pub hears : (m : MdsValue) (node : NodeId) (xid : ℕ) (file : FileId) (s : ServedFile) (call : AwaitedCall) (c : DsCallValue) (replies : DsCallValue → DsReplyValue) → Heard call replies → IsHeard m node xid call (ForFile file) c
@@ -264,10 +263,10 @@ pub record Calls (I : MdsValue → List Entry → List MdsSend → Type 0) (Hear
       → Enters I m (without_read (heard_by node xid m) file s place) (failed_entries r.read (read.after_reply r.read xid (replies c)).read ++ end_entry file e ∷ [])
   -- an own write's is
   pub hears_write : (m : MdsValue) (node : NodeId) (xid : ℕ) (file : FileId) (s : ServedFile) (w : WaitingWrite) (call : AwaitedCall) (c : DsCallValue) (replies : DsCallValue → DsReplyValue) → Heard call replies
-      → IsHeard m node xid call (ForWrite file) c → served m file ≡ Some s → s.write ≡ Some w
+      → IsHeard m node xid call (ForWrite file) c → served m file ≡ Some s → s.write ≡ Some w → is_writer_out xid s.write ≡ true
       → Becomes I m (with_served (heard_by node xid m) file (record s { write = Some (write_stepped w (after_own_reply w.writer xid (replies c))) }))
   -- a callback is
-  pub hears_recall : (m : MdsValue) (node : NodeId) (xid status : ℕ) (call : AwaitedCall) → find (is_call_to node xid) m.calls ≡ Some call → call.caller ≡ ForRecall
+  pub hears_recall : (m : MdsValue) (node : NodeId) (xid status : ℕ) (call : AwaitedCall) → find (is_call_to node xid) m.calls ≡ Some call → call.caller ≡ ForRecall → is_some (out_at m.recalls xid) ≡ true
       → Becomes I m (record (heard_by node xid m) { recalls = (after_reply m.recalls xid (recall_end status)).recalls })
   -- a call that nobody awaits is answered, or has timed out
   pub leaves : (m : MdsValue) (node : NodeId) (xid : ℕ) (call : AwaitedCall) → IsOneOf call m.calls → is_call_to node xid call ≡ true → is_awaited m call ≡ false → Becomes I m (heard_by node xid m)
@@ -286,8 +285,10 @@ pub record Calls (I : MdsValue → List Entry → List MdsSend → Type 0) (Hear
       (CallsBack m.next_xid (back_call sent.call.client session) sent.call.file (layout_stateid_of sent.call.file.0 sent.call.cred.0 (stateid_seqid (served m sent.call.file)))))
   -- the number of a recall whose client has no session is passed over
   pub skips : (m : MdsValue) (sent : RecallSends) → has_xids m ≡ true → next_sent m.recalls m.next_xid ≡ Some sent → Becomes I m (record m { recalls = sent.recalls; next_xid = xid_after m.next_xid })
-  -- what went out goes out again
-  pub again : (m : MdsValue) (s : MdsSend) (es : List Entry) (ss : List MdsSend) → I m es ss → IsOneOf s ss → I m es (ss ++ s ∷ [])
+  -- A call that is awaited times out. Where it is awaited still its record goes again, and so does that of one that was kept until the tick.
+  pub late : (m : MdsValue) (call : AwaitedCall) → IsOneOf call m.calls → is_awaited m call ≡ true → Enters I m m (entry.TimedOut Mds call.xid ∷ [])
+  pub again : (m : MdsValue) (call : AwaitedCall) → IsOneOf call m.calls → is_awaited m call ≡ true → (es : List Entry) (ss : List MdsSend) → I m es ss → I m es (ss ++ call.sent ∷ [])
+  pub repeats : (m : MdsValue) (server xid : ℕ) (call : AwaitedCall) → find (is_call_to (Server server) xid) m.calls ≡ Some call → (es : List Entry) (ss : List MdsSend) → I m es ss → I m es (ss ++ call.sent ∷ [])
 
 -- ---- where a request of a slot begins
 

@@ -7,6 +7,7 @@ use Rattle.std.proofs.lemmas.Option.{none-some, same_Some}
 use Rattle.device_addr.specs.Universal.{AddressValue}
 use Rattle.cluster_model.specs.Members.{IsOneOf}
 use Rattle.cluster_model.specs.declared.ids.NodeId.{NodeId}
+use Rattle.cluster_model.specs.declared.ids.NodeId.TheVariants.{Server}
 use Rattle.cluster_model.specs.declared.ids.FileId.{FileId}
 use Rattle.cluster_model.specs.Nodes.{is_node}
 use Rattle.cluster_model.specs.declared.entry.Entry.{Entry}
@@ -231,25 +232,29 @@ unnumbered calls next ss xs s none g = recalls_send calls next ss xs s (λ n p i
 
 pub recalling_parts : Parts Recalling HeardAny
 recalling_parts = record {
-  clients = λ m confirmed opens reclaimed es ss j. j;
+  opens = λ m client file es ss j. j;
+  closes = λ m client file es ss j. j;
+  confirmed = λ m client node es ss j. j;
+  reclaims = λ m client es ss j. j;
+  gone = λ m client es ss j. j;
   tables = λ m move no es ss j. j;
   asks_recall = λ m file cred client now off es ss j. (j.0, recalls_left m.calls m.next_xid ss _ (recall_spots m.recalls) (asked_left (new_recall file cred client now) refl m.recalls) j.1);
-  times_recall = λ m xid es ss j. (j.0, recalls_left m.calls m.next_xid ss _ (recall_spots m.recalls) (timed_left m.recalls xid) j.1);
+  times_recall = λ m xid out es ss j. (j.0, recalls_left m.calls m.next_xid ss _ (recall_spots m.recalls) (timed_left m.recalls xid) j.1);
   ticks_recalls = λ m now es ss j. (j.0, recalls_left m.calls m.next_xid ss _ (recall_spots m.recalls) (ticked_left m.recalls now) j.1);
   replies = λ m node reply es ss j. (table_parts.replies m node reply es ss j.0, unnumbered m.calls m.next_xid ss (recall_spots m.recalls) _ refl j.1);
   answers = λ m node bytes reply is es ss j. (table_parts.answers m node bytes reply is es ss j.0, unnumbered m.calls m.next_xid ss (recall_spots m.recalls) _ refl j.1);
-  notes = λ m e is es ss j. j;
+  later = λ m file p es ss j. j;
   sizes = λ m file s server fileid size there es ss j. j;
   holds = λ m file s client again there es ss j. j;
   inputs = λ m file s input itself other there fresh es ss j. (table_parts.inputs m file s input itself other there fresh es ss j.0, stepped_recalls m file s (phase file s.file input m.fresh) ss j.1);
-  timeouts = λ m file s xid there fresh es ss j. (table_parts.timeouts m file s xid there fresh es ss j.0, stepped_recalls m file s (phase file s.file (TimesOut xid) m.fresh) ss j.1);
+  timeouts = λ m file s node xid out there fresh es ss j. (table_parts.timeouts m file s node xid out there fresh es ss j.0, stepped_recalls m file s (phase file s.file (TimesOut xid) m.fresh) ss j.1);
   learns = λ m file s call server own uid c replies fileid shown heard caller sent named shows there fresh es ss j. j;
   begins_read = λ m file s c at count there es ss j. j;
   times_read = λ m file s xid place r at on es ss j. j;
   loses_read = λ m file s xid place r e at over es ss j. j;
   begins_write = λ m file s c at bytes there can fresh es ss j. (table_parts.begins_write m file s c at bytes there can fresh es ss j.0, stepped_recalls m file s (phase file s.file (OwnWrite at bytes) m.fresh) ss j.1);
   begins_alone = λ m file s c at bytes there can spent es ss j. j;
-  times_write = λ m file s w xid there waits es ss j. j;
+  times_write = λ m file s w xid there waits out es ss j. j;
   ends_write = λ m file s w places there waits over fresh es ss j.
       (table_parts.ends_write m file s w places there waits over fresh es ss j.0, stepped_recalls (with_served m file (without_write s)) file (without_write s) (phase file s.file (end_input s w) m.fresh) ss j.1);
   drops_write = λ m file s w places there waits over spent es ss j. j;
@@ -282,9 +287,12 @@ leaves_so m ss node xid call t inside its off g =
     let number : call.xid ≡ xid = eqb-true call.xid xid (and_parts (is_node call.node node) (call.xid == xid) its).1 in
     not_both (sym (awaited_so m call caller (subst (λ (k : ℕ). has_number k (recall_spots m.recalls) ≡ true) (sym number) is)) ∙ off))) g
 
+-- what went out goes again
+sent_before : (m : MdsValue) (ss : List MdsSend) (call : AwaitedCall) → IsOneOf call.sent ss → RecallsGood m.calls m.next_xid ss (recall_spots m.recalls) → RecallsGood m.calls m.next_xid (ss ++ call.sent ∷ []) (recall_spots m.recalls)
+sent_before m ss call was g = recalls_send m.calls m.next_xid ss (recall_spots m.recalls) call.sent (λ n p. p call.sent was) (λ has n is. g.sends has call.sent n was is) g
+
 pub recalling_calls : Calls Recalling HeardAny
 recalling_calls = record {
-  was = λ m es ss j. table_calls.was m es ss j.0;
   fits = λ m es ss j. table_calls.fits m es ss j.0;
   hears = λ m node xid file s call c replies heard its there out fresh es ss j.
       (table_calls.hears m node xid file s call c replies heard its there out fresh es ss j.0, stepped_recalls (heard_by node xid m) file s (phase file s.file (Answers xid (own_answer c (replies c))) m.fresh) ss (other_heard m ss node xid call file j.0 its.found (ap file_of its.waits) j.1));
@@ -293,9 +301,9 @@ recalling_calls = record {
       (table_calls.hears_read m node xid file s call c replies place r heard its at on es ss j.0, other_heard m ss node xid call file j.0 its.found (ap file_of its.waits) j.1);
   ends_read = λ m node xid file s call c replies place r e heard its at over es ss j.
       (table_calls.ends_read m node xid file s call c replies place r e heard its at over es ss j.0, other_heard m ss node xid call file j.0 its.found (ap file_of its.waits) j.1);
-  hears_write = λ m node xid file s w call c replies heard its there waits es ss j.
-      (table_calls.hears_write m node xid file s w call c replies heard its there waits es ss j.0, other_heard m ss node xid call file j.0 its.found (ap file_of its.waits) j.1);
-  hears_recall = λ m node xid status call found its es ss j. (table_calls.hears_recall m node xid status call found its es ss j.0, recall_heard m ss node xid status call j.0 found j.1);
+  hears_write = λ m node xid file s w call c replies heard its there waits out es ss j.
+      (table_calls.hears_write m node xid file s w call c replies heard its there waits out es ss j.0, other_heard m ss node xid call file j.0 its.found (ap file_of its.waits) j.1);
+  hears_recall = λ m node xid status call found its out es ss j. (table_calls.hears_recall m node xid status call found its out es ss j.0, recall_heard m ss node xid status call j.0 found j.1);
   leaves = λ m node xid call inside its off es ss j. (table_calls.leaves m node xid call inside its off es ss j.0, leaves_so m ss node xid call j.0 inside its off j.1);
   forgets = λ m es ss j. (table_calls.forgets m es ss j.0, recalls_filter (is_awaited m) m.calls m.next_xid ss (recall_spots m.recalls) (λ call inside caller is. awaited_so m call caller is) j.1);
   calls_file = λ m file s out there has idle its es ss j. (table_calls.calls_file m file s out there has idle its es ss j.0, other_goes m ss (recall_spots m.recalls) _ refl refl has j.1);
@@ -307,7 +315,9 @@ recalling_calls = record {
   skips = λ m sent has its es ss j.
       let goes : RecallGoes m.recalls m.next_xid sent = recall_goes m.recalls m.next_xid sent its in
       (table_calls.skips m sent has its es ss j.0, recall_skipped m ss (recall_spots m.recalls) (recall_spots sent.recalls) goes.place goes.set has j.1);
-  again = λ m s es ss j was. (table_calls.again m s es ss j.0 was, recalls_send m.calls m.next_xid ss (recall_spots m.recalls) s (λ n p. p s was) (λ has n is. j.1.sends has s n was is) j.1);
+  late = λ m call inside is es ss j. j;
+  again = λ m call inside is es ss j. (table_calls.again m call inside is es ss j.0, sent_before m ss call (j.0.sent call inside) j.1);
+  repeats = λ m server xid call found es ss j. (table_calls.repeats m server xid call found es ss j.0, sent_before m ss call (j.0.sent call (found_in (is_call_to (Server server) xid) m.calls call found)) j.1);
 }
 
 pub recalling_begins : KeepsBegin Recalling

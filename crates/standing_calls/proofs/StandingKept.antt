@@ -111,20 +111,24 @@ new_good m name file =
 
 pub standing_parts : Parts Standing HeardAny
 standing_parts = record {
-  clients = λ m confirmed opens reclaimed es ss j. j;
+  opens = λ m client file es ss j. j;
+  closes = λ m client file es ss j. j;
+  confirmed = λ m client node es ss j. j;
+  reclaims = λ m client es ss j. j;
+  gone = λ m client es ss j. j;
   tables = λ m move no es ss j. j;
   asks_recall = λ m file cred client now off es ss j. j;
-  times_recall = λ m xid es ss j. j;
+  times_recall = λ m xid out es ss j. j;
   ticks_recalls = λ m now es ss j. j;
   replies = λ m node reply es ss j. (table_parts.replies m node reply es ss j.0, j.1);
   answers = λ m node bytes reply is es ss j. (table_parts.answers m node bytes reply is es ss j.0, j.1);
-  notes = λ m e is es ss j. j;
+  later = λ m file p es ss j. j;
   sizes = λ m file s server fileid size there es ss j. (j.0, λ fresh. files_left m file s _ there (λ g. let l = leaves_same m.calls file s g in record { own = l.own; reads = l.reads; write = l.write; turns = l.turns; kind = l.kind }) (j.1 fresh));
   holds = λ m file s client again there es ss j. (j.0, λ fresh. files_left m file s _ there (λ g. let l = leaves_same m.calls file s g in record { own = l.own; reads = l.reads; write = l.write; turns = l.turns; kind = l.kind }) (j.1 fresh));
   inputs = λ m file s input itself other there fresh es ss j.
       (table_parts.inputs m file s input itself other there fresh es ss j.0, λ any. input_stands m file s input there (itself_next file s.file m.fresh input itself) (j.1 fresh));
-  timeouts = λ m file s xid there fresh es ss j.
-      (table_parts.timeouts m file s xid there fresh es ss j.0, λ any. input_stands m file s (TimesOut xid) there (late_next file s.file m.fresh xid) (j.1 fresh));
+  timeouts = λ m file s node xid out there fresh es ss j.
+      (table_parts.timeouts m file s node xid out there fresh es ss j.0, λ any. input_stands m file s (TimesOut xid) there (late_next file s.file m.fresh xid) (j.1 fresh));
   learns = λ m file s call server own uid c replies fileid shown heard caller sent named shows there fresh es ss j.
       (j.0, λ any. input_stands m file s (Sees (record { server = server; fileid = fileid }) shown.seen) there (sees_next file s.file m.fresh (record { server = server; fileid = fileid }) shown.seen) (j.1 fresh));
   begins_read = λ m file s c at count there es ss j.
@@ -146,7 +150,7 @@ standing_parts = record {
       files_left x file t (with_write c at bytes t) (stepped_there m file s step there) (write_leaves x.calls file t _ (new_left c t.file.layout.live t.file.layout.cred.0 at bytes (write_spots t.write)))
       (input_stands m file s (OwnWrite at bytes) there (itself_next file s.file m.fresh (OwnWrite at bytes) refl) (j.1 fresh)));
   begins_alone = λ m file s c at bytes there can spent es ss j. (j.0, λ fresh. absurd (not_both (sym fresh ∙ spent)));
-  times_write = λ m file s w xid there waits es ss j.
+  times_write = λ m file s w xid there waits out es ss j.
       (j.0, λ fresh. files_left m file s _ there (write_leaves m.calls file s _ (stepped_write s w (write_stepped w (writer.after_timeout w.writer xid)) waits (write_late w.writer xid))) (j.1 fresh));
   ends_write = λ m file s w places there waits over fresh es ss j.
       let n : MdsValue = with_served m file (without_write s) in
@@ -192,7 +196,6 @@ write_heard m xid call file s w reply is waits g =
 
 pub standing_calls : Calls Standing HeardAny
 standing_calls = record {
-  was = λ m es ss j. table_calls.was m es ss j.0;
   fits = λ m es ss j. table_calls.fits m es ss j.0;
   hears = λ m node xid file s call c replies heard its there out fresh es ss j.
       let step : FileStep = phase file s.file (Answers xid (own_answer c (replies c))) m.fresh in
@@ -205,10 +208,10 @@ standing_calls = record {
   ends_read = λ m node xid file s call c replies place r e heard its at over es ss j.
       (table_calls.ends_read m node xid file s call c replies place r e heard its at over es ss j.0, λ fresh.
       files_heard m node xid call file s _ its.found (ap Rattle.standing_calls.proofs.FilesKept.file_of its.waits) at.there (read_ended m xid call file s place r its.waits at) (j.1 fresh));
-  hears_write = λ m node xid file s w call c replies heard its there waits es ss j.
-      (table_calls.hears_write m node xid file s w call c replies heard its there waits es ss j.0, λ fresh.
+  hears_write = λ m node xid file s w call c replies heard its there waits out es ss j.
+      (table_calls.hears_write m node xid file s w call c replies heard its there waits out es ss j.0, λ fresh.
       files_heard m node xid call file s _ its.found (ap Rattle.standing_calls.proofs.FilesKept.file_of its.waits) there (write_heard m xid call file s w (replies c) its.waits waits) (j.1 fresh));
-  hears_recall = λ m node xid status call found its es ss j. (table_calls.hears_recall m node xid status call found its es ss j.0, λ fresh. files_unheard m node xid call found its (j.1 fresh));
+  hears_recall = λ m node xid status call found its out es ss j. (table_calls.hears_recall m node xid status call found its out es ss j.0, λ fresh. files_unheard m node xid call found its (j.1 fresh));
   leaves = λ m node xid call inside its off es ss j. (table_calls.leaves m node xid call inside its off es ss j.0, λ fresh. files_leave m ss node xid call j.0 inside its off (j.1 fresh));
   forgets = λ m es ss j. (table_calls.forgets m es ss j.0, λ fresh. files_forget m (j.1 fresh));
   calls_file = λ m file s out there has idle its es ss j.
@@ -255,7 +258,9 @@ standing_calls = record {
       }) (j.1 fresh));
   calls_back = λ m sent session has its es ss j. (table_calls.calls_back m sent session has its es ss j.0, λ fresh. files_called m ss j.0 has _ refl (j.1 fresh));
   skips = λ m sent has its es ss j. (table_calls.skips m sent has its es ss j.0, j.1);
-  again = λ m s es ss j was. (table_calls.again m s es ss j.0 was, j.1);
+  late = λ m call inside is es ss j. j;
+  again = λ m call inside is es ss j. (table_calls.again m call inside is es ss j.0, j.1);
+  repeats = λ m server xid call found es ss j. (table_calls.repeats m server xid call found es ss j.0, j.1);
 }
 
 pub standing_begins : KeepsBegin Standing
