@@ -23,8 +23,9 @@ use Rattle.mds_rule.specs.MdsStates.{WaitingRead, WaitingWrite, ServedFile, MdsS
 use Rattle.mds_rule.specs.declared.waiter.Waiter.{Waiter}
 use Rattle.mds_rule.specs.declared.waiter.Waiter.TheVariants.{ForFile, ForRead, ForWrite, ForRecall}
 use Rattle.mds_rule.specs.ServedFiles.{has_fresh, file_stepped, input_at, takes_input}
-use Rattle.mds_rule.specs.Answers.{server_number, is_read_out, is_file_out, has_read_out, has_write_out, is_awaited_by, is_awaited, sized, fileid_of, attributes_shown, sees_in, read_step_at, read_from, read_of, steps_read, write_in, steps_write, sees_ctime, recall_end, own_answer, server_answered, answered_as, answers_found, takes_answer, is_writer_out, recalls_after}
-use Rattle.mds_walk.specs.Parts.{Becomes, Keeps, HeardOf, Hearing, IsReadAt, IsCallFor, IsOfServers, IsOfClients, IsHeard, heard_by, Parts, Calls}
+use Rattle.mds_rule.specs.Answers.{server_number, is_read_out, is_file_out, has_read_out, has_write_out, is_awaited_by, is_awaited, sized, fileid_of, attributes_shown, sees_in, read_step_at, read_from, read_of, steps_read, steps_write, sees_ctime, recall_end, own_answer, server_answered, answered_as, answers_found, takes_answer, is_writer_out, recalls_after}
+use Rattle.mds_walk.specs.CallTables.{IsCallFor, IsOfServers, IsOfClients}
+use Rattle.mds_walk.proofs.Parts.{Becomes, Keeps, HeardOf, Hearing, IsReadAt, IsHeard, heard_by, Parts, Calls}
 use Rattle.mds_walk.proofs.Keeping.{none_keeps, same, becomes_keeps}
 use Rattle.mds_walk.proofs.Lists.{found_in, found_passes, put_back, none_there, first_there}
 use Rattle.mds_walk.proofs.OpsWalk.{place_served, served_again, stepped_there}

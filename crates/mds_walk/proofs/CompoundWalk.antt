@@ -46,7 +46,7 @@ use Rattle.mds_rule.specs.ServedFiles.{has_fresh, file_stepped, input_at, takes_
 use Rattle.mds_rule.specs.Compounds.{operate, has_session, operates, compound_bytes, kept_in_slot, finishes, op_then, with_ops, runs, sequence_in, in_slot, sequenced, sequence_of, may_stand_alone, first_alone, first_by, first_operation, new_run, runs_compound}
 use Rattle.mds_rule.specs.Answers.{resumes, is_done_as, has_failed_as, failed_entries, read_result, without_read, read_resumes, read_after, read_ends, read_step_at, read_from, read_of, is_read_out, is_writer_out, has_write_out, write_answer, write_stepped, write_ends, write_of, write_in, has_failed_everywhere, write_over, recall_outcome, recalls_after, timed_out_for, is_file_out, is_awaited_by}
 use Rattle.mds_laws.specs.SlotUses.{first_request}
-use Rattle.mds_walk.specs.Parts.{Parts, IsReadAt, with_read_at, end_entry, end_input, without_write, Becomes, Enters, Keeps, HeardOf}
+use Rattle.mds_walk.proofs.Parts.{Parts, IsReadAt, with_read_at, end_entry, end_input, without_write, Becomes, Enters, Keeps, HeardOf}
 use Rattle.mds_walk.proofs.Keeping.{KeepsOp, then_keeps, none_keeps, same, becomes_keeps, enters_twice, enters_keeps, stays, silent_keeps}
 use Rattle.mds_walk.proofs.Lists.{set_twice}
 use Rattle.mds_walk.proofs.Requested.{behind_request}

@@ -38,7 +38,7 @@ use Rattle.std.proofs.lemmas.Bool.{eq-eqb}
 use Rattle.file_rule.specs.MdsFiles.{FileStep}
 use Rattle.mds_rule.specs.MdsStates.{with_served}
 use Rattle.mds_rule.specs.ServedFiles.{is_period_end, file_behind, file_stepped}
-use Rattle.mds_walk.specs.Parts.{Becomes, Keeps, HeardOf, HeardAny, Hearing, HearsSo, KeepsBegin, end_input, without_write, Parts, Calls}
+use Rattle.mds_walk.proofs.Parts.{Becomes, Keeps, HeardOf, HeardAny, Hearing, HearsSo, KeepsBegin, end_input, without_write, Parts, Calls}
 use Rattle.mds_walk.proofs.Keeping.{joined, hears_any, then_keeps, none_keeps, same, becomes_keeps, enters_keeps, silent_keeps}
 use Rattle.mds_walk.proofs.LateFound.{IsAwaitedCall, late_is}
 use Rattle.mds_walk.proofs.Requested.{behind_request, behind_begin, begin_kept}

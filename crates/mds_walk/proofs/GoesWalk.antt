@@ -9,7 +9,6 @@ use Rattle.cluster_model.specs.declared.ids.NodeId.TheVariants.{Server}
 use Rattle.cluster_model.specs.declared.ids.FileId.{FileId}
 use Rattle.cluster_model.specs.declared.entry.Entry.{Entry}
 use Rattle.file_rule.specs.FilePhases.{CallOut, call_out}
-use Rattle.cluster_model.specs.Members.{IsOneOf}
 use Rattle.mds_io.specs.Reads.{ReadSends}
 use Rattle.mds_io.specs.Reads as read
 use Rattle.mirror_writer.specs.Writers.{WriterSends}
@@ -21,7 +20,7 @@ use Rattle.recall.specs.Recalls.{RecallSends, next_sent}
 use Rattle.mds_rule.specs.MdsStates.{WaitingRead, WaitingWrite, ServedFile, MdsSend, AwaitedCall, MdsValue, MdsStep, sends_none, and_then, is_call_to, served, numbered}
 use Rattle.mds_rule.specs.declared.waiter.Waiter.TheVariants.{ForRead}
 use Rattle.mds_rule.specs.Goes.{xid_after, calls_server, OwnCall, own_of_file, own_of_write, own_by, place_of, own_call_at, own_next, has_xids, own_call, own_two, own_calls, read_goes, read_call, read_call_in, each, read_count, read_calls, calls_back, recall_goes, recall_call, repeats_call, repeats, place_calls, file_calls, calls_out}
-use Rattle.mds_walk.specs.Parts.{Becomes, Keeps, HeardOf, with_read_at, Parts, Calls}
+use Rattle.mds_walk.proofs.Parts.{Becomes, Keeps, HeardOf, with_read_at, Parts, Calls}
 use Rattle.mds_walk.proofs.Keeping.{then_keeps, none_keeps, same, becomes_keeps}
 
 module _ (I : MdsValue → List Entry → List MdsSend → Type 0) (Heard : HeardOf) (k : Parts I Heard) (c : Calls I Heard) where

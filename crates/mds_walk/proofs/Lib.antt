@@ -1,4 +1,5 @@
 pub mod Lists
+pub mod Parts
 pub mod Keeping
 pub mod Requested
 mod LateFound

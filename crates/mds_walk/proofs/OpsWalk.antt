@@ -36,7 +36,7 @@ use Rattle.nfs4_file_ops.specs.LayoutCommit.{layoutcommit4_args}
 use Rattle.nfs4_file_ops.specs.LayoutGet.{layoutget4_args}
 use Rattle.nfs4_file_ops.specs.LayoutReturn.{layoutreturn4, layoutreturn_file4, layoutreturn4_args}
 use Rattle.open_state.specs.declared.open.Open.{Open}
-use Rattle.open_state.specs.Opens.{OpensValue, open_of}
+use Rattle.open_state.specs.Opens.{open_of}
 use Rattle.mds_operations.specs.declared.object.Object.{Object}
 use Rattle.mds_operations.specs.declared.object.Object.TheVariants.{File}
 use Rattle.mds_operations.specs.declared.layout_get.LayoutGetFound.{LayoutGetFound}
@@ -61,7 +61,7 @@ use Rattle.mds_rule.specs.SessionOps.{goes_with}
 use Rattle.open_state.specs.Opens.{opened, closed}
 use Rattle.mds_rule.specs.FileOps.{client_of, current_file, file_or_none, stateid_in, named_in, write_verifier, phase_or_free, uids_left, put_object, runs_put_fh, get_object, runs_get_fh, runs_lookup, get_attributes, runs_get_attr, with_new_file, opens_or_makes, opens_file, open_named, creation_in, can_open, may_make, runs_open, name_in, closes, runs_close, runs_commit, reads_at, runs_read, read_length, with_read, with_write, writes_at, writes_file, ends_by, write_refused, runs_write, write_ask, is_delay}
 use Rattle.mds_rule.specs.LayoutOps.{no_stateid, layout_asked, layout_found, with_holder, granted_in, grants_to, is_granted, phase_behind, later_by, layout_answer, runs_layout_get, is_try_later, errors_of, client_number, return_by, returns_file, file_return, returns_all, runs_layout_return, runs_layout_commit, device_from, device_size, device_answer, runs_get_device_info}
-use Rattle.mds_walk.specs.Parts.{Becomes, Enters, HeardOf, CanBegin, Parts}
+use Rattle.mds_walk.proofs.Parts.{Enters, HeardOf, CanBegin, Parts}
 use Rattle.mds_walk.proofs.Keeping.{KeepsOp, no_entries, stays, enters_then, enters_becomes}
 use Rattle.mds_walk.proofs.ServedWalk.{takes, asks, periods, refused, unless_refused}
 

@@ -10,7 +10,7 @@ use Rattle.mds_receive.specs.MdsReceive.{incoming_of}
 use Rattle.mds_rule.specs.MdsStates.{MdsSend, MdsValue}
 use Rattle.mds_laws.specs.MdsRuns.{MdsInput, Hears, IsTimedOut, Ticks, RecallsFile, Resilvers}
 use Rattle.mds_laws.specs.SlotUses.{request_in}
-use Rattle.mds_walk.specs.Parts.{KeepsBegin, Becomes, HeardOf, moved, Parts}
+use Rattle.mds_walk.proofs.Parts.{KeepsBegin, Becomes, HeardOf, moved, Parts}
 
 -- its session is bound to the node that it came from, and it begins
 abbrev pub request_moves : ℕ → NodeId → Option Sequence → List TableMove

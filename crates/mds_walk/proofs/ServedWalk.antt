@@ -32,8 +32,8 @@ use Rattle.recall.specs.Recalls.{is_under_way, new_recall, with_recall}
 use Rattle.mds_rule.specs.MdsStates.{CompoundRun, ServedFile, MdsSend, MdsValue, MdsStep, sends_none, served}
 use Rattle.mds_rule.specs.OpSteps.{OpStep, Goes, with_result, refuses, refused_or}
 use Rattle.mds_rule.specs.ServedFiles.{has_fresh, file_stepped, input_at, takes_input, with_new_recall, recall_by, recall_at, asks_back, held_from, one_by_one, ends_periods, forgotten, ends_client}
-use Rattle.mds_rule.specs.SessionOps.{with_exchange, runs_exchange, confirmed_by, confirms, gone_with, goes_with, with_session, with_create, runs_create, on_session, runs_bind, runs_destroy_session, runs_destroy_client, reclaims}
-use Rattle.mds_walk.specs.Parts.{Parts, is_own_input, Becomes, HeardOf, TakesInput, comes_by_itself}
+use Rattle.mds_rule.specs.SessionOps.{with_exchange, runs_exchange, confirms, gone_with, goes_with, with_session, with_create, runs_create, on_session, runs_bind, runs_destroy_session, runs_destroy_client, reclaims}
+use Rattle.mds_walk.proofs.Parts.{Parts, is_own_input, Becomes, HeardOf, TakesInput, comes_by_itself}
 use Rattle.mds_walk.proofs.Keeping.{KeepsOp, Silent, no_entries, stays, silent_then, silent_none, silent_same, becomes_silent}
 
 module _ (I : MdsValue → List Entry → List MdsSend → Type 0) (Heard : HeardOf) (k : Parts I Heard) where

@@ -18,7 +18,8 @@ use Rattle.mds_rule.specs.ServedFiles.{is_period_end, file_behind, file_stepped}
 use Rattle.mds_rule.specs.Answers.{is_awaited, own_answer}
 use Rattle.mds_rule.specs.Goes.{xid_after, calls_as, has_xids}
 use Rattle.mds_laws.specs.MdsRuns.{MdsEvent, mds_run}
-use Rattle.mds_walk.specs.Parts.{HeardAny, IsCallFor, heard_by, end_input, without_write, Parts, Calls, KeepsBegin}
+use Rattle.mds_walk.specs.CallTables.{IsCallFor}
+use Rattle.mds_walk.proofs.Parts.{HeardAny, heard_by, end_input, without_write, Parts, Calls, KeepsBegin}
 use Rattle.mds_walk.specs.CallTables.{TableStands}
 use Rattle.mds_walk.proofs.Lists.{in_more, in_last, in_with_call, in_filtered}
 use Rattle.mds_walk.proofs.EventWalk.{in_each_run}

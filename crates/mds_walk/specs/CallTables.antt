@@ -1,9 +1,29 @@
 -- The table of the calls that were sent and are not answered, in every run.
 use Rattle.std.specs.Prelude.{◌≡◌, ◌<◌, true, List}
 use Rattle.cluster_model.specs.Members.{IsOneOf}
-use Rattle.mds_rule.specs.MdsStates.{MdsSend, AwaitedCall, MdsValue, MdsStep}
+use Rattle.mds_rule.specs.MdsStates.{MdsSend, CallsServer, CallsBack, Replies, Answers, AwaitedCall, MdsValue, MdsStep}
 use Rattle.mds_rule.specs.Goes.{has_xids}
-use Rattle.mds_walk.specs.Parts.{IsCallFor}
+use Rattle.mds_rule.specs.declared.waiter.Waiter.{Waiter}
+use Rattle.mds_rule.specs.declared.waiter.Waiter.TheVariants.{ForFile, ForRead, ForWrite, ForRecall}
+
+-- The calls to data servers are those of files, READs and own writes, and the callbacks those of recalls.
+abbrev pub IsOfServers : Waiter → Type 0
+IsOfServers (ForFile file) = Unit {0}
+IsOfServers (ForRead file) = Unit {0}
+IsOfServers (ForWrite file) = Unit {0}
+IsOfServers ForRecall = ⊥
+
+abbrev pub IsOfClients : Waiter → Type 0
+IsOfClients (ForFile file) = ⊥
+IsOfClients (ForRead file) = ⊥
+IsOfClients (ForWrite file) = ⊥
+IsOfClients ForRecall = Unit {0}
+
+abbrev pub IsCallFor : MdsSend → Waiter → Type 0
+IsCallFor (CallsServer server xid uid call) caller = IsOfServers caller
+IsCallFor (CallsBack xid back file stateid) caller = IsOfClients caller
+IsCallFor (Replies node reply) caller = ⊥
+IsCallFor (Answers node bytes) caller = ⊥
 
 -- each of them went out
 abbrev pub WereSent : MdsValue → List MdsSend → Type 0

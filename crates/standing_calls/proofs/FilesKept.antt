@@ -1,6 +1,6 @@
 -- The calls of each file stand, through what becomes of one file and of the table.
-use Rattle.std.proofs.Common.{arith, ◌≡◌, ◌≢◌, ℕ, zero, suc, ◌+◌, Bool, true, false, List, [], ◌∷◌, ◌++◌, length, Option, Some, None, refl, sym, ap, subst, ◌∙◌, ◌⊎◌, inl, inr, filter}
-use Rattle.std.specs.Prelude.{◌-◌, ◌==◌, not, map, slice_get, slice_set, if◌then◌else◌}
+use Rattle.std.proofs.Common.{arith, ◌≡◌, ◌≢◌, ℕ, Bool, true, false, List, [], ◌∷◌, ◌++◌, Option, Some, None, refl, sym, ap, subst, ◌∙◌, ◌⊎◌, inl, inr, filter}
+use Rattle.std.specs.Prelude.{◌-◌, ◌==◌, not, slice_get, slice_set, if◌then◌else◌}
 use Rattle.std.specs.List.{find, list_any}
 use Rattle.std.proofs.lemmas.Bool.{cond_both, eqb-true, eq-eqb}
 use Rattle.std.proofs.lemmas.Option.{none-some, same_Some}
@@ -9,18 +9,17 @@ use Rattle.cluster_model.specs.Members.{IsOneOf}
 use Rattle.cluster_model.specs.declared.ids.NodeId.{NodeId}
 use Rattle.cluster_model.specs.declared.ids.NodeId.TheVariants.{Server}
 use Rattle.cluster_model.specs.declared.ids.FileId.{FileId}
-use Rattle.file_rule.specs.MdsFiles.{MdsFile, FileStep}
-use Rattle.file_rule.specs.FilePhases.{is_outstanding}
+use Rattle.file_rule.specs.MdsFiles.{FileStep}
 use Rattle.mds_rows.specs.Draws.{drawn}
 use Rattle.recall.specs.Recalls.{without_file}
-use Rattle.mds_rule.specs.MdsStates.{WaitingRead, WaitingWrite, ServedFile, MdsSend, AwaitedCall, MdsValue, with_call, is_call_to, without_call, served_in, with_file, served, with_served}
+use Rattle.mds_rule.specs.MdsStates.{ServedFile, MdsSend, AwaitedCall, MdsValue, with_call, is_call_to, without_call, served_in, served, with_served}
 use Rattle.mds_rule.specs.declared.waiter.Waiter.{Waiter}
 use Rattle.mds_rule.specs.declared.waiter.Waiter.TheVariants.{ForFile, ForRead, ForWrite, ForRecall}
 use Rattle.mds_rule.specs.ServedFiles.{is_period_end, file_behind, file_stepped}
-use Rattle.mds_rule.specs.Answers.{is_read_out, is_writer_out, is_file_out, has_read_out, has_write_out, is_awaited_by, is_awaited}
+use Rattle.mds_rule.specs.Answers.{is_file_out, has_read_out, has_write_out, is_awaited}
 use Rattle.mds_walk.proofs.OpsWalk.{place_served, served_again}
 use Rattle.mds_walk.proofs.TableKept.{IsTable}
-use Rattle.standing_calls.proofs.Spots.{Spot, has_at, has_number, Once, not_both, is_off, at_number, IsLeft, left_same}
+use Rattle.standing_calls.proofs.Spots.{Spot, has_number, not_both, at_number, IsLeft, left_same}
 use Rattle.standing_calls.proofs.Stands.{Good, good_left, good_called, good_out, good_without, Awaits, good_leaves, good_forgets}
 use Rattle.standing_calls.proofs.OwnSpots.{own_spots, outstanding_at}
 use Rattle.standing_calls.proofs.OwnSteps.{KindOf}

@@ -1,8 +1,6 @@
 -- The call of a file that goes out is out to one of its places, and the others are as they were.
-use Rattle.std.proofs.Common.{◌≡◌, ℕ, zero, suc, Bool, true, false, List, [], ◌∷◌, Option, Some, None, refl, sym, ap, subst, ◌∙◌}
-use Rattle.std.specs.Prelude.{◌==◌, ◌&&◌, map, position, slice_get, slice_set, if◌then◌else◌}
-use Rattle.std.proofs.lemmas.Bool.{cond_both}
-use Rattle.std.proofs.lemmas.Option.{none-some, same_Some}
+use Rattle.std.proofs.Common.{◌≡◌, ℕ, suc, Bool, true, false, List, [], ◌∷◌, Option, Some, None, refl, ap, subst}
+use Rattle.std.specs.Prelude.{◌&&◌, map, slice_get, slice_set, if◌then◌else◌}
 use Rattle.cluster_model.specs.declared.limits.TheConstants.{PIECE_SIZE}
 use Rattle.cluster_model.specs.declared.ids.Mirror.{Mirror}
 use Rattle.cluster_model.specs.declared.call_stage.CallStage.{CallStage}
@@ -17,7 +15,7 @@ use Rattle.file_rule.specs.declared.creation.Creation.{Creation}
 use Rattle.file_rule.specs.MdsFiles.{Creations, Activity, Idle, Makes, Fences, Settles, Copies, MdsFile, in_stage}
 use Rattle.file_rule.specs.FilePhases.{CallOut, creation_waiting, create_out_at, create_out, fence_out, settle_out, copy_out, call_out_of, call_out}
 use Rattle.standing_calls.proofs.Spots.{Spot, map_set}
-use Rattle.standing_calls.proofs.OwnSpots.{creation_spot, mirror_spot, target_spot, settle_spots, copy_spots, spots_in, own_spots, Kind}
+use Rattle.standing_calls.proofs.OwnSpots.{creation_spot, mirror_spot, target_spot, settle_spots, copy_spots, spots_in, own_spots, Kind, number_of}
 
 -- the places then, and that the file is of the kind that it was
 pub record GoesTo (xid : ℕ) (spots : List Spot) (f : MdsFile) (c : CallOut) : Type 0 where
@@ -55,7 +53,7 @@ module _ (f : MdsFile) (xid : ℕ) where
   target_goes c kind place None = tt
   target_goes c kind place (Some t) = record {
     place = suc place;
-    set = ap (λ (l : List Spot). (c.source.server, Rattle.standing_calls.proofs.OwnSpots.number_of c.read) ∷ l) (map_set target_spot c.targets place (copy.at_stage t (Out xid 0)));
+    set = ap (λ (l : List Spot). (c.source.server, number_of c.read) ∷ l) (map_set target_spot c.targets place (copy.at_stage t (Out xid 0)));
     kind = λ any. kind;
   }
 

@@ -1,20 +1,14 @@
 -- The places to which a file's own calls go, and what is left of them behind each input of the table of phases.
-use Rattle.std.proofs.Common.{◌≡◌, ℕ, zero, suc, ◌+◌, Bool, true, false, cond, List, [], ◌∷◌, length, Option, Some, None, refl, sym, ap, subst, ◌∙◌, inl, inr}
-use Rattle.std.specs.Prelude.{◌==◌, ◌&&◌, ◌||◌, not, nat_lt, is_some, map, position, slice_get, slice_set, if◌then◌else◌}
+use Rattle.std.proofs.Common.{◌≡◌, ℕ, Bool, true, false, List, [], ◌∷◌, length, Option, Some, None, refl, sym, ap, subst, ◌∙◌, inl, inr}
+use Rattle.std.specs.Prelude.{◌==◌, ◌&&◌, ◌||◌, is_some, map, position, slice_get, slice_set, if◌then◌else◌}
 use Rattle.std.specs.List.{list_any, list_all}
 use Rattle.std.proofs.lemmas.Bool.{cond_both}
-use Rattle.cluster_model.specs.declared.limits.TheConstants.{MAX_TIMEOUTS, MAX_UNSYNCED}
-use Rattle.cluster_model.specs.declared.tick.Tick.{Tick}
-use Rattle.cluster_model.specs.declared.ids.NodeId.{NodeId}
-use Rattle.cluster_model.specs.declared.ids.NodeId.TheVariants.{Mds, Server, Client}
 use Rattle.cluster_model.specs.declared.ids.FileId.{FileId}
 use Rattle.cluster_model.specs.declared.ids.Cred.{Cred}
 use Rattle.cluster_model.specs.declared.ids.Mirror.{Mirror}
 use Rattle.cluster_model.specs.declared.ids.MirrorId.{MirrorId}
-use Rattle.cluster_model.specs.declared.ds_call.Shown.{Shown}
-use Rattle.cluster_model.specs.declared.entry.Entry.{Entry}
 use Rattle.cluster_model.specs.declared.phase.LeftCause.{LeftCause}
-use Rattle.cluster_model.specs.declared.phase.LeftCause.TheVariants.{Error, Timeouts, Unsynced}
+use Rattle.cluster_model.specs.declared.phase.LeftCause.TheVariants.{Error}
 use Rattle.cluster_model.specs.declared.call_stage.CallStage.{CallStage}
 use Rattle.cluster_model.specs.declared.call_stage.CallStage.TheVariants.{Waits, Out, KeptOut, KeptBack, Done, GivenUp}
 use Rattle.cluster_model.specs.declared.fence_mirror.FenceMirror.{FenceMirror}
@@ -29,7 +23,7 @@ use Rattle.cluster_model.specs.DsCalls.{DsReplyValue, Created, Set, Written, Com
 use Rattle.cluster_model.specs.Fences as fence
 use Rattle.cluster_model.specs.Fences.{is_out, is_over, waits, stage_at_tick, FenceState, FenceAfter, MirrorStep, with_stage, is_done, to_fence}
 use Rattle.cluster_model.specs.Journal.{is_mirror}
-use Rattle.cluster_model.specs.Phases.{PhaseStep, seen_if, seen_at, with_live, is_clean, is_last_live, is_source, phase_without, mirror_left, fence_done, settled_row, has_targets, copied, returned, revoked, own_done}
+use Rattle.cluster_model.specs.Phases.{PhaseStep, is_last_live, is_source, phase_without, mirror_left, fence_done, has_targets, copied, freed, made, with_phase}
 use Rattle.copy_rule.specs.declared.copy_target.CopyTarget.{CopyTarget}
 use Rattle.copy_rule.specs.declared.copy_target.Target.{Target}
 use Rattle.copy_rule.specs.declared.copy_target.CopyStep.{CopyStep}
@@ -38,11 +32,10 @@ use Rattle.copy_rule.specs.Copies as copy
 use Rattle.copy_rule.specs.Copies.{CopyState, CopyAfter, TargetStep, is_given_up, to_make, has_outcome, have_answered, swaps_of}
 use Rattle.file_rule.specs.declared.creation.Creation.{Creation}
 use Rattle.file_rule.specs.declared.fresh.Fresh.{Fresh}
-use Rattle.file_rule.specs.MdsFiles.{Creations, Activity, Idle, Makes, Fences, Settles, Copies, MdsFile, FileStep, nothing, stays, a_uid, goes_idle, goes_fencing, begun_by, goes_on, with_entries, fenced_on, fence_failed, fence_stepped, seen_by, mirror_at, shown_by_set, fence_answered, fence_timed_out, in_stage, with_creation, creation_failed, creation_answered, stage_behind, creation_timed_out, creation_of, making_on, making_at, making_by, copying, settled, plan_of, source_of, source_left, shown_by_commit, seen_at_source, settling_answered, settling_timed_out, copied_by, copied_on, target_left, copy_stepped}
-use Rattle.file_rule.specs.FilePhases as input
-use Rattle.file_rule.specs.FilePhases.{FileInput, asked_in, are_spent, held_in, by_client, by_mds, recalled_row, returned_row, revoked_row, own_row, resilvered_in, kind_of, settles_by, answered_in, timed_out_in, ticked, phase, first_is_on, is_outstanding_in, is_outstanding}
-use Rattle.mds_walk.proofs.Lists.{none_there, first_there}
-use Rattle.standing_calls.proofs.Spots.{Spot, is_number, is_at, has_at, has_number, is_spot_of, Once, not_both, or_false, is_off, IsLeft, left_same, left_then, Less, Thin, thin_left, thin_same, AreNone, none_thin, none_left, none_number, map_none, map_thin, map_set, map_get, set_thin, set_taken, first_passes, map_any, any_same}
+use Rattle.file_rule.specs.MdsFiles.{Creations, Activity, Idle, Makes, Fences, Settles, Copies, MdsFile, FileStep, stays, a_uid, goes_idle, goes_fencing, begun_by, goes_on, with_entries, fenced_on, fence_failed, fence_stepped, making_on, copying, settled, plan_of, source_left, settling_answered, copied_by, copied_on, target_left, copy_stepped, all_made}
+use Rattle.file_rule.specs.FilePhases.{kind_of, first_is_on, is_outstanding_in}
+use Rattle.mds_walk.proofs.Lists.{none_there}
+use Rattle.standing_calls.proofs.Spots.{Spot, is_number, is_at, has_at, has_number, is_spot_of, Once, not_both, IsLeft, left_same, left_then, Less, Thin, thin_left, AreNone, none_left, map_thin, map_set, map_get, set_thin, set_taken, map_any, any_same}
 
 -- ---- the places
 
@@ -262,9 +255,9 @@ module _ (file : FileId) where
 
   pub making_end : (layout : LayoutState) (all : Creations) → IsEnd (map creation_spot all.items) (making_on file layout all).file
   making_end layout all =
-      cond_both (list_all (λ (c : Creation). is_over c.stage) all.items) (goes_idle (Rattle.cluster_model.specs.Phases.made file layout (Rattle.file_rule.specs.MdsFiles.all_made all)) 0) (stays layout (Makes all))
+      cond_both (list_all (λ (c : Creation). is_over c.stage) all.items) (goes_idle (made file layout (all_made all)) 0) (stays layout (Makes all))
       (λ (s : FileStep). IsEnd (map creation_spot all.items) s.file)
-      (λ is. none_end (map creation_spot all.items) (goes_idle (Rattle.cluster_model.specs.Phases.made file layout (Rattle.file_rule.specs.MdsFiles.all_made all)) 0).file (record { none = tt; kind = tt }))
+      (λ is. none_end (map creation_spot all.items) (goes_idle (made file layout (all_made all)) 0).file (record { none = tt; kind = tt }))
       (λ off. end_same (record { layout = layout; activity = Makes all }) tt)
 
   -- ---- a source that fails
@@ -310,7 +303,7 @@ module _ (file : FileId) where
 
     settled_none : (layout : LayoutState) (copies : CopyKind) → HasNone (settled file layout copies fresh).file
     settled_none layout copies =
-        let row : Bool → PhaseStep = λ (b : Bool). if b then record { file = Rattle.cluster_model.specs.Phases.with_phase layout (Copying (a_uid fresh.uid) copies); entries = [] } else Rattle.cluster_model.specs.Phases.freed file layout in
+        let row : Bool → PhaseStep = λ (b : Bool). if b then record { file = with_phase layout (Copying (a_uid fresh.uid) copies); entries = [] } else freed file layout in
         by_test (has_targets copies (length layout.live) layout.wanted) row refl
       where
         by_test : (b : Bool) (row : Bool → PhaseStep) → is_some (kind_of (row true).file.phase) ≡ true → HasNone (if b then copying (row b).file fresh (plan_of copies layout fresh) else goes_idle (row b) 0).file

@@ -1,6 +1,6 @@
 -- Each input of the table of phases leaves a part of the calls of a file that are out, and an answer takes its own out.
-use Rattle.std.proofs.Common.{◌≡◌, ℕ, zero, suc, ◌+◌, Bool, true, false, List, [], ◌∷◌, length, Option, Some, None, refl, sym, ap, subst, ◌∙◌, inl, inr}
-use Rattle.std.specs.Prelude.{◌==◌, ◌&&◌, ◌||◌, nat_lt, is_some, map, position, slice_get, slice_set, if◌then◌else◌}
+use Rattle.std.proofs.Common.{◌≡◌, ℕ, suc, ◌+◌, Bool, true, false, List, [], ◌∷◌, length, Option, Some, None, refl, sym, ap, subst, ◌∙◌, inl, inr}
+use Rattle.std.specs.Prelude.{◌==◌, ◌&&◌, nat_lt, is_some, map, position, slice_get, slice_set, if◌then◌else◌, not}
 use Rattle.std.proofs.lemmas.Bool.{cond_both}
 use Rattle.cluster_model.specs.declared.limits.TheConstants.{MAX_TIMEOUTS}
 use Rattle.cluster_model.specs.declared.tick.Tick.{Tick}
@@ -19,6 +19,7 @@ use Rattle.cluster_model.specs.declared.phase.LeftCause.TheVariants.{Error, Time
 use Rattle.cluster_model.specs.declared.call_stage.CallStage.{CallStage}
 use Rattle.cluster_model.specs.declared.call_stage.CallStage.TheVariants.{Waits, Out, KeptOut, KeptBack, Done, GivenUp}
 use Rattle.cluster_model.specs.declared.fence_mirror.FenceMirror.{FenceMirror}
+use Rattle.cluster_model.specs.declared.fence_mirror.FenceStep.TheVariants.{Again, Failed as HasFailed}
 use Rattle.cluster_model.specs.declared.layout_state.LayoutState.{LayoutState}
 use Rattle.cluster_model.specs.declared.layout_state.LayoutPhase.{LayoutPhase}
 use Rattle.cluster_model.specs.declared.layout_state.LayoutPhase.TheVariants.{Making, Free, Held, Fencing, Settling, Copying}
@@ -27,19 +28,18 @@ use Rattle.cluster_model.specs.DsCalls.{DsReplyValue, Created, Set, Written, Com
 use Rattle.cluster_model.specs.Fences as fence
 use Rattle.cluster_model.specs.Fences.{is_out, is_over, waits, stage_at_tick, FenceState, FenceAfter, MirrorStep, with_stage, having_seen}
 use Rattle.cluster_model.specs.Journal.{is_mirror}
-use Rattle.cluster_model.specs.Phases.{PhaseStep, seen_if, seen_at, is_clean, is_last_live, returned, revoked, own_done, resilvered}
+use Rattle.cluster_model.specs.Phases.{PhaseStep, seen_if, seen_at, is_clean, returned, revoked, own_done, resilvered, granted}
 use Rattle.copy_rule.specs.declared.copy_target.CopyTarget.{CopyTarget}
-use Rattle.copy_rule.specs.declared.copy_target.CopyStep.{CopyStep}
 use Rattle.copy_rule.specs.declared.copy_target.CopyStep.TheVariants as copy_step
 use Rattle.copy_rule.specs.Copies as copy
 use Rattle.copy_rule.specs.Copies.{CopyState, CopyAfter, TargetStep, is_given_up, have_answered}
 use Rattle.file_rule.specs.declared.creation.Creation.{Creation}
 use Rattle.file_rule.specs.declared.fresh.Fresh.{Fresh}
-use Rattle.file_rule.specs.MdsFiles.{Creations, Activity, Idle, Makes, Fences, Settles, Copies, MdsFile, FileStep, nothing, stays, a_uid, goes_fencing, with_entries, fence_stepped, seen_by, mirror_at, shown_by_set, in_stage, with_creation, creation_failed, creation_answered, stage_behind, creation_timed_out, creation_of, making_on, making_at, making_by, source_left, shown_by_commit, seen_at_source, settling_answered, settling_timed_out, copy_stepped}
-use Rattle.file_rule.specs.FilePhases.{FileInput, AsksLayout, OwnWrite, Recall, Returns, Revokes, OwnEnds, Resilver, Answers, TimesOut, Ticks, Sees, asked_in, are_spent, held_in, by_client, by_mds, recalled_row, returned_row, revoked_row, own_row, resilvered_in, kind_of, settles_by, answered_in, timed_out_in, all_at_tick, ticked, phase}
-use Rattle.mds_walk.specs.Parts.{comes_by_itself}
+use Rattle.file_rule.specs.MdsFiles.{Creations, Activity, Idle, Makes, Fences, Settles, Copies, MdsFile, FileStep, nothing, stays, a_uid, goes_fencing, with_entries, fence_stepped, seen_by, mirror_at, shown_by_set, in_stage, with_creation, creation_failed, creation_answered, stage_behind, creation_timed_out, creation_of, making_on, making_at, making_by, source_left, shown_by_commit, seen_at_source, settling_answered, settling_timed_out, copy_stepped, standing}
+use Rattle.file_rule.specs.FilePhases.{FileInput, AsksLayout, OwnWrite, Recall, Returns, Revokes, OwnEnds, Resilver, Answers, TimesOut, Ticks, Sees, asked_in, are_spent, held_in, by_client, by_mds, recalled_row, returned_row, revoked_row, own_row, resilvered_in, kind_of, settles_by, answered_in, timed_out_in, ticked, phase}
+use Rattle.mds_walk.proofs.Parts.{comes_by_itself}
 use Rattle.mds_walk.proofs.Lists.{first_there}
-use Rattle.standing_calls.proofs.Spots.{Spot, is_number, has_number, Once, not_both, or_false, is_off, IsLeft, left_same, left_then, Less, Thin, thin_left, thin_same, AreNone, none_left, none_number, map_thin, map_set, map_get, set_taken, first_passes}
+use Rattle.standing_calls.proofs.Spots.{Spot, is_number, has_number, Once, not_both, or_false, IsLeft, left_same, left_then, Less, Thin, thin_left, thin_same, none_left, none_number, map_thin, map_set, map_get, set_taken, first_passes}
 use Rattle.standing_calls.proofs.OwnSpots.{number_of, creation_spot, mirror_spot, target_spot, settle_spots, copy_spots, spots_in, own_spots, out_number, Kind, kind_none, IsEnd, end_then, end_same, HasNone, none_end, item_left, none_of, item_taken, tick_less, settle_thin, settle_none, fencing_none, fence_end, making_end, source_end, copy_end, answered_none}
 
 -- ---- what comes by itself
@@ -59,7 +59,7 @@ module _ (file : FileId) (f : MdsFile) (kind : KindOf f) where
   asked_next holder entries fresh Making is = same
   asked_next holder entries fresh Free is =
       cond_both (are_spent fresh) (nothing f)
-      (with_entries (Rattle.cluster_model.specs.Phases.granted file f.layout holder).entries (record { file = record { layout = (Rattle.cluster_model.specs.Phases.granted file f.layout holder).file; activity = f.activity }; entries = entries; uids = 0; names = 0 }))
+      (with_entries (granted file f.layout holder).entries (record { file = record { layout = (granted file f.layout holder).file; activity = f.activity }; entries = entries; uids = 0; names = 0 }))
       (λ (s : FileStep). IsNext f s.file) (λ spent. same) (λ off. record { left = left_same (own_spots f); kind = kind_none f.activity f.layout.phase (Held holder false) (ap kind_of is) kind })
   asked_next holder entries fresh (Held other recalled) is = same
   asked_next holder entries fresh (Fencing next end) is = same
@@ -173,14 +173,14 @@ late_less server GivenUp behind each = inr refl
 creation_late : (all : Creations) (c : Creation) → Less (creation_spot c) (creation_spot (creation_timed_out all c))
 creation_late all c =
     late_less c.server c.stage (λ xid. creation_failed all (KeptOut xid))
-    (λ xid. cond_both (nat_lt 1 (Rattle.file_rule.specs.MdsFiles.standing all)) GivenUp (KeptOut xid) (λ (s : CallStage). Less (c.server, Some xid) (c.server, number_of s)) (λ is. inl refl) (λ off. inr refl))
+    (λ xid. cond_both (nat_lt 1 (standing all)) GivenUp (KeptOut xid) (λ (s : CallStage). Less (c.server, Some xid) (c.server, number_of s)) (λ is. inl refl) (λ off. inr refl))
 
 -- a mirror behind a step, told with where its call stood
 mirror_late : (m : FenceMirror) (stage : CallStage) → m.stage ≡ stage → Less (mirror_spot m) (mirror_spot (fence.stage_timed_out m stage).mirror)
 mirror_late m (Out xid timeouts) is =
     let out : mirror_spot m ≡ (m.id.server, Some xid) = ap (λ (s : CallStage). (m.id.server, number_of s)) is in
-    cond_both (nat_lt (timeouts + 1) MAX_TIMEOUTS) (record { mirror = with_stage m (Out xid (timeouts + 1)); step = Rattle.cluster_model.specs.declared.fence_mirror.FenceStep.TheVariants.Again })
-    (record { mirror = with_stage m (KeptOut xid); step = Rattle.cluster_model.specs.declared.fence_mirror.FenceStep.TheVariants.Failed m.id Timeouts }) (λ (s : MirrorStep). Less (mirror_spot m) (mirror_spot s.mirror)) (λ few. inr (sym out)) (λ last. inr (sym out))
+    cond_both (nat_lt (timeouts + 1) MAX_TIMEOUTS) (record { mirror = with_stage m (Out xid (timeouts + 1)); step = Again })
+    (record { mirror = with_stage m (KeptOut xid); step = HasFailed m.id Timeouts }) (λ (s : MirrorStep). Less (mirror_spot m) (mirror_spot s.mirror)) (λ few. inr (sym out)) (λ last. inr (sym out))
 mirror_late m (KeptOut xid) is = inr refl
 mirror_late m Waits is = inr refl
 mirror_late m KeptBack is = inr refl
@@ -198,7 +198,7 @@ fence_late g (Some place) = fence_late_at g place (slice_get g.mirrors place) re
 -- a copy goes on
 on_thin : (c : CopyState) → Thin (copy_spots (copy.goes_on c)) (copy_spots c)
 on_thin c =
-    cond_both (is_over c.read && Rattle.std.specs.Prelude.not c.ended && have_answered c) (copy.with_next c) c (λ (d : CopyState). Thin (copy_spots d) (copy_spots c)) (λ is. (inl refl, thin_same (map target_spot c.targets))) (λ off. thin_same (copy_spots c))
+    cond_both (is_over c.read && not c.ended && have_answered c) (copy.with_next c) c (λ (d : CopyState). Thin (copy_spots d) (copy_spots c)) (λ is. (inl refl, thin_same (map target_spot c.targets))) (λ off. thin_same (copy_spots c))
 
 target_late : (t : CopyTarget) (stage : CallStage) → t.stage ≡ stage → Less (target_spot t) (target_spot (copy.target_late t stage).target)
 target_late t Waits is = inr refl
@@ -312,22 +312,22 @@ pub item_gone : {A : Type 0} (f : A → Spot) (n : ℕ) (xs : List A) (i : ℕ) 
 item_gone f n xs i x y at is none = record { left = thin_left (map f (slice_set xs i y)) (map f xs) (item_left f xs i x y at (inl none)); gone = item_taken f n xs i x y at is none }
 
 -- CREATEs
+given_up_none : (all : Creations) → number_of (creation_failed all KeptBack) ≡ None
+given_up_none all = cond_both (nat_lt 1 (standing all)) GivenUp KeptBack (λ (s : CallStage). number_of s ≡ None) (λ is. refl) (λ off. refl)
+
 creation_none : (all : Creations) (c : Creation) (reply : DsReplyValue) → number_of (creation_answered all c reply).stage ≡ None
 creation_none all c (Created fileid shown) = refl
-creation_none all c (Set shown) = given_none all
-  where
-    given_none : (all : Creations) → number_of (creation_failed all KeptBack) ≡ None
-    given_none all = cond_both (nat_lt 1 (Rattle.file_rule.specs.MdsFiles.standing all)) GivenUp KeptBack (λ (s : CallStage). number_of s ≡ None) (λ is. refl) (λ off. refl)
-creation_none all c (Written shown verifier) = cond_both (nat_lt 1 (Rattle.file_rule.specs.MdsFiles.standing all)) GivenUp KeptBack (λ (s : CallStage). number_of s ≡ None) (λ is. refl) (λ off. refl)
-creation_none all c (Committed shown verifier) = cond_both (nat_lt 1 (Rattle.file_rule.specs.MdsFiles.standing all)) GivenUp KeptBack (λ (s : CallStage). number_of s ≡ None) (λ is. refl) (λ off. refl)
-creation_none all c (Bytes shown eof bytes) = cond_both (nat_lt 1 (Rattle.file_rule.specs.MdsFiles.standing all)) GivenUp KeptBack (λ (s : CallStage). number_of s ≡ None) (λ is. refl) (λ off. refl)
-creation_none all c (NotSync shown) = cond_both (nat_lt 1 (Rattle.file_rule.specs.MdsFiles.standing all)) GivenUp KeptBack (λ (s : CallStage). number_of s ≡ None) (λ is. refl) (λ off. refl)
-creation_none all c (Failed status shown) = cond_both (nat_lt 1 (Rattle.file_rule.specs.MdsFiles.standing all)) GivenUp KeptBack (λ (s : CallStage). number_of s ≡ None) (λ is. refl) (λ off. refl)
+creation_none all c (Set shown) = given_up_none all
+creation_none all c (Written shown verifier) = given_up_none all
+creation_none all c (Committed shown verifier) = given_up_none all
+creation_none all c (Bytes shown eof bytes) = given_up_none all
+creation_none all c (NotSync shown) = given_up_none all
+creation_none all c (Failed status shown) = given_up_none all
 
 -- a fence
 sync_none : (m : FenceMirror) → number_of (fence.out_of_sync m).mirror.stage ≡ None
 sync_none m =
-    cond_both (nat_lt (m.unsynced + 1) fence.max_unsynced) (record { mirror = record { id = m.id; seen = m.seen; unsynced = m.unsynced + 1; stage = Waits }; step = Rattle.cluster_model.specs.declared.fence_mirror.FenceStep.TheVariants.Again }) (fence.failed_by m Unsynced)
+    cond_both (nat_lt (m.unsynced + 1) fence.max_unsynced) (record { mirror = record { id = m.id; seen = m.seen; unsynced = m.unsynced + 1; stage = Waits }; step = Again }) (fence.failed_by m Unsynced)
     (λ (s : MirrorStep). number_of s.mirror.stage ≡ None) (λ few. refl) (λ many. refl)
 
 mirror_none : (cred : ℕ) (m : FenceMirror) (reply : DsReplyValue) → number_of (fence.answered cred m reply).mirror.stage ≡ None

@@ -1,5 +1,5 @@
 -- The places to which the READs of a file go: each to the mirror that has its turn.
-use Rattle.std.proofs.Common.{◌≡◌, ℕ, zero, suc, ◌+◌, Bool, true, false, List, [], ◌∷◌, ◌++◌, length, Option, Some, None, refl, sym, ap, subst, ◌∙◌, inl, inr}
+use Rattle.std.proofs.Common.{◌≡◌, ℕ, zero, suc, ◌+◌, Bool, true, List, [], ◌∷◌, ◌++◌, Option, Some, None, refl, sym, ap, subst, ◌∙◌, inl, inr}
 use Rattle.std.specs.Prelude.{◌==◌, nat_lt, map, position, remove, slice_get, slice_set, if◌then◌else◌}
 use Rattle.std.specs.List.{list_any}
 use Rattle.std.proofs.lemmas.Bool.{cond_both}
@@ -11,17 +11,15 @@ use Rattle.cluster_model.specs.declared.phase.LeftCause.{LeftCause}
 use Rattle.cluster_model.specs.declared.phase.LeftCause.TheVariants.{Error, Timeouts}
 use Rattle.cluster_model.specs.declared.call_stage.CallStage.{CallStage}
 use Rattle.cluster_model.specs.declared.call_stage.CallStage.TheVariants.{Waits, Out, KeptOut, KeptBack, Done, GivenUp}
-use Rattle.cluster_model.specs.DsCalls.{DsReplyValue, Created, Set, Written, Committed, Bytes, NotSync, Failed}
+use Rattle.cluster_model.specs.DsCalls.{DsReplyValue, Created, Set, Written, Committed, Bytes, NotSync, Failed, Read}
 use Rattle.cluster_model.specs.Fences.{is_out, waits, odd_status}
-use Rattle.mds_io.specs.declared.read_end.ReadEnd.{ReadEnd}
-use Rattle.mds_io.specs.declared.read_end.ReadEnd.TheVariants as end
 use Rattle.mds_io.specs.Reads as read
 use Rattle.mds_io.specs.Reads.{ReadState, ReadAfter, ReadSends, new_read, in_turn, begun_again}
-use Rattle.mds_rule.specs.MdsStates.{CompoundRun, WaitingRead, ServedFile, MdsValue}
+use Rattle.mds_rule.specs.MdsStates.{CompoundRun, WaitingRead}
 use Rattle.mds_rule.specs.ServedFiles.{is_swap, begins_again, reads_behind}
 use Rattle.mds_rule.specs.Answers.{is_read_out}
 use Rattle.mds_laws.proofs.Lists.{AllOf, all_set, all_got}
-use Rattle.standing_calls.proofs.Spots.{Spot, is_number, has_number, is_spot_of, Once, not_both, IsLeft, left_same, left_then, Less, Thin, thin_left, thin_same, map_thin, push_thin, map_push, map_set, map_get, set_taken, first_passes, remove_left, map_remove, map_any, any_same}
+use Rattle.standing_calls.proofs.Spots.{Spot, is_number, has_number, is_spot_of, IsLeft, left_same, left_then, Less, Thin, thin_left, map_thin, push_thin, map_push, map_set, first_passes, remove_left, map_remove, map_any, any_same}
 use Rattle.standing_calls.proofs.OwnSpots.{number_of, out_number, item_left}
 use Rattle.standing_calls.proofs.OwnSteps.{Taken, item_gone, taken_then, out_is}
 
@@ -177,7 +175,7 @@ turns_none reads place t none all = all_set (λ (r : WaitingRead). TurnSo r.read
 sent_to : (r : ReadState) (xid : ℕ) (c : ReadSends) (o : Option Mirror) → in_turn r ≡ o → read.sends_to r xid o ≡ Some c → (state_spot c.read ≡ (c.id.server, Some xid)) × TurnSo c.read
 sent_to r xid c None turn is = absurd (none-some c is)
 sent_to r xid c (Some m) turn is =
-    let s : ReadSends = record { read = read.at_stage r (Out xid 0); id = m.id; call = Rattle.cluster_model.specs.DsCalls.Read m.id.fileid r.at r.count } in
+    let s : ReadSends = record { read = read.at_stage r (Out xid 0); id = m.id; call = Read m.id.fileid r.at r.count } in
     subst (λ (x : ReadSends). (state_spot x.read ≡ (x.id.server, Some xid)) × TurnSo x.read) (same_Some s c is)
     (ap (λ (o : Option Mirror). (server_of o, Some xid)) turn, λ none. absurd (none-some m (sym none ∙ turn)))
 

@@ -1,9 +1,8 @@
 -- The callbacks of recalls that are out, as places of one server.
-use Rattle.std.proofs.Common.{◌≡◌, ℕ, zero, suc, ◌+◌, Bool, true, false, List, [], ◌∷◌, Option, Some, None, refl, sym, ap, subst, ◌∙◌, inl, inr}
-use Rattle.std.specs.Prelude.{◌==◌, ◌&&◌, not, nat_lt, is_some, filter, find, map, position, slice_get, slice_set}
+use Rattle.std.proofs.Common.{◌≡◌, ℕ, ◌+◌, Bool, true, false, List, [], ◌∷◌, Option, Some, None, refl, sym, ap, subst, ◌∙◌, inr}
+use Rattle.std.specs.Prelude.{◌==◌, ◌&&◌, not, nat_lt, is_some, find, map, position, slice_get, slice_set}
 use Rattle.std.specs.List.{list_any}
 use Rattle.std.proofs.lemmas.Bool.{cond_both, eq-eqb}
-use Rattle.std.proofs.lemmas.Option.{none-some, same_Some}
 use Rattle.cluster_model.specs.declared.limits.TheConstants.{MAX_TIMEOUTS}
 use Rattle.cluster_model.specs.declared.ids.FileId.{FileId}
 use Rattle.cluster_model.specs.declared.ids.Cred.{Cred}
@@ -13,9 +12,9 @@ use Rattle.recall.specs.declared.recall.Recall.{Recall}
 use Rattle.recall.specs.declared.recall.RecallStage.{RecallStage}
 use Rattle.recall.specs.declared.recall.RecallStage.TheVariants.{Waits, Out, Later, Agreed}
 use Rattle.recall.specs.declared.recall.Outcome.TheVariants as outcome
-use Rattle.recall.specs.Recalls.{RecallsAfter, RecallSends, is_of, is_before, at_stage, is_out_as, with_recall, new_recall, sent_at, sent_from, next_sent, may_go, without, is_stranger, answered, late, out_at, step_at, step_from, after_reply, after_timeout, has_expired, stage_at_tick, at_tick, without_found, after_tick, without_file, is_of_file}
+use Rattle.recall.specs.Recalls.{RecallsAfter, RecallSends, is_of, is_before, at_stage, is_out_as, with_recall, sent_at, sent_from, next_sent, may_go, without, answered, late, out_at, step_at, step_from, after_reply, after_timeout, has_expired, stage_at_tick, at_tick, without_found, after_tick, without_file, is_of_file}
 use Rattle.mds_walk.proofs.Lists.{none_there, first_there}
-use Rattle.standing_calls.proofs.Spots.{Spot, is_number, has_number, is_spot_of, Once, not_both, IsLeft, left_same, left_then, left_none, left_keep, filter_left, filter_gone, Less, thin_left, map_thin, map_set, first_passes, map_any, any_same}
+use Rattle.standing_calls.proofs.Spots.{Spot, is_number, has_number, is_spot_of, not_both, IsLeft, left_same, left_then, left_none, left_keep, filter_left, filter_gone, Less, thin_left, map_thin, map_set, first_passes, map_any, any_same}
 use Rattle.standing_calls.proofs.OwnSpots.{item_left}
 use Rattle.standing_calls.proofs.OwnSteps.{Taken, item_gone, never_out}
 

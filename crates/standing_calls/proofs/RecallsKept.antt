@@ -1,8 +1,8 @@
 -- The callback of each recall that is out stands through every part of every event.
-use Rattle.std.proofs.Common.{arith, ◌≡◌, ◌≢◌, ◌<◌, ℕ, ◌+◌, Bool, true, false, List, [], ◌∷◌, ◌++◌, Option, Some, None, refl, sym, ap, subst, ◌∙◌, ◌⊎◌, inl, inr, filter}
-use Rattle.std.specs.Prelude.{◌==◌, not, is_some, nat_lt, map, slice_get, slice_set, if◌then◌else◌}
+use Rattle.std.proofs.Common.{arith, ◌≡◌, ◌≢◌, ◌<◌, ℕ, ◌+◌, Bool, true, false, List, [], ◌∷◌, ◌++◌, Some, None, refl, sym, ap, subst, ◌∙◌, ◌⊎◌, inl, inr, filter}
+use Rattle.std.specs.Prelude.{◌==◌, not, nat_lt, slice_set, if◌then◌else◌}
 use Rattle.std.specs.List.{find, list_any}
-use Rattle.std.proofs.lemmas.Bool.{cond_both, and_parts, eqb-true, eq-eqb, ltb-true}
+use Rattle.std.proofs.lemmas.Bool.{cond_both, and_parts, eqb-true}
 use Rattle.std.proofs.lemmas.Option.{none-some, same_Some}
 use Rattle.device_addr.specs.Universal.{AddressValue}
 use Rattle.cluster_model.specs.Members.{IsOneOf}
@@ -14,25 +14,23 @@ use Rattle.cluster_model.specs.declared.entry.Entry.{Entry}
 use Rattle.file_rule.specs.MdsFiles.{FileStep}
 use Rattle.file_rule.specs.FilePhases.{OwnWrite, TimesOut, Answers, phase}
 use Rattle.mds_rows.specs.Draws.{drawn}
-use Rattle.recall.specs.declared.recall.Recall.{Recall}
-use Rattle.recall.specs.Recalls.{RecallSends, new_recall, with_recall, is_out_as, out_at, after_reply, after_timeout, after_tick, without_file}
+use Rattle.recall.specs.Recalls.{new_recall, after_reply, without_file}
 use Rattle.mds_rule.specs.MdsStates.{ServedFile, MdsSend, AwaitedCall, MdsValue, MdsStep, with_call, is_call_to, without_call, with_served, new_mds}
-use Rattle.mds_rule.specs.declared.waiter.Waiter.{Waiter}
-use Rattle.mds_rule.specs.declared.waiter.Waiter.TheVariants.{ForFile, ForRead, ForWrite, ForRecall}
+use Rattle.mds_rule.specs.declared.waiter.Waiter.TheVariants.{ForRecall}
 use Rattle.mds_rule.specs.ServedFiles.{is_period_end, file_behind, file_stepped}
 use Rattle.mds_rule.specs.Answers.{is_awaited_by, is_awaited, own_answer, recall_end}
 use Rattle.mds_rule.specs.Goes.{xid_after}
 use Rattle.mds_laws.specs.MdsRuns.{MdsEvent, mds_run}
 use Rattle.mds_laws.specs.MdsRunLaws.{number_sent}
-use Rattle.mds_walk.specs.Parts.{HeardAny, heard_by, end_input, without_write, Parts, Calls, KeepsBegin}
-use Rattle.mds_walk.proofs.Lists.{in_more, found_in, found_passes}
+use Rattle.mds_walk.proofs.Parts.{HeardAny, heard_by, end_input, without_write, Parts, Calls, KeepsBegin}
+use Rattle.mds_walk.proofs.Lists.{found_in, found_passes}
 use Rattle.mds_walk.proofs.EventWalk.{in_each_run}
 use Rattle.mds_walk.proofs.TableKept.{IsTable, Table, table_parts, table_calls, new_table, next_is}
 use Rattle.standing_calls.specs.RecallCalls.{CallbackStands, WasPassedOver, RecallCallsStand}
-use Rattle.standing_calls.proofs.Spots.{Spot, is_number, has_number, Once, not_both, is_off, IsLeft, left_same, number_set, out_once, got_number, map_get}
-use Rattle.standing_calls.proofs.Stands.{node_is, found_new, found_number}
+use Rattle.standing_calls.proofs.Spots.{Spot, has_number, Once, not_both, is_off, IsLeft, number_set, out_once, got_number, map_get}
+use Rattle.standing_calls.proofs.Stands.{found_new}
 use Rattle.standing_calls.proofs.FilesKept.{file_of}
-use Rattle.standing_calls.proofs.RecallSpots.{number_of, recall_spot, recall_spots, out_number, asked_left, ended_left, timed_left, ticked_left, reply_taken, out_awaited, RecallGoes, recall_goes}
+use Rattle.standing_calls.proofs.RecallSpots.{recall_spot, recall_spots, out_number, asked_left, ended_left, timed_left, ticked_left, reply_taken, out_awaited, RecallGoes, recall_goes}
 
 -- ---- what stands in a list
 

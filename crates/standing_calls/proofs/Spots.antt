@@ -1,9 +1,9 @@
 -- Places to which calls go: the server of each, and the number of the call that is out to it, where one is. What a step leaves of a list of
 -- them.
-use Rattle.std.proofs.Common.{◌≡◌, ◌≢◌, ℕ, zero, suc, Bool, true, false, List, [], ◌∷◌, ◌++◌, Option, Some, None, refl, sym, ap, subst, ◌∙◌, ◌⊎◌, inl, inr}
+use Rattle.std.proofs.Common.{◌≡◌, ℕ, zero, suc, Bool, true, false, List, [], ◌∷◌, ◌++◌, Option, Some, None, refl, sym, ap, subst, ◌∙◌, ◌⊎◌, inl, inr}
 use Rattle.std.specs.Prelude.{◌==◌, ◌&&◌, ◌||◌, filter, map, position, remove, slice_get, slice_set}
 use Rattle.std.specs.List.{list_any}
-use Rattle.std.proofs.lemmas.Bool.{cond_both, and_parts, eqb-true, eq-eqb, ne_eqb}
+use Rattle.std.proofs.lemmas.Bool.{cond_both, and_parts, eqb-true, eq-eqb}
 use Rattle.std.proofs.lemmas.List.Quantifiers.{position-Some}
 use Rattle.std.proofs.lemmas.Option.{none-some, same_Some, get_or_from_slice_get}
 
@@ -357,17 +357,21 @@ out_number n (y ∷ ys) (suc i) q off other =
 -- under a number that was not out
 pub out_once : (next : ℕ) (xs : List Spot) (i : ℕ) (q : Spot) → q.1 ≡ Some next → has_number next xs ≡ false → Once xs → Once (slice_set xs i q)
 out_once next [] i q is off once = once
-out_once next (y ∷ ys) zero q is off once =
-    (λ n its.
-    let same : next ≡ n = same_Some next n (sym is ∙ number_is n q.1 its) in
-    subst (λ (k : ℕ). has_number k ys ≡ false) same (or_none (is_number next y.1) (has_number next ys) off).1, once.1)
+out_once next (y ∷ ys) zero q is off once = (
+  λ n its.
+      let same : next ≡ n = same_Some next n (sym is ∙ number_is n q.1 its) in
+      subst (λ (k : ℕ). has_number k ys ≡ false) same (or_none (is_number next y.1) (has_number next ys) off).1,
+  once.1,
+)
 out_once next (y ∷ ys) (suc i) q is off once =
-    let both = or_none (is_number next y.1) (has_number next ys) off in
-    (λ n its.
-    out_number n ys i q (once.0 n its)
-    (is_off (is_number n q.1) (λ new.
-    let same : next ≡ n = same_Some next n (sym is ∙ number_is n q.1 new) in
-    not_both (sym (subst (λ (k : ℕ). is_number k y.1 ≡ true) (sym same) its) ∙ both.0))), out_once next ys i q is both.1 once.1)
+    let both = or_none (is_number next y.1) (has_number next ys) off in (
+      λ n its.
+          out_number n ys i q (once.0 n its)
+          (is_off (is_number n q.1) (λ new.
+          let same : next ≡ n = same_Some next n (sym is ∙ number_is n q.1 new) in
+          not_both (sym (subst (λ (k : ℕ). is_number k y.1 ≡ true) (sym same) its) ∙ both.0))),
+      out_once next ys i q is both.1 once.1,
+    )
 
 -- ---- a test of what stands there
 

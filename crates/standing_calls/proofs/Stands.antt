@@ -1,9 +1,9 @@
 -- Calls that stand in the table of those that were sent, through what becomes of the table.
-use Rattle.std.proofs.Common.{arith, ◌≡◌, ◌≢◌, ◌<◌, ℕ, ◌+◌, Bool, true, false, cond, List, [], ◌∷◌, ◌++◌, Option, Some, None, refl, sym, ap, subst, ◌∙◌, ◌⊎◌, inl, inr, filter}
+use Rattle.std.proofs.Common.{arith, ◌≡◌, ◌≢◌, ◌<◌, ℕ, Bool, true, false, cond, List, [], ◌∷◌, Option, Some, refl, sym, ap, subst, ◌∙◌, ◌⊎◌, inl, inr, filter}
 use Rattle.std.specs.Prelude.{◌==◌, ◌&&◌, not, nat_lt, slice_set, if◌then◌else◌}
 use Rattle.std.specs.List.{find}
 use Rattle.std.proofs.lemmas.Bool.{cond_both, and_parts, eqb-true, eq-eqb, ne_eqb}
-use Rattle.std.proofs.lemmas.Option.{none-some, same_Some}
+use Rattle.std.proofs.lemmas.Option.{same_Some}
 use Rattle.cluster_model.specs.Members.{IsOneOf}
 use Rattle.cluster_model.specs.declared.ids.NodeId.{NodeId}
 use Rattle.cluster_model.specs.declared.ids.NodeId.TheVariants.{Mds, Server, Client}
@@ -14,7 +14,7 @@ use Rattle.mds_rule.specs.Answers.{is_awaited_by, is_awaited}
 use Rattle.mds_walk.proofs.Lists.{found_in, found_passes}
 use Rattle.mds_walk.proofs.EventWalk.{is_its}
 use Rattle.mds_walk.proofs.TableKept.{IsTable}
-use Rattle.standing_calls.proofs.Spots.{Spot, is_at, is_number, has_at, has_number, Once, not_both, is_off, at_number, number_at, IsLeft, out_at, out_once}
+use Rattle.standing_calls.proofs.Spots.{Spot, is_at, has_at, has_number, Once, not_both, is_off, at_number, number_at, IsLeft, out_at, out_once}
 
 abbrev pub StandsIn : List AwaitedCall → ℕ → ℕ → Waiter → Type 0
 StandsIn calls server n w = (call : AwaitedCall) × (find (is_call_to (Server server) n) calls ≡ Some call) × (call.caller ≡ w)
@@ -126,11 +126,10 @@ module _ (calls : List AwaitedCall) (next : ℕ) (ss : List MdsSend) (t : IsTabl
 
         by_case : (k n : ℕ) → (is_at k n (server, Some next) ≡ true) ⊎ (has_at k n xs ≡ true) → StandsIn (with_call c calls) k n w
         by_case k n (inl new) =
-            let both = and_parts (server == k) (next == n) new in
-            (
+            let both = and_parts (server == k) (next == n) new in (
               c,
               subst (λ (x : ℕ). find (is_call_to (Server x) n) (with_call c calls) ≡ Some c) (eqb-true server k both.0)
-              (subst (λ (x : ℕ). find (is_call_to (Server server) x) (with_call c calls) ≡ Some c) (eqb-true next n both.1) found),
+                  (subst (λ (x : ℕ). find (is_call_to (Server server) x) (with_call c calls) ≡ Some c) (eqb-true next n both.1) found),
               caller,
             )
         by_case k n (inr old) = stands_on w k n (g.stand k n old)

@@ -1,15 +1,13 @@
 -- The places to which the calls of an own write go: its mirrors.
-use Rattle.std.proofs.Common.{◌≡◌, ℕ, zero, suc, ◌+◌, Bool, true, false, List, [], ◌∷◌, Option, Some, None, refl, sym, ap, subst, ◌∙◌, inl, inr}
-use Rattle.std.specs.Prelude.{◌==◌, ◌&&◌, ◌||◌, map, position, slice_get, slice_set, if◌then◌else◌}
+use Rattle.std.proofs.Common.{◌≡◌, ℕ, ◌+◌, Bool, true, false, List, [], ◌∷◌, Option, Some, None, refl, sym, ap, subst, ◌∙◌, inl, inr}
+use Rattle.std.specs.Prelude.{◌==◌, ◌&&◌, ◌||◌, map, slice_get, slice_set}
 use Rattle.std.specs.List.{list_any}
 use Rattle.std.proofs.lemmas.Bool.{cond_both}
-use Rattle.std.proofs.lemmas.Option.{none-some, same_Some}
 use Rattle.cluster_model.specs.declared.ids.Mirror.{Mirror}
-use Rattle.cluster_model.specs.declared.phase.LeftCause.{LeftCause}
 use Rattle.cluster_model.specs.declared.phase.LeftCause.TheVariants.{Error, Timeouts}
 use Rattle.cluster_model.specs.DsCalls.{DsCallValue, DsReplyValue, Created, Set, Written, Committed, Bytes, NotSync, Failed}
 use Rattle.cluster_model.specs.Fences.{odd_status}
-use Rattle.mds_io.specs.OwnWrites.{own_write, after_own_reply}
+use Rattle.mds_io.specs.OwnWrites.{after_own_reply}
 use Rattle.mirror_writer.specs.declared.call.WriterCall.{WriterCall}
 use Rattle.mirror_writer.specs.declared.call.WriterCall.TheVariants.{NoCall, OutWrite, OutCommit}
 use Rattle.mirror_writer.specs.declared.call.NextCall.{NextCall}
@@ -23,7 +21,7 @@ use Rattle.mds_rule.specs.FileOps.{new_write}
 use Rattle.mds_rule.specs.Answers.{is_writer_out}
 use Rattle.mds_progress.specs.FirstOut.{is_called_at}
 use Rattle.mds_walk.proofs.Lists.{none_there, first_there}
-use Rattle.standing_calls.proofs.Spots.{Spot, is_number, is_at, has_at, has_number, is_spot_of, Once, IsLeft, left_same, Less, thin_left, AreNone, none_left, map_set, first_passes, map_any, any_same}
+use Rattle.standing_calls.proofs.Spots.{Spot, is_number, is_at, has_at, has_number, is_spot_of, IsLeft, left_same, Less, thin_left, AreNone, none_left, map_set, first_passes, map_any, any_same, not_both}
 use Rattle.standing_calls.proofs.OwnSpots.{item_left}
 use Rattle.standing_calls.proofs.OwnSteps.{Taken, item_gone, never_out}
 
@@ -130,7 +128,7 @@ module _ (w : WriterValue) (xid place : ℕ) (m : WriterMirror) (there : slice_g
   commit_gone (NotSync shown) = put_gone (writer.with_failure m) refl
 
   call_gone : (reply : DsReplyValue) (call : WriterCall) → m.call ≡ call → Gone (writer.call_answered w place m reply call)
-  call_gone reply NoCall is = absurd (Rattle.standing_calls.proofs.Spots.not_both (sym out ∙ ap (is_call xid) is))
+  call_gone reply NoCall is = absurd (not_both (sym out ∙ ap (is_call xid) is))
   call_gone reply (OutWrite own write timeouts) is = write_gone write reply
   call_gone reply (OutCommit own timeouts) is = commit_gone reply
 

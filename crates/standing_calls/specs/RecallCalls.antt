@@ -1,12 +1,11 @@
 -- The callback of each recall that is out stands among the calls that were sent and are not answered.
-use Rattle.std.specs.Prelude.{◌≡◌, ◌≢◌, ◌⊎◌, ℕ, true, Some, slice_get}
+use Rattle.std.specs.Prelude.{◌≡◌, ◌≢◌, ◌⊎◌, ℕ, true, List, Some, slice_get}
 use Rattle.cluster_model.specs.Members.{IsOneOf}
 use Rattle.recall.specs.declared.recall.Recall.{Recall}
 use Rattle.recall.specs.Recalls.{is_out_as}
-use Rattle.mds_rule.specs.MdsStates.{MdsSend, AwaitedCall, MdsValue, MdsStep}
+use Rattle.mds_rule.specs.MdsStates.{MdsSend, AwaitedCall, MdsStep}
 use Rattle.mds_rule.specs.declared.waiter.Waiter.TheVariants.{ForRecall}
 use Rattle.mds_laws.specs.MdsRunLaws.{number_sent}
-use Rattle.std.specs.Prelude.{List}
 
 -- a call of this number is among those that were sent and are not answered, and a recall sent it
 abbrev pub CallbackStands : List AwaitedCall → ℕ → Type 0

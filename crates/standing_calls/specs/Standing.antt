@@ -1,5 +1,5 @@
 -- Each call that something awaits stands among those that were sent and are not answered.
-use Rattle.std.specs.Prelude.{◌≡◌, ℕ, suc, true, Option, Some, slice_get}
+use Rattle.std.specs.Prelude.{◌≡◌, ℕ, suc, true, Some, slice_get}
 use Rattle.std.specs.List.{find, list_any}
 use Rattle.cluster_model.specs.declared.ids.NodeId.TheVariants.{Server}
 use Rattle.cluster_model.specs.declared.ids.FileId.{FileId}

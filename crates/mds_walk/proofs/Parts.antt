@@ -45,6 +45,7 @@ use Rattle.ds_calls.specs.GivenReplies.{reply_of_call}
 use Rattle.mds_receive.specs.MdsReceive.{IsReply, incoming_of}
 use Rattle.mds_rule.specs.MdsStates.{MdsStep}
 use Rattle.mds_laws.specs.MdsRuns.{MdsInput, Hears, IsTimedOut, Ticks as IsTick, RecallsFile, Resilvers}
+use Rattle.mds_walk.specs.CallTables.{IsCallFor}
 
 -- an input that neither an answer nor a timeout brings
 abbrev pub comes_by_itself : FileInput → Bool
@@ -156,25 +157,6 @@ pub record IsReadAt (m : MdsValue) (file : FileId) (s : ServedFile) (xid place :
   pub there : served m file ≡ Some s
   pub first : position (is_read_out xid) s.reads ≡ Some place
   pub at : slice_get s.reads place ≡ Some r
-
--- the calls to data servers are those of files, READs and own writes, and the callbacks those of recalls
-abbrev pub IsOfServers : Waiter → Type 0
-IsOfServers (ForFile file) = Unit {0}
-IsOfServers (ForRead file) = Unit {0}
-IsOfServers (ForWrite file) = Unit {0}
-IsOfServers ForRecall = ⊥
-
-abbrev pub IsOfClients : Waiter → Type 0
-IsOfClients (ForFile file) = ⊥
-IsOfClients (ForRead file) = ⊥
-IsOfClients (ForWrite file) = ⊥
-IsOfClients ForRecall = Unit {0}
-
-abbrev pub IsCallFor : MdsSend → Waiter → Type 0
-IsCallFor (CallsServer server xid uid call) caller = IsOfServers caller
-IsCallFor (CallsBack xid back file stateid) caller = IsOfClients caller
-IsCallFor (Replies node reply) caller = ⊥
-IsCallFor (Answers node bytes) caller = ⊥
 
 -- a call of a data server that is answered: it was found under the answer's node and number
 pub record IsHeard (m : MdsValue) (node : NodeId) (xid : ℕ) (call : AwaitedCall) (caller : Waiter) (c : DsCallValue) : Type 0 where
