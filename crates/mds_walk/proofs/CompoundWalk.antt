@@ -33,7 +33,6 @@ use Rattle.nfs4_session.specs.Slots.{SlotAnswer, TakesEffect, Repeats, Refuses}
 use Rattle.nfs4_session.specs.Requests.{request_answer, after_request}
 use Rattle.nfs4_session.specs.Beginning.{table_begun}
 use Rattle.nfs4_session.specs.Bindings.{after_binding}
-use Rattle.nfs4_session.specs.TableLaw.{FinishRequest}
 use Rattle.recall.specs.declared.recall.Outcome.{Outcome}
 use Rattle.recall.specs.declared.recall.Outcome.TheVariants as outcome
 use Rattle.recall.specs.Recalls.{RecallsAfter}
@@ -59,14 +58,14 @@ module _ (I : MdsValue → List Entry → List MdsSend → Type 0) (Heard : Hear
   -- what its slot keeps of the reply
   slot_walk : (m : MdsValue) (slot : Option SlotPass) (bytes : List ℕ) → Becomes I m (record m { sessions = kept_in_slot m.sessions slot bytes })
   slot_walk m None bytes = λ es ss i. i
-  slot_walk m (Some slot) bytes = k.tables m (FinishRequest slot bytes) tt
+  slot_walk m (Some slot) bytes = k.finishes m slot bytes
 
   finish_walk : (m : MdsValue) (c : CompoundRun) (status : Stat4) → Keeps I m (finishes m c status)
   finish_walk m c status es ss i =
       let n : MdsValue = record m { sessions = kept_in_slot m.sessions c.slot (compound_bytes c status) } in
       let reply = success_reply c.xid (compound_bytes c status) in
       subst (λ (l : List Entry). I n l (ss ++ Replies c.node reply ∷ [])) (sym (append-nil es))
-      (k.replies n c.node reply es ss (slot_walk m c.slot (compound_bytes c status) es ss i))
+      (k.replies n c.node c.xid (compound_bytes c status) es ss (slot_walk m c.slot (compound_bytes c status) es ss i))
 
   op_walk : (m : MdsValue) (s : OpStep) (next : MdsValue → CompoundRun → MdsStep) → KeepsOp I m s → ((n : MdsValue) (d : CompoundRun) → Keeps I n (next n d)) → Keeps I m (op_then s next)
   op_walk m (Goes n entries c) next q all = enters_keeps I m n entries (next n c) q (all n c)
@@ -160,7 +159,7 @@ module _ (I : MdsValue → List Entry → List MdsSend → Type 0) (Heard : Hear
       → Keeps I (record m { sessions = table_begun m.sessions (after_request m.sessions s now) a }) (sequenced now m c ops s a)
   sequence_walk now m c ops s TakesEffect = run_walk now ops (record m { sessions = after_request m.sessions s now }) (in_slot c s)
   sequence_walk now m c ops s (Repeats reply) =
-      λ es ss i. subst (λ (l : List Entry). I m l (ss ++ Replies c.node (success_reply c.xid reply) ∷ [])) (sym (append-nil es)) (k.replies m c.node (success_reply c.xid reply) es ss i)
+      λ es ss i. subst (λ (l : List Entry). I m l (ss ++ Replies c.node (success_reply c.xid reply) ∷ [])) (sym (append-nil es)) (k.replies m c.node c.xid reply es ss i)
   sequence_walk now m c ops s (Refuses status) = finish_walk m (with_result c (refused_as 53 status)) status
 
   first_walk : (now : ℕ) (m : MdsValue) (c : CompoundRun) (count : ℕ) (op : Value argop4) (ops : List (Value argop4)) (o : Option (Value sequence4_args))
@@ -287,8 +286,8 @@ module _ (I : MdsValue → List Entry → List MdsSend → Type 0) (Heard : Hear
   -- ---- recalls
 
   outcome_walk : (m : MdsValue) (o : Outcome) → Keeps I m (recall_outcome m o)
-  outcome_walk m (outcome.NoLayout file cred) = silent_keeps I m _ (takes I Heard k m file (Revokes NoSuchLayout) refl refl)
-  outcome_walk m (outcome.Expired file cred) = silent_keeps I m _ (takes I Heard k m file (Revokes Recalled) refl refl)
+  outcome_walk m (outcome.NoLayout file cred) = silent_keeps I m _ (takes I Heard k m file (Revokes NoSuchLayout) refl)
+  outcome_walk m (outcome.Expired file cred) = silent_keeps I m _ (takes I Heard k m file (Revokes Recalled) refl)
   outcome_walk m other = same I m
 
   pub recalls_walk : (m p : MdsValue) (a : RecallsAfter) → Becomes I m (record p { recalls = a.recalls }) → Keeps I m (recalls_after p a)

@@ -11,7 +11,7 @@ use Rattle.cluster_model.specs.declared.ids.Cred.{Cred}
 use Rattle.cluster_model.specs.declared.phase.EndCause.TheVariants.{Lease, Recalled}
 use Rattle.cluster_model.specs.declared.entry.Entry.{Entry}
 use Rattle.cluster_model.specs.declared.entry.Entry.TheVariants as entry
-use Rattle.file_rule.specs.FilePhases.{OwnWrite, TimesOut, phase, Revokes, Resilver, Ticks}
+use Rattle.file_rule.specs.FilePhases.{OwnWrite, TimesOut, phase, Revokes, Resilver, Ticks, AsksLayout, Returns}
 use Rattle.rpc_record.specs.Replies.{RpcReply, reply_bytes}
 use Rattle.cluster_model.specs.Members.{IsOneOf}
 use Rattle.ds_calls.specs.GivenReplies.{reply_of_call}
@@ -46,6 +46,9 @@ use Rattle.mds_walk.proofs.ServedWalk.{takes, asks, client_ends}
 use Rattle.mds_walk.proofs.CompoundWalk.{compound_walk, timeout_walk}
 use Rattle.mds_walk.proofs.AnswerWalk.{answer_walk}
 use Rattle.mds_walk.proofs.GoesWalk.{each_walk, out_walk}
+use Rattle.mds_rule.specs.LayoutOps.{client_number}
+use Rattle.cluster_model.specs.Phases.{holder_of}
+use Rattle.layout_report.specs.Reports.{report_of}
 
 -- it is the record of a reply
 record IsReplyRecord (bytes : List ℕ) : Type 0 where
@@ -81,12 +84,18 @@ parts_with I Heard k calls = record {
   asks_recall = λ m file cred client now off es ss j. (k.asks_recall m file cred client now off es ss j.0, j.1);
   times_recall = λ m xid out es ss j. (k.times_recall m xid out es ss j.0, j.1);
   ticks_recalls = λ m now es ss j. (k.ticks_recalls m now es ss j.0, j.1);
-  replies = λ m node reply es ss j. (k.replies m node reply es ss j.0, j.1);
+  finishes = λ m pass bytes es ss j. (k.finishes m pass bytes es ss j.0, j.1);
+  replies = λ m node xid bytes es ss j. (k.replies m node xid bytes es ss j.0, j.1);
   answers = λ m node bytes reply is es ss j. (k.answers m node bytes reply is es ss j.0, j.1);
   later = λ m file p es ss j. (k.later m file p es ss j.0, j.1);
   sizes = λ m file s server fileid size there es ss j. (k.sizes m file s server fileid size there es ss j.0, j.1);
-  holds = λ m file s client again there es ss j. (k.holds m file s client again there es ss j.0, j.1);
-  inputs = λ m file s input itself other there fresh es ss j. (k.inputs m file s input itself other there fresh es ss j.0, stepped_calls m file s (phase file s.file input m.fresh) ∙ j.1);
+  gives_again = λ m file s client there its es ss j. (k.gives_again m file s client there its es ss j.0, j.1);
+  grants = λ m file s client n from there free left fresh es ss j.
+      (k.grants m file s client n from there free left fresh es ss j.0, stepped_calls m file s (phase file s.file (AsksLayout n) m.fresh) ∙ j.1);
+  grants_alone = λ m file s client n from there free left spent es ss j. (k.grants_alone m file s client n from there free left spent es ss j.0, j.1);
+  inputs = λ m file s input unasked there fresh es ss j. (k.inputs m file s input unasked there fresh es ss j.0, stepped_calls m file s (phase file s.file input m.fresh) ∙ j.1);
+  returns = λ m file s errors there fresh es ss j.
+      (k.returns m file s errors there fresh es ss j.0, stepped_calls m file s (phase file s.file (Returns (client_number (holder_of s.file.layout.phase)) s.file.layout.cred (report_of errors s.file.layout.live)) m.fresh) ∙ j.1);
   timeouts = λ m file s node xid out there fresh es ss j. (k.timeouts m file s node xid out there fresh es ss j.0, stepped_calls m file s (phase file s.file (TimesOut xid) m.fresh) ∙ j.1);
   learns = λ m file s call server own uid c replies fileid shown heard caller sent named shows there fresh es ss j.
       (k.learns m file s call server own uid c replies fileid shown heard caller sent named shows there fresh es ss j.0, j.1);
@@ -163,7 +172,7 @@ module _ (I : MdsValue → List Entry → List MdsSend → Type 0) (Heard : Hear
   expires_walk : (m : MdsValue) (o : Option (FileId × Cred)) (next : MdsValue → MdsStep) → ((n : MdsValue) → Keeps I n (next n)) → Keeps I m (recall_expires m o next)
   expires_walk m None next all = same I m
   expires_walk m (Some grant) next all =
-      then_keeps I m (takes_input m grant.0 (Revokes Recalled)) next (silent_keeps I m (takes_input m grant.0 (Revokes Recalled)) (takes I Heard k m grant.0 (Revokes Recalled) refl refl)) all
+      then_keeps I m (takes_input m grant.0 (Revokes Recalled)) next (silent_keeps I m (takes_input m grant.0 (Revokes Recalled)) (takes I Heard k m grant.0 (Revokes Recalled) refl)) all
 
   recalls_walk : (now n : ℕ) (m : MdsValue) → Keeps I m (recalls_expire now n m)
   recalls_walk now zero m = none_keeps I m (record m { recalls = (after_tick m.recalls now).recalls }) (k.ticks_recalls m now)
@@ -175,7 +184,7 @@ module _ (I : MdsValue → List Entry → List MdsSend → Type 0) (Heard : Hear
   files_walk m =
       let all : MdsStep = each (λ n x. takes_input x (numbered n) Ticks) (range_with_len 1 (length m.files)) m in
       then_keeps I m all (calls_out (kept_calls m))
-      (each_walk I Heard k c (λ n x. takes_input x (numbered n) Ticks) (λ n x. silent_keeps I x (takes_input x (numbered n) Ticks) (takes I Heard k x (numbered n) Ticks refl refl)) (range_with_len 1 (length m.files)) m) (λ n. out_walk I Heard k c (kept_calls m) n)
+      (each_walk I Heard k c (λ n x. takes_input x (numbered n) Ticks) (λ n x. silent_keeps I x (takes_input x (numbered n) Ticks) (takes I Heard k x (numbered n) Ticks refl)) (range_with_len 1 (length m.files)) m) (λ n. out_walk I Heard k c (kept_calls m) n)
 
   forgets_walk : (m : MdsValue) → Keeps I m (forgets_calls m)
   forgets_walk m = none_keeps I m (record m { calls = filter (is_awaited m) m.calls }) (c.forgets m)
@@ -196,7 +205,7 @@ module _ (I : MdsValue → List Entry → List MdsSend → Type 0) (Heard : Hear
   input_walk now IsTick m hears = tick_walk now m
   input_walk now (RecallsFile file) m hears = then_keeps I m (asks_back m file now) (calls_out []) (silent_keeps I m (asks_back m file now) (asks I Heard k m file now)) (λ n. out_walk I Heard k c [] n)
   input_walk now (Resilvers file) m hears =
-      then_keeps I m (takes_input m file Resilver) (calls_out []) (silent_keeps I m (takes_input m file Resilver) (takes I Heard k m file Resilver refl refl)) (λ n. out_walk I Heard k c [] n)
+      then_keeps I m (takes_input m file Resilver) (calls_out []) (silent_keeps I m (takes_input m file Resilver) (takes I Heard k m file Resilver refl)) (λ n. out_walk I Heard k c [] n)
 
 -- ---- an event, and each run
 

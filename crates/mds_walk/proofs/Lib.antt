@@ -3,6 +3,7 @@ pub mod Parts
 pub mod Keeping
 pub mod Requested
 mod LateFound
+mod LayoutHolders
 mod ServedWalk
 pub mod OpsWalk
 mod CompoundWalk

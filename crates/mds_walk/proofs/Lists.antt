@@ -112,3 +112,9 @@ got_there (y ∷ ys) (suc place) less none = got_there ys place (omega (arith, l
 pub first_there : {X : Type 0} (p : X → Bool) (xs : List X) (place : ℕ) → position p xs ≡ Some place → slice_get xs place ≡ None → ⊥
 first_there p [] place is none = none-some place is
 first_there p (y ∷ ys) place is none = got_there (y ∷ ys) place (position-Some p (y ∷ ys) place y is).0 none
+
+-- ---- each element is so
+
+abbrev pub AllOf : {A : Type 0} → (A → Type 0) → List A → Type 0
+AllOf P [] = Unit {0}
+AllOf P (x ∷ xs) = P x × AllOf P xs

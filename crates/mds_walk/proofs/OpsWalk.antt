@@ -20,7 +20,7 @@ use Rattle.cluster_model.specs.declared.entry.Entry.TheVariants as entry
 use Rattle.cluster_model.specs.Phases.{holder_of, phase_of}
 use Rattle.device_addr.specs.Universal.{AddressValue}
 use Rattle.file_rule.specs.MdsFiles.{FileStep}
-use Rattle.file_rule.specs.FilePhases.{OwnWrite, AsksLayout, Returns, phase, end_of_uids}
+use Rattle.file_rule.specs.FilePhases.{OwnWrite, AsksLayout, Returns, phase, end_of_uids, are_spent}
 use Rattle.mds_rows.specs.Draws.{drawn}
 use Rattle.recall.specs.Recalls.{without_file}
 use Rattle.ff_layout.specs.IoError.{ff_ioerr4}
@@ -39,7 +39,6 @@ use Rattle.open_state.specs.declared.open.Open.{Open}
 use Rattle.open_state.specs.Opens.{open_of}
 use Rattle.mds_operations.specs.declared.object.Object.{Object}
 use Rattle.mds_operations.specs.declared.object.Object.TheVariants.{File}
-use Rattle.mds_operations.specs.declared.layout_get.LayoutGetFound.{LayoutGetFound}
 use Rattle.mds_operations.specs.declared.open.Creation.{Creation}
 use Rattle.mds_operations.specs.declared.open.OpenFound.{OpenFound}
 use Rattle.mds_operations.specs.Opens.{open_order, has_room}
@@ -56,14 +55,16 @@ use Rattle.mds_operations.specs.GetDeviceInfo.{device_info_order}
 use Rattle.mds_operations.specs.PutFh.{put_fh_order, object_of}
 use Rattle.mds_rule.specs.MdsStates.{CompoundRun, ServedFile, MdsSend, MdsValue, MdsStep, sends_none, confirmed_node, served, with_served, numbered, file_named}
 use Rattle.mds_rule.specs.OpSteps.{OpStep, with_result, at_object, gives, refused_or}
-use Rattle.mds_rule.specs.ServedFiles.{is_period_end, has_fresh, file_behind, file_stepped, input_at, takes_input, asks_back, ends_periods}
+use Rattle.mds_rule.specs.ServedFiles.{is_period_end, has_fresh, file_behind, file_stepped, input_at, asks_back, ends_periods}
 use Rattle.mds_rule.specs.SessionOps.{goes_with}
 use Rattle.open_state.specs.Opens.{opened, closed}
 use Rattle.mds_rule.specs.FileOps.{client_of, current_file, file_or_none, stateid_in, named_in, write_verifier, phase_or_free, uids_left, put_object, runs_put_fh, get_object, runs_get_fh, runs_lookup, get_attributes, runs_get_attr, with_new_file, opens_or_makes, opens_file, open_named, creation_in, can_open, may_make, runs_open, name_in, closes, runs_close, runs_commit, reads_at, runs_read, read_length, with_read, with_write, writes_at, writes_file, ends_by, write_refused, runs_write, write_ask, is_delay}
 use Rattle.mds_rule.specs.LayoutOps.{no_stateid, layout_asked, layout_found, with_holder, granted_in, grants_to, is_granted, phase_behind, later_by, layout_answer, runs_layout_get, is_try_later, errors_of, client_number, return_by, returns_file, file_return, returns_all, runs_layout_return, runs_layout_commit, device_from, device_size, device_answer, runs_get_device_info}
-use Rattle.mds_walk.proofs.Parts.{Enters, HeardOf, CanBegin, Parts}
-use Rattle.mds_walk.proofs.Keeping.{KeepsOp, no_entries, stays, enters_then, enters_becomes}
-use Rattle.mds_walk.proofs.ServedWalk.{takes, asks, periods, refused, unless_refused}
+use Rattle.mds_walk.proofs.Parts.{Enters, HeardOf, CanBegin, Parts, TakesInput}
+use Rattle.mds_walk.proofs.Keeping.{KeepsOp, no_entries, stays, enters_then}
+use Rattle.mds_walk.proofs.ServedWalk.{asks, periods, refused, unless_refused, takes_by}
+use Rattle.mds_walk.proofs.LayoutHolders.{again_holds, new_free}
+use Rattle.std.proofs.lemmas.Option.{same_Some}
 
 -- ---- a file that is served
 
@@ -244,19 +245,32 @@ module _ (I : MdsValue → List Entry → List MdsSend → Type 0) (Heard : Hear
 
   -- ---- layouts
 
-  granted_walk : (m : MdsValue) (s : MdsStep) (c : CompoundRun) (file : FileId) (again : Bool) → Enters I m s.mds s.entries → (o : Option ServedFile) → served s.mds file ≡ o → KeepsOp I m (granted_in s c file again o)
-  granted_walk m s c file again first None is = first
-  granted_walk m s c file again first (Some t) is =
-      enters_becomes I m s.mds (with_served s.mds file (with_holder (client_of c) again t)) s.entries first (k.holds s.mds file t (client_of c) again is)
+  -- it is the client's already
+  again_walk : (m : MdsValue) (c : CompoundRun) (file : FileId) → ((s : ServedFile) → served m file ≡ Some s → s.holder ≡ Some (client_of c)) → (o : Option ServedFile) → served m file ≡ o → KeepsOp I m (granted_in (sends_none m) c file true o)
+  again_walk m c file its None is = stays I m
+  again_walk m c file its (Some s) is = no_entries I m (with_served m file (with_holder (client_of c) true s)) (k.gives_again m file s (client_of c) is (its s is))
 
-  grants_walk : (m : MdsValue) (c : CompoundRun) (file : FileId) (again : Bool) (from : Option NodeId) → KeepsOp I m (grants_to m c file again from)
-  grants_walk m c file true from = granted_walk m (sends_none m) c file true (stays I m) (served m file) refl
-  grants_walk m c file false None = stays I m
-  grants_walk m c file false (Some Mds) = stays I m
-  grants_walk m c file false (Some (Server n)) = stays I m
-  grants_walk m c file false (Some (Client n)) =
-      let s : MdsStep = takes_input m file (AsksLayout n) in
-      granted_walk m s c file false (takes I Heard k m file (AsksLayout n) refl refl).enters (served s.mds file) refl
+  -- nobody has it
+  new_walk : (m : MdsValue) (c : CompoundRun) (file : FileId) (n : ℕ) → confirmed_node m (client_of c) ≡ Some (Client n) → ((s : ServedFile) → served m file ≡ Some s → (s.file.layout.phase ≡ Free) × (are_spent m.fresh ≡ false))
+      → (o : Option ServedFile) → served m file ≡ o → KeepsOp I m (granted_in (input_at m file (AsksLayout n) o) c file false (served (input_at m file (AsksLayout n) o).mds file))
+  new_walk m c file n from free None is = subst (λ (o : Option ServedFile). KeepsOp I m (granted_in (sends_none m) c file false o)) (sym is) (stays I m)
+  new_walk m c file n from free (Some s) is =
+      let step : FileStep = phase file s.file (AsksLayout n) m.fresh in
+      let x : MdsStep = file_stepped m file s step in
+      let f = free s is in
+      cond_both (has_fresh m.fresh) x (sends_none m) (λ (y : MdsStep). KeepsOp I m (granted_in y c file false (served y.mds file)))
+      (λ fresh. subst (λ (o : Option ServedFile). KeepsOp I m (granted_in x c file false o)) (sym (stepped_there m file s step is)) (k.grants m file s (client_of c) n from is f.0 f.1 fresh))
+      (λ spent.
+      subst (λ (o : Option ServedFile). KeepsOp I m (granted_in (sends_none m) c file false o)) (sym is)
+      (no_entries I m (with_served m file (with_holder (client_of c) false s)) (k.grants_alone m file s (client_of c) n from is f.0 f.1 spent)))
+
+  grants_walk : (m : MdsValue) (c : CompoundRun) (file : FileId) (again : Bool) → (again ≡ true → (s : ServedFile) → served m file ≡ Some s → s.holder ≡ Some (client_of c))
+      → (again ≡ false → (s : ServedFile) → served m file ≡ Some s → (s.file.layout.phase ≡ Free) × (are_spent m.fresh ≡ false)) → (from : Option NodeId) → confirmed_node m (client_of c) ≡ from → KeepsOp I m (grants_to m c file again from)
+  grants_walk m c file true its free from node = again_walk m c file (its refl) (served m file) refl
+  grants_walk m c file false its free None node = stays I m
+  grants_walk m c file false its free (Some Mds) node = stays I m
+  grants_walk m c file false its free (Some (Server n)) node = stays I m
+  grants_walk m c file false its free (Some (Client n)) node = new_walk m c file n node (free refl) (served m file) refl
 
   later_walk : (m : MdsValue) (c : CompoundRun) (now : ℕ) (p : Option Phase) → KeepsOp I m (later_by m c now p)
   later_walk m c now None = stays I m
@@ -265,21 +279,28 @@ module _ (I : MdsValue → List Entry → List MdsSend → Type 0) (Heard : Hear
       enters_then I m m s.mds (entry.Later (current_file c) p ∷ []) s.entries (k.later m (current_file c) p) (asks I Heard k m (current_file c) now).enters
 
   pub layout_gets : (m : MdsValue) (c : CompoundRun) (now : ℕ) (args : Value layoutget4_args) → KeepsOp I m (runs_layout_get m c now args)
-  layout_gets m c now args = by_found (layout_found m c (layout_asked args)) (refusal (layout_get_order c.current (layout_asked args) (layout_found m c (layout_asked args))))
+  layout_gets m c now args = by_status (refusal (layout_get_order c.current (layout_asked args) (layout_found m c (layout_asked args)))) refl
     where
-      by_found : (found : LayoutGetFound) (status : Option Stat4) → KeepsOp I m (layout_answer m c now found status)
-      by_found found status =
-          cond_both (is_try_later status) (later_by m c now (phase_behind found.fault)) (refused_or m c 50 status (grants_to m c (current_file c) (is_granted (served m (current_file c))) (confirmed_node m (client_of c)))) (λ (x : OpStep). KeepsOp I m x)
-          (λ is. later_walk m c now (phase_behind found.fault))
-          (λ off. refused I Heard k m c 50 status (grants_to m c (current_file c) (is_granted (served m (current_file c))) (confirmed_node m (client_of c))) (grants_walk m c (current_file c) (is_granted (served m (current_file c))) (confirmed_node m (client_of c))))
+      by_status : (status : Option Stat4) → refusal (layout_get_order c.current (layout_asked args) (layout_found m c (layout_asked args))) ≡ status → KeepsOp I m (layout_answer m c now (layout_found m c (layout_asked args)) status)
+      by_status status so =
+          cond_both (is_try_later status) (later_by m c now (phase_behind (layout_found m c (layout_asked args)).fault)) (refused_or m c 50 status (grants_to m c (current_file c) (is_granted (served m (current_file c))) (confirmed_node m (client_of c)))) (λ (x : OpStep). KeepsOp I m x)
+          (λ is. later_walk m c now (phase_behind (layout_found m c (layout_asked args)).fault))
+          (λ off.
+          unless_refused I Heard k m c 50 status (grants_to m c (current_file c) (is_granted (served m (current_file c))) (confirmed_node m (client_of c)))
+          (λ none.
+          grants_walk m c (current_file c) (is_granted (served m (current_file c))) (λ granted s at. again_holds m c (layout_asked args) (so ∙ none) s at granted) (λ free s at. new_free m c (layout_asked args) (so ∙ none) s at free)
+          (confirmed_node m (client_of c)) refl))
 
-  return_walk : (m : MdsValue) (c : CompoundRun) (file : FileId) (errors : List (Value ff_ioerr4)) (o : Option ServedFile) → KeepsOp I m (return_by m c file errors o)
-  return_walk m c file errors None = stays I m
-  return_walk m c file errors (Some s) = (takes I Heard k m file (Returns (client_number (holder_of s.file.layout.phase)) s.file.layout.cred (report_of errors s.file.layout.live)) refl refl).enters
+  return_walk : (m : MdsValue) (c : CompoundRun) (file : FileId) (errors : List (Value ff_ioerr4)) (o : Option ServedFile) → served m file ≡ o → KeepsOp I m (return_by m c file errors o)
+  return_walk m c file errors None is = stays I m
+  return_walk m c file errors (Some s) is =
+      (takes_by I Heard k m file (Returns (client_number (holder_of s.file.layout.phase)) s.file.layout.cred (report_of errors s.file.layout.live))
+      (λ t there.
+      subst (λ (x : ServedFile). TakesInput I m file t (Returns (client_number (holder_of x.file.layout.phase)) x.file.layout.cred (report_of errors x.file.layout.live))) (same_Some t s (sym there ∙ is)) (k.returns m file t errors) there)).enters
 
   returns_walk : (m : MdsValue) (c : CompoundRun) (o : Option (List (Value ff_ioerr4))) → KeepsOp I m (returns_file m c o)
   returns_walk m c None = stays I m
-  returns_walk m c (Some errors) = return_walk m c (current_file c) errors (served m (current_file c))
+  returns_walk m c (Some errors) = return_walk m c (current_file c) errors (served m (current_file c)) refl
 
   file_walk : (m : MdsValue) (c : CompoundRun) (reclaim : Bool) (layout_type : ℕ) (args : Value layoutreturn_file4) → KeepsOp I m (file_return m c reclaim layout_type args)
   file_walk m c reclaim layout_type (offset, (length, (stateid, body))) = refused I Heard k m c 51 _ _ (returns_walk m c (errors_of body))

@@ -7,7 +7,7 @@ use Rattle.std.specs.List.{find}
 use Rattle.rpc_record.specs.Replies.{RpcReply, reply_bytes}
 use Rattle.cluster_model.specs.declared.limits.TheConstants.{MAX_FILE, PIECE_SIZE}
 use Rattle.cluster_model.specs.declared.ids.NodeId.{NodeId}
-use Rattle.cluster_model.specs.declared.ids.NodeId.TheVariants.{Mds, Server}
+use Rattle.cluster_model.specs.declared.ids.NodeId.TheVariants.{Mds, Server, Client}
 use Rattle.cluster_model.specs.declared.ids.FileId.{FileId}
 use Rattle.cluster_model.specs.declared.ids.Cred.{Cred}
 use Rattle.cluster_model.specs.declared.entry.Entry.{Entry}
@@ -30,13 +30,13 @@ use Rattle.nfs4_session.specs.TableLaw.{TableMove}
 use Rattle.nfs4_types.specs.Stateids.{layout_stateid_of}
 use Rattle.recall.specs.Recalls.{RecallSends, next_sent, is_under_way, new_recall, with_recall, out_at, after_reply, after_timeout, after_tick}
 use Rattle.open_state.specs.Opens.{opened, closed}
-use Rattle.mds_rule.specs.MdsStates.{CompoundRun, WaitingRead, WaitingWrite, ServedFile, MdsSend, CallsServer, CallsBack, Replies, Answers, AwaitedCall, MdsValue, is_call_to, without_call, served, with_served, with_size}
+use Rattle.mds_rule.specs.MdsStates.{CompoundRun, WaitingRead, WaitingWrite, ServedFile, MdsSend, CallsServer, CallsBack, Replies, Answers, AwaitedCall, MdsValue, is_call_to, without_call, served, with_served, with_size, confirmed_node}
 use Rattle.mds_rule.specs.declared.waiter.Waiter.{Waiter}
 use Rattle.mds_rule.specs.declared.waiter.Waiter.TheVariants.{ForFile, ForRead, ForWrite, ForRecall}
 use Rattle.mds_rule.specs.ServedFiles.{has_fresh, file_behind, file_stepped, forgotten}
 use Rattle.mds_rule.specs.SessionOps.{confirms}
 use Rattle.mds_rule.specs.FileOps.{with_new_file, may_make, with_read, with_write}
-use Rattle.mds_rule.specs.LayoutOps.{with_holder}
+use Rattle.mds_rule.specs.LayoutOps.{with_holder, client_number}
 use Rattle.mds_rule.specs.Answers.{server_number, is_read_out, is_writer_out, is_awaited, fileid_of, attributes_shown, own_answer, failures_by_place, failed_entries, without_read, write_stepped, recall_end}
 use Rattle.mds_rule.specs.Goes.{xid_after, calls_as, calls_server, has_xids, stateid_seqid}
 use Rattle.nfs4_session.specs.TableLaw.{ExchangeId, CreateSession, BeginRequest, FinishRequest, Bind, CallBack, DestroySession, DestroyClient, Expire, table_after}
@@ -46,20 +46,26 @@ use Rattle.mds_receive.specs.MdsReceive.{IsReply, incoming_of}
 use Rattle.mds_rule.specs.MdsStates.{MdsStep}
 use Rattle.mds_laws.specs.MdsRuns.{MdsInput, Hears, IsTimedOut, Ticks as IsTick, RecallsFile, Resilvers}
 use Rattle.mds_walk.specs.CallTables.{IsCallFor}
+use Rattle.cluster_model.specs.Phases.{holder_of}
+use Rattle.layout_report.specs.Reports.{report_of}
+use Rattle.ff_layout.specs.IoError.{ff_ioerr4}
+use Rattle.ff_xdr.specs.Form.{Value}
+use Rattle.compound_reply.specs.Replied.{success_reply}
+use Rattle.nfs4_session.specs.declared.begin.SlotPass.{SlotPass}
 
--- an input that neither an answer nor a timeout brings
-abbrev pub comes_by_itself : FileInput → Bool
-comes_by_itself (AsksLayout client) = true
-comes_by_itself (OwnWrite at bytes) = true
-comes_by_itself ToRecall = true
-comes_by_itself (Returns client claimed places) = true
-comes_by_itself (Revokes cause) = true
-comes_by_itself (OwnEnds causes at bytes) = true
-comes_by_itself Resilver = true
-comes_by_itself (IsAnswer xid reply) = false
-comes_by_itself (TimesOut xid) = false
-comes_by_itself Ticks = true
-comes_by_itself (Sees id seen) = false
+-- an input that no operation, answer or timeout brings
+abbrev pub comes_unasked : FileInput → Bool
+comes_unasked (AsksLayout client) = false
+comes_unasked (OwnWrite at bytes) = false
+comes_unasked ToRecall = true
+comes_unasked (Returns client claimed places) = false
+comes_unasked (Revokes cause) = true
+comes_unasked (OwnEnds causes at bytes) = false
+comes_unasked Resilver = true
+comes_unasked (IsAnswer xid reply) = false
+comes_unasked (TimesOut xid) = false
+comes_unasked Ticks = true
+comes_unasked (Sees id seen) = false
 
 -- ---- what is kept
 
@@ -72,17 +78,17 @@ Enters I m n entries = (es : List Entry) (ss : List MdsSend) → I m es ss → I
 abbrev pub Keeps : (MdsValue → List Entry → List MdsSend → Type 0) → MdsValue → MdsStep → Type 0
 Keeps I m s = (es : List Entry) (ss : List MdsSend) → I m es ss → I s.mds (es ++ s.entries) (ss ++ s.sends)
 
--- a change of the table of clients that is no request
-abbrev pub IsNoRequest : TableMove → Type 0
-IsNoRequest (BeginRequest request now) = ⊥
-IsNoRequest (ExchangeId verifier owner now) = Unit {0}
-IsNoRequest (CreateSession client sequence program node now) = Unit {0}
-IsNoRequest (FinishRequest pass reply) = Unit {0}
-IsNoRequest (Bind session node) = Unit {0}
-IsNoRequest (CallBack client) = Unit {0}
-IsNoRequest (DestroySession session) = Unit {0}
-IsNoRequest (DestroyClient client) = Unit {0}
-IsNoRequest (Expire now) = Unit {0}
+-- a call of the table of clients that begins no request and ends none
+abbrev pub IsNoTurn : TableMove → Type 0
+IsNoTurn (BeginRequest request now) = ⊥
+IsNoTurn (FinishRequest pass reply) = ⊥
+IsNoTurn (ExchangeId verifier owner now) = Unit {0}
+IsNoTurn (CreateSession client sequence program node now) = Unit {0}
+IsNoTurn (Bind session node) = Unit {0}
+IsNoTurn (CallBack client) = Unit {0}
+IsNoTurn (DestroySession session) = Unit {0}
+IsNoTurn (DestroyClient client) = Unit {0}
+IsNoTurn (Expire now) = Unit {0}
 
 abbrev pub moved : MdsValue → TableMove → MdsValue
 moved m move = record m { sessions = table_after m.sessions move }
@@ -113,20 +119,6 @@ HearsSo I Heard (IsTimedOut to which) = Unit {0}
 HearsSo I Heard IsTick = Unit {0}
 HearsSo I Heard (RecallsFile file) = Unit {0}
 HearsSo I Heard (Resilvers file) = Unit {0}
-
--- an input of the metadata server's own write
-abbrev pub is_own_input : FileInput → Bool
-is_own_input (AsksLayout client) = false
-is_own_input (OwnWrite at bytes) = true
-is_own_input ToRecall = false
-is_own_input (Returns client claimed places) = false
-is_own_input (Revokes cause) = false
-is_own_input (OwnEnds causes at bytes) = true
-is_own_input Resilver = false
-is_own_input (IsAnswer xid reply) = false
-is_own_input (TimesOut xid) = false
-is_own_input Ticks = false
-is_own_input (Sees id seen) = false
 
 -- An own write begins where the file is free and uids are left, with bytes, and within the limits.
 pub record CanBegin (m : MdsValue) (s : ServedFile) (at : ℕ) (bytes : List ℕ) : Type 0 where
@@ -180,13 +172,15 @@ pub record Parts (I : MdsValue → List Entry → List MdsSend → Type 0) (Hear
   pub confirmed : (m : MdsValue) (client : ℕ) (node : NodeId) → Becomes I m (confirms client node m)
   pub reclaims : (m : MdsValue) (client : ℕ) → Becomes I m (record m { reclaimed = m.reclaimed ++ client ∷ [] })
   pub gone : (m : MdsValue) (client : ℕ) → Becomes I m (forgotten client m)
-  -- nothing but sessions does, by a call of their table
-  pub tables : (m : MdsValue) (move : TableMove) → IsNoRequest move → Becomes I m (moved m move)
+  -- the table of clients changes, by a call of its own; a request of a slot ends with its reply
+  pub tables : (m : MdsValue) (move : TableMove) → IsNoTurn move → Becomes I m (moved m move)
+  pub finishes : (m : MdsValue) (pass : SlotPass) (bytes : List ℕ) → Becomes I m (moved m (FinishRequest pass bytes))
   -- Recalls: a new one; a timeout of a callback; time passes.
   pub asks_recall : (m : MdsValue) (file : FileId) (cred : Cred) (client now : ℕ) → is_under_way file cred m.recalls ≡ false → Becomes I m (record m { recalls = with_recall (new_recall file cred client now) m.recalls })
   pub times_recall : (m : MdsValue) (xid : ℕ) → is_some (out_at m.recalls xid) ≡ true → Becomes I m (record m { recalls = (after_timeout m.recalls xid).recalls })
   pub ticks_recalls : (m : MdsValue) (now : ℕ) → Becomes I m (record m { recalls = (after_tick m.recalls now).recalls })
-  pub replies : (m : MdsValue) (node : NodeId) (reply : RpcReply) (es : List Entry) (ss : List MdsSend) → I m es ss → I m es (ss ++ Replies node reply ∷ [])
+  -- a compound is replied to
+  pub replies : (m : MdsValue) (node : NodeId) (xid : ℕ) (bytes : List ℕ) (es : List Entry) (ss : List MdsSend) → I m es ss → I m es (ss ++ Replies node (success_reply xid bytes) ∷ [])
   -- what is answered at once is answered by a reply
   pub answers : (m : MdsValue) (node : NodeId) (bytes : List ℕ) (reply : RpcReply) → bytes ≡ reply_bytes reply → (es : List Entry) (ss : List MdsSend) → I m es ss → I m es (ss ++ Answers node bytes ∷ [])
   -- a LAYOUTGET is told to come again
@@ -194,10 +188,18 @@ pub record Parts (I : MdsValue → List Entry → List MdsSend → Type 0) (Hear
   -- a size is seen at a mirror
   pub sizes : (m : MdsValue) (file : FileId) (s : ServedFile) (server fileid size : ℕ) → served m file ≡ Some s
       → Becomes I m (with_served m file (record s { sizes = with_size (record { server = server; fileid = fileid }) size s.sizes }))
-  -- a client is given the file's layout
-  pub holds : (m : MdsValue) (file : FileId) (s : ServedFile) (client : ℕ) (again : Bool) → served m file ≡ Some s → Becomes I m (with_served m file (with_holder client again s))
-  -- an input of the table of phases that comes by itself, and is not of an own write; a timeout; what an answer to an own write shows
-  pub inputs : (m : MdsValue) (file : FileId) (s : ServedFile) (input : FileInput) → comes_by_itself input ≡ true → is_own_input input ≡ false → TakesInput I m file s input
+  -- The client that has the file's layout is given it again. A client is granted it, where the file is free: the file takes its input, and
+  -- where nothing can be drawn the client has it alone.
+  pub gives_again : (m : MdsValue) (file : FileId) (s : ServedFile) (client : ℕ) → served m file ≡ Some s → s.holder ≡ Some client → Becomes I m (with_served m file (with_holder client true s))
+  pub grants : (m : MdsValue) (file : FileId) (s : ServedFile) (client n : ℕ) → confirmed_node m client ≡ Some (Client n) → served m file ≡ Some s → s.file.layout.phase ≡ Free → are_spent m.fresh ≡ false → has_fresh m.fresh ≡ true
+      → Enters I m (with_served (file_stepped m file s (phase file s.file (AsksLayout n) m.fresh)).mds file (with_holder client false (file_behind s (phase file s.file (AsksLayout n) m.fresh))))
+      (phase file s.file (AsksLayout n) m.fresh).entries
+  pub grants_alone : (m : MdsValue) (file : FileId) (s : ServedFile) (client n : ℕ) → confirmed_node m client ≡ Some (Client n) → served m file ≡ Some s → s.file.layout.phase ≡ Free → are_spent m.fresh ≡ false → has_fresh m.fresh ≡ false
+      → Becomes I m (with_served m file (with_holder client false s))
+  -- other inputs of the table of phases: unasked; a LAYOUTRETURN; a timeout; what an answer to an own write shows
+  pub inputs : (m : MdsValue) (file : FileId) (s : ServedFile) (input : FileInput) → comes_unasked input ≡ true → TakesInput I m file s input
+  pub returns : (m : MdsValue) (file : FileId) (s : ServedFile) (errors : List (Value ff_ioerr4))
+      → TakesInput I m file s (Returns (client_number (holder_of s.file.layout.phase)) s.file.layout.cred (report_of errors s.file.layout.live))
   pub timeouts : (m : MdsValue) (file : FileId) (s : ServedFile) (node : NodeId) (xid : ℕ) → is_outstanding s.file (server_number node) xid ≡ true → TakesInput I m file s (TimesOut xid)
   pub learns : (m : MdsValue) (file : FileId) (s : ServedFile) (call : AwaitedCall) (server own uid : ℕ) (c : DsCallValue) (replies : DsCallValue → DsReplyValue) (fileid : ℕ) (shown : Shown) → Heard call replies
       → call.caller ≡ ForWrite file → call.sent ≡ CallsServer server own uid c → fileid_of c (replies c) ≡ Some fileid → attributes_shown (replies c) ≡ Some shown

@@ -33,7 +33,7 @@ use Rattle.mds_rule.specs.MdsStates.{CompoundRun, ServedFile, MdsSend, MdsValue,
 use Rattle.mds_rule.specs.OpSteps.{OpStep, Goes, with_result, refuses, refused_or}
 use Rattle.mds_rule.specs.ServedFiles.{has_fresh, file_stepped, input_at, takes_input, with_new_recall, recall_by, recall_at, asks_back, held_from, one_by_one, ends_periods, forgotten, ends_client}
 use Rattle.mds_rule.specs.SessionOps.{with_exchange, runs_exchange, confirms, gone_with, goes_with, with_session, with_create, runs_create, on_session, runs_bind, runs_destroy_session, runs_destroy_client, reclaims}
-use Rattle.mds_walk.proofs.Parts.{Parts, is_own_input, Becomes, HeardOf, TakesInput, comes_by_itself}
+use Rattle.mds_walk.proofs.Parts.{Parts, Becomes, HeardOf, TakesInput, comes_unasked}
 use Rattle.mds_walk.proofs.Keeping.{KeepsOp, Silent, no_entries, stays, silent_then, silent_none, silent_same, becomes_silent}
 
 module _ (I : MdsValue → List Entry → List MdsSend → Type 0) (Heard : HeardOf) (k : Parts I Heard) where
@@ -49,8 +49,8 @@ module _ (I : MdsValue → List Entry → List MdsSend → Type 0) (Heard : Hear
   pub takes_by : (m : MdsValue) (file : FileId) (input : FileInput) → ((s : ServedFile) → TakesInput I m file s input) → Silent I m (takes_input m file input)
   takes_by m file input each = input_walk m file input each (served m file) refl
 
-  pub takes : (m : MdsValue) (file : FileId) (input : FileInput) → comes_by_itself input ≡ true → is_own_input input ≡ false → Silent I m (takes_input m file input)
-  takes m file input itself other = takes_by m file input (λ s. k.inputs m file s input itself other)
+  pub takes : (m : MdsValue) (file : FileId) (input : FileInput) → comes_unasked input ≡ true → Silent I m (takes_input m file input)
+  takes m file input unasked = takes_by m file input (λ s. k.inputs m file s input unasked)
 
   -- ---- recalls
 
@@ -63,7 +63,7 @@ module _ (I : MdsValue → List Entry → List MdsSend → Type 0) (Heard : Hear
   back_by : (m : MdsValue) (file : FileId) (s : ServedFile) (now : ℕ) (held : Bool) → Silent I m (recall_by m file s now held)
   back_by m file s now false = silent_same I m
   back_by m file s now true =
-      silent_then I m (takes_input m file ToRecall) (λ n. sends_none (with_new_recall n file s.file.layout.cred s.holder now)) (takes m file ToRecall refl refl)
+      silent_then I m (takes_input m file ToRecall) (λ n. sends_none (with_new_recall n file s.file.layout.cred s.holder now)) (takes m file ToRecall refl)
       (λ n. silent_none I n (with_new_recall n file s.file.layout.cred s.holder now) (recall_noted n file s.file.layout.cred s.holder now))
 
   back_at : (m : MdsValue) (file : FileId) (now : ℕ) (o : Option ServedFile) → Silent I m (recall_at m file now o)
@@ -80,7 +80,7 @@ module _ (I : MdsValue → List Entry → List MdsSend → Type 0) (Heard : Hear
   turns step one (file ∷ files) m = silent_then I m (step m file) (λ n. one_by_one step files n) (one m file) (λ n. turns step one files n)
 
   pub periods : (m : MdsValue) (client : ℕ) (end : EndCause) → Silent I m (ends_periods m client end)
-  periods m client end = turns (λ n file. takes_input n file (Revokes end)) (λ n file. takes n file (Revokes end) refl refl) (held_from client 1 m.files) m
+  periods m client end = turns (λ n file. takes_input n file (Revokes end)) (λ n file. takes n file (Revokes end) refl) (held_from client 1 m.files) m
 
   forgets_client : (client : ℕ) (m : MdsValue) → Becomes I m (forgotten client m)
   forgets_client client m = k.gone m client

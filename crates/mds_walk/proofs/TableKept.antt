@@ -9,7 +9,7 @@ use Rattle.cluster_model.specs.declared.ids.NodeId.{NodeId}
 use Rattle.cluster_model.specs.declared.ids.FileId.{FileId}
 use Rattle.cluster_model.specs.declared.entry.Entry.{Entry}
 use Rattle.file_rule.specs.MdsFiles.{FileStep}
-use Rattle.file_rule.specs.FilePhases.{OwnWrite, TimesOut, Answers, phase}
+use Rattle.file_rule.specs.FilePhases.{OwnWrite, TimesOut, Answers, phase, AsksLayout, Returns}
 use Rattle.mds_rows.specs.Draws.{drawn}
 use Rattle.recall.specs.Recalls.{without_file}
 use Rattle.mds_rule.specs.MdsStates.{ServedFile, MdsSend, AwaitedCall, MdsValue, with_call, is_call_to, with_served, new_mds}
@@ -23,6 +23,9 @@ use Rattle.mds_walk.proofs.Parts.{HeardAny, heard_by, end_input, without_write, 
 use Rattle.mds_walk.specs.CallTables.{TableStands}
 use Rattle.mds_walk.proofs.Lists.{in_more, in_last, in_with_call, in_filtered}
 use Rattle.mds_walk.proofs.EventWalk.{in_each_run}
+use Rattle.mds_rule.specs.LayoutOps.{client_number}
+use Rattle.cluster_model.specs.Phases.{holder_of}
+use Rattle.layout_report.specs.Reports.{report_of}
 
 -- the calls, the next number and what was sent
 pub record IsTable (calls : List AwaitedCall) (next : ℕ) (ss : List MdsSend) : Type 0 where
@@ -100,12 +103,16 @@ table_parts = record {
   asks_recall = λ m file cred client now off es ss t. t;
   times_recall = λ m xid out es ss t. t;
   ticks_recalls = λ m now es ss t. t;
-  replies = λ m node reply es ss t. sends_more m.calls m.next_xid ss _ t;
+  finishes = λ m pass bytes es ss t. t;
+  replies = λ m node xid bytes es ss t. sends_more m.calls m.next_xid ss _ t;
   answers = λ m node bytes reply is es ss t. sends_more m.calls m.next_xid ss _ t;
   later = λ m file p es ss t. t;
   sizes = λ m file s server fileid size there es ss t. t;
-  holds = λ m file s client again there es ss t. t;
-  inputs = λ m file s input itself other there fresh es ss t. stepped_table m file s (phase file s.file input m.fresh) es ss t;
+  gives_again = λ m file s client there its es ss t. t;
+  grants = λ m file s client n from there free left fresh es ss t. stepped_table m file s (phase file s.file (AsksLayout n) m.fresh) es ss t;
+  grants_alone = λ m file s client n from there free left spent es ss t. t;
+  inputs = λ m file s input unasked there fresh es ss t. stepped_table m file s (phase file s.file input m.fresh) es ss t;
+  returns = λ m file s errors there fresh es ss t. stepped_table m file s (phase file s.file (Returns (client_number (holder_of s.file.layout.phase)) s.file.layout.cred (report_of errors s.file.layout.live)) m.fresh) es ss t;
   timeouts = λ m file s node xid out there fresh es ss t. stepped_table m file s (phase file s.file (TimesOut xid) m.fresh) es ss t;
   learns = λ m file s call server own uid c replies fileid shown heard caller sent named shows there fresh es ss t. t;
   begins_read = λ m file s c at count there es ss t. t;

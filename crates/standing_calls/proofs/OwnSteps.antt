@@ -37,12 +37,26 @@ use Rattle.file_rule.specs.declared.creation.Creation.{Creation}
 use Rattle.file_rule.specs.declared.fresh.Fresh.{Fresh}
 use Rattle.file_rule.specs.MdsFiles.{Creations, Activity, Idle, Makes, Fences, Settles, Copies, MdsFile, FileStep, nothing, stays, a_uid, goes_fencing, with_entries, fence_stepped, seen_by, mirror_at, shown_by_set, in_stage, with_creation, creation_failed, creation_answered, stage_behind, creation_timed_out, creation_of, making_on, making_at, making_by, source_left, shown_by_commit, seen_at_source, settling_answered, settling_timed_out, copy_stepped, standing}
 use Rattle.file_rule.specs.FilePhases.{FileInput, AsksLayout, OwnWrite, Recall, Returns, Revokes, OwnEnds, Resilver, Answers, TimesOut, Ticks, Sees, asked_in, are_spent, held_in, by_client, by_mds, recalled_row, returned_row, revoked_row, own_row, resilvered_in, kind_of, settles_by, answered_in, timed_out_in, ticked, phase}
-use Rattle.mds_walk.proofs.Parts.{comes_by_itself}
 use Rattle.mds_walk.proofs.Lists.{first_there}
 use Rattle.standing_calls.proofs.Spots.{Spot, is_number, has_number, Once, not_both, or_false, IsLeft, left_same, left_then, Less, Thin, thin_left, thin_same, none_left, none_number, map_thin, map_set, map_get, set_taken, first_passes}
 use Rattle.standing_calls.proofs.OwnSpots.{number_of, creation_spot, mirror_spot, target_spot, settle_spots, copy_spots, spots_in, own_spots, out_number, Kind, kind_none, IsEnd, end_then, end_same, HasNone, none_end, item_left, none_of, item_taken, tick_less, settle_thin, settle_none, fencing_none, fence_end, making_end, source_end, copy_end, answered_none}
+use Rattle.mds_walk.proofs.Parts.{comes_unasked}
 
 -- ---- what comes by itself
+
+-- an input that neither an answer nor a timeout brings
+abbrev pub comes_by_itself : FileInput → Bool
+comes_by_itself (AsksLayout client) = true
+comes_by_itself (OwnWrite at bytes) = true
+comes_by_itself Recall = true
+comes_by_itself (Returns client claimed places) = true
+comes_by_itself (Revokes cause) = true
+comes_by_itself (OwnEnds causes at bytes) = true
+comes_by_itself Resilver = true
+comes_by_itself (Answers xid reply) = false
+comes_by_itself (TimesOut xid) = false
+comes_by_itself Ticks = true
+comes_by_itself (Sees id seen) = false
 
 -- the file goes on, with a part of its calls
 abbrev pub IsNext : MdsFile → MdsFile → Type 0
@@ -476,3 +490,16 @@ module _ (file : FileId) (f : MdsFile) (fresh : Fresh) (xid : ℕ) (reply : DsRe
 
 pub answer_next : (file : FileId) (f : MdsFile) (fresh : Fresh) (xid : ℕ) (reply : DsReplyValue) → KindOf f → IsTaken xid (own_spots f) (phase file f (Answers xid reply) fresh).file
 answer_next file f fresh xid reply kind = answer_in file f fresh xid reply f.activity refl kind
+
+pub unasked_itself : (input : FileInput) → comes_unasked input ≡ true → comes_by_itself input ≡ true
+unasked_itself (AsksLayout client) is = refl
+unasked_itself (OwnWrite at bytes) is = refl
+unasked_itself Recall is = refl
+unasked_itself (Returns client claimed places) is = refl
+unasked_itself (Revokes cause) is = refl
+unasked_itself (OwnEnds causes at bytes) is = refl
+unasked_itself Resilver is = refl
+unasked_itself (Answers xid reply) is = is
+unasked_itself (TimesOut xid) is = is
+unasked_itself Ticks is = refl
+unasked_itself (Sees id seen) is = is

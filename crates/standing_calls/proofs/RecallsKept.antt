@@ -12,7 +12,7 @@ use Rattle.cluster_model.specs.declared.ids.FileId.{FileId}
 use Rattle.cluster_model.specs.Nodes.{is_node}
 use Rattle.cluster_model.specs.declared.entry.Entry.{Entry}
 use Rattle.file_rule.specs.MdsFiles.{FileStep}
-use Rattle.file_rule.specs.FilePhases.{OwnWrite, TimesOut, Answers, phase}
+use Rattle.file_rule.specs.FilePhases.{OwnWrite, TimesOut, Answers, phase, AsksLayout, Returns}
 use Rattle.mds_rows.specs.Draws.{drawn}
 use Rattle.recall.specs.Recalls.{new_recall, after_reply, without_file}
 use Rattle.mds_rule.specs.MdsStates.{ServedFile, MdsSend, AwaitedCall, MdsValue, MdsStep, with_call, is_call_to, without_call, with_served, new_mds}
@@ -31,6 +31,9 @@ use Rattle.standing_calls.proofs.Spots.{Spot, has_number, Once, not_both, is_off
 use Rattle.standing_calls.proofs.Stands.{found_new}
 use Rattle.standing_calls.proofs.FilesKept.{file_of}
 use Rattle.standing_calls.proofs.RecallSpots.{recall_spot, recall_spots, out_number, asked_left, ended_left, timed_left, ticked_left, reply_taken, out_awaited, RecallGoes, recall_goes}
+use Rattle.mds_rule.specs.LayoutOps.{client_number}
+use Rattle.cluster_model.specs.Phases.{holder_of}
+use Rattle.layout_report.specs.Reports.{report_of}
 
 -- ---- what stands in a list
 
@@ -239,12 +242,17 @@ recalling_parts = record {
   asks_recall = λ m file cred client now off es ss j. (j.0, recalls_left m.calls m.next_xid ss _ (recall_spots m.recalls) (asked_left (new_recall file cred client now) refl m.recalls) j.1);
   times_recall = λ m xid out es ss j. (j.0, recalls_left m.calls m.next_xid ss _ (recall_spots m.recalls) (timed_left m.recalls xid) j.1);
   ticks_recalls = λ m now es ss j. (j.0, recalls_left m.calls m.next_xid ss _ (recall_spots m.recalls) (ticked_left m.recalls now) j.1);
-  replies = λ m node reply es ss j. (table_parts.replies m node reply es ss j.0, unnumbered m.calls m.next_xid ss (recall_spots m.recalls) _ refl j.1);
+  finishes = λ m pass bytes es ss j. j;
+  replies = λ m node xid bytes es ss j. (table_parts.replies m node xid bytes es ss j.0, unnumbered m.calls m.next_xid ss (recall_spots m.recalls) _ refl j.1);
   answers = λ m node bytes reply is es ss j. (table_parts.answers m node bytes reply is es ss j.0, unnumbered m.calls m.next_xid ss (recall_spots m.recalls) _ refl j.1);
   later = λ m file p es ss j. j;
   sizes = λ m file s server fileid size there es ss j. j;
-  holds = λ m file s client again there es ss j. j;
-  inputs = λ m file s input itself other there fresh es ss j. (table_parts.inputs m file s input itself other there fresh es ss j.0, stepped_recalls m file s (phase file s.file input m.fresh) ss j.1);
+  gives_again = λ m file s client there its es ss j. j;
+  grants = λ m file s client n from there free left fresh es ss j. (table_parts.grants m file s client n from there free left fresh es ss j.0, stepped_recalls m file s (phase file s.file (AsksLayout n) m.fresh) ss j.1);
+  grants_alone = λ m file s client n from there free left spent es ss j. j;
+  inputs = λ m file s input unasked there fresh es ss j. (table_parts.inputs m file s input unasked there fresh es ss j.0, stepped_recalls m file s (phase file s.file input m.fresh) ss j.1);
+  returns = λ m file s errors there fresh es ss j.
+      (table_parts.returns m file s errors there fresh es ss j.0, stepped_recalls m file s (phase file s.file (Returns (client_number (holder_of s.file.layout.phase)) s.file.layout.cred (report_of errors s.file.layout.live)) m.fresh) ss j.1);
   timeouts = λ m file s node xid out there fresh es ss j. (table_parts.timeouts m file s node xid out there fresh es ss j.0, stepped_recalls m file s (phase file s.file (TimesOut xid) m.fresh) ss j.1);
   learns = λ m file s call server own uid c replies fileid shown heard caller sent named shows there fresh es ss j. j;
   begins_read = λ m file s c at count there es ss j. j;

@@ -10,8 +10,8 @@ use Rattle.cluster_model.specs.declared.ids.FileId.{FileId}
 use Rattle.cluster_model.specs.declared.ids.Mirror.{Mirror}
 use Rattle.cluster_model.specs.declared.entry.Entry.{Entry}
 use Rattle.cluster_model.specs.Fences.{is_out}
-use Rattle.file_rule.specs.MdsFiles.{FileStep}
-use Rattle.file_rule.specs.FilePhases.{FileInput, OwnWrite, TimesOut, Answers, Sees, phase, is_outstanding, new_mds_file, creations_at}
+use Rattle.file_rule.specs.MdsFiles.{FileStep, MdsFile}
+use Rattle.file_rule.specs.FilePhases.{FileInput, OwnWrite, TimesOut, Answers, Sees, phase, is_outstanding, new_mds_file, creations_at, AsksLayout, Returns}
 use Rattle.mds_io.specs.Reads.{ReadState, in_turn}
 use Rattle.mds_io.specs.Reads as read
 use Rattle.mds_io.specs.OwnWrites.{after_own_reply}
@@ -29,15 +29,18 @@ use Rattle.mds_walk.proofs.TableKept.{Table, table_parts, table_calls, new_table
 use Rattle.standing_calls.specs.Standing.{CallsStand, StandsTo}
 use Rattle.standing_calls.proofs.Spots.{Spot, is_at, has_at, not_both, left_same, AreNone, none_left, map_set, map_get, got_at, and_true, IsLeft, Once, first_passes, is_number}
 use Rattle.standing_calls.proofs.OwnSpots.{number_of, own_spots, out_number, outstanding_at, creation_spot}
-use Rattle.standing_calls.proofs.OwnSteps.{KindOf, IsNext, itself_next, late_next, sees_next, answer_next}
+use Rattle.standing_calls.proofs.OwnSteps.{KindOf, IsNext, itself_next, late_next, sees_next, answer_next, unasked_itself}
 use Rattle.standing_calls.proofs.OwnOuts.{goes_to}
-use Rattle.standing_calls.proofs.ReadSpots.{read_spot, read_spots, server_of, begun_left, turns_push, behind_left, behind_turns, late_so, put_left, put_turns, gone_left, gone_turns, reply_gone, put_taken, gone_taken, turns_none, sent_so, TurnSo}
+use Rattle.standing_calls.proofs.ReadSpots.{read_spot, read_spots, server_of, begun_left, turns_push, behind_left, behind_turns, late_so, put_left, put_turns, gone_left, gone_turns, reply_gone, put_taken, gone_taken, turns_none, sent_so, TurnSo, TurnsSo}
 use Rattle.standing_calls.proofs.WriteSpots.{write_spots, writer_spots, called_at, new_left, write_late, write_taken, write_goes}
-use Rattle.standing_calls.proofs.FilesKept.{FileGood, Leaves, leaves_same, Hears, hears_own, hears_reads, hears_write, FilesIn, files_left, files_stepped, files_pushed, files_heard, files_unheard, files_leave, files_forget, files_called, spots_called, files_call, file_of}
+use Rattle.standing_calls.proofs.FilesKept.{FileGood, Leaves, Hears, hears_own, hears_reads, hears_write, FilesIn, files_left, files_stepped, files_pushed, files_heard, files_unheard, files_leave, files_forget, files_called, spots_called, files_call, file_of}
 use Rattle.cluster_model.specs.declared.limits.TheConstants.{SPARE_UIDS}
 use Rattle.cluster_model.specs.DsCalls.{DsReplyValue}
 use Rattle.mds_laws.proofs.Lists.{all_got}
 use Rattle.mds_progress.specs.FirstOut.{is_called_at}
+use Rattle.mds_rule.specs.LayoutOps.{client_number, with_holder}
+use Rattle.cluster_model.specs.Phases.{holder_of}
+use Rattle.layout_report.specs.Reports.{report_of}
 
 -- While uids and names are left, the calls of each file stand.
 abbrev pub Standing : MdsValue → List Entry → List MdsSend → Type 0
@@ -83,6 +86,16 @@ gone_leaves calls file s place r at g = record {
   kind = g.kind;
 }
 
+-- its calls are as they were
+same_calls : (calls : List AwaitedCall) (file : FileId) (s t : ServedFile) → t.file ≡ s.file → t.reads ≡ s.reads → t.write ≡ s.write → FileGood calls file s → Leaves s t
+same_calls calls file s t its reads write g = record {
+  own = subst (λ (f : MdsFile). IsLeft (own_spots f) (own_spots s.file)) (sym its) (left_same (own_spots s.file));
+  reads = subst (λ (l : List WaitingRead). IsLeft (read_spots l) (read_spots s.reads)) (sym reads) (left_same (read_spots s.reads));
+  write = subst (λ (o : Option WaitingWrite). IsLeft (write_spots o) (write_spots s.write)) (sym write) (left_same (write_spots s.write));
+  turns = subst TurnsSo (sym reads) g.turns;
+  kind = subst KindOf (sym its) g.kind;
+}
+
 -- its write is another, or none
 write_leaves : (calls : List AwaitedCall) (file : FileId) (s : ServedFile) (o : Option WaitingWrite) → IsLeft (write_spots o) (write_spots s.write) → FileGood calls file s → Leaves s (record s { write = o })
 write_leaves calls file s o l g = record { own = left_same (own_spots s.file); reads = left_same (read_spots s.reads); write = l; turns = g.turns; kind = g.kind }
@@ -118,13 +131,27 @@ standing_parts = record {
   asks_recall = λ m file cred client now off es ss j. j;
   times_recall = λ m xid out es ss j. j;
   ticks_recalls = λ m now es ss j. j;
-  replies = λ m node reply es ss j. (table_parts.replies m node reply es ss j.0, j.1);
+  finishes = λ m pass bytes es ss j. j;
+  replies = λ m node xid bytes es ss j. (table_parts.replies m node xid bytes es ss j.0, j.1);
   answers = λ m node bytes reply is es ss j. (table_parts.answers m node bytes reply is es ss j.0, j.1);
   later = λ m file p es ss j. j;
-  sizes = λ m file s server fileid size there es ss j. (j.0, λ fresh. files_left m file s _ there (λ g. let l = leaves_same m.calls file s g in record { own = l.own; reads = l.reads; write = l.write; turns = l.turns; kind = l.kind }) (j.1 fresh));
-  holds = λ m file s client again there es ss j. (j.0, λ fresh. files_left m file s _ there (λ g. let l = leaves_same m.calls file s g in record { own = l.own; reads = l.reads; write = l.write; turns = l.turns; kind = l.kind }) (j.1 fresh));
-  inputs = λ m file s input itself other there fresh es ss j.
-      (table_parts.inputs m file s input itself other there fresh es ss j.0, λ any. input_stands m file s input there (itself_next file s.file m.fresh input itself) (j.1 fresh));
+  sizes = λ m file s server fileid size there es ss j. (j.0, λ fresh. files_left m file s _ there (same_calls m.calls file s _ refl refl refl) (j.1 fresh));
+  gives_again = λ m file s client there its es ss j. (j.0, λ fresh. files_left m file s _ there (same_calls m.calls file s (with_holder client true s) refl refl refl) (j.1 fresh));
+  grants = λ m file s client n from there free left fresh es ss j.
+      let step : FileStep = phase file s.file (AsksLayout n) m.fresh in
+      let x : MdsValue = (file_stepped m file s step).mds in
+      let t : ServedFile = file_behind s step in (
+        table_parts.grants m file s client n from there free left fresh es ss j.0,
+        λ any.
+            files_left x file t (with_holder client false t) (stepped_there m file s step there) (same_calls x.calls file t (with_holder client false t) refl refl refl)
+            (input_stands m file s (AsksLayout n) there (itself_next file s.file m.fresh (AsksLayout n) refl) (j.1 fresh)),
+      );
+  grants_alone = λ m file s client n from there free left spent es ss j. (j.0, λ fresh. absurd (not_both (sym fresh ∙ spent)));
+  inputs = λ m file s input unasked there fresh es ss j.
+      (table_parts.inputs m file s input unasked there fresh es ss j.0, λ any. input_stands m file s input there (itself_next file s.file m.fresh input (unasked_itself input unasked)) (j.1 fresh));
+  returns = λ m file s errors there fresh es ss j.
+      let input : FileInput = Returns (client_number (holder_of s.file.layout.phase)) s.file.layout.cred (report_of errors s.file.layout.live) in
+      (table_parts.returns m file s errors there fresh es ss j.0, λ any. input_stands m file s input there (itself_next file s.file m.fresh input refl) (j.1 fresh));
   timeouts = λ m file s node xid out there fresh es ss j.
       (table_parts.timeouts m file s node xid out there fresh es ss j.0, λ any. input_stands m file s (TimesOut xid) there (late_next file s.file m.fresh xid) (j.1 fresh));
   learns = λ m file s call server own uid c replies fileid shown heard caller sent named shows there fresh es ss j.
