@@ -1,0 +1,6 @@
+//! What a metadata server goes on by: when a record of it goes out again.
+#![tactic(auto)]
+
+mod laws;
+
+pub use laws::pace_law;
