@@ -23,7 +23,7 @@ use Rattle.mds_rule.specs.Goes.{xid_after, calls_as, calls_server, OwnCall, own_
 use Rattle.mds_laws.specs.MdsRunLaws.{number_sent}
 use Rattle.mds_laws.proofs.Lists.{in_with_call, found_in, found_passes}
 use Rattle.mds_progress.specs.TickLaw.{WasTaken}
-use Rattle.mds_pace.specs.MdsPace.{was_taken, is_again, record_of, kept_record}
+use Rattle.mds_pace.specs.MdsPace.{was_taken, went_before, record_of, kept_record}
 use Rattle.mds_pace.proofs.Taken.{IsFrom, from_after, not_both, some_number, taken_so, taken_is, new_so, one_new, one_again, both_again}
 
 and_false : (b : Bool) → (b && false) ≡ false
@@ -58,7 +58,7 @@ numbered_so node xid c its = eqb-true c.xid xid (and_parts (is_node c.node node)
 pub record Stands (x : ℕ) (before calls : List AwaitedCall) (next : ℕ) : Type 0 where
   pub from : IsFrom x next
   pub same : (node : NodeId) (xid : ℕ) → WasTaken xid x → find (is_call_to node xid) calls ≡ find (is_call_to node xid) before
-  pub new : (call : AwaitedCall) → IsOneOf call calls → IsOneOf call before ⊎ (is_again x call.sent ≡ false)
+  pub new : (call : AwaitedCall) → IsOneOf call calls → IsOneOf call before ⊎ (went_before x call.sent ≡ false)
 
 -- each has its own number, which was taken
 abbrev pub AreTaken : ℕ → List AwaitedCall → Type 0
@@ -72,7 +72,7 @@ module _ (x : ℕ) (before : List AwaitedCall) where
     new = λ call inside. inl (subst (λ (l : List AwaitedCall). IsOneOf call l) is inside);
   }
 
-  is_new : (next : ℕ) (calls : List AwaitedCall) (s : MdsSend) → next ≢ 0 → number_sent s ≡ Some next → Stands x before calls next → is_again x s ≡ false
+  is_new : (next : ℕ) (calls : List AwaitedCall) (s : MdsSend) → next ≢ 0 → number_sent s ≡ Some next → Stands x before calls next → went_before x s ≡ false
   is_new next calls s has number t = ap (was_taken x) number ∙ new_so x next (t.from has).0 (t.from has).1
 
   not_taken : (next xid : ℕ) → x ≢ 0 → x ≤ next → WasTaken xid x → next ≢ xid
@@ -89,21 +89,21 @@ module _ (x : ℕ) (before : List AwaitedCall) where
     new = λ c inside. by_place c (in_with_call c call calls inside);
   }
     where
-      by_place : (c : AwaitedCall) → IsOneOf c calls ⊎ (c ≡ call) → IsOneOf c before ⊎ (is_again x c.sent ≡ false)
+      by_place : (c : AwaitedCall) → IsOneOf c calls ⊎ (c ≡ call) → IsOneOf c before ⊎ (went_before x c.sent ≡ false)
       by_place c (inl old) = t.new c old
-      by_place c (inr its) = inr (ap (λ (d : AwaitedCall). is_again x d.sent) its ∙ is_new next calls call.sent has number t)
+      by_place c (inr its) = inr (ap (λ (d : AwaitedCall). went_before x d.sent) its ∙ is_new next calls call.sent has number t)
 
   -- the step keeps it, and these go out again in it
   abbrev pub Leaves : MdsValue → MdsStep → List MdsSend → Type 0
-  Leaves m s again = Stands x before m.calls m.next_xid → Stands x before s.mds.calls s.mds.next_xid × (filter (is_again x) s.sends ≡ again)
+  Leaves m s again = Stands x before m.calls m.next_xid → Stands x before s.mds.calls s.mds.next_xid × (filter (went_before x) s.sends ≡ again)
 
   abbrev Goes : MdsValue → MdsStep → Type 0
   Goes m s = Leaves m s []
 
   then_leaves : (m : MdsValue) (s : MdsStep) (next : MdsValue → MdsStep) (olds more : List MdsSend) → Leaves m s olds → ((n : MdsValue) → Leaves n (next n) more) → Leaves m (and_then s next) (olds ++ more)
   then_leaves m s next olds more first second t =
-      let a : Stands x before s.mds.calls s.mds.next_xid × (filter (is_again x) s.sends ≡ olds) = first t in
-      let b : Stands x before (next s.mds).mds.calls (next s.mds).mds.next_xid × (filter (is_again x) (next s.mds).sends ≡ more) = second s.mds a.0 in
+      let a : Stands x before s.mds.calls s.mds.next_xid × (filter (went_before x) s.sends ≡ olds) = first t in
+      let b : Stands x before (next s.mds).mds.calls (next s.mds).mds.next_xid × (filter (went_before x) (next s.mds).sends ≡ more) = second s.mds a.0 in
       (b.0, both_again x s.sends (next s.mds).sends olds more a.1 b.1)
 
   then_goes : (m : MdsValue) (s : MdsStep) (next : MdsValue → MdsStep) → Goes m s → ((n : MdsValue) → Goes n (next n)) → Goes m (and_then s next)
@@ -216,7 +216,7 @@ module _ (x : ℕ) (before : List AwaitedCall) where
     none_there : (node : NodeId) (xid : ℕ) → was_taken x (Some xid) ≡ false → (c : AwaitedCall) → IsOneOf c before → is_call_to node xid c ≡ true → ⊥
     none_there node xid off c inside its = not_both (sym (ap (λ (n : ℕ). was_taken x (Some n)) (sym (numbered_so node xid c its)) ∙ taken_so x c.xid (all c inside).1) ∙ off)
 
-    taken_repeated : (m : MdsValue) (o : Option AwaitedCall) → ((c : AwaitedCall) → o ≡ Some c → IsOneOf c before) → filter (is_again x) (repeats_call m o).sends ≡ record_of o
+    taken_repeated : (m : MdsValue) (o : Option AwaitedCall) → ((c : AwaitedCall) → o ≡ Some c → IsOneOf c before) → filter (went_before x) (repeats_call m o).sends ≡ record_of o
     taken_repeated m None inside = refl
     taken_repeated m (Some c) inside = let its : (number_sent c.sent ≡ Some c.xid) × WasTaken c.xid x = all c (inside c refl) in one_again x c.sent (ap (was_taken x) its.0 ∙ taken_so x c.xid its.1)
 
@@ -224,20 +224,20 @@ module _ (x : ℕ) (before : List AwaitedCall) where
     nothing_there node xid off None found = refl
     nothing_there node xid off (Some c) found = absurd (none_there node xid off c (found_in (is_call_to node xid) before c found) (found_passes (is_call_to node xid) before c found))
 
-    new_repeated : (m : MdsValue) (node : NodeId) (xid : ℕ) → was_taken x (Some xid) ≡ false → Stands x before m.calls m.next_xid → (o : Option AwaitedCall) → find (is_call_to node xid) m.calls ≡ o → filter (is_again x) (repeats_call m o).sends ≡ []
+    new_repeated : (m : MdsValue) (node : NodeId) (xid : ℕ) → was_taken x (Some xid) ≡ false → Stands x before m.calls m.next_xid → (o : Option AwaitedCall) → find (is_call_to node xid) m.calls ≡ o → filter (went_before x) (repeats_call m o).sends ≡ []
     new_repeated m node xid off t None found = refl
     new_repeated m node xid off t (Some c) found = by_new (t.new c (found_in (is_call_to node xid) m.calls c found))
       where
-        by_new : IsOneOf c before ⊎ (is_again x c.sent ≡ false) → filter (is_again x) (c.sent ∷ []) ≡ []
+        by_new : IsOneOf c before ⊎ (went_before x c.sent ≡ false) → filter (went_before x) (c.sent ∷ []) ≡ []
         by_new (inl old) = absurd (none_there node xid off c old (found_passes (is_call_to node xid) m.calls c found))
         by_new (inr new) = one_new x c.sent new
 
-    one_repeated : (m : MdsValue) (node : NodeId) (xid : ℕ) → Stands x before m.calls m.next_xid → filter (is_again x) (repeats_call m (find (is_call_to node xid) m.calls)).sends ≡ record_of (find (is_call_to node xid) before)
+    one_repeated : (m : MdsValue) (node : NodeId) (xid : ℕ) → Stands x before m.calls m.next_xid → filter (went_before x) (repeats_call m (find (is_call_to node xid) m.calls)).sends ≡ record_of (find (is_call_to node xid) before)
     one_repeated m node xid t = by_taken (was_taken x (Some xid)) refl
       where
-        by_taken : (b : Bool) → was_taken x (Some xid) ≡ b → filter (is_again x) (repeats_call m (find (is_call_to node xid) m.calls)).sends ≡ record_of (find (is_call_to node xid) before)
+        by_taken : (b : Bool) → was_taken x (Some xid) ≡ b → filter (went_before x) (repeats_call m (find (is_call_to node xid) m.calls)).sends ≡ record_of (find (is_call_to node xid) before)
         by_taken true is =
-            subst (λ (o : Option AwaitedCall). filter (is_again x) (repeats_call m o).sends ≡ record_of (find (is_call_to node xid) before)) (sym (t.same node xid (taken_is x xid is)))
+            subst (λ (o : Option AwaitedCall). filter (went_before x) (repeats_call m o).sends ≡ record_of (find (is_call_to node xid) before)) (sym (t.same node xid (taken_is x xid is)))
             (taken_repeated m (find (is_call_to node xid) before) (λ c found. found_in (is_call_to node xid) before c found))
         by_taken false off = new_repeated m node xid off t (find (is_call_to node xid) m.calls) refl ∙ sym (nothing_there node xid off (find (is_call_to node xid) before) refl)
 

@@ -55,7 +55,7 @@ use Rattle.mds_laws.proofs.EachCases.{EachCase}
 use Rattle.mds_laws.proofs.CasesOfEach.{each_case}
 use Rattle.mds_laws.proofs.Numbers.{WereSent, sent_more, sent_with, sent_kept}
 use Rattle.mds_laws.proofs.OpsWalk.{puts_fh, gets_fh, looks_up, gets_attr, opens, closes_file, commits, reads, writes, layout_gets, layout_returns, layout_commits, device_infos}
-use Rattle.mds_pace.specs.MdsPace.{is_again}
+use Rattle.mds_pace.specs.MdsPace.{went_before}
 use Rattle.mds_pace.proofs.Taken.{IsFrom, from_after, both_again, some_number}
 use Rattle.mds_pace.proofs.Still.{Still, still_same, client_still}
 
@@ -184,19 +184,19 @@ module _ (x : ℕ) where
 
   -- nothing goes out again, and the next number stays among those that were not taken
   abbrev pub Quiet : MdsValue → MdsStep → Type 0
-  Quiet m s = IsFrom x m.next_xid → IsFrom x s.mds.next_xid × (filter (is_again x) s.sends ≡ [])
+  Quiet m s = IsFrom x m.next_xid → IsFrom x s.mds.next_xid × (filter (went_before x) s.sends ≡ [])
 
   pub quiet_same : (m : MdsValue) → Quiet m (sends_none m)
   quiet_same m f = (f, refl)
 
   pub quiet_then : (m : MdsValue) (s : MdsStep) (next : MdsValue → MdsStep) → Quiet m s → ((n : MdsValue) → Quiet n (next n)) → Quiet m (and_then s next)
   quiet_then m s next first second f =
-      let a : IsFrom x s.mds.next_xid × (filter (is_again x) s.sends ≡ []) = first f in
-      let b : IsFrom x (next s.mds).mds.next_xid × (filter (is_again x) (next s.mds).sends ≡ []) = second s.mds a.0 in
+      let a : IsFrom x s.mds.next_xid × (filter (went_before x) s.sends ≡ []) = first f in
+      let b : IsFrom x (next s.mds).mds.next_xid × (filter (went_before x) (next s.mds).sends ≡ []) = second s.mds a.0 in
       (b.0, both_again x s.sends (next s.mds).sends [] [] a.1 b.1)
 
   pub quiet_still : (m : MdsValue) (s : MdsStep) → Still m s → Quiet m s
-  quiet_still m s t f = (from_still m s t f, ap (λ (l : List MdsSend). filter (is_again x) l) t.none)
+  quiet_still m s t f = (from_still m s t f, ap (λ (l : List MdsSend). filter (went_before x) l) t.none)
 
   op_quiet : (m : MdsValue) (q : OpStep) (next : MdsValue → CompoundRun → MdsStep) → OpFrom m q → ((n : MdsValue) (d : CompoundRun) → Quiet n (next n d)) → Quiet m (op_then q next)
   op_quiet m (Goes n entries c) next q all f = all n c (q f)

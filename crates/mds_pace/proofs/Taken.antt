@@ -7,7 +7,7 @@ use Rattle.std.proofs.lemmas.List.Elements.{filter-append}
 use Rattle.mds_rule.specs.MdsStates.{MdsSend, MdsValue}
 use Rattle.mds_rule.specs.Goes.{xid_after, has_xids}
 use Rattle.mds_progress.specs.TickLaw.{WasTaken}
-use Rattle.mds_pace.specs.MdsPace.{was_taken, is_again}
+use Rattle.mds_pace.specs.MdsPace.{was_taken, went_before}
 
 pub not_both : true ≡ false → ⊥
 not_both e = absurd cc
@@ -48,12 +48,12 @@ from_after x next has f =
 
 -- ---- of sends
 
-pub one_new : (next : ℕ) (s : MdsSend) → is_again next s ≡ false → filter (is_again next) (s ∷ []) ≡ []
+pub one_new : (next : ℕ) (s : MdsSend) → went_before next s ≡ false → filter (went_before next) (s ∷ []) ≡ []
 one_new next s off = ap (λ (b : Bool). if b then s ∷ [] else []) off
 
-pub one_again : (next : ℕ) (s : MdsSend) → is_again next s ≡ true → filter (is_again next) (s ∷ []) ≡ s ∷ []
+pub one_again : (next : ℕ) (s : MdsSend) → went_before next s ≡ true → filter (went_before next) (s ∷ []) ≡ s ∷ []
 one_again next s is = ap (λ (b : Bool). if b then s ∷ [] else []) is
 
-pub both_again : (next : ℕ) (xs ys olds more : List MdsSend) → filter (is_again next) xs ≡ olds → filter (is_again next) ys ≡ more → filter (is_again next) (xs ++ ys) ≡ olds ++ more
+pub both_again : (next : ℕ) (xs ys olds more : List MdsSend) → filter (went_before next) xs ≡ olds → filter (went_before next) ys ≡ more → filter (went_before next) (xs ++ ys) ≡ olds ++ more
 both_again next xs ys olds more first second =
-    filter-append (is_again next) xs ys ∙ ap (λ (l : List MdsSend). l ++ filter (is_again next) ys) first ∙ ap (λ (l : List MdsSend). olds ++ l) second
+    filter-append (went_before next) xs ys ∙ ap (λ (l : List MdsSend). l ++ filter (went_before next) ys) first ∙ ap (λ (l : List MdsSend). olds ++ l) second

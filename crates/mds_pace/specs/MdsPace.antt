@@ -17,18 +17,18 @@ was_taken next None = false
 was_taken next (Some xid) = nat_lt xid next || (next == 0)
 
 -- the record of a call that went before
-abbrev pub is_again : ℕ → MdsSend → Bool
-is_again next s = was_taken next (number_sent s)
+abbrev pub went_before : ℕ → MdsSend → Bool
+went_before next s = was_taken next (number_sent s)
 
 -- those that go out again in a step of this server: no call has taken their numbers in it
-abbrev pub sent_again : MdsValue → MdsStep → List MdsSend
-sent_again m step = filter (is_again m.next_xid) step.sends
+abbrev pub repeats_in : MdsValue → MdsStep → List MdsSend
+repeats_in m step = filter (went_before m.next_xid) step.sends
 
 -- there is none, or one, of which this holds
-abbrev pub AtMostOne : (MdsSend → Type 0) → List MdsSend → Type 0
-AtMostOne P [] = ⊤
-AtMostOne P (s ∷ []) = P s
-AtMostOne P (s ∷ t ∷ more) = ⊥
+abbrev pub IsOneAtMost : (MdsSend → Type 0) → List MdsSend → Type 0
+IsOneAtMost P [] = ⊤
+IsOneAtMost P (s ∷ []) = P s
+IsOneAtMost P (s ∷ t ∷ more) = ⊥
 
 -- it is the record of the call that timed out
 abbrev pub IsOfLate : MdsValue → NodeId → Option ℕ → MdsSend → Type 0
@@ -54,12 +54,12 @@ NumbersTaken m = (call : AwaitedCall) → IsOneOf call m.calls → (number_sent 
 
 -- Those that go out again in a tick are those of the calls that files kept for it, each once for its file, in the order of the files.
 abbrev pub RepeatsKept : ℕ → MdsValue → Type 0
-RepeatsKept now m = sent_again m (takes_tick now m) ≡ kept_records (behind_ends now m)
+RepeatsKept now m = repeats_in m (takes_tick now m) ≡ kept_records (behind_ends now m)
 
 -- What goes out again, by what came.
-abbrev pub PacesInput : ℕ → MdsInput → MdsValue → Type 0
-PacesInput now (Hears from bytes) m = sent_again m (by_input now (Hears from bytes) m) ≡ []
-PacesInput now (IsTimedOut to which) m = AtMostOne (IsOfLate m to which) (sent_again m (by_input now (IsTimedOut to which) m))
-PacesInput now Ticks m = NumbersTaken m → RepeatsKept now m
-PacesInput now (RecallsFile file) m = sent_again m (by_input now (RecallsFile file) m) ≡ []
-PacesInput now (Resilvers file) m = sent_again m (by_input now (Resilvers file) m) ≡ []
+abbrev pub PacesEvent : ℕ → MdsInput → MdsValue → Type 0
+PacesEvent now (Hears from bytes) m = repeats_in m (by_input now (Hears from bytes) m) ≡ []
+PacesEvent now (IsTimedOut to which) m = IsOneAtMost (IsOfLate m to which) (repeats_in m (by_input now (IsTimedOut to which) m))
+PacesEvent now Ticks m = NumbersTaken m → RepeatsKept now m
+PacesEvent now (RecallsFile file) m = repeats_in m (by_input now (RecallsFile file) m) ≡ []
+PacesEvent now (Resilvers file) m = repeats_in m (by_input now (Resilvers file) m) ≡ []

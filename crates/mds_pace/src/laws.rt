@@ -4,7 +4,7 @@ ghost use Rattle.std.specs.Prelude.{List, ℕ};
 ghost use Rattle.device_addr.specs.Universal.{AddressValue};
 ghost use Rattle.mds_rule.specs.MdsStates.{MdsValue};
 ghost use Rattle.mds_laws.specs.MdsRuns.{MdsInput, MdsEvent, mds_run};
-ghost use Rattle.mds_pace.specs.MdsPace.{NumbersTaken, PacesInput, RepeatsKept};
+ghost use Rattle.mds_pace.specs.MdsPace.{NumbersTaken, PacesEvent, RepeatsKept};
 
 /// Whatever a metadata server has, whenever it is and whatever comes, the record of a call that went before goes out
 /// again only so (RFC 5531, section 9; RFC 8881, section 2.10.6.2):
@@ -16,8 +16,8 @@ ghost use Rattle.mds_pace.specs.MdsPace.{NumbersTaken, PacesInput, RepeatsKept};
 ///
 /// Behind each run the calls stand so, and a tick sends exactly those. So what is to go out again later waits for a tick,
 /// and a node that is given no tick twice at one moment sends it once for each moment.
-pub fn pace_law()
-    ensures paces { (now : ℕ) (input : MdsInput) (m : MdsValue) → PacesInput now input m }
+pub fn repeat_law()
+    ensures paces { (now : ℕ) (input : MdsInput) (m : MdsValue) → PacesEvent now input m }
     ensures taken { (servers : List AddressValue) (mirrors : ℕ) (events : List MdsEvent) → NumbersTaken (mds_run servers mirrors events).mds }
     ensures ticks { (servers : List AddressValue) (mirrors : ℕ) (events : List MdsEvent) (now : ℕ) → RepeatsKept now (mds_run servers mirrors events).mds }
 {}

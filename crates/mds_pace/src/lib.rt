@@ -3,4 +3,4 @@
 
 mod laws;
 
-pub use laws::pace_law;
+pub use laws::repeat_law;
