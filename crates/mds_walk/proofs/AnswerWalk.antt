@@ -28,7 +28,7 @@ use Rattle.mds_walk.specs.CallTables.{IsCallFor, IsOfServers, IsOfClients}
 use Rattle.mds_walk.proofs.Parts.{Becomes, Keeps, HeardOf, Hearing, IsReadAt, IsHeard, heard_by, Parts, Calls}
 use Rattle.mds_walk.proofs.Keeping.{none_keeps, same, becomes_keeps}
 use Rattle.mds_walk.proofs.Lists.{found_in, found_passes, put_back, none_there, first_there}
-use Rattle.mds_walk.proofs.OpsWalk.{place_served, served_again, stepped_there}
+use Rattle.mds_walk.proofs.Served.{place_served, served_again, stepped_there}
 use Rattle.mds_walk.proofs.CompoundWalk.{read_walk, write_in_walk, recalls_walk}
 
 not_both : true ≡ false → ⊥

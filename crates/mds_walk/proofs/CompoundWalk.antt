@@ -50,7 +50,8 @@ use Rattle.mds_walk.proofs.Keeping.{KeepsOp, then_keeps, none_keeps, same, becom
 use Rattle.mds_walk.proofs.Lists.{set_twice}
 use Rattle.mds_walk.proofs.Requested.{behind_request}
 use Rattle.mds_walk.proofs.ServedWalk.{takes, takes_by, exchanges, creates, binds, destroys_session, destroys_client, reclaims_all}
-use Rattle.mds_walk.proofs.OpsWalk.{served_again, puts_fh, gets_fh, looks_up, gets_attr, opens, closes_file, commits, reads, writes, layout_gets, layout_returns, layout_commits, device_infos}
+use Rattle.mds_walk.proofs.Served.{served_again}
+use Rattle.mds_walk.proofs.OpsWalk.{puts_fh, gets_fh, looks_up, gets_attr, opens, closes_file, commits, reads, writes, layout_gets, layout_returns, layout_commits, device_infos}
 
 module _ (I : MdsValue → List Entry → List MdsSend → Type 0) (Heard : HeardOf) (k : Parts I Heard) where
   -- ---- one operation after the other

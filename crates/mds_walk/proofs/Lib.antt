@@ -2,6 +2,7 @@ pub mod Lists
 pub mod Parts
 pub mod Keeping
 pub mod Requested
+pub mod Served
 mod LateFound
 mod LayoutHolders
 mod ServedWalk

@@ -1,10 +1,8 @@
 -- Each operation on files and layouts keeps what is kept in each case.
 use Rattle.std.proofs.Common.{◌≡◌, ◌≤◌, ℕ, ◌+◌, Bool, true, false, cond, List, [], ◌∷◌, length, Option, Some, None, refl, sym, ap, subst, ◌∙◌, inl, arith}
-use Rattle.std.specs.Prelude.{◌-◌, ◌==◌, ◌&&◌, not, nat_lt, is_some, slice_get, slice_set}
-use Rattle.std.specs.List.{list_any}
+use Rattle.std.specs.Prelude.{◌-◌, ◌&&◌, not, nat_lt, is_some}
 use Rattle.std.proofs.lemmas.Bool.{cond_both, and_parts, ne_eqb, ltb-false}
 use Rattle.std.proofs.lemmas.Bool.Decides.{nat_tests}
-use Rattle.cluster_model.proofs.Elements.{slice_get-set_same}
 use Rattle.ff_xdr.specs.Form.{Value}
 use Rattle.ff_xdr.specs.Arms.{arm, by_arm, of_each_arm}
 use Rattle.cluster_model.specs.declared.limits.TheConstants.{MAX_FILE, PIECE_SIZE, SPARE_UIDS}
@@ -21,8 +19,6 @@ use Rattle.cluster_model.specs.Phases.{holder_of, phase_of}
 use Rattle.device_addr.specs.Universal.{AddressValue}
 use Rattle.file_rule.specs.MdsFiles.{FileStep}
 use Rattle.file_rule.specs.FilePhases.{OwnWrite, AsksLayout, Returns, phase, end_of_uids, are_spent}
-use Rattle.mds_rows.specs.Draws.{drawn}
-use Rattle.recall.specs.Recalls.{without_file}
 use Rattle.ff_layout.specs.IoError.{ff_ioerr4}
 use Rattle.layout_report.specs.Reports.{report_of}
 use Rattle.nfs4_types.specs.declared.status.Stat4.{Stat4}
@@ -55,38 +51,17 @@ use Rattle.mds_operations.specs.GetDeviceInfo.{device_info_order}
 use Rattle.mds_operations.specs.PutFh.{put_fh_order, object_of}
 use Rattle.mds_rule.specs.MdsStates.{CompoundRun, ServedFile, MdsSend, MdsValue, MdsStep, sends_none, confirmed_node, served, with_served, numbered, file_named}
 use Rattle.mds_rule.specs.OpSteps.{OpStep, with_result, at_object, gives, refused_or}
-use Rattle.mds_rule.specs.ServedFiles.{is_period_end, has_fresh, file_behind, file_stepped, input_at, asks_back, ends_periods}
+use Rattle.mds_rule.specs.ServedFiles.{has_fresh, file_stepped, input_at, asks_back, ends_periods}
 use Rattle.mds_rule.specs.SessionOps.{goes_with}
 use Rattle.open_state.specs.Opens.{opened, closed}
 use Rattle.mds_rule.specs.FileOps.{client_of, current_file, file_or_none, stateid_in, named_in, write_verifier, phase_or_free, uids_left, put_object, runs_put_fh, get_object, runs_get_fh, runs_lookup, get_attributes, runs_get_attr, with_new_file, opens_or_makes, opens_file, open_named, creation_in, can_open, may_make, runs_open, name_in, closes, runs_close, runs_commit, reads_at, runs_read, read_length, with_read, with_write, writes_at, writes_file, ends_by, write_refused, runs_write, write_ask, is_delay}
 use Rattle.mds_rule.specs.LayoutOps.{no_stateid, layout_asked, layout_found, with_holder, granted_in, grants_to, is_granted, phase_behind, later_by, layout_answer, runs_layout_get, is_try_later, errors_of, client_number, return_by, returns_file, file_return, returns_all, runs_layout_return, runs_layout_commit, device_from, device_size, device_answer, runs_get_device_info}
 use Rattle.mds_walk.proofs.Parts.{Enters, HeardOf, CanBegin, Parts, TakesInput}
 use Rattle.mds_walk.proofs.Keeping.{KeepsOp, no_entries, stays, enters_then}
+use Rattle.mds_walk.proofs.Served.{stepped_there}
 use Rattle.mds_walk.proofs.ServedWalk.{asks, periods, refused, unless_refused, takes_by}
 use Rattle.mds_walk.proofs.LayoutHolders.{again_holds, new_free}
 use Rattle.std.proofs.lemmas.Option.{same_Some}
-
--- ---- a file that is served
-
-served_at : (b : Bool) (x : Option ServedFile) (s : ServedFile) → cond b None x ≡ Some s → (b ≡ false) × (x ≡ Some s)
-served_at true x s is = absurd cc
-served_at false x s is = (refl, is)
-
-pub place_served : (m : MdsValue) (file : FileId) (s : ServedFile) → served m file ≡ Some s → ((file.0 == 0) ≡ false) × (slice_get m.files (file.0 - 1) ≡ Some s)
-place_served m file s is = served_at (file.0 == 0) (slice_get m.files (file.0 - 1)) s is
-
--- what is known behind a change of it
-pub served_again : (m : MdsValue) (file : FileId) (s t : ServedFile) → served m file ≡ Some s → served (with_served m file t) file ≡ Some t
-served_again m file s t is =
-    let there = place_served m file s is in
-    ap (λ (b : Bool). cond b None (slice_get (slice_set m.files (file.0 - 1) t) (file.0 - 1))) there.0 ∙ slice_get-set_same m.files (file.0 - 1) s t there.1
-
--- a file behind an input of it
-pub stepped_there : (m : MdsValue) (file : FileId) (s : ServedFile) (step : FileStep) → served m file ≡ Some s → served (file_stepped m file s step).mds file ≡ Some (file_behind s step)
-stepped_there m file s step is =
-    let n : MdsValue = with_served (record m { fresh = drawn m.fresh step }) file (file_behind s step) in
-    cond_both (list_any is_period_end step.entries) (record n { recalls = without_file file n.recalls }) n (λ (x : MdsValue). served x file ≡ Some (file_behind s step))
-    (λ end. served_again m file s (file_behind s step) is) (λ other. served_again m file s (file_behind s step) is)
 
 -- ---- an OPEN that makes a file
 

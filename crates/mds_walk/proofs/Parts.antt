@@ -9,10 +9,9 @@ use Rattle.cluster_model.specs.declared.limits.TheConstants.{MAX_FILE, PIECE_SIZ
 use Rattle.cluster_model.specs.declared.ids.NodeId.{NodeId}
 use Rattle.cluster_model.specs.declared.ids.NodeId.TheVariants.{Mds, Server, Client}
 use Rattle.cluster_model.specs.declared.ids.FileId.{FileId}
-use Rattle.cluster_model.specs.declared.ids.Cred.{Cred}
 use Rattle.cluster_model.specs.declared.entry.Entry.{Entry}
 use Rattle.cluster_model.specs.declared.entry.Entry.TheVariants as entry
-use Rattle.cluster_model.specs.declared.layout_state.LayoutPhase.TheVariants.{Free}
+use Rattle.cluster_model.specs.declared.layout_state.LayoutPhase.TheVariants.{Free, Held}
 use Rattle.cluster_model.specs.DsCalls.{DsCallValue, DsReplyValue}
 use Rattle.cluster_model.specs.declared.ds_call.Shown.{Shown}
 use Rattle.cluster_model.specs.Members.{IsOneOf}
@@ -175,8 +174,9 @@ pub record Parts (I : MdsValue → List Entry → List MdsSend → Type 0) (Hear
   -- the table of clients changes, by a call of its own; a request of a slot ends with its reply
   pub tables : (m : MdsValue) (move : TableMove) → IsNoTurn move → Becomes I m (moved m move)
   pub finishes : (m : MdsValue) (pass : SlotPass) (bytes : List ℕ) → Becomes I m (moved m (FinishRequest pass bytes))
-  -- Recalls: a new one; a timeout of a callback; time passes.
-  pub asks_recall : (m : MdsValue) (file : FileId) (cred : Cred) (client now : ℕ) → is_under_way file cred m.recalls ≡ false → Becomes I m (record m { recalls = with_recall (new_recall file cred client now) m.recalls })
+  -- Recalls: a new one, of a file that a client holds; a timeout of a callback; time passes.
+  pub asks_recall : (m : MdsValue) (file : FileId) (s : ServedFile) (n : ℕ) (recalled : Bool) (client now : ℕ) → served m file ≡ Some s → s.file.layout.phase ≡ Held (Client n) recalled → is_under_way file s.file.layout.cred m.recalls ≡ false
+      → Becomes I m (record m { recalls = with_recall (new_recall file s.file.layout.cred client now) m.recalls })
   pub times_recall : (m : MdsValue) (xid : ℕ) → is_some (out_at m.recalls xid) ≡ true → Becomes I m (record m { recalls = (after_timeout m.recalls xid).recalls })
   pub ticks_recalls : (m : MdsValue) (now : ℕ) → Becomes I m (record m { recalls = (after_tick m.recalls now).recalls })
   -- a compound is replied to

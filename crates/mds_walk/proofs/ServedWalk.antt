@@ -1,16 +1,22 @@
 -- Each part of an event that is about inputs of the table of phases, clients and sessions keeps what is kept in each case.
-use Rattle.std.proofs.Common.{◌≡◌, ℕ, Bool, true, false, List, [], ◌∷◌, ◌++◌, Option, Some, None, refl, inl}
+use Rattle.std.proofs.Common.{◌≡◌, ℕ, Bool, true, false, List, [], ◌∷◌, ◌++◌, Option, Some, None, refl, sym, subst, ◌∙◌, inl}
 use Rattle.std.specs.Prelude.{is_some, nat_eq}
 use Rattle.std.specs.List.{find, list_any}
 use Rattle.std.proofs.lemmas.Bool.{cond_both}
+use Rattle.std.proofs.lemmas.List.{append-nil}
 use Rattle.ff_xdr.specs.Form.{Value, long}
 use Rattle.ff_xdr.specs.Arms.{arm}
+use Rattle.cluster_model.specs.declared.ids.NodeId.TheVariants.{Mds, Server, Client}
 use Rattle.cluster_model.specs.declared.ids.FileId.{FileId}
 use Rattle.cluster_model.specs.declared.ids.Cred.{Cred}
+use Rattle.cluster_model.specs.declared.layout_state.LayoutPhase.{LayoutPhase}
+use Rattle.cluster_model.specs.declared.layout_state.LayoutPhase.TheVariants.{Making, Free, Held, Fencing, Settling, Copying}
 use Rattle.cluster_model.specs.declared.phase.EndCause.{EndCause}
 use Rattle.cluster_model.specs.declared.phase.EndCause.TheVariants.{ClientGone}
 use Rattle.cluster_model.specs.declared.entry.Entry.{Entry}
-use Rattle.file_rule.specs.FilePhases.{FileInput, Recall as ToRecall, Revokes, phase}
+use Rattle.file_rule.specs.declared.fresh.Fresh.{Fresh}
+use Rattle.file_rule.specs.MdsFiles.{MdsFile, FileStep}
+use Rattle.file_rule.specs.FilePhases.{FileInput, Recall as ToRecall, Revokes, held_in, by_client, recalled_row, phase}
 use Rattle.layout_state.specs.Grants.{holder_to_recall}
 use Rattle.nfs4_types.specs.declared.ids.SessionId.{SessionId}
 use Rattle.nfs4_types.specs.declared.status.Stat4.{Stat4}
@@ -31,10 +37,51 @@ use Rattle.nfs4_session.specs.TableLaw.{ExchangeId, CreateSession, Bind, Destroy
 use Rattle.recall.specs.Recalls.{is_under_way, new_recall, with_recall}
 use Rattle.mds_rule.specs.MdsStates.{CompoundRun, ServedFile, MdsSend, MdsValue, MdsStep, sends_none, served}
 use Rattle.mds_rule.specs.OpSteps.{OpStep, Goes, with_result, refuses, refused_or}
-use Rattle.mds_rule.specs.ServedFiles.{has_fresh, file_stepped, input_at, takes_input, with_new_recall, recall_by, recall_at, asks_back, held_from, one_by_one, ends_periods, forgotten, ends_client}
+use Rattle.mds_rule.specs.ServedFiles.{has_fresh, file_behind, file_stepped, input_at, takes_input, with_new_recall, recall_by, recall_at, asks_back, held_from, one_by_one, ends_periods, forgotten, ends_client}
 use Rattle.mds_rule.specs.SessionOps.{with_exchange, runs_exchange, confirms, gone_with, goes_with, with_session, with_create, runs_create, on_session, runs_bind, runs_destroy_session, runs_destroy_client, reclaims}
 use Rattle.mds_walk.proofs.Parts.{Parts, Becomes, HeardOf, TakesInput, comes_unasked}
-use Rattle.mds_walk.proofs.Keeping.{KeepsOp, Silent, no_entries, stays, silent_then, silent_none, silent_same, becomes_silent}
+use Rattle.mds_walk.proofs.Served.{stepped_there}
+use Rattle.mds_walk.proofs.Keeping.{KeepsOp, Silent, no_entries, stays, enters_then, silent_then, silent_none, silent_same, becomes_silent}
+
+-- ---- a file that a client holds
+
+abbrev IsClients : LayoutPhase → Type 0
+IsClients p = (n : ℕ) × (recalled : Bool) × (p ≡ Held (Client n) recalled)
+
+client_holds : (p : LayoutPhase) → is_some (holder_to_recall p) ≡ true → IsClients p
+client_holds Making is = absurd cc
+client_holds Free is = absurd cc
+client_holds (Held Mds recalled) is = absurd cc
+client_holds (Held (Server n) recalled) is = absurd cc
+client_holds (Held (Client n) recalled) is = (n, recalled, refl)
+client_holds (Fencing next end) is = absurd cc
+client_holds (Settling copies) is = absurd cc
+client_holds (Copying copier copies) is = absurd cc
+
+-- it holds it still when it is to be asked for it, in the same period
+record IsHeldStill (x : MdsValue) (file : FileId) (s : ServedFile) : Type 0 where
+  pub t : ServedFile
+  pub there : served x file ≡ Some t
+  pub same : t.file.layout.cred ≡ s.file.layout.cred
+  pub node : ℕ
+  pub recalled : Bool
+  pub held : t.file.layout.phase ≡ Held (Client node) recalled
+
+abbrev KeepsPeriod : MdsFile → MdsFile → Type 0
+KeepsPeriod f g = (g.layout.cred ≡ f.layout.cred) × IsClients g.layout.phase
+
+period_kept : (file : FileId) (fresh : Fresh) (f : MdsFile) → IsClients f.layout.phase → KeepsPeriod f (phase file f ToRecall fresh).file
+period_kept file fresh f (n, recalled, at) = subst (λ (p : LayoutPhase). KeepsPeriod f (held_in f (by_client f (recalled_row f)) p).file) (sym at) (refl, (n, true, refl))
+
+held_still : (m : MdsValue) (file : FileId) (s : ServedFile) → served m file ≡ Some s → IsClients s.file.layout.phase → IsHeldStill (takes_input m file ToRecall).mds file s
+held_still m file s there client =
+    subst (λ (o : Option ServedFile). IsHeldStill (input_at m file ToRecall o).mds file s) (sym there)
+    (cond_both (has_fresh m.fresh) (file_stepped m file s (phase file s.file ToRecall m.fresh)) (sends_none m) (λ (x : MdsStep). IsHeldStill x.mds file s)
+    (λ fresh.
+    let step : FileStep = phase file s.file ToRecall m.fresh in
+    let k : KeepsPeriod s.file step.file = period_kept file m.fresh s.file client in
+    record { t = file_behind s step; there = stepped_there m file s step there; same = k.0; node = k.1.0; recalled = k.1.1; held = k.1.2 })
+    (λ off. record { t = s; there = there; same = refl; node = client.0; recalled = client.1; held = client.2 }))
 
 module _ (I : MdsValue → List Entry → List MdsSend → Type 0) (Heard : HeardOf) (k : Parts I Heard) where
   -- ---- one input
@@ -54,24 +101,37 @@ module _ (I : MdsValue → List Entry → List MdsSend → Type 0) (Heard : Hear
 
   -- ---- recalls
 
-  recall_noted : (m : MdsValue) (file : FileId) (cred : Cred) (client : Option ℕ) (now : ℕ) → Becomes I m (with_new_recall m file cred client now)
-  recall_noted m file cred None now = λ es ss i. i
-  recall_noted m file cred (Some client) now =
-      cond_both (is_under_way file cred m.recalls) m (record m { recalls = with_recall (new_recall file cred client now) m.recalls }) (λ (n : MdsValue). Becomes I m n)
-      (λ is. λ es ss i. i) (λ off. k.asks_recall m file cred client now off)
+  recall_noted : (m : MdsValue) (file : FileId) (s : ServedFile) (n : ℕ) (recalled : Bool) (client : Option ℕ) (now : ℕ) → served m file ≡ Some s → s.file.layout.phase ≡ Held (Client n) recalled → Becomes I m (with_new_recall m file s.file.layout.cred client now)
+  recall_noted m file s n recalled None now there held = λ es ss i. i
+  recall_noted m file s n recalled (Some client) now there held =
+      cond_both (is_under_way file s.file.layout.cred m.recalls) m (record m { recalls = with_recall (new_recall file s.file.layout.cred client now) m.recalls }) (λ (x : MdsValue). Becomes I m x)
+      (λ is. λ es ss i. i) (λ off. k.asks_recall m file s n recalled client now there held off)
 
-  back_by : (m : MdsValue) (file : FileId) (s : ServedFile) (now : ℕ) (held : Bool) → Silent I m (recall_by m file s now held)
-  back_by m file s now false = silent_same I m
-  back_by m file s now true =
-      silent_then I m (takes_input m file ToRecall) (λ n. sends_none (with_new_recall n file s.file.layout.cred s.holder now)) (takes m file ToRecall refl)
-      (λ n. silent_none I n (with_new_recall n file s.file.layout.cred s.holder now) (recall_noted n file s.file.layout.cred s.holder now))
+  -- behind the first input of it
+  asked_noted : (m : MdsValue) (file : FileId) (s : ServedFile) (now : ℕ) → is_some (holder_to_recall s.file.layout.phase) ≡ true → served m file ≡ Some s
+      → Becomes I (takes_input m file ToRecall).mds (with_new_recall (takes_input m file ToRecall).mds file s.file.layout.cred s.holder now)
+  asked_noted m file s now held there =
+      let x : MdsValue = (takes_input m file ToRecall).mds in
+      let a : IsHeldStill x file s = held_still m file s there (client_holds s.file.layout.phase held) in
+      subst (λ (c : Cred). Becomes I x (with_new_recall x file c s.holder now)) a.same (recall_noted x file a.t a.node a.recalled s.holder now a.there a.held)
 
-  back_at : (m : MdsValue) (file : FileId) (now : ℕ) (o : Option ServedFile) → Silent I m (recall_at m file now o)
-  back_at m file now None = silent_same I m
-  back_at m file now (Some s) = back_by m file s now (is_some (holder_to_recall s.file.layout.phase))
+  back_by : (m : MdsValue) (file : FileId) (s : ServedFile) (now : ℕ) → served m file ≡ Some s → (b : Bool) → is_some (holder_to_recall s.file.layout.phase) ≡ b → Silent I m (recall_by m file s now b)
+  back_by m file s now there false off = silent_same I m
+  back_by m file s now there true held =
+      let x : MdsStep = takes_input m file ToRecall in
+      let first : Silent I m x = takes m file ToRecall refl in
+      let second : Silent I x.mds (sends_none (with_new_recall x.mds file s.file.layout.cred s.holder now)) = silent_none I x.mds (with_new_recall x.mds file s.file.layout.cred s.holder now) (asked_noted m file s now held there) in
+      record {
+        enters = enters_then I m x.mds (with_new_recall x.mds file s.file.layout.cred s.holder now) x.entries [] first.enters second.enters;
+        none = append-nil x.sends ∙ first.none;
+      }
+
+  back_at : (m : MdsValue) (file : FileId) (now : ℕ) (o : Option ServedFile) → served m file ≡ o → Silent I m (recall_at m file now o)
+  back_at m file now None there = silent_same I m
+  back_at m file now (Some s) there = back_by m file s now there (is_some (holder_to_recall s.file.layout.phase)) refl
 
   pub asks : (m : MdsValue) (file : FileId) (now : ℕ) → Silent I m (asks_back m file now)
-  asks m file now = back_at m file now (served m file)
+  asks m file now = back_at m file now (served m file) refl
 
   -- ---- the periods of a client
 

@@ -17,7 +17,7 @@ use Rattle.mds_rule.specs.declared.waiter.Waiter.{Waiter}
 use Rattle.mds_rule.specs.declared.waiter.Waiter.TheVariants.{ForFile, ForRead, ForWrite, ForRecall}
 use Rattle.mds_rule.specs.ServedFiles.{is_period_end, file_behind, file_stepped}
 use Rattle.mds_rule.specs.Answers.{is_file_out, has_read_out, has_write_out, is_awaited}
-use Rattle.mds_walk.proofs.OpsWalk.{place_served, served_again}
+use Rattle.mds_walk.proofs.Served.{place_served, served_again}
 use Rattle.mds_walk.proofs.TableKept.{IsTable}
 use Rattle.standing_calls.proofs.Spots.{Spot, has_number, not_both, at_number, IsLeft, left_same}
 use Rattle.standing_calls.proofs.Stands.{Good, good_left, good_called, good_out, good_without, Awaits, good_leaves, good_forgets}

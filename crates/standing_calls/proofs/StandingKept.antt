@@ -23,7 +23,7 @@ use Rattle.mds_rule.specs.FileOps.{max_files, uids_left, servers_of, new_served,
 use Rattle.mds_rule.specs.Answers.{own_answer, write_stepped, is_read_out}
 use Rattle.mds_laws.specs.MdsRuns.{MdsEvent, mds_run}
 use Rattle.mds_walk.proofs.Parts.{HeardAny, IsReadAt, with_read_at, heard_by, end_input, without_write, Parts, Calls, KeepsBegin}
-use Rattle.mds_walk.proofs.OpsWalk.{served_again, stepped_there}
+use Rattle.mds_walk.proofs.Served.{served_again, stepped_there}
 use Rattle.mds_walk.proofs.EventWalk.{in_each_run}
 use Rattle.mds_walk.proofs.TableKept.{Table, table_parts, table_calls, new_table}
 use Rattle.standing_calls.specs.Standing.{CallsStand, StandsTo}
@@ -128,7 +128,7 @@ standing_parts = record {
   reclaims = λ m client es ss j. j;
   gone = λ m client es ss j. j;
   tables = λ m move no es ss j. j;
-  asks_recall = λ m file cred client now off es ss j. j;
+  asks_recall = λ m file s n recalled client now there held off es ss j. j;
   times_recall = λ m xid out es ss j. j;
   ticks_recalls = λ m now es ss j. j;
   finishes = λ m pass bytes es ss j. j;
