@@ -13,11 +13,5 @@ pub mod WriterServers
 pub mod Standing
 pub mod RunsStand
 pub mod RecallParts
-pub mod RecallCases
-pub mod RecallsServed
-pub mod RecallsOps
-pub mod RecallsCompound
-pub mod RecallsBegun
-pub mod RecallsGo
 pub mod RunsRecall
 pub mod RunsRest

@@ -11,7 +11,7 @@ use Rattle.mds_io.specs.Reads.{ReadSends}
 use Rattle.mds_rule.specs.MdsStates.{WaitingRead, ServedFile, MdsValue, MdsStep, sends_none, and_then, served, numbered}
 use Rattle.mds_rule.specs.Goes.{calls_server, OwnCall, own_by, place_of, has_xids, own_call_at, own_next, own_call, recall_call, repeats, each, place_calls, file_calls, calls_out}
 use Rattle.mds_quiet.specs.Resting.{own_servers, PlacesRise, RestsFile}
-use Rattle.mds_quiet.specs.OutLaw.{FilesGoOut}
+use Rattle.mds_quiet.specs.RestLaw.{FilesGoOut}
 use Rattle.mds_quiet.proofs.OutWalk.{read_sent, each_so, reads_so, front_so, file_so}
 use Rattle.mds_quiet.proofs.FileOuts.{served_suc, off_on, none_left, FileCases, Has, At, at_more, out_cases}
 use Rattle.mds_quiet.proofs.OwnCalls.{goes_first, Idles, idles_from, idles_so}

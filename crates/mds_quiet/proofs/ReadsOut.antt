@@ -22,7 +22,7 @@ use Rattle.mds_rule.specs.MdsStates.{WaitingRead, WaitingWrite, ServedFile, MdsV
 use Rattle.mds_rule.specs.declared.waiter.Waiter.TheVariants.{ForRead}
 use Rattle.mds_rule.specs.Goes.{calls_server, OwnCall, own_of_file, own_of_write, own_by, place_of, place_or_last, has_xids, own_call, recall_call, repeats, read_goes, read_call, read_call_in, each, read_count, place_calls, file_calls, calls_out}
 use Rattle.mds_progress.proofs.Resent.{in_range, within}
-use Rattle.mds_quiet.specs.OutLaw.{ReadsGoOut}
+use Rattle.mds_quiet.specs.RestLaw.{ReadsGoOut}
 use Rattle.mds_quiet.proofs.OutWalk.{read_sent, each_so, read_so, place_so, file_so}
 use Rattle.mds_quiet.proofs.FileOuts.{served_suc, off_on, none_left, FileCases, Has, At, at_more, out_cases}
 

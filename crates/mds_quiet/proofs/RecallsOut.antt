@@ -19,7 +19,7 @@ use Rattle.mds_rule.specs.Goes.{has_xids, each, calls_back, recall_goes, recall_
 use Rattle.mds_progress.proofs.OutWalk.{some_number}
 use Rattle.mds_progress.proofs.Called.{any_there, and_false}
 use Rattle.mds_quiet.specs.Resting.{RecallsRise}
-use Rattle.mds_quiet.specs.OutLaw.{RecallsGoOut}
+use Rattle.mds_quiet.specs.RestLaw.{RecallsGoOut}
 use Rattle.mds_quiet.proofs.OutWalk.{OutCases, each_so, repeats_so, place_so}
 use Rattle.mds_quiet.proofs.FileOuts.{off_on, none_left}
 use Rattle.mds_quiet.proofs.OwnCalls.{FoundOff, found_off}

@@ -1,14 +1,13 @@
 -- In every run of a metadata server recalls are in the order of their files, each of the period in which a client holds the file.
-use Rattle.std.proofs.Common.{◌≡◌, ◌≢◌, ◌<◌, ◌≤◌, ◌⊎◌, inl, inr, ℕ, ◌+◌, Bool, true, false, cond, List, [], ◌∷◌, ◌++◌, length, map, Option, Some, None, is_some, refl, sym, ap, subst, ◌∙◌, arith, length-set}
-use Rattle.std.specs.Prelude.{◌-◌, ◌==◌, ◌&&◌, ◌||◌, not, nat_lt, slice_get, slice_set, if◌then◌else◌}
+use Rattle.std.proofs.Common.{◌≡◌, ◌≢◌, ◌<◌, ◌≤◌, ◌⊎◌, inl, inr, ℕ, ◌+◌, Bool, true, false, cond, List, [], ◌∷◌, ◌++◌, length, map, Some, None, refl, sym, ap, subst, ◌∙◌, arith, length-set}
+use Rattle.std.specs.Prelude.{◌-◌, ◌==◌, ◌&&◌, ◌||◌, not, nat_lt, slice_get, slice_set, remove, if◌then◌else◌}
 use Rattle.std.specs.List.{AllByRecursion, list_any}
 use Rattle.std.proofs.lemmas.Bool.{cond_both, and_parts, cases_eq, eq-eqb, eqb-true, eqb-false, ltb-true, ltb-false}
-use Rattle.std.proofs.lemmas.List.{append-nil}
 use Rattle.std.proofs.lemmas.List.Folds.{list_any-append}
 use Rattle.std.proofs.lemmas.Option.{same_Some, none-some}
 use Rattle.device_addr.specs.Universal.{AddressValue}
 use Rattle.cluster_model.proofs.Elements.{slice_get-set_other, slice_get-set_same, slice_get-push, Pushed, Old, New, pushed}
-use Rattle.cluster_model.specs.declared.ids.NodeId.TheVariants.{Mds, Server, Client}
+use Rattle.cluster_model.specs.declared.ids.NodeId.TheVariants.{Mds, Client}
 use Rattle.cluster_model.specs.declared.ids.FileId.{FileId}
 use Rattle.cluster_model.specs.declared.ids.Cred.{Cred}
 use Rattle.cluster_model.specs.declared.ids.Mirror.{Mirror}
@@ -17,36 +16,34 @@ use Rattle.cluster_model.specs.declared.entry.Entry.{Entry}
 use Rattle.cluster_model.specs.declared.entry.Entry.TheVariants as entry
 use Rattle.cluster_model.specs.declared.layout_state.LayoutState.{LayoutState}
 use Rattle.cluster_model.specs.declared.layout_state.LayoutPhase.{LayoutPhase}
-use Rattle.cluster_model.specs.declared.layout_state.LayoutPhase.TheVariants.{Making, Free, Held, Fencing, Settling, Copying}
+use Rattle.cluster_model.specs.declared.layout_state.LayoutPhase.TheVariants.{Held}
 use Rattle.cluster_model.specs.declared.phase.EndCause.TheVariants.{Returned}
-use Rattle.cluster_model.specs.Phases.{is_clean, unreported, left_entries, reported_cause, end_entries, returned, revoked}
-use Rattle.layout_state.specs.Grants.{holder_to_recall}
+use Rattle.cluster_model.specs.Phases.{holder_of, is_clean, unreported, left_entries, reported_cause, end_entries, returned, revoked}
+use Rattle.layout_report.specs.Reports.{report_of}
 use Rattle.file_rule.specs.declared.fresh.Fresh.{Fresh}
 use Rattle.file_rule.specs.MdsFiles.{Activity, Idle, MdsFile, FileStep, nothing, a_uid, goes_fencing}
 use Rattle.file_rule.specs.FilePhases.{FileInput, AsksLayout, OwnWrite, Recall as ToRecall, Returns, Revokes, OwnEnds, Resilver, Answers as IsAnswer, TimesOut, Ticks, Sees, asked_in, held_in, by_client, by_mds, recalled_row, returned_row, revoked_row, own_row, resilvered_in, answered_in, timed_out_in, new_mds_file, phase, CallOut, call_out}
 use Rattle.mds_rows.specs.Draws.{drawn}
 use Rattle.recall.specs.declared.recall.Recall.{Recall}
-use Rattle.recall.specs.Recalls.{is_of_file, is_of, is_before, is_under_way, new_recall, with_recall, grant_of, without_file}
+use Rattle.recall.specs.Recalls.{is_of_file, is_of, is_before, is_under_way, new_recall, with_recall, grant_of, without_file, after_reply, after_timeout, after_tick}
 use Rattle.mirror_writer.specs.Writers as writer
+use Rattle.mds_io.specs.Reads as read
 use Rattle.mds_io.specs.OwnWrites.{after_own_reply}
-use Rattle.mds_rule.specs.MdsStates.{ServedFile, MdsSend, CallsServer, CallsBack, Replies, Answers, AwaitedCall, MdsValue, MdsStep, sends_none, with_call, served_in, served, with_served, numbered, new_mds}
-use Rattle.mds_rule.specs.declared.waiter.Waiter.TheVariants.{ForFile, ForRead, ForWrite, ForRecall}
-use Rattle.mds_rule.specs.ServedFiles.{has_fresh, is_period_end, file_behind, file_stepped, input_at, takes_input, with_new_recall, recall_by, recall_at, asks_back}
-use Rattle.mds_rule.specs.FileOps.{servers_of, new_served, with_new_file, with_write}
-use Rattle.mds_rule.specs.LayoutOps.{with_holder}
-use Rattle.mds_rule.specs.Answers.{own_answer, write_stepped}
+use Rattle.mds_rule.specs.MdsStates.{ServedFile, MdsSend, MdsValue, with_size, served_in, served, with_served, numbered, new_mds}
+use Rattle.mds_rule.specs.ServedFiles.{is_period_end, file_behind, file_stepped}
+use Rattle.mds_rule.specs.FileOps.{servers_of, new_served, with_new_file, with_read, with_write}
+use Rattle.mds_rule.specs.LayoutOps.{with_holder, client_number}
+use Rattle.mds_rule.specs.Answers.{own_answer, recall_end, write_stepped}
 use Rattle.cluster_laws.proofs.Invariant.{is_idle}
-use Rattle.mds_laws.proofs.Keeping.{HeardAny, Silent, silent_same}
-use Rattle.mds_laws.proofs.EachCases.{end_input, without_write}
-use Rattle.mds_laws.proofs.OpsWalk.{place_served, served_again, stepped_there}
-use Rattle.mds_laws.proofs.Numbers.{WereSent, sent_more, sent_with, sent_kept}
+use Rattle.mds_walk.proofs.Parts.{HeardAny, heard_by, end_input, without_write, with_read_at, Parts, Calls, KeepsBegin}
+use Rattle.mds_walk.proofs.Served.{place_served, served_again, stepped_there}
+use Rattle.mds_walk.proofs.TableKept.{Table, table_parts, table_calls, new_table}
 use Rattle.mds_progress.proofs.Resent.{within}
 use Rattle.mds_quiet.specs.Resting.{RecallsRise, AreRecallsInOrder}
 use Rattle.mds_quiet.proofs.Parts.{IsPart}
 use Rattle.mds_quiet.proofs.OwnPhases.{Agrees, nothing_under_way, phase_agrees, out_agrees}
 use Rattle.mds_quiet.proofs.OwnCalls.{out_layout}
-use Rattle.mds_quiet.proofs.RecallParts.{grants, some_less}
-use Rattle.mds_quiet.proofs.RecallCases.{RecallCase}
+use Rattle.mds_quiet.proofs.RecallParts.{grants, some_less, reply_less, timeout_less, sent_less, tick_less}
 
 -- ---- grants in order
 
@@ -141,14 +138,17 @@ held_on file fresh f input n r at idle = by_input input
 abbrev AllAgree : List ServedFile → Type 0
 AllAgree files = (place : ℕ) (s : ServedFile) → slice_get files place ≡ Some s → Agrees s.file.activity s.file.layout.phase
 
-pub record RecallsStand (files : List ServedFile) (all : List Recall) (calls : List AwaitedCall) (ss : List MdsSend) : Type 0 where
+pub record RecallsStand (files : List ServedFile) (all : List Recall) : Type 0 where
   held : AllByRecursion (HeldAs files) (grants all)
   rise : Rises 0 (length files) (grants all)
   agree : AllAgree files
-  pub were : WereSent calls ss
 
+abbrev Stand : MdsValue → Type 0
+Stand m = RecallsStand m.files m.recalls
+
+-- beside the table of the calls that were sent
 abbrev pub IsSo : MdsValue → List Entry → List MdsSend → Type 0
-IsSo m es ss = RecallsStand m.files m.recalls m.calls ss
+IsSo m es ss = Table m es ss × Stand m
 
 -- a client's period of the file goes on where it is put back as another
 abbrev GoesOn : ServedFile → ServedFile → Type 0
@@ -190,12 +190,11 @@ module _ (m : MdsValue) (file : FileId) (s t : ServedFile) (at : served m file �
   rise_put : (low : ℕ) (all : List (FileId × Cred)) → Rises low (length m.files) all → Rises low (length (slice_set m.files (file.0 - 1) t)) all
   rise_put low all rise = subst (λ (n : ℕ). Rises low n all) (sym (length-set m.files (file.0 - 1) t)) rise
 
-  put_files : GoesOn s t → Agrees t.file.activity t.file.layout.phase → (ss : List MdsSend) → RecallsStand m.files m.recalls m.calls ss → RecallsStand (slice_set m.files (file.0 - 1) t) m.recalls m.calls ss
-  put_files on new ss i = record {
+  put_files : GoesOn s t → Agrees t.file.activity t.file.layout.phase → Stand m → RecallsStand (slice_set m.files (file.0 - 1) t) m.recalls
+  put_files on new i = record {
     held = all_so (HeldAs m.files) (HeldAs (slice_set m.files (file.0 - 1) t)) (grants m.recalls) (put_held on) i.held;
     rise = rise_put 0 (grants m.recalls) i.rise;
     agree = agree_put new i.agree;
-    were = i.were;
   }
 
   -- the file's recalls are over
@@ -208,40 +207,33 @@ module _ (m : MdsValue) (file : FileId) (s t : ServedFile) (at : served m file �
       by_file true is rest = rest
       by_file false is rest = (other_held (grant_of r) (eqb-false r.file.0 file.0 is) its.0, rest)
 
-  end_files : Agrees t.file.activity t.file.layout.phase → (ss : List MdsSend) → RecallsStand m.files m.recalls m.calls ss → RecallsStand (slice_set m.files (file.0 - 1) t) (without_file file m.recalls) m.calls ss
-  end_files new ss i = record {
+  end_files : Agrees t.file.activity t.file.layout.phase → Stand m → RecallsStand (slice_set m.files (file.0 - 1) t) (without_file file m.recalls)
+  end_files new i = record {
     held = ended_held m.recalls i.held;
     rise = rise_put 0 (grants (without_file file m.recalls)) (rises_part 0 (length m.files) (grants (without_file file m.recalls)) (grants m.recalls) (some_less _ m.recalls) i.rise);
     agree = agree_put new i.agree;
-    were = i.were;
   }
 
 module _ (m : MdsValue) (file : FileId) (s : ServedFile) (at : served m file ≡ Some s) where
   its_agrees : AllAgree m.files → Agrees s.file.activity s.file.layout.phase
   its_agrees all = all (file.0 - 1) s (place_served m file s at).1
 
-  put_case : (t : ServedFile) (es : List Entry) (ss : List MdsSend) → t.file ≡ s.file → IsSo m es ss → IsSo (with_served m file t) es ss
-  put_case t es ss same i =
+  put_case : (t : ServedFile) → t.file ≡ s.file → Stand m → Stand (with_served m file t)
+  put_case t same i =
       put_files m file s t at (λ client. record { cred_same = ap (λ (f : MdsFile). f.layout.cred) same; client = subst (λ (f : MdsFile). IsClients f.layout.phase) (sym same) client })
-      (subst (λ (f : MdsFile). Agrees f.activity f.layout.phase) (sym same) (its_agrees i.agree)) ss i
+      (subst (λ (f : MdsFile). Agrees f.activity f.layout.phase) (sym same) (its_agrees i.agree)) i
 
   idle_of : IsClients s.file.layout.phase → Agrees s.file.activity s.file.layout.phase → s.file.activity ≡ Idle
   idle_of (n, r, is) agrees = nothing_under_way s.file.activity s.file.layout.phase (ap is_idle is) agrees
 
-  input_case : (input : FileInput) (es more : List Entry) (ss : List MdsSend) → IsSo m es ss → IsSo (file_stepped m file s (phase file s.file input m.fresh)).mds more ss
-  input_case input es more ss i =
+  input_case : (input : FileInput) → Stand m → Stand (file_stepped m file s (phase file s.file input m.fresh)).mds
+  input_case input i =
       let step : FileStep = phase file s.file input m.fresh in
       let t : ServedFile = file_behind s step in
       let n : MdsValue = with_served (record m { fresh = drawn m.fresh step }) file t in
       let new : Agrees t.file.activity t.file.layout.phase = phase_agrees file m.fresh s.file input (its_agrees i.agree) in
-      cond_both (list_any is_period_end step.entries) (record n { recalls = without_file file n.recalls }) n (λ (x : MdsValue). RecallsStand x.files x.recalls x.calls ss) (λ over. end_files m file s t at new ss i)
-      (λ on. put_files m file s t at (λ client. held_on file m.fresh s.file input client.0 client.1 client.2 (idle_of client (its_agrees i.agree)) on) new ss i)
-
-sends : (m : MdsValue) (es : List Entry) (ss : List MdsSend) (s : MdsSend) → IsSo m es ss → IsSo m es (ss ++ s ∷ [])
-sends m es ss s i = record { held = i.held; rise = i.rise; agree = i.agree; were = sent_more m.calls ss s i.were }
-
-called : (files : List ServedFile) (all : List Recall) (calls : List AwaitedCall) (ss : List MdsSend) (call : AwaitedCall) → RecallsStand files all calls ss → RecallsStand files all (with_call call calls) (ss ++ call.sent ∷ [])
-called files all calls ss call i = record { held = i.held; rise = i.rise; agree = i.agree; were = sent_with calls ss call i.were }
+      cond_both (list_any is_period_end step.entries) (record n { recalls = without_file file n.recalls }) n (λ (x : MdsValue). Stand x) (λ over. end_files m file s t at new i)
+      (λ on. put_files m file s t at (λ client. held_on file m.fresh s.file input client.0 client.1 client.2 (idle_of client (its_agrees i.agree)) on) new i)
 
 -- ---- a layout is asked back
 
@@ -286,87 +278,34 @@ put_all : (P : FileId × Cred → Type 0) (r : Recall) (all : List Recall) → P
 put_all P r [] new its = (new, tt)
 put_all P r (x ∷ all) new its = cond_both (is_before r x) (r ∷ (x ∷ all)) (x ∷ with_recall r all) (λ (l : List Recall). AllByRecursion P (grants l)) (λ is. (new, its)) (λ off. (its.0, put_all P r all new its.1))
 
-noted : (n : MdsValue) (file : FileId) (t : ServedFile) (cred : Cred) (client : Option ℕ) (now : ℕ) (ss : List MdsSend) → served n file ≡ Some t → t.file.layout.cred ≡ cred → IsClients t.file.layout.phase → RecallsStand n.files n.recalls n.calls ss
-    → RecallsStand (with_new_recall n file cred client now).files (with_new_recall n file cred client now).recalls (with_new_recall n file cred client now).calls ss
-noted n file t cred None now ss at same clients i = i
-noted n file t cred (Some client) now ss at same clients i =
-    let r : Recall = new_recall file cred client now in
-    cond_both (is_under_way file cred n.recalls) n (record n { recalls = with_recall r n.recalls }) (λ (x : MdsValue). RecallsStand x.files x.recalls x.calls ss) (λ is. i)
-    (λ off.
-    let place = place_served n file t at in
+asked : (m : MdsValue) (file : FileId) (s : ServedFile) (n : ℕ) (recalled : Bool) (client now : ℕ) → served m file ≡ Some s → s.file.layout.phase ≡ Held (Client n) recalled → is_under_way file s.file.layout.cred m.recalls ≡ false → Stand m
+    → RecallsStand m.files (with_recall (new_recall file s.file.layout.cred client now) m.recalls)
+asked m file s n recalled client now at held off i =
+    let r : Recall = new_recall file s.file.layout.cred client now in
+    let place = place_served m file s at in
     let some : file.0 ≢ 0 = eqb-false file.0 0 place.0 in
-    let less : file.0 - 1 < length n.files = within n.files (file.0 - 1) t place.1 in
+    let less : file.0 - 1 < length m.files = within m.files (file.0 - 1) s place.1 in
     record {
-      held = put_all (HeldAs n.files) r n.recalls (t, at, same, clients) i.held;
-      rise = put_rises 0 (length n.files) r n.recalls (omega (arith, some)) (omega (arith, less, some)) (no_other n file t cred at same n.recalls off i.held) i.rise;
+      held = put_all (HeldAs m.files) r m.recalls (s, at, refl, (n, recalled, held)) i.held;
+      rise = put_rises 0 (length m.files) r m.recalls (omega (arith, some)) (omega (arith, less, some)) (no_other m file s s.file.layout.cred at refl m.recalls off i.held) i.rise;
       agree = i.agree;
-      were = i.were;
-    })
+    }
 
--- what the first input of it comes to
-record IsAsked (file : FileId) (cred : Cred) (x : MdsStep) (ss : List MdsSend) : Type 0 where
-  pub stands : RecallsStand x.mds.files x.mds.recalls x.mds.calls ss
-  pub t : ServedFile
-  pub at : served x.mds file ≡ Some t
-  pub same : t.file.layout.cred ≡ cred
-  pub clients : IsClients t.file.layout.phase
-
-recall_on : (file : FileId) (fresh : Fresh) (f : MdsFile) → IsClients f.layout.phase → IsHeldOn f (phase file f ToRecall fresh).file
-recall_on file fresh f (n, r, at) = subst (λ (p : LayoutPhase). IsHeldOn f (held_in f (by_client f (recalled_row f)) p).file) (sym at) (record { cred_same = refl; client = (n, true, refl) })
-
-module _ (m : MdsValue) (file : FileId) (now : ℕ) where
-  asked_step : (s : ServedFile) → served m file ≡ Some s → IsClients s.file.layout.phase → (es : List Entry) (ss : List MdsSend) → IsSo m es ss → IsAsked file s.file.layout.cred (takes_input m file ToRecall) ss
-  asked_step s at clients es ss i =
-      subst (λ (o : Option ServedFile). IsAsked file s.file.layout.cred (input_at m file ToRecall o) ss) (sym at)
-      (cond_both (has_fresh m.fresh) (file_stepped m file s (phase file s.file ToRecall m.fresh)) (sends_none m) (λ (x : MdsStep). IsAsked file s.file.layout.cred x ss)
-      (λ fresh.
-      let k : IsHeldOn s.file (phase file s.file ToRecall m.fresh).file = recall_on file m.fresh s.file clients in
-      record {
-        stands = input_case m file s at ToRecall es es ss i;
-        t = file_behind s (phase file s.file ToRecall m.fresh);
-        at = stepped_there m file s (phase file s.file ToRecall m.fresh) at;
-        same = k.cred_same;
-        clients = k.client;
-      })
-      (λ off. record { stands = i; t = s; at = at; same = refl; clients = clients }))
-
-  input_silent : (o : Option ServedFile) → (input_at m file ToRecall o).sends ≡ []
-  input_silent None = refl
-  input_silent (Some s) = cond_both (has_fresh m.fresh) (file_stepped m file s (phase file s.file ToRecall m.fresh)) (sends_none m) (λ (x : MdsStep). x.sends ≡ []) (λ is. refl) (λ off. refl)
-
-  clients_of : (p : LayoutPhase) → is_some (holder_to_recall p) ≡ true → IsClients p
-  clients_of Making is = absurd (on_off (sym is))
-  clients_of Free is = absurd (on_off (sym is))
-  clients_of (Held Mds r) is = absurd (on_off (sym is))
-  clients_of (Held (Server n) r) is = absurd (on_off (sym is))
-  clients_of (Held (Client n) r) is = (n, r, refl)
-  clients_of (Fencing next end) is = absurd (on_off (sym is))
-  clients_of (Settling copies) is = absurd (on_off (sym is))
-  clients_of (Copying copier copies) is = absurd (on_off (sym is))
-
-  back_by : (s : ServedFile) → served m file ≡ Some s → (b : Bool) → is_some (holder_to_recall s.file.layout.phase) ≡ b → Silent IsSo m (recall_by m file s now b)
-  back_by s at false is = silent_same IsSo m
-  back_by s at true is = record {
-    enters = λ es ss i. (let k : IsAsked file s.file.layout.cred (takes_input m file ToRecall) ss = asked_step s at (clients_of s.file.layout.phase is) es ss i in
-        noted (takes_input m file ToRecall).mds file k.t s.file.layout.cred s.holder now ss k.at k.same k.clients k.stands);
-    none = append-nil (takes_input m file ToRecall).sends ∙ input_silent (served m file);
-  }
-
-  back_at : (o : Option ServedFile) → served m file ≡ o → Silent IsSo m (recall_at m file now o)
-  back_at None at = silent_same IsSo m
-  back_at (Some s) at = back_by s at (is_some (holder_to_recall s.file.layout.phase)) refl
-
-  asked : Silent IsSo m (asks_back m file now)
-  asked = back_at (served m file) refl
+-- recalls that go on, or end
+fewer : (m : MdsValue) (all : List Recall) → IsPart (grants all) (grants m.recalls) → Stand m → RecallsStand m.files all
+fewer m all part i = record {
+  held = all_part (HeldAs m.files) (grants all) (grants m.recalls) part i.held;
+  rise = rises_part 0 (length m.files) (grants all) (grants m.recalls) part i.rise;
+  agree = i.agree;
+}
 
 -- ---- a new file
 
-makes : (m : MdsValue) (name : List ℕ) (es : List Entry) (ss : List MdsSend) → IsSo m es ss → IsSo (with_new_file m name) es ss
-makes m name es ss i = record {
+makes : (m : MdsValue) (name : List ℕ) → Stand m → Stand (with_new_file m name)
+makes m name i = record {
   held = all_so (HeldAs m.files) (HeldAs (with_new_file m name).files) (grants m.recalls) pushed_held i.held;
   rise = rises_more 0 (length m.files) (length (with_new_file m name).files) (grants m.recalls) (longer m.files _) i.rise;
   agree = λ place s got. by_place place s (pushed m.files _ place s got);
-  were = i.were;
 }
   where
     longer : (files : List ServedFile) (x : ServedFile) → length files ≤ length (files ++ x ∷ [])
@@ -384,58 +323,90 @@ makes m name es ss i = record {
 
 -- ---- the cases
 
-pub cases : RecallCase IsSo HeardAny
-cases = record {
-  quiet = λ m confirmed opens reclaimed es ss i. i;
-  lessens = λ m all part es ss i. record {
-    held = all_part (HeldAs m.files) (grants all) (grants m.recalls) part i.held;
-    rise = rises_part 0 (length m.files) (grants all) (grants m.recalls) part i.rise;
-    agree = i.agree;
-    were = i.were;
-  };
-  asks = asked;
-  tables = λ m move is es ss i. i;
-  replies = λ m node reply es ss i. sends m es ss (Replies node reply) i;
-  answers = λ m node bytes reply is es ss i. sends m es ss (Answers node bytes) i;
-  notes = λ m e note es ss i. i;
-  puts = λ m file s t at same holder write es ss i. put_case m file s at t es ss same i;
-  holds = λ m file s client again at es ss i. put_case m file s at (with_holder client again s) es ss refl i;
-  inputs = λ m file s input itself other at fresh es ss i. input_case m file s at input es es ss i;
-  timeouts = λ m file s xid at fresh es ss i. input_case m file s at (TimesOut xid) es es ss i;
-  hears = λ m file s call server own uid c replies heard caller sent out at fresh es ss i. input_case m file s at (IsAnswer call.xid (own_answer c (replies c))) es es ss i;
-  learns = λ m file s call server own uid c replies fileid shown heard caller sent named shows at fresh es ss i. input_case m file s at (Sees (record { server = server; fileid = fileid }) shown.seen) es es ss i;
-  begins_write = λ m file s c at bytes there can fresh es ss i.
-      (let step : FileStep = phase file s.file (OwnWrite at bytes) m.fresh in
-      put_case (file_stepped m file s step).mds file (file_behind s step) (stepped_there m file s step there) (with_write c at bytes (file_behind s step)) es ss refl (input_case m file s there (OwnWrite at bytes) es es ss i));
-  begins_alone = λ m file s c at bytes there can spent es ss i. put_case m file s there (with_write c at bytes s) es ss refl i;
-  answers_write = λ m file s w call server own uid c replies heard caller sent at waits es ss i. put_case m file s at (record s { write = Some (write_stepped w (after_own_reply w.writer call.xid (replies c))) }) es ss refl i;
-  times_write = λ m file s w xid at waits es ss i. put_case m file s at (record s { write = Some (write_stepped w (writer.after_timeout w.writer xid)) }) es ss refl i;
-  ends_write = λ m file s w places at waits over fresh es ss i.
-      input_case (with_served m file (without_write s)) file (without_write s) (served_again m file s (without_write s) at) (end_input s w) es es ss (put_case m file s at (without_write s) es ss refl i);
-  drops_write = λ m file s w places at waits over spent es ss i. put_case m file s at (without_write s) es ss refl i;
-  makes = λ m name may es ss i. makes m name es ss i;
-  calls_file = λ m file s c at has its es ss i.
-      called (slice_set m.files (file.0 - 1) (record s { file = c.file })) m.recalls m.calls ss (record { node = Server c.server; xid = m.next_xid; caller = ForFile file; sent = CallsServer c.server m.next_xid c.uid c.call })
-      (put_files m file s (record s { file = c.file }) at (out_on s m.next_xid c its) (out_agrees s.file m.next_xid c (its_agrees m file s at i.agree) its) ss i);
-  calls_write = λ m file s w c at has waits its is_write es ss i.
-      called (slice_set m.files (file.0 - 1) (record s { write = Some (record w { writer = c.writer }) })) m.recalls m.calls ss (record { node = Server c.id.server; xid = m.next_xid; caller = ForWrite file; sent = CallsServer c.id.server m.next_xid w.writer.cred c.call })
-      (put_case m file s at (record s { write = Some (record w { writer = c.writer }) }) es ss refl i);
-  calls_read = λ m file s t server call at has same holder write uid is_read es ss i.
-      called (slice_set m.files (file.0 - 1) t) m.recalls m.calls ss (record { node = Server server; xid = m.next_xid; caller = ForRead file; sent = CallsServer server m.next_xid 0 call }) (put_case m file s at t es ss same i);
-  calls_back = λ m node back file stateid has es ss i. called m.files m.recalls m.calls ss (record { node = node; xid = m.next_xid; caller = ForRecall; sent = CallsBack m.next_xid back file stateid }) i;
-  skips = λ m has es ss i. i;
-  forgets = λ m test es ss i. record { held = i.held; rise = i.rise; agree = i.agree; were = sent_kept test m.calls ss i.were };
-  was = λ m es ss i. i.were;
-  again = λ m s es ss i inside. sends m es ss s i;
+pub parts : Parts IsSo HeardAny
+parts = record {
+  opens = λ m client file es ss j. j;
+  closes = λ m client file es ss j. j;
+  confirmed = λ m client node es ss j. j;
+  reclaims = λ m client es ss j. j;
+  gone = λ m client es ss j. j;
+  tables = λ m move no es ss j. j;
+  asks_recall = λ m file s n recalled client now there held off es ss j. (j.0, asked m file s n recalled client now there held off j.1);
+  times_recall = λ m xid out es ss j. (j.0, fewer m (after_timeout m.recalls xid).recalls (timeout_less m.recalls xid) j.1);
+  ticks_recalls = λ m now es ss j. (j.0, fewer m (after_tick m.recalls now).recalls (tick_less m.recalls now) j.1);
+  finishes = λ m pass bytes es ss j. j;
+  replies = λ m node xid bytes es ss j. (table_parts.replies m node xid bytes es ss j.0, j.1);
+  answers = λ m node bytes reply is es ss j. (table_parts.answers m node bytes reply is es ss j.0, j.1);
+  later = λ m file p es ss j. j;
+  sizes = λ m file s server fileid size there es ss j. (j.0, put_case m file s there (record s { sizes = with_size (record { server = server; fileid = fileid }) size s.sizes }) refl j.1);
+  gives_again = λ m file s client there its es ss j. (j.0, put_case m file s there (with_holder client true s) refl j.1);
+  grants = λ m file s client n from there free left fresh es ss j.
+      (let step : FileStep = phase file s.file (AsksLayout n) m.fresh in (
+        table_parts.grants m file s client n from there free left fresh es ss j.0,
+        put_case (file_stepped m file s step).mds file (file_behind s step) (stepped_there m file s step there) (with_holder client false (file_behind s step)) refl (input_case m file s there (AsksLayout n) j.1),
+      ));
+  grants_alone = λ m file s client n from there free left spent es ss j. (j.0, put_case m file s there (with_holder client false s) refl j.1);
+  inputs = λ m file s input unasked there fresh es ss j. (table_parts.inputs m file s input unasked there fresh es ss j.0, input_case m file s there input j.1);
+  returns = λ m file s errors there fresh es ss j.
+      (table_parts.returns m file s errors there fresh es ss j.0, input_case m file s there (Returns (client_number (holder_of s.file.layout.phase)) s.file.layout.cred (report_of errors s.file.layout.live)) j.1);
+  timeouts = λ m file s node xid out there fresh es ss j. (table_parts.timeouts m file s node xid out there fresh es ss j.0, input_case m file s there (TimesOut xid) j.1);
+  learns = λ m file s call server own uid c replies fileid shown heard caller sent named shows there fresh es ss j. (j.0, input_case m file s there (Sees (record { server = server; fileid = fileid }) shown.seen) j.1);
+  begins_read = λ m file s c at count there es ss j. (j.0, put_case m file s there (with_read c at count s) refl j.1);
+  times_read = λ m file s xid place r at on es ss j. (j.0, put_case m file s at.there (with_read_at s place r (read.after_timeout r.read xid).read) refl j.1);
+  loses_read = λ m file s xid place r e at over es ss j. (j.0, put_case m file s at.there (record s { reads = remove s.reads place }) refl j.1);
+  begins_write = λ m file s c at bytes there can fresh es ss j.
+      (let step : FileStep = phase file s.file (OwnWrite at bytes) m.fresh in (
+        table_parts.begins_write m file s c at bytes there can fresh es ss j.0,
+        put_case (file_stepped m file s step).mds file (file_behind s step) (stepped_there m file s step there) (with_write c at bytes (file_behind s step)) refl (input_case m file s there (OwnWrite at bytes) j.1),
+      ));
+  begins_alone = λ m file s c at bytes there can spent es ss j. (j.0, put_case m file s there (with_write c at bytes s) refl j.1);
+  times_write = λ m file s w xid there waits out es ss j. (j.0, put_case m file s there (record s { write = Some (write_stepped w (writer.after_timeout w.writer xid)) }) refl j.1);
+  ends_write = λ m file s w places there waits over fresh es ss j.
+      (table_parts.ends_write m file s w places there waits over fresh es ss j.0, input_case (with_served m file (without_write s)) file (without_write s) (served_again m file s (without_write s) there) (end_input s w) (put_case m file s there (without_write s) refl j.1));
+  drops_write = λ m file s w places there waits over spent es ss j. (j.0, put_case m file s there (without_write s) refl j.1);
+  makes = λ m name may es ss j. (j.0, makes m name j.1);
 }
-  where
-    out_on : (s : ServedFile) (xid : ℕ) (c : CallOut) → call_out s.file xid ≡ Some c → IsClients s.file.layout.phase → IsHeldOn s.file c.file
-    out_on s xid c is clients =
-        let same : c.file.layout ≡ s.file.layout = out_layout s.file xid c is in
-        record { cred_same = ap (λ (l : LayoutState). l.cred) same; client = subst (λ (l : LayoutState). IsClients l.phase) (sym same) clients }
+
+out_on : (s : ServedFile) (xid : ℕ) (c : CallOut) → call_out s.file xid ≡ Some c → IsClients s.file.layout.phase → IsHeldOn s.file c.file
+out_on s xid c is clients =
+    let same : c.file.layout ≡ s.file.layout = out_layout s.file xid c is in
+    record { cred_same = ap (λ (l : LayoutState). l.cred) same; client = subst (λ (l : LayoutState). IsClients l.phase) (sym same) clients }
+
+pub calls : Calls IsSo HeardAny
+calls = record {
+  fits = λ m es ss j. table_calls.fits m es ss j.0;
+  hears = λ m node xid file s call c replies heard its there out fresh es ss j.
+      (table_calls.hears m node xid file s call c replies heard its there out fresh es ss j.0, input_case (heard_by node xid m) file s there (IsAnswer xid (own_answer c (replies c))) j.1);
+  unheard = λ m node xid file s call c its there spent es ss j. (table_calls.unheard m node xid file s call c its there spent es ss j.0, j.1);
+  hears_read = λ m node xid file s call c replies place r heard its at on es ss j.
+      (table_calls.hears_read m node xid file s call c replies place r heard its at on es ss j.0, put_case m file s at.there (with_read_at s place r (read.after_reply r.read xid (replies c)).read) refl j.1);
+  ends_read = λ m node xid file s call c replies place r e heard its at over es ss j.
+      (table_calls.ends_read m node xid file s call c replies place r e heard its at over es ss j.0, put_case m file s at.there (record s { reads = remove s.reads place }) refl j.1);
+  hears_write = λ m node xid file s w call c replies heard its there waits out es ss j.
+      (table_calls.hears_write m node xid file s w call c replies heard its there waits out es ss j.0, put_case m file s there (record s { write = Some (write_stepped w (after_own_reply w.writer xid (replies c))) }) refl j.1);
+  hears_recall = λ m node xid status call found its out es ss j.
+      (table_calls.hears_recall m node xid status call found its out es ss j.0, fewer m (after_reply m.recalls xid (recall_end status)).recalls (reply_less m.recalls xid (recall_end status)) j.1);
+  leaves = λ m node xid call inside its off es ss j. (table_calls.leaves m node xid call inside its off es ss j.0, j.1);
+  forgets = λ m es ss j. (table_calls.forgets m es ss j.0, j.1);
+  calls_file = λ m file s out there has idle its es ss j. (
+    table_calls.calls_file m file s out there has idle its es ss j.0,
+    put_files m file s (record s { file = out.file }) there (out_on s m.next_xid out its) (out_agrees s.file m.next_xid out (its_agrees m file s there j.1.agree) its) j.1,
+  );
+  calls_write = λ m file s w out there has waits its es ss j.
+      (table_calls.calls_write m file s w out there has waits its es ss j.0, put_case m file s there (record s { write = Some (record w { writer = out.writer }) }) refl j.1);
+  calls_read = λ m file s place r out there has at its es ss j. (table_calls.calls_read m file s place r out there has at its es ss j.0, put_case m file s there (with_read_at s place r out.read) refl j.1);
+  calls_back = λ m sent session has its es ss j. (table_calls.calls_back m sent session has its es ss j.0, fewer m sent.recalls (sent_less m.recalls m.next_xid sent its) j.1);
+  skips = λ m sent has its es ss j. (table_calls.skips m sent has its es ss j.0, fewer m sent.recalls (sent_less m.recalls m.next_xid sent its) j.1);
+  late = λ m call inside is es ss j. j;
+  again = λ m call inside is es ss j. (table_calls.again m call inside is es ss j.0, j.1);
+  repeats = λ m server xid call found es ss j. (table_calls.repeats m server xid call found es ss j.0, j.1);
+}
+
+pub begins : KeepsBegin IsSo
+begins m request now es ss j = j
 
 pub begun : (servers : List AddressValue) (mirrors : ℕ) → IsSo (new_mds servers mirrors) [] []
-begun servers mirrors = record { held = tt; rise = tt; agree = λ place s got. absurd (none-some s got); were = λ call inside. absurd inside }
+begun servers mirrors = (new_table, record { held = tt; rise = tt; agree = λ place s got. absurd (none-some s got) })
 
 pub in_order : (m : MdsValue) (es : List Entry) (ss : List MdsSend) → IsSo m es ss → AreRecallsInOrder m
-in_order m es ss i = recalls_rise 0 (length m.files) m.recalls i.rise
+in_order m es ss i = recalls_rise 0 (length m.files) m.recalls i.1.rise

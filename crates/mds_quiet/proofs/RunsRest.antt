@@ -21,6 +21,9 @@ use Rattle.file_rule.specs.FilePhases.{Ticks}
 use Rattle.mds_laws.specs.MdsRuns.{MdsInput, Hears, IsTimedOut, Ticks as IsTick, RecallsFile, Resilvers, MdsEvent, by_input, after_event, run_from}
 use Rattle.mds_laws.proofs.Keeping.{HeardAny, hears_any}
 use Rattle.mds_laws.proofs.GoesWalk.{each_event}
+use Rattle.mds_walk.proofs.Parts.{HeardAny as AnyHeard}
+use Rattle.mds_walk.proofs.Keeping.{hears_any as any_hears}
+use Rattle.mds_walk.proofs.EventWalk.{event_walk}
 use Rattle.recall.specs.declared.recall.Recall.{Recall}
 use Rattle.recall.specs.declared.recall.RecallStage.TheVariants.{Out}
 use Rattle.recall.specs.Recalls.{RecallSends, at_stage}
@@ -34,7 +37,6 @@ use Rattle.mds_quiet.proofs.RecallsOut.{IsSent, sent_of, rise_set, recalls_go}
 use Rattle.mds_quiet.proofs.Standing.{Stands, set_back, own_back, waits_in_order}
 use Rattle.mds_quiet.proofs.RunsStand.{IsSo, cases, begun, each_stands}
 use Rattle.mds_quiet.proofs.RunsRecall as recall
-use Rattle.mds_quiet.proofs.RecallsGo.{each_event as recall_event}
 
 -- each file of it stands so that its calls wait in order
 abbrev AllStand : MdsValue → Type 0
@@ -152,7 +154,7 @@ run_recalls : (events : List MdsEvent) (m : MdsValue) (es : List Entry) (ss : Li
 run_recalls [] m es ss i p = p
 run_recalls (e ∷ events) m es ss i p =
     let step : MdsStep = after_event e m in
-    let next : recall.IsSo step.mds (es ++ step.entries) (ss ++ step.sends) = recall_event recall.IsSo HeardAny recall.cases (λ n request now fs ts k. k) e (hears_any recall.IsSo e.input) m es ss i in
+    let next : recall.IsSo step.mds (es ++ step.entries) (ss ++ step.sends) = event_walk recall.IsSo AnyHeard recall.parts recall.calls recall.begins e (any_hears recall.IsSo e.input) m es ss i in
     run_recalls events step.mds (es ++ step.entries) (ss ++ step.sends) next (recalls_event e.now e.input m p (recall.in_order step.mds (es ++ step.entries) (ss ++ step.sends) next))
 
 pub recalls_rest : (servers : List AddressValue) (mirrors : ℕ) (events : List MdsEvent) → RunsRestRecalls servers mirrors events

@@ -1,3 +1,3 @@
 pub mod Resting
-pub mod OutLaw
+pub mod RestLaw
 pub mod QuietRuns

@@ -4,7 +4,7 @@ ghost use Rattle.std.specs.Prelude.{List, Option, ℕ};
 ghost use Rattle.device_addr.specs.Universal.{AddressValue};
 ghost use Rattle.mds_rule.specs.MdsStates.{MdsValue};
 ghost use Rattle.mds_laws.specs.MdsRuns.{MdsEvent};
-ghost use Rattle.mds_quiet.specs.OutLaw.{FilesGoOut, ReadsGoOut, RecallsGoOut};
+ghost use Rattle.mds_quiet.specs.RestLaw.{FilesGoOut, ReadsGoOut, RecallsGoOut};
 ghost use Rattle.mds_quiet.specs.QuietRuns.{RunsRestFiles, RunsRestRecalls};
 
 /// What is left behind the calls that go out at the end of an event, whatever a metadata server has then, while numbers are
@@ -15,7 +15,7 @@ ghost use Rattle.mds_quiet.specs.QuietRuns.{RunsRestFiles, RunsRestRecalls};
 /// - of the READs of a file with at most four live mirrors none does;
 /// - no recall may go, where recalls were in the order of their files, of at most one for each file that is there: each
 ///   that waits stands behind one of the same client whose callback is out.
-pub fn out_law()
+pub fn rest_law()
     ensures files { (kept : List (Option (ℕ × ℕ))) (m : MdsValue) → FilesGoOut kept m }
     ensures reads { (kept : List (Option (ℕ × ℕ))) (m : MdsValue) → ReadsGoOut kept m }
     ensures recalls { (kept : List (Option (ℕ × ℕ))) (m : MdsValue) → RecallsGoOut kept m }

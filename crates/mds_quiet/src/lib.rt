@@ -3,4 +3,4 @@
 
 mod laws;
 
-pub use laws::{out_law, quiet_law};
+pub use laws::{quiet_law, rest_law};

@@ -1,7 +1,7 @@
 use Rattle.mds_quiet.proofs.OwnOut.{files_go}
 use Rattle.mds_quiet.proofs.ReadsOut.{reads_go}
 use Rattle.mds_quiet.proofs.RecallsOut.{recalls_go}
-use Rattle.mds_quiet.proofs.laws.out_law.Goals as goal
+use Rattle.mds_quiet.proofs.laws.rest_law.Goals as goal
 
 pub returns-clause-files : goal.returns-clause-files
 returns-clause-files c = files_go
