@@ -9,6 +9,7 @@ pub mod Parts
 pub mod Ordered
 pub mod OrderedSteps
 pub mod OwnPhases
+pub mod Turns
 pub mod WriterServers
 pub mod Standing
 pub mod RunsStand
