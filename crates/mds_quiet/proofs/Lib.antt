@@ -16,3 +16,5 @@ pub mod RunsStand
 pub mod RecallParts
 pub mod RunsRecall
 pub mod RunsRest
+pub mod TableRises
+pub mod Counts

@@ -38,6 +38,7 @@ use Rattle.mds_quiet.proofs.Parts as parts
 use Rattle.mds_quiet.proofs.Ordered.{IsMadeThere}
 use Rattle.mds_quiet.proofs.OrderedSteps.{phase_ordered, out_ordered}
 use Rattle.mds_quiet.proofs.OwnPhases.{Agrees, nothing_under_way, phase_agrees, out_agrees, HoldsStill, own_still}
+use Rattle.mds_quiet.proofs.Turns.{TakesTurns, phase_turns, out_turns}
 use Rattle.mds_quiet.proofs.OwnCalls.{out_layout}
 use Rattle.mds_quiet.proofs.WriterServers.{mirror_servers, answer_kept, timeout_kept, sends_same, own_servers_new}
 use Rattle.mds_quiet.proofs.Standing.{WritesThere, FileStands, Stands}
@@ -52,9 +53,10 @@ abbrev IsOwn : Fresh → MdsFile → Option WaitingWrite → Type 0
 IsOwn fresh f None = Unit {0}
 IsOwn fresh f (Some w) = IsHeldOwn f ⊎ (has_fresh fresh ≡ false)
 
-record Fits (fresh : Fresh) (s : ServedFile) : Type 0 where
+pub record Fits (fresh : Fresh) (s : ServedFile) : Type 0 where
   pub stands : Stands s
   pub agrees : Agrees s.file.activity s.file.layout.phase
+  pub turns : TakesTurns s.file.activity
   pub own : IsOwn fresh s.file s.write
 
 on_off : true ≡ false → ⊥
@@ -67,7 +69,7 @@ own_later fresh more f (Some w) has (inl held) = inl held
 own_later fresh more f (Some w) has (inr spent) = absurd (on_off (sym has ∙ spent))
 
 fits_later : (fresh more : Fresh) → has_fresh fresh ≡ true → (s : ServedFile) → Fits fresh s → Fits more s
-fits_later fresh more has s i = record { stands = i.stands; agrees = i.agrees; own = own_later fresh more s.file s.write has i.own }
+fits_later fresh more has s i = record { stands = i.stands; agrees = i.agrees; turns = i.turns; own = own_later fresh more s.file s.write has i.own }
 
 -- the same file, and its write
 same_fits : (fresh : Fresh) (s t : ServedFile) → t.file ≡ s.file → t.write ≡ s.write → Fits fresh s → Fits fresh t
@@ -77,18 +79,20 @@ same_fits fresh s t file write i = record {
     writes = subst (λ (f : MdsFile). WritesThere f t.write) (sym file) (subst (WritesThere s.file) (sym write) i.stands.writes);
   };
   agrees = subst (λ (f : MdsFile). Agrees f.activity f.layout.phase) (sym file) i.agrees;
+  turns = subst (λ (f : MdsFile). TakesTurns f.activity) (sym file) i.turns;
   own = subst (λ (f : MdsFile). IsOwn fresh f t.write) (sym file) (subst (IsOwn fresh s.file) (sym write) i.own);
 }
 
 -- without its write
 unwritten_fits : (fresh more : Fresh) (s : ServedFile) → Fits fresh s → Fits more (without_write s)
-unwritten_fits fresh more s i = record { stands = record { file_stands = i.stands.file_stands; writes = tt }; agrees = i.agrees; own = tt }
+unwritten_fits fresh more s i = record { stands = record { file_stands = i.stands.file_stands; writes = tt }; agrees = i.agrees; turns = i.turns; own = tt }
 
 -- with its write behind a step
 written_fits : (fresh : Fresh) (s : ServedFile) (w v : WaitingWrite) → s.write ≡ Some w → mirror_servers v.writer ≡ mirror_servers w.writer → Fits fresh s → Fits fresh (record s { write = Some v })
 written_fits fresh s w v at same i = record {
   stands = record { file_stands = i.stands.file_stands; writes = same ∙ subst (WritesThere s.file) at i.stands.writes };
   agrees = i.agrees;
+  turns = i.turns;
   own = subst (IsOwn fresh s.file) at i.own;
 }
 
@@ -102,6 +106,7 @@ other_fits : (file : FileId) (fresh more : Fresh) (s : ServedFile) (input : File
 other_fits file fresh more s input has other i = record {
   stands = record { file_stands = stepped_stands file fresh s.file input i.stands.file_stands; writes = writes_so s.write i.stands.writes i.own };
   agrees = phase_agrees file fresh s.file input i.agrees;
+  turns = phase_turns file fresh s.file input i.turns;
   own = own_so s.write i.own;
 }
   where
@@ -121,6 +126,7 @@ plain_fits : (file : FileId) (fresh more : Fresh) (s : ServedFile) (input : File
 plain_fits file fresh more s input none i = record {
   stands = record { file_stands = stepped_stands file fresh s.file input i.stands.file_stands; writes = subst (WritesThere (phase file s.file input fresh).file) (sym none) tt };
   agrees = phase_agrees file fresh s.file input i.agrees;
+  turns = phase_turns file fresh s.file input i.turns;
   own = subst (IsOwn more (phase file s.file input fresh).file) (sym none) tt;
 }
 
@@ -188,6 +194,7 @@ new_write_fits : (more : Fresh) (file : FileId) (s : ServedFile) (c : CompoundRu
 new_write_fits more file s c at bytes step so idle i = record {
   stands = record { file_stands = i.stands.file_stands; writes = own_servers_new step.file.layout.live step.file.layout.cred.0 at bytes };
   agrees = i.agrees;
+  turns = i.turns;
   own = inl (false, ap (λ (x : FileStep). x.file.layout.phase) so, ap (λ (x : FileStep). x.file.activity) so ∙ idle);
 }
 
@@ -210,6 +217,7 @@ begins_alone m file s c at bytes there spent es ss i =
     put_case m file s there (with_write c at bytes s) es ss (record {
       stands = record { file_stands = old.stands.file_stands; writes = own_servers_new s.file.layout.live s.file.layout.cred.0 at bytes };
       agrees = old.agrees;
+      turns = old.turns;
       own = inr spent;
     }) i
 
@@ -239,6 +247,7 @@ new_fits fresh more name servers few apart =
         writes = tt;
       };
       agrees = refl;
+      turns = tt;
       own = tt;
     }
 
@@ -279,6 +288,7 @@ out_fits fresh s xid c is i = record {
     writes = layout_there s.file c.file s.write (out_layout s.file xid c is) i.stands.writes;
   };
   agrees = out_agrees s.file xid c i.agrees is;
+  turns = out_turns s.file xid c i.turns is;
   own = out_own fresh s.file xid c is s.write i.own;
 }
   where
@@ -334,3 +344,6 @@ begun servers mirrors few there = record { fit = λ place s got. absurd (none-so
 
 pub each_stands : (m : MdsValue) (es : List Entry) (ss : List MdsSend) → IsSo m es ss → (place : ℕ) (s : ServedFile) → slice_get m.files place ≡ Some s → Stands s
 each_stands m es ss i place s at = (i.fit place s at).stands
+
+pub each_fits : (m : MdsValue) (es : List Entry) (ss : List MdsSend) → IsSo m es ss → (place : ℕ) (s : ServedFile) → slice_get m.files place ≡ Some s → Fits m.fresh s
+each_fits m es ss i = i.fit

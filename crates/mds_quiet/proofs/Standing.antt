@@ -168,6 +168,14 @@ part_of_all {A = A} p (x ∷ xs) = by_test (p x) (part_of_all p xs)
     by_test true rest = inl (refl, rest)
     by_test false rest = part_more (filter p xs) x xs rest
 
+-- targets that add mirrors are as many as these
+pub added_size : (live : List Mirror) (targets : List CopyTarget) → AllByRecursion (IsAdded live) targets → length targets ≤ adds targets
+added_size live [] none = omega arith
+added_size live (t ∷ targets) none =
+    let rest = added_size live targets none.1 in
+    let first : added_by t.replaced ≡ 1 = ap added_by none.0.0 in
+    omega (arith, rest, first)
+
 module _ (s : ServedFile) (few : length s.file.layout.live ≤ 4) (apart : are_on_different_servers s.file.layout.live ≡ true) where
   abbrev live : List Mirror
   live = s.file.layout.live
@@ -245,13 +253,6 @@ module _ (s : ServedFile) (few : length s.file.layout.live ≤ 4) (apart : are_o
       by_test true rest = (none.0.1, rest)
       by_test false rest = rest
 
-  added_size : (targets : List CopyTarget) → AllByRecursion (IsAdded s.file.layout.live) targets → length targets ≤ adds targets
-  added_size [] none = omega arith
-  added_size (t ∷ targets) none =
-      let rest = added_size targets none.1 in
-      let first : added_by t.replaced ≡ 1 = ap added_by none.0.0 in
-      omega (arith, rest, first)
-
   targets_order : (targets : List CopyTarget) → adds targets ≤ 4 → IsPart (kept_servers targets) (servers_of s.file.layout.live) ⊎ AllByRecursion (IsAdded s.file.layout.live) targets → InOrder (map (λ (t : CopyTarget). t.server) (filter (λ (t : CopyTarget). waits t.stage) targets))
   targets_order targets room (inl part) =
       let waiting : List CopyTarget = filter (λ (t : CopyTarget). waits t.stage) targets in
@@ -262,7 +263,7 @@ module _ (s : ServedFile) (few : length s.file.layout.live ≤ 4) (apart : are_o
       let waiting : List CopyTarget = filter (λ (t : CopyTarget). waits t.stage) targets in
       let less = filter_less (λ (t : CopyTarget). waits t.stage) targets in
       let same = length-map waiting (λ (t : CopyTarget). t.server) in
-      let size = added_size targets none in
+      let size = added_size s.file.layout.live targets none in
       none_order (map (λ (t : CopyTarget). t.server) waiting) (omega (arith, room, less, same, size)) (added_servers targets none)
 
   copy_order : (c : CopyState) (o : Option ℕ) → adds c.targets ≤ 4 → AreTargets s.file.layout.live c.targets → InOrder (servers_from c o)

@@ -1,3 +1,4 @@
 pub mod Resting
 pub mod RestLaw
 pub mod QuietRuns
+pub mod CallCounts

@@ -5,6 +5,7 @@ ghost use Rattle.device_addr.specs.Universal.{AddressValue};
 ghost use Rattle.mds_rule.specs.MdsStates.{MdsValue};
 ghost use Rattle.mds_laws.specs.MdsRuns.{MdsEvent};
 ghost use Rattle.mds_quiet.specs.RestLaw.{FilesGoOut, ReadsGoOut, RecallsGoOut};
+ghost use Rattle.mds_quiet.specs.CallCounts.{TicksLeaveFew};
 ghost use Rattle.mds_quiet.specs.QuietRuns.{RunsRestFiles, RunsRestRecalls};
 
 /// What is left behind the calls that go out at the end of an event, whatever a metadata server has then, while numbers are
@@ -29,4 +30,15 @@ pub fn rest_law()
 pub fn quiet_law()
     ensures files { (servers : List AddressValue) (mirrors : ℕ) (events : List MdsEvent) → RunsRestFiles servers mirrors events }
     ensures recalls { (servers : List AddressValue) (mirrors : ℕ) (events : List MdsEvent) → RunsRestRecalls servers mirrors events }
+{}
+
+/// Behind a tick, whatever run of a metadata server came before it, with at most four mirrors to a file and as many data
+/// servers, of the calls that are sent and not answered:
+///
+/// - of each file at most four are of its own activity (CREATEs, a fence's SETATTRs, a COMMIT, a copy's READ, WRITEs and
+///   CREATEs), and none where it is free or held;
+/// - at most one is of each of its READs, and four of a write of the metadata server's own;
+/// - at most one is of each recall.
+pub fn counts_law()
+    ensures { (servers : List AddressValue) (mirrors : ℕ) (events : List MdsEvent) (now : ℕ) → TicksLeaveFew servers mirrors events now }
 {}
