@@ -18,3 +18,4 @@ pub mod RunsRecall
 pub mod RunsRest
 pub mod TableRises
 pub mod Counts
+pub mod RecallsEnd

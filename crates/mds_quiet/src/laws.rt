@@ -4,6 +4,7 @@ ghost use Rattle.std.specs.Prelude.{List, Option, ℕ};
 ghost use Rattle.device_addr.specs.Universal.{AddressValue};
 ghost use Rattle.mds_rule.specs.MdsStates.{MdsValue};
 ghost use Rattle.mds_laws.specs.MdsRuns.{MdsEvent};
+ghost use Rattle.mds_quiet.specs.RecallLaw.{TickEndsRecalls};
 ghost use Rattle.mds_quiet.specs.RestLaw.{FilesGoOut, ReadsGoOut, RecallsGoOut};
 ghost use Rattle.mds_quiet.specs.CallCounts.{TicksLeaveFew};
 ghost use Rattle.mds_quiet.specs.QuietRuns.{RunsRestFiles, RunsRestRecalls};
@@ -41,4 +42,10 @@ pub fn quiet_law()
 /// - at most one is of each recall.
 pub fn counts_law()
     ensures { (servers : List AddressValue) (mirrors : ℕ) (events : List MdsEvent) (now : ℕ) → TicksLeaveFew servers mirrors events now }
+{}
+
+/// Behind a tick, whatever a metadata server has and whenever it is, no recall is left that was asked more than 90 s
+/// before, and none waits for the next tick to be asked again (RFC 8881, section 20.3).
+pub fn recall_law()
+    ensures recalls { (now : ℕ) (m : MdsValue) → TickEndsRecalls now m }
 {}

@@ -3,4 +3,4 @@
 
 mod laws;
 
-pub use laws::{counts_law, quiet_law, rest_law};
+pub use laws::{counts_law, quiet_law, recall_law, rest_law};
