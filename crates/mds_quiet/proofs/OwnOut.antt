@@ -158,8 +158,8 @@ module _ (p : ℕ) where
       let next : AreLeft (suc q) 4 s = record { rise = none_rise q (suc q) (places s) (map_few (place_of s) (servers s) 0 none) all.rise; few_left = all.few_left } in
       inr (inr (next, next))
 
-  pass : (q : ℕ) (m : MdsValue) → At p (From q) m → At p (From (suc q)) (place_calls file_at q m).mds
-  pass q m i =
+  behind_place : (q : ℕ) (m : MdsValue) → At p (From q) m → At p (From (suc q)) (place_calls file_at q m).mds
+  behind_place q m i =
       let one : MdsValue = (own_call file_at q m).mds in
       let two : MdsValue = (own_call file_at q one).mds in
       let three : MdsValue = (own_call file_at q two).mds in
@@ -173,7 +173,7 @@ module _ (p : ℕ) where
       let two : MdsValue = (place_calls file_at 1 one).mds in
       let three : MdsValue = (place_calls file_at 2 two).mds in
       let four : MdsValue = (place_calls file_at 3 three).mds in
-      pass 4 four (pass 3 three (pass 2 two (pass 1 one (pass 0 m i))))
+      behind_place 4 four (behind_place 3 three (behind_place 2 two (behind_place 1 one (behind_place 0 m i))))
 
   of_files : (kept : List (Option (ℕ × ℕ))) (list : List ℕ) (m : MdsValue) → IsOneOf (suc p) list → At p (From 0) m → At p (From 5) (each (file_calls kept) list m).mds
   of_files kept [] m inside i = absurd inside

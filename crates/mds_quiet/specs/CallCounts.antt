@@ -57,14 +57,14 @@ calls_of caller m = length (filter (is_of caller) m.calls)
 abbrev pub IsFreeOrHeld : LayoutPhase → Type 0
 IsFreeOrHeld p = (p ≡ Free) ⊎ ((holder : NodeId) × (recalled : Bool) × (p ≡ Held holder recalled))
 
--- Of a file at most four are of its own activity, and none where it is free or held; one for each of its READs, and four of its own write.
+-- Of a file at most four are of its own activity, and none where it is free or held; no more of READs than it has, and four of its own write.
 pub record FileCallsAreFew (m : MdsValue) (file : FileId) (s : ServedFile) : Type 0 where
   pub own : calls_of (ForFile file) m ≤ 4
   pub none : IsFreeOrHeld s.file.layout.phase → calls_of (ForFile file) m ≡ 0
   pub reads : calls_of (ForRead file) m ≤ length s.reads
   pub write : calls_of (ForWrite file) m ≤ 4
 
--- at most one for each recall
+-- no more than there are recalls
 pub record CallsAreFew (m : MdsValue) : Type 0 where
   pub files : OfEachFile FileCallsAreFew m
   pub recalls : calls_of ForRecall m ≤ length m.recalls

@@ -38,8 +38,8 @@ pub fn quiet_law()
 ///
 /// - of each file at most four are of its own activity (CREATEs, a fence's SETATTRs, a COMMIT, a copy's READ, WRITEs and
 ///   CREATEs), and none where it is free or held;
-/// - at most one is of each of its READs, and four of a write of the metadata server's own;
-/// - at most one is of each recall.
+/// - of its READs no more than it has READs, and at most four of a write of the metadata server's own;
+/// - of recalls no more than there are recalls.
 pub fn counts_law()
     ensures { (servers : List AddressValue) (mirrors : ℕ) (events : List MdsEvent) (now : ℕ) → TicksLeaveFew servers mirrors events now }
 {}

@@ -24,7 +24,7 @@ use Rattle.mds_rule.specs.declared.waiter.Waiter.{Waiter}
 use Rattle.mds_rule.specs.declared.waiter.Waiter.TheVariants.{ForFile, ForRead, ForWrite, ForRecall}
 use Rattle.mds_rule.specs.ServedFiles.{has_fresh, file_stepped, input_at, takes_input}
 use Rattle.mds_rule.specs.Answers.{server_number, is_read_out, is_file_out, has_read_out, has_write_out, is_awaited_by, is_awaited, sized, fileid_of, attributes_shown, sees_in, read_step_at, read_from, read_of, steps_read, steps_write, sees_ctime, recall_end, own_answer, server_answered, answered_as, answers_found, takes_answer, is_writer_out, recalls_after}
-use Rattle.mds_walk.specs.CallTables.{IsCallFor, IsOfServers, IsOfClients}
+use Rattle.mds_walk.specs.CallTables.{IsSentFor, IsOfServers, IsOfClients}
 use Rattle.mds_walk.proofs.Parts.{Becomes, Keeps, HeardOf, Hearing, IsReadAt, IsHeard, heard_by, Parts, Calls}
 use Rattle.mds_walk.proofs.Keeping.{none_keeps, same, becomes_keeps}
 use Rattle.mds_walk.proofs.Lists.{found_in, found_passes, put_back, none_there, first_there}
@@ -174,7 +174,7 @@ module _ (I : MdsValue → List Entry → List MdsSend → Type 0) (Heard : Hear
     back_walk m f status ForRecall is fits out =
         recalls_walk I Heard k m (heard_by node xid m) (recalls.after_reply m.recalls xid (recall_end status)) (c.hears_recall m node xid status call f.found is (ap (λ (x : ℕ). is_some (recalls.out_at m.recalls x)) (sym number) ∙ out))
 
-    answered_walk : (m : MdsValue) → Found m → (status : ℕ) (sent : MdsSend) → call.sent ≡ sent → IsCallFor sent call.caller → is_awaited m call ≡ true
+    answered_walk : (m : MdsValue) → Found m → (status : ℕ) (sent : MdsSend) → call.sent ≡ sent → IsSentFor sent call.caller → is_awaited m call ≡ true
         → Keeps I m (answered_as now (heard_by node xid m) xid replies status call.caller sent)
     answered_walk m f status (CallsServer server own uid d) sent fits out = server_walk server own uid d sent m f call.caller refl fits out
     answered_walk m f status (CallsBack own back file stateid) sent fits out = back_walk m f status call.caller refl fits out

@@ -44,7 +44,7 @@ use Rattle.ds_calls.specs.GivenReplies.{reply_of_call}
 use Rattle.mds_receive.specs.MdsReceive.{IsReply, incoming_of}
 use Rattle.mds_rule.specs.MdsStates.{MdsStep}
 use Rattle.mds_laws.specs.MdsRuns.{MdsInput, Hears, IsTimedOut, Ticks as IsTick, RecallsFile, Resilvers}
-use Rattle.mds_walk.specs.CallTables.{IsCallFor}
+use Rattle.mds_walk.specs.CallTables.{IsSentFor}
 use Rattle.cluster_model.specs.Phases.{holder_of}
 use Rattle.layout_report.specs.Reports.{report_of}
 use Rattle.ff_layout.specs.IoError.{ff_ioerr4}
@@ -231,7 +231,7 @@ pub record Parts (I : MdsValue → List Entry → List MdsSend → Type 0) (Hear
 
 pub record Calls (I : MdsValue → List Entry → List MdsSend → Type 0) (Heard : HeardOf) : Type 0 where
   -- each of them is for a waiter of its kind
-  pub fits : (m : MdsValue) (es : List Entry) (ss : List MdsSend) → I m es ss → (call : AwaitedCall) → IsOneOf call m.calls → IsCallFor call.sent call.caller
+  pub fits : (m : MdsValue) (es : List Entry) (ss : List MdsSend) → I m es ss → (call : AwaitedCall) → IsOneOf call m.calls → IsSentFor call.sent call.caller
   -- a file's call is answered, and the file takes the answer; where nothing can be drawn nothing comes of it
   pub hears : (m : MdsValue) (node : NodeId) (xid : ℕ) (file : FileId) (s : ServedFile) (call : AwaitedCall) (c : DsCallValue) (replies : DsCallValue → DsReplyValue) → Heard call replies → IsHeard m node xid call (ForFile file) c
       → served m file ≡ Some s → is_outstanding s.file (server_number call.node) call.xid ≡ true → has_fresh m.fresh ≡ true

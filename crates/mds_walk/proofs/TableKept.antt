@@ -18,7 +18,7 @@ use Rattle.mds_rule.specs.ServedFiles.{is_period_end, file_behind, file_stepped}
 use Rattle.mds_rule.specs.Answers.{is_awaited, own_answer}
 use Rattle.mds_rule.specs.Goes.{xid_after, calls_as, has_xids}
 use Rattle.mds_laws.specs.MdsRuns.{MdsEvent, mds_run}
-use Rattle.mds_walk.specs.CallTables.{IsCallFor}
+use Rattle.mds_walk.specs.CallTables.{IsSentFor}
 use Rattle.mds_walk.proofs.Parts.{HeardAny, heard_by, end_input, without_write, Parts, Calls, KeepsBegin}
 use Rattle.mds_walk.specs.CallTables.{TableStands}
 use Rattle.mds_walk.proofs.Lists.{in_more, in_last, in_with_call, in_filtered}
@@ -30,7 +30,7 @@ use Rattle.layout_report.specs.Reports.{report_of}
 -- the calls, the next number and what was sent
 pub record IsTable (calls : List AwaitedCall) (next : ℕ) (ss : List MdsSend) : Type 0 where
   pub sent : (call : AwaitedCall) → IsOneOf call calls → IsOneOf call.sent ss
-  pub waiters : (call : AwaitedCall) → IsOneOf call calls → IsCallFor call.sent call.caller
+  pub waiters : (call : AwaitedCall) → IsOneOf call calls → IsSentFor call.sent call.caller
   pub apart : (a b : AwaitedCall) → IsOneOf a calls → IsOneOf b calls → a.xid ≡ b.xid → a ≡ b
   pub below : not (next == 0) ≡ true → (call : AwaitedCall) → IsOneOf call calls → call.xid < next
 
@@ -69,11 +69,11 @@ by_call P call calls old new x inside = by_case (in_with_call x call calls insid
     by_case (inl was) = old x was
     by_case (inr is) = subst P (sym is) new
 
-pub called : (call : AwaitedCall) (calls : List AwaitedCall) (next : ℕ) (ss : List MdsSend) → call.xid ≡ next → IsCallFor call.sent call.caller → not (next == 0) ≡ true → IsTable calls next ss
+pub called : (call : AwaitedCall) (calls : List AwaitedCall) (next : ℕ) (ss : List MdsSend) → call.xid ≡ next → IsSentFor call.sent call.caller → not (next == 0) ≡ true → IsTable calls next ss
     → IsTable (with_call call calls) (xid_after next) (ss ++ call.sent ∷ [])
 called call calls next ss number fits has t = record {
   sent = by_call (λ (x : AwaitedCall). IsOneOf x.sent (ss ++ call.sent ∷ [])) call calls (λ x was. in_more x.sent ss (call.sent ∷ []) (t.sent x was)) (in_last call.sent ss);
-  waiters = by_call (λ (x : AwaitedCall). IsCallFor x.sent x.caller) call calls t.waiters fits;
+  waiters = by_call (λ (x : AwaitedCall). IsSentFor x.sent x.caller) call calls t.waiters fits;
   apart = λ a b one other same. by_both a b (in_with_call a call calls one) (in_with_call b call calls other) same;
   below = λ some. let is : xid_after next ≡ next + 1 = next_is next some in
       by_call (λ (x : AwaitedCall). x.xid < xid_after next) call calls (λ x was. let less : x.xid < next = t.below has x was in omega (arith, less, is)) (omega (arith, number, is));
@@ -129,7 +129,7 @@ table_parts = record {
 left : (node : NodeId) (xid : ℕ) (m : MdsValue) (es : List Entry) (ss : List MdsSend) → Table m es ss → Table (heard_by node xid m) es ss
 left node xid m es ss t = filtered (λ (call : AwaitedCall). not (is_call_to node xid call)) m.calls m.next_xid ss t
 
-goes : (m : MdsValue) (node : NodeId) (caller : Waiter) (sent : MdsSend) → has_xids m ≡ true → IsCallFor sent caller → (es : List Entry) (ss : List MdsSend) → Table m es ss → IsTable (calls_as m node caller sent).mds.calls (xid_after m.next_xid) (ss ++ sent ∷ [])
+goes : (m : MdsValue) (node : NodeId) (caller : Waiter) (sent : MdsSend) → has_xids m ≡ true → IsSentFor sent caller → (es : List Entry) (ss : List MdsSend) → Table m es ss → IsTable (calls_as m node caller sent).mds.calls (xid_after m.next_xid) (ss ++ sent ∷ [])
 goes m node caller sent has fits es ss t = called (record { node = node; xid = m.next_xid; caller = caller; sent = sent }) m.calls m.next_xid ss refl fits has t
 
 pub table_calls : Calls Table HeardAny

@@ -19,11 +19,11 @@ IsOfClients (ForRead file) = ⊥
 IsOfClients (ForWrite file) = ⊥
 IsOfClients ForRecall = Unit {0}
 
-abbrev pub IsCallFor : MdsSend → Waiter → Type 0
-IsCallFor (CallsServer server xid uid call) caller = IsOfServers caller
-IsCallFor (CallsBack xid back file stateid) caller = IsOfClients caller
-IsCallFor (Replies node reply) caller = ⊥
-IsCallFor (Answers node bytes) caller = ⊥
+abbrev pub IsSentFor : MdsSend → Waiter → Type 0
+IsSentFor (CallsServer server xid uid call) caller = IsOfServers caller
+IsSentFor (CallsBack xid back file stateid) caller = IsOfClients caller
+IsSentFor (Replies node reply) caller = ⊥
+IsSentFor (Answers node bytes) caller = ⊥
 
 -- each of them went out
 abbrev pub WereSent : MdsValue → List MdsSend → Type 0
@@ -31,18 +31,18 @@ WereSent m sends = (call : AwaitedCall) → IsOneOf call m.calls → IsOneOf cal
 
 -- a call to a data server is waited for by a file, a READ or an own write, a callback by a recall
 abbrev pub AreFor : MdsValue → Type 0
-AreFor m = (call : AwaitedCall) → IsOneOf call m.calls → IsCallFor call.sent call.caller
+AreFor m = (call : AwaitedCall) → IsOneOf call m.calls → IsSentFor call.sent call.caller
 
 -- no two have the same number
-abbrev pub AreApart : MdsValue → Type 0
-AreApart m = (a b : AwaitedCall) → IsOneOf a m.calls → IsOneOf b m.calls → a.xid ≡ b.xid → a ≡ b
+abbrev pub HaveOwnNumbers : MdsValue → Type 0
+HaveOwnNumbers m = (a b : AwaitedCall) → IsOneOf a m.calls → IsOneOf b m.calls → a.xid ≡ b.xid → a ≡ b
 
 -- while numbers are left, each has one below the next
-abbrev pub AreBelow : MdsValue → Type 0
-AreBelow m = has_xids m ≡ true → (call : AwaitedCall) → IsOneOf call m.calls → call.xid < m.next_xid
+abbrev pub AreBelowNext : MdsValue → Type 0
+AreBelowNext m = has_xids m ≡ true → (call : AwaitedCall) → IsOneOf call m.calls → call.xid < m.next_xid
 
 pub record TableStands (s : MdsStep) : Type 0 where
   pub sent : WereSent s.mds s.sends
   pub waiters : AreFor s.mds
-  pub apart : AreApart s.mds
-  pub below : AreBelow s.mds
+  pub apart : HaveOwnNumbers s.mds
+  pub below : AreBelowNext s.mds
